@@ -1,0 +1,16 @@
+use Rattle.std.specs.Prelude.{◌&&◌, ◌||◌, ◌==◌, ℕ, Bool, false, not, List, [], ◌∷◌, IsTrue, nat_le, length}
+use Rattle.std.specs.List.{list_all}
+use Rattle.apl_arrays.specs.Glyph.{is_between, is_digit}
+
+-- A to Z, a to z, 0 to 9, _, . or -
+abbrev pub is_file_byte : ℕ → Bool
+is_file_byte byte = is_between 65 90 byte || is_between 97 122 byte || is_digit byte || byte == 95 || byte == 46 || byte == 45
+
+-- 1 to 32 of these, and no dot in front
+abbrev pub is_file_name : List ℕ → Bool
+is_file_name [] = false
+is_file_name (first ∷ rest) = not (first == 46) && nat_le (length rest) 31 && list_all is_file_byte (first ∷ rest)
+
+-- this text is the name of a file
+abbrev pub IsFileName : List ℕ → Type 0
+IsFileName text = IsTrue (is_file_name text)

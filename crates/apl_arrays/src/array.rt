@@ -1,0 +1,239 @@
+ghost use Rattle.std.specs.Prelude.{◌≡◌, ◌≢◌, ◌+◌, ◌<◌, ◌≤◌, ◌↔◌, min, IsTrue, IfOk, OnOk, All, length};
+ghost use Rattle.apl_arrays.specs.Array.{plain_items, item_count, element_count, is_chars, scalar, FitsLimits, IsArray, IsItemOf};
+
+use crate::{Glyph, Line, List, NumberList, WantOfMemory};
+use std::alloc::Global;
+use std::error::Error;
+use std::fmt;
+use std::marker::Model;
+
+/// The most axes that an array has.
+pub const RANK_LIMIT: usize = 8;
+
+/// The most elements of an array, and the greatest length of an axis.
+pub const ELEMENT_LIMIT: usize = 16_384;
+
+/// The items of an array, in row-major order.
+#[derive(Debug, Drop)]
+pub enum Items {
+    Numbers(NumberList),
+    Chars(Line),
+}
+
+/// One item of an array.
+#[derive(Clone, Copy, Debug, PartialEq, Eq, Hash)]
+pub enum Item {
+    Number(i64),
+    Char(Glyph),
+}
+
+/// Why shape and items make no array.
+#[derive(Clone, Copy, Debug, PartialEq, Eq, Hash)]
+pub enum ArrayRefused {
+    TooLarge,
+    BadShape,
+}
+
+/// An array: a shape of at most eight axes, and the items in row-major order, all numbers or all characters. Two
+/// arrays are equal where their shapes, kinds and items are.
+#[derive(Debug, Drop)]
+pub struct Array {
+    axes: [u32; 8],
+    rank: u8,
+    items: Items,
+}
+
+impl Model for Array {
+    ghost use Rattle.std.specs.Prelude.{◌≡◌, ◌≤◌, length, take};
+    ghost use Rattle.apl_arrays.specs.Array.{PlainArray, plain_items, IsArray};
+
+    ghost Value = { PlainArray };
+
+    ghost view = { λ a. record { shape = take a.rank a.axes; items = plain_items a.items } };
+
+    ghost invariant = { λ a. (length a.axes ≡ 8) × (a.rank ≤ 8) × IsArray (record { shape = take a.rank a.axes; items = plain_items a.items }) };
+}
+
+impl PartialEq for Items {
+    ghost use Rattle.std.specs.Ordering.{on};
+    ghost use Rattle.apl_arrays.specs.Array.{plain_items, same_items};
+    ghost use Rattle.std.specs.Cmp.Rules.{comparing};
+    ghost use Rattle.std.proofs.Common.{rules};
+
+    ghost eq = { on plain_items same_items };
+
+    ghost laws = { Prim.search (comparing, rules) depth 9 };
+
+    fn eq(&self, other: &Items) -> bool {
+        match (self, other) {
+            (Items::Numbers(a), Items::Numbers(b)) => a.as_slice() == b.as_slice(),
+            (Items::Chars(a), Items::Chars(b)) => a.as_slice() == b.as_slice(),
+            _ => false,
+        }
+    }
+}
+
+impl Eq for Items {
+    ghost use Rattle.std.specs.Cmp.Rules.{comparing};
+    ghost use Rattle.std.proofs.Common.{rules};
+
+    ghost laws = { Prim.search (comparing, rules) depth 9 };
+}
+
+impl Items {
+    /// How many items there are. No memory.
+    pub fn len(&self) -> usize
+        ensures { result ≡ item_count (plain_items self.now) }
+    {
+        match self {
+            Items::Numbers(list) => list.as_slice().len(),
+            Items::Chars(list) => list.as_slice().len(),
+        }
+    }
+
+    /// Equal items.
+    pub fn copy(&self, alloc: Global) -> Result<Items, WantOfMemory>
+        ensures { IfOk result (λ items. plain_items items ≡ plain_items self.now) }
+    {
+        match self {
+            Items::Numbers(list) => Ok(Items::Numbers(list.copy(alloc)?)),
+            Items::Chars(list) => Ok(Items::Chars(list.copy(alloc)?)),
+        }
+    }
+
+    /// Whether there are none. No memory.
+    pub fn is_empty(&self) -> bool
+        ensures { IsTrue result ↔ (item_count (plain_items self.now) ≡ 0) }
+    {
+        self.len() == 0
+    }
+}
+
+impl Array {
+    /// The array of a shape and as many items. ISO 8485, with this profile's limits: `TooLarge` where there are over
+    /// eight axes, or an axis or the product of all is over 16,384, else `BadShape` where the product is not the
+    /// number of items. No memory.
+    pub fn try_new(shape: &[u32], items: Items) -> Result<Array, ArrayRefused>
+        ensures array { IfOk result (λ array. array ≡ record { shape = shape.now; items = plain_items items }) }
+        ensures too_large { (result ≡ Err ArrayRefused.TooLarge) ↔ ¬ FitsLimits shape.now }
+        ensures bad_shape { (result ≡ Err ArrayRefused.BadShape)
+            ↔ (FitsLimits shape.now × (element_count shape.now ≢ item_count (plain_items items))) }
+    {
+        if !fits_limits(shape) {
+            discard(items);
+            return Err(ArrayRefused::TooLarge);
+        }
+        if capped_count(shape) != items.len() {
+            discard(items);
+            return Err(ArrayRefused::BadShape);
+        }
+        let mut axes = [0; 8];
+        axes[..shape.len()].copy_from_slice(shape);
+        Ok(Array {
+            axes,
+            rank: shape.len() as u8,
+            items,
+        })
+    }
+
+    /// The scalar of a number.
+    pub fn scalar(alloc: Global, number: i64) -> Result<Array, WantOfMemory>
+        ensures { IfOk result (λ array. array ≡ scalar number) }
+    {
+        let mut items = List::new(alloc);
+        items.push(number)?;
+        Ok(Array {
+            axes: [0; 8],
+            rank: 0,
+            items: Items::Numbers(items),
+        })
+    }
+
+    /// An equal array.
+    pub fn copy(&self, alloc: Global) -> Result<Array, WantOfMemory>
+        ensures { IfOk result (λ array. array ≡ self.now) }
+    {
+        Ok(Array {
+            axes: self.axes,
+            rank: self.rank,
+            items: self.items.copy(alloc)?,
+        })
+    }
+
+    /// The lengths of the axes. No memory.
+    pub fn shape(&self) -> &[u32]
+        ensures value { result.now ≡ self.now.shape }
+        ensures array { IsArray self.now }
+    {
+        &self.axes[..self.rank as usize]
+    }
+
+    /// The items. No memory.
+    pub fn items(&self) -> &Items
+        ensures value { plain_items result.now ≡ self.now.items }
+        ensures array { IsArray self.now }
+    {
+        &self.items
+    }
+
+    /// The item at a place, in row-major order from 0. No memory.
+    pub fn item(&self, at: usize) -> Item
+        requires { at < item_count self.now.items }
+        ensures { IsItemOf self.now.items at result }
+    {
+        match &self.items {
+            Items::Numbers(list) => Item::Number(list.as_slice()[at]),
+            Items::Chars(list) => Item::Char(list.as_slice()[at]),
+        }
+    }
+
+    /// Whether the kind is characters, also of an empty array. No memory.
+    pub fn is_chars(&self) -> bool
+        ensures { result ≡ is_chars self.now.items }
+    {
+        matches!(self.items, Items::Chars(_))
+    }
+}
+
+/// Equal arrays have the same shape, kind and items.
+impl PartialEq for Array {
+    ghost use Rattle.apl_arrays.specs.Array.{same_array};
+    ghost use Rattle.std.specs.Cmp.Rules.{comparing};
+    ghost use Rattle.std.proofs.Common.{rules};
+
+    ghost eq = { same_array };
+
+    ghost laws = { Prim.search (comparing, rules) depth 9 };
+
+    fn eq(&self, other: &Array) -> bool {
+        self.shape() == other.shape() && self.items == other.items
+    }
+}
+
+impl Eq for Array {
+    ghost use Rattle.std.specs.Cmp.Rules.{comparing};
+    ghost use Rattle.std.proofs.Common.{rules};
+
+    ghost laws = { Prim.search (comparing, rules) depth 9 };
+}
+
+fn discard(_items: Items) {}
+
+/// The number of elements, or one more than the limit where it is greater.
+fn capped_count(shape: &[u32]) -> usize
+    ensures { result ≡ min (element_count shape.now) (ELEMENT_LIMIT + 1) }
+{
+    let mut count = 1;
+    for axis in shape {
+        count = (count * *axis as usize).min(ELEMENT_LIMIT + 1);
+    }
+    count
+}
+
+fn fits_limits(shape: &[u32]) -> bool
+    ensures { IsTrue result ↔ FitsLimits shape.now }
+{
+    shape.len() <= RANK_LIMIT
+        && shape.iter().all(|axis| *axis as usize <= ELEMENT_LIMIT)
+        && capped_count(shape) <= ELEMENT_LIMIT
+}

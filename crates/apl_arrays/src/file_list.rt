@@ -1,0 +1,87 @@
+ghost use Rattle.std.specs.Prelude.{◌≡◌, ◌+◌, ◌<◌, ◌≤◌, ◌∷◌, [], ◌++◌, IsOk, OnOk, OnErr, map};
+ghost use Rattle.apl_arrays.specs.FileList.{plain_file, IsAscending};
+
+use crate::{Bytes, FileName, WantOfMemory};
+use std::alloc::Global;
+use std::marker::Model;
+
+/// A text file: its name and its bytes.
+#[derive(Debug, Drop)]
+pub struct File {
+    pub name: FileName,
+    pub bytes: Bytes,
+}
+
+/// Files, their names ascending. It is seen as names and bytes, and the room that is left.
+#[derive(Debug, Drop)]
+pub struct FileList {
+    files: Vec<File>,
+}
+
+impl Model for FileList {
+    ghost use Rattle.std.specs.Prelude.{◌-◌, map, vec_len, vec_capacity};
+    ghost use Rattle.apl_arrays.specs.List.{Listed};
+    ghost use Rattle.apl_arrays.specs.FileList.{PlainFile, plain_file, IsAscending};
+
+    ghost Value = { Listed PlainFile };
+
+    ghost view = { λ l. record { items = map plain_file l.files.items; room = vec_capacity l.files - vec_len l.files } };
+
+    ghost invariant = { λ l. IsAscending (map plain_file l.files.items) };
+}
+
+impl FileList {
+    /// No files. It takes no memory.
+    pub fn new(alloc: Global) -> Self
+        ensures { result.items ≡ [] }
+    {
+        FileList {
+            files: Vec::new(alloc),
+        }
+    }
+
+    /// The files, their names ascending. It takes no memory.
+    pub fn as_slice(&self) -> &[File]
+        ensures value { map plain_file result.now ≡ self.now.items }
+        ensures ascending { IsAscending self.now.items }
+    {
+        &self.files
+    }
+
+    /// The files as a `Vec`. It takes no memory.
+    pub fn into_vec(self) -> Vec<File>
+        ensures value { map plain_file result.items ≡ self.items }
+        ensures ascending { IsAscending self.items }
+    {
+        self.files
+    }
+
+    /// Makes room for at least so many pushes.
+    pub fn reserve(&mut self, room: usize) -> Result<(), WantOfMemory>
+        ensures items { self.new.items ≡ self.old.items }
+        ensures room { OnOk result (room ≤ self.new.room) }
+        ensures kept { self.old.room ≤ self.new.room }
+        ensures err { OnErr result (self.new ≡ self.old) }
+        ensures granted { room ≤ self.old.room → IsOk result }
+    {
+        self.files.reserve(room)?;
+        Ok(())
+    }
+
+    /// Adds a file at the end, whose name has to come after the others. Where there is room it is granted.
+    pub fn push(&mut self, file: File) -> Result<(), WantOfMemory>
+        requires { IsAscending (self.old.items ++ plain_file file ∷ []) }
+        ensures ok { OnOk result (self.new.items ≡ self.old.items ++ plain_file file ∷ []) }
+        ensures err { OnErr result (self.new ≡ self.old) }
+        ensures granted { 0 < self.old.room → IsOk result }
+        ensures room { 0 < self.old.room → self.new.room + 1 ≡ self.old.room }
+    {
+        if self.files.len() < self.files.capacity() {
+            self.files.push_reserved(file);
+            return Ok(());
+        }
+        self.files.reserve(1)?;
+        self.files.push_reserved(file);
+        Ok(())
+    }
+}

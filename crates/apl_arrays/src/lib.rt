@@ -1,0 +1,24 @@
+//! The values of APL: glyphs, names, lists, arrays, and the names of its functions and reports.
+#![tactic(auto)]
+
+mod array;
+mod file;
+mod file_list;
+mod glyph;
+mod line_list;
+mod list;
+mod memory;
+mod name;
+mod report;
+mod verb;
+
+pub use array::{Array, ArrayRefused, Item, Items};
+pub use file::FileName;
+pub use file_list::{File, FileList};
+pub use glyph::Glyph;
+pub use line_list::LineList;
+pub use list::{Bytes, Line, List, NameList, NumberList, PartyList, Readings};
+pub use memory::WantOfMemory;
+pub use name::Name;
+pub use report::{Fail, Report};
+pub use verb::{Dyad, Mix1, Mix2, Monad, Verb, Way};

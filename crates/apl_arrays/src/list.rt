@@ -1,0 +1,110 @@
+ghost use Rattle.std.specs.Prelude.{◌≡◌, ◌+◌, ◌-◌, ◌<◌, ◌≤◌, [], ◌∷◌, ◌++◌, IfOk, OnOk, OnErr, IsOk, vec_len, vec_capacity};
+ghost use Rattle.apl_arrays.specs.List.{Listed};
+
+use crate::{Glyph, Name, WantOfMemory};
+use std::alloc::Global;
+use std::marker::Model;
+
+/// A list that grows, seen as its items and the room that is left: the number of pushes that ask for no memory.
+#[derive(Debug, Drop)]
+pub struct List<T> {
+    items: Vec<T>,
+}
+
+impl<T> Model for List<T> {
+    ghost Value = { Listed T };
+
+    ghost view = { λ l. record { items = l.items.items; room = vec_capacity l.items - vec_len l.items } };
+}
+
+impl<T> List<T> {
+    /// An empty list. It takes no memory.
+    pub fn new(alloc: Global) -> Self
+        ensures { result.items ≡ [] }
+    {
+        List {
+            items: Vec::new(alloc),
+        }
+    }
+
+    /// The items, in order. It takes no memory.
+    pub fn as_slice(&self) -> &[T]
+        ensures { result.now ≡ self.now.items }
+    {
+        &self.items
+    }
+
+    /// The items as a `Vec`. It takes no memory.
+    pub fn into_vec(self) -> Vec<T>
+        ensures { result.items ≡ self.items }
+    {
+        self.items
+    }
+
+    /// A list of the same items, with room for no more than these are.
+    pub fn copy(&self, alloc: Global) -> Result<Self, WantOfMemory>
+    where
+        T: Copy,
+        ensures { IfOk result (λ list. list.items ≡ self.now.items) }
+    {
+        Ok(List {
+            items: Vec::from_slice(alloc, &self.items)?,
+        })
+    }
+
+    /// Makes room for at least so many pushes.
+    pub fn reserve(&mut self, room: usize) -> Result<(), WantOfMemory>
+        ensures items { self.new.items ≡ self.old.items }
+        ensures room { OnOk result (room ≤ self.new.room) }
+        ensures kept { self.old.room ≤ self.new.room }
+        ensures err { OnErr result (self.new ≡ self.old) }
+        ensures granted { room ≤ self.old.room → IsOk result }
+    {
+        self.items.reserve(room)?;
+        Ok(())
+    }
+
+    /// Adds an item at the end. Where there is room it is granted.
+    pub fn push(&mut self, item: T) -> Result<(), WantOfMemory>
+    where
+        T: Drop,
+        ensures ok { OnOk result (self.new.items ≡ self.old.items ++ item ∷ []) }
+        ensures err { OnErr result (self.new ≡ self.old) }
+        ensures granted { 0 < self.old.room → IsOk result }
+        ensures room { 0 < self.old.room → self.new.room + 1 ≡ self.old.room }
+    {
+        if self.items.len() < self.items.capacity() {
+            self.items.push_reserved(item);
+            return Ok(());
+        }
+        self.items.reserve(1)?;
+        self.items.push_reserved(item);
+        Ok(())
+    }
+}
+
+impl<T> From<Vec<T>> for List<T> {
+    ghost from_gives = { λ v l. l.items ≡ v.items };
+
+    fn from(items: Vec<T>) -> Self {
+        List { items }
+    }
+}
+
+/// Bytes.
+pub type Bytes = List<u8>;
+
+/// A line of glyphs.
+pub type Line = List<Glyph>;
+
+/// Names.
+pub type NameList = List<Name>;
+
+/// Numbers of arrays.
+pub type NumberList = List<i64>;
+
+/// The numbers of parties.
+pub type PartyList = List<u32>;
+
+/// The readings of a clock.
+pub type Readings = List<i64>;

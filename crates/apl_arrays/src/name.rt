@@ -1,0 +1,158 @@
+ghost use Rattle.std.specs.Prelude.{◌≡◌, ◌≤◌, IsTrue, IsSome, IfSome, ◌↔◌, length};
+ghost use Rattle.std.specs.List.{list_all};
+ghost use Rattle.apl_arrays.specs.Glyph.{is_letter, is_digit};
+ghost use Rattle.apl_arrays.specs.Name.{IsName, goes_on, is_name};
+ghost use Rattle.apl_arrays.specs.Padded.{padded};
+
+use crate::Glyph;
+use std::cmp::Ordering;
+use std::hash::{Hash, Hasher};
+use std::marker::Model;
+
+/// A name: a letter or `∆`, and then letters, `∆`, digits and `_`, 32 glyphs at most. It is seen as its glyphs.
+#[derive(Debug, Clone, Copy)]
+pub struct Name {
+    glyphs: [Glyph; 32],
+    len: u8,
+}
+
+impl Model for Name {
+    ghost use Rattle.std.specs.Prelude.{ℕ, List, length, take};
+    ghost use Rattle.apl_arrays.specs.Name.{IsName};
+    ghost use Rattle.apl_arrays.specs.Padded.{IsPadded, padded, counted_length, padded_again, same_parts};
+
+    ghost Value = { List ℕ };
+
+    ghost view = { λ n. take n.len n.glyphs };
+
+    ghost invariant = { λ n. IsPadded 32 n.glyphs n.len × IsName (take n.len n.glyphs) };
+
+    ghost inverse = { λ glyphs. record { glyphs = padded 32 glyphs; len = length glyphs } };
+
+    ghost inverse_ok = { λ n h. same_parts (λ glyphs len. record { glyphs = glyphs; len = len }) (padded_again h.0) (counted_length h.0) };
+}
+
+impl Name {
+    /// The name of these glyphs, or `None` where they are no name. This profile's names. No memory.
+    pub fn of(glyphs: &[Glyph]) -> Option<Name>
+        ensures known { IsSome result ↔ IsName glyphs.now }
+        ensures value { IfSome result (λ name. name ≡ glyphs.now) }
+    {
+        if !is_name(glyphs) {
+            return None;
+        }
+        let mut places = [Glyph::BLANK; 32];
+        places[..glyphs.len()].copy_from_slice(glyphs);
+        Some(Name {
+            glyphs: places,
+            len: glyphs.len() as u8,
+        })
+    }
+
+    /// Its glyphs. No memory.
+    pub fn glyphs(&self) -> &[Glyph]
+        ensures value { result.now ≡ self.now }
+        ensures name { IsName self.now }
+    {
+        &self.glyphs[..self.len as usize]
+    }
+}
+
+impl PartialEq for Name {
+    ghost use Rattle.std.specs.Prelude.{◌==◌};
+    ghost use Rattle.std.specs.Cmp.Lexicographic.{pointwise};
+    ghost use Rattle.std.specs.Cmp.Rules.{comparing};
+    ghost use Rattle.std.proofs.Common.{rules};
+
+    ghost eq = { pointwise ◌==◌ };
+
+    ghost laws = { Prim.search (comparing, rules) };
+
+    fn eq(&self, other: &Name) -> bool {
+        self.glyphs() == other.glyphs()
+    }
+}
+
+impl Eq for Name {
+    ghost use Rattle.std.specs.Cmp.Rules.{comparing};
+    ghost use Rattle.std.proofs.Common.{rules};
+
+    ghost laws = { Prim.search (comparing, rules) };
+}
+
+impl Ord for Name {
+    ghost use Rattle.std.specs.Ordering.{nat_cmp};
+    ghost use Rattle.std.specs.Cmp.Lexicographic.{slice_cmp};
+    ghost use Rattle.std.specs.Cmp.Rules.{comparing};
+    ghost use Rattle.std.proofs.Common.{rules};
+
+    ghost cmp = { slice_cmp nat_cmp };
+
+    ghost total = { Prim.search (comparing, rules) };
+
+    ghost matches_partial_cmp = { Prim.search (comparing, rules) };
+
+    ghost matches_eq = { Prim.search (comparing, rules) };
+
+    fn cmp(&self, other: &Name) -> Ordering {
+        self.glyphs().cmp(other.glyphs())
+    }
+}
+
+impl PartialOrd for Name {
+    ghost use Rattle.std.specs.Ordering.{nat_cmp, as_partial_cmp};
+    ghost use Rattle.std.specs.Cmp.Lexicographic.{slice_cmp};
+    ghost use Rattle.std.specs.Cmp.{partial_order_from_own_ties};
+    ghost use Rattle.std.specs.Cmp.Rules.{comparing};
+    ghost use Rattle.std.proofs.Common.{rules};
+
+    ghost partial_cmp = { as_partial_cmp (slice_cmp nat_cmp) };
+
+    ghost laws = { partial_order_from_own_ties (Prim.search (comparing, rules)) (Prim.search (comparing, rules)) };
+
+    fn partial_cmp(&self, other: &Name) -> Option<Ordering> {
+        Some(self.cmp(other))
+    }
+}
+
+impl Hash for Name {
+    ghost use Rattle.std.specs.Hash as fed;
+    ghost use Rattle.std.specs.Cmp.Rules.{comparing, hashing};
+    ghost use Rattle.std.proofs.Common.{rules};
+
+    ghost hash_input = { fed.slice fed.u8 };
+
+    ghost respects_eq = { Prim.search (hashing, rules) };
+
+    fn hash<H: Hasher>(&self, state: &mut H) {
+        self.glyphs().hash(state);
+    }
+}
+
+fn is_letter(glyph: Glyph) -> bool
+    ensures { result ≡ is_letter glyph }
+{
+    matches!(glyph.code(), 65..=90 | 97..=122 | 154)
+}
+
+fn goes_on(glyph: Glyph) -> bool
+    ensures { result ≡ goes_on glyph }
+{
+    is_letter(glyph) || matches!(glyph.code(), 48..=57 | 95)
+}
+
+fn all_go_on(glyphs: &[Glyph]) -> bool
+    ensures { result ≡ list_all goes_on glyphs.now }
+{
+    glyphs.iter().all(|glyph| goes_on(*glyph))
+}
+
+fn is_name(glyphs: &[Glyph]) -> bool
+    ensures value { result ≡ is_name glyphs.now }
+    ensures short { IsTrue result → length glyphs.now ≤ 32 }
+{
+    match glyphs.split_first() {
+        None => false,
+        Some((first, rest)) => is_letter(*first) && rest.len() <= 31 && all_go_on(rest),
+    }
+}
