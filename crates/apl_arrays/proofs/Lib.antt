@@ -1,1 +1,4 @@
+pub mod Glyphs
 pub mod Padding
+pub mod Scalars
+pub mod Spelling

@@ -6,3 +6,4 @@ pub mod List
 pub mod Name
 pub mod Padded
 pub mod Report
+pub mod Text

@@ -10,6 +10,7 @@ mod list;
 mod memory;
 mod name;
 mod report;
+mod text;
 mod verb;
 
 pub use array::{Array, ArrayRefused, Item, Items};
@@ -21,4 +22,5 @@ pub use list::{Bytes, Line, List, NameList, NumberList, PartyList, Readings};
 pub use memory::WantOfMemory;
 pub use name::Name;
 pub use report::{Fail, Report};
+pub use text::{GlyphRefused, glyphs_of, texts_are_read_in_one_way, utf8_of};
 pub use verb::{Dyad, Mix1, Mix2, Monad, Verb, Way};

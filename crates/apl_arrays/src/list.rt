@@ -81,6 +81,38 @@ impl<T> List<T> {
         self.items.push_reserved(item);
         Ok(())
     }
+
+    /// Adds an item at the end, where there is room. It takes no memory.
+    pub fn push_reserved(&mut self, item: T)
+        requires { 0 < self.old.room }
+        ensures items { self.new.items ≡ self.old.items ++ item ∷ [] }
+        ensures room { self.new.room + 1 ≡ self.old.room }
+    {
+        self.items.push_reserved(item);
+    }
+}
+
+/// Equal lists have equal items; the room may differ.
+impl<T: PartialEq> PartialEq for List<T> {
+    ghost use Rattle.std.specs.Ordering.{on};
+    ghost use Rattle.std.specs.Cmp.Lexicographic.{pointwise};
+    ghost use Rattle.std.specs.Cmp.Rules.{comparing};
+    ghost use Rattle.std.proofs.Common.{rules};
+
+    ghost eq = { on (λ l. l.items) (pointwise T.eq) };
+
+    ghost laws = { Prim.search (comparing, rules) };
+
+    fn eq(&self, other: &List<T>) -> bool {
+        self.as_slice() == other.as_slice()
+    }
+}
+
+impl<T: Eq> Eq for List<T> {
+    ghost use Rattle.std.specs.Cmp.Rules.{comparing};
+    ghost use Rattle.std.proofs.Common.{rules};
+
+    ghost laws = { Prim.search (comparing, rules) };
 }
 
 impl<T> From<Vec<T>> for List<T> {

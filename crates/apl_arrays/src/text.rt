@@ -1,0 +1,294 @@
+ghost use Rattle.std.specs.Prelude.{◌≡◌, ◌≢◌, ◌+◌, ◌<◌, ◌≤◌, ◌^◌, ◌++◌, ◌∷◌, [], ◌⊎◌, ◌==◌, ℕ, List as ListOf, All, length, drop, IfOk, IfErr, MatchResult, MatchOption, encode_utf8};
+ghost use Rattle.std.specs.List.{position};
+ghost use Rattle.apl_arrays.specs.Glyph.{IsGlyph, scalar_of, glyph_utf8, line_utf8, Spells, StartsWithNoGlyph, IsBadFrom};
+ghost use Rattle.apl_arrays.specs.Text.{IsReasonToRefuse, StartsWithNoScalar};
+
+use crate::glyph::SCALARS;
+use crate::{Bytes, Glyph, Line, List, WantOfMemory};
+use std::alloc::Global;
+use std::error::Error;
+use std::fmt;
+
+/// Why bytes are not read as glyphs.
+#[derive(Clone, Copy, Debug, PartialEq, Eq)]
+pub enum GlyphRefused {
+    /// No glyph stands at this offset. Glyphs stand before it.
+    BadGlyph(u64),
+    /// Memory ran out.
+    WantOfMemory,
+}
+
+impl From<WantOfMemory> for GlyphRefused {
+    ghost use Rattle.std.specs.Prelude.{◌≡◌};
+    ghost use Rattle.apl_arrays.specs.declared.text.GlyphRefused.TheVariants.{WantOfMemory as Wanting};
+
+    ghost from_gives = { λ _ e. e ≡ Wanting };
+
+    fn from(_: WantOfMemory) -> Self {
+        GlyphRefused::WantOfMemory
+    }
+}
+
+impl fmt::Display for GlyphRefused {
+    fn fmt<W: fmt::Write>(&self, f: &mut fmt::Formatter<W>) -> fmt::Result {
+        match self {
+            GlyphRefused::BadGlyph(offset) => write!(f, "no glyph at byte {offset}"),
+            GlyphRefused::WantOfMemory => f.write_str("out of memory"),
+        }
+    }
+}
+
+impl Error for GlyphRefused {}
+
+// The scalar that two bytes encode.
+#[tactic(auto, using(crate::proofs::Scalars::bytes_of_two, crate::proofs::Scalars::two_from_bytes))]
+fn scalar_of_two(first: u8, second: u8) -> Option<u16>
+    ensures { MatchOption result ((scalar : ℕ) → 2 ^ 7 ≤ scalar → scalar < 2 ^ 11 → encode_utf8 scalar ≢ first ∷ second ∷ [])
+        (λ scalar. encode_utf8 scalar ≡ first ∷ second ∷ []) }
+{
+    if first < 0xC2 || first >= 0xE0 || second < 0x80 || second >= 0xC0 {
+        return None;
+    }
+    Some((u16::from(first) - 0xC0) * 64 + (u16::from(second) - 0x80))
+}
+
+// The scalar that three bytes encode.
+#[tactic(auto, using(crate::proofs::Scalars::bytes_of_three, crate::proofs::Scalars::large_from_three, crate::proofs::Scalars::three_from_bytes))]
+fn scalar_of_three(first: u8, second: u8, third: u8) -> Option<u16>
+    ensures { MatchOption result ((scalar : ℕ) → 2 ^ 11 ≤ scalar → scalar < 2 ^ 16 → encode_utf8 scalar ≢ first ∷ second ∷ third ∷ [])
+        (λ scalar. encode_utf8 scalar ≡ first ∷ second ∷ third ∷ []) }
+{
+    if first < 0xE0
+        || first >= 0xF0
+        || second < 0x80
+        || second >= 0xC0
+        || third < 0x80
+        || third >= 0xC0
+    {
+        return None;
+    }
+    let scalar = (u16::from(first) - 0xE0) * 4096
+        + (u16::from(second) - 0x80) * 64
+        + (u16::from(third) - 0x80);
+    if scalar < 0x800 {
+        return None;
+    }
+    Some(scalar)
+}
+
+// The scalar of 16 bits at the front, and how many bytes it takes.
+#[tactic(auto, using(crate::proofs::Scalars::none_of_none, crate::proofs::Scalars::none_of_one, crate::proofs::Scalars::none_of_two, crate::proofs::Scalars::none_as_two, crate::proofs::Scalars::none_as_three))]
+fn scalar_at(bytes: &[u8]) -> Option<(u16, usize)>
+    ensures { MatchOption result (StartsWithNoScalar bytes.now)
+        (λ found. (bytes.now ≡ encode_utf8 found.0 ++ drop found.1 bytes.now) × (0 < found.1) × (found.1 ≤ length bytes.now)) }
+{
+    match bytes {
+        [] => None,
+        [first, ..] if *first < 0x80 => Some((u16::from(*first), 1)),
+        [first, second, ..] if *first < 0xE0 => Some((scalar_of_two(*first, *second)?, 2)),
+        [first, second, third, ..] => Some((scalar_of_three(*first, *second, *third)?, 3)),
+        _ => None,
+    }
+}
+
+// The place of a scalar among those of the codes from 128 on.
+fn place_of(scalar: u16) -> Option<usize>
+    ensures { result ≡ position (λ listed. listed == scalar) SCALARS }
+{
+    SCALARS.iter().position(|listed| *listed == scalar)
+}
+
+// The glyph of a scalar.
+#[tactic(auto, using(crate::proofs::Glyphs::unlisted, crate::proofs::Glyphs::listed))]
+fn glyph_of_scalar(scalar: u16) -> Option<Glyph>
+    ensures { MatchOption result ((code : ℕ) → IsGlyph code → scalar_of code ≢ scalar)
+        (λ glyph. IsGlyph glyph × (scalar_of glyph ≡ scalar)) }
+{
+    if scalar < 0x80 {
+        return Glyph::of_code(scalar as u8);
+    }
+    let place = place_of(scalar)?;
+    Glyph::of_code(0x80 + place as u8)
+}
+
+// The glyph at the front, and how many bytes it takes.
+#[tactic(auto, using(crate::proofs::Glyphs::glyph_at_front, crate::proofs::Glyphs::no_glyph_of_scalar, crate::proofs::Glyphs::no_glyph_where_no_scalar))]
+fn glyph_at(bytes: &[u8]) -> Option<(Glyph, usize)>
+    ensures { MatchOption result (StartsWithNoGlyph bytes.now)
+        (λ found. IsGlyph found.0 × (bytes.now ≡ glyph_utf8 found.0 ++ drop found.1 bytes.now)
+        × (0 < found.1) × (found.1 ≤ length bytes.now)) }
+{
+    let (scalar, taken) = scalar_at(bytes)?;
+    let glyph = glyph_of_scalar(scalar)?;
+    Some((glyph, taken))
+}
+
+/// The line that bytes spell in UTF-8, read in one pass. `BadGlyph` says where the first thing stands that is no
+/// glyph of this profile. It takes memory for the line.
+#[tactic(auto, using(crate::proofs::Spelling::bad_here, crate::proofs::Spelling::one_more))]
+pub fn glyphs_of(alloc: Global, bytes: &[u8]) -> Result<Line, GlyphRefused>
+    ensures line { IfOk result (λ line. Spells bytes.now line.items) }
+    ensures bad { IfErr result (λ why. IsReasonToRefuse bytes.now why) }
+    ensures only_line { (line : ListOf ℕ) → Spells bytes.now line →
+        MatchResult result (λ read. read.items ≡ line) (λ why. why ≡ GlyphRefused.WantOfMemory) }
+    ensures only_bad { (offset : ℕ) → IsBadFrom bytes.now offset →
+        MatchResult result (λ _. ⊥) (λ why. (why ≡ GlyphRefused.BadGlyph offset) ⊎ (why ≡ GlyphRefused.WantOfMemory)) }
+{
+    let mut line = List::new(alloc);
+    let mut rest = bytes;
+    while let Some((glyph, taken)) = glyph_at(rest) {
+        line.push(glyph)?;
+        rest = &rest[taken..];
+    }
+    if rest.is_empty() {
+        Ok(line)
+    } else {
+        Err(GlyphRefused::BadGlyph((bytes.len() - rest.len()) as u64))
+    }
+}
+
+// The scalar of a glyph.
+#[tactic(auto, using(crate::proofs::Glyphs::table_bound, crate::proofs::Glyphs::scalar_of_low, crate::proofs::Glyphs::scalar_of_high))]
+fn char_of(glyph: Glyph) -> char
+    ensures glyph { IsGlyph glyph }
+    ensures value { result ≡ scalar_of glyph }
+{
+    let code = glyph.code();
+    if code < 0x80 {
+        return char::from(code);
+    }
+    char::from_u32(u32::from(SCALARS[usize::from(code) - 0x80])).unwrap()
+}
+
+/// A line in UTF-8. Read again it is this line. It takes memory for the bytes.
+pub fn utf8_of(alloc: Global, line: &Line) -> Result<Bytes, WantOfMemory>
+    ensures text { IfOk result (λ bytes. bytes.items ≡ line_utf8 line.now.items) }
+    ensures read_again { IfOk result (λ bytes. Spells bytes.items line.now.items) }
+{
+    let mut text = String::new(alloc);
+    for glyph in line.as_slice() {
+        text.push(char_of(*glyph))?;
+    }
+    Ok(List::from(text.into_bytes()))
+}
+
+/// What every text keeps: it spells at most one line, and then is bad nowhere; it is bad at one place at most; the
+/// texts of two lines join to that of the joined line; and no byte of a line is a control character.
+pub fn texts_are_read_in_one_way()
+    ensures one_line { (bytes line other : ListOf ℕ) → Spells bytes line → Spells bytes other → line ≡ other }
+    ensures bad_nowhere { (bytes line : ListOf ℕ) (offset : ℕ) → Spells bytes line → IsBadFrom bytes offset → ⊥ }
+    ensures one_place { (bytes : ListOf ℕ) (offset other : ℕ) → IsBadFrom bytes offset → IsBadFrom bytes other → offset ≡ other }
+    ensures joined { (line other : ListOf ℕ) → line_utf8 (line ++ other) ≡ line_utf8 line ++ line_utf8 other }
+    ensures no_control { (line : ListOf ℕ) → All IsGlyph line → All (λ byte. 32 ≤ byte) (line_utf8 line) }
+{}
+
+#[cfg(test)]
+mod tests {
+    use super::*;
+    use std::alloc::AllocError;
+    use std::test::Fail;
+
+    // All 130 glyphs, in the order of their codes: 32 to 126, then 128 to 162.
+    const EVERY_GLYPH: &str =
+        " !\"#$%&'()*+,-./0123456789:;<=>?@ABCDEFGHIJKLMNOPQRSTUVWXYZ[\\]^_`abcdefghijklmnopqrstuvwxyz{|}~⍴⍳∊↑↓⍋⍒⌽⊖⍉⌈⌊×÷≤≥≠∧∨⍲⍱←→⎕¯∇∆∘⍝⊥⊤⌿⍀⍕⍎";
+
+    // Bytes, and where the first thing stands in them that is no glyph.
+    const BAD: [(&[u8], u64); 22] = [
+        (&[0x09], 0),
+        (&[0x41, 0x0A], 1),
+        (&[0xC3, 0x97, 0xC3, 0xB7, 0x0D], 4),
+        (&[0x7F], 0),
+        (&[0x41, 0x42, 0x7F, 0x43], 2),
+        (&[0x41, 0xC3, 0x28], 1),
+        (&[0xE2, 0x86, 0x90, 0xE2, 0x82, 0xAC], 3),
+        (&[0xE2, 0x8D, 0xB5], 0),
+        (&[0xC2, 0xA0], 0),
+        (&[0xF0, 0x9F, 0x98, 0x80], 0),
+        (&[0x41, 0xED, 0xA0, 0x80], 1),
+        (&[0xC0, 0xA0], 0),
+        (&[0x41, 0xC1, 0x81], 1),
+        (&[0xE0, 0x83, 0x97], 0),
+        (&[0x80], 0),
+        (&[0xFF], 0),
+        (&[0xC3], 0),
+        (&[0xC3, 0x97, 0xC3], 2),
+        (&[0xE2], 0),
+        (&[0xE2, 0x86], 0),
+        (&[0x2B, 0xE2, 0x8D], 1),
+        (&[0xE2, 0x86, 0x41], 0),
+    ];
+
+    // A call that memory failed is made again.
+    fn read(rt: &HostRuntime, bytes: &[u8]) -> Result<Line, GlyphRefused> {
+        match glyphs_of(rt.alloc(), bytes) {
+            Err(GlyphRefused::WantOfMemory) => glyphs_of(rt.alloc(), bytes),
+            outcome => outcome,
+        }
+    }
+
+    fn written(rt: &HostRuntime, line: &Line) -> Result<Bytes, WantOfMemory> {
+        match utf8_of(rt.alloc(), line) {
+            Err(WantOfMemory) => utf8_of(rt.alloc(), line),
+            outcome => outcome,
+        }
+    }
+
+    #[test]
+    fn reads_and_writes_an_arrow(rt: HostRuntime) -> Result<(), Fail> {
+        let line = read(&rt, &[0xE2, 0x86, 0x90])?;
+        assert_eq!(rt; line.as_slice().len(), 1);
+        assert_eq!(rt; line.as_slice()[0].code(), 149);
+        let bytes = written(&rt, &line)?;
+        assert_eq!(rt; bytes.as_slice(), [0xE2, 0x86, 0x90].as_slice());
+        Ok(())
+    }
+
+    #[test]
+    fn reads_and_writes_every_glyph(rt: HostRuntime) -> Result<(), Fail> {
+        let line = read(&rt, EVERY_GLYPH.as_bytes())?;
+        let glyphs = line.as_slice();
+        assert_eq!(rt; glyphs.len(), 130);
+        for (place, glyph) in glyphs.iter().enumerate() {
+            let code = if place < 95 { place + 32 } else { place + 33 };
+            assert_eq!(rt; usize::from(glyph.code()), code);
+        }
+        let bytes = written(&rt, &line)?;
+        assert_eq!(rt; bytes.as_slice(), EVERY_GLYPH.as_bytes());
+        Ok(())
+    }
+
+    #[test]
+    fn reads_and_writes_nothing(rt: HostRuntime) -> Result<(), Fail> {
+        let line = read(&rt, &[])?;
+        assert!(rt; line.as_slice().is_empty());
+        let bytes = written(&rt, &line)?;
+        assert!(rt; bytes.as_slice().is_empty());
+        Ok(())
+    }
+
+    #[test]
+    fn says_where_no_glyph_stands(rt: HostRuntime) {
+        for (bytes, offset) in BAD {
+            match read(&rt, bytes) {
+                Ok(_) => panic!(rt; "read {bytes:?}"),
+                Err(why) => assert_eq!(rt; why, GlyphRefused::BadGlyph(offset), "in {bytes:?}"),
+            }
+        }
+    }
+
+    fn shown(rt: &HostRuntime, why: GlyphRefused) -> Result<String, AllocError> {
+        match why.to_string(rt.alloc()) {
+            Err(_) => why.to_string(rt.alloc()),
+            outcome => outcome,
+        }
+    }
+
+    #[test]
+    fn names_the_reason(rt: HostRuntime) -> Result<(), Fail> {
+        let bad = shown(&rt, GlyphRefused::BadGlyph(3))?;
+        assert_eq!(rt; bad.as_str(), "no glyph at byte 3");
+        let wanting = shown(&rt, GlyphRefused::from(WantOfMemory))?;
+        assert_eq!(rt; wanting.as_str(), "out of memory");
+        Ok(())
+    }
+}

@@ -1,0 +1,63 @@
+ghost use Rattle.std.specs.Prelude.{◌≡◌};
+ghost use Rattle.sv_access.specs.State.{state_after, vector_of_state};
+
+use crate::access::{Kind, Side};
+use crate::control::Control;
+
+/// Whose set of a coupling the other side has not used yet.
+#[derive(Clone, Copy, Debug, PartialEq, Eq)]
+pub enum State {
+    Quiet,
+    UnseenA,
+    UnseenB,
+}
+
+/// The state after a granted access. Source: this profile.
+pub fn after(state: State, side: Side, kind: Kind) -> State
+    ensures { result ≡ state_after state side kind }
+{
+    match (side, kind, state) {
+        (Side::A, Kind::Set, _) => State::UnseenA,
+        (Side::B, Kind::Set, _) => State::UnseenB,
+        (Side::A, Kind::Use, State::UnseenB) | (Side::B, Kind::Use, State::UnseenA) => State::Quiet,
+        (_, Kind::Use, _) => state,
+    }
+}
+
+/// The accesses that a state lets control hold, as a side sees them. Source: this profile.
+pub fn view(state: State, side: Side) -> Control
+    ensures { result ≡ vector_of_state state side }
+{
+    match (state, side) {
+        (State::Quiet, _) => Control([false, false, true, true]),
+        (State::UnseenA, Side::A) | (State::UnseenB, Side::B) => {
+            Control([true, false, true, false])
+        }
+        (State::UnseenA, Side::B) | (State::UnseenB, Side::A) => {
+            Control([false, true, false, true])
+        }
+    }
+}
+
+#[cfg(test)]
+mod tests {
+    use super::*;
+
+    #[test]
+    fn shows_each_side_its_view(rt: HostRuntime) {
+        let given_by_a = after(State::Quiet, Side::A, Kind::Set);
+        assert_eq!(rt;
+            view(given_by_a, Side::A),
+            Control([true, false, true, false])
+        );
+        assert_eq!(rt;
+            view(given_by_a, Side::B),
+            Control([false, true, false, true])
+        );
+        let used_by_b = after(given_by_a, Side::B, Kind::Use);
+        assert_eq!(rt;
+            view(used_by_b, Side::B),
+            Control([false, false, true, true])
+        );
+    }
+}

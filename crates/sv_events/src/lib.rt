@@ -1,0 +1,10 @@
+//! What happens between workspaces: acts, answers, and the entries of the journal.
+#![tactic(auto)]
+
+mod entry;
+mod event;
+mod journal;
+
+pub use entry::{Entry, Pair, PairList};
+pub use event::{Act, Answer};
+pub use journal::Journal;

@@ -1,0 +1,9 @@
+use Rattle.std.proofs.Common.{◌∙◌, rules, tests}
+use Rattle.std.proofs.lemmas.Iterator.{YieldsList-from_slice}
+use Rattle.std.proofs.lemmas.Iterator.Search.{find_from_yields_List}
+use Rattle.sv_rules.specs.Coupling.{has_place}
+use Rattle.sv_rules.proofs.coupling.made_with.Goals as goal
+
+pub returns : goal.returns
+returns c =
+    c.copied.ensures ∙ find_from_yields_List (has_place c.args.place) _ _ c.find.result c.find.ensures.ran (YieldsList-from_slice c.args.coupled.now cc) (λ x b q k. search (rules, tests))

@@ -1,0 +1,68 @@
+ghost use Rattle.std.specs.Prelude.{◌≡◌, ◌≤◌};
+ghost use Rattle.apl_arrays.specs.Array.{item_count};
+ghost use Rattle.sv_events.specs.Answer.{plain_answer};
+ghost use Rattle.sv_rules.specs.Entries.{is_leave, has_left, elements_of, elements_asked, value_got};
+ghost use Rattle.sv_rules.specs.Journal.{journal_of};
+
+use apl_arrays::Array;
+use sv_events::{Act, Answer, Entry};
+
+/// Whether the act is a leave.
+pub fn is_leave(act: &Act) -> bool
+    ensures { result ≡ is_leave act.now }
+{
+    matches!(act, Act::Leave)
+}
+
+/// Whether the party has left.
+pub fn has_left(entries: &[Entry], party: u32) -> bool
+    ensures { result ≡ has_left (journal_of entries.now) party }
+{
+    let mut left = false;
+    for entry in entries {
+        if entry.party == party && is_leave(&entry.act) {
+            left = true;
+        }
+    }
+    left
+}
+
+fn element_count(value: &Array) -> u64
+    ensures count { result ≡ item_count value.now.items }
+    ensures limit { result ≤ 16384 }
+{
+    value.items().len() as u64
+}
+
+fn elements_of(value: &Option<Array>) -> u64
+    ensures count { result ≡ elements_of value.now }
+    ensures limit { result ≤ 16384 }
+{
+    match value {
+        None => 0,
+        Some(array) => element_count(array),
+    }
+}
+
+/// How many elements an act holds.
+pub fn elements_asked(act: &Act) -> u64
+    ensures count { result ≡ elements_asked act.now }
+    ensures limit { result ≤ 16384 }
+{
+    match act {
+        Act::Offer { value, .. } => elements_of(value),
+        Act::Set(_, value) => element_count(value),
+        _ => 0,
+    }
+}
+
+/// How many elements an answer holds.
+pub fn elements_told(answer: &Answer) -> u64
+    ensures count { result ≡ elements_of (value_got (plain_answer answer.now)) }
+    ensures limit { result ≤ 16384 }
+{
+    match answer {
+        Answer::Value(value) => element_count(value),
+        _ => 0,
+    }
+}

@@ -1,0 +1,43 @@
+ghost use Rattle.std.specs.Prelude.{◌≡◌};
+ghost use Rattle.sv_rules.specs.Standing.{own_offer, offer_count, is_match};
+
+use apl_arrays::Name;
+
+/// A standing offer: the place of its entry, whose it is, to whom it is made (0: to any), and under which local name
+/// and which surrogate.
+#[derive(Clone, Copy, Debug, PartialEq, Eq)]
+pub struct Standing {
+    pub place: u64,
+    pub party: u32,
+    pub to: u32,
+    pub local: Name,
+    pub surrogate: Name,
+}
+
+/// The party's offer of a local name, if it has one.
+pub fn own_offer(offers: &[Standing], party: u32, local: &Name) -> Option<Standing>
+    ensures { result ≡ own_offer offers.now party local.now }
+{
+    offers
+        .iter()
+        .find(|offer| offer.party == party && offer.local == *local)
+        .copied()
+}
+
+/// How many of the offers are the party's.
+pub fn offer_count(offers: &[Standing], party: u32) -> usize
+    ensures { result ≡ offer_count offers.now party }
+{
+    offers.iter().filter(|offer| offer.party == party).count()
+}
+
+/// Whether the two offers are made to each other, or one to the other's party and that one to any.
+pub fn is_match(one: &Standing, other: &Standing) -> bool
+    ensures { result ≡ is_match one.now other.now }
+{
+    one.party != other.party
+        && one.surrogate == other.surrogate
+        && (one.to == other.party || one.to == 0)
+        && (other.to == one.party || other.to == 0)
+        && !(one.to == 0 && other.to == 0)
+}
