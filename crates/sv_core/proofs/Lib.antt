@@ -1,0 +1,6 @@
+pub mod Filters
+pub mod Kept
+pub mod Left
+pub mod Offered
+pub mod Opened
+pub mod Reopened

@@ -1,0 +1,80 @@
+use Rattle.std.proofs.Common.{◌≡◌, ◌≤◌, ◌<◌, ◌+◌, ◌*◌, ◌∷◌, ◌++◌, [], ℕ, true, not, List, ap, sym, ◌∙◌, subst, length, map, reverse, arith, vec_len, vec_capacity}
+use Rattle.std.proofs.lemmas.List.{reverse-append}
+use Rattle.sv_rules.specs.declared.coupling.Made.{Made}
+use Rattle.sv_rules.specs.Entries.{Entries, has_left, next_place}
+use Rattle.sv_rules.specs.Standing.{standing, without_party}
+use Rattle.sv_rules.specs.Coupling.{couplings, couplings_among, made_by_leave}
+use Rattle.sv_rules.specs.Legal.{is_user}
+use Rattle.sv_core.specs.Core.{PlainCore, present, leave_entry}
+use Rattle.sv_core.proofs.Kept.{kept_same}
+use Rattle.sv_core.proofs.Left.{somebody, room_for_leave, leave_may, kept_left, left_by, kept_by, made_by}
+use Rattle.sv_core.proofs.processor.Core.leave.Goals as goal
+use Rattle.sv_core.proofs.processor.Core.leave.Goals.{After-next_place-at, After-push_reserved}
+
+-- a user leaves that has not left
+user_is : (c : After-next_place-at) → is_user c.self.inside.users.items c.args.party ≡ true
+user_is c = subst (λ (v : PlainCore). is_user v.users c.args.party ≡ true) (sym c.self.view_is) c.requires.user
+
+here_is : (c : After-next_place-at) → not (has_left (reverse c.self.inside.journal.items) c.args.party) ≡ true
+here_is c = subst (λ (v : PlainCore). not (has_left v.journal c.args.party) ≡ true) (sym c.self.view_is) c.requires.present
+
+some_is : (c : After-next_place-at) → 1 ≤ present c.self.inside.users.items (reverse c.self.inside.journal.items)
+some_is c = somebody c.self.inside.users.items (reverse c.self.inside.journal.items) c.args.party (user_is c) (here_is c)
+
+pub leave-made-requires-clause-spares : goal.leave-made-requires-clause-spares
+leave-made-requires-clause-spares c =
+    let d = (goal.at.leave-made-requires-clause-spares c).After-next_place-at in
+    omega (arith, some_is d, c.self.invariant.spare_count, c.self.inside.table.spares.ok.0)
+
+pub leave-made-requires-clause-coupled : goal.leave-made-requires-clause-coupled
+leave-made-requires-clause-coupled c =
+    let d = (goal.at.leave-made-requires-clause-coupled c).After-next_place-at in
+    let room = room_for_leave (length c.self.inside.table.coupled.items) (length c.self.inside.table.offers.items) (present c.self.inside.users.items (reverse c.self.inside.journal.items)) (vec_capacity c.self.inside.table.coupled) (some_is d) c.self.invariant.coupled_room in
+    omega (arith, room, c.self.inside.table.coupled.ok.0, c.self.inside.table.offers.ok.0)
+
+pub push_reserved-requires : goal.push_reserved-requires
+push_reserved-requires c =
+    let d = (goal.at.push_reserved-requires c).After-next_place-at in
+    omega (arith, some_is d, c.self.invariant.entries_room)
+
+-- the pairs of the leave
+made_is : (c : After-push_reserved) → made_by_leave c.next_place-at.result c.self.inside.table.offers.items c.self.inside.table.coupled.items c.args.party ≡ made_by (reverse c.self.inside.journal.items) c.args.party
+made_is c =
+    let journal = reverse c.self.inside.journal.items in
+    ap (λ n. made_by_leave n c.self.inside.table.offers.items c.self.inside.table.coupled.items c.args.party) (c.next_place-at.ensures ∙ sym (ap (λ (v : PlainCore). next_place v.journal) c.self.view_is))
+    ∙ ap (λ o. made_by_leave (next_place journal) o c.self.inside.table.coupled.items c.args.party) c.self.invariant.stand
+    ∙ ap (λ x. made_by_leave (next_place journal) (standing journal) x c.args.party) c.self.invariant.couple
+
+-- the journal has the entry of the leave
+grown : (c : After-push_reserved) → reverse c.push_reserved.new.self.items ≡ leave_entry c.args.party (map (λ x. x.pair) (made_by (reverse c.self.inside.journal.items) c.args.party)) ∷ reverse c.self.inside.journal.items
+grown c =
+    ap reverse c.push_reserved.ensures.items ∙ reverse-append c.self.inside.journal.items (leave_entry c.args.party c.leave-made.result.items ∷ [])
+    ∙ ap (λ m. leave_entry c.args.party m ∷ reverse c.self.inside.journal.items) (c.leave-made.ensures.made ∙ ap (map (λ x. x.pair)) (made_is c))
+
+-- the offers and couplings that are left
+offers_are : (c : After-push_reserved) → c.leave-made.new.self.offers.items ≡ left_by (reverse c.self.inside.journal.items) c.args.party
+offers_are c = c.leave-made.ensures.offers ∙ ap (λ o. without_party o c.args.party) c.self.invariant.stand
+
+coupled_are : (c : After-push_reserved) → c.leave-made.new.self.coupled.items ≡ kept_by (reverse c.self.inside.journal.items) c.args.party ++ made_by (reverse c.self.inside.journal.items) c.args.party
+coupled_are c =
+    c.leave-made.ensures.coupled
+    ∙ ap (λ xs. couplings_among (without_party c.self.inside.table.offers.items c.args.party) c.self.inside.table.coupled.items ++ xs) (made_is c)
+    ∙ ap (λ o. couplings_among (without_party o c.args.party) c.self.inside.table.coupled.items ++ made_by (reverse c.self.inside.journal.items) c.args.party) c.self.invariant.stand
+    ∙ ap (λ x. couplings_among (left_by (reverse c.self.inside.journal.items) c.args.party) x ++ made_by (reverse c.self.inside.journal.items) c.args.party) c.self.invariant.couple
+
+pub invariant_of-self : goal.invariant_of-self
+invariant_of-self c =
+    let d = (goal.at.invariant_of-self c).After-next_place-at in
+    let e = (goal.at.invariant_of-self c).After-push_reserved in
+    let journal = reverse c.self.inside.journal.items in
+    let spare = c.leave-made.ensures.spares (length c.self.inside.table.offers.items) c.self.invariant.spare_room in
+    kept_same (sym (grown e)) (sym (offers_are e)) (sym (coupled_are e)) (sym c.leave-made.ensures.capacity) (sym c.leave-made.ensures.scratch)
+    (kept_left c.self.invariant c.args.party (leave_may c.self.inside.users.items journal c.args.party (user_is d) (here_is d)) c.push_reserved.new.self.room c.leave-made.new.self.spares.items
+    (omega (arith, c.push_reserved.ensures.room)) (omega (arith, c.leave-made.ensures.count, c.leave-made.new.self.spares.ok.0, c.self.inside.table.spares.ok.0)) spare)
+
+pub returns : goal.returns
+returns c =
+    let e = (goal.at.returns c).After-push_reserved in
+    let p = c.args.party in
+    ap (λ j. record { users = c.self.inside.users.items; journal = j }) (grown e)
+    ∙ ap (λ (v : PlainCore). record { users = v.users; journal = leave_entry p (map (λ x. x.pair) (made_by v.journal p)) ∷ v.journal }) c.self.view_is
