@@ -1,5 +1,4 @@
 ghost use Rattle.std.specs.Prelude.{◌≡◌, ◌<◌, ◌≤◌, ◌∷◌, [], IsTrue, not, IfOk, IfSome, OnOk, OnErr, All, true, None, if◌then◌else◌, nat_le, length, reverse};
-ghost use Rattle.std.specs.List.Sorted.{IsStrictlyIncreasing};
 ghost use Rattle.sv_events.specs.Answer.{plain_answer, granted, not_shared};
 ghost use Rattle.sv_events.specs.Entry.{plain_entry};
 ghost use Rattle.sv_rules.specs.Entries.{has_left, is_full, is_leave, next_place};
@@ -55,11 +54,8 @@ impl Model for Core {
 
 impl Core {
     /// The processor of these users, with an empty journal and the room for all their leaves. This profile's
-    /// processor, for two users at the most.
+    /// processor.
     pub fn new(alloc: Global, users: &[u32]) -> Result<Core, WantOfMemory>
-        requires few { length users.now ≤ 2 }
-        requires ascending { IsStrictlyIncreasing users.now }
-        requires numbers { All (λ user. (1001 ≤ user) × (user ≤ 1999)) users.now }
         ensures { IfOk result (λ core. core ≡ record { users = users.now; journal = [] }) }
     {
         let mut journal = Journal::new(alloc);

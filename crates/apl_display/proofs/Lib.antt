@@ -1,0 +1,5 @@
+pub mod ExtentLemmas
+pub mod GroupLemmas
+pub mod NumberLemmas
+pub mod RowLemmas
+pub mod WidthLemmas

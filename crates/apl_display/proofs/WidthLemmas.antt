@@ -1,0 +1,43 @@
+-- The widths of columns, one row more at a time.
+use Rattle.std.proofs.Common.{◌≡◌, ℕ, ◌+◌, ◌-◌, ◌*◌, ◌<◌, ◌≤◌, max, ℤ, pos, List, ◌++◌, length, get_or, take, drop, map, replicate, fold, refl, sym, ap, ◌∙◌, arith}
+use Rattle.std.proofs.lemmas.List.{get_or-replicate, length-replicate, length-drop, length-take-le, get_or-take, get_or-drop, take_at}
+use Rattle.std.proofs.lemmas.List.FromFn.{map-range_with_len_more, length-map-range_with_len, get_or-map-range_with_len, fill_by_all}
+use Rattle.std.proofs.lemmas.List.Sums.{fold_push}
+use Rattle.std.proofs.lemmas.Nat.{row_fits}
+use Rattle.std.specs.List.{range_with_len}
+use Rattle.apl_display.specs.Matrices.{column_width, column_widths, row_of}
+use Rattle.apl_display.specs.Number.{number_width}
+
+-- the greatest of one number more
+greatest_more : (f : ℕ → ℕ) (n : ℕ) → fold max 0 (map f (range_with_len 0 (n + 1))) ≡ max (fold max 0 (map f (range_with_len 0 n))) (f n)
+greatest_more f n =
+    ap (fold max 0) (map-range_with_len_more f 0 n n (omega arith)) ∙ fold_push max 0 (map f (range_with_len 0 n)) (f n)
+
+-- an item of a row
+pub get_or-row_of : {A : Type 0} (items : List A) (columns row column : ℕ) (d : A) → column < columns → get_or (row_of items columns row) column d ≡ get_or items (row * columns + column) d
+get_or-row_of items columns row column d within =
+    get_or-take columns (drop (row * columns) items) column d within ∙ get_or-drop (row * columns) items column d
+
+pub no_row : (list : List ℤ) (columns : ℕ) → replicate columns 0 ≡ column_widths list columns 0
+no_row list columns =
+    fill_by_all (column_width list columns 0) (replicate columns 0) columns 0 (length-replicate columns 0) (λ k within. get_or-replicate columns k 0 0 within)
+
+pub length-row_of : {A : Type 0} (items : List A) (columns rows row : ℕ) → rows * columns ≡ length items → row < rows → length (row_of items columns row) ≡ columns
+length-row_of items columns rows row whole below =
+    let rest : length (drop (row * columns) items) ≡ length items - row * columns = length-drop (row * columns) items in
+    length-take-le columns (drop (row * columns) items) (omega (arith, row_fits row columns rows columns below (omega arith)))
+
+pub one_row_more : (list taken : List ℤ) (columns rows row : ℕ) (old lent new : List ℕ) → rows * columns ≡ length list → row < rows → taken ≡ row_of list columns row → old ≡ column_widths list columns row → lent ≡ old → length new ≡ columns → ((k : ℕ) → k < length taken → get_or new k 0 ≡ max (get_or lent k 0) (number_width (get_or taken k (pos 0)))) → new ≡ column_widths list columns (row + 1)
+one_row_more list taken columns rows row old lent new whole below read before same long each =
+    let full : length taken ≡ columns = ap length read ∙ length-row_of list columns rows row whole below in
+    fill_by_all (column_width list columns (row + 1)) new columns 0 long
+    (λ k within.
+    let width_before : get_or lent k 0 ≡ column_width list columns row k = ap (λ xs. get_or xs k 0) (same ∙ before) ∙ get_or-map-range_with_len (column_width list columns row) 0 columns k k 0 within (omega arith) in
+    let number : number_width (get_or taken k (pos 0)) ≡ number_width (get_or list (row * columns + k) (pos 0)) = ap (λ xs. number_width (get_or xs k (pos 0))) read ∙ ap number_width (get_or-row_of list columns row k (pos 0) within) in
+    each k (omega arith) ∙ (ap (λ w. max w (number_width (get_or taken k (pos 0)))) width_before
+    ∙ (ap (λ w. max (column_width list columns row k) w) number
+    ∙ sym (greatest_more (λ r. number_width (get_or list (r * columns + k) (pos 0))) row))))
+
+-- there is a width for each column
+pub length-column_widths : (list : List ℤ) (columns rows : ℕ) → length (column_widths list columns rows) ≡ columns
+length-column_widths list columns rows = length-map-range_with_len (column_width list columns rows) 0 columns

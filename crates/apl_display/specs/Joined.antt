@@ -1,0 +1,15 @@
+use Rattle.std.specs.Prelude.{List, [], ◌∷◌, ◌++◌, ℕ}
+use Rattle.std.specs.List.{flat_map}
+
+-- pieces one after another, with something between each two
+abbrev pub joined : {A : Type 0} → List A → List (List A) → List A
+joined between [] = []
+joined between (first ∷ others) = first ++ flat_map (λ piece. between ++ piece) others
+
+-- texts with one blank between
+abbrev pub with_blanks : List (List ℕ) → List ℕ
+with_blanks texts = joined (32 ∷ []) texts
+
+-- lines in groups, with one empty line between
+abbrev pub with_empty_lines : List (List (List ℕ)) → List (List ℕ)
+with_empty_lines groups = joined ([] ∷ []) groups

@@ -1,0 +1,5 @@
+pub mod Display
+pub mod Format
+pub mod Joined
+pub mod Matrices
+pub mod Number

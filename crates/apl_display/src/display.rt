@@ -1,0 +1,76 @@
+ghost use Rattle.std.specs.Prelude.{◌≡◌, ◌<◌, ◌≤◌, ◌∷◌, [], IfOk, length, map};
+ghost use Rattle.apl_arrays.specs.Array.{plain_items, item_count};
+ghost use Rattle.apl_display.specs.Display.{item_line, display_lines};
+ghost use Rattle.apl_display.specs.Joined.{with_blanks};
+ghost use Rattle.apl_display.specs.Matrices.{extent_of, matrices_lines};
+ghost use Rattle.apl_display.specs.Number.{number_text};
+
+use crate::matrices::extent_of;
+use crate::number::push_number;
+use crate::row::push_gap;
+use crate::table::{Table, matrices_lines, widths_of};
+use apl_arrays::{Array, Items, Line, LineList, List, WantOfMemory};
+use std::alloc::Global;
+
+/// Numbers in one line, with one blank between.
+pub fn vector_line(alloc: Global, numbers: &[i64]) -> Result<Line, WantOfMemory>
+    ensures { IfOk result (λ line. line.items ≡ with_blanks (map number_text numbers.now)) }
+{
+    let mut line = List::new(alloc);
+    for (place, number) in numbers.iter().enumerate() {
+        push_gap(&mut line, place)?;
+        push_number(&mut line, *number)?;
+    }
+    Ok(line)
+}
+
+// The line of a scalar or a vector.
+fn item_line(alloc: Global, items: &Items) -> Result<Line, WantOfMemory>
+    ensures { IfOk result (λ line. line.items ≡ item_line (plain_items items.now)) }
+{
+    match items {
+        Items::Numbers(list) => vector_line(alloc, list.as_slice()),
+        Items::Chars(list) => list.copy(alloc),
+    }
+}
+
+// A list of one line.
+fn one_line(alloc: Global, line: Line) -> Result<LineList, WantOfMemory>
+    ensures { IfOk result (λ lines. lines.items ≡ line.items ∷ []) }
+{
+    let mut lines = LineList::new(alloc);
+    lines.push(line)?;
+    Ok(lines)
+}
+
+// The lines of an array of rank 2 or more that has elements.
+fn table_lines(alloc: Global, b: &Array) -> Result<LineList, WantOfMemory>
+    requires rank { 2 ≤ length b.now.shape }
+    requires some { 0 < item_count b.now.items }
+    ensures { IfOk result (λ lines. lines.items ≡ matrices_lines b.now.items (extent_of b.now.shape)) }
+{
+    let items = b.items();
+    let extent = extent_of(b.shape(), items.len());
+    let widths = widths_of(alloc, items, extent)?;
+    let table = Table {
+        items,
+        widths: &widths,
+        extent,
+    };
+    matrices_lines(alloc, &table)
+}
+
+/// The lines that show an array: one of a scalar or a vector, none of an array without elements at a higher rank,
+/// else one of each row, with an empty line between two matrices. Numbers stand at the right of their columns, with
+/// one blank between. This profile's display. It takes memory for the lines and for a number a column.
+pub fn lines_of(alloc: Global, b: &Array) -> Result<LineList, WantOfMemory>
+    ensures { IfOk result (λ lines. lines.items ≡ display_lines b.now) }
+{
+    if b.shape().len() < 2 {
+        return one_line(alloc, item_line(alloc, b.items())?);
+    }
+    if b.items().is_empty() {
+        return Ok(LineList::new(alloc));
+    }
+    table_lines(alloc, b)
+}

@@ -1,0 +1,12 @@
+//! What an array looks like: the lines that show it, and the array of the characters of these lines.
+#![tactic(auto)]
+
+mod display;
+mod matrices;
+mod number;
+mod row;
+mod table;
+mod widths;
+pub mod worked;
+
+pub use display::lines_of;

@@ -1,0 +1,54 @@
+ghost use Rattle.std.specs.Prelude.{◌≡◌, ◌+◌, ◌*◌, ◌≤◌, ◌==◌, ◌++◌, ◌∷◌, [], IfOk, OnOk, length, if◌then◌else◌};
+ghost use Rattle.apl_display.specs.Matrices.{aligned, row_of};
+
+use crate::number::push_aligned;
+use apl_arrays::{Glyph, Line, List, WantOfMemory};
+use std::alloc::Global;
+
+/// The items of a row.
+pub fn row_of<T>(items: &[T], columns: usize, row: usize) -> &[T]
+    requires { row * columns + columns ≤ length items.now }
+    ensures { result.now ≡ row_of items.now columns row }
+{
+    let start = row * columns;
+    &items[start..start + columns]
+}
+
+/// Adds the blank that stands before each column but the first.
+pub fn push_gap(line: &mut Line, column: usize) -> Result<(), WantOfMemory>
+    ensures { OnOk result (line.new.items ≡ line.old.items ++ (if column == 0 then [] else 32 ∷ [])) }
+{
+    if column > 0 {
+        line.push(Glyph::BLANK)?;
+    }
+    Ok(())
+}
+
+/// Adds numbers at the right of their columns, with one blank between.
+pub fn push_row(line: &mut Line, widths: &[usize], row: &[i64]) -> Result<(), WantOfMemory>
+    requires { length widths.now ≡ length row.now }
+    ensures { OnOk result (line.new.items ≡ line.old.items ++ aligned widths.now row.now) }
+{
+    for (column, number) in row.iter().enumerate() {
+        push_gap(line, column)?;
+        push_aligned(line, widths[column], *number)?;
+    }
+    Ok(())
+}
+
+/// The line of a row of characters: these as they are.
+pub fn char_line(alloc: Global, row: &[Glyph]) -> Result<Line, WantOfMemory>
+    ensures { IfOk result (λ line. line.items ≡ row.now) }
+{
+    Ok(List::from(Vec::from_slice(alloc, row)?))
+}
+
+/// The line of a row of numbers.
+pub fn number_line(alloc: Global, widths: &[usize], row: &[i64]) -> Result<Line, WantOfMemory>
+    requires { length widths.now ≡ length row.now }
+    ensures { IfOk result (λ line. line.items ≡ aligned widths.now row.now) }
+{
+    let mut line = List::new(alloc);
+    push_row(&mut line, widths, row)?;
+    Ok(line)
+}

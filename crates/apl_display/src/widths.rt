@@ -1,0 +1,36 @@
+ghost use Rattle.std.specs.Prelude.{◌≡◌, ◌*◌, ◌<◌, ℕ, pos, max, IfOk, length, slice_index, slice_index_or};
+ghost use Rattle.apl_display.specs.Matrices.{column_widths};
+ghost use Rattle.apl_display.specs.Number.{number_width};
+
+use crate::number::number_width;
+use crate::row::row_of;
+use apl_arrays::WantOfMemory;
+use std::alloc::Global;
+
+// Widens columns to the numbers of a row.
+fn widen(widths: &mut [usize], row: &[i64])
+    requires { length widths.old ≡ length row.now }
+    ensures { (k : ℕ) → k < length row.now →
+        slice_index widths.new k ≡ max (slice_index widths.old k) (number_width (slice_index_or row.now k (pos 0))) }
+{
+    for (column, number) in row.iter().enumerate() {
+        widths[column] = widths[column].max(number_width(*number));
+    }
+}
+
+/// The widths of all columns, read in one pass.
+pub fn column_widths(
+    alloc: Global,
+    numbers: &[i64],
+    columns: usize,
+    rows: usize,
+) -> Result<Vec<usize>, WantOfMemory>
+    requires { rows * columns ≡ length numbers.now }
+    ensures { IfOk result (λ widths. widths.items ≡ column_widths numbers.now columns rows) }
+{
+    let mut widths = vec![in alloc; 0; columns]?;
+    for row in 0..rows {
+        widen(&mut widths, row_of(numbers, columns, row));
+    }
+    Ok(widths)
+}

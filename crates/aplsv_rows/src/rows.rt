@@ -1,0 +1,157 @@
+use crate::run::{Device, SOUND, run_twice};
+use crate::sixty_five_offers::{SIXTY_FIVE_OFFERS, SIXTY_FIVE_OFFERS_OUTPUT};
+use crate::texts::*;
+use apl_arrays::WantOfMemory;
+use aplsv_top::{BundleRule, Status};
+use std::process::Abort;
+
+const REPLAY: &str = "--replay";
+
+// Bundles, and the whole output of each.
+const RUNS: [(&str, &str); 6] = [
+    (PLAIN_PATH, PLAIN_PATH_OUTPUT),
+    (NO_VALUE, NO_VALUE_OUTPUT),
+    (EMPTY, EMPTY_OUTPUT),
+    ("end", EMPTY_OUTPUT),
+    (REPEATED_OFFER, REPEATED_OFFER_OUTPUT),
+    (SIXTY_FIVE_OFFERS, SIXTY_FIVE_OFFERS_OUTPUT),
+];
+
+#[test]
+fn bundles_are_run(rt: HostRuntime) -> Result<(), WantOfMemory> {
+    for (bundle, output) in RUNS {
+        let ended = run_twice(rt.alloc(), REPLAY, bundle.as_bytes(), SOUND, SOUND)?;
+        assert_eq!(rt; ended.status, Status::Done);
+        assert_eq!(rt; ended.written.as_slice(), output.as_bytes());
+    }
+    Ok(())
+}
+
+// Words that are no `--replay` alone.
+const OTHER_WORDS: [&str; 8] = [
+    "",
+    "--replay --load 5",
+    "--workers 0",
+    "--help",
+    "--replay --replay",
+    "--Replay",
+    "-replay",
+    "--replays",
+];
+
+#[test]
+fn other_words_are_refused(rt: HostRuntime) -> Result<(), WantOfMemory> {
+    for words in OTHER_WORDS {
+        let ended = run_twice(rt.alloc(), words, PLAIN_PATH.as_bytes(), SOUND, SOUND)?;
+        assert_eq!(rt; ended.status, Status::Usage);
+        assert!(rt; ended.written.as_slice().is_empty());
+    }
+    Ok(())
+}
+
+// Bytes that are no bundle: the offset of the first line or glyph that breaks a rule, and the rule.
+const REFUSED: [(&[u8], u64, BundleRule); 13] = [
+    (b"", 0, BundleRule::End),
+    (b"\xFF", 0, BundleRule::Glyph),
+    (b"user 1001\n|X\xE2\x86", 12, BundleRule::Glyph),
+    (b"|X\nend\n", 0, BundleRule::Place),
+    (b"user 01001\nend\n", 0, BundleRule::Form),
+    (b"end\nend\n", 4, BundleRule::Place),
+    (b"user 1001\n", 10, BundleRule::End),
+    (b"user 1001\nen", 10, BundleRule::Newline),
+    (b"user 1001\n|\nend\n", 10, BundleRule::Form),
+    (b"user 1001\n|X\xE2\x86\x909223372036854775808\nend\n", 10, BundleRule::Form),
+    (b"user 1001\n|ABCDEFGHIJKLMNOPQRSTUVWXYZ0123456\nend\n", 10, BundleRule::Form),
+    (b"user 1001\n| X\nend\n", 10, BundleRule::Form),
+    (b"user 1001\nuser 1002\nuser 1003\nend\n", 20, BundleRule::Limit),
+];
+
+fn is_refused(rt: &impl Abort, found: Status, offset: u64, rule: BundleRule) {
+    assert_eq!(rt; found, Status::Malformed { offset, rule });
+}
+
+#[test]
+fn bytes_that_are_no_bundle_are_refused(rt: HostRuntime) -> Result<(), WantOfMemory> {
+    for (bytes, offset, rule) in REFUSED {
+        let ended = run_twice(rt.alloc(), REPLAY, bytes, SOUND, SOUND)?;
+        is_refused(&rt, ended.status, offset, rule);
+        assert!(rt; ended.written.as_slice().is_empty());
+    }
+    Ok(())
+}
+
+#[test]
+fn every_prefix_of_a_bundle_is_answered(rt: HostRuntime) -> Result<(), WantOfMemory> {
+    let whole = PLAIN_PATH.as_bytes();
+    for count in 0..whole.len() - 1 {
+        let ended = run_twice(rt.alloc(), REPLAY, &whole[..count], SOUND, SOUND)?;
+        assert!(rt; matches!(ended.status, Status::Malformed { .. }));
+    }
+    let ended = run_twice(rt.alloc(), REPLAY, &whole[..whole.len() - 1], SOUND, SOUND)?;
+    assert_eq!(rt; ended.status, Status::Done);
+    assert_eq!(rt; ended.written.as_slice(), PLAIN_PATH_OUTPUT.as_bytes());
+    Ok(())
+}
+
+// How source and sink work on the bundle of two users, and how the run ends.
+const DEVICES: [(Device, Device, Status); 5] = [
+    (Device { piece: 1, fails: 0 }, SOUND, Status::Done),
+    (SOUND, Device { piece: 1, fails: 0 }, Status::Done),
+    (Device { piece: 9, fails: 1 }, SOUND, Status::ReadFault),
+    (Device { piece: 4, fails: 2 }, SOUND, Status::ReadFault),
+    (SOUND, Device { piece: 9, fails: 1 }, Status::WriteFault),
+];
+
+#[test]
+fn devices_give_and_take_pieces(rt: HostRuntime) -> Result<(), WantOfMemory> {
+    for (input, output, status) in DEVICES {
+        let ended = run_twice(rt.alloc(), REPLAY, PLAIN_PATH.as_bytes(), input, output)?;
+        assert_eq!(rt; ended.status, status);
+        if status == Status::Done {
+            assert_eq!(rt; ended.written.as_slice(), PLAIN_PATH_OUTPUT.as_bytes());
+        } else {
+            assert!(rt; ended.written.as_slice().is_empty());
+        }
+    }
+    Ok(())
+}
+
+#[test]
+fn a_sink_that_fails_keeps_what_it_took(rt: HostRuntime) -> Result<(), WantOfMemory> {
+    let failing = Device { piece: 7, fails: 2 };
+    let ended = run_twice(rt.alloc(), REPLAY, EMPTY.as_bytes(), SOUND, failing)?;
+    assert_eq!(rt; ended.status, Status::WriteFault);
+    assert_eq!(rt; ended.written.as_slice(), b"journal");
+    Ok(())
+}
+
+// How a run may end, its exit status, and its text on standard error.
+const STATUSES: [(Status, u8, &str); 7] = [
+    (Status::Done, 0, ""),
+    (Status::Usage, 1, "aplsv: usage"),
+    (
+        Status::Malformed {
+            offset: 12,
+            rule: BundleRule::Glyph,
+        },
+        2,
+        "aplsv: malformed at 12: glyph",
+    ),
+    (Status::ReadFault, 3, "aplsv: read fault"),
+    (Status::WriteFault, 4, "aplsv: write fault"),
+    (Status::TooLong, 5, "aplsv: input too long"),
+    (Status::WantOfMemory, 6, "aplsv: out of memory"),
+];
+
+#[test]
+fn statuses_are_told(rt: HostRuntime) -> Result<(), WantOfMemory> {
+    for (status, code, text) in STATUSES {
+        assert_eq!(rt; status.code(), code);
+        let told = match status.to_string(rt.alloc()) {
+            Err(_) => status.to_string(rt.alloc())?,
+            Ok(told) => told,
+        };
+        assert_eq!(rt; told.as_str(), text);
+    }
+    Ok(())
+}

@@ -1,0 +1,17 @@
+pub mod Ascents
+pub mod Decimals
+pub mod Drafts
+pub mod Every
+pub mod GlyphTexts
+pub mod Headings
+pub mod Lines
+pub mod Numbered
+pub mod OneWord
+pub mod Reading
+pub mod SameEntries
+pub mod SameNumbers
+pub mod SameOutput
+pub mod SameValues
+pub mod Spaced
+pub mod Spans
+pub mod Texts

@@ -1,0 +1,76 @@
+-- A bundle that is read line by line.
+use Rattle.std.specs.Prelude.{◌≡◌, ℕ, ◌≤◌, Bool, true, ◌&&◌, nat_lt, nat_le, List, [], ◌∷◌, ◌++◌, length, All, map, Option, Some, None, is_some, option_and_then, option_to_list, if◌then◌else◌}
+use Rattle.std.specs.List.{flat_map}
+use Rattle.std.specs.Option.{option_map_or}
+use Rattle.aplsv_top.specs.Statement.{statement_in}
+use Rattle.aplsv_top.specs.User.{PlainUser, IsAscending}
+use Rattle.aplsv_top.specs.Bundle.{PlainBundle, IsUser, AreStatements}
+use Rattle.aplsv_top.specs.BundleLine.{PlainLine, user, input, IsTextOf}
+use Rattle.aplsv_top.specs.declared.bundle.limits.TheConstants.{USER_LIMIT, LINE_LIMIT, GLYPH_LIMIT}
+
+-- the users that are whole, the one whose lines are read, and whether all lines so far are statements
+pub record PlainDraft : Type 0 where
+  pub users : List PlainUser
+  pub current : Option PlainUser
+  pub formed : Bool
+
+-- nothing is read
+abbrev pub nothing_read : PlainDraft
+nothing_read = record { users = []; current = None; formed = true }
+
+-- all users so far
+abbrev pub users_of : PlainDraft → List PlainUser
+users_of draft = draft.users ++ option_to_list draft.current
+
+-- a heading begins a user, whose number is above the one before
+abbrev pub after_heading : PlainDraft → ℕ → Option PlainDraft
+after_heading draft number =
+    if option_map_or (λ last. nat_lt last.number number) draft.current true && nat_lt (length (users_of draft)) USER_LIMIT
+    then Some (record { users = users_of draft; current = Some (record { number = number; lines = [] }); formed = draft.formed })
+    else None
+
+-- a line goes to the user whose lines are read
+abbrev pub after_input : PlainDraft → Option PlainUser → List ℕ → Option PlainDraft
+after_input draft None line = None
+after_input draft (Some last) line =
+    if nat_lt (length last.lines) LINE_LIMIT && nat_le (length line) GLYPH_LIMIT
+    then Some (record { users = draft.users; current = Some (record { number = last.number; lines = last.lines ++ line ∷ [] }); formed = draft.formed && is_some (statement_in line) })
+    else None
+
+-- what one line makes of a draft, where it may stand there
+abbrev pub draft_after : PlainDraft → PlainLine → Option PlainDraft
+draft_after draft (user number) = after_heading draft number
+draft_after draft (input line) = after_input draft draft.current line
+
+-- the bundle of a draft, where all lines are statements
+abbrev pub bundle_of : PlainDraft → Option PlainBundle
+bundle_of draft = if draft.formed then Some (record { users = users_of draft }) else None
+
+-- the bundle that lines make of a draft
+abbrev pub bundle_from : PlainDraft → List PlainLine → Option PlainBundle
+bundle_from draft [] = bundle_of draft
+bundle_from draft (line ∷ lines) = option_and_then (λ next. bundle_from next lines) (draft_after draft line)
+
+-- what a draft keeps: all rules but that lines are statements, which it knows
+pub record IsDraft (draft : PlainDraft) : Type 0 where
+  pub first : draft.current ≡ None → draft.users ≡ []
+  pub few : length (users_of draft) ≤ USER_LIMIT
+  pub ascending : IsAscending (users_of draft)
+  pub each : All IsUser (users_of draft)
+  pub statements : draft.formed ≡ true → All AreStatements (users_of draft)
+
+-- the lines of a user
+abbrev pub lines_of_user : PlainUser → List PlainLine
+lines_of_user one = user one.number ∷ map (λ line. input line) one.lines
+
+-- the lines of users
+abbrev pub lines_of : List PlainUser → List PlainLine
+lines_of users = flat_map lines_of_user users
+
+-- the bytes are a line that leads from one draft to the next
+abbrev pub Reads : PlainDraft → List ℕ → PlainDraft → Type 0
+Reads draft bytes next = (line : PlainLine) × IsTextOf line bytes × (draft_after draft line ≡ Some next)
+
+-- the bytes are no line that may stand there
+abbrev pub ReadsNothing : PlainDraft → List ℕ → Type 0
+ReadsNothing draft bytes = (line : PlainLine) → IsTextOf line bytes → draft_after draft line ≡ None

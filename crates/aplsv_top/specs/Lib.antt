@@ -1,0 +1,17 @@
+pub mod Ascending
+pub mod Bundle
+pub mod BundleLine
+pub mod Draft
+pub mod EntryText
+pub mod NumberText
+pub mod Output
+pub mod Printable
+pub mod Refused
+pub mod Statement
+pub mod Transcripts
+pub mod User
+pub mod ValueText
+pub mod Wants
+pub mod Words
+pub mod WorkedOutput
+pub mod Workspace

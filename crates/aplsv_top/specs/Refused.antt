@@ -1,0 +1,20 @@
+use Rattle.std.specs.Prelude.{ℕ, List, codes}
+use Rattle.aplsv_top.specs.declared.bundle.refused.BundleRule.{BundleRule}
+use Rattle.aplsv_top.specs.declared.bundle.refused.BundleRule.TheVariants.{Glyph, Newline, Form, Place, Party, Limit, End}
+use Rattle.aplsv_top.specs.declared.bundle.refused.BundleRefused.{BundleRefused}
+use Rattle.aplsv_top.specs.declared.bundle.refused.BundleRefused.TheVariants.{Malformed, WantOfMemory}
+
+-- the name of a rule
+abbrev pub rule_text : BundleRule → List ℕ
+rule_text Glyph = codes "glyph"
+rule_text Newline = codes "newline"
+rule_text Form = codes "form"
+rule_text Place = codes "place"
+rule_text Party = codes "party"
+rule_text Limit = codes "limit"
+rule_text End = codes "end"
+
+-- the fact for which Malformed is answered; memory may run out at any bytes
+abbrev pub IsReason : BundleRefused → Type 0 → Type 0
+IsReason (Malformed offset rule) fact = fact
+IsReason WantOfMemory fact = Unit {0}

@@ -1,0 +1,17 @@
+use Rattle.std.specs.Prelude.{ℕ, ◌<◌, List, [], ◌∷◌}
+use Rattle.aplsv_top.specs.declared.transcripts.Transcript.{Transcript}
+
+-- a transcript as plain data: whose it is, and its lines
+pub record PlainTranscript : Type 0 where
+  pub user : ℕ
+  pub lines : List (List ℕ)
+
+-- the transcript, whatever room is left in its lists
+abbrev pub plain_transcript : Transcript → PlainTranscript
+plain_transcript transcript = record { user = transcript.user; lines = transcript.lines.items }
+
+-- the users ascend, each once
+abbrev pub IsAscending : List PlainTranscript → Type 0
+IsAscending [] = Unit {0}
+IsAscending (transcript ∷ []) = Unit {0}
+IsAscending (transcript ∷ next ∷ transcripts) = (transcript.user < next.user) × IsAscending (next ∷ transcripts)

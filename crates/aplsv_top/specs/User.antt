@@ -1,0 +1,17 @@
+use Rattle.std.specs.Prelude.{ℕ, ◌<◌, List, [], ◌∷◌}
+use Rattle.aplsv_top.specs.declared.bundle.user.BundleUser.{BundleUser}
+
+-- a user as plain data: its number, and its lines of glyphs
+pub record PlainUser : Type 0 where
+  pub number : ℕ
+  pub lines : List (List ℕ)
+
+-- a user, whatever room is left for its lines
+abbrev pub plain_user : BundleUser → PlainUser
+plain_user user = record { number = user.number; lines = user.lines.items }
+
+-- the numbers ascend, each once
+abbrev pub IsAscending : List PlainUser → Type 0
+IsAscending [] = Unit {0}
+IsAscending (user ∷ []) = Unit {0}
+IsAscending (user ∷ next ∷ users) = (user.number < next.number) × IsAscending (next ∷ users)

@@ -1,0 +1,17 @@
+use Rattle.std.specs.Prelude.{◌≡◌, ℕ, List, [], ◌∷◌, codes}
+use Rattle.aplsv_top.specs.declared.status.Status.{Status}
+use Rattle.aplsv_top.specs.declared.status.Status.TheVariants as status
+
+-- the words are the one word --replay
+abbrev pub AskReplay : List (List ℕ) → Type 0
+AskReplay words = words ≡ codes "--replay" ∷ []
+
+-- the bytes are said to be no bundle
+abbrev pub IsMalformed : Status → Type 0
+IsMalformed (status.Malformed offset rule) = Unit {0}
+IsMalformed status.Done = ⊥
+IsMalformed status.Usage = ⊥
+IsMalformed status.ReadFault = ⊥
+IsMalformed status.WriteFault = ⊥
+IsMalformed status.TooLong = ⊥
+IsMalformed status.WantOfMemory = ⊥

@@ -1,0 +1,129 @@
+ghost use Rattle.std.specs.Prelude.{◌≡◌, ◌≢◌, ◌+◌, ◌<◌, ◌^◌, [], ◌∷◌, ◌++◌, All, Some, None, IsTrue, ◌↔◌, IfOk, IfErr, ℕ, List, codes, length, MatchOption, MatchResult};
+ghost use Rattle.aplsv_top.specs.Bundle.{PlainBundle, IsBundle, BundleText, IsNoBundle};
+ghost use Rattle.aplsv_top.specs.Draft.{bundle_of, Reads, ReadsNothing};
+ghost use Rattle.aplsv_top.specs.Refused.{IsReason};
+
+use crate::bundle::Bundle;
+use crate::bundle::draft::Draft;
+use crate::bundle::line::{glyphs_at, line_of};
+use crate::bundle::refused::{BundleRefused, BundleRule};
+use std::alloc::Global;
+
+// The first line, up to its line feed, and what comes after it; or `None` where no line feed stands.
+#[tactic(auto, using(crate::proofs::Texts::no_feed_found, crate::proofs::Texts::feed_found))]
+fn first_line(bytes: &[u8]) -> Option<(&[u8], &[u8])>
+    ensures { MatchOption result (All (λ byte. byte ≢ 10) bytes.now)
+        (λ found. (bytes.now ≡ found.0.now ++ 10 ∷ found.1.now) × All (λ byte. byte ≢ 10) found.0.now) }
+{
+    let place = bytes.iter().position(|byte| *byte == b'\n')?;
+    Some((&bytes[..place], &bytes[place + 1..]))
+}
+
+fn is_end(line: &[u8]) -> bool
+    ensures { IsTrue result ↔ (line.now ≡ codes "end") }
+{
+    line == b"end".as_slice()
+}
+
+// Why a last line is refused that no line feed ends, and that is not the end.
+fn unended(alloc: Global, rest: &[u8], offset: u64) -> BundleRefused
+    requires { offset + length rest.now < 2 ^ 64 }
+{
+    if rest.is_empty() {
+        return BundleRefused::malformed(offset, BundleRule::End);
+    }
+    match glyphs_at(alloc, rest, offset) {
+        Ok(_) => BundleRefused::malformed(offset, BundleRule::Newline),
+        Err(why) => why,
+    }
+}
+
+// Why what comes after the end is refused.
+fn behind_end(alloc: Global, after: &[u8], offset: u64) -> BundleRefused
+    requires { offset + length after.now < 2 ^ 64 }
+{
+    let Some((line, _)) = first_line(after) else {
+        if is_end(after) {
+            return BundleRefused::malformed(offset, BundleRule::Place);
+        }
+        return unended(alloc, after, offset);
+    };
+    if is_end(line) {
+        return BundleRefused::malformed(offset, BundleRule::Place);
+    }
+    match line_of(alloc, line, offset) {
+        Ok(_) => BundleRefused::malformed(offset, BundleRule::Place),
+        Err(why) => why,
+    }
+}
+
+// The bundle whose end was read, where nothing comes after it. What does stands at the offset.
+fn ended(alloc: Global, draft: Draft, after: &[u8], offset: u64) -> Result<Bundle, BundleRefused>
+    requires { offset + length after.now < 2 ^ 64 }
+    ensures rules { IfOk result (λ bundle. IsBundle bundle) }
+    ensures read { MatchResult result (λ bundle. (after.now ≡ []) × (bundle_of draft ≡ Some bundle))
+        (λ why. IsReason why (after.now ≡ [] → bundle_of draft ≡ None)) }
+{
+    if after.is_empty() {
+        draft.finish()
+    } else {
+        Err(behind_end(alloc, after, offset))
+    }
+}
+
+// The bundle whose last line no line feed ends: this line is the end. It stands at the offset.
+fn last(alloc: Global, draft: Draft, rest: &[u8], offset: u64) -> Result<Bundle, BundleRefused>
+    requires { offset + length rest.now < 2 ^ 64 }
+    ensures rules { IfOk result (λ bundle. IsBundle bundle) }
+    ensures read { MatchResult result (λ bundle. (rest.now ≡ codes "end") × (bundle_of draft ≡ Some bundle))
+        (λ why. IsReason why (rest.now ≡ codes "end" → bundle_of draft ≡ None)) }
+{
+    if is_end(rest) {
+        draft.finish()
+    } else {
+        Err(unended(alloc, rest, offset))
+    }
+}
+
+// The draft with one line more, which stands at the offset.
+fn with_line(alloc: Global, draft: Draft, line: &[u8], offset: u64) -> Result<Draft, BundleRefused>
+    requires { offset + length line.now < 2 ^ 64 }
+    ensures { MatchResult result (λ next. Reads draft line.now next) (λ why. IsReason why (ReadsNothing draft line.now)) }
+{
+    let read = line_of(alloc, line, offset)?;
+    draft.with(alloc, read, offset)
+}
+
+// The bundle that the bytes are the text of.
+fn read_lines(alloc: Global, bytes: &[u8]) -> Result<Bundle, BundleRefused>
+    ensures { MatchResult result (λ bundle. BundleText bytes.now bundle) (λ why. IsReason why (IsNoBundle bytes.now)) }
+{
+    let mut draft = Draft::new(alloc);
+    let mut rest = bytes;
+    while let Some((line, after)) = first_line(rest) {
+        let offset = (bytes.len() - rest.len()) as u64;
+        if is_end(line) {
+            return ended(alloc, draft, after, offset + 4);
+        }
+        draft = with_line(alloc, draft, line, offset)?;
+        rest = after;
+    }
+    last(alloc, draft, rest, (bytes.len() - rest.len()) as u64)
+}
+
+/// The bundle that the bytes are the text of, read line by line. This profile's text of bundles. `Malformed` says
+/// which rule the first bad line breaks; a line that is no statement comes after all other rules, as `Form`. It
+/// takes memory for the users and their lines.
+pub fn read(alloc: Global, bytes: &[u8]) -> Result<Bundle, BundleRefused>
+    ensures bundle { IfOk result (λ bundle. BundleText bytes.now bundle) }
+    ensures only { (bundle : PlainBundle) → BundleText bytes.now bundle →
+        MatchResult result (λ read. read ≡ bundle) (λ why. why ≡ BundleRefused.WantOfMemory) }
+    ensures malformed { IfErr result (λ why. IsReason why (IsNoBundle bytes.now)) }
+{
+    read_lines(alloc, bytes)
+}
+
+/// What every text keeps: it is the text of one bundle at the most.
+pub fn texts_are_of_one_bundle()
+    ensures { (bytes : List ℕ) (bundle other : PlainBundle) → BundleText bytes bundle → BundleText bytes other → bundle ≡ other }
+{}

@@ -1,0 +1,24 @@
+//! The program, from the words of its command line to the bytes that it writes.
+#![tactic(auto)]
+
+mod bundle;
+mod entry_text;
+mod evaluation;
+mod line_text;
+mod output;
+mod replay;
+mod session;
+mod statement;
+mod status;
+#[cfg(test)]
+mod text_samples;
+mod top;
+mod transcripts;
+mod value_text;
+mod workspace;
+
+pub use bundle::{BundleRule, texts_are_of_one_bundle};
+pub use entry_text::an_entry_is_read_in_one_way;
+pub use output::{an_output_is_read_in_one_way, plain_path_is_written};
+pub use status::{Finish, Status};
+pub use top::aplsv_replay_words;

@@ -1,0 +1,135 @@
+ghost use Rattle.std.specs.Prelude.{◌≡◌, ◌+◌, ◌<◌, ◌≤◌, ◌∷◌, [], ◌++◌, IsOk, OnOk, OnErr, map};
+ghost use Rattle.aplsv_top.specs.Transcripts.{plain_transcript, IsAscending};
+
+use apl_arrays::{LineList, WantOfMemory};
+use std::alloc::Global;
+use std::marker::Model;
+
+/// What a user saw: the lines as they were read, and what was printed.
+#[derive(Debug, Drop)]
+pub struct Transcript {
+    pub user: u32,
+    pub lines: LineList,
+}
+
+/// Transcripts, their users ascending. It is seen as users and lines, and the room that is left.
+#[derive(Debug, Drop)]
+pub struct Transcripts {
+    transcripts: Vec<Transcript>,
+}
+
+impl Model for Transcripts {
+    ghost use Rattle.std.specs.Prelude.{◌-◌, map, vec_len, vec_capacity};
+    ghost use Rattle.apl_arrays.specs.List.{Listed};
+    ghost use Rattle.aplsv_top.specs.Transcripts.{PlainTranscript, plain_transcript, IsAscending};
+
+    ghost Value = { Listed PlainTranscript };
+
+    ghost view = { λ t. record { items = map plain_transcript t.transcripts.items; room = vec_capacity t.transcripts - vec_len t.transcripts } };
+
+    ghost invariant = { λ t. IsAscending (map plain_transcript t.transcripts.items) };
+}
+
+impl Transcripts {
+    /// No transcripts. It takes no memory.
+    pub fn new(alloc: Global) -> Self
+        ensures { result.items ≡ [] }
+    {
+        Transcripts {
+            transcripts: Vec::new(alloc),
+        }
+    }
+
+    /// The transcripts, their users ascending. It takes no memory.
+    pub fn as_slice(&self) -> &[Transcript]
+        ensures value { map plain_transcript result.now ≡ self.now.items }
+        ensures ascending { IsAscending self.now.items }
+    {
+        &self.transcripts
+    }
+
+    /// The transcripts as a `Vec`. It takes no memory.
+    pub fn into_vec(self) -> Vec<Transcript>
+        ensures value { map plain_transcript result.items ≡ self.items }
+        ensures ascending { IsAscending self.items }
+    {
+        self.transcripts
+    }
+
+    /// Makes room for at least so many pushes.
+    pub fn reserve(&mut self, room: usize) -> Result<(), WantOfMemory>
+        ensures items { self.new.items ≡ self.old.items }
+        ensures room { OnOk result (room ≤ self.new.room) }
+        ensures kept { self.old.room ≤ self.new.room }
+        ensures err { OnErr result (self.new ≡ self.old) }
+        ensures granted { room ≤ self.old.room → IsOk result }
+    {
+        self.transcripts.reserve(room)?;
+        Ok(())
+    }
+
+    /// Adds a transcript at the end, whose user has to come after the others. Where there is room it is granted.
+    pub fn push(&mut self, transcript: Transcript) -> Result<(), WantOfMemory>
+        requires { IsAscending (self.old.items ++ plain_transcript transcript ∷ []) }
+        ensures ok { OnOk result (self.new.items ≡ self.old.items ++ plain_transcript transcript ∷ []) }
+        ensures err { OnErr result (self.new ≡ self.old) }
+        ensures granted { 0 < self.old.room → IsOk result }
+        ensures room { 0 < self.old.room → self.new.room + 1 ≡ self.old.room }
+    {
+        if self.transcripts.len() < self.transcripts.capacity() {
+            self.transcripts.push_reserved(transcript);
+            return Ok(());
+        }
+        self.transcripts.reserve(1)?;
+        self.transcripts.push_reserved(transcript);
+        Ok(())
+    }
+}
+
+#[cfg(test)]
+mod tests {
+    use super::*;
+    use crate::text_samples::transcript;
+    use apl_arrays::GlyphRefused;
+    use std::test::Fail;
+
+    fn two(alloc: Global) -> Result<Transcripts, GlyphRefused> {
+        let mut transcripts = Transcripts::new(alloc);
+        transcripts.reserve(1)?;
+        transcripts.push(transcript(alloc, 1001, &["A", "B"])?)?;
+        transcripts.push(transcript(alloc, 1999, &[])?)?;
+        Ok(transcripts)
+    }
+
+    #[test]
+    fn keeps_transcripts_in_order(rt: HostRuntime) -> Result<(), Fail> {
+        let transcripts = match two(rt.alloc()) {
+            Err(GlyphRefused::WantOfMemory) => two(rt.alloc())?,
+            outcome => outcome?,
+        };
+        let kept = transcripts.as_slice();
+        assert_eq!(rt; kept.len(), 2);
+        assert_eq!(rt; kept[0].user, 1001);
+        assert_eq!(rt; kept[0].lines.as_slice().len(), 2);
+        assert_eq!(rt; kept[1].user, 1999);
+        assert_eq!(rt; transcripts.into_vec().len(), 2);
+        Ok(())
+    }
+
+    // A transcript that finds no room is not kept, and the others stay.
+    #[test]
+    fn keeps_the_others_where_memory_fails(rt: HostRuntime) -> Result<(), Fail> {
+        let alloc = rt.alloc();
+        let mut transcripts = Transcripts::new(alloc);
+        let first = Transcript {
+            user: 1001,
+            lines: LineList::new(alloc),
+        };
+        let count = match transcripts.push(first) {
+            Ok(()) => 1,
+            Err(WantOfMemory) => 0,
+        };
+        assert_eq!(rt; transcripts.as_slice().len(), count);
+        Ok(())
+    }
+}

@@ -1,0 +1,13 @@
+pub mod Chars
+pub mod CharsLaw
+pub mod ConstantLaw
+pub mod Digits
+pub mod Found
+pub mod FrontLaw
+pub mod NumberLaw
+pub mod Numbers
+pub mod Roles
+pub mod Runs
+pub mod ScanLaw
+pub mod Steps
+pub mod WordLaw

@@ -1,0 +1,28 @@
+ghost use Rattle.std.specs.Prelude.{◌≡◌, ◌≤◌, IfOk, length};
+ghost use Rattle.line_scanner.specs.Number.{next_numbers, with_number};
+
+use crate::number::next_number;
+use apl_arrays::{Glyph, List, NumberList, WantOfMemory};
+use std::alloc::Global;
+
+/// The numbers of a constant whose first is known, and how many glyphs they take.
+#[tactic(auto, using(crate::proofs::Numbers::reads_on, crate::proofs::Numbers::reads_all))]
+pub fn numbers_from(
+    alloc: Global,
+    first: i64,
+    taken: usize,
+    glyphs: &[Glyph],
+) -> Result<(NumberList, usize), WantOfMemory>
+    requires { taken ≤ length glyphs.now }
+    ensures value { IfOk result (λ found. (found.0.items, found.1) ≡ with_number (first, taken) (next_numbers taken glyphs.now)) }
+    ensures within { IfOk result (λ found. (taken ≤ found.1) × (found.1 ≤ length glyphs.now)) }
+{
+    let mut numbers = List::new(alloc);
+    numbers.push(first)?;
+    let mut end = taken;
+    while let Some((next, taken)) = next_number(&glyphs[end..]) {
+        numbers.push(next)?;
+        end += taken;
+    }
+    Ok((numbers, end))
+}

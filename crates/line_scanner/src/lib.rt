@@ -1,0 +1,21 @@
+//! Cuts a line of glyphs into tokens.
+#![tactic(auto)]
+
+mod constant;
+mod front;
+pub mod laws;
+mod number;
+mod quoted;
+mod refused;
+mod role;
+mod scanning;
+mod token;
+mod token_list;
+
+pub use refused::ScanRefused;
+pub use scanning::scan;
+pub use token::{SystemName, Token, TokenKind, Tokens};
+pub use token_list::TokenList;
+
+#[cfg(test)]
+mod tests;

@@ -1,0 +1,37 @@
+use crate::TokenList;
+use apl_arrays::{Glyph, Line, Name, NumberList};
+
+/// The name of a system function.
+#[derive(Clone, Copy, Debug, PartialEq, Eq, Hash)]
+pub enum SystemName {
+    Svo,
+    Svc,
+    Svr,
+    Svq,
+    Svs,
+}
+
+/// What a token is: a constant of numbers or of characters, a name, a system name, or a sign.
+#[derive(Debug, Drop)]
+pub enum TokenKind {
+    Numbers(NumberList),
+    Chars(Line),
+    Name(Name),
+    System(SystemName),
+    Sign(Glyph),
+}
+
+/// A token, the place of its first glyph, and the place after its last.
+#[derive(Debug, Drop)]
+pub struct Token {
+    pub kind: TokenKind,
+    pub at: u64,
+    pub after: u64,
+}
+
+/// The tokens of a line, in order, and the length of the line.
+#[derive(Debug, Drop)]
+pub struct Tokens {
+    pub tokens: TokenList,
+    pub length: u64,
+}
