@@ -121,7 +121,7 @@ fn a_sink_that_fails_keeps_what_it_took(rt: HostRuntime) -> Result<(), WantOfMem
     let failing = Device { piece: 7, fails: 2 };
     let ended = run_twice(rt.alloc(), REPLAY, EMPTY.as_bytes(), SOUND, failing)?;
     assert_eq!(rt; ended.status, Status::WriteFault);
-    assert_eq!(rt; ended.written.as_slice(), b"journal");
+    assert_eq!(rt; ended.written.as_slice(), b"journal".as_slice());
     Ok(())
 }
 

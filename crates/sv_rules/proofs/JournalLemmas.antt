@@ -1,9 +1,8 @@
 -- A journal that grows by one entry at a time.
-use Rattle.std.proofs.Common.{◌≡◌, ℕ, suc, ◌+◌, ◌<◌, List, [], ◌∷◌, ◌++◌, length, get_or, take, map, reverse, ap, ◌∙◌}
-use Rattle.std.proofs.lemmas.List.{take_more, map-append, reverse-append, length-reverse, length-map}
-use Rattle.sv_events.specs.Entry.{PlainEntry, plain_entry}
+use Rattle.std.proofs.Common.{◌≡◌, ℕ, ◌+◌, ◌<◌, List, [], ◌∷◌, ◌++◌, length, get_or, take, drop, map, reverse, ap, sym, ◌∙◌}
+use Rattle.std.proofs.lemmas.List.{take_more, take-append-drop, map-append, reverse-append, length-reverse, length-map}
+use Rattle.sv_events.specs.Entry.{plain_entry}
 use Rattle.sv_events.specs.declared.entry.Entry.{Entry}
-use Rattle.sv_rules.specs.Entries.{Entries}
 use Rattle.sv_rules.specs.Journal.{journal_of}
 
 -- one entry at the end is the newest
@@ -16,3 +15,9 @@ journal_of-take_more entries i d h = ap journal_of (take_more entries i d h) ∙
 
 pub length-journal_of : (entries : List Entry) → length (journal_of entries) ≡ length entries
 length-journal_of entries = length-reverse (map plain_entry entries) ∙ length-map entries plain_entry
+
+-- the journal of the first entries, and those that came later
+pub journal_of-take : (entries : List Entry) (i : ℕ) → journal_of entries ≡ journal_of (drop i entries) ++ journal_of (take i entries)
+journal_of-take entries i =
+    ap journal_of (sym (take-append-drop i entries)) ∙ ap reverse (map-append plain_entry (take i entries) (drop i entries))
+    ∙ reverse-append (map plain_entry (take i entries)) (map plain_entry (drop i entries))

@@ -1,2 +1,12 @@
 pub mod JournalLemmas
 pub mod StoryLemmas
+pub mod Members
+pub mod StandingLemmas
+pub mod PlaceLemmas
+pub mod ChangeLemmas
+pub mod MatchLemmas
+pub mod RecoupledLemmas
+pub mod LegalLemmas
+pub mod AccessLemmas
+pub mod CouplingLemmas
+pub mod SameLemmas

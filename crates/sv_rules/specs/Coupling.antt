@@ -1,4 +1,4 @@
-use Rattle.std.specs.Prelude.{ℕ, Bool, ◌&&◌, ◌||◌, ◌==◌, not, nat_lt, List, [], ◌∷◌, ◌++◌, map, filter, find, Option, Some, None, option_and_then, option_to_list, option_map, if◌then◌else◌}
+use Rattle.std.specs.Prelude.{ℕ, Bool, ◌&&◌, ◌||◌, ◌==◌, not, nat_lt, List, [], ◌∷◌, ◌++◌, map, filter, find, Option, None, option_and_then, option_to_list, option_map, if◌then◌else◌}
 use Rattle.std.specs.List.{list_any}
 use Rattle.sv_events.specs.declared.entry.Pair.{Pair}
 use Rattle.sv_rules.specs.Entries.{Entries, next_place}

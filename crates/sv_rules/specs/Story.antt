@@ -1,11 +1,10 @@
-use Rattle.std.specs.Prelude.{ℕ, Bool, ◌&&◌, ◌==◌, nat_lt, List, [], ◌∷◌, ◌++◌, Option, Some, None, option_map, if◌then◌else◌}
+use Rattle.std.specs.Prelude.{ℕ, ◌&&◌, ◌==◌, nat_lt, List, [], ◌∷◌, ◌++◌, Option, Some, None, option_map, if◌then◌else◌}
 use Rattle.std.specs.Option.{option_or}
 use Rattle.apl_arrays.specs.Array.{PlainArray}
 use Rattle.sv_access.specs.declared.access.Side.{Side}
 use Rattle.sv_access.specs.declared.access.Side.TheVariants.{A, B}
 use Rattle.sv_access.specs.declared.access.Kind.{Kind}
 use Rattle.sv_access.specs.declared.access.Kind.TheVariants as kind
-use Rattle.sv_access.specs.Access.{Access}
 use Rattle.sv_access.specs.Story.{Story, last_value}
 use Rattle.sv_events.specs.Answer.{PlainAnswer}
 use Rattle.sv_events.specs.Entry.{PlainEntry}

@@ -1,0 +1,17 @@
+use Rattle.sv_rules.specs.Standing.{standing}
+use Rattle.sv_rules.specs.Coupling.{is_open_match}
+use Rattle.sv_rules.proofs.MatchLemmas.{is_match_comm}
+use Rattle.sv_rules.proofs.CouplingLemmas.{WasMade-from_made_in, made_in-from_WasMade, oldest_match_is_taken, none_is_taken_of_none}
+use Rattle.sv_rules.proofs.laws.coupling_law.Goals as goal
+
+pub returns-clause-pairs : goal.returns-clause-pairs
+returns-clause-pairs c = λ journal made. (WasMade-from_made_in journal made, made_in-from_WasMade journal made)
+
+pub returns-clause-mutual : goal.returns-clause-mutual
+returns-clause-mutual c = is_match_comm
+
+pub returns-clause-oldest : goal.returns-clause-oldest
+returns-clause-oldest c = oldest_match_is_taken
+
+pub returns-clause-none : goal.returns-clause-none
+returns-clause-none c = λ journal coupled offer other none has. none_is_taken_of_none (is_open_match coupled offer) (standing journal) other none has
