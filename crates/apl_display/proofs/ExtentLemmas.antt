@@ -1,6 +1,6 @@
 -- The matrices of a shape: how many items they have.
 use Rattle.std.proofs.Common.{◌≡◌, ℕ, ◌+◌, ◌-◌, ◌*◌, ◌/◌, ◌<◌, ◌≤◌, List, length, get_or, take, sym, ap, ◌∙◌, ⊎_elim, arith}
-use Rattle.std.proofs.Math.Nat.{mul_assoc, le-mul_of_pos_right}
+use Rattle.std.proofs.Math.Nat.{mul_assoc, mul_comm, le-mul_of_pos_right}
 use Rattle.std.proofs.lemmas.Bool.{cases_lt}
 use Rattle.std.proofs.lemmas.List.{take_all}
 use Rattle.std.proofs.lemmas.List.Sums.{fold_more}
@@ -10,7 +10,7 @@ use Rattle.apl_display.specs.declared.matrices.Extent.{Extent}
 use Rattle.apl_display.specs.Matrices.{extent_of, row_count}
 
 -- one axis more
-axis_more : (shape : List ℕ) (i : ℕ) → i < length shape → element_count (take (i + 1) shape) ≡ element_count (take i shape) * get_or shape i 0
+pub axis_more : (shape : List ℕ) (i : ℕ) → i < length shape → element_count (take (i + 1) shape) ≡ element_count (take i shape) * get_or shape i 0
 axis_more shape i within = fold_more ◌*◌ 1 shape i 0 within
 
 -- the last two axes, and those before them
@@ -30,6 +30,9 @@ positive_right a b some =
     ⊎_elim (λ positive. positive)
     (λ none. let zero : b ≡ 0 = omega arith in let gone : a * b ≡ a * 0 = ap (λ n. a * n) zero in absurd (omega arith))
     (cases_lt 0 b)
+
+pub positive_left : (a b : ℕ) → 0 < a * b → 0 < a
+positive_left a b some = positive_right b a (omega (arith, mul_comm a b))
 
 -- the extent whose matrices are counted by a division
 abbrev pub divided : ℕ → ℕ → ℕ → Extent

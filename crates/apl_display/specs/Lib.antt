@@ -3,3 +3,4 @@ pub mod Format
 pub mod Joined
 pub mod Matrices
 pub mod Number
+pub mod Worked

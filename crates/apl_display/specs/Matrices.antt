@@ -1,8 +1,8 @@
-use Rattle.std.specs.Prelude.{◌+◌, ◌-◌, ◌*◌, ℕ, max, ℤ, pos, List, [], ◌∷◌, ◌++◌, length, take, drop, map, fold, replicate, slice_index, slice_index_or}
+use Rattle.std.specs.Prelude.{◌+◌, ◌-◌, ◌*◌, ℕ, max, ℤ, pos, List, [], ◌++◌, length, take, drop, map, fold, replicate, slice_index, slice_index_or}
 use Rattle.std.specs.List.{range_with_len, zip}
 use Rattle.apl_arrays.specs.Array.{PlainItems, numbers, chars, element_count}
 use Rattle.apl_display.specs.declared.matrices.Extent.{Extent}
-use Rattle.apl_display.specs.Joined.{with_blanks, with_empty_lines}
+use Rattle.apl_display.specs.Joined.{blank, with_blanks, with_empty_lines}
 use Rattle.apl_display.specs.Number.{number_text, number_width}
 
 -- the matrices of an array of rank 2 or more: the last axis is the columns, the one before it the rows
@@ -28,7 +28,7 @@ column_widths list columns rows = map (column_width list columns rows) (range_wi
 
 -- a text at the right of its column
 abbrev pub right_aligned : ℕ → List ℕ → List ℕ
-right_aligned width text = replicate (width - length text) 32 ++ text
+right_aligned width text = replicate (width - length text) blank ++ text
 
 -- a number at the right of its column: the column's width, and the number
 abbrev pub cell : ℕ × ℤ → List ℕ

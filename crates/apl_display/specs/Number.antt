@@ -1,10 +1,13 @@
 use Rattle.std.specs.Prelude.{ℕ, ℤ, pos, negsuc, unsigned_abs, List, [], ◌∷◌, ◌++◌, decimal, length}
-use Rattle.apl_display.specs.declared.number.TheConstants.{HIGH_MINUS}
+
+-- the glyph ¯
+abbrev pub high_minus : ℕ
+high_minus = 152
 
 -- the sign of a number: ¯ where it is negative
 abbrev pub sign_of : ℤ → List ℕ
 sign_of (pos n) = []
-sign_of (negsuc n) = HIGH_MINUS ∷ []
+sign_of (negsuc n) = high_minus ∷ []
 
 -- the text of a number: its sign and its decimal digits
 abbrev pub number_text : ℤ → List ℕ

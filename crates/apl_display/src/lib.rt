@@ -1,12 +1,16 @@
 //! What an array looks like: the lines that show it, and the array of the characters of these lines.
 #![tactic(auto)]
 
+mod characters;
 mod display;
 mod matrices;
 mod number;
 mod row;
 mod table;
+#[cfg(test)]
+mod tests;
 mod widths;
 pub mod worked;
 
+pub use characters::format;
 pub use display::lines_of;

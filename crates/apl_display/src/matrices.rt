@@ -11,7 +11,6 @@ pub struct Extent {
 }
 
 /// The matrices of an array of rank 2 or more that has elements.
-
 pub fn extent_of(shape: &[u32], elements: usize) -> Extent
     requires rank { 2 ≤ length shape.now }
     requires elements { element_count shape.now ≡ elements }

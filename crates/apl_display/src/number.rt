@@ -1,12 +1,13 @@
 ghost use Rattle.std.specs.Prelude.{◌≡◌, ◌++◌, ◌≤◌, decimal, length, OnOk, replicate};
+ghost use Rattle.apl_display.specs.Joined.{blank};
 ghost use Rattle.apl_display.specs.Number.{sign_of, number_text, number_width};
 ghost use Rattle.apl_display.specs.Matrices.{right_aligned};
 
 use apl_arrays::{Glyph, Line, WantOfMemory};
 use itoa::Buffer;
 
-/// The code of the glyph ¯.
-pub const HIGH_MINUS: u8 = 152;
+// The code of the glyph ¯.
+const HIGH_MINUS: u8 = 152;
 
 // How many decimal digits a number has.
 #[tactic(auto, using(crate::proofs::NumberLemmas::one_digit, crate::proofs::NumberLemmas::one_digit_more, crate::proofs::NumberLemmas::digit_limit_wide))]
@@ -63,7 +64,7 @@ pub fn push_number(line: &mut Line, number: i64) -> Result<(), WantOfMemory>
 
 // Adds blanks.
 fn push_blanks(line: &mut Line, count: usize) -> Result<(), WantOfMemory>
-    ensures { OnOk result (line.new.items ≡ line.old.items ++ replicate count 32) }
+    ensures { OnOk result (line.new.items ≡ line.old.items ++ replicate count blank) }
 {
     for _ in 0..count {
         line.push(Glyph::BLANK)?;

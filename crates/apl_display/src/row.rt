@@ -1,4 +1,5 @@
 ghost use Rattle.std.specs.Prelude.{◌≡◌, ◌+◌, ◌*◌, ◌≤◌, ◌==◌, ◌++◌, ◌∷◌, [], IfOk, OnOk, length, if◌then◌else◌};
+ghost use Rattle.apl_display.specs.Joined.{blank};
 ghost use Rattle.apl_display.specs.Matrices.{aligned, row_of};
 
 use crate::number::push_aligned;
@@ -8,7 +9,8 @@ use std::alloc::Global;
 /// The items of a row.
 pub fn row_of<T>(items: &[T], columns: usize, row: usize) -> &[T]
     requires { row * columns + columns ≤ length items.now }
-    ensures { result.now ≡ row_of items.now columns row }
+    ensures value { result.now ≡ row_of items.now columns row }
+    ensures long { length result.now ≡ columns }
 {
     let start = row * columns;
     &items[start..start + columns]
@@ -16,7 +18,7 @@ pub fn row_of<T>(items: &[T], columns: usize, row: usize) -> &[T]
 
 /// Adds the blank that stands before each column but the first.
 pub fn push_gap(line: &mut Line, column: usize) -> Result<(), WantOfMemory>
-    ensures { OnOk result (line.new.items ≡ line.old.items ++ (if column == 0 then [] else 32 ∷ [])) }
+    ensures { OnOk result (line.new.items ≡ line.old.items ++ (if column == 0 then [] else blank ∷ [])) }
 {
     if column > 0 {
         line.push(Glyph::BLANK)?;

@@ -25,18 +25,15 @@ pub fn widths_of(alloc: Global, items: &Items, extent: Extent) -> Result<Vec<usi
     requires whole { row_count extent * extent.columns ≡ item_count (plain_items items.now) }
     ensures { IfOk result (λ widths. widths.items ≡ widths_of (plain_items items.now) extent) }
 {
+    let rows = extent.matrices * extent.rows;
     match items {
-        Items::Numbers(list) => column_widths(
-            alloc,
-            list.as_slice(),
-            extent.columns,
-            extent.matrices * extent.rows,
-        ),
+        Items::Numbers(list) => column_widths(alloc, list.as_slice(), extent.columns, rows),
         Items::Chars(_) => Ok(Vec::new(alloc)),
     }
 }
 
 // The line of a row.
+#[tactic(auto, using(std::proofs::lemmas::Nat::rows, crate::proofs::WidthLemmas::length_of_widths))]
 fn row_line(alloc: Global, table: &Table, row: usize) -> Result<Line, WantOfMemory>
     requires { row < row_count table.now.extent }
     ensures { IfOk result (λ line. line.items ≡ row_line (plain_items table.now.items.now) table.now.extent row) }

@@ -1,4 +1,4 @@
-ghost use Rattle.std.specs.Prelude.{◌≡◌, ◌*◌, ◌<◌, ℕ, pos, max, IfOk, length, slice_index, slice_index_or};
+ghost use Rattle.std.specs.Prelude.{◌≡◌, ◌*◌, ◌<◌, ◌≤◌, ℕ, pos, max, IfOk, length, slice_index, slice_index_or};
 ghost use Rattle.apl_display.specs.Matrices.{column_widths};
 ghost use Rattle.apl_display.specs.Number.{number_width};
 
@@ -18,14 +18,14 @@ fn widen(widths: &mut [usize], row: &[i64])
     }
 }
 
-/// The widths of all columns, read in one pass.
+/// The widths of all columns in so many rows, read in one pass.
 pub fn column_widths(
     alloc: Global,
     numbers: &[i64],
     columns: usize,
     rows: usize,
 ) -> Result<Vec<usize>, WantOfMemory>
-    requires { rows * columns ≡ length numbers.now }
+    requires { rows * columns ≤ length numbers.now }
     ensures { IfOk result (λ widths. widths.items ≡ column_widths numbers.now columns rows) }
 {
     let mut widths = vec![in alloc; 0; columns]?;

@@ -18,6 +18,7 @@ impl<R> StdSource<R> {
 
 impl<R: Read> Source for StdSource<R> {
     ghost left = { λ s. R.remaining s.inner };
+
     ghost faults = { λ s. s.faults };
 
     fn faults(&self) -> u64 {
@@ -52,6 +53,7 @@ impl<W> StdSink<W> {
 
 impl<W: Write> Sink for StdSink<W> {
     ghost held = { λ s. W.contents s.inner };
+
     ghost faults = { λ s. s.faults };
 
     fn faults(&self) -> u64 {
@@ -66,5 +68,55 @@ impl<W: Write> Sink for StdSink<W> {
                 Err(Failed)
             }
         }
+    }
+}
+
+#[cfg(test)]
+mod tests {
+    use super::*;
+    use std::io;
+
+    // It fails at each read, and takes nothing at each write.
+    #[derive(Drop)]
+    struct Broken;
+
+    impl Read for Broken {
+        fn read(&mut self, _buf: &mut [u8]) -> io::Result<usize> {
+            Err(io::Error::from(io::ErrorKind::BrokenPipe))
+        }
+    }
+
+    impl Write for Broken {
+        fn write(&mut self, _buf: &[u8]) -> io::Result<usize> {
+            Ok(0)
+        }
+
+        fn flush(&mut self) -> io::Result<()> {
+            Ok(())
+        }
+    }
+
+    #[test]
+    fn a_source_gives_what_a_reader_gives(rt: HostRuntime) {
+        let mut source = StdSource::new(b"ab".as_slice());
+        let mut buffer = [0; 4];
+        assert_eq!(rt; source.read(&mut buffer), Ok(2));
+        assert_eq!(rt; &buffer[..2], b"ab".as_slice());
+        assert_eq!(rt; source.read(&mut buffer), Ok(0));
+        assert_eq!(rt; source.faults(), 0);
+        let mut broken = StdSource::new(Broken);
+        assert_eq!(rt; broken.read(&mut buffer), Err(Failed));
+        assert_eq!(rt; broken.faults(), 1);
+    }
+
+    #[test]
+    fn a_sink_hands_on_what_it_takes(rt: HostRuntime) {
+        let mut held = [0; 3];
+        let mut sink = StdSink::new(held.as_mut_slice());
+        assert_eq!(rt; sink.write(b"ab".as_slice()), Ok(2));
+        assert_eq!(rt; sink.faults(), 0);
+        let mut broken = StdSink::new(Broken);
+        assert_eq!(rt; broken.write(b"ab".as_slice()), Err(Failed));
+        assert_eq!(rt; broken.faults(), 1);
     }
 }

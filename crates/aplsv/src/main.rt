@@ -22,7 +22,15 @@ fn run(rt: &HostRuntime, words: &[String]) -> Status {
     let mut output = StdSink::new(rt.stdout());
     // No file is read or written yet, so nothing stands behind the text, the clock and the shelves.
     match Vec::from_slice(rt.alloc(), &[(); 32]) {
-        Ok(shelves) => aplsv_replay_words(rt.alloc(), words, &mut input, &mut output, (), (), shelves).status,
+        Ok(shelves) => aplsv_replay_words(
+            rt.alloc(),
+            words,
+            &mut input,
+            &mut output,
+            (),
+            (),
+            shelves,
+        ).status,
         Err(_) => Status::WantOfMemory,
     }
 }

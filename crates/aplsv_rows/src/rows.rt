@@ -60,10 +60,22 @@ const REFUSED: [(&[u8], u64, BundleRule); 13] = [
     (b"user 1001\n", 10, BundleRule::End),
     (b"user 1001\nen", 10, BundleRule::Newline),
     (b"user 1001\n|\nend\n", 10, BundleRule::Form),
-    (b"user 1001\n|X\xE2\x86\x909223372036854775808\nend\n", 10, BundleRule::Form),
-    (b"user 1001\n|ABCDEFGHIJKLMNOPQRSTUVWXYZ0123456\nend\n", 10, BundleRule::Form),
+    (
+        b"user 1001\n|X\xE2\x86\x909223372036854775808\nend\n",
+        10,
+        BundleRule::Form,
+    ),
+    (
+        b"user 1001\n|ABCDEFGHIJKLMNOPQRSTUVWXYZ0123456\nend\n",
+        10,
+        BundleRule::Form,
+    ),
     (b"user 1001\n| X\nend\n", 10, BundleRule::Form),
-    (b"user 1001\nuser 1002\nuser 1003\nend\n", 20, BundleRule::Limit),
+    (
+        b"user 1001\nuser 1002\nuser 1003\nend\n",
+        20,
+        BundleRule::Limit,
+    ),
 ];
 
 fn is_refused(rt: &impl Abort, found: Status, offset: u64, rule: BundleRule) {

@@ -23,7 +23,9 @@ items_text (chars list) = quote ∷ (flat_map char_text list ++ quote ∷ [])
 
 -- an array: its kind, its axes in parentheses, its items
 abbrev pub array_text : PlainArray → List ℕ
-array_text array = kind_text array.items ++ (codes "(" ++ (spaced (map decimal array.shape) ++ (codes ")" ++ items_text array.items)))
+array_text array =
+    kind_text array.items
+    ++ (codes "(" ++ (spaced (map decimal array.shape) ++ (codes ")" ++ items_text array.items)))
 
 -- a value, or `none` where there is none
 abbrev pub value_text : Option PlainArray → List ℕ

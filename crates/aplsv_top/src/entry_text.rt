@@ -15,7 +15,8 @@ use sv_events::{Act, Answer, Entry, Pair};
 
 // Adds two names with a blank between.
 fn add_names(line: &mut Line, local: &Name, surrogate: &Name) -> Result<(), WantOfMemory>
-    ensures text { OnOk result (line.new.items ≡ line.old.items ++ spaced (local.now ∷ surrogate.now ∷ [])) }
+    ensures text { OnOk result (line.new.items
+        ≡ line.old.items ++ spaced (local.now ∷ surrogate.now ∷ [])) }
     ensures printable { OnOk result (IsName local.now × IsName surrogate.now) }
 {
     add_glyphs(line, local.glyphs())?;
@@ -31,7 +32,8 @@ fn add_offer(
     surrogate: &Name,
     value: &Option<Array>,
 ) -> Result<(), WantOfMemory>
-    ensures text { OnOk result (line.new.items ≡ line.old.items ++ act_text (Act.Offer to local.now surrogate.now value.now)) }
+    ensures text { OnOk result (line.new.items
+        ≡ line.old.items ++ act_text (Act.Offer to local.now surrogate.now value.now)) }
     ensures printable { OnOk result (IsPrintableAct (Act.Offer to local.now surrogate.now value.now)) }
 {
     add_text(line, "offer ")?;
@@ -44,7 +46,8 @@ fn add_offer(
 
 // Adds a set.
 fn add_set(line: &mut Line, name: &Name, value: &Array) -> Result<(), WantOfMemory>
-    ensures text { OnOk result (line.new.items ≡ line.old.items ++ act_text (Act.Set name.now value.now)) }
+    ensures text { OnOk result (line.new.items
+        ≡ line.old.items ++ act_text (Act.Set name.now value.now)) }
     ensures printable { OnOk result (IsPrintableAct (Act.Set name.now value.now)) }
 {
     add_text(line, "set ")?;
@@ -82,7 +85,8 @@ fn add_act(line: &mut Line, act: &Act) -> Result<(), WantOfMemory>
 
 // Adds the answer that tells a degree.
 fn add_degree(line: &mut Line, degree: u8) -> Result<(), WantOfMemory>
-    ensures text { OnOk result (line.new.items ≡ line.old.items ++ answer_text (plain_answer (Answer.Degree degree))) }
+    ensures text { OnOk result (line.new.items
+        ≡ line.old.items ++ answer_text (plain_answer (Answer.Degree degree))) }
     ensures printable { OnOk result (IsPrintableAnswer (plain_answer (Answer.Degree degree))) }
 {
     add_text(line, "degree ")?;
@@ -91,7 +95,8 @@ fn add_degree(line: &mut Line, degree: u8) -> Result<(), WantOfMemory>
 
 // Adds the answer that tells a value.
 fn add_told(line: &mut Line, value: &Array) -> Result<(), WantOfMemory>
-    ensures text { OnOk result (line.new.items ≡ line.old.items ++ answer_text (plain_answer (Answer.Value value.now))) }
+    ensures text { OnOk result (line.new.items
+        ≡ line.old.items ++ answer_text (plain_answer (Answer.Value value.now))) }
     ensures printable { OnOk result (IsPrintableAnswer (plain_answer (Answer.Value value.now))) }
 {
     add_text(line, "value ")?;
@@ -100,7 +105,8 @@ fn add_told(line: &mut Line, value: &Array) -> Result<(), WantOfMemory>
 
 // Adds an answer.
 fn add_answer(line: &mut Line, answer: &Answer) -> Result<(), WantOfMemory>
-    ensures text { OnOk result (line.new.items ≡ line.old.items ++ answer_text (plain_answer answer.now)) }
+    ensures text { OnOk result (line.new.items
+        ≡ line.old.items ++ answer_text (plain_answer answer.now)) }
     ensures printable { OnOk result (IsPrintableAnswer (plain_answer answer.now)) }
 {
     match answer {
@@ -139,7 +145,8 @@ fn add_pairs(line: &mut Line, pairs: &[Pair]) -> Result<(), WantOfMemory>
 
 // Adds an entry.
 fn add_entry(line: &mut Line, place: u64, entry: &Entry) -> Result<(), WantOfMemory>
-    ensures text { OnOk result (line.new.items ≡ line.old.items ++ entry_text place (plain_entry entry.now)) }
+    ensures text { OnOk result (line.new.items
+        ≡ line.old.items ++ entry_text place (plain_entry entry.now)) }
     ensures printable { OnOk result (IsPrintableEntry (plain_entry entry.now)) }
 {
     add_count(line, place)?;

@@ -66,7 +66,11 @@ impl Evaluation {
     }
 
     /// Does a statement that asks no act.
-    pub fn finish_quiet(&mut self, statement: Statement, line: &[Glyph]) -> Result<(), WantOfMemory> {
+    pub fn finish_quiet(
+        &mut self,
+        statement: Statement,
+        line: &[Glyph],
+    ) -> Result<(), WantOfMemory> {
         match statement {
             Statement::Assign { name, number } => {
                 self.names.set(name, Array::scalar(self.alloc, number)?)

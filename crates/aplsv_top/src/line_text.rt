@@ -60,7 +60,8 @@ pub(crate) fn add_glyphs(line: &mut Line, glyphs: &[Glyph]) -> Result<(), WantOf
 
 // Adds numbers with one blank between each two.
 pub(crate) fn add_numbers(line: &mut Line, numbers: &[i64]) -> Result<(), WantOfMemory>
-    ensures text { OnOk result (line.new.items ≡ line.old.items ++ spaced (map number_text numbers.now)) }
+    ensures text { OnOk result (line.new.items
+        ≡ line.old.items ++ spaced (map number_text numbers.now)) }
     ensures printable { OnOk result (All (λ number. FitsSigned w64 number) numbers.now) }
 {
     let Some((first, others)) = numbers.split_first() else {

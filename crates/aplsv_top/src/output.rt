@@ -50,7 +50,8 @@ fn add_user(alloc: Global, bytes: &mut Vec<u8>, user: u32) -> Result<(), WantOfM
 
 // Adds a line of a transcript.
 fn add_content(alloc: Global, bytes: &mut Vec<u8>, line: &Line) -> Result<(), WantOfMemory>
-    ensures text { OnOk result (bytes.new.items ≡ bytes.old.items ++ line_text (content_text line.now.items)) }
+    ensures text { OnOk result (bytes.new.items
+        ≡ bytes.old.items ++ line_text (content_text line.now.items)) }
     ensures printable { OnOk result (All IsGlyph line.now.items) }
 {
     bytes.push(b'|')?;
@@ -59,7 +60,8 @@ fn add_content(alloc: Global, bytes: &mut Vec<u8>, line: &Line) -> Result<(), Wa
 
 // Adds the lines of a transcript.
 fn add_contents(alloc: Global, bytes: &mut Vec<u8>, lines: &[Line]) -> Result<(), WantOfMemory>
-    ensures text { OnOk result (bytes.new.items ≡ bytes.old.items ++ flat_map line_text (map content_text (map glyphs_in lines.now))) }
+    ensures text { OnOk result (bytes.new.items
+        ≡ bytes.old.items ++ flat_map line_text (map content_text (map glyphs_in lines.now))) }
     ensures printable { OnOk result (All (λ line. All IsGlyph line) (map glyphs_in lines.now)) }
 {
     for line in lines {
@@ -74,7 +76,8 @@ fn add_transcript(
     bytes: &mut Vec<u8>,
     transcript: &Transcript,
 ) -> Result<(), WantOfMemory>
-    ensures text { OnOk result (bytes.new.items ≡ bytes.old.items ++ flat_map line_text (user_lines (plain_transcript transcript.now))) }
+    ensures text { OnOk result (bytes.new.items
+        ≡ bytes.old.items ++ flat_map line_text (user_lines (plain_transcript transcript.now))) }
     ensures printable { OnOk result (IsPrintableTranscript (plain_transcript transcript.now)) }
 {
     add_user(alloc, bytes, transcript.user)?;
@@ -104,7 +107,8 @@ fn add_entry_line(
     place: u64,
     entry: &Entry,
 ) -> Result<(), WantOfMemory>
-    ensures text { OnOk result (bytes.new.items ≡ bytes.old.items ++ line_text (entry_text place (plain_entry entry.now))) }
+    ensures text { OnOk result (bytes.new.items
+        ≡ bytes.old.items ++ line_text (entry_text place (plain_entry entry.now))) }
     ensures printable { OnOk result (IsPrintableEntry (plain_entry entry.now)) }
 {
     add_line(alloc, bytes, &text_of(alloc, place, entry)?)
@@ -140,7 +144,8 @@ pub fn output_of(
     transcripts: &Transcripts,
     journal: &[Entry],
 ) -> Result<Bytes, WantOfMemory>
-    ensures text { IfOk result (λ bytes. bytes.items ≡ output_text transcripts.now.items (map plain_entry journal.now)) }
+    ensures text { IfOk result (λ bytes.
+        bytes.items ≡ output_text transcripts.now.items (map plain_entry journal.now)) }
     ensures printable { OnOk result (ArePrintable transcripts.now.items (map plain_entry journal.now)) }
 {
     let mut bytes = Vec::new(alloc);

@@ -45,7 +45,8 @@ fn add_kind(line: &mut Line, items: &Items) -> Result<(), WantOfMemory>
 
 // Adds the items.
 fn add_items(line: &mut Line, items: &Items) -> Result<(), WantOfMemory>
-    ensures text { OnOk result (line.new.items ≡ line.old.items ++ items_text (plain_items items.now)) }
+    ensures text { OnOk result (line.new.items
+        ≡ line.old.items ++ items_text (plain_items items.now)) }
     ensures printable { OnOk result (ArePrintableItems (plain_items items.now)) }
 {
     match items {

@@ -5,4 +5,4 @@ use Rattle.aplsv_top.proofs.top.asks_replay.Goals as goal
 pub returns-in-len1 : goal.returns-in-len1
 returns-in-len1 c =
     one_word string_bytes c.args.words.now c.word-item.result (codes "--replay") c.in-len1.len_at_least c.in-len1.len_below c.word-item.is
-      (subst (λ bytes. IsTrue c.is_replay.result ↔ (bytes ≡ codes "--replay")) c.as_str.ensures.value c.is_replay.ensures)
+    (subst (λ bytes. IsTrue c.is_replay.result ↔ (bytes ≡ codes "--replay")) c.as_str.ensures.value c.is_replay.ensures)

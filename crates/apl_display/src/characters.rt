@@ -1,0 +1,154 @@
+ghost use Rattle.std.specs.Prelude.{◌≡◌, ◌+◌, ◌-◌, ◌*◌, ◌^◌, ◌<◌, ◌≤◌, ◌++◌, ◌∷◌, [], ℕ, min, IfOk, IfErr, OnOk, length, map, sum};
+ghost use Rattle.std.specs.List.{concat, range_with_len};
+ghost use Rattle.apl_arrays.specs.Array.{numbers, chars, element_count, item_count, FitsLimits};
+ghost use Rattle.apl_display.specs.Format.{number_format, formatted, IsReasonToRefuse};
+ghost use Rattle.apl_display.specs.Joined.{with_blanks};
+ghost use Rattle.apl_display.specs.Matrices.{aligned, row_of};
+ghost use Rattle.apl_display.specs.Number.{number_text};
+
+use crate::display::vector_line;
+use crate::matrices::extent_of;
+use crate::number::number_width;
+use crate::row::{push_row, row_of};
+use crate::widths::column_widths;
+use apl_arrays::{Array, Fail, Items, Line, List, Report, WantOfMemory};
+use std::alloc::Global;
+
+// The most elements of an array.
+const ELEMENT_LIMIT: usize = 16_384;
+
+// The array of characters in rows of a width.
+fn in_rows(front: &[u32], width: usize, characters: Line) -> Array
+    requires fits { FitsLimits (front.now ++ width ∷ []) }
+    requires whole { element_count (front.now ++ width ∷ []) ≡ length characters.items }
+    ensures { result ≡ record { shape = front.now ++ width ∷ []; items = chars characters.items } }
+{
+    let mut axes = [0; 8];
+    axes[..front.len()].copy_from_slice(front);
+    axes[front.len()] = width as u32;
+    match Array::try_new(&axes[..front.len() + 1], Items::Chars(characters)) {
+        Ok(array) => array,
+        Err(_) => unreachable!(),
+    }
+}
+
+// How wide a line of columns is.
+fn line_width(widths: &[usize]) -> usize
+    ensures { result ≡ min (length widths.now - 1 + sum widths.now) (2 ^ 64 - 1) }
+{
+    let mut width = widths.len().saturating_sub(1);
+    for column in widths {
+        width = width.saturating_add(*column);
+    }
+    width
+}
+
+// How wide the line of a vector is.
+fn vector_width(numbers: &[i64]) -> usize
+    ensures { result ≡ min (length (with_blanks (map number_text numbers.now))) (2 ^ 64 - 1) }
+{
+    let mut width = numbers.len().saturating_sub(1);
+    for number in numbers {
+        width = width.saturating_add(number_width(*number));
+    }
+    width
+}
+
+// The characters of so many rows of numbers, one row after another.
+fn rows_text(
+    alloc: Global,
+    numbers: &[i64],
+    widths: &[usize],
+    columns: usize,
+    rows: usize,
+) -> Result<Line, WantOfMemory>
+    requires columns { length widths.now ≡ columns }
+    requires whole { rows * columns ≡ length numbers.now }
+    ensures { IfOk result (λ text. text.items ≡
+        concat (map (λ row. aligned widths.now (row_of numbers.now columns row)) (range_with_len 0 rows))) }
+{
+    let mut text = List::new(alloc);
+    for row in 0..rows {
+        push_row(&mut text, widths, row_of(numbers, columns, row))?;
+    }
+    Ok(text)
+}
+
+// The characters of a scalar or a vector.
+fn vector_format(alloc: Global, b: &Array, list: &[i64]) -> Result<Array, Fail>
+    requires rank { length b.now.shape < 2 }
+    requires kind { b.now.items ≡ numbers list.now }
+    ensures value { IfOk result (λ array. array ≡ number_format b.now) }
+    ensures fits { OnOk result (FitsLimits (number_format b.now).shape) }
+    ensures refused { IfErr result (IsReasonToRefuse (number_format b.now).shape) }
+{
+    let width = vector_width(list);
+    if width > ELEMENT_LIMIT {
+        return Err(Fail::Report(Report::WsFull));
+    }
+    let line = vector_line(alloc, list)?;
+    Ok(in_rows(&[], width, line))
+}
+
+// The characters of an array of rank 2 or more without elements: none.
+fn empty_format(alloc: Global, b: &Array) -> Array
+    requires rank { 2 ≤ length b.now.shape }
+    requires none { item_count b.now.items ≡ 0 }
+    ensures value { result ≡ number_format b.now }
+    ensures fits { FitsLimits (number_format b.now).shape }
+{
+    let shape = b.shape();
+    in_rows(&shape[..shape.len() - 1], 0, List::new(alloc))
+}
+
+// The characters of an array of rank 2 or more that has elements.
+fn table_format(alloc: Global, b: &Array, list: &[i64]) -> Result<Array, Fail>
+    requires rank { 2 ≤ length b.now.shape }
+    requires kind { b.now.items ≡ numbers list.now }
+    requires some { 0 < length list.now }
+    ensures value { IfOk result (λ array. array ≡ number_format b.now) }
+    ensures fits { OnOk result (FitsLimits (number_format b.now).shape) }
+    ensures refused { IfErr result (IsReasonToRefuse (number_format b.now).shape) }
+{
+    let shape = b.shape();
+    let extent = extent_of(shape, list.len());
+    let rows = extent.matrices * extent.rows;
+    let widths = column_widths(alloc, list, extent.columns, rows)?;
+    let width = line_width(&widths);
+    if width.saturating_mul(rows) > ELEMENT_LIMIT {
+        return Err(Fail::Report(Report::WsFull));
+    }
+    let text = rows_text(alloc, list, &widths, extent.columns, rows)?;
+    Ok(in_rows(&shape[..shape.len() - 1], width, text))
+}
+
+// An array of numbers as characters.
+fn format_numbers(alloc: Global, b: &Array, list: &[i64]) -> Result<Array, Fail>
+    requires kind { b.now.items ≡ numbers list.now }
+    ensures value { IfOk result (λ array. array ≡ number_format b.now) }
+    ensures fits { OnOk result (FitsLimits (number_format b.now).shape) }
+    ensures refused { IfErr result (IsReasonToRefuse (number_format b.now).shape) }
+{
+    if b.shape().len() < 2 {
+        return vector_format(alloc, b, list);
+    }
+    if list.is_empty() {
+        return Ok(empty_format(alloc, b));
+    }
+    table_format(alloc, b, list)
+}
+
+/// An array as characters: one of characters unchanged, a number scalar or vector as the vector of its display line,
+/// and any other array of numbers in its shape with the width of its display lines, which is 0 without elements, as
+/// the last axis. This profile's format. `WsFull` where the result would pass the limits of an array. It takes memory
+/// for the result and for a number a column.
+pub fn format(alloc: Global, b: &Array) -> Result<Array, Fail>
+    ensures value { IfOk result (λ array. array ≡ formatted b.now) }
+    ensures fits { OnOk result (FitsLimits (formatted b.now).shape) }
+    ensures refused { IfErr result (IsReasonToRefuse (formatted b.now).shape) }
+{
+    match b.items() {
+        Items::Chars(_) => Ok(b.copy(alloc)?),
+        Items::Numbers(list) => format_numbers(alloc, b, list.as_slice()),
+    }
+}

@@ -1,0 +1,4 @@
+pub mod ByItems
+pub mod Counting
+pub mod Scalar
+pub mod Table

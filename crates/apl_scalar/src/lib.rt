@@ -1,0 +1,16 @@
+//! The scalar functions of APL, item by item.
+#![tactic(auto)]
+
+pub mod counting;
+mod extension;
+mod loops;
+mod monad_rules;
+pub mod rules;
+mod scalar;
+mod table;
+#[cfg(test)]
+mod tests;
+
+pub use loops::by_place;
+pub use scalar::{array_of, dyadic, monadic};
+pub use table::{identity_of, item_of};

@@ -1,0 +1,113 @@
+ghost use Rattle.std.specs.Prelude.{◌≡◌, ◌<◌, ◌==◌, ℕ, length, slice_get, IfOk, vec_len, vec_capacity};
+ghost use Rattle.apl_scalar.specs.ByItems.{Reaches, place_in, number_at, char_at, OnDomain};
+
+use crate::extension::{glyph_at, number_at};
+use apl_arrays::{Fail, Glyph, List, NumberList, Report, WantOfMemory};
+use std::alloc::Global;
+
+/// The items that a rule gives at each place, or DOMAIN where it gives none. This profile. It asks once for memory.
+pub fn by_place<T: Drop, F: Fn(usize) -> Option<T>>(
+    alloc: Global,
+    count: usize,
+    rule: F,
+) -> Result<List<T>, Fail>
+    requires { (place : ℕ) → place < count → F.pre rule place }
+    ensures whole { IfOk result (λ list. length list.items ≡ count) }
+    ensures items { IfOk result (λ list. (place : ℕ) → place < count → F.post rule place (slice_get list.items place)) }
+    ensures domain { OnDomain result ((place : ℕ) × (place < count) × F.post rule place None) }
+{
+    let mut items = room_for(alloc, count)?;
+    for place in 0..count {
+        match rule(place) {
+            Some(item) => items.push_reserved(item),
+            None => return Err(Fail::Report(Report::Domain)),
+        }
+    }
+    Ok(List::from(items))
+}
+
+/// The items that a rule gives to the numbers for each place.
+pub fn each<F: Fn(i64) -> Option<i64>>(
+    alloc: Global,
+    count: usize,
+    b: &[i64],
+    rule: F,
+) -> Result<NumberList, Fail>
+    requires callable { F.IsAlwaysCallable rule }
+    requires reaches { Reaches (length b.now) count }
+    ensures whole { IfOk result (λ list. length list.items ≡ count) }
+    ensures items { IfOk result (λ list. (place : ℕ) → place < count → F.post rule (number_at b.now place) (slice_get list.items place)) }
+    ensures domain { OnDomain result ((place : ℕ) × (place < count) × F.post rule (number_at b.now place) None) }
+{
+    by_place(
+        alloc,
+        count,
+        |place: usize| -> Option<i64>
+            requires callable { F.IsAlwaysCallable rule }
+            requires reaches { place_in (length b.now) place < length b.now }
+            ensures { F.post rule (number_at b.entry.now place) result }
+        { rule(number_at(b, place)) },
+    )
+}
+
+/// The items that a rule gives to the pairs of numbers for each place.
+pub fn pairs<F: Fn(i64, i64) -> Option<i64>>(
+    alloc: Global,
+    count: usize,
+    a: &[i64],
+    b: &[i64],
+    rule: F,
+) -> Result<NumberList, Fail>
+    requires callable { F.IsAlwaysCallable rule }
+    requires a_reaches { Reaches (length a.now) count }
+    requires b_reaches { Reaches (length b.now) count }
+    ensures whole { IfOk result (λ list. length list.items ≡ count) }
+    ensures items { IfOk result (λ list. (place : ℕ) → place < count → F.post rule (number_at a.now place) (number_at b.now place) (slice_get list.items place)) }
+    ensures domain { OnDomain result ((place : ℕ) × (place < count) × F.post rule (number_at a.now place) (number_at b.now place) None) }
+{
+    by_place(
+        alloc,
+        count,
+        |place: usize| -> Option<i64>
+            requires callable { F.IsAlwaysCallable rule }
+            requires a_reaches { place_in (length a.now) place < length a.now }
+            requires b_reaches { place_in (length b.now) place < length b.now }
+            ensures { F.post rule (number_at a.entry.now place) (number_at b.entry.now place) result }
+        { rule(number_at(a, place), number_at(b, place)) },
+    )
+}
+
+/// The items that a rule gives to the pairs of characters for each place, by whether they are the same.
+pub fn glyph_pairs<F: Fn(bool) -> Option<i64>>(
+    alloc: Global,
+    count: usize,
+    a: &[Glyph],
+    b: &[Glyph],
+    rule: F,
+) -> Result<NumberList, Fail>
+    requires callable { F.IsAlwaysCallable rule }
+    requires a_reaches { Reaches (length a.now) count }
+    requires b_reaches { Reaches (length b.now) count }
+    ensures whole { IfOk result (λ list. length list.items ≡ count) }
+    ensures items { IfOk result (λ list. (place : ℕ) → place < count → F.post rule (char_at a.now place == char_at b.now place) (slice_get list.items place)) }
+    ensures domain { OnDomain result ((place : ℕ) × (place < count) × F.post rule (char_at a.now place == char_at b.now place) None) }
+{
+    by_place(
+        alloc,
+        count,
+        |place: usize| -> Option<i64>
+            requires callable { F.IsAlwaysCallable rule }
+            requires a_reaches { place_in (length a.now) place < length a.now }
+            requires b_reaches { place_in (length b.now) place < length b.now }
+            ensures { F.post rule (char_at a.entry.now place == char_at b.entry.now place) result }
+        { rule(glyph_at(a, place).code() == glyph_at(b, place).code()) },
+    )
+}
+
+/// An empty list with room for so many items.
+fn room_for<T>(alloc: Global, count: usize) -> Result<Vec<T>, WantOfMemory>
+    ensures len { IfOk result (λ items. vec_len items ≡ 0) }
+    ensures room { IfOk result (λ items. vec_capacity items ≡ count) }
+{
+    Ok(Vec::with_capacity(alloc, count)?)
+}

@@ -1,0 +1,170 @@
+ghost use Rattle.std.specs.Prelude.{◌≡◌, ◌==◌, length, true, false, not, if◌then◌else◌};
+ghost use Rattle.apl_arrays.specs.Array.{FitsLimits, element_count, is_chars, item_count, numbers, numbers_in, plain_items};
+ghost use Rattle.apl_scalar.specs.ByItems.{Answers, MakesItems, Reaches, answer_of, char_at, first_report, lacks_item, leader, no_faults, numbers_by, ranks_differ, shapes_differ};
+ghost use Rattle.apl_scalar.specs.Scalar.{dyadic_at, dyadic_of, is_unfit, monadic_at, monadic_of};
+ghost use Rattle.apl_scalar.specs.Table.{item_of_chars, takes_chars};
+
+use crate::extension::{leader, ranks_differ, shapes_differ};
+use crate::loops::{by_place, glyph_pairs};
+use crate::rules;
+use crate::table::{character_of, dyadic_items, monadic_items};
+use apl_arrays::{Array, Dyad, Fail, Glyph, Items, Monad, NumberList, Report};
+use std::alloc::Global;
+
+/// A monadic scalar function of an array, item by item. This profile. DOMAIN where the argument is of characters, or
+/// where an item has no value of 64 bits.
+pub fn monadic(alloc: Global, f: Monad, b: &Array) -> Result<Array, Fail>
+    ensures { Answers result (monadic_of f b.now) }
+{
+    if b.is_chars() {
+        Err(Fail::Report(Report::Domain))
+    } else {
+        each_number(alloc, f, b)
+    }
+}
+
+/// A monadic function of an array of numbers.
+#[tactic(auto, using(crate::proofs::Places::by_places))]
+fn each_number(alloc: Global, f: Monad, b: &Array) -> Result<Array, Fail>
+    requires { is_chars b.now.items ≡ false }
+    ensures { Answers result (monadic_of f b.now) }
+{
+    let items = own_items(alloc, f, b.items().len(), b.items())?;
+    Ok(array_of(b.shape(), Items::Numbers(items)))
+}
+
+/// A monadic function of the number for each place.
+fn own_items(alloc: Global, f: Monad, count: usize, b: &Items) -> Result<NumberList, Fail>
+    requires kind { is_chars (plain_items b.now) ≡ false }
+    requires reaches { Reaches (item_count (plain_items b.now)) count }
+    ensures { MakesItems result count (monadic_at f (numbers_in (plain_items b.now))) }
+{
+    match b {
+        Items::Numbers(b) => monadic_items(alloc, f, count, b.as_slice()),
+        Items::Chars(_) => unreachable!(),
+    }
+}
+
+/// A dyadic scalar function of two arrays, item by item, where an array with one element extends to the shape of the
+/// other. This profile. RANK where the ranks differ, else LENGTH where the shapes do, else DOMAIN where an argument is
+/// of characters, but for `=` and `≠`, or where a pair of items has no value of 64 bits.
+pub fn dyadic(alloc: Global, f: Dyad, a: &Array, b: &Array) -> Result<Array, Fail>
+    ensures { Answers result (dyadic_of f a.now b.now) }
+{
+    match misfit(f, a, b) {
+        Some(report) => Err(Fail::Report(report)),
+        None => item_by_item(alloc, f, a, b),
+    }
+}
+
+/// The report on the shapes and kinds of two arguments, if there is one.
+fn misfit(f: Dyad, a: &Array, b: &Array) -> Option<Report>
+    ensures { result ≡ first_report (record no_faults { bad_rank = ranks_differ a.now b.now; bad_length = shapes_differ a.now b.now; bad_domain = is_unfit f a.now.items b.now.items }) }
+{
+    if ranks_differ(a, b) {
+        Some(Report::Rank)
+    } else if shapes_differ(a, b) {
+        Some(Report::Length)
+    } else if (a.is_chars() || b.is_chars()) && !takes_chars(f) {
+        Some(Report::Domain)
+    } else {
+        None
+    }
+}
+
+/// A dyadic function of two arrays whose shapes and kinds fit.
+#[tactic(auto, using(crate::proofs::Places::by_places))]
+fn item_by_item(alloc: Global, f: Dyad, a: &Array, b: &Array) -> Result<Array, Fail>
+    requires rank { ranks_differ a.now b.now ≡ false }
+    requires shape { shapes_differ a.now b.now ≡ false }
+    requires kind { is_unfit f a.now.items b.now.items ≡ false }
+    ensures { Answers result (dyadic_of f a.now b.now) }
+{
+    let shaped = leader(a, b);
+    let items = pair_items(alloc, f, shaped.items().len(), a.items(), b.items())?;
+    Ok(array_of(shaped.shape(), Items::Numbers(items)))
+}
+
+/// A dyadic function of the pair of items for each place.
+fn pair_items(
+    alloc: Global,
+    f: Dyad,
+    count: usize,
+    a: &Items,
+    b: &Items,
+) -> Result<NumberList, Fail>
+    requires kind { is_unfit f (plain_items a.now) (plain_items b.now) ≡ false }
+    requires a_reaches { Reaches (item_count (plain_items a.now)) count }
+    requires b_reaches { Reaches (item_count (plain_items b.now)) count }
+    ensures { MakesItems result count (dyadic_at f (plain_items a.now) (plain_items b.now)) }
+{
+    match (a, b) {
+        (Items::Numbers(a), Items::Numbers(b)) => dyadic_items(
+            alloc,
+            f,
+            count,
+            a.as_slice(),
+            b.as_slice(),
+        ),
+        (Items::Chars(a), Items::Chars(b)) => glyph_items(
+            alloc,
+            f,
+            count,
+            a.as_slice(),
+            b.as_slice(),
+        ),
+        _ => unlike_items(alloc, f, count),
+    }
+}
+
+/// `=` or `≠` of the pair of characters for each place.
+fn glyph_items(
+    alloc: Global,
+    f: Dyad,
+    count: usize,
+    a: &[Glyph],
+    b: &[Glyph],
+) -> Result<NumberList, Fail>
+    requires kind { takes_chars f ≡ true }
+    requires a_reaches { Reaches (length a.now) count }
+    requires b_reaches { Reaches (length b.now) count }
+    ensures { MakesItems result count (λ place. item_of_chars f (char_at a.now place == char_at b.now place)) }
+{
+    match f {
+        Dyad::Equal => glyph_pairs(alloc, count, a, b, rules::same),
+        _ => glyph_pairs(alloc, count, a, b, rules::different),
+    }
+}
+
+/// `=` or `≠` of a character and a number for each place.
+fn unlike_items(alloc: Global, f: Dyad, count: usize) -> Result<NumberList, Fail>
+    requires { takes_chars f ≡ true }
+    ensures { MakesItems result count (λ place. item_of_chars f false) }
+{
+    by_place(
+        alloc,
+        count,
+        |_place: usize| -> Option<i64>
+            ensures { result ≡ item_of_chars f false }
+        { character_of(f, false) },
+    )
+}
+
+/// Whether a function takes characters.
+fn takes_chars(f: Dyad) -> bool
+    ensures { result ≡ takes_chars f }
+{
+    matches!(f, Dyad::Equal | Dyad::NotEqual)
+}
+
+/// The array of a shape within the limits, and of as many items. This profile. No memory.
+pub fn array_of(shape: &[u32], items: Items) -> Array
+    requires fits { FitsLimits shape.now }
+    requires whole { element_count shape.now ≡ item_count (plain_items items) }
+    ensures { result ≡ record { shape = shape.now; items = plain_items items } }
+{
+    match Array::try_new(shape, items) {
+        Ok(array) => array,
+        Err(_) => unreachable!(),
+    }
+}
