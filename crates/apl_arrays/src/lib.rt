@@ -24,3 +24,8 @@ pub use name::Name;
 pub use report::{Fail, Report};
 pub use text::{GlyphRefused, glyphs_of, texts_are_read_in_one_way, utf8_of};
 pub use verb::{Dyad, Mix1, Mix2, Monad, Verb, Way};
+
+#[cfg(test)]
+mod list_tests;
+#[cfg(test)]
+mod tests;

@@ -3,6 +3,10 @@
 
 mod processor;
 mod room;
+#[cfg(test)]
+mod samples;
 mod table;
+#[cfg(test)]
+mod tests;
 
 pub use processor::Core;

@@ -4,6 +4,8 @@
 mod entry;
 mod event;
 mod journal;
+#[cfg(test)]
+mod tests;
 
 pub use entry::{Entry, Pair, PairList};
 pub use event::{Act, Answer};
