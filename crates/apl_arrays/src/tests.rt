@@ -11,7 +11,7 @@ fn line_of(alloc: Global, text: &str) -> Result<Line, WantOfMemory> {
 }
 
 // So many items: 0, 1, 2 and on, or A, B, C and on to Z, and again from A.
-fn items_of(alloc: Global, count: u64, chars: bool) -> Result<Items, WantOfMemory> {
+fn items_of(alloc: Global, count: u32, chars: bool) -> Result<Items, WantOfMemory> {
     if chars {
         let mut line = Line::new(alloc);
         for place in 0..count {
@@ -22,13 +22,13 @@ fn items_of(alloc: Global, count: u64, chars: bool) -> Result<Items, WantOfMemor
     }
     let mut numbers = NumberList::new(alloc);
     for place in 0..count {
-        numbers.push(place as i64)?;
+        numbers.push(i64::from(place))?;
     }
     Ok(Items::Numbers(numbers))
 }
 
 // A shape, how many items, and why they make no array, if they do not.
-const SHAPES: [(&[u32], u64, Option<ArrayRefused>); 24] = [
+const SHAPES: [(&[u32], u32, Option<ArrayRefused>); 24] = [
     (&[2, 3], 6, None),
     (&[2, 3], 5, Some(ArrayRefused::BadShape)),
     (&[2, 3], 7, Some(ArrayRefused::BadShape)),
@@ -73,7 +73,7 @@ fn makes_arrays(rt: &impl Abort, alloc: Global) -> Result<(), WantOfMemory> {
     for (shape, count, refused) in SHAPES {
         for chars in [false, true] {
             let items = items_of(alloc, count, chars)?;
-            assert_eq!(rt; items.len() as u64, count);
+            assert_eq!(rt; items.len(), count as usize);
             assert_eq!(rt; items.is_empty(), count == 0);
             match (Array::try_new(shape, items), refused) {
                 (Ok(array), None) => {
@@ -95,7 +95,7 @@ fn array_of(
     rt: &impl Abort,
     alloc: Global,
     shape: &[u32],
-    count: u64,
+    count: u32,
     chars: bool,
 ) -> Result<Array, WantOfMemory> {
     let items = items_of(alloc, count, chars)?;
@@ -119,7 +119,7 @@ fn gives_items(rt: &impl Abort, alloc: Global) -> Result<(), WantOfMemory> {
 }
 
 // Shapes, numbers of items and whether these are characters, of arrays none of which is another.
-const ARRAYS: [(&[u32], u64, bool); 9] = [
+const ARRAYS: [(&[u32], u32, bool); 9] = [
     (&[], 1, false),
     (&[], 1, true),
     (&[1], 1, false),
