@@ -2,10 +2,28 @@
 #![tactic(auto)]
 
 #[cfg(test)]
+mod couplings;
+#[cfg(test)]
+mod leaves;
+#[cfg(test)]
+mod matching;
+#[cfg(test)]
+mod names;
+#[cfg(test)]
+mod numbers;
+#[cfg(test)]
+mod repeated_offers;
+#[cfg(test)]
 mod rows;
 #[cfg(test)]
 mod run;
 #[cfg(test)]
+mod sets_and_uses;
+#[cfg(test)]
 mod sixty_five_offers;
 #[cfg(test)]
 mod texts;
+#[cfg(test)]
+mod users;
+#[cfg(test)]
+mod worked;

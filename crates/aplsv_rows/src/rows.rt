@@ -1,11 +1,9 @@
-use crate::run::{Device, SOUND, run_twice};
+use crate::run::{Device, REPLAY, SOUND, run_twice};
 use crate::sixty_five_offers::{SIXTY_FIVE_OFFERS, SIXTY_FIVE_OFFERS_OUTPUT};
 use crate::texts::*;
 use apl_arrays::WantOfMemory;
 use aplsv_top::{BundleRule, Status};
 use std::process::Abort;
-
-const REPLAY: &str = "--replay";
 
 // Bundles, and the whole output of each.
 const RUNS: [(&str, &str); 6] = [

@@ -3,6 +3,9 @@ use apl_io::{CallNumbers, MemorySink, MemorySource};
 use aplsv_top::{Status, aplsv_replay_words};
 use std::alloc::Global;
 
+/// The words of every run that is to be made.
+pub const REPLAY: &str = "--replay";
+
 /// How much a call of a device gives or takes at most, and the number of the call that fails; 0 where none does.
 #[derive(Clone, Copy)]
 pub struct Device {
@@ -17,7 +20,7 @@ pub const SOUND: Device = Device {
 };
 
 /// What a sink in memory has room for.
-const ROOM: usize = 65_536;
+const ROOM: usize = 1_048_576;
 
 /// How a run ended, and what was written.
 #[derive(Debug, Drop)]
