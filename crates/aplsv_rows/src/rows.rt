@@ -5,6 +5,9 @@ use apl_arrays::WantOfMemory;
 use aplsv_top::{BundleRule, Status};
 use std::process::Abort;
 
+// A device that fails at its first call.
+const FAILING: Device = Device { piece: 1, fails: 1 };
+
 // Bundles, and the whole output of each.
 const RUNS: [(&str, &str); 6] = [
     (PLAIN_PATH, PLAIN_PATH_OUTPUT),
@@ -106,13 +109,53 @@ fn every_prefix_of_a_bundle_is_answered(rt: HostRuntime) -> Result<(), WantOfMem
     Ok(())
 }
 
-// How source and sink work on the bundle of two users, and how the run ends.
-const DEVICES: [(Device, Device, Status); 5] = [
+// How source and sink work on the bundle of two users, which has 75 bytes and an output of 298, and how the run ends.
+const DEVICES: [(Device, Device, Status); 10] = [
     (Device { piece: 1, fails: 0 }, SOUND, Status::Done),
     (SOUND, Device { piece: 1, fails: 0 }, Status::Done),
     (Device { piece: 9, fails: 1 }, SOUND, Status::ReadFault),
     (Device { piece: 4, fails: 2 }, SOUND, Status::ReadFault),
+    (
+        Device {
+            piece: 1,
+            fails: 76,
+        },
+        SOUND,
+        Status::ReadFault,
+    ),
+    (
+        Device {
+            piece: 1,
+            fails: 77,
+        },
+        SOUND,
+        Status::Done,
+    ),
+    (
+        Device {
+            piece: 75,
+            fails: 2,
+        },
+        SOUND,
+        Status::ReadFault,
+    ),
     (SOUND, Device { piece: 9, fails: 1 }, Status::WriteFault),
+    (
+        SOUND,
+        Device {
+            piece: 298,
+            fails: 2,
+        },
+        Status::Done,
+    ),
+    (
+        SOUND,
+        Device {
+            piece: 1,
+            fails: 299,
+        },
+        Status::Done,
+    ),
 ];
 
 #[test]
@@ -129,12 +172,103 @@ fn devices_give_and_take_pieces(rt: HostRuntime) -> Result<(), WantOfMemory> {
     Ok(())
 }
 
+// Sinks that fail, and how many bytes of the output of the two users each has taken before.
+const FAILING_SINKS: [(Device, usize); 11] = [
+    (Device { piece: 1, fails: 2 }, 1),
+    (Device { piece: 2, fails: 2 }, 2),
+    (Device { piece: 7, fails: 2 }, 7),
+    (
+        Device {
+            piece: 10,
+            fails: 2,
+        },
+        10,
+    ),
+    (
+        Device {
+            piece: 19,
+            fails: 2,
+        },
+        19,
+    ),
+    (
+        Device {
+            piece: 64,
+            fails: 2,
+        },
+        64,
+    ),
+    (
+        Device {
+            piece: 100,
+            fails: 2,
+        },
+        100,
+    ),
+    (
+        Device {
+            piece: 297,
+            fails: 2,
+        },
+        297,
+    ),
+    (Device { piece: 7, fails: 3 }, 14),
+    (
+        Device {
+            piece: 13,
+            fails: 5,
+        },
+        52,
+    ),
+    (
+        Device {
+            piece: 1,
+            fails: 298,
+        },
+        297,
+    ),
+];
+
 #[test]
 fn a_sink_that_fails_keeps_what_it_took(rt: HostRuntime) -> Result<(), WantOfMemory> {
+    let whole = PLAIN_PATH_OUTPUT.as_bytes();
+    for (failing, taken) in FAILING_SINKS {
+        let ended = run_twice(rt.alloc(), REPLAY, PLAIN_PATH.as_bytes(), SOUND, failing)?;
+        assert_eq!(rt; ended.status, Status::WriteFault);
+        assert_eq!(rt; ended.written.as_slice().len(), taken);
+        assert_eq!(rt; ended.written.as_slice(), &whole[..taken.min(whole.len())]);
+    }
     let failing = Device { piece: 7, fails: 2 };
     let ended = run_twice(rt.alloc(), REPLAY, EMPTY.as_bytes(), SOUND, failing)?;
     assert_eq!(rt; ended.status, Status::WriteFault);
     assert_eq!(rt; ended.written.as_slice(), b"journal".as_slice());
+    Ok(())
+}
+
+// Where several things are wrong the first in this order is told: words, source, bundle, sink.
+const FAULTS: [(&str, &[u8], Device, Device, Status); 4] = [
+    ("", b"en\n", FAILING, FAILING, Status::Usage),
+    (REPLAY, b"en\n", FAILING, FAILING, Status::ReadFault),
+    (
+        REPLAY,
+        b"en\n",
+        SOUND,
+        FAILING,
+        Status::Malformed {
+            offset: 0,
+            rule: BundleRule::Form,
+        },
+    ),
+    (REPLAY, b"end\n", SOUND, FAILING, Status::WriteFault),
+];
+
+#[test]
+fn the_first_fault_is_told(rt: HostRuntime) -> Result<(), WantOfMemory> {
+    for (words, bytes, input, output, status) in FAULTS {
+        let ended = run_twice(rt.alloc(), words, bytes, input, output)?;
+        assert_eq!(rt; ended.status, status);
+        assert!(rt; ended.written.as_slice().is_empty());
+    }
     Ok(())
 }
 

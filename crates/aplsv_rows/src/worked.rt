@@ -19,7 +19,13 @@ pub struct Worked {
     pub output: &'static str,
 }
 
-fn prints(rt: &impl Abort, alloc: Global, bundle: &str, output: &str) -> Result<(), WantOfMemory> {
+/// The bundle is run, and the whole output is this one.
+pub fn prints(
+    rt: &impl Abort,
+    alloc: Global,
+    bundle: &str,
+    output: &str,
+) -> Result<(), WantOfMemory> {
     let ended = run_twice(alloc, REPLAY, bundle.as_bytes(), SOUND, SOUND)?;
     assert_eq!(rt; ended.status, Status::Done, "for {bundle}");
     assert_eq!(rt; ended.written.as_slice(), output.as_bytes(), "for {bundle}");
