@@ -331,7 +331,7 @@ end
 ",
 };
 
-// The first value is the younger side's to know only once it has asked for it.
+// The value that the variable begins with goes with its user, unless the other side has asked for it.
 const FIRST_VALUE_LEAVES_UNSEEN: Worked = Worked {
     bundle: "\
 user 1001

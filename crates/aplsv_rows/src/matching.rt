@@ -286,7 +286,7 @@ end
 ",
 };
 
-// The least and the greatest number of a user are not the only ones.
+// Two users with other numbers, and a negative value.
 const OTHER_USERS: Worked = Worked {
     bundle: "\
 user 1500

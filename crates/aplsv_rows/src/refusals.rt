@@ -18,8 +18,12 @@ pub fn is_refused(
     rule: BundleRule,
 ) -> Result<(), WantOfMemory> {
     let ended = run_twice(alloc, REPLAY, bytes, SOUND, SOUND)?;
-    assert_eq!(rt; ended.status, Status::Malformed { offset, rule });
-    assert!(rt; ended.written.as_slice().is_empty());
+    assert_eq!(rt;
+        ended.status,
+        Status::Malformed { offset, rule },
+        "for {bytes:?}"
+    );
+    assert!(rt; ended.written.as_slice().is_empty(), "for {bytes:?}");
     Ok(())
 }
 
