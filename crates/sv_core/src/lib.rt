@@ -5,6 +5,8 @@ mod processor;
 mod room;
 #[cfg(test)]
 mod samples;
+#[cfg(test)]
+mod shown;
 mod table;
 #[cfg(test)]
 mod tests;

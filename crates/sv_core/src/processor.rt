@@ -15,18 +15,9 @@ use std::alloc::Global;
 use std::marker::Model;
 use sv_events::{Act, Answer, Entry, Journal, PairList};
 use sv_rules::{
-    Standing, coupling_at, degree_at, elements_asked, elements_told, has_left, known_value,
-    last_value, offer_count, open_match, own_offer, pair_of,
+    ENTRY_LIMIT, HELD_LIMIT, OFFER_LIMIT, Standing, coupling_at, degree_at, elements_asked,
+    elements_told, has_left, known_value, last_value, offer_count, open_match, own_offer, pair_of,
 };
-
-/// How many entries other than leaves the journal takes.
-const ENTRY_LIMIT: u64 = 200_000;
-
-/// How many standing offers a party may have.
-const OFFER_LIMIT: usize = 64;
-
-/// How many elements its acts and answers may hold before it is full.
-const ELEMENT_LIMIT: u64 = 4_194_304;
 
 /// The processor of some users: it has the journal, in which each entry may follow those before it.
 #[derive(Drop)]
@@ -35,7 +26,7 @@ pub struct Core {
     users: Vec<u32>,
     journal: Journal,
     table: Table,
-    counted: u64,
+    counted: usize,
     elements: u64,
 }
 
@@ -81,7 +72,7 @@ impl Core {
     pub fn is_full(&self) -> bool
         ensures { result ≡ is_full self.now.journal }
     {
-        self.counted >= ENTRY_LIMIT || self.elements >= ELEMENT_LIMIT
+        self.counted >= ENTRY_LIMIT || self.elements >= HELD_LIMIT
     }
 
     /// The entries, oldest first. No memory.
@@ -253,7 +244,7 @@ impl Core {
 
     // Whether the party has as many standing offers as it may.
     fn is_at_limit(&self, party: u32) -> bool
-        ensures { result ≡ nat_le 64 (offer_count (standing self.now.journal) party) }
+        ensures { result ≡ nat_le OFFER_LIMIT (offer_count (standing self.now.journal) party) }
     {
         offer_count(&self.table.offers, party) >= OFFER_LIMIT
     }

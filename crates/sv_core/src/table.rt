@@ -1,4 +1,4 @@
-ghost use Rattle.std.specs.Prelude.{◌≡◌, ◌+◌, ◌*◌, ◌<◌, ◌≤◌, [], ◌∷◌, ◌++◌, ℕ, All, IfOk, OnOk, IfSome, length, map, vec_len, vec_capacity};
+ghost use Rattle.std.specs.Prelude.{◌≡◌, ◌+◌, ◌*◌, ◌^◌, ◌<◌, ◌≤◌, [], ◌∷◌, ◌++◌, ℕ, All, IfOk, OnOk, SomeIff, length, map, vec_len, vec_capacity};
 ghost use Rattle.sv_rules.specs.Standing.{without_party};
 ghost use Rattle.sv_rules.specs.Coupling.{made_by_leave, couplings_among};
 ghost use Rattle.sv_core.specs.Core.{IsSpare, made_at};
@@ -102,9 +102,10 @@ impl Table {
     }
 }
 
-/// The room for so many pairs now, and for as many as there are offers at each user's leave.
+/// The room for so many pairs now, and for as many as there are offers at each user's leave, or `None` where it
+/// passes 64 bits.
 fn coupling_room(users: usize, offers: usize, made: usize) -> Option<usize>
-    ensures { IfSome result (λ room. room ≡ users * offers + made) }
+    ensures { SomeIff result (users * offers + made < 2 ^ 64) (users * offers + made) }
 {
     users.checked_mul(offers)?.checked_add(made)
 }

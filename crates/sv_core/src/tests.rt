@@ -3,6 +3,7 @@ ghost use Rattle.sv_rules.specs.Legal.{is_user};
 
 use crate::Core;
 use crate::samples::{Asked, BAD_SAMPLE, Told, act_of, entry_of};
+use crate::shown::{Shown, shown_by};
 use apl_arrays::{GlyphRefused, WantOfMemory};
 use std::alloc::Global;
 use std::process::Abort;
@@ -152,7 +153,14 @@ fn answer_to(
     }
 }
 
-// The same, asked once more where memory failed it: then the journal is as long as before.
+fn shown_at_last(alloc: Global, core: &Core, users: &[u32]) -> Result<Shown, WantOfMemory> {
+    match shown_by(alloc, core, users) {
+        Err(WantOfMemory) => shown_by(alloc, core, users),
+        outcome => outcome,
+    }
+}
+
+// The same, asked once more where memory failed it: then the core shows what it showed before.
 fn answer_at_last(
     rt: &impl Abort,
     alloc: Global,
@@ -163,10 +171,10 @@ fn answer_at_last(
     requires { IsTrue (is_user core.old.users party) }
     ensures users { core.new.users ≡ core.old.users }
 {
-    let before = core.journal().len();
+    let before = shown_at_last(alloc, core, &USERS)?;
     match answer_to(alloc, core, party, asked) {
         Err(GlyphRefused::WantOfMemory) => {
-            assert_eq!(rt; core.journal().len(), before);
+            assert_eq!(rt; shown_at_last(alloc, core, &USERS)?, before);
             answer_to(alloc, core, party, asked)
         }
         outcome => outcome,
