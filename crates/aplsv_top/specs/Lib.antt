@@ -5,10 +5,16 @@ pub mod Draft
 pub mod EntryText
 pub mod NumberText
 pub mod Output
+pub mod PlainSession
 pub mod Printable
+pub mod Progress
 pub mod Refused
+pub mod Run
+pub mod RunLaws
+pub mod Session
 pub mod Statement
 pub mod Transcripts
+pub mod Turns
 pub mod User
 pub mod ValueText
 pub mod Wants
