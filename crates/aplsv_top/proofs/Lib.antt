@@ -1,6 +1,7 @@
 pub mod Ascents
 pub mod Decimals
 pub mod Drafts
+pub mod Evaluating
 pub mod Every
 pub mod GlyphTexts
 pub mod Headings
@@ -8,10 +9,13 @@ pub mod Lines
 pub mod Numbered
 pub mod OneWord
 pub mod Reading
+pub mod Reports
+pub mod Rounds
 pub mod SameEntries
 pub mod SameNumbers
 pub mod SameOutput
 pub mod SameValues
+pub mod Sessions
 pub mod Spaced
 pub mod Spans
 pub mod Texts

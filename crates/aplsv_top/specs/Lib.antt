@@ -3,6 +3,7 @@ pub mod Bundle
 pub mod BundleLine
 pub mod Draft
 pub mod EntryText
+pub mod Headline
 pub mod NumberText
 pub mod Output
 pub mod PlainSession

@@ -2,7 +2,8 @@
 use Rattle.std.specs.Prelude.{◌≡◌, List, [], ◌∷◌, ◌++◌, drop, Option, Some, None, IsSome, ℕ}
 use Rattle.sv_events.specs.Answer.{PlainAnswer}
 use Rattle.sv_events.specs.declared.event.Act.{Act}
-use Rattle.aplsv_top.specs.Session.{Effect, Evaluated, echo, quiet, session, evaluated}
+use Rattle.aplsv_top.specs.Workspace.{Names}
+use Rattle.aplsv_top.specs.Session.{Effect, Evaluated, echo, asked_by, quiet, session, evaluated}
 use Rattle.aplsv_top.specs.PlainSession.{PlainEvaluation}
 use Rattle.aplsv_top.specs.declared.progress.Progress.{Progress}
 use Rattle.aplsv_top.specs.declared.session.Stage.{Stage}
@@ -27,9 +28,14 @@ ahead lines progress answers =
 abbrev pub behind_acts : List Act → Evaluated → Evaluated
 behind_acts acts others = record others { acts = acts ++ others.acts }
 
--- the act that waits at the line that is next
+-- the act that the first of the lines asks, if it asks one
+abbrev pub first_asked : List (List ℕ) → Names → Option Act
+first_asked [] names = None
+first_asked (line ∷ lines) names = asked_by names line
+
+-- the act that the line asks that is next
 abbrev pub open_at : List (List ℕ) → Progress → Option Act
-open_at lines progress = (session (drop progress.done lines) progress.evaluation.names []).open
+open_at lines progress = first_asked (drop progress.done lines) progress.evaluation.names
 
 -- the lines with these answers are evaluated so far: whatever answers follow, what comes of them is what was done and
 -- what lies ahead
