@@ -11,13 +11,16 @@ use Rattle.aplsv_top.specs.Workspace.{Names, copy_of, is_shared}
 use Rattle.aplsv_top.specs.declared.statement.Statement.{Statement}
 use Rattle.aplsv_top.specs.declared.statement.Statement.TheVariants.{Assign, Offer, Reference}
 
--- how so many lines take answers, on any names: without answers no act is answered; the act that waits takes the next
--- answer; there are fewer answers than lines where an act waits; and that act is no leave
+-- how so many lines take answers, on any names
 pub record TakesAnswers (count : ℕ) (evaluate : Names → List PlainAnswer → Evaluated) : Type 0 where
+  -- without answers no act is answered
   pub none : (names : Names) → (evaluate names []).acts ≡ []
+  -- the act that waits takes the next answer
   pub next : (names : Names) (answers : List PlainAnswer) (answer : PlainAnswer) (asked : Act) → (evaluate names answers).waits ≡ Some asked →
-    (evaluate names (answers ++ answer ∷ [])).acts ≡ (evaluate names answers).acts ++ asked ∷ []
+      (evaluate names (answers ++ answer ∷ [])).acts ≡ (evaluate names answers).acts ++ asked ∷ []
+  -- where an act waits there are fewer answers than lines
   pub few : (names : Names) (answers : List PlainAnswer) (asked : Act) → (evaluate names answers).waits ≡ Some asked → length answers < count
+  -- the act that waits is no leave
   pub stays : (names : Names) (answers : List PlainAnswer) (asked : Act) → (evaluate names answers).waits ≡ Some asked → is_leave asked ≡ false
 
 -- an act that is asked only at a test is the one asked there

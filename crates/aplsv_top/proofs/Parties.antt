@@ -1,5 +1,5 @@
 -- What one more entry changes for a party.
-use Rattle.std.proofs.Common.{◌≡◌, ◌≢◌, ℕ, ◌+◌, ◌≤◌, ◌&&◌, ◌||◌, Bool, true, false, not, cond, eqb, leb, List, [], ◌∷◌, ◌++◌, map, count_by, sum_by, IsTrue, if◌then◌else◌, refl, sym, ap, ◌∙◌, subst, inl, inr, arith}
+use Rattle.std.proofs.Common.{◌≡◌, ◌≢◌, ℕ, ◌+◌, ◌≤◌, ◌&&◌, ◌||◌, Bool, true, false, not, cond, leb, List, ◌∷◌, ◌++◌, map, IsTrue, if◌then◌else◌, sym, ap, ◌∙◌, subst, inl, inr, arith}
 use Rattle.std.proofs.lemmas.Bool.{eq-eqb, ne_eqb, or_cases, or_left, or_right, leb-true, le-leb}
 use Rattle.std.proofs.lemmas.List.Sums.{sum_by-cons}
 use Rattle.std.specs.Prelude.{None}
@@ -72,5 +72,5 @@ other_changes_no_part journal user transcript e h other = record {
   refused = h.refused;
   at_limit = λ some. ap is_full (other_before_leave e journal user.number other) ∙ h.at_limit some;
   alone = subst (λ (entries : Entries). let whole : Evaluated = record { transcript = transcript; acts = acts_in entries ++ h.refused; waits = None } in
-    evaluated user.lines (answers_in entries ++ map (λ act. full) h.refused) ≡ whole) (sym (other_is_none_of e journal user.number other)) h.alone;
+      evaluated user.lines (answers_in entries ++ map (λ act. full) h.refused) ≡ whole) (sym (other_is_none_of e journal user.number other)) h.alone;
 }

@@ -1,8 +1,7 @@
 -- What so many rounds come to.
-use Rattle.std.proofs.Common.{◌≡◌, ◌≢◌, ℕ, zero, suc, ◌<◌, ◌≤◌, Bool, true, false, List, [], ◌∷◌, ◌++◌, length, map, Option, Some, None, IsTrue, refl, sym, ap, ap₂, ◌∙◌, subst, lt_trans, zero-le, arith}
+use Rattle.std.proofs.Common.{◌≡◌, ◌≢◌, ℕ, zero, suc, ◌<◌, Bool, true, false, List, [], ◌∷◌, ◌++◌, length, map, Option, Some, None, IsTrue, refl, sym, ap, ap₂, ◌∙◌, subst, lt_trans, zero-le, arith}
 use Rattle.std.specs.List.{All, AllByRecursion}
 use Rattle.std.proofs.lemmas.List.Elements.{All-from_recursion, recursion_from_All}
-use Rattle.sv_events.specs.Answer.{full}
 use Rattle.sv_events.specs.declared.event.Act.{Act}
 use Rattle.sv_rules.specs.Entries.{Entries, has_left}
 use Rattle.aplsv_top.specs.Bundle.{PlainBundle}
@@ -10,7 +9,7 @@ use Rattle.aplsv_top.specs.User.{PlainUser, IsAscending}
 use Rattle.aplsv_top.specs.Session.{Evaluated, evaluated}
 use Rattle.aplsv_top.specs.PlainSession.{PlainSession}
 use Rattle.aplsv_top.specs.Turns.{Replay, turn_by, turn, round, rounds, new_session, beginning}
-use Rattle.aplsv_top.specs.Run.{entries_of, acts_in, answers_in, IsPart, AreParts}
+use Rattle.aplsv_top.specs.Run.{entries_of, acts_in, IsPart, AreParts}
 use Rattle.aplsv_top.specs.RunLaws.{transcript_of, IsOver}
 use Rattle.aplsv_top.specs.declared.session.Stage.TheVariants.{Ended}
 use Rattle.aplsv_top.proofs.Answering.{lines_take_answers}
@@ -74,10 +73,11 @@ round_goes_on : (count : ℕ) (journal : Entries) (sessions : List PlainSession)
     AllByRecursion (IsAfter (suc count) (round journal sessions).journal) (round journal sessions).sessions
 round_goes_on count journal [] others h = tt
 round_goes_on count journal (session ∷ sessions) others h =
-    let same : (turn journal session).session.user ≡ session.user = ap (λ (user : PlainUser). user.number) (same_owner journal session) in
-    (others_turns (suc count) (turn journal session).journal sessions (turn journal session).session
-      (subst (λ number. IsNoneOf number (map owner sessions)) (sym same) others.0) (own_turn count journal session h.0),
-    round_goes_on count (turn journal session).journal sessions others.1 (turn_of_one count journal session sessions others.0 h.1))
+    let same : (turn journal session).session.user ≡ session.user = ap (λ (user : PlainUser). user.number) (same_owner journal session) in (
+      others_turns (suc count) (turn journal session).journal sessions (turn journal session).session
+          (subst (λ number. IsNoneOf number (map owner sessions)) (sym same) others.0) (own_turn count journal session h.0),
+      round_goes_on count (turn journal session).journal sessions others.1 (turn_of_one count journal session sessions others.0 h.1),
+    )
 
 -- new sessions are those of their users
 new_owners : (users : List PlainUser) → map owner (map new_session users) ≡ users

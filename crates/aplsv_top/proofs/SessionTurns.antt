@@ -1,5 +1,5 @@
 -- Where a session is between rounds, and what the turns of its user and of others change.
-use Rattle.std.proofs.Common.{◌≡◌, ◌≢◌, ℕ, suc, ◌+◌, ◌<◌, ◌≤◌, Bool, true, false, List, [], ◌∷◌, ◌++◌, length, map, Option, Some, None, IsTrue, IsFalse, if◌then◌else◌, refl, sym, ap, ◌∙◌, subst, subst₂, append_assoc, append-nil, length-append, arith}
+use Rattle.std.proofs.Common.{◌≡◌, ◌≢◌, ℕ, suc, ◌≤◌, Bool, true, false, List, [], ◌∷◌, ◌++◌, length, map, Option, Some, None, IsTrue, IsFalse, if◌then◌else◌, refl, sym, ap, ◌∙◌, subst, subst₂, append_assoc, append-nil, length-append, arith}
 use Rattle.std.proofs.lemmas.Bool.{both_ways}
 use Rattle.std.proofs.lemmas.List.{map-append, reverse-append}
 use Rattle.sv_events.specs.Answer.{PlainAnswer, full}
@@ -26,9 +26,9 @@ pub record IsAnswered (reached entries : Entries) (lines : List (List ℕ)) (ans
 -- a session after so many rounds: its user has made an act in each, or has left
 pub data IsAfter (count : ℕ) (journal : Entries) (session : PlainSession) : Type 0 where
   present : IsFalse (has_left journal session.user) → length session.answers ≡ count → count ≤ length session.lines →
-    IsAnswered journal (entries_of journal session.user) session.lines session.answers → IsAfter count journal session
+      IsAnswered journal (entries_of journal session.user) session.lines session.answers → IsAfter count journal session
   gone : IsTrue (has_left journal session.user) → session.stage ≡ Ended → (evaluated session.lines session.answers).waits ≡ None →
-    IsAnswered (before_leave journal session.user) (entries_of journal session.user) session.lines session.answers → IsAfter count journal session
+      IsAnswered (before_leave journal session.user) (entries_of journal session.user) session.lines session.answers → IsAfter count journal session
 
 -- a full journal refuses one act more
 refused_again : (journal entries : Entries) (lines : List (List ℕ)) (answers : List PlainAnswer) (asked : Act) → IsTrue (is_full journal) → (evaluated lines answers).waits ≡ Some asked →
@@ -36,12 +36,12 @@ refused_again : (journal entries : Entries) (lines : List (List ℕ)) (answers :
 refused_again journal entries lines answers asked at_limit waits h = record {
   refused = h.refused ++ asked ∷ [];
   given =
-    ap (λ given. given ++ full ∷ []) h.given
-    ∙ (append_assoc (answers_in entries) (map (λ (act : Act). full) h.refused) (full ∷ [])
-    ∙ ap (λ more. answers_in entries ++ more) (sym (map-append (λ (act : Act). full) h.refused (asked ∷ []))));
+      ap (λ given. given ++ full ∷ []) h.given
+      ∙ (append_assoc (answers_in entries) (map (λ (act : Act). full) h.refused) (full ∷ [])
+      ∙ ap (λ more. answers_in entries ++ more) (sym (map-append (λ (act : Act). full) h.refused (asked ∷ []))));
   asked =
-    (lines_take_answers lines).next [] answers full asked waits
-    ∙ (ap (λ acts. acts ++ asked ∷ []) h.asked ∙ append_assoc (acts_in entries) h.refused (asked ∷ []));
+      (lines_take_answers lines).next [] answers full asked waits
+      ∙ (ap (λ acts. acts ++ asked ∷ []) h.asked ∙ append_assoc (acts_in entries) h.refused (asked ∷ []));
   at_limit = λ some. at_limit;
 }
 
@@ -60,12 +60,12 @@ entry_taken journal entries lines answers e room waits h =
     record {
       refused = [];
       given =
-        ap (λ before. before ++ e.answer ∷ []) given
-        ∙ (sym (reverse-append (e.answer ∷ []) (map (λ (o : PlainEntry). o.answer) entries)) ∙ sym (append-nil (answers_in (e ∷ entries))));
+          ap (λ before. before ++ e.answer ∷ []) given
+          ∙ (sym (reverse-append (e.answer ∷ []) (map (λ (o : PlainEntry). o.answer) entries)) ∙ sym (append-nil (answers_in (e ∷ entries))));
       asked =
-        (lines_take_answers lines).next [] answers e.answer e.act waits
-        ∙ (ap (λ before. before ++ e.act ∷ []) asked
-        ∙ (sym (reverse-append (e.act ∷ []) (map (λ (o : PlainEntry). o.act) entries)) ∙ sym (append-nil (acts_in (e ∷ entries)))));
+          (lines_take_answers lines).next [] answers e.answer e.act waits
+          ∙ (ap (λ before. before ++ e.act ∷ []) asked
+          ∙ (sym (reverse-append (e.act ∷ []) (map (λ (o : PlainEntry). o.act) entries)) ∙ sym (append-nil (acts_in (e ∷ entries)))));
       at_limit = λ some. absurd (some refl);
     }
 

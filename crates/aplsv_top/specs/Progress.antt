@@ -29,7 +29,7 @@ behind_acts acts others = record others { acts = acts ++ others.acts }
 
 -- the act that waits at the line that is next
 abbrev pub open_at : List (List ℕ) → Progress → Option Act
-open_at lines progress = (session (drop progress.done lines) progress.evaluation.names []).waits
+open_at lines progress = (session (drop progress.done lines) progress.evaluation.names []).open
 
 -- the lines with these answers are evaluated so far: whatever answers follow, what comes of them is what was done and
 -- what lies ahead

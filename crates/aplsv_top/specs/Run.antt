@@ -34,7 +34,7 @@ pub record IsPart (journal : Entries) (user : PlainUser) (transcript : List (Lis
   pub refused : List Act
   pub at_limit : refused ≢ [] → IsTrue (is_full (before_leave journal user.number))
   pub alone : evaluated user.lines (answers_in (entries_of journal user.number) ++ map (λ act. full) refused)
-    ≡ record { transcript = transcript; acts = acts_in (entries_of journal user.number) ++ refused; waits = None }
+      ≡ record { transcript = transcript; acts = acts_in (entries_of journal user.number) ++ refused; waits = None }
 
 -- each user has its part, and its transcript stands at its place
 abbrev pub AreParts : Entries → List PlainUser → List PlainTranscript → Type 0
