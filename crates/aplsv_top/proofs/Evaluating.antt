@@ -35,14 +35,14 @@ advanced lines answers before now stage None so_far same asks over = record {
 }
 
 -- the act that waits is the one that is asked
-open_there : (rest : List (List ℕ)) (progress : Progress) (asked : Option Act) (lines : List (List ℕ)) → rest ≡ drop progress.done lines → asked ≡ open_at lines progress → (asked ≡ None → length lines ≤ progress.done) → (session rest progress.evaluation.names []).open ≡ asked
+open_there : (rest : List (List ℕ)) (progress : Progress) (asked : Option Act) (lines : List (List ℕ)) → rest ≡ drop progress.done lines → asked ≡ open_at lines progress → (asked ≡ None → length lines ≤ progress.done) → (session rest progress.evaluation.names []).waits ≡ asked
 open_there rest progress (Some act) lines is asks over = first_waits rest progress.evaluation.names act (ap (λ some. first_asked some progress.evaluation.names) is ∙ sym asks)
-open_there rest progress None lines is asks over = ap (λ some. (session some progress.evaluation.names []).open) (is ∙ drop_all progress.done lines (over refl))
+open_there rest progress None lines is asks over = ap (λ some. (session some progress.evaluation.names []).waits) (is ∙ drop_all progress.done lines (over refl))
 
-pub opens : (lines : List (List ℕ)) (answers : List PlainAnswer) (progress : Progress) (stage : Stage) (asked : Option Act) → IsEvaluated lines answers progress stage → asked ≡ open_at lines progress → (asked ≡ None → length lines ≤ progress.done) → (evaluated lines answers).open ≡ asked
+pub opens : (lines : List (List ℕ)) (answers : List PlainAnswer) (progress : Progress) (stage : Stage) (asked : Option Act) → IsEvaluated lines answers progress stage → asked ≡ open_at lines progress → (asked ≡ None → length lines ≤ progress.done) → (evaluated lines answers).waits ≡ asked
 opens lines answers progress stage asked so_far asks over =
-    ap (λ given. (evaluated lines given).open) (sym (append-nil answers))
-    ∙ (ap (λ all. all.open) (so_far.so_far []) ∙ open_there (drop progress.done lines) progress asked lines refl asks over)
+    ap (λ given. (evaluated lines given).waits) (sym (append-nil answers))
+    ∙ (ap (λ all. all.waits) (so_far.so_far []) ∙ open_there (drop progress.done lines) progress asked lines refl asks over)
 
 -- with an answer more
 pub told_more : (lines : List (List ℕ)) (answers : List PlainAnswer) (before now : Progress) (stage : Stage) (asked : Act) (answer : PlainAnswer) → IsEvaluated lines answers before stage → ((further : List PlainAnswer) → ahead lines before (answer ∷ further) ≡ after_act asked (ahead lines now further))

@@ -1,3 +1,4 @@
+pub mod Answering
 pub mod Ascents
 pub mod Decimals
 pub mod Drafts
@@ -8,13 +9,16 @@ pub mod Headings
 pub mod Lines
 pub mod Numbered
 pub mod OneWord
+pub mod Parties
 pub mod Reading
 pub mod Reports
 pub mod Rounds
+pub mod RunEnds
 pub mod SameEntries
 pub mod SameNumbers
 pub mod SameOutput
 pub mod SameValues
+pub mod SessionTurns
 pub mod Sessions
 pub mod Spaced
 pub mod Spans

@@ -39,9 +39,9 @@ told_step line rest before now asked answer further some is =
     ∙ sym (ap (λ others. after_act asked others) (ap (λ e. ahead_of rest e further) is ∙ line_behind before line rest (told before.names line answer) further))
 
 -- an act that the first line asks waits for its answer
-pub first_waits : (lines : List (List ℕ)) (names : Names) (asked : Act) → first_asked lines names ≡ Some asked → (session lines names []).open ≡ Some asked
+pub first_waits : (lines : List (List ℕ)) (names : Names) (asked : Act) → first_asked lines names ≡ Some asked → (session lines names []).waits ≡ Some asked
 first_waits [] names asked e = absurd cc
-first_waits (line ∷ lines) names asked e = ap (λ act. (by_act (session lines) names line act []).open) e
+first_waits (line ∷ lines) names asked e = ap (λ act. (by_act (session lines) names line act []).waits) e
 
 -- an act of a user that stays
 abbrev pub Stays : Act → Type 0

@@ -32,9 +32,9 @@ before_leave (e ∷ journal) party = if e.party == party && is_leave e.act then 
 pub record IsPart (journal : Entries) (user : PlainUser) (transcript : List (List ℕ)) : Type 0 where
   pub left : IsTrue (has_left journal user.number)
   pub refused : List Act
-  pub full : refused ≢ [] → IsTrue (is_full (before_leave journal user.number))
+  pub at_limit : refused ≢ [] → IsTrue (is_full (before_leave journal user.number))
   pub alone : evaluated user.lines (answers_in (entries_of journal user.number) ++ map (λ act. full) refused)
-    ≡ record { transcript = transcript; acts = acts_in (entries_of journal user.number) ++ refused; open = None }
+      ≡ record { transcript = transcript; acts = acts_in (entries_of journal user.number) ++ refused; waits = None }
 
 -- each user has its part, and its transcript stands at its place
 abbrev pub AreParts : Entries → List PlainUser → List PlainTranscript → Type 0

@@ -1,5 +1,5 @@
 -- What a user's lines do: what is printed, and which acts are asked, given the answers to those asked before.
-use Rattle.std.specs.Prelude.{ℕ, ℤ, pos, List, [], ◌∷◌, ◌++◌, replicate, Option, Some, None, option_and_then, if◌then◌else◌}
+use Rattle.std.specs.Prelude.{ℕ, pos, List, [], ◌∷◌, ◌++◌, replicate, Option, Some, None, option_and_then, if◌then◌else◌}
 use Rattle.apl_arrays.specs.Array.{PlainArray, scalar}
 use Rattle.apl_arrays.specs.Report.{report_text}
 use Rattle.apl_arrays.specs.declared.report.Report.{Report}
@@ -109,23 +109,23 @@ told names line answer = told_by names line answer (statement_in line)
 pub record Evaluated : Type 0 where
   pub transcript : List (List ℕ)
   pub acts : List Act
-  pub open : Option Act
+  pub waits : Option Act
 
 -- nothing comes of no lines
 abbrev pub nothing_left : Evaluated
-nothing_left = record { transcript = []; acts = []; open = None }
+nothing_left = record { transcript = []; acts = []; waits = None }
 
 -- an act waits for its answer
 abbrev pub waiting : Act → Evaluated
-waiting asked = record { transcript = []; acts = []; open = Some asked }
+waiting asked = record { transcript = []; acts = []; waits = Some asked }
 
 -- a line and what it printed, and then the others
 abbrev pub after_line : List ℕ → List (List ℕ) → Evaluated → Evaluated
-after_line line printed others = record { transcript = echo line ∷ (printed ++ others.transcript); acts = others.acts; open = others.open }
+after_line line printed others = record { transcript = echo line ∷ (printed ++ others.transcript); acts = others.acts; waits = others.waits }
 
 -- an act that was answered, and then the others
 abbrev pub after_act : Act → Evaluated → Evaluated
-after_act asked others = record { transcript = others.transcript; acts = asked ∷ others.acts; open = others.open }
+after_act asked others = record { transcript = others.transcript; acts = asked ∷ others.acts; waits = others.waits }
 
 -- a line and its effect, and then the others on the names that it leaves
 abbrev pub onward : (Names → List PlainAnswer → Evaluated) → List ℕ → Effect → List PlainAnswer → Evaluated

@@ -22,7 +22,7 @@ pub record Turn : Type 0 where
 
 -- a user that has left does nothing; one whose session is finished leaves; another makes its next act
 abbrev pub turn_by : Bool → Option Act → Entries → PlainSession → Turn
-turn_by true open journal session = record { journal = journal; session = session }
+turn_by true waits journal session = record { journal = journal; session = session }
 turn_by false None journal session = record {
   journal = entry_for journal session.user Leave ∷ journal;
   session = record session { stage = Ended };
@@ -34,7 +34,7 @@ turn_by false (Some act) journal session = record {
 
 -- the turn of a session's user
 abbrev pub turn : Entries → PlainSession → Turn
-turn journal session = turn_by (has_left journal session.user) (evaluated session.lines session.answers).open journal session
+turn journal session = turn_by (has_left journal session.user) (evaluated session.lines session.answers).waits journal session
 
 -- a turn for each session, in their order
 abbrev pub round : Entries → List PlainSession → Replay

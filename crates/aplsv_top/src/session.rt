@@ -84,7 +84,7 @@ impl Session {
 
     /// Goes on to the next act, or to the end of the lines. A session that met want of memory answers it for good.
     pub fn next(&mut self) -> Result<Wants, WantOfMemory>
-        ensures asks { IfOk result (λ wants. wanted wants ≡ (evaluated self.old.lines self.old.answers).open) }
+        ensures asks { IfOk result (λ wants. wanted wants ≡ (evaluated self.old.lines self.old.answers).waits) }
         ensures stage { IfOk result (λ wants. self.new ≡ record self.old { stage = stage_by (wanted wants) }) }
         ensures present { IfOk result IsOfPresent }
         ensures err { OnErr result (self.new ≡ record self.old { stage = Stage.Failed }) }
