@@ -7,6 +7,7 @@ pub mod Every
 pub mod GlyphTexts
 pub mod Headings
 pub mod Lines
+pub mod NextLines
 pub mod Numbered
 pub mod OneWord
 pub mod Parties

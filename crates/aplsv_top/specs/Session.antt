@@ -33,16 +33,16 @@ act_of names (Assign name number) = if is_shared names name then Some (act.Set n
 act_of names (Offer to name) = Some (act.Offer to name name (copy_of names name))
 act_of names (Reference name) = if is_shared names name then Some (act.Use name) else None
 
--- a value is printed, where there is one
-abbrev pub looked_up : Names → List ℕ → Option PlainArray → Effect
-looked_up names line None = record { names = names; printed = report_lines Value line }
-looked_up names line (Some found) = record { names = names; printed = display_lines found }
+-- what is printed of a value, or that there is none
+abbrev pub looked_up : List ℕ → Option PlainArray → List (List ℕ)
+looked_up line None = report_lines Value line
+looked_up line (Some found) = display_lines found
 
 -- what a statement does that asks no act
 abbrev pub unasked : Names → List ℕ → Statement → Effect
 unasked names line (Assign name number) = record { names = with_value names name (scalar number); printed = [] }
 unasked names line (Offer to name) = record { names = names; printed = [] }
-unasked names line (Reference name) = looked_up names line (copy_of names name)
+unasked names line (Reference name) = record { names = names; printed = looked_up line (copy_of names name) }
 
 -- the report that an answer is, if it is one
 abbrev pub report_in : PlainAnswer → Option Report

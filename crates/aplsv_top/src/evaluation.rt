@@ -172,7 +172,7 @@ impl Evaluation {
     // Prints the value of a name, or reports that there is none.
     fn look_up(&mut self, name: Name, line: &[Glyph]) -> Result<(), WantOfMemory>
         ensures names { self.new.names ≡ self.old.names }
-        ensures printed { OnOk result (self.new.transcript ≡ self.old.transcript ++ (looked_up self.old.names line.now (copy_of self.old.names name)).printed) }
+        ensures printed { OnOk result (self.new.transcript ≡ self.old.transcript ++ looked_up line.now (copy_of self.old.names name)) }
     {
         match copied(self.alloc, self.names.copy_of(&name))? {
             None => self.report(Report::Value, line),
@@ -213,8 +213,8 @@ impl Evaluation {
         ensures names { self.new.names ≡ self.old.names }
         ensures printed { OnOk result (self.new.transcript ≡ self.old.transcript ++ display_lines value.now) }
     {
-        for line in lines_of(self.alloc, value)?.as_slice() {
-            self.transcript.push(line.copy(self.alloc)?)?;
+        for line in lines_of(self.alloc, value)?.into_vec() {
+            self.transcript.push(line)?;
         }
         Ok(())
     }
@@ -222,7 +222,7 @@ impl Evaluation {
 
 // A copy of a value, where there is one.
 fn copied(alloc: Global, value: Option<&Array>) -> Result<Option<Array>, WantOfMemory>
-    ensures { IfOk result (λ copied. copied ≡ option_copied value) }
+    ensures { IfOk result (λ copied. copied ≡ option_copied value.entry) }
 {
     match value {
         None => Ok(None),

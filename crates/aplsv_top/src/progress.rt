@@ -38,8 +38,7 @@ impl Progress {
         ensures { (asked : AnAct) → open_at (map glyphs_in lines.now) self.old ≡ Some asked → OnOk result ((further : List PlainAnswer) → ahead (map glyphs_in lines.now) self.old (plain_answer answer.now ∷ further) ≡ after_act asked (ahead (map glyphs_in lines.now) self.new further)) }
     {
         if self.done < lines.len() {
-            self.evaluation
-                .tell(lines[self.done].as_slice(), answer)?;
+            self.evaluation.tell(lines[self.done].as_slice(), answer)?;
             self.done += 1;
         }
         Ok(())

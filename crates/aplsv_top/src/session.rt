@@ -119,11 +119,7 @@ impl Session {
             self.stage = Stage::Failed;
             return Err(WantOfMemory);
         }
-        if self
-            .progress
-            .take(self.lines.as_slice(), &answer)
-            .is_err()
-        {
+        if self.progress.take(self.lines.as_slice(), &answer).is_err() {
             discard(answer);
             self.stage = Stage::Failed;
             return Err(WantOfMemory);
