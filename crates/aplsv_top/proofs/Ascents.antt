@@ -6,11 +6,10 @@ use Rattle.aplsv_top.specs.PlainSession.{PlainSession}
 use Rattle.aplsv_top.specs.RunLaws.{transcript_of}
 use Rattle.aplsv_top.specs.Ascending.{Ascend}
 use Rattle.aplsv_top.specs.Transcripts.{PlainTranscript, IsAscending as TranscriptsAscend}
-use Rattle.aplsv_top.specs.User.{plain_user, IsAscending}
-use Rattle.aplsv_top.specs.declared.bundle.user.BundleUser.{BundleUser}
+use Rattle.aplsv_top.specs.User.{PlainUser, IsAscending}
 
 -- users that ascend have numbers that ascend
-pub ascend_by_users : (users : List BundleUser) → IsAscending (map plain_user users) → Ascend (map (λ user. user.number) users)
+pub ascend_by_users : (users : List PlainUser) → IsAscending users → Ascend (map (λ user. user.number) users)
 ascend_by_users [] h = tt
 ascend_by_users (user ∷ []) h = tt
 ascend_by_users (user ∷ next ∷ users) h = (h.0, ascend_by_users (next ∷ users) h.1)

@@ -12,6 +12,7 @@ pub mod Numbered
 pub mod OneWord
 pub mod Parties
 pub mod Reading
+pub mod Replays
 pub mod Reports
 pub mod Rounds
 pub mod RunEnds

@@ -34,8 +34,18 @@ abbrev pub IsOf : List ℕ → PlainSession → Type 0
 IsOf users session = IsTrue (is_user users session.user)
 
 -- a round keeps its sessions' users
-pub round_users : (journal : Entries) (sessions : List PlainSession) (users : List ℕ) → All (IsOf users) sessions → All (IsOf users) (round journal sessions).sessions
+round_users : (journal : Entries) (sessions : List PlainSession) (users : List ℕ) → All (IsOf users) sessions → All (IsOf users) (round journal sessions).sessions
 round_users journal [] users each = All-nil (IsOf users)
 round_users journal (session ∷ sessions) users each =
     let kept : IsOf users (turn journal session).session = subst (λ one. IsTrue (is_user users one.number)) (sym (same_owner journal session)) (All-head (IsOf users) session sessions each) in
     All-cons (IsOf users) _ _ kept (round_users (turn journal session).journal sessions users (All-tail (IsOf users) session sessions each))
+
+-- so does a turn of the first session with the others
+pub others_users : (all : List PlainSession) (first : PlainSession) (others : List PlainSession) (users now : List ℕ) → all ≡ first ∷ others → All (IsOf users) all → now ≡ users → All (IsOf now) others
+others_users all first others users now is each same =
+    subst (λ some. All (IsOf some) others) (sym same) (All-tail (IsOf users) first others (subst (All (IsOf users)) is each))
+
+-- so does a round whose sessions are put back
+pub each_more : (users now : List ℕ) (journal : Entries) (sessions after : List PlainSession) → now ≡ users → after ≡ (round journal sessions).sessions → All (IsOf users) sessions → All (IsOf now) after
+each_more users now journal sessions after same went each =
+    subst (λ some. All (IsOf some) after) (sym same) (subst (All (IsOf users)) (sym went) (round_users journal sessions users each))

@@ -1,4 +1,4 @@
-ghost use Rattle.std.specs.Prelude.{◌≡◌, ◌≤◌, IsTrue, IfOk, OnOk, All, length, map, reverse};
+ghost use Rattle.std.specs.Prelude.{◌≡◌, ◌<◌, IsTrue, IfOk, OnOk, All, length, map, reverse};
 ghost use Rattle.sv_rules.specs.Legal.{is_user};
 ghost use Rattle.aplsv_top.specs.Ascending.{Ascend};
 ghost use Rattle.aplsv_top.specs.User.{plain_user};
@@ -8,6 +8,7 @@ ghost use Rattle.aplsv_top.specs.Turns.{new_session, turn, round};
 ghost use Rattle.aplsv_top.specs.declared.session.Stage.TheVariants.{Ended};
 
 use crate::bundle::{Bundle, BundleUser};
+use crate::run_laws::rounds_end;
 use crate::session::{Session, Wants};
 use crate::transcripts::Transcripts;
 use apl_arrays::WantOfMemory;
@@ -28,12 +29,13 @@ pub fn replay(alloc: Global, bundle: Bundle) -> Result<Run, WantOfMemory>
 {
     let users = bundle.into_users();
     let numbers = numbers_of(alloc, users.as_slice())?;
-    let most = most_lines(users.as_slice());
+    let needed = rounds_needed(users.as_slice());
     let mut core = Core::new(alloc, &numbers)?;
     let mut sessions = sessions_of(alloc, users.into_vec())?;
-    for _round in 0..=most {
+    for _round in 0..needed {
         round(&mut core, &mut sessions)?;
     }
+    rounds_end();
     let transcripts = transcripts_of(alloc, sessions)?;
     Ok(Run {
         transcripts,
@@ -52,15 +54,15 @@ fn numbers_of(alloc: Global, users: &[BundleUser]) -> Result<Vec<u32>, WantOfMem
     Ok(numbers)
 }
 
-// How many lines the user with the most has.
-fn most_lines(users: &[BundleUser]) -> usize
-    ensures { All (λ user. length user.lines.items ≤ result) users.now }
+// One round for each line of the user with the most, and one in which that user leaves.
+fn rounds_needed(users: &[BundleUser]) -> usize
+    ensures { All (λ user. length user.lines.items < result) users.now }
 {
-    let mut most = 0;
+    let mut needed = 0;
     for user in users {
-        most = user.lines.as_slice().len().max(most);
+        needed = (user.lines.as_slice().len() + 1).max(needed);
     }
-    most
+    needed
 }
 
 // A session for each user.
