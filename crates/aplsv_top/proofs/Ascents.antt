@@ -1,5 +1,5 @@
 -- Users and numbers that ascend.
-use Rattle.std.proofs.Common.{◌≡◌, ℕ, suc, zero, List, [], ◌∷◌, take, map, length, ◌<◌, ◌+◌, ◌++◌, subst, sym, ap, ◌∙◌, get_or, refl, arith}
+use Rattle.std.proofs.Common.{◌≡◌, ℕ, suc, zero, List, [], ◌∷◌, take, map, length, ◌<◌, ◌++◌, subst, sym, ap, ◌∙◌, get_or, refl, arith}
 use Rattle.std.proofs.Math.Seq.{take-suc}
 use Rattle.std.proofs.lemmas.List.{map_push, take-map, get_or-map, length-map}
 use Rattle.aplsv_top.specs.PlainSession.{PlainSession}

@@ -6,7 +6,7 @@ use Rattle.apl_arrays.specs.declared.memory.WantOfMemory.{WantOfMemory}
 use Rattle.sv_events.specs.declared.event.Answer.{Answer}
 use Rattle.sv_events.specs.Answer.{PlainAnswer, plain_answer}
 use Rattle.sv_events.specs.declared.event.Act.{Act}
-use Rattle.aplsv_top.specs.Session.{Evaluated, session, evaluated, after_act}
+use Rattle.aplsv_top.specs.Session.{session, evaluated, after_act}
 use Rattle.aplsv_top.specs.PlainSession.{PlainSession}
 use Rattle.aplsv_top.specs.Progress.{IsEvaluated, ahead, behind_acts, first_asked, open_at}
 use Rattle.aplsv_top.specs.Wants.{stage_by}

@@ -6,6 +6,7 @@ pub mod Evaluating
 pub mod Every
 pub mod GlyphTexts
 pub mod Headings
+pub mod Headlines
 pub mod Lines
 pub mod NextLines
 pub mod Numbered

@@ -1,5 +1,5 @@
 -- The line that is next, of lines as they are kept.
-use Rattle.std.proofs.Common.{◌≡◌, ◌<◌, ◌+◌, ℕ, true, false, List, [], ◌∷◌, length, map, drop, get_or, Option, Some, None, is_some, ap, sym, ◌∙◌, arith}
+use Rattle.std.proofs.Common.{◌≡◌, ◌<◌, ◌+◌, ℕ, true, false, List, ◌∷◌, length, map, drop, get_or, Option, Some, None, is_some, ap, sym, ◌∙◌, arith}
 use Rattle.std.proofs.lemmas.List.{drop_more, get_or-map, length-map}
 use Rattle.apl_arrays.specs.List.{Listed, glyphs_in}
 use Rattle.sv_events.specs.Answer.{PlainAnswer}

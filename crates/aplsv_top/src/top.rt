@@ -1,4 +1,4 @@
-ghost use Rattle.std.specs.Prelude.{◌≡◌, ◌≢◌, ◌+◌, ◌↔◌, ℕ, List as ListOf, IsTrue, IfOk, IfSome, codes, map, string_bytes, vec_len};
+ghost use Rattle.std.specs.Prelude.{◌≡◌, ◌≢◌, ◌+◌, ◌↔◌, ℕ, List as ListOf, IsTrue, IfOk, IfSome, IsSomeAnd, codes, map, string_bytes, vec_len};
 ghost use Rattle.std.specs.Io.KnownBytes.{Appends};
 ghost use Rattle.apl_io.specs.Faults.{Rose};
 ghost use Rattle.apl_io.specs.Whole.{AreAtMost, AppendsPrefix, TakesExactly, TakesAtMost};
@@ -24,6 +24,7 @@ pub const INPUT_LIMIT: usize = 4_194_304;
 /// answers that the journal gives that user. Every other list of words is `Usage`. It returns for every source and
 /// sink. The text, the clock and the 32 shelves are handed back as they came. Nothing is written unless a bundle was
 /// run, where memory runs out too. This profile's program.
+#[tactic(auto, using(crate::proofs::Headlines::no_run, crate::proofs::Headlines::no_front))]
 pub fn aplsv_replay_words<S: Source, W: Sink, T, C, K>(
     alloc: Global,
     words: &[String],
@@ -46,6 +47,7 @@ pub fn aplsv_replay_words<S: Source, W: Sink, T, C, K>(
     ensures too_long { result.status ≡ status.TooLong → TakesExactly (S.left input.old) (S.left input.new) (INPUT_LIMIT + 1) }
     ensures taken { result.status ≢ status.TooLong → TakesAtMost (S.left input.old) (S.left input.new) INPUT_LIMIT }
     ensures malformed { IsMalformed result.status → IfSome (S.left input.old) IsNoBundle }
+    ensures no_bundle { IsSomeAnd (S.left input.old) IsNoBundle → (result.status ≢ status.Done) × (result.status ≢ status.WriteFault) }
     ensures unwritten { result.status ≢ status.Done → result.status ≢ status.WriteFault → output.new ≡ output.old }
 
     // Without faults, bytes that are few enough are answered if there is memory: no bundle is refused, and nothing else is run.
@@ -54,34 +56,16 @@ pub fn aplsv_replay_words<S: Source, W: Sink, T, C, K>(
         → IsAnswered result.status }
     ensures devices { (result.text ≡ text) × (result.clock ≡ clock) × (result.shelves ≡ shelves) }
 {
-    Finish {
-        status: status_of(alloc, words, input, output),
-        text,
-        clock,
-        shelves,
-    }
-}
-
-fn status_of<S: Source, W: Sink>(
-    alloc: Global,
-    words: &[String],
-    input: &mut S,
-    output: &mut W,
-) -> Status
-    ensures done { result ≡ status.Done → WritesRun (S.left input.old) (S.left input.new) (W.held output.old) (W.held output.new) }
-    ensures front { result ≡ status.WriteFault → WritesFront (S.left input.old) (S.left input.new) (W.held output.old) (W.held output.new) }
-    ensures usage { (result ≡ status.Usage) ↔ ¬ AskReplay (map string_bytes words.now) }
-    ensures read_fault { result ≡ status.ReadFault → Rose (S.faults input.old) (S.faults input.new) }
-    ensures write_fault { result ≡ status.WriteFault → Rose (W.faults output.old) (W.faults output.new) }
-    ensures too_long { result ≡ status.TooLong → TakesExactly (S.left input.old) (S.left input.new) (INPUT_LIMIT + 1) }
-    ensures taken { result ≢ status.TooLong → TakesAtMost (S.left input.old) (S.left input.new) INPUT_LIMIT }
-    ensures malformed { IsMalformed result → IfSome (S.left input.old) IsNoBundle }
-    ensures unwritten { result ≢ status.Done → result ≢ status.WriteFault → output.new ≡ output.old }
-{
-    if asks_replay(words) {
+    let status = if asks_replay(words) {
         run(alloc, input, output)
     } else {
         Status::Usage
+    };
+    Finish {
+        status,
+        text,
+        clock,
+        shelves,
     }
 }
 

@@ -1,4 +1,4 @@
-use Rattle.std.proofs.Common.{rules, ◌≡◌, ◌≢◌, map, ap, sym, ◌∙◌}
+use Rattle.std.proofs.Common.{rules, ◌≢◌, map, ap, sym, ◌∙◌}
 use Rattle.sv_events.specs.Answer.{plain_answer}
 use Rattle.aplsv_top.specs.Session.{evaluated}
 use Rattle.aplsv_top.specs.declared.session.Stage.TheVariants.{Failed}
