@@ -15,3 +15,13 @@ IsMalformed status.ReadFault = ⊥
 IsMalformed status.WriteFault = ⊥
 IsMalformed status.TooLong = ⊥
 IsMalformed status.WantOfMemory = ⊥
+
+-- the bytes were answered: their run was written, or they are said to be no bundle, or memory ran out
+abbrev pub IsAnswered : Status → Type 0
+IsAnswered status.Done = Unit {0}
+IsAnswered (status.Malformed offset rule) = Unit {0}
+IsAnswered status.WantOfMemory = Unit {0}
+IsAnswered status.Usage = ⊥
+IsAnswered status.ReadFault = ⊥
+IsAnswered status.WriteFault = ⊥
+IsAnswered status.TooLong = ⊥

@@ -1,11 +1,19 @@
-ghost use Rattle.std.specs.Prelude.{IfOk, IfSome, IsTrue, not};
-ghost use Rattle.sv_rules.specs.Entries.{is_leave};
+ghost use Rattle.std.specs.Prelude.{◌≡◌, ◌∷◌, [], ◌++◌, pos, IfOk, OnOk};
+ghost use Rattle.std.specs.Option.{option_copied};
+ghost use Rattle.apl_arrays.specs.Array.{scalar};
+ghost use Rattle.apl_display.specs.Display.{display_lines};
+ghost use Rattle.sv_events.specs.Answer.{plain_answer};
+ghost use Rattle.aplsv_top.specs.Workspace.{copy_of, with_value};
+ghost use Rattle.aplsv_top.specs.Progress.{passed, with_line};
+ghost use Rattle.aplsv_top.specs.Session.{echo, report_lines, act_of, asked_by, looked_up, unasked, report_in, degree_told, granted_to, answered, told};
 
-use crate::statement::Statement;
+use crate::line_text::{add_glyphs, add_text};
+use crate::statement::{Statement, statement_of};
 use crate::workspace::Workspace;
-use apl_arrays::{Array, Glyph, Line, LineList, List, Report, WantOfMemory};
+use apl_arrays::{Array, Glyph, Line, LineList, List, Name, Report, WantOfMemory};
 use apl_display::lines_of;
 use std::alloc::Global;
+use std::marker::Model;
 use sv_events::{Act, Answer};
 
 /// What a user's lines work on: the names, and what was read and printed.
@@ -16,9 +24,19 @@ pub struct Evaluation {
     transcript: LineList,
 }
 
+impl Model for Evaluation {
+    ghost use Rattle.aplsv_top.specs.PlainSession.{PlainEvaluation};
+
+    ghost Value = { PlainEvaluation };
+
+    ghost view = { λ e. record { names = e.names; transcript = e.transcript.items } };
+}
+
 impl Evaluation {
     /// No names, and nothing printed. It takes no memory.
-    pub fn new(alloc: Global) -> Evaluation {
+    pub fn new(alloc: Global) -> Evaluation
+        ensures { result ≡ record { names = []; transcript = [] } }
+    {
         Evaluation {
             alloc,
             names: Workspace::new(alloc),
@@ -27,13 +45,43 @@ impl Evaluation {
     }
 
     /// The lines that were read and printed. No memory.
-    pub fn into_transcript(self) -> LineList {
+    pub fn into_transcript(self) -> LineList
+        ensures { result.items ≡ self.transcript }
+    {
         self.transcript
     }
 
-    /// The act that a statement asks, if it asks one.
-    pub fn act_of(&self, statement: &Statement) -> Result<Option<Act>, WantOfMemory>
-        ensures { IfOk result (λ asked. IfSome asked (λ act. IsTrue (not (is_leave act)))) }
+    /// Does a line that asks no act, or gives the act that it asks.
+    pub fn pass(&mut self, line: &[Glyph]) -> Result<Option<Act>, WantOfMemory>
+        ensures asks { IfOk result (λ asked. asked ≡ asked_by self.old.names line.now) }
+        ensures done { IfOk result (λ asked. self.new ≡ passed self.old line.now asked) }
+    {
+        let Some(statement) = statement_of(line) else {
+            self.refuse(line)?;
+            return Ok(None);
+        };
+        match self.act_of(&statement)? {
+            Some(act) => Ok(Some(act)),
+            None => {
+                self.finish_quiet(statement, line)?;
+                Ok(None)
+            }
+        }
+    }
+
+    /// Does a line whose act is answered.
+    pub fn tell(&mut self, line: &[Glyph], answer: &Answer) -> Result<(), WantOfMemory>
+        ensures { OnOk result (self.new ≡ with_line self.old line.now (told self.old.names line.now (plain_answer answer.now))) }
+    {
+        match statement_of(line) {
+            None => self.echo(line),
+            Some(statement) => self.finish_told(statement, line, answer),
+        }
+    }
+
+    // The act that a statement asks, if it asks one.
+    fn act_of(&self, statement: &Statement) -> Result<Option<Act>, WantOfMemory>
+        ensures { IfOk result (λ asked. asked ≡ act_of self.now.names statement.now) }
     {
         match statement {
             Statement::Assign { name, number } => {
@@ -47,7 +95,7 @@ impl Evaluation {
                 to: *to,
                 local: *name,
                 surrogate: *name,
-                value: self.copied(self.names.copy_of(name))?,
+                value: copied(self.alloc, self.names.copy_of(name))?,
             })),
             Statement::Reference(name) => {
                 if self.names.is_shared(name) {
@@ -59,82 +107,133 @@ impl Evaluation {
         }
     }
 
-    /// Prints a line as it was read, after six blanks.
-    pub fn echo(&mut self, line: &[Glyph]) -> Result<(), WantOfMemory> {
-        self.transcript.push(prompted(self.alloc, line)?)?;
-        Ok(())
+    // Reports a line that is no statement.
+    fn refuse(&mut self, line: &[Glyph]) -> Result<(), WantOfMemory>
+        ensures { OnOk result (self.new ≡ with_line self.old line.now (record { names = self.old.names; printed = report_lines Report.Syntax line.now })) }
+    {
+        self.echo(line)?;
+        self.report(Report::Syntax, line)
     }
 
-    /// Does a statement that asks no act.
-    pub fn finish_quiet(
-        &mut self,
-        statement: Statement,
-        line: &[Glyph],
-    ) -> Result<(), WantOfMemory> {
+    // Does a statement that asks no act.
+    fn finish_quiet(&mut self, statement: Statement, line: &[Glyph]) -> Result<(), WantOfMemory>
+        ensures { OnOk result (self.new ≡ with_line self.old line.now (unasked self.old.names line.now statement)) }
+    {
+        self.echo(line)?;
         match statement {
-            Statement::Assign { name, number } => {
-                self.names.set(name, Array::scalar(self.alloc, number)?)
-            }
+            Statement::Assign { name, number } => self.assign(name, number),
             Statement::Offer { .. } => Ok(()),
-            Statement::Reference(name) => match self.copied(self.names.copy_of(&name))? {
-                None => self.report(Report::Value, line),
-                Some(value) => self.print(&value),
-            },
+            Statement::Reference(name) => self.look_up(name, line),
         }
     }
 
-    /// Does a statement whose act was answered.
-    pub fn finish_told(
+    // Does a statement whose act was answered.
+    fn finish_told(
         &mut self,
         statement: Statement,
         line: &[Glyph],
         answer: &Answer,
-    ) -> Result<(), WantOfMemory> {
-        if let Some(report) = report_of(answer) {
-            return self.report(report, line);
+    ) -> Result<(), WantOfMemory>
+        ensures { OnOk result (self.new ≡ with_line self.old line.now (answered self.old.names line.now statement (plain_answer answer.now))) }
+    {
+        self.echo(line)?;
+        match report_of(answer) {
+            Some(report) => self.report(report, line),
+            None => self.grant(statement, answer),
         }
+    }
+
+    // Does a statement whose act was answered without a report.
+    fn grant(&mut self, statement: Statement, answer: &Answer) -> Result<(), WantOfMemory>
+        ensures names { OnOk result (self.new.names ≡ (granted_to self.old.names statement (plain_answer answer.now)).names) }
+        ensures printed { OnOk result (self.new.transcript ≡ self.old.transcript ++ (granted_to self.old.names statement (plain_answer answer.now)).printed) }
+    {
         match statement {
-            Statement::Assign { name, number } => {
-                self.names.set(name, Array::scalar(self.alloc, number)?)
-            }
+            Statement::Assign { name, number } => self.assign(name, number),
             Statement::Offer { name, .. } => {
                 self.names.share(self.alloc, name)?;
                 self.print(&Array::scalar(self.alloc, degree_in(answer))?)
             }
             Statement::Reference(name) => match answer {
-                Answer::Value(value) => {
-                    self.print(value)?;
-                    self.names.set(name, value.copy(self.alloc)?)
-                }
+                Answer::Value(value) => self.get(name, value),
                 _ => Ok(()),
             },
         }
     }
 
-    fn copied(&self, value: Option<&Array>) -> Result<Option<Array>, WantOfMemory> {
-        match value {
-            None => Ok(None),
-            Some(value) => Ok(Some(value.copy(self.alloc)?)),
+    // Gives the name a number.
+    fn assign(&mut self, name: Name, number: i64) -> Result<(), WantOfMemory>
+        ensures names { OnOk result (self.new.names ≡ with_value self.old.names name (scalar number)) }
+        ensures printed { self.new.transcript ≡ self.old.transcript }
+    {
+        self.names.set(name, Array::scalar(self.alloc, number)?)
+    }
+
+    // Prints the value of a name, or reports that there is none.
+    fn look_up(&mut self, name: Name, line: &[Glyph]) -> Result<(), WantOfMemory>
+        ensures names { self.new.names ≡ self.old.names }
+        ensures printed { OnOk result (self.new.transcript ≡ self.old.transcript ++ looked_up line.now (copy_of self.old.names name)) }
+    {
+        match copied(self.alloc, self.names.copy_of(&name))? {
+            None => self.report(Report::Value, line),
+            Some(value) => self.print(&value),
         }
     }
 
+    // Prints a value that was got, and renews the name's own copy.
+    fn get(&mut self, name: Name, value: &Array) -> Result<(), WantOfMemory>
+        ensures names { OnOk result (self.new.names ≡ with_value self.old.names name value.now) }
+        ensures printed { OnOk result (self.new.transcript ≡ self.old.transcript ++ display_lines value.now) }
+    {
+        self.print(value)?;
+        self.names.set(name, value.copy(self.alloc)?)
+    }
+
+    // Prints a line as it was read, after six blanks.
+    fn echo(&mut self, line: &[Glyph]) -> Result<(), WantOfMemory>
+        ensures names { self.new.names ≡ self.old.names }
+        ensures printed { OnOk result (self.new.transcript ≡ self.old.transcript ++ echo line.now ∷ []) }
+    {
+        self.transcript.push(prompted(self.alloc, line)?)
+    }
+
     // Prints a report, and the line again.
-    fn report(&mut self, report: Report, line: &[Glyph]) -> Result<(), WantOfMemory> {
-        let text = text_line(self.alloc, report.text().as_bytes())?;
-        self.transcript.push(text)?;
+    fn report(&mut self, report: Report, line: &[Glyph]) -> Result<(), WantOfMemory>
+        ensures names { self.new.names ≡ self.old.names }
+        ensures printed { OnOk result (self.new.transcript ≡ self.old.transcript ++ report_lines report line.now) }
+    {
+        let mut name = List::new(self.alloc);
+        add_text(&mut name, report.text())?;
+        self.transcript.push(name)?;
         self.echo(line)
     }
 
-    fn print(&mut self, value: &Array) -> Result<(), WantOfMemory> {
-        for line in lines_of(self.alloc, value)?.as_slice() {
-            self.transcript.push(line.copy(self.alloc)?)?;
+    // Prints a value.
+    fn print(&mut self, value: &Array) -> Result<(), WantOfMemory>
+        ensures names { self.new.names ≡ self.old.names }
+        ensures printed { OnOk result (self.new.transcript ≡ self.old.transcript ++ display_lines value.now) }
+    {
+        for line in lines_of(self.alloc, value)?.into_vec() {
+            self.transcript.push(line)?;
         }
         Ok(())
     }
 }
 
+// A copy of a value, where there is one.
+fn copied(alloc: Global, value: Option<&Array>) -> Result<Option<Array>, WantOfMemory>
+    ensures { IfOk result (λ copied. copied ≡ option_copied value.entry) }
+{
+    match value {
+        None => Ok(None),
+        Some(value) => Ok(Some(value.copy(alloc)?)),
+    }
+}
+
 // The report that an answer is, if it is one.
-fn report_of(answer: &Answer) -> Option<Report> {
+fn report_of(answer: &Answer) -> Option<Report>
+    ensures { result ≡ report_in (plain_answer answer.now) }
+{
     match answer {
         Answer::NoValue | Answer::NotShared => Some(Report::Value),
         Answer::OfferLimit => Some(Report::SvLimit),
@@ -143,7 +242,10 @@ fn report_of(answer: &Answer) -> Option<Report> {
     }
 }
 
-fn degree_in(answer: &Answer) -> i64 {
+// The degree that an answer tells, 0 where it tells none.
+fn degree_in(answer: &Answer) -> i64
+    ensures { result ≡ pos (degree_told (plain_answer answer.now)) }
+{
     match answer {
         Answer::Degree(degree) => i64::from(*degree),
         _ => 0,
@@ -151,24 +253,11 @@ fn degree_in(answer: &Answer) -> i64 {
 }
 
 // The line after six blanks.
-fn prompted(alloc: Global, line: &[Glyph]) -> Result<Line, WantOfMemory> {
+fn prompted(alloc: Global, line: &[Glyph]) -> Result<Line, WantOfMemory>
+    ensures { IfOk result (λ prompted. prompted.items ≡ echo line.now) }
+{
     let mut prompted = List::new(alloc);
-    for _ in 0..6 {
-        prompted.push(Glyph::BLANK)?;
-    }
-    for glyph in line {
-        prompted.push(*glyph)?;
-    }
+    add_text(&mut prompted, "      ")?;
+    add_glyphs(&mut prompted, line)?;
     Ok(prompted)
-}
-
-// The glyphs of a text, leaving out what is none.
-fn text_line(alloc: Global, text: &[u8]) -> Result<Line, WantOfMemory> {
-    let mut line = List::new(alloc);
-    for byte in text {
-        if let Some(glyph) = Glyph::of_code(*byte) {
-            line.push(glyph)?;
-        }
-    }
-    Ok(line)
 }

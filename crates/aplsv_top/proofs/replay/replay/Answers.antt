@@ -1,10 +1,46 @@
-use Rattle.std.proofs.Common.{rules, ◌≡◌, map, sym, subst, ◌∙◌}
-use Rattle.aplsv_top.specs.Ascending.{Ascend}
-use Rattle.aplsv_top.specs.User.{IsAscending}
-use Rattle.aplsv_top.proofs.Ascents.{ascend_by_users}
+use Rattle.std.proofs.Common.{rules, ◌≡◌, ◌∙◌, ◌++◌, map, take, drop, length, ap, refl}
+use Rattle.aplsv_top.specs.User.{plain_user}
+use Rattle.aplsv_top.proofs.Replays.{plain_numbers, is_over, begins, each_begins, round_more, all_ended, all_ascend, ends}
+use Rattle.aplsv_top.proofs.Rounds.{each_more}
 use Rattle.aplsv_top.proofs.replay.replay.Goals as goal
+
+pub loop-round-init : goal.loop-round-init
+loop-round-init c =
+    let kept : map plain_user c.into_vec.result.items ≡ c.args.bundle.users = c.into_vec.ensures.value ∙ c.into_users-users.ensures.value in
+    let numbers : map (λ user. user.number) c.as_slice.result.now ≡ map (λ user. user.number) c.args.bundle.users = plain_numbers c.as_slice.result.now c.args.bundle.users (c.as_slice.ensures.value ∙ c.into_users-users.ensures.value) in
+    let users : c.in_ok-core.core.users ≡ map (λ user. user.number) c.args.bundle.users = ap (λ core. core.users) c.in_ok-core.ensures ∙ (c.deref.ensures.value ∙ (c.in_ok-numbers.ensures ∙ numbers)) in
+    record {
+      turns = begins c.args.bundle c.into_vec.result.items c.in_ok-core.core.journal c.in_ok-sessions.sessions.items kept (ap (λ core. core.journal) c.in_ok-core.ensures) c.in_ok-sessions.ensures;
+      users = refl;
+      each = each_begins c.args.bundle c.into_vec.result.items c.in_ok-core.core.users c.in_ok-sessions.sessions.items kept users c.in_ok-sessions.ensures;
+    }
+
+pub loop-round-preserved : goal.loop-round-preserved
+loop-round-preserved c =
+    let loop = c.loop-round in
+    let others = drop (length c.round.new.sessions) loop.sessions.items in
+    let many : length loop.sessions.items ≡ loop.sessions.len = search rules in
+    let more = round_more c.args.bundle loop._round loop.core.journal c.round.new.core.journal loop.sessions.items c.deref_mut.result.now c.round.new.sessions others loop.sessions.len loop.invariant.turns c.deref_mut.ensures.value many c.in_ok-round.ensures.turns in
+    record {
+      turns = more.0;
+      users = c.in_ok-round.ensures.users ∙ loop.invariant.users;
+      each = each_more loop.core.users c.round.new.core.users loop.core.journal loop.sessions.items (take loop.sessions.len (c.round.new.sessions ++ others)) c.in_ok-round.ensures.users more.1 loop.invariant.each;
+    }
+
+pub transcripts_of-requires-clause-ended : goal.transcripts_of-requires-clause-ended
+transcripts_of-requires-clause-ended c =
+    let over = is_over c.args.bundle c.as_slice-2.result.now c.rounds_needed-needed.result c.loop-round._round c.rounds_end.ensures c.into_users-users.ensures.bundle.ascending (c.as_slice-2.ensures.value ∙ c.into_users-users.ensures.value) c.rounds_needed-needed.ensures c.loop-round-test.false in
+    all_ended c.args.bundle c.loop-round._round c.loop-round.core.journal c.loop-round.sessions.items c.loop-round.invariant.turns over
 
 pub transcripts_of-requires-clause-ascending : goal.transcripts_of-requires-clause-ascending
 transcripts_of-requires-clause-ascending c =
-    let numbers : c.deref-2.result.now ≡ map (λ user. user.number) c.as_slice.result.now = search rules in
-    subst Ascend (sym numbers) (ascend_by_users _ (subst IsAscending (sym c.as_slice.ensures.value) c.as_slice.ensures.ascending))
+    let ascending = c.into_users-users.ensures.bundle.ascending in
+    let over = is_over c.args.bundle c.as_slice-2.result.now c.rounds_needed-needed.result c.loop-round._round c.rounds_end.ensures ascending (c.as_slice-2.ensures.value ∙ c.into_users-users.ensures.value) c.rounds_needed-needed.ensures c.loop-round-test.false in
+    all_ascend c.args.bundle c.loop-round._round c.loop-round.core.journal c.loop-round.sessions.items c.loop-round.invariant.turns over ascending
+
+pub returns : goal.returns
+returns c =
+    let numbers : map (λ user. user.number) c.as_slice.result.now ≡ map (λ user. user.number) c.args.bundle.users = plain_numbers c.as_slice.result.now c.args.bundle.users (c.as_slice.ensures.value ∙ c.into_users-users.ensures.value) in
+    let users : c.loop-round.core.users ≡ map (λ user. user.number) c.args.bundle.users = c.loop-round.invariant.users ∙ (ap (λ core. core.users) c.in_ok-core.ensures ∙ (c.deref.ensures.value ∙ (c.in_ok-numbers.ensures ∙ numbers))) in
+    let over = is_over c.args.bundle c.as_slice-2.result.now c.rounds_needed-needed.result c.loop-round._round c.rounds_end.ensures c.into_users-users.ensures.bundle.ascending (c.as_slice-2.ensures.value ∙ c.into_users-users.ensures.value) c.rounds_needed-needed.ensures c.loop-round-test.false in
+    ends c.args.bundle _ c.loop-round.core.journal c.loop-round.sessions.items c.in_ok-transcripts.transcripts.items c.loop-round._round c.loop-round.core.users c.loop-round.invariant.turns over c.into_journal.ensures.value c.into_journal.ensures.legal users c.in_ok-transcripts.ensures

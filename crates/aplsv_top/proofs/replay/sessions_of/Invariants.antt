@@ -1,8 +1,7 @@
-use Rattle.std.proofs.Common.{◌≡◌, ◌+◌, vec_len}
+use Rattle.std.proofs.Common.{◌≡◌, map}
+use Rattle.aplsv_top.specs.User.{plain_user}
+use Rattle.aplsv_top.specs.Turns.{new_session}
 use Rattle.aplsv_top.proofs.replay.sessions_of.Given as goal
 
-abbrev pub invariant-loop-alloc : goal.invariant-loop-alloc
-invariant-loop-alloc l = vec_len l.sessions + vec_len l.users ≡ vec_len l.initial.users
-
-abbrev pub decreases-loop-alloc : goal.decreases-loop-alloc
-decreases-loop-alloc l = vec_len l.users
+abbrev pub invariant-loop-user : goal.invariant-loop-user
+invariant-loop-user l = l.sessions.items ≡ map new_session (map plain_user l.yielded)

@@ -1,8 +1,11 @@
-use Rattle.std.proofs.Common.{◌<◌, length, refl, arith}
-use Rattle.aplsv_top.proofs.Ascents.{next_ascends}
+use Rattle.std.proofs.lemmas.Iterator.Adapters.{YieldsList-from_vec}
+use Rattle.std.proofs.lemmas.Iterator.Consumers.{YieldsList-so_far, YieldsList-turn}
+use Rattle.aplsv_top.proofs.Ascents.{next_session_ascends}
 use Rattle.aplsv_top.proofs.replay.transcripts_of.Goals as goal
 
 pub push-requires : goal.push-requires
 push-requires c =
-    let less : c.loop-sessions.at < length c.args.numbers.now = grind (arith, c.loop-sessions.invariant.count, c.loop-sessions-test.true, c.is_empty.ensures) in
-    next_ascends c.loop-sessions.transcripts.items _ c.args.numbers.now c.loop-sessions.at less c.requires.ascending c.loop-sessions.invariant.users refl
+    let all = c.args.sessions.items in
+    let road = YieldsList-from_vec {s = c.into_iter-session-iterator.result} all (cc) (cc) in
+    let place = YieldsList-turn road c.loop-session.yielded c.loop-session.session-iterator c.loop-session.yielded_by c.next.result c.next.new.self c.in-Some.session c.in-Some.is c.next.ensures.steps in
+    next_session_ascends all c.loop-session.yielded c.in-Some.session _ _ place.0 place.1 (YieldsList-so_far road c.loop-session.yielded c.loop-session.session-iterator c.loop-session.yielded_by) c.loop-session.invariant c.into_transcript.ensures.user c.requires.ascending

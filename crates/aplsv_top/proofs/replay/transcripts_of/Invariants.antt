@@ -1,11 +1,6 @@
-use Rattle.std.proofs.Common.{◌≡◌, ◌+◌, length, map, take, vec_len}
+use Rattle.std.proofs.Common.{◌≡◌, map}
+use Rattle.aplsv_top.specs.RunLaws.{transcript_of}
 use Rattle.aplsv_top.proofs.replay.transcripts_of.Given as goal
 
-abbrev pub invariant-loop-sessions : goal.invariant-loop-sessions
-invariant-loop-sessions l = record {
-  count : l.at + vec_len l.sessions ≡ length l.numbers;
-  users : map (λ transcript. transcript.user) l.transcripts.items ≡ take l.at l.numbers;
-}
-
-abbrev pub decreases-loop-sessions : goal.decreases-loop-sessions
-decreases-loop-sessions l = vec_len l.sessions
+abbrev pub invariant-loop-session : goal.invariant-loop-session
+invariant-loop-session l = l.transcripts.items ≡ map transcript_of l.yielded

@@ -1,4 +1,4 @@
-use Rattle.std.proofs.Common.{◌≡◌, subst, sym, string_bytes, IsTrue, ◌↔◌, codes}
+use Rattle.std.proofs.Common.{◌≡◌, subst, string_bytes, IsTrue, ◌↔◌, codes}
 use Rattle.aplsv_top.proofs.OneWord.{one_word}
 use Rattle.aplsv_top.proofs.top.asks_replay.Goals as goal
 

@@ -1,8 +1,0 @@
-use Rattle.std.proofs.Common.{◌-◌, length}
-use Rattle.aplsv_top.proofs.session.Session.next.Given as goal
-
-abbrev pub invariant-loop-self : goal.invariant-loop-self
-invariant-loop-self l = Unit {0}
-
-abbrev pub decreases-loop-self : goal.decreases-loop-self
-decreases-loop-self l = length l.self.lines.items - l.self.done

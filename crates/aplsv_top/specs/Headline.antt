@@ -1,0 +1,42 @@
+-- What the program promises of the bytes that it reads and writes.
+use Rattle.std.specs.Prelude.{◌≡◌, ℕ, List, reverse}
+use Rattle.std.specs.declared.option.Option.{Option}
+use Rattle.std.specs.Io.KnownBytes.{Appends}
+use Rattle.apl_io.specs.Whole.{ReadsAll, AppendsPrefix}
+use Rattle.sv_rules.specs.Entries.{Entries}
+use Rattle.aplsv_top.specs.Bundle.{PlainBundle, BundleText}
+use Rattle.aplsv_top.specs.Output.{output_text}
+use Rattle.aplsv_top.specs.Printable.{ArePrintable}
+use Rattle.aplsv_top.specs.Run.{IsRun}
+use Rattle.aplsv_top.specs.Transcripts.{PlainTranscript}
+
+-- the text is the output of a run of this bundle: its transcripts, and its journal with the oldest entry first; and it
+-- is the output of no others
+pub record IsOutputOf (bundle : PlainBundle) (text : List ℕ) : Type 0 where
+  pub transcripts : List PlainTranscript
+  pub journal : Entries
+  pub run : IsRun bundle journal transcripts
+  pub output : text ≡ output_text transcripts (reverse journal)
+  pub only : ArePrintable transcripts (reverse journal)
+
+-- the bytes are the text of a bundle, and the text is the output of a run of it
+pub record IsOutputFor (bytes text : List ℕ) : Type 0 where
+  pub bundle : PlainBundle
+  pub read : BundleText bytes bundle
+  pub run : IsOutputOf bundle text
+
+-- all bytes were read, to their end, and the output of a run of their bundle was written
+pub record WritesRun (left rest held now : Option (List ℕ)) : Type 0 where
+  pub bytes : List ℕ
+  pub text : List ℕ
+  pub read : ReadsAll left rest bytes
+  pub run : IsOutputFor bytes text
+  pub written : Appends held now text
+
+-- all bytes were read, to their end, and a part of the output of a run of their bundle was written, from its front on
+pub record WritesFront (left rest held now : Option (List ℕ)) : Type 0 where
+  pub bytes : List ℕ
+  pub text : List ℕ
+  pub read : ReadsAll left rest bytes
+  pub run : IsOutputFor bytes text
+  pub written : AppendsPrefix held now text
