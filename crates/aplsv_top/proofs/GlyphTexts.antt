@@ -13,7 +13,8 @@ use Rattle.sv_events.specs.declared.event.Act.{Act}
 use Rattle.sv_events.specs.declared.event.Act.TheVariants.{Offer, Set, Use, Leave}
 use Rattle.sv_events.specs.declared.entry.Pair.{Pair}
 use Rattle.aplsv_top.specs.EntryText.{act_text, answer_text, pair_text, entry_text}
-use Rattle.aplsv_top.specs.NumberText.{is_plain, overbar, number_text, spaced}
+use Rattle.apl_display.specs.Number.{high_minus, number_text}
+use Rattle.aplsv_top.specs.NumberText.{is_plain, spaced}
 use Rattle.aplsv_top.specs.Output.{user_text, content_text, user_lines, entry_lines, journal_lines, output_lines}
 use Rattle.aplsv_top.specs.Printable.{ArePrintableItems, IsPrintableArray, IsPrintableAct, IsPrintableAnswer, IsPrintablePair, IsPrintableEntry, IsPrintableTranscript, ArePrintable}
 use Rattle.aplsv_top.specs.Transcripts.{PlainTranscript}
@@ -62,7 +63,7 @@ count_glyphs n fits = plain_glyphs (decimal n) (digits_are_plain n fits)
 number_glyphs : (z : ℤ) → Fits64 z → Glyphs (number_text z)
 number_glyphs (pos n) fits = count_glyphs n (omega arith)
 number_glyphs (negsuc n) fits =
-    with_first overbar (decimal (suc n)) (omega arith, omega arith, λ same. omega arith) (count_glyphs (suc n) (omega arith))
+    with_first high_minus (decimal (suc n)) (omega arith, omega arith, λ same. omega arith) (count_glyphs (suc n) (omega arith))
 
 blank_glyph : IsGlyph 32
 blank_glyph = (omega arith, omega arith, λ same. omega arith)

@@ -5,14 +5,15 @@ use Rattle.std.proofs.lemmas.Fmt.{decimal_injective, decimal_nonempty}
 use Rattle.std.specs.Fmt.{decimal}
 use Rattle.std.specs.List.{list_all, flat_map, AllByRecursion}
 use Rattle.apl_arrays.specs.Glyph.{is_digit}
-use Rattle.aplsv_top.specs.NumberText.{overbar, number_text, spaced}
+use Rattle.apl_display.specs.Number.{high_minus, number_text}
+use Rattle.aplsv_top.specs.NumberText.{spaced}
 use Rattle.aplsv_top.proofs.Decimals.{digits_are_digits}
 use Rattle.aplsv_top.proofs.Spaced.{spaced_is}
 use Rattle.aplsv_top.proofs.Spans.{begins, same_span, Reads, follows_all, same_list}
 
 -- a digit, or the sign of a negative number
 abbrev pub starts_number : ℕ → Bool
-starts_number glyph = is_digit glyph || eqb glyph overbar
+starts_number glyph = is_digit glyph || eqb glyph high_minus
 
 begins_more : (p : ℕ → Bool) (xs rest : List ℕ) → list_all p xs ≡ true → 0 < length xs → begins p (xs ++ rest) ≡ true
 begins_more p [] rest a more = absurd (omega arith)
@@ -45,7 +46,7 @@ same_number (negsuc m) (negsuc n) rest left a b stop halt e =
 
 starts_digit : (text : List ℕ) → begins is_digit text ≡ true → begins starts_number text ≡ true
 starts_digit [] e = absurd (false≢true e)
-starts_digit (c ∷ cs) e = ap (λ b. b || eqb c overbar) e
+starts_digit (c ∷ cs) e = ap (λ b. b || eqb c high_minus) e
 
 pub begins_number : (z : ℤ) (rest : List ℕ) → Fits64 z → begins starts_number (number_text z ++ rest) ≡ true
 begins_number (pos n) rest fits = starts_digit (decimal n ++ rest) (begins_count n rest (omega arith))
@@ -71,7 +72,7 @@ no_number_here (c ∷ cs) e = front_fails (starts_number c) (not (eqb c 32 && be
 pub no_digit_here : (text : List ℕ) → ends_numbers text ≡ true → begins is_digit text ≡ false
 no_digit_here [] e = refl
 no_digit_here (c ∷ cs) e =
-    first_fails (is_digit c) (eqb c overbar) (not (eqb c 32 && begins starts_number cs)) e
+    first_fails (is_digit c) (eqb c high_minus) (not (eqb c 32 && begins starts_number cs)) e
 
 -- the texts of such things begin as numbers do, and are read in one way where no digit follows
 pub record LikeNumbers {A : Type 0} (f : A → List ℕ) (ok : A → Type 0) : Type 0 where

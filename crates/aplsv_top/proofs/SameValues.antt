@@ -6,7 +6,8 @@ use Rattle.std.proofs.lemmas.List.Elements.{recursion_from_All}
 use Rattle.std.specs.Fmt.{decimal}
 use Rattle.std.specs.List.{flat_map, AllByRecursion}
 use Rattle.apl_arrays.specs.Array.{PlainItems, numbers, chars, PlainArray}
-use Rattle.aplsv_top.specs.NumberText.{number_text, spaced}
+use Rattle.apl_display.specs.Number.{number_text}
+use Rattle.aplsv_top.specs.NumberText.{spaced}
 use Rattle.aplsv_top.specs.Printable.{ArePrintableItems, IsPrintableArray}
 use Rattle.aplsv_top.specs.ValueText.{quote, char_text, kind_text, items_text, array_text, value_text}
 use Rattle.aplsv_top.proofs.SameNumbers.{Fits64, Count64, ends_numbers, same_spaced, counts_are_like_numbers, numbers_are_like_numbers}

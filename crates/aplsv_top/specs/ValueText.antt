@@ -1,7 +1,8 @@
 use Rattle.std.specs.Prelude.{ℕ, List, [], ◌∷◌, ◌++◌, ◌==◌, map, codes, decimal, Option, Some, None, if◌then◌else◌}
 use Rattle.std.specs.List.{flat_map}
 use Rattle.apl_arrays.specs.Array.{PlainItems, numbers, chars, PlainArray}
-use Rattle.aplsv_top.specs.NumberText.{number_text, spaced}
+use Rattle.apl_display.specs.Number.{number_text}
+use Rattle.aplsv_top.specs.NumberText.{spaced}
 
 -- the quote, which stands round characters
 abbrev pub quote : ℕ

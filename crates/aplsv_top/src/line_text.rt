@@ -1,7 +1,8 @@
 ghost use Rattle.std.specs.Prelude.{◌≡◌, ◌<◌, ◌^◌, All, FitsSigned, ◌∷◌, [], ◌++◌, IsTrue, OnOk, IfOk, map, length, decimal};
 ghost use Rattle.std.specs.Int.{w64};
 ghost use Rattle.std.specs.List.{list_all};
-ghost use Rattle.aplsv_top.specs.NumberText.{is_plain, number_text, spaced};
+ghost use Rattle.apl_display.specs.Number.{number_text};
+ghost use Rattle.aplsv_top.specs.NumberText.{is_plain, spaced};
 
 use apl_arrays::{Glyph, Line, WantOfMemory};
 use itoa::Buffer;

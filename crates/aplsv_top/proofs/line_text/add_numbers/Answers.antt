@@ -2,7 +2,7 @@ use Rattle.std.proofs.Common.{◌≡◌, ◌++◌, rules, arith, pos}
 use Rattle.std.proofs.lemmas.Int.{to_z-of_z}
 use Rattle.std.proofs.lemmas.Grind.{common_steps}
 use Rattle.std.proofs.lemmas.List.Elements.{All-more}
-use Rattle.aplsv_top.specs.NumberText.{number_text}
+use Rattle.apl_display.specs.Number.{number_text}
 use Rattle.aplsv_top.proofs.Every.{every_one}
 use Rattle.aplsv_top.proofs.SameNumbers.{Fits64}
 use Rattle.aplsv_top.proofs.Spaced.{spaced_after}

@@ -1,7 +1,7 @@
 use Rattle.std.proofs.Common.{◌≡◌, ◌∷◌, ◌++◌, take}
 use Rattle.std.specs.List.{All, flat_map}
 use Rattle.std.proofs.Common.{FitsSigned, w64}
-use Rattle.aplsv_top.specs.NumberText.{number_text}
+use Rattle.apl_display.specs.Number.{number_text}
 use Rattle.aplsv_top.proofs.line_text.add_numbers.Given as goal
 
 abbrev pub invariant-loop-number : goal.invariant-loop-number
