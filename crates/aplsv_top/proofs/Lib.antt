@@ -10,6 +10,7 @@ pub mod Headlines
 pub mod Lines
 pub mod NextLines
 pub mod Numbered
+pub mod OneJournal
 pub mod OneWord
 pub mod Parties
 pub mod Reading

@@ -1,5 +1,5 @@
 -- Turns keep whose sessions they are, and their lines.
-use Rattle.std.proofs.Common.{◌≡◌, ℕ, Bool, true, false, List, [], ◌∷◌, map, Option, Some, None, IsTrue, ap₂, sym, subst, refl}
+use Rattle.std.proofs.Common.{◌≡◌, ℕ, Bool, true, false, List, [], ◌∷◌, map, Option, Some, None, IsTrue, ap, ap₂, sym, subst, refl}
 use Rattle.std.specs.List.{All}
 use Rattle.std.proofs.lemmas.List.Elements.{All-nil, All-cons, All-head, All-tail}
 use Rattle.sv_events.specs.declared.event.Act.{Act}
@@ -8,7 +8,7 @@ use Rattle.sv_rules.specs.Legal.{is_user}
 use Rattle.aplsv_top.specs.Session.{evaluated}
 use Rattle.aplsv_top.specs.PlainSession.{PlainSession}
 use Rattle.aplsv_top.specs.User.{PlainUser}
-use Rattle.aplsv_top.specs.Turns.{turn_by, turn, round}
+use Rattle.aplsv_top.specs.Turns.{turn_by, turn, round, new_session}
 
 -- the user whose session it is
 abbrev pub owner : PlainSession → PlainUser
@@ -28,6 +28,11 @@ same_owner journal session = turn_keeps_owner (has_left journal session.user) (e
 pub same_owners : (journal : Entries) (sessions : List PlainSession) → map owner (round journal sessions).sessions ≡ map owner sessions
 same_owners journal [] = refl
 same_owners journal (session ∷ sessions) = ap₂ (λ first others. first ∷ others) (same_owner journal session) (same_owners (turn journal session).journal sessions)
+
+-- new sessions are those of their users
+pub new_owners : (users : List PlainUser) → map owner (map new_session users) ≡ users
+new_owners [] = refl
+new_owners (user ∷ users) = ap (λ others. user ∷ others) (new_owners users)
 
 -- the session's user is one of these
 abbrev pub IsOf : List ℕ → PlainSession → Type 0

@@ -12,7 +12,7 @@ use Rattle.aplsv_top.specs.Turns.{Replay, turn, round, rounds, new_session, begi
 use Rattle.aplsv_top.specs.Run.{entries_of, acts_in, IsPart, AreParts}
 use Rattle.aplsv_top.specs.RunLaws.{transcript_of, IsOver}
 use Rattle.aplsv_top.specs.declared.session.Stage.TheVariants.{Ended}
-use Rattle.aplsv_top.proofs.Rounds.{owner, same_owner, same_owners}
+use Rattle.aplsv_top.proofs.Rounds.{owner, new_owners, same_owner, same_owners}
 use Rattle.aplsv_top.proofs.Answering.{lines_take_answers}
 use Rattle.aplsv_top.proofs.SessionTurns.{IsAfter, present, gone, own_turn, other_turn}
 
@@ -60,11 +60,6 @@ round_goes_on count journal (session ∷ sessions) others h =
           (subst (λ number. IsNoneOf number (map owner sessions)) (sym same) others.0) (own_turn count journal session h.0),
       round_goes_on count (turn journal session).journal sessions others.1 (turn_of_one count journal session sessions others.0 h.1),
     )
-
--- new sessions are those of their users
-new_owners : (users : List PlainUser) → map owner (map new_session users) ≡ users
-new_owners [] = refl
-new_owners (user ∷ users) = ap (λ others. user ∷ others) (new_owners users)
 
 -- a new session is after no round
 new_is_after : (user : PlainUser) → IsAfter 0 [] (new_session user)

@@ -14,10 +14,11 @@ use Rattle.aplsv_top.specs.Turns.{IsJournalOfTurns}
 abbrev pub entries_of : Entries → ℕ → Entries
 entries_of journal party = filter (λ e. e.party == party && not (is_leave e.act)) journal
 
--- the acts of entries and their answers, the oldest first
+-- the acts of entries, the oldest first
 abbrev pub acts_in : Entries → List Act
 acts_in entries = reverse (map (λ e. e.act) entries)
 
+-- the answers of entries, the oldest first
 abbrev pub answers_in : Entries → List PlainAnswer
 answers_in entries = reverse (map (λ e. e.answer) entries)
 

@@ -7,7 +7,7 @@ use Rattle.aplsv_top.specs.User.{PlainUser, IsAscending}
 use Rattle.aplsv_top.specs.Session.{evaluated}
 use Rattle.aplsv_top.specs.PlainSession.{PlainSession}
 use Rattle.aplsv_top.specs.Transcripts.{PlainTranscript}
-use Rattle.aplsv_top.specs.Turns.{Replay, rounds, beginning}
+use Rattle.aplsv_top.specs.Turns.{Replay, rounds, beginning, IsJournalOfTurns}
 use Rattle.aplsv_top.specs.Run.{IsPart, AreParts}
 use Rattle.aplsv_top.specs.declared.session.Stage.TheVariants.{Ended}
 
@@ -33,3 +33,7 @@ abbrev pub RoundsEnd : Type 0
 RoundsEnd =
     (bundle : PlainBundle) (count : ℕ) → IsAscending bundle.users → All (λ user. length user.lines < count) bundle.users →
     IsOver bundle (rounds count (beginning bundle))
+
+-- the journal of a bundle's turns is one
+abbrev pub TurnsMakeOneJournal : Type 0
+TurnsMakeOneJournal = (bundle : PlainBundle) (journal other : Entries) → IsJournalOfTurns bundle journal → IsJournalOfTurns bundle other → journal ≡ other

@@ -82,6 +82,7 @@ abbrev pub answered_by : Names → List ℕ → Statement → PlainAnswer → Op
 answered_by names line statement answer (Some report) = record { names = names; printed = report_lines report line }
 answered_by names line statement answer None = granted_to names statement answer
 
+-- the same by the report that the answer is
 abbrev pub answered : Names → List ℕ → Statement → PlainAnswer → Effect
 answered names line statement answer = answered_by names line statement answer (report_in answer)
 
@@ -89,19 +90,21 @@ answered names line statement answer = answered_by names line statement answer (
 abbrev pub asked_by : Names → List ℕ → Option Act
 asked_by names line = option_and_then (act_of names) (statement_in line)
 
--- what a line does that asks no act; one that is no statement is reported
+-- what a line of this statement does that asks no act; a line of none is reported
 abbrev pub quiet_by : Names → List ℕ → Option Statement → Effect
 quiet_by names line None = record { names = names; printed = report_lines Syntax line }
 quiet_by names line (Some statement) = unasked names line statement
 
+-- what a line does that asks no act, by its statement
 abbrev pub quiet : Names → List ℕ → Effect
 quiet names line = quiet_by names line (statement_in line)
 
--- what a line does whose act was answered
+-- what a line of this statement does whose act was answered
 abbrev pub told_by : Names → List ℕ → PlainAnswer → Option Statement → Effect
 told_by names line answer None = record { names = names; printed = [] }
 told_by names line answer (Some statement) = answered names line statement answer
 
+-- what a line does whose act was answered
 abbrev pub told : Names → List ℕ → PlainAnswer → Effect
 told names line answer = told_by names line answer (statement_in line)
 

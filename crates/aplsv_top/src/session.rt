@@ -92,16 +92,13 @@ impl Session {
         if self.stage == Stage::Failed {
             return Err(WantOfMemory);
         }
-        match self.progress.advance(self.lines.as_slice()) {
-            Err(WantOfMemory) => {
-                self.stage = Stage::Failed;
-                Err(WantOfMemory)
-            }
-            Ok(Some(act)) => {
+        self.stage = Stage::Failed;
+        match self.progress.advance(self.lines.as_slice())? {
+            Some(act) => {
                 self.stage = Stage::Waiting;
                 Ok(Wants::Act(act))
             }
-            Ok(None) => {
+            None => {
                 self.stage = Stage::Ended;
                 Ok(Wants::Finished)
             }
@@ -114,14 +111,13 @@ impl Session {
         ensures ok { OnOk result (self.new ≡ record self.old { answers = self.old.answers ++ plain_answer answer ∷ []; stage = Stage.Ready }) }
         ensures err { OnErr result (self.new ≡ record self.old { stage = Stage.Failed }) }
     {
+        self.stage = Stage::Failed;
         if self.answers.reserve(1).is_err() {
             discard(answer);
-            self.stage = Stage::Failed;
             return Err(WantOfMemory);
         }
         if self.progress.take(self.lines.as_slice(), &answer).is_err() {
             discard(answer);
-            self.stage = Stage::Failed;
             return Err(WantOfMemory);
         }
         self.answers.push_reserved(answer);
