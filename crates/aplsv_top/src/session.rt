@@ -1,4 +1,4 @@
-ghost use Rattle.std.specs.Prelude.{◌≡◌, ◌∷◌, [], ◌++◌, IfOk, OnErr, OnOk};
+ghost use Rattle.std.specs.Prelude.{◌≡◌, ◌∷◌, [], ◌++◌, IfOk, IsErr, OnErr, OnOk};
 ghost use Rattle.sv_events.specs.Answer.{plain_answer};
 ghost use Rattle.aplsv_top.specs.Session.{evaluated};
 ghost use Rattle.aplsv_top.specs.Wants.{IsOfPresent, wanted, stage_by};
@@ -88,6 +88,7 @@ impl Session {
         ensures stage { IfOk result (λ wants. self.new ≡ record self.old { stage = stage_by (wanted wants) }) }
         ensures present { IfOk result IsOfPresent }
         ensures err { OnErr result (self.new ≡ record self.old { stage = Stage.Failed }) }
+        ensures for_good { self.old.stage ≡ Stage.Failed → IsErr result }
     {
         if self.stage == Stage::Failed {
             return Err(WantOfMemory);
