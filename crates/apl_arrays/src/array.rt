@@ -136,6 +136,18 @@ impl Array {
         })
     }
 
+    /// The array of a shape within the limits, and of as many items. ISO 8485. No memory.
+    pub fn shaped(shape: &[u32], items: Items) -> Array
+        requires fits { FitsLimits shape.now }
+        requires whole { element_count shape.now ≡ item_count (plain_items items) }
+        ensures { result ≡ record { shape = shape.now; items = plain_items items } }
+    {
+        match Array::try_new(shape, items) {
+            Ok(array) => array,
+            Err(_) => unreachable!(),
+        }
+    }
+
     /// The scalar of a number.
     pub fn scalar(alloc: Global, number: i64) -> Result<Array, WantOfMemory>
         ensures { IfOk result (λ array. array ≡ scalar number) }

@@ -13,7 +13,7 @@ mod report;
 mod text;
 mod verb;
 
-pub use array::{Array, ArrayRefused, Item, Items};
+pub use array::{Array, ArrayRefused, ELEMENT_LIMIT, Item, Items, RANK_LIMIT};
 pub use file::FileName;
 pub use file_list::{File, FileList};
 pub use glyph::Glyph;

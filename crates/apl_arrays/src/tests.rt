@@ -105,9 +105,18 @@ fn array_of(
     }
 }
 
+// Two rows of three items.
+fn two_rows(rt: &impl Abort, alloc: Global, chars: bool) -> Result<Array, WantOfMemory> {
+    let items = items_of(alloc, 6, chars)?;
+    assert!(rt; items.len() == 6);
+    let array = Array::shaped(&[2, 3], items);
+    assert!(rt; array == array_of(rt, alloc, &[2, 3], 6, chars)?);
+    Ok(array)
+}
+
 fn gives_items(rt: &impl Abort, alloc: Global) -> Result<(), WantOfMemory> {
-    let numbers = array_of(rt, alloc, &[2, 3], 6, false)?;
-    let chars = array_of(rt, alloc, &[2, 3], 6, true)?;
+    let numbers = two_rows(rt, alloc, false)?;
+    let chars = two_rows(rt, alloc, true)?;
     for at in 0..6usize {
         assert!(rt; at < numbers.items().len());
         assert_eq!(rt; numbers.item(at), Item::Number(at as i64));

@@ -11,11 +11,8 @@ use crate::matrices::extent_of;
 use crate::number::number_width;
 use crate::row::{push_row, row_of};
 use crate::widths::column_widths;
-use apl_arrays::{Array, Fail, Items, Line, List, Report, WantOfMemory};
+use apl_arrays::{Array, ELEMENT_LIMIT, Fail, Items, Line, List, Report, WantOfMemory};
 use std::alloc::Global;
-
-// The most elements of an array.
-const ELEMENT_LIMIT: usize = 16_384;
 
 // The array of characters in rows of a width.
 fn in_rows(front: &[u32], width: usize, characters: Line) -> Array
@@ -26,10 +23,7 @@ fn in_rows(front: &[u32], width: usize, characters: Line) -> Array
     let mut axes = [0; 8];
     axes[..front.len()].copy_from_slice(front);
     axes[front.len()] = width as u32;
-    match Array::try_new(&axes[..front.len() + 1], Items::Chars(characters)) {
-        Ok(array) => array,
-        Err(_) => unreachable!(),
-    }
+    Array::shaped(&axes[..front.len() + 1], Items::Chars(characters))
 }
 
 // How wide a line of columns is.

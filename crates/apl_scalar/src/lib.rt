@@ -12,5 +12,5 @@ mod table;
 mod tests;
 
 pub use loops::by_place;
-pub use scalar::{array_of, dyadic, monadic};
+pub use scalar::{dyadic, monadic};
 pub use table::{identity_of, item_of};

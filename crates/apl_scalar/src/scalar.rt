@@ -30,7 +30,7 @@ fn each_number(alloc: Global, f: Monad, b: &Array) -> Result<Array, Fail>
     ensures { Answers result (monadic_of f b.now) }
 {
     let items = own_items(alloc, f, b.items().len(), b.items())?;
-    Ok(array_of(b.shape(), Items::Numbers(items)))
+    Ok(Array::shaped(b.shape(), Items::Numbers(items)))
 }
 
 /// A monadic function of the number for each place.
@@ -82,7 +82,7 @@ fn item_by_item(alloc: Global, f: Dyad, a: &Array, b: &Array) -> Result<Array, F
 {
     let shaped = leader(a, b);
     let items = pair_items(alloc, f, shaped.items().len(), a.items(), b.items())?;
-    Ok(array_of(shaped.shape(), Items::Numbers(items)))
+    Ok(Array::shaped(shaped.shape(), Items::Numbers(items)))
 }
 
 /// A dyadic function of the pair of items for each place.
@@ -155,16 +155,4 @@ fn takes_chars(f: Dyad) -> bool
     ensures { result ≡ takes_chars f }
 {
     matches!(f, Dyad::Equal | Dyad::NotEqual)
-}
-
-/// The array of a shape within the limits, and of as many items. This profile. No memory.
-pub fn array_of(shape: &[u32], items: Items) -> Array
-    requires fits { FitsLimits shape.now }
-    requires whole { element_count shape.now ≡ item_count (plain_items items) }
-    ensures { result ≡ record { shape = shape.now; items = plain_items items } }
-{
-    match Array::try_new(shape, items) {
-        Ok(array) => array,
-        Err(_) => unreachable!(),
-    }
 }

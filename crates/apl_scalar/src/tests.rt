@@ -1,6 +1,6 @@
 mod cases;
 
-use crate::{array_of, by_place, dyadic, identity_of, item_of, monadic};
+use crate::{by_place, dyadic, identity_of, item_of, monadic};
 use apl_arrays::{
     Array, Dyad, Fail, Glyph, Item, Items, Line, List, Monad, NumberList, Report, WantOfMemory,
 };
@@ -43,7 +43,7 @@ fn items_by_place(rt: HostRuntime) {
         array_in(&rt, rt.alloc(), "[2 2]0 1 2 3"),
     ) {
         (Ok(list), Ok(expected)) => {
-            assert!(rt; array_of(&[2, 2], Items::Numbers(list)) == expected);
+            assert!(rt; Array::shaped(&[2, 2], Items::Numbers(list)) == expected);
         }
         _ => return,
     }

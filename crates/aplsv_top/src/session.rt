@@ -140,3 +140,6 @@ impl Session {
 }
 
 fn discard(_answer: Answer) {}
+
+#[cfg(test)]
+mod tests;

@@ -7,7 +7,7 @@ use std::alloc::Global;
 use sv_events::{Act, Answer, Entry, Pair};
 
 // What was wrong with a sample.
-const BAD_SAMPLE: GlyphRefused = GlyphRefused::BadGlyph(0);
+pub(crate) const BAD_SAMPLE: GlyphRefused = GlyphRefused::BadGlyph(0);
 
 // What is made, tried once more where memory failed it.
 pub(crate) fn twice<F: Fn(Global) -> Result<Bytes, GlyphRefused>>(

@@ -1,5 +1,5 @@
 -- What a core keeps is kept by an entry more.
-use Rattle.std.proofs.Common.{◌≡◌, ◌≤◌, ◌<◌, ◌+◌, ◌*◌, ℕ, Bool, true, false, not, leb, ◌||◌, ◌&&◌, ◌==◌, List, [], ◌∷◌, ◌++◌, length, map, filter, count_by, sum_by, cond, ap, sym, refl, ◌∙◌, arith, add_comm, IsTrue, Result, Ok, Err, OnOk, is_ok, All, subst}
+use Rattle.std.proofs.Common.{◌≡◌, ◌≤◌, ◌<◌, ◌+◌, ℕ, Bool, true, false, not, leb, ◌||◌, ◌&&◌, ◌==◌, List, [], ◌∷◌, ◌++◌, length, map, filter, count_by, cond, ap, sym, refl, ◌∙◌, arith, add_comm, IsTrue, Result, Ok, Err, OnOk, is_ok, All, subst}
 use Rattle.std.proofs.lemmas.List.{append-nil}
 use Rattle.std.proofs.lemmas.Bool.{or_parts, leb-false}
 use Rattle.std.proofs.lemmas.List.Elements.{filter_agree, All-weaker}
@@ -12,7 +12,7 @@ use Rattle.sv_rules.specs.declared.standing.Standing.{Standing}
 use Rattle.sv_rules.specs.Entries.{Entries, has_left, is_leave, is_full, counted_entries, held_elements, entry_elements, next_place}
 use Rattle.sv_rules.specs.Standing.{standing}
 use Rattle.sv_rules.specs.Coupling.{couplings, made_in, both_stand}
-use Rattle.sv_rules.specs.Legal.{IsLegal, MayFollow}
+use Rattle.sv_rules.specs.Legal.{MayFollow}
 use Rattle.sv_core.specs.Core.{present, IsKept, IsQuiet, IsPlaced, IsSpare}
 
 and-false : (b : Bool) → (b && false) ≡ false

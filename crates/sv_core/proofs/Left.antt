@@ -1,22 +1,21 @@
 -- What a core keeps is kept by a leave.
-use Rattle.std.proofs.Common.{◌≡◌, ◌≤◌, ◌<◌, ◌+◌, ◌*◌, ℕ, Bool, true, false, not, ◌||◌, ◌&&◌, ◌==◌, nat_lt, List, [], ◌∷◌, ◌++◌, All, Option, None, Some, IfSome, option_map, option_to_list, length, map, find, ap, sym, refl, ◌∙◌, subst, cond, arith, length-append, ⊎_elim, sum_by}
-use Rattle.std.proofs.lemmas.List.{length-map}
+use Rattle.std.proofs.Common.{◌≡◌, ◌≤◌, ◌+◌, ◌*◌, ℕ, Bool, true, false, not, ◌||◌, ◌&&◌, ◌==◌, nat_lt, List, [], ◌∷◌, ◌++◌, All, Option, None, Some, IfSome, option_map, option_to_list, length, map, find, ap, sym, refl, ◌∙◌, subst, cond, arith, length-append, ⊎_elim}
 use Rattle.std.proofs.lemmas.List.Sums.{sum_by-cons, length-filter, count_by-le-length}
 use Rattle.std.proofs.lemmas.Nat.{mul-le}
-use Rattle.std.proofs.lemmas.Bool.{or_cases, or_left, or_right, eqb-true, eq-eqb, and_from, and_parts, cond_both, not_from_true, cond-true, cond-false, or_from}
-use Rattle.std.proofs.lemmas.List.Elements.{All-head, All-tail, All-nil, All-cons, All-append, All-weaker, All-map, All-filter, filter-append, filter_passes}
-use Rattle.std.specs.List.{filter, list_any}
+use Rattle.std.proofs.lemmas.Bool.{or_cases, or_left, or_right, eqb-true, eq-eqb, and_from, and_parts, cond_both}
+use Rattle.std.proofs.lemmas.List.Elements.{All-head, All-tail, All-nil, All-cons, All-append, All-weaker, All-filter, filter-append}
+use Rattle.std.specs.List.{filter}
 use Rattle.apl_arrays.specs.List.{Listed}
 use Rattle.sv_events.specs.Entry.{PlainEntry}
 use Rattle.sv_events.specs.declared.entry.Pair.{Pair}
 use Rattle.sv_rules.specs.declared.coupling.Made.{Made}
 use Rattle.sv_rules.specs.declared.standing.Standing.{Standing}
-use Rattle.sv_rules.specs.Entries.{Entries, next_place, is_leave, has_left, entry_elements, counted_entries, held_elements}
-use Rattle.sv_rules.specs.Standing.{standing, without_party, is_match}
+use Rattle.sv_rules.specs.Entries.{Entries, next_place, is_leave, has_left, entry_elements}
+use Rattle.sv_rules.specs.Standing.{standing, without_party}
 use Rattle.sv_rules.specs.Coupling.{couplings, made_in, both_stand, stands_at, is_coupled, open_match, pair_of, rejoined, recoupled, couplings_among, reopened_among, made_by_leave}
 use Rattle.sv_rules.specs.Legal.{MayFollow, is_user}
 use Rattle.sv_core.specs.Core.{present, IsKept, IsPlaced, leave_entry, made_at, IsSpare}
-use Rattle.sv_core.proofs.Filters.{filter_where, filter_whole, filter-filter, list_any-filter}
+use Rattle.sv_core.proofs.Filters.{filter_whole, filter-filter, list_any-filter}
 use Rattle.sv_core.proofs.Kept.{later_offers, later_pairs, not_true}
 use Rattle.sv_core.proofs.Opened.{stands_placed}
 

@@ -1,8 +1,8 @@
 -- What a core keeps is kept by a new offer.
-use Rattle.std.proofs.Common.{◌≡◌, ◌≤◌, ◌<◌, ◌+◌, ◌*◌, ℕ, Bool, true, false, ◌||◌, ◌&&◌, ◌==◌, List, [], ◌∷◌, ◌++◌, All, Option, None, is_none, length, map, ap, sym, refl, ◌∙◌, subst, cond, arith, length-append, ⊎_elim}
+use Rattle.std.proofs.Common.{◌≡◌, ◌≤◌, ◌<◌, ◌+◌, ◌*◌, ℕ, true, ◌||◌, ◌&&◌, ◌==◌, List, [], ◌∷◌, ◌++◌, All, Option, is_none, length, map, ap, sym, refl, ◌∙◌, subst, cond, arith, length-append, ⊎_elim}
 use Rattle.std.proofs.lemmas.List.{length-map}
 use Rattle.std.proofs.lemmas.Nat.{mul-le}
-use Rattle.std.proofs.lemmas.Bool.{or_cases, or_left, or_right, eqb-true, eq-eqb, false_from_ne_true, cond-true, and_from}
+use Rattle.std.proofs.lemmas.Bool.{or_cases, or_left, or_right, eqb-true, eq-eqb, false_from_ne_true, and_from}
 use Rattle.std.proofs.lemmas.List.Elements.{All-head, All-tail, All-append, All-weaker, All-map, All-push, filter-append}
 use Rattle.std.specs.List.{filter}
 use Rattle.apl_arrays.specs.Array.{PlainArray}
@@ -12,8 +12,8 @@ use Rattle.sv_events.specs.Entry.{PlainEntry}
 use Rattle.sv_events.specs.declared.entry.Pair.{Pair}
 use Rattle.sv_rules.specs.declared.coupling.Made.{Made}
 use Rattle.sv_rules.specs.declared.standing.Standing.{Standing}
-use Rattle.sv_rules.specs.Entries.{Entries, is_degree, entry_elements, next_place, is_leave, counted_entries, held_elements}
-use Rattle.sv_rules.specs.Standing.{standing, with_offer, own_offer}
+use Rattle.sv_rules.specs.Entries.{Entries, entry_elements, next_place, held_elements}
+use Rattle.sv_rules.specs.Standing.{standing, with_offer}
 use Rattle.sv_rules.specs.Coupling.{couplings, made_in, both_stand, stands_at}
 use Rattle.sv_rules.specs.Legal.{MayFollow}
 use Rattle.sv_core.specs.Core.{present, IsKept, IsPlaced, IsOpened, offer_entry, made_at, IsSpare}

@@ -1,5 +1,5 @@
 -- The steps of a leave, one after another, are the leave.
-use Rattle.std.proofs.Common.{◌≡◌, ◌≤◌, ℕ, Bool, not, ◌&&◌, List, length, ap, sym, ◌∙◌, arith, ◌==◌}
+use Rattle.std.proofs.Common.{◌≡◌, ◌≤◌, ℕ, not, ◌&&◌, List, length, ap, ◌∙◌, arith, ◌==◌}
 use Rattle.std.specs.List.{filter}
 use Rattle.sv_rules.specs.declared.coupling.Made.{Made}
 use Rattle.sv_rules.specs.declared.standing.Standing.{Standing}

@@ -1,4 +1,4 @@
-use Rattle.std.specs.Prelude.{◌≡◌, ◌≤◌, ◌+◌, ◌*◌, ℕ, Bool, true, false, not, List, [], ◌∷◌, length, count_by, All, Option, None}
+use Rattle.std.specs.Prelude.{◌≡◌, ◌≤◌, ◌+◌, ◌*◌, ℕ, true, false, not, List, [], ◌∷◌, length, count_by, All, Option, None}
 use Rattle.apl_arrays.specs.List.{Listed}
 use Rattle.apl_arrays.specs.Array.{PlainArray}
 use Rattle.sv_events.specs.Answer.{PlainAnswer, done}

@@ -4,7 +4,7 @@ ghost use Rattle.sv_events.specs.Answer.{plain_answer};
 ghost use Rattle.sv_rules.specs.Entries.{is_leave, has_left, elements_of, elements_asked, value_got};
 ghost use Rattle.sv_rules.specs.Journal.{journal_of};
 
-use apl_arrays::Array;
+use apl_arrays::{Array, ELEMENT_LIMIT};
 use sv_events::{Act, Answer, Entry};
 
 /// Whether the act is a leave.
@@ -29,14 +29,14 @@ pub fn has_left(entries: &[Entry], party: u32) -> bool
 
 fn element_count(value: &Array) -> u64
     ensures count { result ≡ item_count value.now.items }
-    ensures limit { result ≤ 16384 }
+    ensures limit { result ≤ ELEMENT_LIMIT }
 {
     value.items().len() as u64
 }
 
 fn elements_of(value: &Option<Array>) -> u64
     ensures count { result ≡ elements_of value.now }
-    ensures limit { result ≤ 16384 }
+    ensures limit { result ≤ ELEMENT_LIMIT }
 {
     match value {
         None => 0,
@@ -47,7 +47,7 @@ fn elements_of(value: &Option<Array>) -> u64
 /// How many elements an act holds.
 pub fn elements_asked(act: &Act) -> u64
     ensures count { result ≡ elements_asked act.now }
-    ensures limit { result ≤ 16384 }
+    ensures limit { result ≤ ELEMENT_LIMIT }
 {
     match act {
         Act::Offer { value, .. } => elements_of(value),
@@ -59,7 +59,7 @@ pub fn elements_asked(act: &Act) -> u64
 /// How many elements an answer holds.
 pub fn elements_told(answer: &Answer) -> u64
     ensures count { result ≡ elements_of (value_got (plain_answer answer.now)) }
-    ensures limit { result ≤ 16384 }
+    ensures limit { result ≤ ELEMENT_LIMIT }
 {
     match answer {
         Answer::Value(value) => element_count(value),

@@ -1,4 +1,4 @@
-use Rattle.std.proofs.Common.{◌≡◌, ◌≤◌, ◌+◌, filter, length, take, drop, vec_len, vec_capacity}
+use Rattle.std.proofs.Common.{◌≡◌, ◌≤◌, filter, take, vec_len, vec_capacity}
 use Rattle.sv_rules.specs.Coupling.{is_coupled}
 use Rattle.sv_core.proofs.room.note_coupled.Given as goal
 

@@ -1,4 +1,4 @@
-use Rattle.std.proofs.Common.{◌≡◌, ◌≤◌, ◌<◌, ℕ, All, take, vec_len}
+use Rattle.std.proofs.Common.{◌≡◌, ℕ, All, take, vec_len}
 use Rattle.sv_core.specs.Core.{IsSpare}
 use Rattle.sv_core.proofs.room.widen_spares.Given as goal
 

@@ -1,4 +1,4 @@
-use Rattle.std.proofs.Common.{◌≡◌, ◌≤◌, ◌<◌, ◌+◌, ◌*◌, ◌∷◌, ◌++◌, [], ℕ, List, All, ap, sym, refl, ◌∙◌, subst, length, map, reverse, arith, vec_len, vec_capacity}
+use Rattle.std.proofs.Common.{◌≡◌, ◌≤◌, ◌+◌, ◌*◌, ◌∷◌, ◌++◌, [], All, ap, sym, refl, ◌∙◌, subst, length, map, reverse, arith, vec_len, vec_capacity}
 use Rattle.std.proofs.lemmas.List.{reverse-append}
 use Rattle.sv_events.specs.Answer.{plain_answer}
 use Rattle.sv_rules.specs.Legal.{MayFollow}

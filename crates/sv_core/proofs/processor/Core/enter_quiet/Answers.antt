@@ -1,9 +1,8 @@
-use Rattle.std.proofs.Common.{◌≡◌, ◌≤◌, ◌+◌, ◌∷◌, ◌++◌, [], ap, sym, ◌∙◌, subst, length, reverse, count_by, arith, OnOk}
+use Rattle.std.proofs.Common.{◌≡◌, ◌≤◌, ◌∷◌, ◌++◌, [], ap, sym, ◌∙◌, subst, reverse, arith}
 use Rattle.std.proofs.lemmas.List.{reverse-append}
-use Rattle.sv_events.specs.Entry.{PlainEntry, plain_entry}
-use Rattle.sv_rules.specs.Entries.{Entries, entry_elements}
+use Rattle.sv_events.specs.Entry.{plain_entry}
 use Rattle.sv_rules.specs.Legal.{MayFollow}
-use Rattle.sv_core.specs.Core.{PlainCore, present, IsKept, IsQuiet}
+use Rattle.sv_core.specs.Core.{PlainCore, present, IsQuiet}
 use Rattle.sv_core.proofs.Kept.{kept_quiet, on_success, present-le-length}
 use Rattle.sv_core.proofs.processor.Core.enter_quiet.Goals as goal
 

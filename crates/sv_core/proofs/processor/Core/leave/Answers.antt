@@ -1,9 +1,8 @@
-use Rattle.std.proofs.Common.{◌≡◌, ◌≤◌, ◌<◌, ◌+◌, ◌*◌, ◌∷◌, ◌++◌, [], ℕ, true, not, List, ap, sym, ◌∙◌, subst, length, map, reverse, arith, vec_len, vec_capacity}
+use Rattle.std.proofs.Common.{◌≡◌, ◌≤◌, ◌∷◌, ◌++◌, [], true, not, ap, sym, ◌∙◌, subst, length, map, reverse, arith, vec_capacity}
 use Rattle.std.proofs.lemmas.List.{reverse-append}
-use Rattle.sv_rules.specs.declared.coupling.Made.{Made}
-use Rattle.sv_rules.specs.Entries.{Entries, has_left, next_place}
+use Rattle.sv_rules.specs.Entries.{has_left, next_place}
 use Rattle.sv_rules.specs.Standing.{standing, without_party}
-use Rattle.sv_rules.specs.Coupling.{couplings, couplings_among, made_by_leave}
+use Rattle.sv_rules.specs.Coupling.{couplings_among, made_by_leave}
 use Rattle.sv_rules.specs.Legal.{is_user}
 use Rattle.sv_core.specs.Core.{PlainCore, present, leave_entry}
 use Rattle.sv_core.proofs.Kept.{kept_same}

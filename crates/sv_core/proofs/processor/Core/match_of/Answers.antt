@@ -1,4 +1,4 @@
-use Rattle.std.proofs.Common.{◌≡◌, ◌<◌, ◌≤◌, ◌+◌, true, Option, None, Some, IfSome, List, All, ap, sym, ◌∙◌, subst, length, reverse, arith}
+use Rattle.std.proofs.Common.{◌≡◌, ◌<◌, ◌≤◌, true, Option, None, Some, IfSome, All, ap, sym, ◌∙◌, subst, length, reverse, arith}
 use Rattle.sv_rules.specs.declared.standing.Standing.{Standing}
 use Rattle.sv_rules.specs.Entries.{Entries, next_place}
 use Rattle.sv_rules.specs.Standing.{standing}

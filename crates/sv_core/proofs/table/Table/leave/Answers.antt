@@ -1,7 +1,5 @@
-use Rattle.std.proofs.Common.{◌≡◌, ◌≤◌, ◌+◌, ◌∙◌, ◌++◌, [], ◌∷◌, Some, List, All, ap, sym, subst, filter, length, map, vec_len, arith}
+use Rattle.std.proofs.Common.{◌≡◌, ◌∙◌, ◌++◌, Some, ap, filter, length, map, vec_len, arith}
 use Rattle.std.proofs.lemmas.List.Elements.{All-pop}
-use Rattle.sv_rules.specs.declared.coupling.Made.{Made}
-use Rattle.sv_rules.specs.declared.standing.Standing.{Standing}
 use Rattle.sv_rules.specs.Standing.{without_party}
 use Rattle.sv_rules.specs.Coupling.{is_coupled, couplings_among, reopened_among, recoupled, made_by_leave}
 use Rattle.sv_core.specs.Core.{IsSpare}

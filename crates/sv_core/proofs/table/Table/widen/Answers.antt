@@ -1,4 +1,4 @@
-use Rattle.std.proofs.Common.{◌≡◌, ◌≤◌, ◌+◌, ◌*◌, ℕ, All, sym, subst, arith, vec_len, vec_capacity}
+use Rattle.std.proofs.Common.{◌≡◌, ◌≤◌, ◌+◌, ◌*◌, All, sym, subst, arith, vec_len, vec_capacity}
 use Rattle.sv_core.specs.Core.{IsSpare}
 use Rattle.sv_core.proofs.table.Table.widen.Goals as goal
 
