@@ -1,3 +1,5 @@
+ghost use Rattle.std.specs.Prelude.{◌≡◌};
+
 use apl_io::{Failed, Sink, Source};
 use std::io::{Read, Write};
 
@@ -11,7 +13,9 @@ pub struct StdSource<R> {
 
 impl<R> StdSource<R> {
     /// A source over a reader, which has not failed. No memory.
-    pub fn new(inner: R) -> Self {
+    pub fn new(inner: R) -> Self
+        ensures { result ≡ record { inner = inner; faults = 0 } }
+    {
         StdSource { inner, faults: 0 }
     }
 }
@@ -46,7 +50,9 @@ pub struct StdSink<W> {
 
 impl<W> StdSink<W> {
     /// A sink over a writer, which has not failed. No memory.
-    pub fn new(inner: W) -> Self {
+    pub fn new(inner: W) -> Self
+        ensures { result ≡ record { inner = inner; faults = 0 } }
+    {
         StdSink { inner, faults: 0 }
     }
 }

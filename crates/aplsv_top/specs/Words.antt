@@ -25,3 +25,13 @@ IsAnswered status.Usage = ⊥
 IsAnswered status.ReadFault = ⊥
 IsAnswered status.WriteFault = ⊥
 IsAnswered status.TooLong = ⊥
+
+-- the exit status of the process, for each way to end
+abbrev pub exit_status : Status → ℕ
+exit_status status.Done = 0
+exit_status status.Usage = 1
+exit_status (status.Malformed offset rule) = 2
+exit_status status.ReadFault = 3
+exit_status status.WriteFault = 4
+exit_status status.TooLong = 5
+exit_status status.WantOfMemory = 6

@@ -1,3 +1,6 @@
+ghost use Rattle.std.specs.Prelude.{◌≡◌};
+ghost use Rattle.aplsv_top.specs.Words.{exit_status};
+
 use crate::bundle::BundleRule;
 use std::fmt;
 
@@ -22,7 +25,9 @@ pub enum Status {
 
 impl Status {
     /// The exit status of the process. This profile's numbers.
-    pub fn code(self) -> u8 {
+    pub fn code(self) -> u8
+        ensures { result ≡ exit_status self }
+    {
         match self {
             Status::Done => 0,
             Status::Usage => 1,
