@@ -4,20 +4,20 @@ use Rattle.std.specs.declared.option.Option.{Option}
 use Rattle.std.specs.Io.KnownBytes.{Appends}
 use Rattle.apl_io.specs.Whole.{ReadsAll, AppendsPrefix}
 use Rattle.sv_rules.specs.Entries.{Entries}
-use Rattle.aplsv_top.specs.Bundle.{PlainBundle, BundleText}
+use Rattle.aplsv_top.specs.Bundle.{PlainBundle, BundleText, IsNoBundle}
 use Rattle.aplsv_top.specs.Output.{output_text}
 use Rattle.aplsv_top.specs.Printable.{ArePrintable}
 use Rattle.aplsv_top.specs.Run.{IsRun}
 use Rattle.aplsv_top.specs.Transcripts.{PlainTranscript}
 
--- the text is the output of a run of this bundle: its transcripts, and its journal with the oldest entry first; and it
--- is the output of no others
+-- the text is the output of a run of this bundle: its transcripts, and its journal with the oldest entry first. They are
+-- printable, and no others that are have this output
 pub record IsOutputOf (bundle : PlainBundle) (text : List ℕ) : Type 0 where
   pub transcripts : List PlainTranscript
   pub journal : Entries
   pub run : IsRun bundle journal transcripts
   pub output : text ≡ output_text transcripts (reverse journal)
-  pub only : ArePrintable transcripts (reverse journal)
+  pub printable : ArePrintable transcripts (reverse journal)
 
 -- the bytes are the text of a bundle, and the text is the output of a run of it
 pub record IsOutputFor (bytes text : List ℕ) : Type 0 where
@@ -40,3 +40,9 @@ pub record WritesFront (left rest held now : Option (List ℕ)) : Type 0 where
   pub read : ReadsAll left rest bytes
   pub run : IsOutputFor bytes text
   pub written : AppendsPrefix held now text
+
+-- all bytes were read, to their end, and they are the text of no bundle
+pub record FindsNoBundle (left rest : Option (List ℕ)) : Type 0 where
+  pub bytes : List ℕ
+  pub read : ReadsAll left rest bytes
+  pub none : IsNoBundle bytes

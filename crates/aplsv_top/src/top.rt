@@ -1,9 +1,9 @@
-ghost use Rattle.std.specs.Prelude.{◌≡◌, ◌≢◌, ◌+◌, ◌↔◌, ℕ, List as ListOf, IsTrue, IfOk, IfSome, IsSomeAnd, codes, map, string_bytes, vec_len};
+ghost use Rattle.std.specs.Prelude.{◌≡◌, ◌≢◌, ◌+◌, ◌↔◌, ℕ, List as ListOf, IsTrue, IfOk, IsSomeAnd, codes, map, string_bytes, vec_len};
 ghost use Rattle.std.specs.Io.KnownBytes.{Appends};
 ghost use Rattle.apl_io.specs.Faults.{Rose};
 ghost use Rattle.apl_io.specs.Whole.{AreAtMost, AppendsPrefix, TakesExactly, TakesAtMost};
 ghost use Rattle.aplsv_top.specs.Bundle.{IsNoBundle};
-ghost use Rattle.aplsv_top.specs.Headline.{IsOutputOf, IsOutputFor, WritesRun, WritesFront};
+ghost use Rattle.aplsv_top.specs.Headline.{IsOutputOf, IsOutputFor, WritesRun, WritesFront, FindsNoBundle};
 ghost use Rattle.aplsv_top.specs.Words.{AskReplay, IsAnswered, IsMalformed};
 ghost use Rattle.aplsv_top.specs.declared.status.Status.TheVariants as status;
 
@@ -42,11 +42,12 @@ pub fn aplsv_replay_words<S: Source, W: Sink, T, C, K>(
 
     // Each other answer has its cause.
     ensures usage { (result.status ≡ status.Usage) ↔ ¬ AskReplay (map string_bytes words.now) }
+    ensures unread { result.status ≡ status.Usage → input.new ≡ input.old }
     ensures read_fault { result.status ≡ status.ReadFault → Rose (S.faults input.old) (S.faults input.new) }
     ensures write_fault { result.status ≡ status.WriteFault → Rose (W.faults output.old) (W.faults output.new) }
     ensures too_long { result.status ≡ status.TooLong → TakesExactly (S.left input.old) (S.left input.new) (INPUT_LIMIT + 1) }
     ensures taken { result.status ≢ status.TooLong → TakesAtMost (S.left input.old) (S.left input.new) INPUT_LIMIT }
-    ensures malformed { IsMalformed result.status → IfSome (S.left input.old) IsNoBundle }
+    ensures malformed { IsMalformed result.status → FindsNoBundle (S.left input.old) (S.left input.new) }
     ensures no_bundle { IsSomeAnd (S.left input.old) IsNoBundle → (result.status ≢ status.Done) × (result.status ≢ status.WriteFault) }
     ensures unwritten { result.status ≢ status.Done → result.status ≢ status.WriteFault → output.new ≡ output.old }
 
@@ -92,7 +93,7 @@ fn run<S: Source, W: Sink>(alloc: Global, input: &mut S, output: &mut W) -> Stat
     ensures write_fault { result ≡ status.WriteFault → Rose (W.faults output.old) (W.faults output.new) }
     ensures too_long { result ≡ status.TooLong → TakesExactly (S.left input.old) (S.left input.new) (INPUT_LIMIT + 1) }
     ensures taken { result ≢ status.TooLong → TakesAtMost (S.left input.old) (S.left input.new) INPUT_LIMIT }
-    ensures malformed { IsMalformed result → IfSome (S.left input.old) IsNoBundle }
+    ensures malformed { IsMalformed result → FindsNoBundle (S.left input.old) (S.left input.new) }
     ensures unwritten { result ≢ status.Done → result ≢ status.WriteFault → output.new ≡ output.old }
 {
     match read_all(alloc, input, INPUT_LIMIT) {
