@@ -2,7 +2,7 @@
 use Rattle.std.proofs.Common.{◌≡◌, ℕ, ◌+◌, ◌<◌, ◌≤◌, Bool, true, ◌&&◌, cond, List, [], ◌∷◌, ◌++◌, length, map, Option, Some, None, is_some, IsSome, refl, sym, ap, subst, ◌∙◌, arith, length-append, append_assoc, append-nil}
 use Rattle.std.specs.Prelude.{option_and_then, option_to_list, nat_lt, nat_le}
 use Rattle.std.specs.Option.{option_map_or}
-use Rattle.std.specs.List.{All}
+use Rattle.std.specs.List.{All, flat_map}
 use Rattle.std.proofs.lemmas.Bool.{lt-ltb, le-leb}
 use Rattle.std.proofs.lemmas.List.{map-append}
 use Rattle.std.proofs.lemmas.Option.{cond_some}
@@ -13,7 +13,20 @@ use Rattle.aplsv_top.specs.Statement.{statement_in}
 use Rattle.aplsv_top.specs.User.{PlainUser, IsAscending}
 use Rattle.aplsv_top.specs.Bundle.{PlainBundle, IsUser, IsLine, AreStatements, IsBundle}
 use Rattle.aplsv_top.specs.BundleLine.{PlainLine, user, input}
-use Rattle.aplsv_top.specs.Draft.{PlainDraft, nothing_read, users_of, after_input, draft_after, bundle_from, lines_of_user, lines_of}
+use Rattle.aplsv_top.specs.Draft.{PlainDraft, nothing_read, users_of, after_input, draft_after, bundle_of}
+
+-- the bundle that lines make of a draft
+abbrev pub bundle_from : PlainDraft → List PlainLine → Option PlainBundle
+bundle_from draft [] = bundle_of draft
+bundle_from draft (line ∷ lines) = option_and_then (λ next. bundle_from next lines) (draft_after draft line)
+
+-- the lines of a user
+abbrev pub lines_of_user : PlainUser → List PlainLine
+lines_of_user one = user one.number ∷ map (λ line. input line) one.lines
+
+-- the lines of users
+abbrev pub lines_of : List PlainUser → List PlainLine
+lines_of users = flat_map lines_of_user users
 
 pub step : (draft next : PlainDraft) (line : PlainLine) (rest : List PlainLine) → draft_after draft line ≡ Some next → bundle_from draft (line ∷ rest) ≡ bundle_from next rest
 step draft next line rest leads = ap (option_and_then (λ one. bundle_from one rest)) leads

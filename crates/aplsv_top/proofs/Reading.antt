@@ -11,9 +11,9 @@ use Rattle.aplsv_top.specs.Refused.{IsReason}
 use Rattle.aplsv_top.specs.User.{PlainUser}
 use Rattle.aplsv_top.specs.Bundle.{PlainBundle, IsUser, IsLine, IsBundle, ended, content, user_spelling, bundle_spelling, BundleText, IsNoBundle}
 use Rattle.aplsv_top.specs.BundleLine.{PlainLine, user, input, IsBundleLine, IsTextOf, line_spelling}
-use Rattle.aplsv_top.specs.Draft.{PlainDraft, nothing_read, users_of, bundle_of, bundle_from, lines_of_user, lines_of, Reads, ReadsNothing}
+use Rattle.aplsv_top.specs.Draft.{PlainDraft, nothing_read, users_of, bundle_of, Reads, ReadsNothing}
 use Rattle.aplsv_top.proofs.Texts.{HasNoFeed, cut, line_has_no_feed, same_line, end_is_no_line}
-use Rattle.aplsv_top.proofs.Lines.{bundle_read, lines_grow, step}
+use Rattle.aplsv_top.proofs.Lines.{bundle_from, lines_of_user, lines_of, bundle_read, lines_grow, step}
 
 -- the text of lines
 abbrev pub text_of : List PlainLine → List ℕ

@@ -1,6 +1,5 @@
 -- A bundle that is read line by line.
-use Rattle.std.specs.Prelude.{◌≡◌, ℕ, ◌≤◌, Bool, true, ◌&&◌, nat_lt, nat_le, List, [], ◌∷◌, ◌++◌, length, All, map, Option, Some, None, is_some, option_and_then, option_to_list, if◌then◌else◌}
-use Rattle.std.specs.List.{flat_map}
+use Rattle.std.specs.Prelude.{◌≡◌, ℕ, ◌≤◌, Bool, true, ◌&&◌, nat_lt, nat_le, List, [], ◌∷◌, ◌++◌, length, All, Option, Some, None, is_some, option_to_list, if◌then◌else◌}
 use Rattle.std.specs.Option.{option_map_or}
 use Rattle.aplsv_top.specs.Statement.{statement_in}
 use Rattle.aplsv_top.specs.User.{PlainUser, IsAscending}
@@ -46,11 +45,6 @@ draft_after draft (input line) = after_input draft draft.current line
 abbrev pub bundle_of : PlainDraft → Option PlainBundle
 bundle_of draft = if draft.formed then Some (record { users = users_of draft }) else None
 
--- the bundle that lines make of a draft
-abbrev pub bundle_from : PlainDraft → List PlainLine → Option PlainBundle
-bundle_from draft [] = bundle_of draft
-bundle_from draft (line ∷ lines) = option_and_then (λ next. bundle_from next lines) (draft_after draft line)
-
 -- what a draft keeps: all rules but that lines are statements, which it knows
 pub record IsDraft (draft : PlainDraft) : Type 0 where
   pub first : draft.current ≡ None → draft.users ≡ []
@@ -58,14 +52,6 @@ pub record IsDraft (draft : PlainDraft) : Type 0 where
   pub ascending : IsAscending (users_of draft)
   pub each : All IsUser (users_of draft)
   pub statements : draft.formed ≡ true → All AreStatements (users_of draft)
-
--- the lines of a user
-abbrev pub lines_of_user : PlainUser → List PlainLine
-lines_of_user one = user one.number ∷ map (λ line. input line) one.lines
-
--- the lines of users
-abbrev pub lines_of : List PlainUser → List PlainLine
-lines_of users = flat_map lines_of_user users
 
 -- the bytes are a line that leads from one draft to the next
 abbrev pub Reads : PlainDraft → List ℕ → PlainDraft → Type 0

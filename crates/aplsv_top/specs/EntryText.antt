@@ -16,7 +16,7 @@ act_text (Set name new) = spaced (codes "set" ∷ name ∷ array_text new ∷ []
 act_text (Use name) = spaced (codes "use" ∷ name ∷ [])
 act_text Leave = codes "leave"
 
--- an answer: its word, and what it tells. No entry is answered that the journal is full
+-- an answer: its word, and what it tells. No entry is answered full, which has a word so that every answer has one
 abbrev pub answer_text : PlainAnswer → List ℕ
 answer_text (degree d) = spaced (codes "degree" ∷ decimal d ∷ [])
 answer_text granted = codes "granted"

@@ -14,7 +14,8 @@ rule_text Party = codes "party"
 rule_text Limit = codes "limit"
 rule_text End = codes "end"
 
--- the fact for which Malformed is answered; memory may run out at any bytes
+-- what has to be true where this is answered: the fact for Malformed, of whose offset and rule nothing is said, and
+-- nothing where memory ran out
 abbrev pub IsReason : BundleRefused → Type 0 → Type 0
 IsReason (Malformed offset rule) fact = fact
 IsReason WantOfMemory fact = Unit {0}

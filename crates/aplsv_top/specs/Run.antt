@@ -27,9 +27,9 @@ abbrev pub before_leave : Entries → ℕ → Entries
 before_leave [] party = []
 before_leave (e ∷ journal) party = if e.party == party && is_leave e.act then journal else before_leave journal party
 
--- a user's part of a run. It has left. Its lines are evaluated with the answers of its entries, and then that the
--- journal is full, which it has to be before the user left: the acts asked are those of its entries, and then those
--- that were refused for it; none waits; and this is the transcript
+-- a user's part of a run. It has left. Its lines are evaluated with the answers of its entries, and then with full for
+-- each act that was refused, of which there are some only where the journal was full before the user left: the acts
+-- asked are those of its entries, and then the refused ones; none waits; and this is the transcript
 pub record IsPart (journal : Entries) (user : PlainUser) (transcript : List (List ℕ)) : Type 0 where
   pub left : IsTrue (has_left journal user.number)
   pub refused : List Act

@@ -38,7 +38,7 @@ abbrev pub looked_up : List ℕ → Option PlainArray → List (List ℕ)
 looked_up line None = report_lines Value line
 looked_up line (Some found) = display_lines found
 
--- what a statement does that asks no act
+-- what a statement does that asks no act; an offer always asks one
 abbrev pub unasked : Names → List ℕ → Statement → Effect
 unasked names line (Assign name number) = record { names = with_value names name (scalar number); printed = [] }
 unasked names line (Offer to name) = record { names = names; printed = [] }
@@ -77,12 +77,12 @@ granted_to names (Assign name number) answer = record { names = with_value names
 granted_to names (Offer to name) answer = record { names = with_share names name; printed = display_lines (scalar (pos (degree_told answer))) }
 granted_to names (Reference name) answer = got names name (value_got answer)
 
--- what a statement does whose act was answered: a report changes no name
+-- what a statement does whose act was answered so, with this report, if it is one: a report changes no name
 abbrev pub answered_by : Names → List ℕ → Statement → PlainAnswer → Option Report → Effect
 answered_by names line statement answer (Some report) = record { names = names; printed = report_lines report line }
 answered_by names line statement answer None = granted_to names statement answer
 
--- the same by the report that the answer is
+-- what a statement does whose act was answered
 abbrev pub answered : Names → List ℕ → Statement → PlainAnswer → Effect
 answered names line statement answer = answered_by names line statement answer (report_in answer)
 

@@ -1,4 +1,5 @@
-use Rattle.std.specs.Prelude.{ℕ, ◌<◌, List, [], ◌∷◌}
+use Rattle.std.specs.Prelude.{ℕ, List, map}
+use Rattle.aplsv_top.specs.Ascending.{Ascend}
 use Rattle.aplsv_top.specs.declared.transcripts.Transcript.{Transcript}
 
 -- a transcript as plain data: whose it is, and its lines
@@ -12,6 +13,4 @@ plain_transcript transcript = record { user = transcript.user; lines = transcrip
 
 -- the users ascend, each once
 abbrev pub IsAscending : List PlainTranscript → Type 0
-IsAscending [] = Unit {0}
-IsAscending (transcript ∷ []) = Unit {0}
-IsAscending (transcript ∷ next ∷ transcripts) = (transcript.user < next.user) × IsAscending (next ∷ transcripts)
+IsAscending transcripts = Ascend (map (λ transcript. transcript.user) transcripts)

@@ -1,4 +1,5 @@
-use Rattle.std.specs.Prelude.{ℕ, ◌<◌, List, [], ◌∷◌}
+use Rattle.std.specs.Prelude.{ℕ, List, map}
+use Rattle.aplsv_top.specs.Ascending.{Ascend}
 use Rattle.aplsv_top.specs.declared.bundle.user.BundleUser.{BundleUser}
 
 -- a user as plain data: its number, and its lines of glyphs
@@ -12,6 +13,4 @@ plain_user user = record { number = user.number; lines = user.lines.items }
 
 -- the numbers ascend, each once
 abbrev pub IsAscending : List PlainUser → Type 0
-IsAscending [] = Unit {0}
-IsAscending (user ∷ []) = Unit {0}
-IsAscending (user ∷ next ∷ users) = (user.number < next.number) × IsAscending (next ∷ users)
+IsAscending users = Ascend (map (λ user. user.number) users)

@@ -6,7 +6,7 @@ use Rattle.aplsv_top.specs.declared.session.Stage.TheVariants as stage
 use Rattle.aplsv_top.specs.declared.session.Wants.{Wants}
 use Rattle.aplsv_top.specs.declared.session.Wants.TheVariants as wants
 
--- the act that is asked, if any, is of a user that stays
+-- the act that is asked, if any, is no leave
 abbrev pub IsOfPresent : Wants → Type 0
 IsOfPresent (wants.Act act) = IsTrue (not (is_leave act))
 IsOfPresent wants.Finished = Unit {0}
