@@ -11,6 +11,7 @@ pub mod Lines
 pub mod NextLines
 pub mod Numbered
 pub mod OneJournal
+pub mod OneOutput
 pub mod OneWord
 pub mod Parties
 pub mod Reading

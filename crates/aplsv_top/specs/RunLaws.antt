@@ -1,4 +1,4 @@
--- What holds of turns and of runs.
+-- What holds of turns, of runs and of their output.
 use Rattle.std.specs.Prelude.{◌≡◌, ◌≢◌, ◌<◌, ℕ, List, ◌∷◌, map, length, All, IsTrue}
 use Rattle.sv_events.specs.Entry.{PlainEntry}
 use Rattle.sv_rules.specs.Entries.{Entries, has_left}
@@ -9,6 +9,7 @@ use Rattle.aplsv_top.specs.PlainSession.{PlainSession}
 use Rattle.aplsv_top.specs.Transcripts.{PlainTranscript}
 use Rattle.aplsv_top.specs.Turns.{Replay, rounds, beginning, IsJournalOfTurns}
 use Rattle.aplsv_top.specs.Run.{IsPart, AreParts}
+use Rattle.aplsv_top.specs.Headline.{IsOutputFor}
 use Rattle.aplsv_top.specs.declared.session.Stage.TheVariants.{Ended}
 
 -- a user's part stays true when an entry of another follows
@@ -37,3 +38,13 @@ RoundsEnd =
 -- the journal of a bundle's turns is one
 abbrev pub TurnsMakeOneJournal : Type 0
 TurnsMakeOneJournal = (bundle : PlainBundle) (journal other : Entries) → IsJournalOfTurns bundle journal → IsJournalOfTurns bundle other → journal ≡ other
+
+-- a journal gives each user one transcript
+abbrev pub PartsMakeOneTranscript : Type 0
+PartsMakeOneTranscript =
+    (bundle : PlainBundle) (journal : Entries) (transcripts others : List PlainTranscript) →
+    AreParts journal bundle.users transcripts → AreParts journal bundle.users others → transcripts ≡ others
+
+-- the output is one function of the bytes read
+abbrev pub BundlesHaveOneOutput : Type 0
+BundlesHaveOneOutput = (bytes text other : List ℕ) → IsOutputFor bytes text → IsOutputFor bytes other → text ≡ other

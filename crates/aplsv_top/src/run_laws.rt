@@ -1,4 +1,4 @@
-ghost use Rattle.aplsv_top.specs.RunLaws.{OthersChangeNoPart, RoundsEnd, TurnsMakeOneJournal};
+ghost use Rattle.aplsv_top.specs.RunLaws.{BundlesHaveOneOutput, OthersChangeNoPart, PartsMakeOneTranscript, RoundsEnd, TurnsMakeOneJournal};
 
 /// A user's part of a run stays true when entries of other parties follow.
 pub fn others_change_no_part()
@@ -13,4 +13,14 @@ pub fn rounds_end()
 /// A bundle has one journal of its turns.
 pub fn one_journal_of_turns()
     ensures { TurnsMakeOneJournal }
+{}
+
+/// A journal of a bundle gives each user one transcript.
+pub fn one_transcript_of_parts()
+    ensures { PartsMakeOneTranscript }
+{}
+
+/// A bundle has one output: the text that is written is a function of the bytes read.
+pub fn a_bundle_has_one_output()
+    ensures { BundlesHaveOneOutput }
 {}
