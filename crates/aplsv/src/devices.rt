@@ -82,9 +82,13 @@ mod tests {
     use super::*;
     use std::io;
 
-    // It fails at each read, and takes nothing at each write.
+    // It fails at each call.
     #[derive(Drop)]
     struct Broken;
+
+    // It takes nothing.
+    #[derive(Drop)]
+    struct Stuck;
 
     impl Read for Broken {
         fn read(&mut self, _buf: &mut [u8]) -> io::Result<usize> {
@@ -93,6 +97,16 @@ mod tests {
     }
 
     impl Write for Broken {
+        fn write(&mut self, _buf: &[u8]) -> io::Result<usize> {
+            Err(io::Error::from(io::ErrorKind::BrokenPipe))
+        }
+
+        fn flush(&mut self) -> io::Result<()> {
+            Ok(())
+        }
+    }
+
+    impl Write for Stuck {
         fn write(&mut self, _buf: &[u8]) -> io::Result<usize> {
             Ok(0)
         }
@@ -118,9 +132,15 @@ mod tests {
     #[test]
     fn a_sink_hands_on_what_it_takes(rt: HostRuntime) {
         let mut held = [0; 3];
-        let mut sink = StdSink::new(held.as_mut_slice());
-        assert_eq!(rt; sink.write(b"ab".as_slice()), Ok(2));
-        assert_eq!(rt; sink.faults(), 0);
+        {
+            let mut sink = StdSink::new(held.as_mut_slice());
+            assert_eq!(rt; sink.write(b"ab".as_slice()), Ok(2));
+            assert_eq!(rt; sink.faults(), 0);
+        }
+        assert_eq!(rt; held, [b'a', b'b', 0]);
+        let mut stuck = StdSink::new(Stuck);
+        assert_eq!(rt; stuck.write(b"ab".as_slice()), Err(Failed));
+        assert_eq!(rt; stuck.faults(), 1);
         let mut broken = StdSink::new(Broken);
         assert_eq!(rt; broken.write(b"ab".as_slice()), Err(Failed));
         assert_eq!(rt; broken.faults(), 1);

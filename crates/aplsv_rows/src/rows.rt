@@ -1,8 +1,9 @@
-use crate::run::{Device, REPLAY, SOUND, run_twice};
+use crate::run::{Device, Ended, REPLAY, SOUND, run_twice, run_with_room};
 use crate::sixty_five_offers::{SIXTY_FIVE_OFFERS, SIXTY_FIVE_OFFERS_OUTPUT};
 use crate::texts::*;
 use apl_arrays::WantOfMemory;
 use aplsv_top::{BundleRule, Status};
+use std::alloc::Global;
 use std::process::Abort;
 
 // A device that fails at its first call.
@@ -29,15 +30,23 @@ fn bundles_are_run(rt: HostRuntime) -> Result<(), WantOfMemory> {
 }
 
 // Words that are no `--replay` alone.
-const OTHER_WORDS: [&str; 8] = [
-    "",
-    "--replay --load 5",
-    "--workers 0",
-    "--help",
-    "--replay --replay",
-    "--Replay",
-    "-replay",
-    "--replays",
+const OTHER_WORDS: [&[&str]; 16] = [
+    &[],
+    &[""],
+    &["--replay", "--load", "5"],
+    &["--workers", "0"],
+    &["--help"],
+    &["--version"],
+    &["--"],
+    &["--replay", "--replay"],
+    &["--replay", ""],
+    &["", "--replay"],
+    &["--replay "],
+    &[" --replay"],
+    &["--replay="],
+    &["--Replay"],
+    &["-replay"],
+    &["--replays"],
 ];
 
 #[test]
@@ -245,9 +254,35 @@ fn a_sink_that_fails_keeps_what_it_took(rt: HostRuntime) -> Result<(), WantOfMem
     Ok(())
 }
 
+fn run_empty(alloc: Global, room: usize) -> Result<Ended, WantOfMemory> {
+    run_with_room(alloc, REPLAY, EMPTY.as_bytes(), SOUND, SOUND, room)
+}
+
+// A sink that has no room left keeps the front of the output.
+#[test]
+fn a_full_sink_is_a_fault(rt: HostRuntime) -> Result<(), WantOfMemory> {
+    for room in 0..=EMPTY_OUTPUT.len() {
+        let ended = match run_empty(rt.alloc(), room) {
+            Err(WantOfMemory) => run_empty(rt.alloc(), room)?,
+            Ok(ended) => ended,
+        };
+        let whole = room == EMPTY_OUTPUT.len();
+        assert_eq!(rt;
+            ended.status,
+            if whole {
+                Status::Done
+            } else {
+                Status::WriteFault
+            }
+        );
+        assert_eq!(rt; ended.written.as_slice(), &EMPTY_OUTPUT.as_bytes()[..room]);
+    }
+    Ok(())
+}
+
 // Where several things are wrong the first in this order is told: words, source, bundle, sink.
-const FAULTS: [(&str, &[u8], Device, Device, Status); 4] = [
-    ("", b"en\n", FAILING, FAILING, Status::Usage),
+const FAULTS: [(&[&str], &[u8], Device, Device, Status); 4] = [
+    (&[], b"en\n", FAILING, FAILING, Status::Usage),
     (REPLAY, b"en\n", FAILING, FAILING, Status::ReadFault),
     (
         REPLAY,

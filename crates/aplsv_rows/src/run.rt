@@ -4,7 +4,7 @@ use aplsv_top::{Status, aplsv_replay_words};
 use std::alloc::Global;
 
 /// The words of every run that is to be made.
-pub const REPLAY: &str = "--replay";
+pub const REPLAY: &[&str] = &["--replay"];
 
 /// How much a call of a device gives or takes at most, and the number of the call that fails; 0 where none does.
 #[derive(Clone, Copy)]
@@ -19,7 +19,7 @@ pub const SOUND: Device = Device {
     fails: 0,
 };
 
-/// What a sink in memory has room for.
+/// What a sink in memory has room for, where nothing else is said.
 const ROOM: usize = 1_048_576;
 
 /// How a run ended, and what was written.
@@ -37,26 +37,27 @@ fn fails_of(alloc: Global, device: Device) -> Result<CallNumbers, WantOfMemory> 
     Ok(fails)
 }
 
-fn words_of(alloc: Global, text: &str) -> Result<Vec<String>, WantOfMemory> {
+fn words_of(alloc: Global, texts: &[&str]) -> Result<Vec<String>, WantOfMemory> {
     let mut words = Vec::new(alloc);
-    for word in text.split_whitespace() {
-        words.push(String::from_str(alloc, word)?)?;
+    for text in texts {
+        words.push(String::from_str(alloc, *text)?)?;
     }
     Ok(words)
 }
 
-/// Runs the program on these words and bytes.
-pub fn run(
+/// Runs the program on these words and bytes, with a sink that has room for so many bytes.
+pub fn run_with_room(
     alloc: Global,
-    words: &str,
+    words: &[&str],
     bytes: &[u8],
     input: Device,
     output: Device,
+    room: usize,
 ) -> Result<Ended, WantOfMemory> {
     let words = words_of(alloc, words)?;
     let bytes = Bytes::from(Vec::from_slice(alloc, bytes)?);
     let mut source = MemorySource::new(bytes, input.piece.max(1), fails_of(alloc, input)?);
-    let mut sink = MemorySink::new(alloc, ROOM, output.piece.max(1), fails_of(alloc, output)?)?;
+    let mut sink = MemorySink::new(alloc, room, output.piece.max(1), fails_of(alloc, output)?)?;
     let shelves = Vec::from_slice(alloc, &[(); 32])?;
     let finish = aplsv_replay_words(alloc, &words, &mut source, &mut sink, (), (), shelves);
     if finish.status == Status::WantOfMemory {
@@ -72,13 +73,13 @@ pub fn run(
 /// Runs the program, once more where an allocation was refused.
 pub fn run_twice(
     alloc: Global,
-    words: &str,
+    words: &[&str],
     bytes: &[u8],
     input: Device,
     output: Device,
 ) -> Result<Ended, WantOfMemory> {
-    match run(alloc, words, bytes, input, output) {
-        Err(WantOfMemory) => run(alloc, words, bytes, input, output),
+    match run_with_room(alloc, words, bytes, input, output, ROOM) {
+        Err(WantOfMemory) => run_with_room(alloc, words, bytes, input, output, ROOM),
         ended => ended,
     }
 }

@@ -198,9 +198,4 @@ mod tests {
         assert_eq!(rt; bytes.as_slice(), text.as_slice());
         Ok(())
     }
-
-    #[test]
-    fn is_read_in_one_way() {
-        an_entry_is_read_in_one_way();
-    }
 }

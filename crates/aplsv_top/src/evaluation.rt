@@ -1,5 +1,5 @@
 ghost use Rattle.std.specs.Prelude.{◌≡◌, ◌∷◌, [], ◌++◌, pos, IfOk, OnOk};
-ghost use Rattle.std.specs.Option.{option_copied};
+ghost use Rattle.std.specs.Option.{option_copied, option_map};
 ghost use Rattle.apl_arrays.specs.Array.{scalar};
 ghost use Rattle.apl_display.specs.Display.{display_lines};
 ghost use Rattle.sv_events.specs.Answer.{plain_answer};
@@ -174,9 +174,9 @@ impl Evaluation {
         ensures names { self.new.names ≡ self.old.names }
         ensures printed { OnOk result (self.new.transcript ≡ self.old.transcript ++ looked_up line.now (copy_of self.old.names name)) }
     {
-        match copied(self.alloc, self.names.copy_of(&name))? {
+        match shown(self.alloc, self.names.copy_of(&name))? {
             None => self.report(Report::Value, line),
-            Some(value) => self.print(&value),
+            Some(lines) => self.add(lines),
         }
     }
 
@@ -213,7 +213,15 @@ impl Evaluation {
         ensures names { self.new.names ≡ self.old.names }
         ensures printed { OnOk result (self.new.transcript ≡ self.old.transcript ++ display_lines value.now) }
     {
-        for line in lines_of(self.alloc, value)?.into_vec() {
+        self.add(lines_of(self.alloc, value)?)
+    }
+
+    // Adds lines to what was printed.
+    fn add(&mut self, lines: LineList) -> Result<(), WantOfMemory>
+        ensures names { self.new.names ≡ self.old.names }
+        ensures printed { OnOk result (self.new.transcript ≡ self.old.transcript ++ lines.items) }
+    {
+        for line in lines.into_vec() {
             self.transcript.push(line)?;
         }
         Ok(())
@@ -227,6 +235,16 @@ fn copied(alloc: Global, value: Option<&Array>) -> Result<Option<Array>, WantOfM
     match value {
         None => Ok(None),
         Some(value) => Ok(Some(value.copy(alloc)?)),
+    }
+}
+
+// The lines in which a value is shown, where there is one.
+fn shown(alloc: Global, value: Option<&Array>) -> Result<Option<LineList>, WantOfMemory>
+    ensures { IfOk result (λ shown. option_map (λ lines. lines.items) shown ≡ option_map display_lines (option_copied value.entry)) }
+{
+    match value {
+        None => Ok(None),
+        Some(value) => Ok(Some(lines_of(alloc, value)?)),
     }
 }
 

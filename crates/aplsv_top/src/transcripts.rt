@@ -93,6 +93,15 @@ mod tests {
     use apl_arrays::GlyphRefused;
     use std::test::Fail;
 
+    fn empty(alloc: Global, user: u32) -> Transcript
+        ensures { result.user ≡ user }
+    {
+        Transcript {
+            user,
+            lines: LineList::new(alloc),
+        }
+    }
+
     fn two(alloc: Global) -> Result<Transcripts, GlyphRefused> {
         let mut transcripts = Transcripts::new(alloc);
         transcripts.reserve(1)?;
@@ -121,15 +130,16 @@ mod tests {
     fn keeps_the_others_where_memory_fails(rt: HostRuntime) -> Result<(), Fail> {
         let alloc = rt.alloc();
         let mut transcripts = Transcripts::new(alloc);
-        let first = Transcript {
-            user: 1001,
-            lines: LineList::new(alloc),
-        };
-        let count = match transcripts.push(first) {
-            Ok(()) => 1,
-            Err(WantOfMemory) => 0,
+        if transcripts.push(empty(alloc, 1001)).is_err() {
+            assert_eq!(rt; transcripts.as_slice().len(), 0);
+            return Ok(());
+        }
+        let count = match transcripts.push(empty(alloc, 1999)) {
+            Ok(()) => 2,
+            Err(WantOfMemory) => 1,
         };
         assert_eq!(rt; transcripts.as_slice().len(), count);
+        assert_eq!(rt; transcripts.as_slice()[0].user, 1001);
         Ok(())
     }
 }

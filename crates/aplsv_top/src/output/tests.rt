@@ -201,9 +201,3 @@ fn writes_nothing_but_the_end(rt: HostRuntime) -> Result<(), Fail> {
     assert_eq!(rt; bytes.as_slice(), NOTHING.as_bytes());
     Ok(())
 }
-
-#[test]
-fn keeps_its_laws() {
-    plain_path_is_written();
-    an_output_is_read_in_one_way();
-}

@@ -1,6 +1,6 @@
 use Rattle.std.proofs.Common.{◌≡◌, ◌++◌, map}
 use Rattle.apl_arrays.specs.List.{glyphs_in}
-use Rattle.aplsv_top.proofs.evaluation.Evaluation.print.Given as goal
+use Rattle.aplsv_top.proofs.evaluation.Evaluation.add.Given as goal
 
 abbrev pub invariant-loop-line : goal.invariant-loop-line
 invariant-loop-line l = record {
