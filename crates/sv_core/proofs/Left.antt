@@ -4,7 +4,7 @@ use Rattle.std.proofs.lemmas.List.Sums.{sum_by-cons, length-filter, count_by-le-
 use Rattle.std.proofs.lemmas.Nat.{mul-le}
 use Rattle.std.proofs.lemmas.Bool.{or_cases, or_left, or_right, eqb-true, eq-eqb, and_from, and_parts, cond_both}
 use Rattle.std.proofs.lemmas.List.Elements.{All-head, All-tail, All-nil, All-cons, All-append, All-weaker, All-filter, filter-append}
-use Rattle.std.specs.List.{filter}
+use Rattle.std.specs.List.{filter, list_any}
 use Rattle.apl_arrays.specs.List.{Listed}
 use Rattle.sv_events.specs.Entry.{PlainEntry}
 use Rattle.sv_events.specs.declared.entry.Pair.{Pair}
@@ -15,7 +15,7 @@ use Rattle.sv_rules.specs.Standing.{standing, without_party}
 use Rattle.sv_rules.specs.Coupling.{couplings, made_in, both_stand, stands_at, is_coupled, open_match, pair_of, rejoined, recoupled, couplings_among, reopened_among, made_by_leave}
 use Rattle.sv_rules.specs.Legal.{MayFollow, is_user}
 use Rattle.sv_core.specs.Core.{present, IsKept, IsPlaced, leave_entry, made_at, IsSpare}
-use Rattle.sv_core.proofs.Filters.{filter_whole, filter-filter, list_any-filter}
+use Rattle.sv_core.proofs.Filters.{filter_whole, filter-filter, list_any-filter, list_any-more}
 use Rattle.sv_core.proofs.Kept.{later_offers, later_pairs, not_true}
 use Rattle.sv_core.proofs.Opened.{stands_placed}
 
@@ -156,6 +156,17 @@ present-falls (user ∷ users) journal party made is here =
     (λ later. omega (arith, after, before, is_here-left journal party made user, present-falls users journal party made later here))
     (or_cases (user == party) (is_user users party) is)
 
+or-flip : (a b : Bool) → (a || b) ≡ ((b && true) || a)
+or-flip true true = refl
+or-flip true false = refl
+or-flip false true = refl
+or-flip false false = refl
+
+-- after a leave the parties that have left are its party and those before
+gone-left : (journal : Entries) (party : ℕ) (made : List Pair) (gone : List ℕ) (other : ℕ) → list_any (λ x. x == other) gone ≡ has_left journal other → list_any (λ x. x == other) (gone ++ party ∷ []) ≡ has_left (leave_entry party made ∷ journal) other
+gone-left journal party made gone other is =
+    list_any-more (λ x. x == other) gone party ∙ ap (λ b. b || (party == other)) is ∙ or-flip (has_left journal other) (party == other)
+
 -- a filter keeps no more than there is
 pub filter_fewer : {X : Type 0} (p : X → Bool) (xs : List X) → length (filter p xs) ≤ length xs
 filter_fewer p xs = omega (arith, length-filter p xs, count_by-le-length p xs)
@@ -177,8 +188,8 @@ placed_later journal e party pair all h =
     record { a = omega (arith, a); b = omega (arith, b) }
 
 -- a leave keeps all
-pub kept_left : {users : List ℕ} {journal : Entries} {room : ℕ} {offers : List Standing} {coupled : List Made} {capacity scratch : ℕ} {spares : List (Listed Pair)} {counted elements : ℕ} → IsKept users journal room offers coupled capacity scratch spares counted elements → (party : ℕ) → MayFollow users journal (leave_entry party (map (λ x. x.pair) (made_by journal party))) → (room' : ℕ) (spares' : List (Listed Pair)) → room ≤ room' + 1 → length spares ≤ length spares' + 1 → All (IsSpare (length offers)) spares' → IsKept users (leave_entry party (map (λ x. x.pair) (made_by journal party)) ∷ journal) room' (left_by journal party) (kept_by journal party ++ made_by journal party) capacity scratch spares' counted elements
-kept_left {users} {journal} {room} {offers} {coupled} {capacity} {scratch} {spares} {counted} {elements} k party may room' spares' roomy many spare =
+pub kept_left : {users : List ℕ} {journal : Entries} {room : ℕ} {gone : List ℕ} {gone_capacity : ℕ} {offers : List Standing} {coupled : List Made} {capacity scratch : ℕ} {spares : List (Listed Pair)} {counted elements : ℕ} → IsKept users journal room gone gone_capacity offers coupled capacity scratch spares counted elements → (party : ℕ) → MayFollow users journal (leave_entry party (map (λ x. x.pair) (made_by journal party))) → (room' : ℕ) (gone' : List ℕ) (gone_capacity' : ℕ) (spares' : List (Listed Pair)) → room ≤ room' + 1 → gone' ≡ gone ++ party ∷ [] → gone_capacity' ≡ gone_capacity → length spares ≤ length spares' + 1 → All (IsSpare (length offers)) spares' → IsKept users (leave_entry party (map (λ x. x.pair) (made_by journal party)) ∷ journal) room' gone' gone_capacity' (left_by journal party) (kept_by journal party ++ made_by journal party) capacity scratch spares' counted elements
+kept_left {users} {journal} {room} {gone} {gone_capacity} {offers} {coupled} {capacity} {scratch} {spares} {counted} {elements} k party may room' gone' gone_capacity' spares' roomy noted wide many spare =
     let made = made_by journal party in
     let e : PlainEntry = leave_entry party (map (λ x. x.pair) made) in
     let left = left_by journal party in
@@ -196,7 +207,9 @@ kept_left {users} {journal} {room} {offers} {coupled} {capacity} {scratch} {spar
       hold = omega (arith, k.hold, sum_by-cons entry_elements e journal);
       few = k.few;
       small = k.small;
+      gone = λ other. ap (list_any (λ x. x == other)) noted ∙ gone-left journal party (map (λ x. x.pair) made) gone other (k.gone other);
       entries_room = omega (arith, falls, k.entries_room, roomy);
+      left_room = omega (arith, falls, k.left_room, ap length noted, length-append gone (party ∷ []), wide);
       spare_count = omega (arith, falls, k.spare_count, many);
       spare_room = All-weaker (IsSpare (length offers)) (IsSpare (length left)) (λ s h. record { empty = h.empty; enough = omega (arith, h.enough, fewer) }) spares' spare;
       coupled_room = rw (length-append (kept_by journal party) made)

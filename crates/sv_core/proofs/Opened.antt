@@ -18,7 +18,7 @@ use Rattle.sv_rules.specs.Coupling.{couplings, made_in, both_stand, stands_at}
 use Rattle.sv_rules.specs.Legal.{MayFollow}
 use Rattle.sv_core.specs.Core.{present, IsKept, IsPlaced, IsOpened, offer_entry, made_at, IsSpare}
 use Rattle.sv_core.proofs.Filters.{filter_where, filter_whole, list_any-more, or-false}
-use Rattle.sv_core.proofs.Kept.{later_offers, later_pairs, present-stay, below_limits, not_full, counted-more, held-more}
+use Rattle.sv_core.proofs.Kept.{later_offers, later_pairs, present-stay, has_left-stay, below_limits, not_full, counted-more, held-more}
 
 -- the offers that stand after a new one
 pub standing-opened : (journal : Entries) (new : Standing) (handed : Option PlainArray) (answer : PlainAnswer) (made : List Pair) → IsOpened journal new answer made → standing (offer_entry new handed answer made ∷ journal) ≡ standing journal ++ new ∷ []
@@ -70,8 +70,8 @@ couplings-opened journal new handed answer made o placed =
     ∙ ap (λ n. couplings journal ++ map (made_at n) made) (sym o.place)
 
 -- a new offer keeps all
-pub kept_opened : {users : List ℕ} {journal : Entries} {room : ℕ} {offers : List Standing} {coupled : List Made} {capacity scratch : ℕ} {spares : List (Listed Pair)} {counted elements : ℕ} → IsKept users journal room offers coupled capacity scratch spares counted elements → (new : Standing) (handed : Option PlainArray) (answer : PlainAnswer) (made : List Pair) → IsOpened journal new answer made → MayFollow users journal (offer_entry new handed answer made) → (room' capacity' scratch' : ℕ) (spares' : List (Listed Pair)) → present users journal ≤ room' → length coupled + length made + present users journal * (length offers + 1) ≤ capacity' → length offers + 1 ≤ scratch' → length spares' ≡ length spares → All (IsSpare (length offers + 1)) spares' → (held : ℕ) → held ≡ entry_elements (offer_entry new handed answer made) → held ≤ 32768 → IsKept users (offer_entry new handed answer made ∷ journal) room' (offers ++ new ∷ []) (coupled ++ map (made_at new.place) made) capacity' scratch' spares' (counted + 1) (elements + held)
-kept_opened {users} {journal} {room} {offers} {coupled} {capacity} {scratch} {spares} {counted} {elements} k new handed answer made o may room' capacity' scratch' spares' fits wide scratchy many spare held is small =
+pub kept_opened : {users : List ℕ} {journal : Entries} {room : ℕ} {left : List ℕ} {left_capacity : ℕ} {offers : List Standing} {coupled : List Made} {capacity scratch : ℕ} {spares : List (Listed Pair)} {counted elements : ℕ} → IsKept users journal room left left_capacity offers coupled capacity scratch spares counted elements → (new : Standing) (handed : Option PlainArray) (answer : PlainAnswer) (made : List Pair) → IsOpened journal new answer made → MayFollow users journal (offer_entry new handed answer made) → (room' capacity' scratch' : ℕ) (spares' : List (Listed Pair)) → present users journal ≤ room' → length coupled + length made + present users journal * (length offers + 1) ≤ capacity' → length offers + 1 ≤ scratch' → length spares' ≡ length spares → All (IsSpare (length offers + 1)) spares' → (held : ℕ) → held ≡ entry_elements (offer_entry new handed answer made) → held ≤ 32768 → IsKept users (offer_entry new handed answer made ∷ journal) room' left left_capacity (offers ++ new ∷ []) (coupled ++ map (made_at new.place) made) capacity' scratch' spares' (counted + 1) (elements + held)
+kept_opened {users} {journal} {room} {left} {left_capacity} {offers} {coupled} {capacity} {scratch} {spares} {counted} {elements} k new handed answer made o may room' capacity' scratch' spares' fits wide scratchy many spare held is small =
     let e : PlainEntry = offer_entry new handed answer made in
     let below = below_limits journal (not_full journal e refl may.room) in
     let stay = present-stay users journal e refl in
@@ -85,7 +85,9 @@ kept_opened {users} {journal} {room} {offers} {coupled} {capacity} {scratch} {sp
       hold = ap (λ n. n + held) k.hold ∙ ap (λ n. held_elements journal + n) is ∙ sym (held-more journal e);
       few = omega (arith, below.0, k.count);
       small = omega (arith, below.1, k.hold, small);
+      gone = λ party. k.gone party ∙ sym (has_left-stay journal e party refl);
       entries_room = omega (arith, stay, fits);
+      left_room = omega (arith, stay, k.left_room);
       spare_count = omega (arith, stay, k.spare_count, many);
       spare_room = subst (λ n. All (IsSpare n) spares') (sym more) spare;
       coupled_room = rw (stay, more, length-append coupled (map (made_at new.place) made), length-map made (made_at new.place)) wide;

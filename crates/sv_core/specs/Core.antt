@@ -1,4 +1,5 @@
-use Rattle.std.specs.Prelude.{◌≡◌, ◌≤◌, ◌+◌, ◌*◌, ℕ, true, false, not, List, [], ◌∷◌, length, count_by, All, Option, None}
+use Rattle.std.specs.Prelude.{◌≡◌, ◌≤◌, ◌+◌, ◌*◌, ◌==◌, ℕ, true, false, not, List, [], ◌∷◌, length, count_by, All, Option, None}
+use Rattle.std.specs.List.{list_any}
 use Rattle.apl_arrays.specs.List.{Listed}
 use Rattle.apl_arrays.specs.Array.{PlainArray}
 use Rattle.sv_events.specs.Answer.{PlainAnswer, done}
@@ -32,8 +33,9 @@ pub record IsPlaced (last : ℕ) (pair : Pair) : Type 0 where
   pub a : pair.a ≤ last
   pub b : pair.b ≤ last
 
--- the journal is legal, the tables and counts are those of the journal, and there is room for every leave
-pub record IsKept (users : List ℕ) (journal : Entries) (room : ℕ) (offers : List Standing) (coupled : List Made) (capacity scratch : ℕ) (spares : List (Listed Pair)) (counted elements : ℕ) : Type 0 where
+-- the journal is legal, the tables, the counts and the parties that have left are those of the journal, and there is
+-- room for every leave
+pub record IsKept (users : List ℕ) (journal : Entries) (room : ℕ) (left : List ℕ) (left_capacity : ℕ) (offers : List Standing) (coupled : List Made) (capacity scratch : ℕ) (spares : List (Listed Pair)) (counted elements : ℕ) : Type 0 where
   pub legal : IsLegal users journal
   pub stand : offers ≡ standing journal
   pub couple : coupled ≡ couplings journal
@@ -41,7 +43,9 @@ pub record IsKept (users : List ℕ) (journal : Entries) (room : ℕ) (offers : 
   pub hold : elements ≡ held_elements journal
   pub few : counted ≤ 200000
   pub small : elements ≤ 4300000
+  pub gone : (party : ℕ) → list_any (λ other. other == party) left ≡ has_left journal party
   pub entries_room : present users journal ≤ room
+  pub left_room : length left + present users journal ≤ left_capacity
   pub spare_count : present users journal ≤ length spares
   pub spare_room : All (IsSpare (length offers)) spares
   pub coupled_room : length coupled + present users journal * length offers ≤ capacity

@@ -16,15 +16,17 @@ use std::marker::Model;
 use sv_events::{Act, Answer, Entry, Journal, PairList};
 use sv_rules::{
     ENTRY_LIMIT, HELD_LIMIT, OFFER_LIMIT, Standing, coupling_at, degree_at, elements_asked,
-    elements_told, has_left, known_value, last_value, offer_count, open_match, own_offer, pair_of,
+    elements_told, known_value, last_value, offer_count, open_match, own_offer, pair_of,
 };
 
-/// The processor of some users: it has the journal, in which each entry may follow those before it.
+/// The processor of some users: it has the journal, in which each entry may follow those before it, and the parties
+/// that have left.
 #[derive(Drop)]
 pub struct Core {
     alloc: Global,
     users: Vec<u32>,
     journal: Journal,
+    left: Vec<u32>,
     table: Table,
     counted: usize,
     elements: u64,
@@ -51,10 +53,13 @@ impl Core {
     {
         let mut journal = Journal::new(alloc);
         journal.reserve(users.len())?;
+        let mut left = Vec::new(alloc);
+        left.reserve(users.len())?;
         Ok(Core {
             alloc,
             users: Vec::from_slice(alloc, users)?,
             journal,
+            left,
             table: Table::new(alloc, users.len())?,
             counted: 0,
             elements: 0,
@@ -65,7 +70,7 @@ impl Core {
     pub fn has_left(&self, party: u32) -> bool
         ensures { result ≡ has_left self.now.journal party }
     {
-        has_left(self.journal.as_slice(), party)
+        self.left.contains(&party)
     }
 
     /// Whether the journal takes no more entries but leaves. No memory.
@@ -340,6 +345,7 @@ impl Core {
             answer: Answer::Done,
             made,
         });
+        self.left.push_reserved(party);
     }
 }
 

@@ -36,6 +36,11 @@ push_reserved-requires c =
     let d = (goal.at.push_reserved-requires c).After-next_place-at in
     omega (arith, some_is d, c.self.invariant.entries_room)
 
+pub push_reserved-requires-2 : goal.push_reserved-requires-2
+push_reserved-requires-2 c =
+    let d = (goal.at.push_reserved-requires-2 c).After-next_place-at in
+    omega (arith, some_is d, c.self.invariant.left_room, c.self.inside.left.ok.0)
+
 -- the pairs of the leave
 made_is : (c : After-push_reserved) → made_by_leave c.next_place-at.result c.self.inside.table.offers.items c.self.inside.table.coupled.items c.args.party ≡ made_by (reverse c.self.inside.journal.items) c.args.party
 made_is c =
@@ -68,8 +73,8 @@ invariant_of-self c =
     let journal = reverse c.self.inside.journal.items in
     let spare = c.leave-made.ensures.spares (length c.self.inside.table.offers.items) c.self.invariant.spare_room in
     kept_same (sym (grown e)) (sym (offers_are e)) (sym (coupled_are e)) (sym c.leave-made.ensures.capacity) (sym c.leave-made.ensures.scratch)
-    (kept_left c.self.invariant c.args.party (leave_may c.self.inside.users.items journal c.args.party (user_is d) (here_is d)) c.push_reserved.new.self.room c.leave-made.new.self.spares.items
-    (omega (arith, c.push_reserved.ensures.room)) (omega (arith, c.leave-made.ensures.count, c.leave-made.new.self.spares.ok.0, c.self.inside.table.spares.ok.0)) spare)
+    (kept_left c.self.invariant c.args.party (leave_may c.self.inside.users.items journal c.args.party (user_is d) (here_is d)) c.push_reserved.new.self.room c.push_reserved-2.new.self.items (vec_capacity c.push_reserved-2.new.self) c.leave-made.new.self.spares.items
+    (omega (arith, c.push_reserved.ensures.room)) c.push_reserved-2.ensures.items c.push_reserved-2.ensures.capacity (omega (arith, c.leave-made.ensures.count, c.leave-made.new.self.spares.ok.0, c.self.inside.table.spares.ok.0)) spare)
 
 pub returns : goal.returns
 returns c =
