@@ -158,7 +158,7 @@ impl Core {
         ensures err { OnErr result (self.new ≡ self.old) }
     {
         let answer = self.value_answer(party, &name)?;
-        let told = self.value_answer(party, &name)?;
+        let told = answer.copy(self.alloc)?;
         self.enter_quiet(quiet_entry(self.alloc, party, Act::Use(name), told))?;
         Ok(answer)
     }
