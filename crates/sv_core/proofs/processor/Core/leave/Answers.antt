@@ -4,9 +4,9 @@ use Rattle.sv_rules.specs.Entries.{has_left, next_place}
 use Rattle.sv_rules.specs.Standing.{standing, without_party}
 use Rattle.sv_rules.specs.Coupling.{couplings_among, made_by_leave}
 use Rattle.sv_rules.specs.Legal.{is_user}
-use Rattle.sv_core.specs.Core.{PlainCore, present, leave_entry}
+use Rattle.sv_core.specs.Core.{PlainCore, present}
 use Rattle.sv_core.proofs.Kept.{kept_same}
-use Rattle.sv_core.proofs.Left.{somebody, room_for_leave, leave_may, kept_left, left_by, kept_by, made_by}
+use Rattle.sv_core.proofs.Left.{leave_entry, somebody, room_for_leave, leave_may, kept_left, left_by, kept_by, made_by}
 use Rattle.sv_core.proofs.processor.Core.leave.Goals as goal
 use Rattle.sv_core.proofs.processor.Core.leave.Goals.{After-next_place-at, After-push_reserved}
 
