@@ -83,8 +83,8 @@ made_in-alone journal e alone =
     ap (λ pairs. made_in journal ++ map (λ pair. record { pair = pair; at = next_place journal }) pairs) alone ∙ append-nil (made_in journal)
 
 -- a quiet entry keeps all
-pub kept_quiet : {users : List ℕ} {journal : Entries} {room : ℕ} {offers : List Standing} {coupled : List Made} {capacity scratch : ℕ} {spares : List (Listed Pair)} {counted elements : ℕ} → IsKept users journal room offers coupled capacity scratch spares counted elements → (e : PlainEntry) → MayFollow users journal e → IsQuiet journal e → (more : ℕ) → present users journal ≤ more → (held : ℕ) → held ≡ entry_elements e → held ≤ 32768 → IsKept users (e ∷ journal) more offers coupled capacity scratch spares (counted + 1) (elements + held)
-kept_quiet {users} {journal} {room} {offers} {coupled} {capacity} {scratch} {spares} {counted} {elements} k e may quiet more fits held is small =
+pub kept_quiet : {users : List ℕ} {journal : Entries} {room : ℕ} {left : List ℕ} {left_capacity : ℕ} {offers : List Standing} {coupled : List Made} {capacity scratch : ℕ} {spares : List (Listed Pair)} {counted elements : ℕ} → IsKept users journal room left left_capacity offers coupled capacity scratch spares counted elements → (e : PlainEntry) → MayFollow users journal e → IsQuiet journal e → (more : ℕ) → present users journal ≤ more → (held : ℕ) → held ≡ entry_elements e → held ≤ 32768 → IsKept users (e ∷ journal) more left left_capacity offers coupled capacity scratch spares (counted + 1) (elements + held)
+kept_quiet {users} {journal} {room} {left} {left_capacity} {offers} {coupled} {capacity} {scratch} {spares} {counted} {elements} k e may quiet more fits held is small =
     let below = below_limits journal (not_full journal e quiet.stays may.room) in
     let stay = present-stay users journal e quiet.stays in
     record {
@@ -95,7 +95,9 @@ kept_quiet {users} {journal} {room} {offers} {coupled} {capacity} {scratch} {spa
       hold = ap (λ n. n + held) k.hold ∙ ap (λ n. held_elements journal + n) is ∙ sym (held-more journal e);
       few = omega (arith, below.0, k.count);
       small = omega (arith, below.1, k.hold, small);
+      gone = λ party. k.gone party ∙ sym (has_left-stay journal e party quiet.stays);
       entries_room = omega (arith, stay, fits);
+      left_room = omega (arith, stay, k.left_room);
       spare_count = omega (arith, stay, k.spare_count);
       spare_room = k.spare_room;
       coupled_room = rw stay k.coupled_room;
@@ -105,16 +107,16 @@ kept_quiet {users} {journal} {room} {offers} {coupled} {capacity} {scratch} {spa
     }
 
 -- what is kept of equal parts
-pub kept_same : {users : List ℕ} {journal journal' : Entries} {room : ℕ} {offers offers' : List Standing} {coupled coupled' : List Made} {capacity capacity' scratch scratch' : ℕ} {spares : List (Listed Pair)} {counted elements : ℕ} → journal ≡ journal' → offers ≡ offers' → coupled ≡ coupled' → capacity ≡ capacity' → scratch ≡ scratch' → IsKept users journal room offers coupled capacity scratch spares counted elements → IsKept users journal' room offers' coupled' capacity' scratch' spares counted elements
-kept_same {users} {journal} {journal'} {room} {offers} {offers'} {coupled} {coupled'} {capacity} {capacity'} {scratch} {scratch'} {spares} {counted} {elements} j o c p s k =
-    subst (λ x. IsKept users journal' room offers' coupled' capacity' x spares counted elements) s
-    (subst (λ x. IsKept users journal' room offers' coupled' x scratch spares counted elements) p
-    (subst (λ x. IsKept users journal' room offers' x capacity scratch spares counted elements) c
-    (subst (λ x. IsKept users journal' room x coupled capacity scratch spares counted elements) o
-    (subst (λ x. IsKept users x room offers coupled capacity scratch spares counted elements) j k))))
+pub kept_same : {users : List ℕ} {journal journal' : Entries} {room : ℕ} {left : List ℕ} {left_capacity : ℕ} {offers offers' : List Standing} {coupled coupled' : List Made} {capacity capacity' scratch scratch' : ℕ} {spares : List (Listed Pair)} {counted elements : ℕ} → journal ≡ journal' → offers ≡ offers' → coupled ≡ coupled' → capacity ≡ capacity' → scratch ≡ scratch' → IsKept users journal room left left_capacity offers coupled capacity scratch spares counted elements → IsKept users journal' room left left_capacity offers' coupled' capacity' scratch' spares counted elements
+kept_same {users} {journal} {journal'} {room} {left} {left_capacity} {offers} {offers'} {coupled} {coupled'} {capacity} {capacity'} {scratch} {scratch'} {spares} {counted} {elements} j o c p s k =
+    subst (λ x. IsKept users journal' room left left_capacity offers' coupled' capacity' x spares counted elements) s
+    (subst (λ x. IsKept users journal' room left left_capacity offers' coupled' x scratch spares counted elements) p
+    (subst (λ x. IsKept users journal' room left left_capacity offers' x capacity scratch spares counted elements) c
+    (subst (λ x. IsKept users journal' room left left_capacity x coupled capacity scratch spares counted elements) o
+    (subst (λ x. IsKept users x room left left_capacity offers coupled capacity scratch spares counted elements) j k))))
 
 -- what is kept is kept with more room
-pub kept_wider : {users : List ℕ} {journal : Entries} {room : ℕ} {offers : List Standing} {coupled : List Made} {capacity scratch : ℕ} {spares : List (Listed Pair)} {counted elements : ℕ} → IsKept users journal room offers coupled capacity scratch spares counted elements → (room' capacity' scratch' : ℕ) (spares' : List (Listed Pair)) → room ≤ room' → capacity ≤ capacity' → scratch ≤ scratch' → length spares' ≡ length spares → All (IsSpare (length offers)) spares' → IsKept users journal room' offers coupled capacity' scratch' spares' counted elements
+pub kept_wider : {users : List ℕ} {journal : Entries} {room : ℕ} {left : List ℕ} {left_capacity : ℕ} {offers : List Standing} {coupled : List Made} {capacity scratch : ℕ} {spares : List (Listed Pair)} {counted elements : ℕ} → IsKept users journal room left left_capacity offers coupled capacity scratch spares counted elements → (room' capacity' scratch' : ℕ) (spares' : List (Listed Pair)) → room ≤ room' → capacity ≤ capacity' → scratch ≤ scratch' → length spares' ≡ length spares → All (IsSpare (length offers)) spares' → IsKept users journal room' left left_capacity offers coupled capacity' scratch' spares' counted elements
 kept_wider k room' capacity' scratch' spares' r c s count spare = record {
   legal = k.legal;
   stand = k.stand;
@@ -123,7 +125,9 @@ kept_wider k room' capacity' scratch' spares' r c s count spare = record {
   hold = k.hold;
   few = k.few;
   small = k.small;
+  gone = k.gone;
   entries_room = omega (arith, k.entries_room, r);
+  left_room = k.left_room;
   spare_count = omega (arith, k.spare_count, count);
   spare_room = spare;
   coupled_room = omega (arith, k.coupled_room, c);

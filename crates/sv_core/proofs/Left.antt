@@ -4,9 +4,11 @@ use Rattle.std.proofs.lemmas.List.Sums.{sum_by-cons, length-filter, count_by-le-
 use Rattle.std.proofs.lemmas.Nat.{mul-le}
 use Rattle.std.proofs.lemmas.Bool.{or_cases, or_left, or_right, eqb-true, eq-eqb, and_from, and_parts, cond_both}
 use Rattle.std.proofs.lemmas.List.Elements.{All-head, All-tail, All-nil, All-cons, All-append, All-weaker, All-filter, filter-append}
-use Rattle.std.specs.List.{filter}
+use Rattle.std.specs.List.{filter, list_any}
 use Rattle.apl_arrays.specs.List.{Listed}
+use Rattle.sv_events.specs.Answer.{done}
 use Rattle.sv_events.specs.Entry.{PlainEntry}
+use Rattle.sv_events.specs.declared.event.Act.TheVariants.{Leave}
 use Rattle.sv_events.specs.declared.entry.Pair.{Pair}
 use Rattle.sv_rules.specs.declared.coupling.Made.{Made}
 use Rattle.sv_rules.specs.declared.standing.Standing.{Standing}
@@ -14,10 +16,14 @@ use Rattle.sv_rules.specs.Entries.{Entries, next_place, is_leave, has_left, entr
 use Rattle.sv_rules.specs.Standing.{standing, without_party}
 use Rattle.sv_rules.specs.Coupling.{couplings, made_in, both_stand, stands_at, is_coupled, open_match, pair_of, rejoined, recoupled, couplings_among, reopened_among, made_by_leave}
 use Rattle.sv_rules.specs.Legal.{MayFollow, is_user}
-use Rattle.sv_core.specs.Core.{present, IsKept, IsPlaced, leave_entry, made_at, IsSpare}
-use Rattle.sv_core.proofs.Filters.{filter_whole, filter-filter, list_any-filter}
+use Rattle.sv_core.specs.Core.{present, IsKept, IsPlaced, pair_made_at, IsSpare}
+use Rattle.sv_core.proofs.Filters.{filter_whole, filter-filter, list_any-filter, list_any-more}
 use Rattle.sv_core.proofs.Kept.{later_offers, later_pairs, not_true}
 use Rattle.sv_core.proofs.Opened.{stands_placed}
+
+-- the entry of a leave
+abbrev pub leave_entry : ℕ → List Pair → PlainEntry
+leave_entry party made = record { party = party; act = Leave; answer = done; made = made }
 
 -- a pair that was made at a place by offers that stand
 abbrev IsMadeAmong : ℕ → List Standing → Made → Type 0
@@ -76,10 +82,10 @@ stand_here (offer ∷ offers) =
     (All-weaker (λ x. stands_at offers x.place ≡ true) (λ x. stands_at (offer ∷ offers) x.place ≡ true) (λ x h. or_right (offer.place == x.place) (stands_at offers x.place) h) offers (stand_here offers))
 
 -- pairs made at one place are told by their offers alone
-made-again : (at : ℕ) (made : List Made) → All (λ x. x.at ≡ at) made → map (made_at at) (map (λ x. x.pair) made) ≡ made
+made-again : (at : ℕ) (made : List Made) → All (λ x. x.at ≡ at) made → map (pair_made_at at) (map (λ x. x.pair) made) ≡ made
 made-again at [] all = refl
 made-again at (x ∷ made) all =
-    ap (λ n. record { pair = x.pair; at = n } ∷ map (made_at at) (map (λ x. x.pair) made)) (sym (All-head (λ x. x.at ≡ at) x made all))
+    ap (λ n. record { pair = x.pair; at = n } ∷ map (pair_made_at at) (map (λ x. x.pair) made)) (sym (All-head (λ x. x.at ≡ at) x made all))
     ∙ ap (λ xs. x ∷ xs) (made-again at made (All-tail (λ x. x.at ≡ at) x made all))
 
 -- the offers and the couplings that a leave leaves
@@ -110,8 +116,8 @@ pub couplings-left : (journal : Entries) (party : ℕ) → couplings (leave_entr
 couplings-left journal party =
     let left = left_by journal party in
     let made = made_by journal party in
-    filter-append (λ x. both_stand left x.pair) (made_in journal) (map (made_at (next_place journal)) (map (λ x. x.pair) made))
-    ∙ ap (λ xs. xs ++ filter (λ x. both_stand left x.pair) (map (made_at (next_place journal)) (map (λ x. x.pair) made)))
+    filter-append (λ x. both_stand left x.pair) (made_in journal) (map (pair_made_at (next_place journal)) (map (λ x. x.pair) made))
+    ∙ ap (λ xs. xs ++ filter (λ x. both_stand left x.pair) (map (pair_made_at (next_place journal)) (map (λ x. x.pair) made)))
     (sym (filter-filter (λ x. both_stand left x.pair) (λ x. both_stand (standing journal) x.pair) (λ x h. both_stand-before (standing journal) (λ offer. not (offer.party == party)) x.pair h) (made_in journal)))
     ∙ ap (λ xs. kept_by journal party ++ filter (λ x. both_stand left x.pair) xs)
     (made-again (next_place journal) made (All-weaker (IsMadeAmong (next_place journal) left) (λ x. x.at ≡ next_place journal) (λ x m. m.0) made (made_among journal party)))
@@ -156,6 +162,17 @@ present-falls (user ∷ users) journal party made is here =
     (λ later. omega (arith, after, before, is_here-left journal party made user, present-falls users journal party made later here))
     (or_cases (user == party) (is_user users party) is)
 
+or-flip : (a b : Bool) → (a || b) ≡ ((b && true) || a)
+or-flip true true = refl
+or-flip true false = refl
+or-flip false true = refl
+or-flip false false = refl
+
+-- after a leave the parties that have left are its party and those before
+gone-left : (journal : Entries) (party : ℕ) (made : List Pair) (gone : List ℕ) (other : ℕ) → list_any (λ x. x == other) gone ≡ has_left journal other → list_any (λ x. x == other) (gone ++ party ∷ []) ≡ has_left (leave_entry party made ∷ journal) other
+gone-left journal party made gone other is =
+    list_any-more (λ x. x == other) gone party ∙ ap (λ b. b || (party == other)) is ∙ or-flip (has_left journal other) (party == other)
+
 -- a filter keeps no more than there is
 pub filter_fewer : {X : Type 0} (p : X → Bool) (xs : List X) → length (filter p xs) ≤ length xs
 filter_fewer p xs = omega (arith, length-filter p xs, count_by-le-length p xs)
@@ -177,8 +194,8 @@ placed_later journal e party pair all h =
     record { a = omega (arith, a); b = omega (arith, b) }
 
 -- a leave keeps all
-pub kept_left : {users : List ℕ} {journal : Entries} {room : ℕ} {offers : List Standing} {coupled : List Made} {capacity scratch : ℕ} {spares : List (Listed Pair)} {counted elements : ℕ} → IsKept users journal room offers coupled capacity scratch spares counted elements → (party : ℕ) → MayFollow users journal (leave_entry party (map (λ x. x.pair) (made_by journal party))) → (room' : ℕ) (spares' : List (Listed Pair)) → room ≤ room' + 1 → length spares ≤ length spares' + 1 → All (IsSpare (length offers)) spares' → IsKept users (leave_entry party (map (λ x. x.pair) (made_by journal party)) ∷ journal) room' (left_by journal party) (kept_by journal party ++ made_by journal party) capacity scratch spares' counted elements
-kept_left {users} {journal} {room} {offers} {coupled} {capacity} {scratch} {spares} {counted} {elements} k party may room' spares' roomy many spare =
+pub kept_left : {users : List ℕ} {journal : Entries} {room : ℕ} {gone : List ℕ} {gone_capacity : ℕ} {offers : List Standing} {coupled : List Made} {capacity scratch : ℕ} {spares : List (Listed Pair)} {counted elements : ℕ} → IsKept users journal room gone gone_capacity offers coupled capacity scratch spares counted elements → (party : ℕ) → MayFollow users journal (leave_entry party (map (λ x. x.pair) (made_by journal party))) → (room' : ℕ) (gone' : List ℕ) (gone_capacity' : ℕ) (spares' : List (Listed Pair)) → room ≤ room' + 1 → gone' ≡ gone ++ party ∷ [] → gone_capacity' ≡ gone_capacity → length spares ≤ length spares' + 1 → All (IsSpare (length offers)) spares' → IsKept users (leave_entry party (map (λ x. x.pair) (made_by journal party)) ∷ journal) room' gone' gone_capacity' (left_by journal party) (kept_by journal party ++ made_by journal party) capacity scratch spares' counted elements
+kept_left {users} {journal} {room} {gone} {gone_capacity} {offers} {coupled} {capacity} {scratch} {spares} {counted} {elements} k party may room' gone' gone_capacity' spares' roomy noted wide many spare =
     let made = made_by journal party in
     let e : PlainEntry = leave_entry party (map (λ x. x.pair) made) in
     let left = left_by journal party in
@@ -196,14 +213,16 @@ kept_left {users} {journal} {room} {offers} {coupled} {capacity} {scratch} {spar
       hold = omega (arith, k.hold, sum_by-cons entry_elements e journal);
       few = k.few;
       small = k.small;
+      gone = λ other. ap (list_any (λ x. x == other)) noted ∙ gone-left journal party (map (λ x. x.pair) made) gone other (k.gone other);
       entries_room = omega (arith, falls, k.entries_room, roomy);
+      left_room = omega (arith, falls, k.left_room, ap length noted, length-append gone (party ∷ []), wide);
       spare_count = omega (arith, falls, k.spare_count, many);
       spare_room = All-weaker (IsSpare (length offers)) (IsSpare (length left)) (λ s h. record { empty = h.empty; enough = omega (arith, h.enough, fewer) }) spares' spare;
       coupled_room = rw (length-append (kept_by journal party) made)
           (room_left (length (kept_by journal party)) (length coupled) (length made) (length left) (length offers) (present users journal) (present users (e ∷ journal)) capacity kept_fewer made_fewer fewer falls k.coupled_room);
       scratch_room = omega (arith, k.scratch_room, fewer);
       offers_placed = All-filter (λ offer. not (offer.party == party)) (λ offer. offer.place ≤ length (e ∷ journal)) (standing journal) (later_offers journal e k.offers_placed);
-      pairs_placed = All-append (λ x. IsPlaced (length (e ∷ journal)) x.pair) (made_in journal) (map (made_at (next_place journal)) (map (λ x. x.pair) made))
+      pairs_placed = All-append (λ x. IsPlaced (length (e ∷ journal)) x.pair) (made_in journal) (map (pair_made_at (next_place journal)) (map (λ x. x.pair) made))
           (later_pairs journal e (made_in journal) k.pairs_placed)
           (subst (All (λ x. IsPlaced (length (e ∷ journal)) x.pair)) (sym (made-again (next_place journal) made (All-weaker (IsMadeAmong (next_place journal) left) (λ x. x.at ≡ next_place journal) (λ x m. m.0) made (made_among journal party))))
           (All-weaker (IsMadeAmong (next_place journal) left) (λ x. IsPlaced (length (e ∷ journal)) x.pair) (λ x m. placed_later journal e party x.pair k.offers_placed m.1) made (made_among journal party)));

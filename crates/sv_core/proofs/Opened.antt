@@ -16,9 +16,9 @@ use Rattle.sv_rules.specs.Entries.{Entries, entry_elements, next_place, held_ele
 use Rattle.sv_rules.specs.Standing.{standing, with_offer}
 use Rattle.sv_rules.specs.Coupling.{couplings, made_in, both_stand, stands_at}
 use Rattle.sv_rules.specs.Legal.{MayFollow}
-use Rattle.sv_core.specs.Core.{present, IsKept, IsPlaced, IsOpened, offer_entry, made_at, IsSpare}
+use Rattle.sv_core.specs.Core.{present, IsKept, IsPlaced, IsOpened, offer_entry, pair_made_at, IsSpare}
 use Rattle.sv_core.proofs.Filters.{filter_where, filter_whole, list_any-more, or-false}
-use Rattle.sv_core.proofs.Kept.{later_offers, later_pairs, present-stay, below_limits, not_full, counted-more, held-more}
+use Rattle.sv_core.proofs.Kept.{later_offers, later_pairs, present-stay, has_left-stay, below_limits, not_full, counted-more, held-more}
 
 -- the offers that stand after a new one
 pub standing-opened : (journal : Entries) (new : Standing) (handed : Option PlainArray) (answer : PlainAnswer) (made : List Pair) → IsOpened journal new answer made → standing (offer_entry new handed answer made ∷ journal) ≡ standing journal ++ new ∷ []
@@ -55,23 +55,23 @@ both_stand-new offers new pair a b = and_from _ _
     (list_any-more (λ offer. offer.place == pair.b) offers new ∙ or_right (stands_at offers pair.b) (new.place == pair.b) (eq-eqb new.place pair.b (sym b)))
 
 -- the couplings after a new offer
-pub couplings-opened : (journal : Entries) (new : Standing) (handed : Option PlainArray) (answer : PlainAnswer) (made : List Pair) → IsOpened journal new answer made → All (λ x. IsPlaced (length journal) x.pair) (made_in journal) → couplings (offer_entry new handed answer made ∷ journal) ≡ couplings journal ++ map (made_at new.place) made
+pub couplings-opened : (journal : Entries) (new : Standing) (handed : Option PlainArray) (answer : PlainAnswer) (made : List Pair) → IsOpened journal new answer made → All (λ x. IsPlaced (length journal) x.pair) (made_in journal) → couplings (offer_entry new handed answer made ∷ journal) ≡ couplings journal ++ map (pair_made_at new.place) made
 couplings-opened journal new handed answer made o placed =
     let offers = standing journal ++ new ∷ [] in
-    ap (λ offers. filter (λ x. both_stand offers x.pair) (made_in journal ++ map (made_at (next_place journal)) made)) (standing-opened journal new handed answer made o)
-    ∙ filter-append (λ x. both_stand offers x.pair) (made_in journal) (map (made_at (next_place journal)) made)
-    ∙ ap (λ xs. xs ++ filter (λ x. both_stand offers x.pair) (map (made_at (next_place journal)) made))
+    ap (λ offers. filter (λ x. both_stand offers x.pair) (made_in journal ++ map (pair_made_at (next_place journal)) made)) (standing-opened journal new handed answer made o)
+    ∙ filter-append (λ x. both_stand offers x.pair) (made_in journal) (map (pair_made_at (next_place journal)) made)
+    ∙ ap (λ xs. xs ++ filter (λ x. both_stand offers x.pair) (map (pair_made_at (next_place journal)) made))
     (filter_where (λ x. IsPlaced (length journal) x.pair) (λ x. both_stand offers x.pair) (λ x. both_stand (standing journal) x.pair)
     (λ x p. both_stand-earlier (standing journal) new (length journal) x.pair (omega (arith, o.place)) p) (made_in journal) placed)
-    ∙ ap (λ xs. couplings journal ++ xs) (filter_whole (λ x. both_stand offers x.pair) (map (made_at (next_place journal)) made)
-    (All-map (λ x. both_stand offers x.pair ≡ true) (made_at (next_place journal)) made
+    ∙ ap (λ xs. couplings journal ++ xs) (filter_whole (λ x. both_stand offers x.pair) (map (pair_made_at (next_place journal)) made)
+    (All-map (λ x. both_stand offers x.pair ≡ true) (pair_made_at (next_place journal)) made
     (All-weaker (λ pair. (stands_at (standing journal) pair.a ≡ true) × (pair.b ≡ new.place)) (λ pair. both_stand offers pair ≡ true)
     (λ pair p. both_stand-new (standing journal) new pair p.0 p.1) made o.pairs)))
-    ∙ ap (λ n. couplings journal ++ map (made_at n) made) (sym o.place)
+    ∙ ap (λ n. couplings journal ++ map (pair_made_at n) made) (sym o.place)
 
 -- a new offer keeps all
-pub kept_opened : {users : List ℕ} {journal : Entries} {room : ℕ} {offers : List Standing} {coupled : List Made} {capacity scratch : ℕ} {spares : List (Listed Pair)} {counted elements : ℕ} → IsKept users journal room offers coupled capacity scratch spares counted elements → (new : Standing) (handed : Option PlainArray) (answer : PlainAnswer) (made : List Pair) → IsOpened journal new answer made → MayFollow users journal (offer_entry new handed answer made) → (room' capacity' scratch' : ℕ) (spares' : List (Listed Pair)) → present users journal ≤ room' → length coupled + length made + present users journal * (length offers + 1) ≤ capacity' → length offers + 1 ≤ scratch' → length spares' ≡ length spares → All (IsSpare (length offers + 1)) spares' → (held : ℕ) → held ≡ entry_elements (offer_entry new handed answer made) → held ≤ 32768 → IsKept users (offer_entry new handed answer made ∷ journal) room' (offers ++ new ∷ []) (coupled ++ map (made_at new.place) made) capacity' scratch' spares' (counted + 1) (elements + held)
-kept_opened {users} {journal} {room} {offers} {coupled} {capacity} {scratch} {spares} {counted} {elements} k new handed answer made o may room' capacity' scratch' spares' fits wide scratchy many spare held is small =
+pub kept_opened : {users : List ℕ} {journal : Entries} {room : ℕ} {left : List ℕ} {left_capacity : ℕ} {offers : List Standing} {coupled : List Made} {capacity scratch : ℕ} {spares : List (Listed Pair)} {counted elements : ℕ} → IsKept users journal room left left_capacity offers coupled capacity scratch spares counted elements → (new : Standing) (handed : Option PlainArray) (answer : PlainAnswer) (made : List Pair) → IsOpened journal new answer made → MayFollow users journal (offer_entry new handed answer made) → (room' capacity' scratch' : ℕ) (spares' : List (Listed Pair)) → present users journal ≤ room' → length coupled + length made + present users journal * (length offers + 1) ≤ capacity' → length offers + 1 ≤ scratch' → length spares' ≡ length spares → All (IsSpare (length offers + 1)) spares' → (held : ℕ) → held ≡ entry_elements (offer_entry new handed answer made) → held ≤ 32768 → IsKept users (offer_entry new handed answer made ∷ journal) room' left left_capacity (offers ++ new ∷ []) (coupled ++ map (pair_made_at new.place) made) capacity' scratch' spares' (counted + 1) (elements + held)
+kept_opened {users} {journal} {room} {left} {left_capacity} {offers} {coupled} {capacity} {scratch} {spares} {counted} {elements} k new handed answer made o may room' capacity' scratch' spares' fits wide scratchy many spare held is small =
     let e : PlainEntry = offer_entry new handed answer made in
     let below = below_limits journal (not_full journal e refl may.room) in
     let stay = present-stay users journal e refl in
@@ -80,21 +80,23 @@ kept_opened {users} {journal} {room} {offers} {coupled} {capacity} {scratch} {sp
     record {
       legal = (may, k.legal);
       stand = ap (λ xs. xs ++ new ∷ []) k.stand ∙ sym stands;
-      couple = ap (λ xs. xs ++ map (made_at new.place) made) k.couple ∙ sym (couplings-opened journal new handed answer made o k.pairs_placed);
+      couple = ap (λ xs. xs ++ map (pair_made_at new.place) made) k.couple ∙ sym (couplings-opened journal new handed answer made o k.pairs_placed);
       count = ap (λ n. n + 1) k.count ∙ sym (counted-more journal e refl);
       hold = ap (λ n. n + held) k.hold ∙ ap (λ n. held_elements journal + n) is ∙ sym (held-more journal e);
       few = omega (arith, below.0, k.count);
       small = omega (arith, below.1, k.hold, small);
+      gone = λ party. k.gone party ∙ sym (has_left-stay journal e party refl);
       entries_room = omega (arith, stay, fits);
+      left_room = omega (arith, stay, k.left_room);
       spare_count = omega (arith, stay, k.spare_count, many);
       spare_room = subst (λ n. All (IsSpare n) spares') (sym more) spare;
-      coupled_room = rw (stay, more, length-append coupled (map (made_at new.place) made), length-map made (made_at new.place)) wide;
+      coupled_room = rw (stay, more, length-append coupled (map (pair_made_at new.place) made), length-map made (pair_made_at new.place)) wide;
       scratch_room = omega (arith, more, scratchy);
       offers_placed = subst (All (λ offer. offer.place ≤ length (e ∷ journal))) (sym stands)
           (All-push (λ offer. offer.place ≤ length (e ∷ journal)) (standing journal) new (later_offers journal e k.offers_placed) (omega (arith, o.place)));
-      pairs_placed = All-append (λ x. IsPlaced (length (e ∷ journal)) x.pair) (made_in journal) (map (made_at (next_place journal)) made)
+      pairs_placed = All-append (λ x. IsPlaced (length (e ∷ journal)) x.pair) (made_in journal) (map (pair_made_at (next_place journal)) made)
           (later_pairs journal e (made_in journal) k.pairs_placed)
-          (All-map (λ x. IsPlaced (length (e ∷ journal)) x.pair) (made_at (next_place journal)) made
+          (All-map (λ x. IsPlaced (length (e ∷ journal)) x.pair) (pair_made_at (next_place journal)) made
           (All-weaker (λ pair. (stands_at (standing journal) pair.a ≡ true) × (pair.b ≡ new.place)) (IsPlaced (length (e ∷ journal)))
           (λ pair p. let a = stands_placed (standing journal) (length journal) pair.a k.offers_placed p.0 in record { a = omega (arith, a); b = omega (arith, p.1, o.place) }) made o.pairs));
     }

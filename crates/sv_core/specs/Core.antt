@@ -1,12 +1,15 @@
-use Rattle.std.specs.Prelude.{◌≡◌, ◌≤◌, ◌+◌, ◌*◌, ℕ, true, false, not, List, [], ◌∷◌, length, count_by, All, Option, None}
+use Rattle.std.specs.Prelude.{◌≡◌, ◌≤◌, ◌+◌, ◌*◌, ◌==◌, ℕ, true, false, not, List, [], ◌∷◌, length, count_by, All, Option, None}
+use Rattle.std.specs.List.{list_any}
 use Rattle.apl_arrays.specs.List.{Listed}
 use Rattle.apl_arrays.specs.Array.{PlainArray}
-use Rattle.sv_events.specs.Answer.{PlainAnswer, done}
+use Rattle.apl_arrays.specs.declared.array.TheConstants.{ELEMENT_LIMIT}
+use Rattle.sv_events.specs.Answer.{PlainAnswer}
 use Rattle.sv_events.specs.Entry.{PlainEntry}
 use Rattle.sv_events.specs.declared.event.Act.{Act}
-use Rattle.sv_events.specs.declared.event.Act.TheVariants.{Offer, Leave}
+use Rattle.sv_events.specs.declared.event.Act.TheVariants.{Offer}
 use Rattle.sv_events.specs.declared.entry.Pair.{Pair}
 use Rattle.sv_rules.specs.declared.coupling.Made.{Made}
+use Rattle.sv_rules.specs.declared.plain.room.TheConstants.{ENTRY_LIMIT, HELD_LIMIT}
 use Rattle.sv_rules.specs.declared.standing.Standing.{Standing}
 use Rattle.sv_rules.specs.Entries.{Entries, next_place, has_left, is_leave, is_degree, is_full, counted_entries, held_elements}
 use Rattle.sv_rules.specs.Standing.{standing, own_offer}
@@ -32,16 +35,19 @@ pub record IsPlaced (last : ℕ) (pair : Pair) : Type 0 where
   pub a : pair.a ≤ last
   pub b : pair.b ≤ last
 
--- the journal is legal, the tables and counts are those of the journal, and there is room for every leave
-pub record IsKept (users : List ℕ) (journal : Entries) (room : ℕ) (offers : List Standing) (coupled : List Made) (capacity scratch : ℕ) (spares : List (Listed Pair)) (counted elements : ℕ) : Type 0 where
+-- the journal is legal, the tables, the counts and the parties that have left are those of the journal, and there is
+-- room for every leave; below the limits, one entry adds at most the elements of its act and of its answer
+pub record IsKept (users : List ℕ) (journal : Entries) (room : ℕ) (left : List ℕ) (left_capacity : ℕ) (offers : List Standing) (coupled : List Made) (capacity scratch : ℕ) (spares : List (Listed Pair)) (counted elements : ℕ) : Type 0 where
   pub legal : IsLegal users journal
   pub stand : offers ≡ standing journal
   pub couple : coupled ≡ couplings journal
   pub count : counted ≡ counted_entries journal
   pub hold : elements ≡ held_elements journal
-  pub few : counted ≤ 200000
-  pub small : elements ≤ 4300000
+  pub few : counted ≤ ENTRY_LIMIT
+  pub small : elements ≤ HELD_LIMIT + 2 * ELEMENT_LIMIT
+  pub gone : (party : ℕ) → list_any (λ other. other == party) left ≡ has_left journal party
   pub entries_room : present users journal ≤ room
+  pub left_room : length left + present users journal ≤ left_capacity
   pub spare_count : present users journal ≤ length spares
   pub spare_room : All (IsSpare (length offers)) spares
   pub coupled_room : length coupled + present users journal * length offers ≤ capacity
@@ -56,8 +62,8 @@ pub record IsQuiet (journal : Entries) (e : PlainEntry) : Type 0 where
   pub offers : standing (e ∷ journal) ≡ standing journal
 
 -- a pair that is made at a place
-abbrev pub made_at : ℕ → Pair → Made
-made_at at pair = record { pair = pair; at = at }
+abbrev pub pair_made_at : ℕ → Pair → Made
+pair_made_at at pair = record { pair = pair; at = at }
 
 -- the entry of a new offer
 abbrev pub offer_entry : Standing → Option PlainArray → PlainAnswer → List Pair → PlainEntry
@@ -75,10 +81,6 @@ pub record IsOpened (journal : Entries) (new : Standing) (answer : PlainAnswer) 
   pub degree : is_degree answer ≡ true
   pub fresh : own_offer (standing journal) new.party new.local ≡ None
   pub pairs : All (λ pair. (stands_at (standing journal) pair.a ≡ true) × (pair.b ≡ new.place)) made
-
--- the entry of a leave
-abbrev pub leave_entry : ℕ → List Pair → PlainEntry
-leave_entry party made = record { party = party; act = Leave; answer = done; made = made }
 
 -- a user that has not left, after a journal that is not full
 pub record MayAct (core : PlainCore) (party : ℕ) : Type 0 where

@@ -5,5 +5,5 @@ use Rattle.sv_core.specs.Core.{IsKept}
 -- what a core keeps
 abbrev pub IsCore : Inside → Type 0
 IsCore c =
-    IsKept c.users.items (reverse c.journal.items) c.journal.room c.table.offers.items c.table.coupled.items (vec_capacity c.table.coupled)
-    (vec_capacity c.table.reopened) c.table.spares.items c.counted c.elements
+    IsKept c.users.items (reverse c.journal.items) c.journal.room c.left.items (vec_capacity c.left) c.table.offers.items c.table.coupled.items
+    (vec_capacity c.table.coupled) (vec_capacity c.table.reopened) c.table.spares.items c.counted c.elements

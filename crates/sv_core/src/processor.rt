@@ -16,15 +16,17 @@ use std::marker::Model;
 use sv_events::{Act, Answer, Entry, Journal, PairList};
 use sv_rules::{
     ENTRY_LIMIT, HELD_LIMIT, OFFER_LIMIT, Standing, coupling_at, degree_at, elements_asked,
-    elements_told, has_left, known_value, last_value, offer_count, open_match, own_offer, pair_of,
+    elements_told, known_value, last_value, offer_count, open_match, own_offer, pair_of,
 };
 
-/// The processor of some users: it has the journal, in which each entry may follow those before it.
+/// The processor of some users: it has the journal, in which each entry may follow those before it, and the parties
+/// that have left.
 #[derive(Drop)]
 pub struct Core {
     alloc: Global,
     users: Vec<u32>,
     journal: Journal,
+    left: Vec<u32>,
     table: Table,
     counted: usize,
     elements: u64,
@@ -44,8 +46,8 @@ impl Model for Core {
 }
 
 impl Core {
-    /// The processor of these users, with an empty journal and the room for all their leaves. This profile's
-    /// processor.
+    /// The processor of these users, with an empty journal. It takes memory for the users and for the room of all their
+    /// leaves. This profile.
     pub fn new(alloc: Global, users: &[u32]) -> Result<Core, WantOfMemory>
         ensures { IfOk result (λ core. core ≡ record { users = users.now; journal = [] }) }
     {
@@ -55,27 +57,28 @@ impl Core {
             alloc,
             users: Vec::from_slice(alloc, users)?,
             journal,
+            left: Vec::with_capacity(alloc, users.len())?,
             table: Table::new(alloc, users.len())?,
             counted: 0,
             elements: 0,
         })
     }
 
-    /// Whether the party has left. No memory.
+    /// Whether the party has left. No memory. This profile.
     pub fn has_left(&self, party: u32) -> bool
         ensures { result ≡ has_left self.now.journal party }
     {
-        has_left(self.journal.as_slice(), party)
+        self.left.contains(&party)
     }
 
-    /// Whether the journal takes no more entries but leaves. No memory.
+    /// Whether the journal takes no more entries but leaves. No memory. This profile.
     pub fn is_full(&self) -> bool
         ensures { result ≡ is_full self.now.journal }
     {
         self.counted >= ENTRY_LIMIT || self.elements >= HELD_LIMIT
     }
 
-    /// The entries, oldest first. No memory.
+    /// The entries, oldest first. No memory. This profile.
     pub fn journal(&self) -> &[Entry]
         ensures value { journal_of result.now ≡ self.now.journal }
         ensures legal { IsLegal self.now.users self.now.journal }
@@ -83,7 +86,7 @@ impl Core {
         self.journal.as_slice()
     }
 
-    /// The entries as they are kept. No memory.
+    /// The entries as they are kept, oldest first. No memory. This profile.
     pub fn into_journal(self) -> Journal
         ensures value { reverse result.items ≡ self.journal }
         ensures legal { IsLegal self.users self.journal }
@@ -91,8 +94,9 @@ impl Core {
         self.journal
     }
 
-    /// The answer to an act of a user that has not left, other than a leave: one entry is added with this answer and
-    /// the pairs that the act couples, or none where the journal is full. This profile's processor.
+    /// The answer to an act, other than a leave, of a user that has not left. One entry is added, with this answer and
+    /// the pairs that the act couples; a full journal answers `Full` and adds none. It takes memory for the entry, the
+    /// answer and the room of later leaves; after `WantOfMemory` all is as before. This profile.
     pub fn step(&mut self, party: u32, act: Act) -> Result<Answer, WantOfMemory>
         requires user { IsTrue (is_user self.old.users party) }
         requires present { IsTrue (not (has_left self.old.journal party)) }
@@ -153,7 +157,7 @@ impl Core {
         ensures err { OnErr result (self.new ≡ self.old) }
     {
         let answer = self.value_answer(party, &name)?;
-        let told = self.value_answer(party, &name)?;
+        let told = answer.copy(self.alloc)?;
         self.enter_quiet(quiet_entry(self.alloc, party, Act::Use(name), told))?;
         Ok(answer)
     }
@@ -326,7 +330,7 @@ impl Core {
     }
 
     /// The party leaves: its offers cease together, and those that this reopens are coupled again, by place, each
-    /// with its open match of the lowest place. This profile's processor. No memory.
+    /// with its open match of the lowest place. No memory. This profile.
     pub fn leave(&mut self, party: u32)
         requires user { IsTrue (is_user self.old.users party) }
         requires present { IsTrue (not (has_left self.old.journal party)) }
@@ -340,6 +344,7 @@ impl Core {
             answer: Answer::Done,
             made,
         });
+        self.left.push_reserved(party);
     }
 }
 

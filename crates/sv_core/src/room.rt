@@ -1,7 +1,7 @@
 ghost use Rattle.std.specs.Prelude.{◌≡◌, ◌+◌, ◌*◌, ◌<◌, ◌≤◌, [], ◌∷◌, ◌++◌, ℕ, All, OnOk, OnErr, not, filter, length, map, vec_len, vec_capacity};
 ghost use Rattle.sv_rules.specs.Coupling.{recoupled, rejoined, couplings_among, both_stand, stands_at, is_coupled};
 ghost use Rattle.sv_rules.specs.Standing.{without_party};
-ghost use Rattle.sv_core.specs.Core.{IsSpare, made_at};
+ghost use Rattle.sv_core.specs.Core.{IsSpare, pair_made_at};
 
 use apl_arrays::WantOfMemory;
 use sv_events::{Pair, PairList};
@@ -22,7 +22,7 @@ pub fn widen_spares(spares: &mut Vec<PairList>, room: usize) -> Result<(), WantO
 /// Adds pairs that were made at a place.
 pub fn add_made(coupled: &mut Vec<Made>, made: &[Pair], at: u64)
     requires { vec_len coupled.old + length made.now ≤ vec_capacity coupled.old }
-    ensures items { coupled.new.items ≡ coupled.old.items ++ map (made_at at) made.now }
+    ensures items { coupled.new.items ≡ coupled.old.items ++ map (pair_made_at at) made.now }
     ensures capacity { vec_capacity coupled.new ≡ vec_capacity coupled.old }
 {
     for pair in made {

@@ -1,7 +1,7 @@
 ghost use Rattle.std.specs.Prelude.{◌≡◌, ◌+◌, ◌*◌, ◌^◌, ◌<◌, ◌≤◌, [], ◌∷◌, ◌++◌, ℕ, All, IfOk, OnOk, SomeIff, length, map, vec_len, vec_capacity};
 ghost use Rattle.sv_rules.specs.Standing.{without_party};
 ghost use Rattle.sv_rules.specs.Coupling.{made_by_leave, couplings_among};
-ghost use Rattle.sv_core.specs.Core.{IsSpare, made_at};
+ghost use Rattle.sv_core.specs.Core.{IsSpare, pair_made_at};
 ghost use Rattle.sv_core.specs.Table.{KeepsTable, HasRoom};
 
 use crate::room::{
@@ -59,7 +59,7 @@ impl Table {
         requires offer { vec_len self.old.offers < vec_capacity self.old.offers }
         requires pairs { vec_len self.old.coupled + length made.now ≤ vec_capacity self.old.coupled }
         ensures offers { self.new.offers.items ≡ self.old.offers.items ++ new.now ∷ [] }
-        ensures coupled { self.new.coupled.items ≡ self.old.coupled.items ++ map (made_at new.now.place) made.now }
+        ensures coupled { self.new.coupled.items ≡ self.old.coupled.items ++ map (pair_made_at new.now.place) made.now }
         ensures capacity { vec_capacity self.new.coupled ≡ vec_capacity self.old.coupled }
         ensures rest { (self.new.reopened ≡ self.old.reopened) × (self.new.spares ≡ self.old.spares) }
     {

@@ -2,7 +2,7 @@ use Rattle.std.proofs.Common.{◌≡◌, ◌≤◌, ◌+◌, ◌*◌, ◌∷◌,
 use Rattle.std.proofs.lemmas.List.{reverse-append}
 use Rattle.sv_events.specs.Answer.{plain_answer}
 use Rattle.sv_rules.specs.Legal.{MayFollow}
-use Rattle.sv_core.specs.Core.{PlainCore, IsSpare, IsOpened, present, offer_entry, made_at}
+use Rattle.sv_core.specs.Core.{PlainCore, IsSpare, IsOpened, present, offer_entry, pair_made_at}
 use Rattle.sv_core.specs.Table.{HasRoom}
 use Rattle.sv_core.proofs.Kept.{kept_same, kept_wider, on_success, present-le-length}
 use Rattle.sv_core.proofs.Opened.{kept_opened, room_opened}
@@ -50,7 +50,7 @@ invariant_of-self-2 c =
     subst (λ v. All (IsSpare (length inside.table.offers.items + 1)) v.items) (sym c.open.ensures.rest.1)
     (subst (λ n. All (IsSpare (n + 1)) c.widen-wide.new.self.spares.items) many (room.spares (length inside.table.offers.items) k.spare_room)) in
     kept_same (sym grown) (sym (c.open.ensures.offers ∙ ap (λ xs. xs ++ c.args.new ∷ []) kept.offers))
-    (sym (c.open.ensures.coupled ∙ ap (λ xs. xs ++ map (made_at c.args.new.place) c.as_slice.result.now) kept.coupled ∙ ap (λ xs. inside.table.coupled.items ++ map (made_at c.args.new.place) xs) c.as_slice.ensures)) refl refl
+    (sym (c.open.ensures.coupled ∙ ap (λ xs. xs ++ map (pair_made_at c.args.new.place) c.as_slice.result.now) kept.coupled ∙ ap (λ xs. inside.table.coupled.items ++ map (pair_made_at c.args.new.place) xs) c.as_slice.ensures)) refl refl
     (kept_opened k c.args.new c.args.value (plain_answer c.args.answer) c.args.made.items opened may c.push_reserved.new.self.room (vec_capacity c.open.new.self.coupled) (vec_capacity c.open.new.self.reopened) c.open.new.self.spares.items
     (omega (arith, here, roomy, c.push_reserved.ensures.room))
     (room_opened (length inside.table.coupled.items) (length c.args.made.items) (present inside.users.items journal) c.len-users.result (length inside.table.offers.items) (vec_capacity c.open.new.self.coupled) here pairs)

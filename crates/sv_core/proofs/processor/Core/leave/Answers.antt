@@ -4,9 +4,9 @@ use Rattle.sv_rules.specs.Entries.{has_left, next_place}
 use Rattle.sv_rules.specs.Standing.{standing, without_party}
 use Rattle.sv_rules.specs.Coupling.{couplings_among, made_by_leave}
 use Rattle.sv_rules.specs.Legal.{is_user}
-use Rattle.sv_core.specs.Core.{PlainCore, present, leave_entry}
+use Rattle.sv_core.specs.Core.{PlainCore, present}
 use Rattle.sv_core.proofs.Kept.{kept_same}
-use Rattle.sv_core.proofs.Left.{somebody, room_for_leave, leave_may, kept_left, left_by, kept_by, made_by}
+use Rattle.sv_core.proofs.Left.{leave_entry, somebody, room_for_leave, leave_may, kept_left, left_by, kept_by, made_by}
 use Rattle.sv_core.proofs.processor.Core.leave.Goals as goal
 use Rattle.sv_core.proofs.processor.Core.leave.Goals.{After-next_place-at, After-push_reserved}
 
@@ -35,6 +35,11 @@ pub push_reserved-requires : goal.push_reserved-requires
 push_reserved-requires c =
     let d = (goal.at.push_reserved-requires c).After-next_place-at in
     omega (arith, some_is d, c.self.invariant.entries_room)
+
+pub push_reserved-requires-2 : goal.push_reserved-requires-2
+push_reserved-requires-2 c =
+    let d = (goal.at.push_reserved-requires-2 c).After-next_place-at in
+    omega (arith, some_is d, c.self.invariant.left_room, c.self.inside.left.ok.0)
 
 -- the pairs of the leave
 made_is : (c : After-push_reserved) → made_by_leave c.next_place-at.result c.self.inside.table.offers.items c.self.inside.table.coupled.items c.args.party ≡ made_by (reverse c.self.inside.journal.items) c.args.party
@@ -68,8 +73,8 @@ invariant_of-self c =
     let journal = reverse c.self.inside.journal.items in
     let spare = c.leave-made.ensures.spares (length c.self.inside.table.offers.items) c.self.invariant.spare_room in
     kept_same (sym (grown e)) (sym (offers_are e)) (sym (coupled_are e)) (sym c.leave-made.ensures.capacity) (sym c.leave-made.ensures.scratch)
-    (kept_left c.self.invariant c.args.party (leave_may c.self.inside.users.items journal c.args.party (user_is d) (here_is d)) c.push_reserved.new.self.room c.leave-made.new.self.spares.items
-    (omega (arith, c.push_reserved.ensures.room)) (omega (arith, c.leave-made.ensures.count, c.leave-made.new.self.spares.ok.0, c.self.inside.table.spares.ok.0)) spare)
+    (kept_left c.self.invariant c.args.party (leave_may c.self.inside.users.items journal c.args.party (user_is d) (here_is d)) c.push_reserved.new.self.room c.push_reserved-2.new.self.items (vec_capacity c.push_reserved-2.new.self) c.leave-made.new.self.spares.items
+    (omega (arith, c.push_reserved.ensures.room)) c.push_reserved-2.ensures.items c.push_reserved-2.ensures.capacity (omega (arith, c.leave-made.ensures.count, c.leave-made.new.self.spares.ok.0, c.self.inside.table.spares.ok.0)) spare)
 
 pub returns : goal.returns
 returns c =
