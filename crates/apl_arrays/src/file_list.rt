@@ -1,7 +1,7 @@
 ghost use Rattle.std.specs.Prelude.{◌≡◌, ◌+◌, ◌<◌, ◌≤◌, ◌∷◌, [], ◌++◌, IsOk, OnOk, OnErr, map};
 ghost use Rattle.apl_arrays.specs.FileList.{plain_file, IsAscending};
 
-use crate::{Bytes, FileName, WantOfMemory};
+use crate::{Bytes, FileName, List, WantOfMemory};
 use std::alloc::Global;
 use std::marker::Model;
 
@@ -15,17 +15,17 @@ pub struct File {
 /// Files, their names ascending. It is seen as names and bytes, and the room that is left.
 #[derive(Debug, Drop)]
 pub struct FileList {
-    files: Vec<File>,
+    files: List<File>,
 }
 
 impl Model for FileList {
-    ghost use Rattle.std.specs.Prelude.{◌-◌, map, vec_len, vec_capacity};
+    ghost use Rattle.std.specs.Prelude.{map};
     ghost use Rattle.apl_arrays.specs.List.{Listed};
     ghost use Rattle.apl_arrays.specs.FileList.{PlainFile, plain_file, IsAscending};
 
     ghost Value = { Listed PlainFile };
 
-    ghost view = { λ l. record { items = map plain_file l.files.items; room = vec_capacity l.files - vec_len l.files } };
+    ghost view = { λ l. record { items = map plain_file l.files.items; room = l.files.room } };
 
     ghost invariant = { λ l. IsAscending (map plain_file l.files.items) };
 }
@@ -36,7 +36,7 @@ impl FileList {
         ensures { result.items ≡ [] }
     {
         FileList {
-            files: Vec::new(alloc),
+            files: List::new(alloc),
         }
     }
 
@@ -45,7 +45,7 @@ impl FileList {
         ensures value { map plain_file result.now ≡ self.now.items }
         ensures ascending { IsAscending self.now.items }
     {
-        &self.files
+        self.files.as_slice()
     }
 
     /// The files as a `Vec`. It takes no memory.
@@ -53,7 +53,7 @@ impl FileList {
         ensures value { map plain_file result.items ≡ self.items }
         ensures ascending { IsAscending self.items }
     {
-        self.files
+        self.files.into_vec()
     }
 
     /// Makes room for at least so many pushes.
@@ -64,8 +64,7 @@ impl FileList {
         ensures err { OnErr result (self.new ≡ self.old) }
         ensures granted { room ≤ self.old.room → IsOk result }
     {
-        self.files.reserve(room)?;
-        Ok(())
+        self.files.reserve(room)
     }
 
     /// Adds a file at the end, whose name has to come after the others. Where there is room it is granted.
@@ -76,12 +75,6 @@ impl FileList {
         ensures granted { 0 < self.old.room → IsOk result }
         ensures room { 0 < self.old.room → self.new.room + 1 ≡ self.old.room }
     {
-        if self.files.len() < self.files.capacity() {
-            self.files.push_reserved(file);
-            return Ok(());
-        }
-        self.files.reserve(1)?;
-        self.files.push_reserved(file);
-        Ok(())
+        self.files.push(file)
     }
 }
