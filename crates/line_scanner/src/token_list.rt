@@ -2,24 +2,24 @@ ghost use Rattle.std.specs.Prelude.{◌≡◌, ◌+◌, ◌<◌, ◌≤◌, ◌�
 ghost use Rattle.line_scanner.specs.Token.{plain_token};
 
 use crate::Token;
-use apl_arrays::WantOfMemory;
+use apl_arrays::{List, WantOfMemory};
 use std::alloc::Global;
 use std::marker::Model;
 
 /// Tokens, seen as plain data and as the room that is left.
 #[derive(Debug, Drop)]
 pub struct TokenList {
-    tokens: Vec<Token>,
+    tokens: List<Token>,
 }
 
 impl Model for TokenList {
-    ghost use Rattle.std.specs.Prelude.{◌-◌, map, vec_len, vec_capacity};
+    ghost use Rattle.std.specs.Prelude.{map};
     ghost use Rattle.apl_arrays.specs.List.{Listed};
     ghost use Rattle.line_scanner.specs.Token.{PlainToken, plain_token};
 
     ghost Value = { Listed PlainToken };
 
-    ghost view = { λ l. record { items = map plain_token l.tokens.items; room = vec_capacity l.tokens - vec_len l.tokens } };
+    ghost view = { λ l. record { items = map plain_token l.tokens.items; room = l.tokens.room } };
 }
 
 impl TokenList {
@@ -28,7 +28,7 @@ impl TokenList {
         ensures { result.items ≡ [] }
     {
         TokenList {
-            tokens: Vec::new(alloc),
+            tokens: List::new(alloc),
         }
     }
 
@@ -36,14 +36,14 @@ impl TokenList {
     pub fn as_slice(&self) -> &[Token]
         ensures { map plain_token result.now ≡ self.now.items }
     {
-        &self.tokens
+        self.tokens.as_slice()
     }
 
     /// The tokens as a `Vec`. It takes no memory.
     pub fn into_vec(self) -> Vec<Token>
         ensures { map plain_token result.items ≡ self.items }
     {
-        self.tokens
+        self.tokens.into_vec()
     }
 
     /// Makes room for at least so many pushes.
@@ -54,8 +54,7 @@ impl TokenList {
         ensures err { OnErr result (self.new ≡ self.old) }
         ensures granted { room ≤ self.old.room → IsOk result }
     {
-        self.tokens.reserve(room)?;
-        Ok(())
+        self.tokens.reserve(room)
     }
 
     /// Adds a token at the end. Where there is room it is granted.
@@ -65,12 +64,6 @@ impl TokenList {
         ensures granted { 0 < self.old.room → IsOk result }
         ensures room { 0 < self.old.room → self.new.room + 1 ≡ self.old.room }
     {
-        if self.tokens.len() < self.tokens.capacity() {
-            self.tokens.push_reserved(token);
-            return Ok(());
-        }
-        self.tokens.reserve(1)?;
-        self.tokens.push_reserved(token);
-        Ok(())
+        self.tokens.push(token)
     }
 }
