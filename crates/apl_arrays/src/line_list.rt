@@ -21,7 +21,7 @@ impl Model for LineList {
 }
 
 impl LineList {
-    /// No lines. It takes no memory.
+    /// No lines. It takes no memory. This profile.
     pub fn new(alloc: Global) -> Self
         ensures { result.items ≡ [] }
     {
@@ -30,21 +30,22 @@ impl LineList {
         }
     }
 
-    /// The lines, in order. It takes no memory.
+    /// The lines, in order. It takes no memory. This profile.
     pub fn as_slice(&self) -> &[Line]
         ensures { map glyphs_in result.now ≡ self.now.items }
     {
         self.lines.as_slice()
     }
 
-    /// The lines as a `Vec`. It takes no memory.
+    /// The lines as a `Vec`. It takes no memory. This profile.
     pub fn into_vec(self) -> Vec<Line>
         ensures { map glyphs_in result.items ≡ self.items }
     {
         self.lines.into_vec()
     }
 
-    /// Makes room for at least so many pushes.
+    /// Makes room for at least so many pushes, and takes memory for it. `WantOfMemory` leaves the list as it was. This
+    /// profile.
     pub fn reserve(&mut self, room: usize) -> Result<(), WantOfMemory>
         ensures items { self.new.items ≡ self.old.items }
         ensures room { OnOk result (room ≤ self.new.room) }
@@ -55,7 +56,8 @@ impl LineList {
         self.lines.reserve(room)
     }
 
-    /// Adds a line at the end. Where there is room it is granted.
+    /// Adds a line at the end. Where there is room it is granted and takes no memory, else it takes memory for more.
+    /// `WantOfMemory` leaves the list as it was. This profile.
     pub fn push(&mut self, line: Line) -> Result<(), WantOfMemory>
         ensures ok { OnOk result (self.new.items ≡ self.old.items ++ line.items ∷ []) }
         ensures err { OnErr result (self.new ≡ self.old) }
