@@ -30,15 +30,28 @@ pub enum Item {
 /// Why shape and items make no array.
 #[derive(Clone, Copy, Debug, PartialEq, Eq, Hash)]
 pub enum ArrayRefused {
+    /// Over eight axes, or an axis or the product of all over 16,384.
     TooLarge,
+    /// As many items as the product were not given.
     BadShape,
 }
+
+impl fmt::Display for ArrayRefused {
+    fn fmt<W: fmt::Write>(&self, f: &mut fmt::Formatter<W>) -> fmt::Result {
+        f.write_str(match self {
+            ArrayRefused::TooLarge => "array too large",
+            ArrayRefused::BadShape => "shape and items differ",
+        })
+    }
+}
+
+impl Error for ArrayRefused {}
 
 /// An array: a shape of at most eight axes, and the items in row-major order, all numbers or all characters. Two
 /// arrays are equal where their shapes, kinds and items are.
 #[derive(Debug, Drop)]
 pub struct Array {
-    axes: [u32; 8],
+    axes: [u32; RANK_LIMIT],
     rank: u8,
     items: Items,
 }
@@ -81,7 +94,7 @@ impl Eq for Items {
 }
 
 impl Items {
-    /// How many items there are. No memory.
+    /// How many items there are. No memory. ISO 8485.
     pub fn len(&self) -> usize
         ensures { result ≡ item_count (plain_items self.now) }
     {
@@ -91,7 +104,7 @@ impl Items {
         }
     }
 
-    /// Equal items.
+    /// Equal items. It takes memory for them. ISO 8485.
     pub fn copy(&self, alloc: Global) -> Result<Items, WantOfMemory>
         ensures { IfOk result (λ items. plain_items items ≡ plain_items self.now) }
     {
@@ -101,7 +114,7 @@ impl Items {
         }
     }
 
-    /// Whether there are none. No memory.
+    /// Whether there are none. No memory. ISO 8485.
     pub fn is_empty(&self) -> bool
         ensures { IsTrue result ↔ (item_count (plain_items self.now) ≡ 0) }
     {
@@ -127,7 +140,7 @@ impl Array {
             discard(items);
             return Err(ArrayRefused::BadShape);
         }
-        let mut axes = [0; 8];
+        let mut axes = [0; RANK_LIMIT];
         axes[..shape.len()].copy_from_slice(shape);
         Ok(Array {
             axes,
@@ -148,20 +161,20 @@ impl Array {
         }
     }
 
-    /// The scalar of a number.
+    /// The scalar of a number. It takes memory for the number. ISO 8485.
     pub fn scalar(alloc: Global, number: i64) -> Result<Array, WantOfMemory>
         ensures { IfOk result (λ array. array ≡ scalar number) }
     {
         let mut items = List::new(alloc);
         items.push(number)?;
         Ok(Array {
-            axes: [0; 8],
+            axes: [0; RANK_LIMIT],
             rank: 0,
             items: Items::Numbers(items),
         })
     }
 
-    /// An equal array.
+    /// An equal array. It takes memory for its items. ISO 8485.
     pub fn copy(&self, alloc: Global) -> Result<Array, WantOfMemory>
         ensures { IfOk result (λ array. array ≡ self.now) }
     {
@@ -172,7 +185,7 @@ impl Array {
         })
     }
 
-    /// The lengths of the axes. No memory.
+    /// The lengths of the axes. No memory. ISO 8485.
     pub fn shape(&self) -> &[u32]
         ensures value { result.now ≡ self.now.shape }
         ensures array { IsArray self.now }
@@ -180,7 +193,7 @@ impl Array {
         &self.axes[..self.rank as usize]
     }
 
-    /// The items. No memory.
+    /// The items. No memory. ISO 8485.
     pub fn items(&self) -> &Items
         ensures value { plain_items result.now ≡ self.now.items }
         ensures array { IsArray self.now }
@@ -188,7 +201,7 @@ impl Array {
         &self.items
     }
 
-    /// The item at a place, in row-major order from 0. No memory.
+    /// The item at a place, in row-major order from 0. No memory. ISO 8485.
     pub fn item(&self, at: usize) -> Item
         requires { at < item_count self.now.items }
         ensures { IsItemOf self.now.items at result }
@@ -199,7 +212,7 @@ impl Array {
         }
     }
 
-    /// Whether the kind is characters, also of an empty array. No memory.
+    /// Whether the kind is characters, also of an empty array. No memory. ISO 8485.
     pub fn is_chars(&self) -> bool
         ensures { result ≡ is_chars self.now.items }
     {

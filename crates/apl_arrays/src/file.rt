@@ -31,7 +31,7 @@ impl Model for FileName {
 }
 
 impl FileName {
-    /// The name that the text is, or `None` where it is no file name. This profile's names. No memory.
+    /// The name that the text is, or `None` where it is no file name. No memory. This profile.
     pub fn of(text: &str) -> Option<FileName>
         ensures known { IsSome result ↔ IsFileName text.now }
         ensures value { IfSome result (λ name. name ≡ text.now) }
@@ -54,7 +54,7 @@ impl FileName {
         })
     }
 
-    /// The bytes of its text. No memory.
+    /// The bytes of its text. No memory. This profile.
     pub fn as_bytes(&self) -> &[u8]
         ensures value { result.now ≡ self.now }
         ensures name { IsFileName self.now }

@@ -34,7 +34,7 @@ impl Glyph {
     /// The blank.
     pub const BLANK: Glyph = Glyph { code: b' ' };
 
-    /// The glyph of a code, or `None` where the table has no such code. This profile's table. No memory.
+    /// The glyph of a code, or `None` where the table has no such code. No memory. This profile.
     pub fn of_code(code: u8) -> Option<Glyph>
         ensures known { IsSome result ↔ IsGlyph code }
         ensures value { IfSome result (λ g. g ≡ code) }
@@ -46,7 +46,7 @@ impl Glyph {
         }
     }
 
-    /// The glyph of a code that the table has. No memory.
+    /// The glyph of a code that the table has. No memory. This profile.
     pub fn with_code(code: u8) -> Glyph
         requires { IsGlyph code }
         ensures { result ≡ code }
@@ -54,7 +54,7 @@ impl Glyph {
         Glyph { code }
     }
 
-    /// The code. No memory.
+    /// The code. No memory. This profile.
     pub fn code(self) -> u8
         ensures value { result ≡ self }
         ensures glyph { IsGlyph result }

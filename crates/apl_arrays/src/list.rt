@@ -18,7 +18,7 @@ impl<T> Model for List<T> {
 }
 
 impl<T> List<T> {
-    /// An empty list. It takes no memory.
+    /// An empty list. It takes no memory. This profile.
     pub fn new(alloc: Global) -> Self
         ensures { result.items ≡ [] }
     {
@@ -27,21 +27,21 @@ impl<T> List<T> {
         }
     }
 
-    /// The items, in order. It takes no memory.
+    /// The items, in order. It takes no memory. This profile.
     pub fn as_slice(&self) -> &[T]
         ensures { result.now ≡ self.now.items }
     {
         &self.items
     }
 
-    /// The items as a `Vec`. It takes no memory.
+    /// The items as a `Vec`. It takes no memory. This profile.
     pub fn into_vec(self) -> Vec<T>
         ensures { result.items ≡ self.items }
     {
         self.items
     }
 
-    /// A list of the same items, with room for no more than these are.
+    /// A list of the same items. It takes memory for them. This profile.
     pub fn copy(&self, alloc: Global) -> Result<Self, WantOfMemory>
     where
         T: Copy,
@@ -52,7 +52,8 @@ impl<T> List<T> {
         })
     }
 
-    /// Makes room for at least so many pushes.
+    /// Makes room for at least so many pushes, and takes memory for it. `WantOfMemory` leaves the list as it was. This
+    /// profile.
     pub fn reserve(&mut self, room: usize) -> Result<(), WantOfMemory>
         ensures items { self.new.items ≡ self.old.items }
         ensures room { OnOk result (room ≤ self.new.room) }
@@ -64,7 +65,8 @@ impl<T> List<T> {
         Ok(())
     }
 
-    /// Adds an item at the end. Where there is room it is granted.
+    /// Adds an item at the end. Where there is room it is granted and takes no memory, else it takes memory for more.
+    /// `WantOfMemory` leaves the list as it was. This profile.
     pub fn push(&mut self, item: T) -> Result<(), WantOfMemory>
     where
         T: Drop,
@@ -82,7 +84,7 @@ impl<T> List<T> {
         Ok(())
     }
 
-    /// Adds an item at the end, where there is room. It takes no memory.
+    /// Adds an item at the end, where there is room. It takes no memory. This profile.
     pub fn push_reserved(&mut self, item: T)
         requires { 0 < self.old.room }
         ensures items { self.new.items ≡ self.old.items ++ item ∷ [] }

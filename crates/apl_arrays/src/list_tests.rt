@@ -104,6 +104,10 @@ fn fails_are_named(rt: &impl Abort, alloc: Global) -> Result<(), WantOfMemory> {
     assert_eq!(rt; wanting.as_str(), "out of memory");
     let memory = WantOfMemory.to_string(alloc)?;
     assert_eq!(rt; memory.as_str(), "out of memory");
+    let large = ArrayRefused::TooLarge.to_string(alloc)?;
+    assert_eq!(rt; large.as_str(), "array too large");
+    let shape = ArrayRefused::BadShape.to_string(alloc)?;
+    assert_eq!(rt; shape.as_str(), "shape and items differ");
     Ok(())
 }
 

@@ -33,7 +33,7 @@ impl Model for Name {
 }
 
 impl Name {
-    /// The name of these glyphs, or `None` where they are no name. This profile's names. No memory.
+    /// The name of these glyphs, or `None` where they are no name. No memory. This profile.
     pub fn of(glyphs: &[Glyph]) -> Option<Name>
         ensures known { IsSome result ↔ IsName glyphs.now }
         ensures value { IfSome result (λ name. name ≡ glyphs.now) }
@@ -49,7 +49,7 @@ impl Name {
         })
     }
 
-    /// Its glyphs. No memory.
+    /// Its glyphs. No memory. This profile.
     pub fn glyphs(&self) -> &[Glyph]
         ensures value { result.now ≡ self.now }
         ensures name { IsName self.now }

@@ -124,7 +124,7 @@ fn glyph_at(bytes: &[u8]) -> Option<(Glyph, usize)>
 }
 
 /// The line that bytes spell in UTF-8, read in one pass. `BadGlyph` says where the first thing stands that is no
-/// glyph of this profile. It takes memory for the line.
+/// glyph. It takes memory for the line. This profile.
 #[tactic(auto, using(crate::proofs::Spelling::bad_here, crate::proofs::Spelling::one_more))]
 pub fn glyphs_of(alloc: Global, bytes: &[u8]) -> Result<Line, GlyphRefused>
     ensures line { IfOk result (λ line. Spells bytes.now line.items) }
@@ -160,7 +160,7 @@ fn char_of(glyph: Glyph) -> char
     char::from_u32(u32::from(SCALARS[usize::from(code) - 0x80])).unwrap()
 }
 
-/// A line in UTF-8. Read again it is this line. It takes memory for the bytes.
+/// A line in UTF-8. Read again it is this line. It takes memory for the bytes. This profile.
 pub fn utf8_of(alloc: Global, line: &Line) -> Result<Bytes, WantOfMemory>
     ensures text { IfOk result (λ bytes. bytes.items ≡ line_utf8 line.now.items) }
     ensures read_again { IfOk result (λ bytes. Spells bytes.items line.now.items) }
@@ -173,7 +173,8 @@ pub fn utf8_of(alloc: Global, line: &Line) -> Result<Bytes, WantOfMemory>
 }
 
 /// What every text keeps: it spells at most one line, and then is bad nowhere; it is bad at one place at most; the
-/// texts of two lines join to that of the joined line; and no byte of a line is a control character.
+/// texts of two lines join to that of the joined line; and no byte of a line is a control character. The call does
+/// nothing. This profile.
 pub fn texts_are_read_in_one_way()
     ensures one_line { (bytes line other : ListOf ℕ) → Spells bytes line → Spells bytes other → line ≡ other }
     ensures bad_nowhere { (bytes line : ListOf ℕ) (offset : ℕ) → Spells bytes line → IsBadFrom bytes offset → ⊥ }

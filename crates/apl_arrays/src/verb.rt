@@ -1,38 +1,66 @@
 /// A monadic scalar function.
 #[derive(Clone, Copy, Debug, PartialEq, Eq, Hash)]
 pub enum Monad {
+    /// `+`
     Identity,
+    /// `⌈`
     Ceiling,
+    /// `⌊`
     Floor,
+    /// `-`
     Negative,
+    /// `×`
     Sign,
+    /// `|`
     Magnitude,
+    /// `÷`
     Reciprocal,
+    /// `!`
     Factorial,
+    /// `~`
     Not,
 }
 
 /// A dyadic scalar function.
 #[derive(Clone, Copy, Debug, PartialEq, Eq, Hash)]
 pub enum Dyad {
+    /// `+`
     Plus,
+    /// `-`
     Minus,
+    /// `×`
     Times,
+    /// `÷`
     Divide,
+    /// `⌈`
     Maximum,
+    /// `⌊`
     Minimum,
+    /// `|`
     Residue,
+    /// `*`
     Power,
+    /// `!`
     Binomial,
+    /// `∧`
     And,
+    /// `∨`
     Or,
+    /// `⍲`
     Nand,
+    /// `⍱`
     Nor,
+    /// `<`
     Less,
+    /// `≤`
     NotGreater,
+    /// `=`
     Equal,
+    /// `≥`
     NotLess,
+    /// `>`
     Greater,
+    /// `≠`
     NotEqual,
 }
 

@@ -11,7 +11,7 @@ AreAtMost left most = IsSomeAnd left (λ bytes. length bytes ≤ most)
 abbrev pub ReadsAll : Option (List ℕ) → Option (List ℕ) → List ℕ → Type 0
 ReadsAll before now bytes = IfSome before (λ left. (bytes ≡ left) × (now ≡ Some []))
 
--- so many bytes were taken, and as many were left
+-- so many bytes were taken: at least so many bytes were left, and the first so many are gone
 abbrev pub TakesExactly : Option (List ℕ) → Option (List ℕ) → ℕ → Type 0
 TakesExactly before now count = IfSome before (λ left. (count ≤ length left) × (now ≡ Some (drop count left)))
 
@@ -19,6 +19,6 @@ TakesExactly before now count = IfSome before (λ left. (count ≤ length left) 
 abbrev pub TakesAtMost : Option (List ℕ) → Option (List ℕ) → ℕ → Type 0
 TakesAtMost before now most = (count : ℕ) × (count ≤ most) × TakesExactly before now count
 
--- some of these bytes went last, from their front on, but not all
+-- a front part of these bytes, perhaps none, not all, went last
 abbrev pub AppendsPrefix : Option (List ℕ) → Option (List ℕ) → List ℕ → Type 0
 AppendsPrefix before now bytes = (count : ℕ) × (count < length bytes) × Appends before now (take count bytes)

@@ -24,7 +24,7 @@ impl Model for CallNumbers {
 }
 
 impl CallNumbers {
-    /// No numbers. It takes no memory.
+    /// No numbers. It takes no memory. This profile.
     pub fn new(alloc: Global) -> Self
         ensures { result.items ≡ [] }
     {
@@ -33,7 +33,7 @@ impl CallNumbers {
         }
     }
 
-    /// The numbers, ascending. It takes no memory.
+    /// The numbers, ascending. It takes no memory. This profile.
     pub fn as_slice(&self) -> &[u64]
         ensures items { result.now ≡ self.now.items }
         ensures ascending { IsStrictlyIncreasing result.now }
@@ -41,7 +41,7 @@ impl CallNumbers {
         self.numbers.as_slice()
     }
 
-    /// The numbers as a `Vec`. It takes no memory.
+    /// The numbers as a `Vec`. It takes no memory. This profile.
     pub fn into_vec(self) -> Vec<u64>
         ensures items { result.items ≡ self.items }
         ensures ascending { IsStrictlyIncreasing result.items }
@@ -49,7 +49,8 @@ impl CallNumbers {
         self.numbers.into_vec()
     }
 
-    /// Makes room for at least so many pushes.
+    /// Makes room for at least so many pushes, and takes memory for it. `WantOfMemory` leaves the list as it was. This
+    /// profile.
     pub fn reserve(&mut self, room: usize) -> Result<(), WantOfMemory>
         ensures items { self.new.items ≡ self.old.items }
         ensures room { OnOk result (room ≤ self.new.room) }
@@ -60,7 +61,8 @@ impl CallNumbers {
         self.numbers.reserve(room)
     }
 
-    /// Adds a number above all the others. Where there is room it is granted.
+    /// Adds a number above all the others. Where there is room it is granted and takes no memory, else it takes memory
+    /// for more. `WantOfMemory` leaves the list as it was. This profile.
     pub fn push(&mut self, number: u64) -> Result<(), WantOfMemory>
         requires { IsStrictlyIncreasing (self.old.items ++ number ∷ []) }
         ensures ok { OnOk result (self.new.items ≡ self.old.items ++ number ∷ []) }

@@ -9,6 +9,7 @@ mod sink;
 mod source;
 mod whole;
 
+pub use apl_arrays::Bytes;
 pub use call_numbers::CallNumbers;
 pub use failed::Failed;
 pub use memory_sink::MemorySink;
@@ -16,9 +17,6 @@ pub use memory_source::MemorySource;
 pub use sink::Sink;
 pub use source::Source;
 pub use whole::{ReadRefused, WriteFault, read_all, write_all};
-
-/// Bytes, seen as a list with its room.
-pub type Bytes = apl_arrays::List<u8>;
 
 #[cfg(test)]
 mod tests;

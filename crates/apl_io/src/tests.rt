@@ -160,6 +160,22 @@ fn gives_pieces(rt: &impl Abort, alloc: Global) -> Result<(), WantOfMemory> {
     Ok(())
 }
 
+fn faults_are_named(rt: &impl Abort, alloc: Global) -> Result<(), WantOfMemory> {
+    for (refused, text) in [
+        (ReadRefused::ReadFault, "the source failed"),
+        (ReadRefused::TooLong, "the source has too many bytes"),
+        (ReadRefused::WantOfMemory, "out of memory"),
+    ] {
+        let shown = refused.to_string(alloc)?;
+        assert_eq!(rt; shown.as_str(), text);
+    }
+    let write = WriteFault.to_string(alloc)?;
+    assert_eq!(rt; write.as_str(), "the sink failed");
+    let failed = Failed.to_string(alloc)?;
+    assert_eq!(rt; failed.as_str(), "the call failed");
+    Ok(())
+}
+
 // Where an allocation was refused, the second attempt has all the memory.
 
 #[test]
@@ -194,5 +210,12 @@ fn call_numbers_ascend(rt: HostRuntime) {
 fn a_source_gives_pieces_and_fails_as_told(rt: HostRuntime) {
     if gives_pieces(&rt, rt.alloc()).is_err() {
         assert!(rt; gives_pieces(&rt, rt.alloc()).is_ok());
+    }
+}
+
+#[test]
+fn faults_have_their_texts(rt: HostRuntime) {
+    if faults_are_named(&rt, rt.alloc()).is_err() {
+        assert!(rt; faults_are_named(&rt, rt.alloc()).is_ok());
     }
 }

@@ -2,51 +2,52 @@ ghost use Rattle.std.specs.Prelude.{◌≡◌, ◌+◌, ◌<◌, ◌≤◌, ◌�
 ghost use Rattle.line_scanner.specs.Token.{plain_token};
 
 use crate::Token;
-use apl_arrays::WantOfMemory;
+use apl_arrays::{List, WantOfMemory};
 use std::alloc::Global;
 use std::marker::Model;
 
 /// Tokens, seen as plain data and as the room that is left.
 #[derive(Debug, Drop)]
 pub struct TokenList {
-    tokens: Vec<Token>,
+    tokens: List<Token>,
 }
 
 impl Model for TokenList {
-    ghost use Rattle.std.specs.Prelude.{◌-◌, map, vec_len, vec_capacity};
+    ghost use Rattle.std.specs.Prelude.{map};
     ghost use Rattle.apl_arrays.specs.List.{Listed};
     ghost use Rattle.line_scanner.specs.Token.{PlainToken, plain_token};
 
     ghost Value = { Listed PlainToken };
 
-    ghost view = { λ l. record { items = map plain_token l.tokens.items; room = vec_capacity l.tokens - vec_len l.tokens } };
+    ghost view = { λ l. record { items = map plain_token l.tokens.items; room = l.tokens.room } };
 }
 
 impl TokenList {
-    /// No tokens. It takes no memory.
+    /// No tokens. It takes no memory. This profile.
     pub fn new(alloc: Global) -> Self
         ensures { result.items ≡ [] }
     {
         TokenList {
-            tokens: Vec::new(alloc),
+            tokens: List::new(alloc),
         }
     }
 
-    /// The tokens, in order. It takes no memory.
+    /// The tokens, in order. It takes no memory. This profile.
     pub fn as_slice(&self) -> &[Token]
         ensures { map plain_token result.now ≡ self.now.items }
     {
-        &self.tokens
+        self.tokens.as_slice()
     }
 
-    /// The tokens as a `Vec`. It takes no memory.
+    /// The tokens as a `Vec`. It takes no memory. This profile.
     pub fn into_vec(self) -> Vec<Token>
         ensures { map plain_token result.items ≡ self.items }
     {
-        self.tokens
+        self.tokens.into_vec()
     }
 
-    /// Makes room for at least so many pushes.
+    /// Makes room for at least so many pushes, and takes memory for it. `WantOfMemory` leaves the list as it was. This
+    /// profile.
     pub fn reserve(&mut self, room: usize) -> Result<(), WantOfMemory>
         ensures items { self.new.items ≡ self.old.items }
         ensures room { OnOk result (room ≤ self.new.room) }
@@ -54,23 +55,17 @@ impl TokenList {
         ensures err { OnErr result (self.new ≡ self.old) }
         ensures granted { room ≤ self.old.room → IsOk result }
     {
-        self.tokens.reserve(room)?;
-        Ok(())
+        self.tokens.reserve(room)
     }
 
-    /// Adds a token at the end. Where there is room it is granted.
+    /// Adds a token at the end. Where there is room it is granted and takes no memory, else it takes memory for more.
+    /// `WantOfMemory` leaves the list as it was. This profile.
     pub fn push(&mut self, token: Token) -> Result<(), WantOfMemory>
         ensures ok { OnOk result (self.new.items ≡ self.old.items ++ plain_token token ∷ []) }
         ensures err { OnErr result (self.new ≡ self.old) }
         ensures granted { 0 < self.old.room → IsOk result }
         ensures room { 0 < self.old.room → self.new.room + 1 ≡ self.old.room }
     {
-        if self.tokens.len() < self.tokens.capacity() {
-            self.tokens.push_reserved(token);
-            return Ok(());
-        }
-        self.tokens.reserve(1)?;
-        self.tokens.push_reserved(token);
-        Ok(())
+        self.tokens.push(token)
     }
 }

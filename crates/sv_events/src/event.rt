@@ -43,7 +43,7 @@ pub enum Answer {
 }
 
 impl Act {
-    /// An equal act.
+    /// An equal act. It takes memory for its value. This profile.
     pub fn copy(&self, alloc: Global) -> Result<Act, WantOfMemory>
         ensures { IfOk result (λ act. act ≡ self.now) }
     {
@@ -67,7 +67,7 @@ impl Act {
 }
 
 impl Answer {
-    /// An equal answer.
+    /// An equal answer. It takes memory for its value. This profile.
     pub fn copy(&self, alloc: Global) -> Result<Answer, WantOfMemory>
         ensures { IfOk result (λ answer. answer ≡ self.now) }
     {
@@ -84,7 +84,7 @@ impl Answer {
     }
 }
 
-/// An equal value, or none where there is none.
+/// An equal value, or none where there is none. It takes memory for the value. This profile.
 pub fn copy_value(alloc: Global, value: &Option<Array>) -> Result<Option<Array>, WantOfMemory>
     ensures { IfOk result (λ copy. copy ≡ value.now) }
 {
