@@ -11,7 +11,7 @@ use crate::matrices::extent_of;
 use crate::number::number_width;
 use crate::row::{push_row, row_of};
 use crate::widths::column_widths;
-use apl_arrays::{Array, ELEMENT_LIMIT, Fail, Items, Line, List, Report, WantOfMemory};
+use apl_arrays::{Array, ELEMENT_LIMIT, Fail, Items, Line, List, RANK_LIMIT, Report, WantOfMemory};
 use std::alloc::Global;
 
 // The array of characters in rows of a width.
@@ -20,7 +20,7 @@ fn in_rows(front: &[u32], width: usize, characters: Line) -> Array
     requires whole { element_count (front.now ++ width ∷ []) ≡ length characters.items }
     ensures { result ≡ record { shape = front.now ++ width ∷ []; items = chars characters.items } }
 {
-    let mut axes = [0; 8];
+    let mut axes = [0; RANK_LIMIT];
     axes[..front.len()].copy_from_slice(front);
     axes[front.len()] = width as u32;
     Array::shaped(&axes[..front.len() + 1], Items::Chars(characters))
@@ -134,8 +134,8 @@ fn format_numbers(alloc: Global, b: &Array, list: &[i64]) -> Result<Array, Fail>
 
 /// An array as characters: one of characters unchanged, a number scalar or vector as the vector of its display line,
 /// and any other array of numbers in its shape with the width of its display lines, which is 0 without elements, as
-/// the last axis. This profile's format. `WsFull` where the result would pass the limits of an array. It takes memory
-/// for the result and for a number a column.
+/// the last axis. `WsFull` where the result would pass the limits of an array. It takes memory for the result and for
+/// a number a column. This profile.
 pub fn format(alloc: Global, b: &Array) -> Result<Array, Fail>
     ensures value { IfOk result (λ array. array ≡ formatted b.now) }
     ensures fits { OnOk result (FitsLimits (formatted b.now).shape) }

@@ -62,7 +62,7 @@ fn table_lines(alloc: Global, b: &Array) -> Result<LineList, WantOfMemory>
 
 /// The lines that show an array: one of a scalar or a vector, none of an array without elements at a higher rank,
 /// else one of each row, with an empty line between two matrices. Numbers stand at the right of their columns, with
-/// one blank between. This profile's display. It takes memory for the lines and for a number a column.
+/// one blank between. It takes memory for the lines and for a number a column. This profile.
 pub fn lines_of(alloc: Global, b: &Array) -> Result<LineList, WantOfMemory>
     ensures { IfOk result (λ lines. lines.items ≡ display_lines b.now) }
 {

@@ -1,9 +1,12 @@
+//! What an array looks like, at work on small arrays.
+
 ghost use Rattle.std.specs.Prelude.{◌≡◌, ◌∷◌, [], ◌++◌, pos, codes};
 ghost use Rattle.apl_display.specs.Display.{display_lines};
 ghost use Rattle.apl_display.specs.Format.{formatted};
 ghost use Rattle.apl_display.specs.Worked.{number_array, char_array, minus, signed};
 
-/// Numbers stand at the right of their columns, each as wide as its widest number, signs counted.
+/// Numbers stand at the right of their columns, each as wide as its widest number, signs counted. The call does
+/// nothing. This profile.
 pub fn numbers_stand_at_the_right()
     ensures two_rows { display_lines (number_array (2 ∷ 2 ∷ []) (pos 1 ∷ minus 10 ∷ pos 2 ∷ pos 3 ∷ [])) ≡
         (codes "1 " ++ signed (codes "10")) ∷ codes "2   3" ∷ [] }
@@ -14,7 +17,7 @@ pub fn numbers_stand_at_the_right()
     ensures scalar { display_lines (number_array [] (minus 5 ∷ [])) ≡ signed (codes "5") ∷ [] }
 {}
 
-/// Widths are those of all matrices, and one empty line stands between two.
+/// Widths are those of all matrices, and one empty line stands between two. The call does nothing. This profile.
 pub fn matrices_share_their_widths()
     ensures wider_below { display_lines (number_array (2 ∷ 1 ∷ 2 ∷ []) (pos 1 ∷ pos 2 ∷ pos 3 ∷ pos 40 ∷ [])) ≡
         codes "1  2" ∷ [] ∷ codes "3 40" ∷ [] }
@@ -24,7 +27,8 @@ pub fn matrices_share_their_widths()
         codes "AB" ∷ codes "CD" ∷ [] ∷ codes "EF" ∷ codes "GH" ∷ [] }
 {}
 
-/// An empty vector is an empty line; an array without elements at a higher rank has no line.
+/// An empty vector is an empty line; an array without elements at a higher rank has no line. The call does nothing.
+/// This profile.
 pub fn nothing_is_shown()
     ensures numbers { display_lines (number_array (0 ∷ []) []) ≡ [] ∷ [] }
     ensures characters { display_lines (char_array (0 ∷ []) []) ≡ [] ∷ [] }
@@ -33,7 +37,7 @@ pub fn nothing_is_shown()
     ensures no_matrices { display_lines (char_array (0 ∷ 2 ∷ 2 ∷ []) []) ≡ [] }
 {}
 
-/// As characters a matrix keeps its rows, and a number is a vector.
+/// As characters a matrix keeps its rows, and a number is a vector. The call does nothing. This profile.
 pub fn numbers_become_characters()
     ensures scalar { formatted (number_array [] (pos 5 ∷ [])) ≡ char_array (1 ∷ []) (codes "5") }
     ensures vector { formatted (number_array (2 ∷ []) (pos 1 ∷ pos 23 ∷ [])) ≡ char_array (4 ∷ []) (codes "1 23") }

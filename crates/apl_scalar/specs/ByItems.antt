@@ -114,7 +114,7 @@ leader a b = if is_single a && (not (is_single b) || nat_lt (length a.shape) (le
 abbrev pub place_in : ℕ → ℕ → ℕ
 place_in count place = if count == 1 then 0 else place
 
--- so many items reach every place of the result
+-- a list of so many items has one for each place: it has one item alone, or no fewer than places
 abbrev pub Reaches : ℕ → ℕ → Type 0
 Reaches items count = (place : ℕ) → place < count → place_in items place < items
 

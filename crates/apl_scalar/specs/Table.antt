@@ -14,10 +14,11 @@ abbrev pub fits : ℤ → Bool
 fits (pos n) = nat_lt n (2 ^ 63)
 fits (negsuc n) = nat_lt n (2 ^ 63)
 
--- the least and the greatest of these numbers
+-- the least of these numbers
 abbrev pub least : ℤ
 least = negsuc (2 ^ 63 - 1)
 
+-- the greatest of them
 abbrev pub greatest : ℤ
 greatest = pos (2 ^ 63 - 1)
 
@@ -44,9 +45,11 @@ pub record MonadRow : Type 0 where
   pub value : ℤ → ℤ
   pub defined : ℤ → Bool
 
+-- the row of a value and of where the function is defined
 abbrev pub monad_row : (ℤ → ℤ) → (ℤ → Bool) → MonadRow
 monad_row value defined = record { value = value; defined = defined }
 
+-- defined at each number
 abbrev pub anywhere : ℤ → Bool
 anywhere _ = true
 
@@ -74,23 +77,27 @@ pub record DyadRow : Type 0 where
   pub defined : ℤ → ℤ → Bool
   pub identity : Option ℤ
 
+-- the row of a value, of where the function is defined, and of an identity, if there is one
 abbrev pub dyad_row : (ℤ → ℤ → ℤ) → (ℤ → ℤ → Bool) → Option ℤ → DyadRow
 dyad_row value defined identity = record { value = value; defined = defined; identity = identity }
 
+-- defined at each pair of numbers
 abbrev pub everywhere : ℤ → ℤ → Bool
 everywhere _ _ = true
 
--- a divided by b, where the quotient is exact; 0 divided by 0 is 1
+-- a divided by b, toward 0, and 1 where b is 0
 abbrev pub quotient : ℤ → ℤ → ℤ
 quotient a b = if int_eq b (pos 0) then pos 1 else int_div a b
 
+-- b divides a, or both are 0
 abbrev pub is_exact : ℤ → ℤ → Bool
 is_exact a b = if int_eq b (pos 0) then int_eq a (pos 0) else int_eq (int_rem a b) (pos 0)
 
--- a times itself, b times
+-- the product of |b| factors a, 1 where b is 0
 abbrev pub power : ℤ → ℤ → ℤ
 power a b = int_pow a (unsigned_abs b)
 
+-- the exponent is not negative
 abbrev pub is_power : ℤ → ℤ → Bool
 is_power a b = not (is_negative b)
 
@@ -98,6 +105,7 @@ is_power a b = not (is_negative b)
 abbrev pub binomial : ℤ → ℤ → ℤ
 binomial a b = pos (ways (unsigned_abs a) (unsigned_abs b))
 
+-- neither is negative
 abbrev pub are_counts : ℤ → ℤ → Bool
 are_counts a b = not (is_negative a) && not (is_negative b)
 
@@ -105,6 +113,7 @@ are_counts a b = not (is_negative a) && not (is_negative b)
 abbrev pub logical : (Bool → Bool → Bool) → ℤ → ℤ → ℤ
 logical f a b = truth (f (is_one a) (is_one b))
 
+-- each is 0 or 1
 abbrev pub are_truths : ℤ → ℤ → Bool
 are_truths a b = is_truth a && is_truth b
 

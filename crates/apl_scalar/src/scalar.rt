@@ -11,8 +11,8 @@ use crate::table::{character_of, dyadic_items, monadic_items};
 use apl_arrays::{Array, Dyad, Fail, Glyph, Items, Monad, NumberList, Report};
 use std::alloc::Global;
 
-/// A monadic scalar function of an array, item by item. This profile. DOMAIN where the argument is of characters, or
-/// where an item has no value of 64 bits.
+/// A monadic scalar function of an array, item by item. DOMAIN where the argument is of characters, or where an item
+/// has no value of 64 bits. It takes memory for the items. This profile.
 pub fn monadic(alloc: Global, f: Monad, b: &Array) -> Result<Array, Fail>
     ensures { Answers result (monadic_of f b.now) }
 {
@@ -46,8 +46,8 @@ fn own_items(alloc: Global, f: Monad, count: usize, b: &Items) -> Result<NumberL
 }
 
 /// A dyadic scalar function of two arrays, item by item, where an array with one element extends to the shape of the
-/// other. This profile. RANK where the ranks differ, else LENGTH where the shapes do, else DOMAIN where an argument is
-/// of characters, but for `=` and `≠`, or where a pair of items has no value of 64 bits.
+/// other. RANK where the ranks differ, else LENGTH where the shapes do, else DOMAIN where an argument is of characters,
+/// but for `=` and `≠`, or where a pair of items has no value of 64 bits. It takes memory for the items. This profile.
 pub fn dyadic(alloc: Global, f: Dyad, a: &Array, b: &Array) -> Result<Array, Fail>
     ensures { Answers result (dyadic_of f a.now b.now) }
 {

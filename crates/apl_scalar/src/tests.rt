@@ -8,18 +8,20 @@ use cases::CASES;
 use std::alloc::Global;
 use std::process::Abort;
 
+// Where an allocation was refused, the second attempt has all the memory.
+
 #[test]
 fn cases_give_what_they_say(rt: HostRuntime) {
     assert!(rt; CASES.lines().count() >= 200);
     for case in CASES.lines() {
         if check(&rt, rt.alloc(), case).is_err() {
-            return;
+            assert!(rt; check(&rt, rt.alloc(), case).is_ok(), "{case}");
         }
     }
 }
 
 #[test]
-fn items_and_identities(rt: HostRuntime) {
+fn pairs_of_items_follow_the_table(rt: HostRuntime) {
     let letter = Item::Char(Glyph::BLANK);
     assert_eq!(rt;
         item_of(Dyad::Minus, &Item::Number(2), &Item::Number(5)),
@@ -31,25 +33,51 @@ fn items_and_identities(rt: HostRuntime) {
         Some(1)
     );
     assert_eq!(rt; item_of(Dyad::Less, &Item::Number(32), &letter), None);
+}
+
+#[test]
+fn identities_follow_the_table(rt: HostRuntime) {
     assert_eq!(rt; identity_of(Dyad::Times), Some(1));
     assert_eq!(rt; identity_of(Dyad::Maximum), Some(i64::MIN));
     assert_eq!(rt; identity_of(Dyad::Nand), None);
 }
 
 #[test]
-fn items_by_place(rt: HostRuntime) {
-    match (
-        by_place(rt.alloc(), 4, small),
-        array_in(&rt, rt.alloc(), "[2 2]0 1 2 3"),
-    ) {
-        (Ok(list), Ok(expected)) => {
-            assert!(rt; Array::shaped(&[2, 2], Items::Numbers(list)) == expected);
-        }
-        _ => return,
+fn a_list_has_the_item_for_each_place(rt: HostRuntime) {
+    if fills_places(&rt, rt.alloc()).is_err() {
+        assert!(rt; fills_places(&rt, rt.alloc()).is_ok());
     }
-    match by_place(rt.alloc(), 10, small) {
-        Err(Fail::WantOfMemory) => {}
-        refused => assert!(rt; matches!(refused, Err(Fail::Report(Report::Domain)))),
+}
+
+#[test]
+fn a_place_without_an_item_is_refused(rt: HostRuntime) {
+    if refuses_a_place(&rt, rt.alloc()).is_err() {
+        assert!(rt; refuses_a_place(&rt, rt.alloc()).is_ok());
+    }
+}
+
+/// Four places, each of which has an item.
+fn fills_places(rt: &impl Abort, alloc: Global) -> Result<(), WantOfMemory> {
+    let expected = array_in(rt, alloc, "[2 2]0 1 2 3")?;
+    match by_place(alloc, 4, small) {
+        Ok(list) => {
+            assert!(rt; Array::shaped(&[2, 2], Items::Numbers(list)) == expected);
+            Ok(())
+        }
+        Err(Fail::WantOfMemory) => Err(WantOfMemory),
+        Err(Fail::Report(_)) => panic!(rt; "no list"),
+    }
+}
+
+/// Ten places, the last of which has no item.
+fn refuses_a_place(rt: &impl Abort, alloc: Global) -> Result<(), WantOfMemory> {
+    match by_place(alloc, 10, small) {
+        Ok(_) => panic!(rt; "a list"),
+        Err(Fail::WantOfMemory) => Err(WantOfMemory),
+        Err(Fail::Report(report)) => {
+            assert_eq!(rt; report, Report::Domain);
+            Ok(())
+        }
     }
 }
 
@@ -58,7 +86,7 @@ fn small(place: usize) -> Option<i64> {
     if place < 9 { Some(place as i64) } else { None }
 }
 
-/// Makes the call of a case, and compares what it gives. A case that memory ran out for shows nothing.
+/// Makes the call of a case, and compares what it gives.
 fn check(rt: &impl Abort, alloc: Global, case: &str) -> Result<(), WantOfMemory> {
     let (call, wanted) = case.split_once(" = ").expect(rt, "a result");
     match made(rt, alloc, call)? {

@@ -9,19 +9,19 @@ ghost use Rattle.line_scanner.specs.Grammar.{IsReading};
 use crate::SystemName;
 use crate::role::Role;
 
-/// A line has no two lists of tokens, nor tokens and an error, nor two errors.
+/// A line has no two lists of tokens, nor tokens and an error, nor two errors. The call does nothing. This profile.
 #[tactic(auto, using(crate::proofs::ScanLaw::one_reading))]
 pub fn each_line_has_one_reading()
     ensures { (line : List ℕ) (first second : Scanned) → IsReading line first → IsReading line second → first ≡ second }
 {}
 
-/// What is computed of a line is exactly what the grammar has.
+/// What is computed of a line is exactly what the grammar has. The call does nothing. This profile.
 #[tactic(auto, using(crate::proofs::ScanLaw::reading_is_computed))]
 pub fn readings_are_computed()
     ensures { (line : List ℕ) (reading : Scanned) → IsReading line reading ↔ (scan_of line ≡ reading) }
 {}
 
-/// The signs, and the glyphs without a role.
+/// The signs, and the glyphs without a role. The call does nothing. This profile.
 #[tactic(auto, unfolding(crate::specs::Role::role_of))]
 pub fn roles_of_glyphs()
     // ! ( ) * + , - . / : ; < = > [ \ ] | ~
@@ -36,7 +36,7 @@ pub fn roles_of_glyphs()
     ensures unused { map role_of (34 ∷ codes "#$%&?@^_`{}" ++ 162 ∷ []) ≡ replicate 13 Role.Unused }
 {}
 
-/// Worked lines.
+/// Worked lines. The call does nothing. This profile.
 #[tactic(auto, unfolding(crate::specs::Role::role_of, crate::specs::Number::number, crate::specs::Number::next_number, crate::specs::Number::next_numbers, crate::specs::Scanning::chars_from, crate::specs::Scanning::front_of, crate::specs::Scanning::scan_from))]
 pub fn worked_lines()
     // A&B

@@ -270,7 +270,7 @@ fn assert_scanned_in_the_end(
 }
 
 #[test]
-fn table_of_lines(rt: HostRuntime) -> Result<(), Fail> {
+fn lines_have_the_tokens_of_the_table(rt: HostRuntime) -> Result<(), Fail> {
     let mut rows = 0u32;
     for row in TABLE.lines() {
         let (line, expected) = row.split_once('§').ok_or("a row has two parts")?;
@@ -324,7 +324,7 @@ fn assert_names(rt: &impl Abort, alloc: Global, text: &str) -> Result<(), WantOf
 }
 
 #[test]
-fn lines_of_a_thousand_glyphs(rt: HostRuntime) -> Result<(), Fail> {
+fn a_thousand_glyphs_are_scanned(rt: HostRuntime) -> Result<(), Fail> {
     if assert_long_lines(&rt, rt.alloc()).is_err() {
         assert_long_lines(&rt, rt.alloc())?;
     }
@@ -350,7 +350,7 @@ fn push_in_the_end(rt: &impl Abort, tokens: &mut TokenList, at: u64) -> Result<(
 }
 
 #[test]
-fn list_of_tokens(rt: HostRuntime) -> Result<(), Fail> {
+fn a_list_keeps_its_tokens_in_order(rt: HostRuntime) -> Result<(), Fail> {
     let mut tokens = TokenList::new(rt.alloc());
     if tokens.reserve(2).is_err() {
         assert_eq!(rt; tokens.as_slice().len(), 0);
@@ -380,7 +380,7 @@ fn assert_texts(rt: &impl Abort, alloc: Global) -> Result<(), WantOfMemory> {
 }
 
 #[test]
-fn texts_of_refusals(rt: HostRuntime) -> Result<(), Fail> {
+fn refusals_have_their_texts(rt: HostRuntime) -> Result<(), Fail> {
     if assert_texts(&rt, rt.alloc()).is_err() {
         assert_texts(&rt, rt.alloc())?;
     }

@@ -12,6 +12,7 @@ use Rattle.sv_rules.specs.Legal.{IsLegal, MayFollow}
 abbrev pub EachEntryMayFollow : List ℕ → Entries → Type 0
 EachEntryMayFollow users journal = (before : Entries) (e : PlainEntry) (later : Entries) → journal ≡ later ++ e ∷ before → MayFollow users before e
 
+-- legal is the same as: each entry may follow those before it
 abbrev pub LegalIsEntryByEntry : Type 0
 LegalIsEntryByEntry = (users : List ℕ) (journal : Entries) → IsLegal users journal ↔ EachEntryMayFollow users journal
 

@@ -39,7 +39,7 @@ abbrev pub standing : Entries → List Standing
 standing [] = []
 standing (e ∷ journal) = standing_after (standing journal) (next_place journal) e.party e.answer e.act
 
--- the two are made to each other, or one to the other and that one to any
+-- two offers of different parties under one surrogate, each made to the other's party or to any, and not both to any
 abbrev pub is_match : Standing → Standing → Bool
 is_match one other =
     not (one.party == other.party) && same_name one.surrogate other.surrogate && (one.to == other.party || one.to == 0)

@@ -26,14 +26,14 @@ fn has_place(place: u64, made: &Made) -> bool
     made.pair.a == place || made.pair.b == place
 }
 
-/// Whether the offer at a place is coupled.
+/// Whether the offer at a place is coupled. No memory. This profile.
 pub fn is_coupled(coupled: &[Made], place: u64) -> bool
     ensures { result ≡ is_coupled coupled.now place }
 {
     coupled.iter().any(|made| has_place(place, made))
 }
 
-/// 2 for a coupled offer, else 1.
+/// 2 for a coupled offer, else 1. No memory. This profile.
 pub fn degree_at(coupled: &[Made], place: u64) -> u8
     ensures { result ≡ degree_at coupled.now place }
 {
@@ -46,7 +46,7 @@ fn is_open_match(coupled: &[Made], offer: &Standing, other: &Standing) -> bool
     !is_coupled(coupled, other.place) && is_match(offer, other)
 }
 
-/// The open match of an offer, of the lowest place.
+/// The open match of an offer, of the lowest place, if there is one. No memory. This profile.
 pub fn open_match(offers: &[Standing], coupled: &[Made], offer: &Standing) -> Option<Standing>
     ensures { result ≡ open_match offers.now coupled.now offer.now }
 {
@@ -56,7 +56,7 @@ pub fn open_match(offers: &[Standing], coupled: &[Made], offer: &Standing) -> Op
         .copied()
 }
 
-/// The pair of two offers, the lower place first.
+/// The pair of two offers, the lower place first. No memory. This profile.
 pub fn pair_of(one: &Standing, other: &Standing) -> Pair
     ensures { result ≡ pair_of one.now other.now }
 {
@@ -88,7 +88,7 @@ fn made_with(coupled: &[Made], place: u64) -> Option<Made>
     coupled.iter().find(|made| has_place(place, made)).copied()
 }
 
-/// The coupling of the offer at a place, if it has one.
+/// The coupling of the offer at a place, if it has one. No memory. This profile.
 pub fn coupling_at(offers: &[Standing], coupled: &[Made], place: u64) -> Option<Coupling>
     ensures { result ≡ coupling_at offers.now coupled.now place }
 {

@@ -7,24 +7,20 @@ ghost use Rattle.sv_rules.specs.Journal.{journal_of};
 use apl_arrays::{Array, ELEMENT_LIMIT};
 use sv_events::{Act, Answer, Entry};
 
-/// Whether the act is a leave.
+/// Whether the act is a leave. No memory. This profile.
 pub fn is_leave(act: &Act) -> bool
     ensures { result ≡ is_leave act.now }
 {
     matches!(act, Act::Leave)
 }
 
-/// Whether the party has left.
+/// Whether the party has left. No memory. This profile.
 pub fn has_left(entries: &[Entry], party: u32) -> bool
     ensures { result ≡ has_left (journal_of entries.now) party }
 {
-    let mut left = false;
-    for entry in entries {
-        if entry.party == party && is_leave(&entry.act) {
-            left = true;
-        }
-    }
-    left
+    entries
+        .iter()
+        .any(|entry| entry.party == party && is_leave(&entry.act))
 }
 
 fn element_count(value: &Array) -> u64
@@ -44,7 +40,7 @@ fn elements_of(value: &Option<Array>) -> u64
     }
 }
 
-/// How many elements an act holds.
+/// How many elements an act holds. No memory. This profile.
 pub fn elements_asked(act: &Act) -> u64
     ensures count { result ≡ elements_asked act.now }
     ensures limit { result ≤ ELEMENT_LIMIT }
@@ -56,7 +52,7 @@ pub fn elements_asked(act: &Act) -> u64
     }
 }
 
-/// How many elements an answer holds.
+/// How many elements an answer holds. No memory. This profile.
 pub fn elements_told(answer: &Answer) -> u64
     ensures count { result ≡ elements_of (value_got (plain_answer answer.now)) }
     ensures limit { result ≤ ELEMENT_LIMIT }

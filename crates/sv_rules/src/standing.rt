@@ -14,7 +14,7 @@ pub struct Standing {
     pub surrogate: Name,
 }
 
-/// The party's offer of a local name, if it has one.
+/// The party's offer of a local name, if it has one. No memory. This profile.
 pub fn own_offer(offers: &[Standing], party: u32, local: &Name) -> Option<Standing>
     ensures { result ≡ own_offer offers.now party local.now }
 {
@@ -24,14 +24,15 @@ pub fn own_offer(offers: &[Standing], party: u32, local: &Name) -> Option<Standi
         .copied()
 }
 
-/// How many of the offers are the party's.
+/// How many of the offers are the party's. No memory. This profile.
 pub fn offer_count(offers: &[Standing], party: u32) -> usize
     ensures { result ≡ offer_count offers.now party }
 {
     offers.iter().filter(|offer| offer.party == party).count()
 }
 
-/// Whether the two offers are made to each other, or one to the other's party and that one to any.
+/// Whether two offers are of different parties under one surrogate, each made to the other's party or to any, and not
+/// both to any. No memory. This profile.
 pub fn is_match(one: &Standing, other: &Standing) -> bool
     ensures { result ≡ is_match one.now other.now }
 {

@@ -110,7 +110,8 @@ fn handed_in(act: &Act) -> Option<&Array>
     }
 }
 
-/// The known value of an offer: the last value that its party set or got on it, else the one handed in with it.
+/// The known value of an offer: the last value that its party set or got on it, else the one handed in with it. No
+/// memory. This profile.
 pub fn known_value<'a>(entries: &'a [Entry], offer: &Standing) -> Option<&'a Array>
     ensures { option_copied result ≡ known (journal_of entries.now) offer.now }
 {
@@ -128,7 +129,7 @@ pub fn known_value<'a>(entries: &'a [Entry], offer: &Standing) -> Option<&'a Arr
     None
 }
 
-/// The last value set on either side of a coupling, the initial value included.
+/// The last value set on either side of a coupling, the initial value included. No memory. This profile.
 pub fn last_value<'a>(entries: &'a [Entry], coupling: &Coupling) -> Option<&'a Array>
     ensures { option_copied result ≡ last_value (story (journal_of entries.now) coupling.now) }
 {

@@ -40,14 +40,15 @@ fn both_stand(offers: &[Standing], pair: Pair) -> bool
     stands_at(offers, pair.a) && stands_at(offers, pair.b)
 }
 
-/// Keeps the couplings of which both offers are among these. It takes no memory.
+/// Keeps the couplings of which both offers are among these. No memory. This profile.
 pub fn keep_couplings(coupled: &mut Vec<Made>, offers: &[Standing])
     ensures { coupled.new.items ≡ couplings_among offers.now coupled.old.items }
 {
     coupled.retain(|made| both_stand(offers, made.pair));
 }
 
-/// The couplings of some entries, in the order in which they were made.
+/// The couplings of some entries, in the order in which they were made. It takes memory for the standing offers and for
+/// the pairs that the entries made. This profile.
 pub fn couplings_of(alloc: Global, entries: &[Entry]) -> Result<Vec<Made>, WantOfMemory>
     ensures { IfOk result (λ coupled. coupled.items ≡ couplings (journal_of entries.now)) }
 {
@@ -102,7 +103,8 @@ fn recoupled(
     Ok(made)
 }
 
-/// The pairs that a party's leave makes at a place.
+/// The pairs that a party's leave makes at a place. It takes memory for copies of the offers and of the couplings, and
+/// for the pairs. This profile.
 pub fn made_by_leave(
     alloc: Global,
     at: u64,

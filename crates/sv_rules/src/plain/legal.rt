@@ -54,7 +54,8 @@ fn may_follow(
 }
 
 /// Whether the entries are a legal journal of these users: whether each may follow those before it. Each entry is
-/// compared with what becomes of its act by the rules, going over the entries before it anew, so this is slow.
+/// compared with what becomes of its act by the rules, going over the entries before it anew, so this is slow. It takes
+/// memory for what becomes of one act at a time. This profile.
 pub fn is_legal(alloc: Global, users: &[u32], entries: &[Entry]) -> Result<bool, WantOfMemory>
     ensures { IfOk result (λ legal. IsTrue legal ↔ IsLegal users.now (journal_of entries.now)) }
 {

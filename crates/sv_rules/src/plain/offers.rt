@@ -24,7 +24,7 @@ fn add_offer(offers: &mut Vec<Standing>, new: Standing) -> Result<(), WantOfMemo
     Ok(())
 }
 
-/// Takes the party's offers out. It takes no memory.
+/// Takes the party's offers out. No memory. This profile.
 pub fn end_offers(offers: &mut Vec<Standing>, party: u32)
     ensures { offers.new.items ≡ without_party offers.old.items party }
 {
@@ -58,7 +58,7 @@ fn stand_after(offers: &mut Vec<Standing>, place: u64, entry: &Entry) -> Result<
     Ok(())
 }
 
-/// The standing offers of some entries, by place.
+/// The standing offers of some entries, by place. It takes memory for the offers. This profile.
 pub fn standing_offers(alloc: Global, entries: &[Entry]) -> Result<Vec<Standing>, WantOfMemory>
     ensures { IfOk result (λ offers. offers.items ≡ standing (journal_of entries.now)) }
 {

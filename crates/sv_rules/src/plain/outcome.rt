@@ -163,7 +163,8 @@ fn leave_outcome(
     })
 }
 
-/// What becomes of an act of a party after some entries that leave room for it. The entries are gone over anew.
+/// What becomes of an act of a party after some entries that leave room for it. The entries are gone over anew. It
+/// takes memory for the standing offers, for the pairs that the entries made, and for the outcome. This profile.
 pub fn outcome_of(
     alloc: Global,
     entries: &[Entry],

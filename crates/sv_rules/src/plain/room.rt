@@ -35,7 +35,7 @@ fn capped_elements(entries: &[Entry]) -> u64
     held
 }
 
-/// Whether the entries leave room for none but leaves.
+/// Whether the entries leave room for none but leaves. No memory. This profile.
 pub fn is_full(entries: &[Entry]) -> bool
     ensures { result ≡ is_full (journal_of entries.now) }
 {
