@@ -159,9 +159,8 @@ fn add_entry(line: &mut Line, place: u64, entry: &Entry) -> Result<(), WantOfMem
     add_pairs(line, entry.made.as_slice())
 }
 
-/// The text of an entry at its place, which counts from 1: party, act, answer, and the pairs that it made. This
-/// profile's text. No entry of a journal has the answer `Full`; its text is the word `full`. It takes memory for the
-/// line.
+/// The text of an entry at its place, which counts from 1: party, act, answer, and the pairs that it made. No entry of a
+/// journal has the answer `Full`; its text is the word `full`. It takes memory for the line. This profile.
 pub fn text_of(alloc: Global, place: u64, entry: &Entry) -> Result<Line, WantOfMemory>
     ensures text { IfOk result (λ line. line.items ≡ entry_text place (plain_entry entry.now)) }
     ensures printable { OnOk result ((place < 2 ^ 64) × IsPrintableEntry (plain_entry entry.now)) }
@@ -171,7 +170,8 @@ pub fn text_of(alloc: Global, place: u64, entry: &Entry) -> Result<Line, WantOfM
     Ok(line)
 }
 
-/// No two entries have one text: a text tells the place, and each part of the entry.
+/// No two entries have one text: a text tells the place, and each part of the entry. The call does nothing. This
+/// profile.
 pub fn an_entry_is_read_in_one_way()
     ensures { (place other : ℕ) (entry another : PlainEntry) → place < 2 ^ 64 → other < 2 ^ 64
         → IsPrintableEntry entry → IsPrintableEntry another

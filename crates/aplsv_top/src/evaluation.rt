@@ -33,7 +33,7 @@ impl Model for Evaluation {
 }
 
 impl Evaluation {
-    /// No names, and nothing printed. It takes no memory.
+    /// No names, and nothing printed. It takes no memory. This profile.
     pub fn new(alloc: Global) -> Evaluation
         ensures { result ≡ record { names = []; transcript = [] } }
     {
@@ -44,14 +44,15 @@ impl Evaluation {
         }
     }
 
-    /// The lines that were read and printed. No memory.
+    /// The lines that were read and printed. No memory. This profile.
     pub fn into_transcript(self) -> LineList
         ensures { result.items ≡ self.transcript }
     {
         self.transcript
     }
 
-    /// Does a line that asks no act, or gives the act that it asks.
+    /// Does a line that asks no act, or gives the act that it asks. It takes memory for the act and for what is printed;
+    /// where that runs out, a part of the line may be done. This profile.
     pub fn pass(&mut self, line: &[Glyph]) -> Result<Option<Act>, WantOfMemory>
         ensures asks { IfOk result (λ asked. asked ≡ asked_by self.old.names line.now) }
         ensures done { IfOk result (λ asked. self.new ≡ passed self.old line.now asked) }
@@ -69,7 +70,8 @@ impl Evaluation {
         }
     }
 
-    /// Does a line whose act is answered.
+    /// Does a line whose act is answered. It takes memory for what is printed; where that runs out, a part of the line
+    /// may be done. This profile.
     pub fn tell(&mut self, line: &[Glyph], answer: &Answer) -> Result<(), WantOfMemory>
         ensures { OnOk result (self.new ≡ with_line self.old line.now (told self.old.names line.now (plain_answer answer.now))) }
     {

@@ -138,7 +138,7 @@ fn add_journal(alloc: Global, bytes: &mut Vec<u8>, entries: &[Entry]) -> Result<
 }
 
 /// What is written of transcripts and a journal with its oldest entry first: each user's lines, the entries numbered
-/// from 1, and `end`. This profile's output. It takes memory for the bytes.
+/// from 1, and `end`. It takes memory for the bytes. This profile.
 pub fn output_of(
     alloc: Global,
     transcripts: &Transcripts,
@@ -154,7 +154,8 @@ pub fn output_of(
     Ok(List::from(bytes))
 }
 
-/// The bytes that are written tell the transcripts and the journal: no others have the same output.
+/// The bytes that are written tell the transcripts and the journal: no others have the same output. The call does
+/// nothing. This profile.
 pub fn an_output_is_read_in_one_way()
     ensures { (transcripts others : ListOf PlainTranscript) (journal another : ListOf PlainEntry)
         → ArePrintable transcripts journal → ArePrintable others another
@@ -164,7 +165,7 @@ pub fn an_output_is_read_in_one_way()
     texts_are_read_in_one_way();
 }
 
-/// The output of one worked run, byte for byte.
+/// The output of one worked run, byte for byte. The call does nothing. This profile.
 pub fn plain_path_is_written()
     ensures { output_text plain_path_transcripts plain_path_entries ≡ plain_path_output }
 {}

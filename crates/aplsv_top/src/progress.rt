@@ -17,7 +17,8 @@ pub struct Progress {
 }
 
 impl Progress {
-    /// Does lines up to the next that asks an act, or to the end.
+    /// Does lines up to the next that asks an act, or to the end. It takes memory for what is printed; where that runs
+    /// out, some of the lines may be done. This profile.
     pub fn advance(&mut self, lines: &[Line]) -> Result<Option<Act>, WantOfMemory>
         ensures ahead { OnOk result ((further : List PlainAnswer) → ahead (map glyphs_in lines.now) self.new further ≡ ahead (map glyphs_in lines.now) self.old further) }
         ensures asks { IfOk result (λ asked. asked ≡ open_at (map glyphs_in lines.now) self.new) }
@@ -33,7 +34,8 @@ impl Progress {
         Ok(None)
     }
 
-    /// Does the line whose act is answered.
+    /// Does the line whose act is answered. It takes memory for what is printed; where that runs out, a part of the line
+    /// may be done. This profile.
     pub fn take(&mut self, lines: &[Line], answer: &Answer) -> Result<(), WantOfMemory>
         ensures { (asked : AnAct) → open_at (map glyphs_in lines.now) self.old ≡ Some asked → OnOk result ((further : List PlainAnswer) → ahead (map glyphs_in lines.now) self.old (plain_answer answer.now ∷ further) ≡ after_act asked (ahead (map glyphs_in lines.now) self.new further)) }
     {

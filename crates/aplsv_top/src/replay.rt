@@ -23,7 +23,8 @@ pub struct Run {
     pub journal: Journal,
 }
 
-/// Runs a bundle on one thread: the users take turns, ascending, until all have left.
+/// Runs a bundle on one thread: the users take turns, ascending, until all have left. `WantOfMemory` where memory ran
+/// out, and then there is no run. It takes memory for sessions, journal and transcripts. This profile.
 pub fn replay(alloc: Global, bundle: Bundle) -> Result<Run, WantOfMemory>
     ensures { IfOk result (λ run. IsRun bundle (reverse run.journal.items) run.transcripts.items) }
 {

@@ -59,7 +59,7 @@ impl Model for Session {
 }
 
 impl Session {
-    /// The session of a user with these lines, of which none is done. It takes no memory.
+    /// The session of a user with these lines, of which none is done. It takes no memory. This profile.
     pub fn new(alloc: Global, user: u32, lines: LineList) -> Session
         ensures { result ≡ record { user = user; lines = lines.items; answers = []; stage = Stage.Ready } }
     {
@@ -75,14 +75,15 @@ impl Session {
         }
     }
 
-    /// The user whose session it is. No memory.
+    /// The user whose session it is. No memory. This profile.
     pub fn user(&self) -> u32
         ensures { result ≡ self.now.user }
     {
         self.user
     }
 
-    /// Goes on to the next act, or to the end of the lines. A session that met want of memory answers it for good.
+    /// Goes on to the next act, or to the end of the lines. It takes memory for what is printed. After `WantOfMemory` the
+    /// session has failed, and answers it for good. This profile.
     pub fn next(&mut self) -> Result<Wants, WantOfMemory>
         ensures asks { IfOk result (λ wants. wanted wants ≡ (evaluated self.old.lines self.old.answers).waits) }
         ensures stage { IfOk result (λ wants. self.new ≡ record self.old { stage = stage_by (wanted wants) }) }
@@ -106,7 +107,8 @@ impl Session {
         }
     }
 
-    /// Goes on with the answer to the act that waits.
+    /// Goes on with the answer to the act that waits. It takes memory for the answer and for what is printed. After
+    /// `WantOfMemory` the session has failed. This profile.
     pub fn answer(&mut self, answer: Answer) -> Result<(), WantOfMemory>
         requires { self.old.stage ≡ Stage.Waiting }
         ensures ok { OnOk result (self.new ≡ record self.old { answers = self.old.answers ++ plain_answer answer ∷ []; stage = Stage.Ready }) }
@@ -126,7 +128,7 @@ impl Session {
         Ok(())
     }
 
-    /// The lines that were read and printed, of a session that is at its end. No memory.
+    /// The lines that were read and printed, of a session that is at its end. No memory. This profile.
     pub fn into_transcript(self) -> Transcript
         requires { self.stage ≡ Stage.Ended }
         ensures user { result.user ≡ self.user }

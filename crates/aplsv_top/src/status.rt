@@ -24,7 +24,7 @@ pub enum Status {
 }
 
 impl Status {
-    /// The exit status of the process. This profile's numbers.
+    /// The exit status of the process. No memory. This profile.
     pub fn code(self) -> u8
         ensures { result ≡ exit_status self }
     {

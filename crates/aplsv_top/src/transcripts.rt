@@ -1,7 +1,7 @@
 ghost use Rattle.std.specs.Prelude.{◌≡◌, ◌+◌, ◌<◌, ◌≤◌, ◌∷◌, [], ◌++◌, IsOk, OnOk, OnErr, map};
 ghost use Rattle.aplsv_top.specs.Transcripts.{plain_transcript, IsAscending};
 
-use apl_arrays::{LineList, WantOfMemory};
+use apl_arrays::{LineList, List, WantOfMemory};
 use std::alloc::Global;
 use std::marker::Model;
 
@@ -15,48 +15,49 @@ pub struct Transcript {
 /// Transcripts, their users ascending. It is seen as users and lines, and the room that is left.
 #[derive(Debug, Drop)]
 pub struct Transcripts {
-    transcripts: Vec<Transcript>,
+    transcripts: List<Transcript>,
 }
 
 impl Model for Transcripts {
-    ghost use Rattle.std.specs.Prelude.{◌-◌, map, vec_len, vec_capacity};
+    ghost use Rattle.std.specs.Prelude.{map};
     ghost use Rattle.apl_arrays.specs.List.{Listed};
     ghost use Rattle.aplsv_top.specs.Transcripts.{PlainTranscript, plain_transcript, IsAscending};
 
     ghost Value = { Listed PlainTranscript };
 
-    ghost view = { λ t. record { items = map plain_transcript t.transcripts.items; room = vec_capacity t.transcripts - vec_len t.transcripts } };
+    ghost view = { λ t. record { items = map plain_transcript t.transcripts.items; room = t.transcripts.room } };
 
     ghost invariant = { λ t. IsAscending (map plain_transcript t.transcripts.items) };
 }
 
 impl Transcripts {
-    /// No transcripts. It takes no memory.
+    /// No transcripts. It takes no memory. This profile.
     pub fn new(alloc: Global) -> Self
         ensures { result.items ≡ [] }
     {
         Transcripts {
-            transcripts: Vec::new(alloc),
+            transcripts: List::new(alloc),
         }
     }
 
-    /// The transcripts, their users ascending. It takes no memory.
+    /// The transcripts, their users ascending. It takes no memory. This profile.
     pub fn as_slice(&self) -> &[Transcript]
         ensures value { map plain_transcript result.now ≡ self.now.items }
         ensures ascending { IsAscending self.now.items }
     {
-        &self.transcripts
+        self.transcripts.as_slice()
     }
 
-    /// The transcripts as a `Vec`. It takes no memory.
+    /// The transcripts as a `Vec`. It takes no memory. This profile.
     pub fn into_vec(self) -> Vec<Transcript>
         ensures value { map plain_transcript result.items ≡ self.items }
         ensures ascending { IsAscending self.items }
     {
-        self.transcripts
+        self.transcripts.into_vec()
     }
 
-    /// Makes room for at least so many pushes.
+    /// Makes room for at least so many pushes, and takes memory for it. `WantOfMemory` leaves the list as it was. This
+    /// profile.
     pub fn reserve(&mut self, room: usize) -> Result<(), WantOfMemory>
         ensures items { self.new.items ≡ self.old.items }
         ensures room { OnOk result (room ≤ self.new.room) }
@@ -64,11 +65,11 @@ impl Transcripts {
         ensures err { OnErr result (self.new ≡ self.old) }
         ensures granted { room ≤ self.old.room → IsOk result }
     {
-        self.transcripts.reserve(room)?;
-        Ok(())
+        self.transcripts.reserve(room)
     }
 
-    /// Adds a transcript at the end, whose user has to come after the others. Where there is room it is granted.
+    /// Adds a transcript at the end, whose user has to come after the others. Where there is room it is granted and
+    /// takes no memory, else it takes memory for more. `WantOfMemory` leaves the list as it was. This profile.
     pub fn push(&mut self, transcript: Transcript) -> Result<(), WantOfMemory>
         requires { IsAscending (self.old.items ++ plain_transcript transcript ∷ []) }
         ensures ok { OnOk result (self.new.items ≡ self.old.items ++ plain_transcript transcript ∷ []) }
@@ -76,13 +77,7 @@ impl Transcripts {
         ensures granted { 0 < self.old.room → IsOk result }
         ensures room { 0 < self.old.room → self.new.room + 1 ≡ self.old.room }
     {
-        if self.transcripts.len() < self.transcripts.capacity() {
-            self.transcripts.push_reserved(transcript);
-            return Ok(());
-        }
-        self.transcripts.reserve(1)?;
-        self.transcripts.push_reserved(transcript);
-        Ok(())
+        self.transcripts.push(transcript)
     }
 }
 

@@ -31,7 +31,7 @@ impl Model for Workspace {
 impl Workspace {
     ghost use Rattle.aplsv_top.specs.Workspace.{seen, copy_of, is_shared, with_variable, with_value, with_share};
 
-    /// No names. It takes no memory.
+    /// No names. It takes no memory. This profile.
     pub fn new(alloc: Global) -> Self
         ensures { result ≡ [] }
     {
@@ -40,14 +40,14 @@ impl Workspace {
         }
     }
 
-    /// The value of a name, or its own copy of a shared value. No memory.
+    /// The value of a name, or its own copy of a shared value. No memory. This profile.
     pub fn copy_of(&self, name: &Name) -> Option<&Array>
         ensures { option_copied result ≡ copy_of self.now name.now }
     {
         self.variables.get(name)?.value.as_ref()
     }
 
-    /// Whether the name is shared. No memory.
+    /// Whether the name is shared. No memory. This profile.
     pub fn is_shared(&self, name: &Name) -> bool
         ensures { result ≡ is_shared self.now name.now }
     {
@@ -65,7 +65,8 @@ impl Workspace {
         Ok(())
     }
 
-    /// Gives the name another value, or renews its own copy.
+    /// Gives the name another value, or renews its own copy. It takes memory for a name that is new. `WantOfMemory` leaves
+    /// the names as they were. This profile.
     pub fn set(&mut self, name: Name, value: Array) -> Result<(), WantOfMemory>
         ensures ok { OnOk result (self.new ≡ with_value self.old name value) }
         ensures err { OnErr result (self.new ≡ self.old) }
@@ -80,7 +81,8 @@ impl Workspace {
         )
     }
 
-    /// Marks the name as shared, with the value that it has.
+    /// Marks the name as shared, with the value that it has. It takes memory for a copy of the value and for a name that
+    /// is new. `WantOfMemory` leaves the names as they were. This profile.
     pub fn share(&mut self, alloc: Global, name: Name) -> Result<(), WantOfMemory>
         ensures ok { OnOk result (self.new ≡ with_share self.old name) }
         ensures err { OnErr result (self.new ≡ self.old) }

@@ -76,7 +76,7 @@ impl Draft {
     ghost use Rattle.aplsv_top.specs.BundleLine.{plain_line, IsBundleLine, input, user};
     ghost use Rattle.aplsv_top.specs.Draft.{nothing_read, draft_after, after_input, after_heading, bundle_of};
 
-    /// Nothing is read yet. No memory.
+    /// Nothing is read yet. No memory. This profile.
     pub fn new(alloc: Global) -> Draft
         ensures { result ≡ nothing_read }
     {
@@ -140,7 +140,8 @@ impl Draft {
         })
     }
 
-    /// The draft with one line more, which stands at the offset.
+    /// The draft with one line more, which stands at the offset. `Malformed` with the rule that the line breaks there. It
+    /// takes memory for the user or the line; the draft is lost where that runs out. This profile.
     pub fn with(self, alloc: Global, line: BundleLine, offset: u64) -> Result<Draft, BundleRefused>
         requires { IsBundleLine (plain_line line) }
         ensures { MatchResult result (λ draft. draft_after self (plain_line line) ≡ Some draft)
@@ -152,7 +153,8 @@ impl Draft {
         }
     }
 
-    /// The bundle, where all lines are statements.
+    /// The bundle, where all lines are statements, else `Malformed` with the first that is none. No memory but for the
+    /// last user. This profile.
     pub fn finish(self) -> Result<Bundle, BundleRefused>
         ensures rules { IfOk result (λ bundle. IsBundle bundle) }
         ensures bundle { MatchResult result (λ bundle. bundle_of self ≡ Some bundle) (λ why. IsReason why (bundle_of self ≡ None)) }

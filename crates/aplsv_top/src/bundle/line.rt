@@ -57,7 +57,8 @@ fn heading_of(line: &[u8]) -> Option<u32>
     number_of(line.strip_prefix(b"user ")?)
 }
 
-// The glyphs that bytes spell, which stand at the offset.
+/// The glyphs that bytes spell, which stand at the offset. `Malformed` with the rule of glyphs where they spell none,
+/// at the first byte that spells none. It takes memory for the line. This profile.
 pub fn glyphs_at(alloc: Global, bytes: &[u8], offset: u64) -> Result<Line, BundleRefused>
     requires { offset + length bytes.now < 2 ^ 64 }
     ensures { MatchResult result (λ line. Spells bytes.now line.items) (λ why. IsReason why (SpellsNothing bytes.now)) }
@@ -82,7 +83,8 @@ fn formless(alloc: Global, bytes: &[u8], offset: u64) -> BundleRefused
     }
 }
 
-// The line that bytes spell, which stand at the offset. The end is none of these lines.
+/// The line that bytes spell, which stand at the offset; the end is none of these lines. `Malformed` with the rule that
+/// they break where they spell none. It takes memory for the glyphs. This profile.
 pub fn line_of(alloc: Global, bytes: &[u8], offset: u64) -> Result<BundleLine, BundleRefused>
     requires { offset + length bytes.now < 2 ^ 64 }
     ensures { MatchResult result (λ line. IsTextOf (plain_line line) bytes.now) (λ why. IsReason why (IsNoLine bytes.now)) }

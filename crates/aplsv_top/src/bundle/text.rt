@@ -111,9 +111,9 @@ fn read_lines(alloc: Global, bytes: &[u8]) -> Result<Bundle, BundleRefused>
     last(alloc, draft, rest, (bytes.len() - rest.len()) as u64)
 }
 
-/// The bundle that the bytes are the text of, read line by line. This profile's text of bundles. `Malformed` says
+/// The bundle that the bytes are the text of, read line by line. `Malformed` says
 /// which rule the first bad line breaks; a line that is no statement comes after all other rules, as `Form`. It
-/// takes memory for the users and their lines.
+/// takes memory for the users and their lines. This profile.
 pub fn read(alloc: Global, bytes: &[u8]) -> Result<Bundle, BundleRefused>
     ensures bundle { IfOk result (λ bundle. BundleText bytes.now bundle) }
     ensures only { (bundle : PlainBundle) → BundleText bytes.now bundle →
@@ -123,7 +123,7 @@ pub fn read(alloc: Global, bytes: &[u8]) -> Result<Bundle, BundleRefused>
     read_lines(alloc, bytes)
 }
 
-/// What every text keeps: it is the text of one bundle at the most.
+/// What every text keeps: it is the text of one bundle at the most. The call does nothing. This profile.
 pub fn texts_are_of_one_bundle()
     ensures { (bytes : List ℕ) (bundle other : PlainBundle) → BundleText bytes bundle → BundleText bytes other → bundle ≡ other }
 {}

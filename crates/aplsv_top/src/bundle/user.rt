@@ -1,7 +1,7 @@
 ghost use Rattle.std.specs.Prelude.{◌≡◌, ◌+◌, ◌<◌, ◌≤◌, ◌∷◌, [], ◌++◌, IsOk, OnOk, OnErr, map};
 ghost use Rattle.aplsv_top.specs.User.{plain_user, IsAscending};
 
-use apl_arrays::{LineList, WantOfMemory};
+use apl_arrays::{LineList, List, WantOfMemory};
 use std::alloc::Global;
 use std::marker::Model;
 
@@ -15,48 +15,49 @@ pub struct BundleUser {
 /// Users, their numbers ascending. It is seen as numbers and lines, and the room that is left.
 #[derive(Debug, Drop)]
 pub struct UserList {
-    users: Vec<BundleUser>,
+    users: List<BundleUser>,
 }
 
 impl Model for UserList {
-    ghost use Rattle.std.specs.Prelude.{◌-◌, map, vec_len, vec_capacity};
+    ghost use Rattle.std.specs.Prelude.{map};
     ghost use Rattle.apl_arrays.specs.List.{Listed};
     ghost use Rattle.aplsv_top.specs.User.{PlainUser, plain_user, IsAscending};
 
     ghost Value = { Listed PlainUser };
 
-    ghost view = { λ l. record { items = map plain_user l.users.items; room = vec_capacity l.users - vec_len l.users } };
+    ghost view = { λ l. record { items = map plain_user l.users.items; room = l.users.room } };
 
     ghost invariant = { λ l. IsAscending (map plain_user l.users.items) };
 }
 
 impl UserList {
-    /// No users. It takes no memory.
+    /// No users. It takes no memory. This profile.
     pub fn new(alloc: Global) -> Self
         ensures { result.items ≡ [] }
     {
         UserList {
-            users: Vec::new(alloc),
+            users: List::new(alloc),
         }
     }
 
-    /// The users, their numbers ascending. It takes no memory.
+    /// The users, their numbers ascending. It takes no memory. This profile.
     pub fn as_slice(&self) -> &[BundleUser]
         ensures value { map plain_user result.now ≡ self.now.items }
         ensures ascending { IsAscending self.now.items }
     {
-        &self.users
+        self.users.as_slice()
     }
 
-    /// The users as a `Vec`. It takes no memory.
+    /// The users as a `Vec`. It takes no memory. This profile.
     pub fn into_vec(self) -> Vec<BundleUser>
         ensures value { map plain_user result.items ≡ self.items }
         ensures ascending { IsAscending self.items }
     {
-        self.users
+        self.users.into_vec()
     }
 
-    /// Makes room for at least so many pushes.
+    /// Makes room for at least so many pushes, and takes memory for it. `WantOfMemory` leaves the list as it was. This
+    /// profile.
     pub fn reserve(&mut self, room: usize) -> Result<(), WantOfMemory>
         ensures items { self.new.items ≡ self.old.items }
         ensures room { OnOk result (room ≤ self.new.room) }
@@ -64,11 +65,11 @@ impl UserList {
         ensures err { OnErr result (self.new ≡ self.old) }
         ensures granted { room ≤ self.old.room → IsOk result }
     {
-        self.users.reserve(room)?;
-        Ok(())
+        self.users.reserve(room)
     }
 
-    /// Adds a user at the end, whose number has to be above the others. Where there is room it is granted.
+    /// Adds a user at the end, whose number has to be above the others. Where there is room it is granted and takes no
+    /// memory, else it takes memory for more. `WantOfMemory` leaves the list as it was. This profile.
     pub fn push(&mut self, user: BundleUser) -> Result<(), WantOfMemory>
         requires { IsAscending (self.old.items ++ plain_user user ∷ []) }
         ensures ok { OnOk result (self.new.items ≡ self.old.items ++ plain_user user ∷ []) }
@@ -76,12 +77,6 @@ impl UserList {
         ensures granted { 0 < self.old.room → IsOk result }
         ensures room { 0 < self.old.room → self.new.room + 1 ≡ self.old.room }
     {
-        if self.users.len() < self.users.capacity() {
-            self.users.push_reserved(user);
-            return Ok(());
-        }
-        self.users.reserve(1)?;
-        self.users.push_reserved(user);
-        Ok(())
+        self.users.push(user)
     }
 }
