@@ -1,5 +1,5 @@
 -- Edits of a list of lines, seen as their glyphs.
-use Rattle.std.proofs.Common.{◌≡◌, ℕ, ◌+◌, ◌<◌, List, [], ◌∷◌, ◌++◌, Option, Some, suc, length, map, take, drop, get_or, insert, remove, slice_get, ap, sym, ◌∙◌}
+use Rattle.std.proofs.Common.{◌≡◌, ℕ, ◌+◌, ◌<◌, List, [], ◌∷◌, ◌++◌, Some, suc, length, map, take, drop, get_or, insert, remove, slice_get, ap, sym, ◌∙◌}
 use Rattle.std.proofs.lemmas.List.{map-append, map_more, take-map, drop-map}
 use Rattle.std.proofs.lemmas.Option.{slice_get-map}
 use Rattle.std.specs.Option.{option_map}

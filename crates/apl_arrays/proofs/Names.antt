@@ -1,10 +1,10 @@
 -- The longest name at the front of a line.
-use Rattle.std.proofs.Common.{◌≡◌, ℕ, Bool, true, false, cond, leb, eqb, ◌&&◌, ◌||◌, List, [], ◌∷◌, ◌++◌, Option, Some, None, length, take, drop, refl, sym, ap, ◌∙◌}
+use Rattle.std.proofs.Common.{◌≡◌, ℕ, Bool, true, false, cond, leb, eqb, ◌&&◌, ◌||◌, List, [], ◌∷◌, ◌++◌, Option, Some, None, length, drop, refl, sym, ap, ◌∙◌}
 use Rattle.std.specs.List.{list_all, prefix_len, take_while}
 use Rattle.std.proofs.lemmas.Bool.{and_parts, and_from, or_left, false≢true}
 use Rattle.std.proofs.lemmas.List.Folds.{length-prefix_len}
 use Rattle.apl_arrays.specs.Glyph.{is_letter, is_digit}
-use Rattle.apl_arrays.specs.Name.{IsName, IsLongestName, goes_on, is_name, longest_name, name_of_run}
+use Rattle.apl_arrays.specs.Name.{IsLongestName, goes_on, is_name, longest_name, name_of_run}
 use Rattle.apl_arrays.proofs.Runs.{run_splits, run_stops, take_run}
 
 -- a letter goes on
@@ -43,10 +43,11 @@ pub found_is_longest : (line name : List ℕ) (count : ℕ) → longest_name lin
 found_is_longest line name count e =
     let run = take_while goes_on line in
     let found = found_by run name count (is_name run) e in
-    let size : prefix_len goes_on line ≡ count = sym (length-prefix_len goes_on line) ∙ found.2 in
-    (sym found.2 ∙ ap length found.1,
-    record {
-      whole = run_splits goes_on line ∙ (ap (λ front. front ++ drop (prefix_len goes_on line) line) found.1 ∙ ap (λ (k : ℕ). name ++ drop k line) size);
-      is_name = ap is_name (sym found.1) ∙ found.0;
-      ends = rw (← size) (run_stops goes_on line);
-    })
+    let size : prefix_len goes_on line ≡ count = sym (length-prefix_len goes_on line) ∙ found.2 in (
+      sym found.2 ∙ ap length found.1,
+      record {
+        whole = run_splits goes_on line ∙ (ap (λ front. front ++ drop (prefix_len goes_on line) line) found.1 ∙ ap (λ (k : ℕ). name ++ drop k line) size);
+        is_name = ap is_name (sym found.1) ∙ found.0;
+        ends = rw (← size) (run_stops goes_on line);
+      },
+    )

@@ -82,7 +82,7 @@ impl Model for Array {
 impl PartialEq for Items {
     ghost use Rattle.std.specs.Ordering.{on};
     ghost use Rattle.apl_arrays.specs.Shape.{is_small, shape_fault};
-ghost use Rattle.apl_arrays.specs.Array.{plain_items, same_items};
+    ghost use Rattle.apl_arrays.specs.Array.{plain_items, same_items};
     ghost use Rattle.std.specs.Cmp.Rules.{comparing};
     ghost use Rattle.std.proofs.Common.{rules};
 

@@ -12,6 +12,7 @@ mod memory;
 mod name;
 mod report;
 mod text;
+mod threads;
 mod verb;
 mod word;
 
@@ -29,10 +30,9 @@ pub use memory::WantOfMemory;
 pub use name::{NAME_LIMIT, Name, longest_names_end};
 pub use report::{Fail, Report};
 pub use text::{GlyphRefused, glyphs_of, texts_are_read_in_one_way, utf8_of};
+pub use threads::{lists_may_cross_threads, values_may_cross_threads};
 pub use verb::{Dyad, Mix1, Mix2, Monad, Verb, Way};
 pub use word::{blank_count, next_word, words_stand_between_blanks};
 
-#[cfg(test)]
-mod list_tests;
 #[cfg(test)]
 mod tests;
