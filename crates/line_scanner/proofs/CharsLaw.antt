@@ -6,8 +6,10 @@ use Rattle.std.proofs.lemmas.List.{length-append, append-nil}
 use Rattle.line_scanner.specs.Role.{is_quote}
 use Rattle.line_scanner.specs.Number.{behind}
 use Rattle.line_scanner.specs.Scanning.{with_char, chars_by, chars_from}
-use Rattle.line_scanner.specs.Grammar.{begins, doubled}
-use Rattle.line_scanner.proofs.Found.{some_is, behind_some, behind_none}
+use Rattle.apl_arrays.specs.Run.{begins}
+use Rattle.line_scanner.specs.Grammar.{doubled}
+use Rattle.std.proofs.lemmas.Option.{same_Some}
+use Rattle.line_scanner.proofs.Found.{behind_some, behind_none}
 use Rattle.line_scanner.proofs.Chars.{onto}
 
 -- a quote that stands before, if one does
@@ -25,7 +27,7 @@ pub record CharsTaken (line list : List ℕ) (taken : ℕ) : Type 0 where
 with_char_some : (char : ℕ) (inner : Option (List ℕ × ℕ)) (found : List ℕ × ℕ) → with_char char inner ≡ Some found → (first : List ℕ × ℕ) × (inner ≡ Some first) × (char ∷ first.0 ≡ found.0) × (1 + first.1 ≡ found.1)
 with_char_some char None found e = absurd cc
 with_char_some char (Some first) found e =
-    let same = some_is (char ∷ first.0, 1 + first.1) found e in
+    let same = same_Some (char ∷ first.0, 1 + first.1) found e in
     (first, refl, ap (λ (x : List ℕ × ℕ). x.0) same, ap (λ (x : List ℕ × ℕ). x.1) same)
 
 doubled_plain : (g : ℕ) → is_quote g ≡ false → doubled g ≡ g ∷ []
@@ -62,7 +64,7 @@ sound_by true true g rest found is e beyond =
     let h = beyond false p.0 p.1 in
     taken_same (g ∷ g ∷ rest) (39 ∷ g ∷ rest) (g ∷ p.0.0) found.0 (2 + p.0.1) (1 + found.1) (ap (λ (x : ℕ). x ∷ g ∷ rest) (eqb-true g 39 is)) p.2 (omega (arith, p.3)) (char_before g (g ∷ g ∷ []) rest p.0.0 (0 + p.0.1) (2 + p.0.1) (sym (doubled_quote g is)) (omega arith) h)
 sound_by true false g rest found is e beyond =
-    let same = some_is ([], 0) found e in
+    let same = same_Some ([], 0) found e in
     taken_same (39 ∷ g ∷ rest) (39 ∷ g ∷ rest) [] found.0 1 (1 + found.1) refl (ap (λ (x : List ℕ × ℕ). x.0) same) (omega (arith, ap (λ (x : List ℕ × ℕ). x.1) same)) (record { more = g ∷ rest; whole = refl; ends = is; len = refl })
 
 -- what is computed are characters and their closing quote
@@ -70,7 +72,7 @@ pub chars_sound : (closing : Bool) (line : List ℕ) (found : List ℕ × ℕ) �
 unfolding chars_from
 chars_sound false [] found e = absurd cc
 chars_sound true [] found e =
-    let same = some_is ([], 0) found e in
+    let same = same_Some ([], 0) found e in
     taken_same (39 ∷ []) (39 ∷ []) [] found.0 1 (1 + found.1) refl (ap (λ (x : List ℕ × ℕ). x.0) same) (omega (arith, ap (λ (x : List ℕ × ℕ). x.1) same)) (record { more = []; whole = refl; ends = refl; len = refl })
 chars_sound closing (g ∷ rest) found e = sound_by closing (is_quote g) g rest found refl e (λ next inner i. chars_sound next rest inner i)
 

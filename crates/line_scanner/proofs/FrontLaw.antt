@@ -4,7 +4,8 @@ use Rattle.std.specs.List.{prefix_len, list_all, take_while, flat_map}
 use Rattle.std.proofs.lemmas.Bool.{and_parts}
 use Rattle.std.proofs.lemmas.List.{length-append}
 use Rattle.apl_arrays.specs.Glyph.{is_letter, is_digit}
-use Rattle.apl_arrays.specs.Name.{goes_on, is_name, IsName}
+use Rattle.apl_arrays.specs.Name.{goes_on, is_name, IsName, longest_name, name_of_run}
+use Rattle.apl_arrays.proofs.Names.{name_parts, longest_is_found}
 use Rattle.line_scanner.specs.declared.role.Role.{Role}
 use Rattle.line_scanner.specs.declared.role.Role.TheVariants.{Blank, Letter, Digit, Overbar, Quote, Quad, Lamp, Sign, Unused}
 use Rattle.line_scanner.specs.declared.token.SystemName.{SystemName}
@@ -13,13 +14,14 @@ use Rattle.line_scanner.specs.Token.{PlainKind, numbers, chars, name, system, si
 use Rattle.line_scanner.specs.Role.{role_of, is_quote}
 use Rattle.line_scanner.specs.Number.{behind, number, constant_then, constant}
 use Rattle.line_scanner.specs.Scanning.{PlainFront, nothing, blank, token, unused, malformed, chars_from, system_name, name_front, constant_front, chars_front, system_front, front_by, front_of}
-use Rattle.line_scanner.specs.Grammar.{begins, AreDigits, overbar, IsText, EndsBefore, quoted, doubled, system_text, EndsLine, at_end, at_comment, IsUnused, IsMalformed, no_digit, out_of_range, open_quote, long_name, no_system_name, IsConstant}
+use Rattle.apl_arrays.specs.Run.{begins}
+use Rattle.line_scanner.specs.Grammar.{AreDigits, overbar, IsText, EndsBefore, quoted, doubled, system_text, EndsLine, at_end, at_comment, IsUnused, IsMalformed, no_digit, out_of_range, open_quote, long_name, no_system_name, IsConstant}
 use Rattle.line_scanner.proofs.Roles.{letter_role, digit_role, from_letter, from_digit, from_blank, from_overbar, from_quote, from_quad, from_lamp}
-use Rattle.line_scanner.proofs.Runs.{run_passes, run_stops, run_splits, take_run}
+use Rattle.apl_arrays.proofs.Runs.{run_passes, run_stops, run_splits, take_run}
 use Rattle.line_scanner.proofs.NumberLaw.{overbar_malformed, digit_malformed, no_digit_no_number, out_of_range_no_number}
 use Rattle.line_scanner.proofs.ConstantLaw.{constant_sound, constant_complete}
 use Rattle.line_scanner.proofs.CharsLaw.{chars_sound, chars_open, chars_closed, chars_unclosed}
-use Rattle.line_scanner.proofs.WordLaw.{run_of_letter, long_run, name_parts, too_long, system_sound, system_complete, system_none, no_system}
+use Rattle.line_scanner.proofs.WordLaw.{run_of_letter, long_run, too_long, system_sound, system_complete, system_none, no_system}
 
 -- a token taken from the front of a line
 pub record TokenTaken (line : List ℕ) (kind : PlainKind) (taken : ℕ) : Type 0 where
@@ -40,7 +42,7 @@ IsFront line unused = IsUnused line
 IsFront line malformed = IsMalformed line
 
 name_by : (first : ℕ) (rest : List ℕ) (is : Bool) → is_letter first ≡ true → is_name (first ∷ take_while goes_on rest) ≡ is
-    → IsFront (first ∷ rest) (cond is (token (name (first ∷ take_while goes_on rest)) (length (first ∷ take_while goes_on rest))) malformed)
+    → IsFront (first ∷ rest) (name_front (cond {A = Option (List ℕ × ℕ)} is (Some (first ∷ take_while goes_on rest, length (first ∷ take_while goes_on rest))) None))
 name_by first rest true letter is = record {
   text = first ∷ take_while goes_on rest;
   rest = drop (prefix_len goes_on rest) rest;
@@ -54,8 +56,8 @@ name_by first rest false letter is =
     long_name first (take_while goes_on rest) (drop (prefix_len goes_on rest) rest) (ap (λ (xs : List ℕ). first ∷ xs) (run_splits goes_on rest)) letter (run_passes goes_on rest) (run_stops goes_on rest)
     (long_run first (take_while goes_on rest) letter (run_passes goes_on rest) is)
 
-name_sound : (first : ℕ) (rest : List ℕ) → is_letter first ≡ true → IsFront (first ∷ rest) (name_front (take_while goes_on (first ∷ rest)))
-name_sound first rest letter = subst (λ (run : List ℕ). IsFront (first ∷ rest) (name_front run)) (sym (run_of_letter first rest letter)) (name_by first rest (is_name (first ∷ take_while goes_on rest)) letter refl)
+name_sound : (first : ℕ) (rest : List ℕ) → is_letter first ≡ true → IsFront (first ∷ rest) (name_front (longest_name (first ∷ rest)))
+name_sound first rest letter = subst (λ (run : List ℕ). IsFront (first ∷ rest) (name_front (name_of_run run))) (sym (run_of_letter first rest letter)) (name_by first rest (is_name (first ∷ take_while goes_on rest)) letter refl)
 
 constant_fronts : (line : List ℕ) (found : Option (ℤ × ℕ)) → number line ≡ found → (number line ≡ None → IsMalformed line) → IsFront line (constant_front (constant_then found line))
 constant_fronts line None e none = none e
@@ -137,8 +139,9 @@ name_text : (text rest : List ℕ) → IsName text → begins goes_on rest ≡ f
 name_text [] rest is ends = absurd cc
 name_text (first ∷ others) rest is ends =
     let p = name_parts first others is in
-    let run : take_while goes_on (first ∷ (others ++ rest)) ≡ first ∷ others = take_run goes_on (first ∷ others) rest p.1 ends in
-    front_of_role first (others ++ rest) Letter (letter_role first p.0) ∙ ap name_front run ∙ ap (λ (b : Bool). cond b (token (name (first ∷ others)) (length (first ∷ others))) malformed) is
+    let text : List ℕ = first ∷ others in
+    let found = longest_is_found (text ++ rest) text rest (record { whole = refl; is_name = is; ends = ends }) in
+    front_of_role first (others ++ rest) Letter (letter_role first p.0) ∙ ap name_front found
 
 quote_role : role_of 39 ≡ Quote
 unfolding role_of
@@ -209,6 +212,6 @@ malformed_complete rest (open_quote list e) =
     ap front_of e ∙ front_of_role 39 (flat_map doubled list) Quote quote_role ∙ ap (λ found. chars_front (behind 1 found)) (chars_unclosed list)
 malformed_complete rest (long_name first others more e letter all ends long) =
     let run : take_while goes_on (first ∷ (others ++ more)) ≡ first ∷ others = run_of_letter first (others ++ more) letter ∙ ap (λ (xs : List ℕ). first ∷ xs) (take_run goes_on others more all ends) in
-    ap front_of e ∙ front_of_role first (others ++ more) Letter (letter_role first letter) ∙ ap name_front run ∙ ap (λ (b : Bool). cond b (token (name (first ∷ others)) (length (first ∷ others))) malformed) (too_long first others long)
+    ap front_of e ∙ front_of_role first (others ++ more) Letter (letter_role first letter) ∙ ap (λ (xs : List ℕ). name_front (name_of_run xs)) run ∙ ap (λ (b : Bool). name_front (cond {A = Option (List ℕ × ℕ)} b (Some (first ∷ others, length (first ∷ others))) None)) (too_long first others long)
 malformed_complete rest (no_system_name more e absent) =
     ap front_of e ∙ front_of_role 151 more Quad quad_role ∙ ap system_front (no_system more (λ which others same. absent which others (e ∙ same)))

@@ -9,9 +9,11 @@ use Rattle.std.proofs.lemmas.List.{length-append, nil_from_length}
 use Rattle.apl_arrays.specs.Glyph.{is_digit}
 use Rattle.line_scanner.specs.Role.{is_overbar}
 use Rattle.line_scanner.specs.Number.{signed, fits_64, of_glyphs, behind, number_of, number}
-use Rattle.line_scanner.specs.Grammar.{begins, AreDigits, overbar, IsNumber, NumberFirst, IsMalformed, no_digit, out_of_range}
-use Rattle.line_scanner.proofs.Found.{some_is, behind_some, behind_none}
-use Rattle.line_scanner.proofs.Runs.{run_passes, run_stops, run_splits, take_run}
+use Rattle.apl_arrays.specs.Run.{begins}
+use Rattle.line_scanner.specs.Grammar.{AreDigits, overbar, IsNumber, NumberFirst, IsMalformed, no_digit, out_of_range}
+use Rattle.std.proofs.lemmas.Option.{same_Some}
+use Rattle.line_scanner.proofs.Found.{behind_some, behind_none}
+use Rattle.apl_arrays.proofs.Runs.{run_passes, run_stops, run_splits, take_run}
 
 -- a number that passes the test fits, and the other way round
 pub fits_from_test : (z : ℤ) → fits_64 z ≡ true → FitsSigned w64 z
@@ -35,7 +37,7 @@ pub record NumberTaken (line : List ℕ) (value : ℤ) (taken : ℕ) : Type 0 wh
 of_by : (len : ℕ) (z : ℤ) (found : ℤ × ℕ) (empty fits : Bool) → cond empty None (of_glyphs len (cond fits (Some z) None)) ≡ Some found → (empty ≡ false) × (fits ≡ true) × (z ≡ found.0) × (len ≡ found.1)
 of_by len z found true fits e = absurd cc
 of_by len z found false false e = absurd cc
-of_by len z found false true e = (refl, refl, ap (λ (x : ℤ × ℕ). x.0) (some_is (z, len) found e), ap (λ (x : ℤ × ℕ). x.1) (some_is (z, len) found e))
+of_by len z found false true e = (refl, refl, ap (λ (x : ℤ × ℕ). x.0) (same_Some (z, len) found e), ap (λ (x : ℤ × ℕ). x.1) (same_Some (z, len) found e))
 
 -- the digits of a number behind its sign
 taken_of : (negative : Bool) (xs : List ℕ) (found : ℤ × ℕ) → number_of negative (take_while is_digit xs) ≡ Some found → NumberTaken (overbar negative ++ xs) found.0 (length (overbar negative) + found.1)

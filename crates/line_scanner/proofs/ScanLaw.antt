@@ -4,7 +4,7 @@ use Rattle.std.specs.Prelude.{◌↔◌}
 use Rattle.std.specs.List.{list_all}
 use Rattle.std.proofs.Math.Seq.{drop-append_seam}
 use Rattle.std.proofs.lemmas.Bool.{and_parts, eqb-true}
-use Rattle.line_scanner.specs.Role.{is_blank}
+use Rattle.apl_arrays.specs.Glyph.{is_blank}
 use Rattle.line_scanner.specs.Token.{PlainKind, PlainToken}
 use Rattle.line_scanner.specs.Scanning.{PlainFront, nothing, blank, token, unused, malformed, Fault, character_at, syntax_at, Scanned, front_of, with_token, scan_front, scan_from, scan_of}
 use Rattle.line_scanner.specs.Grammar.{AreBlank, TokenNext, BlanksNext, TokensNext, at_end, ReadsFrom, IsReading}

@@ -5,16 +5,14 @@ use Rattle.std.proofs.lemmas.Bool.{and_parts, and_from, or_left, eqb-true, leb-f
 use Rattle.std.proofs.lemmas.List.Sums.{take_while-cons}
 use Rattle.apl_arrays.specs.Glyph.{is_letter, is_digit}
 use Rattle.apl_arrays.specs.Name.{goes_on, is_name}
+use Rattle.apl_arrays.proofs.Names.{letter_goes_on}
 use Rattle.line_scanner.specs.declared.token.SystemName.{SystemName}
 use Rattle.line_scanner.specs.declared.token.SystemName.TheVariants.{Svo, Svc, Svr, Svq, Svs}
 use Rattle.line_scanner.specs.Scanning.{shared_variable_name, system_name}
-use Rattle.line_scanner.proofs.Found.{some_is, none_is_some}
+use Rattle.std.proofs.lemmas.Option.{same_Some, none-some}
 use Rattle.line_scanner.specs.Grammar.{system_text}
 
 -- ---- names
-
-letter_goes_on : (g : ℕ) → is_letter g ≡ true → goes_on g ≡ true
-letter_goes_on g e = or_left (is_letter g || is_digit g) (eqb g 95) (or_left (is_letter g) (is_digit g) e)
 
 -- the run of a letter
 pub run_of_letter : (first : ℕ) (rest : List ℕ) → is_letter first ≡ true → take_while goes_on (first ∷ rest) ≡ first ∷ take_while goes_on rest
@@ -27,13 +25,6 @@ long_run first others letter all e = leb-false (length others) 31 (long_by (is_l
     long_by : (a b c : Bool) → a ≡ true → c ≡ true → (a && b && c) ≡ false → b ≡ false
     long_by a true c p q e = absurd (both_ways (a && true && c) e (and_from (a && true) c (and_from a true p refl) q))
     long_by a false c p q e = refl
-
--- the parts of a name
-pub name_parts : (first : ℕ) (others : List ℕ) → is_name (first ∷ others) ≡ true → (is_letter first ≡ true) × (list_all goes_on (first ∷ others) ≡ true)
-name_parts first others e =
-    let p = and_parts (is_letter first && leb (length others) 31) (list_all goes_on others) e in
-    let letter = (and_parts (is_letter first) (leb (length others) 31) p.0).0 in
-    (letter, and_from (goes_on first) (list_all goes_on others) (letter_goes_on first letter) p.1)
 
 -- what is longer than 32 is no name
 pub too_long : (first : ℕ) (others : List ℕ) → 31 < length others → is_name (first ∷ others) ≡ false
@@ -62,7 +53,7 @@ system_text_is Svq = refl
 system_text_is Svs = refl
 
 pick : (b : Bool) (this which : SystemName) (others : Option SystemName) → cond b (Some this) others ≡ Some which → ((b ≡ true) × (this ≡ which)) ⊎ (others ≡ Some which)
-pick true this which others e = inl (refl, some_is this which e)
+pick true this which others e = inl (refl, same_Some this which e)
 pick false this which others e = inr e
 
 is_last : (glyph code : ℕ) (this which : SystemName) → (eqb glyph code ≡ true) × (this ≡ which) → last_glyph this ≡ code → glyph ≡ last_glyph which
@@ -80,7 +71,7 @@ last_by glyph which e =
             | inl p ↦ is_last glyph 81 Svq which p refl
             | inr e ↦ elim (pick (eqb glyph 83) Svs which _ e) [
               | inl p ↦ is_last glyph 83 Svs which p refl
-              | inr e ↦ absurd (none_is_some which e)
+              | inr e ↦ absurd (none-some which e)
             ]
           ]
         ]
@@ -89,7 +80,7 @@ last_by glyph which e =
 
 system_by : (first second third : ℕ) (rest : List ℕ) (which : SystemName) (both : Bool) → (eqb first 83 && eqb second 86) ≡ both → cond both (shared_variable_name third) None ≡ Some which
     → 151 ∷ first ∷ second ∷ third ∷ rest ≡ system_text which ++ rest
-system_by first second third rest which false is e = absurd (none_is_some which e)
+system_by first second third rest which false is e = absurd (none-some which e)
 system_by first second third rest which true is e =
     let p = and_parts (eqb first 83) (eqb second 86) is in
     ap (λ (g : ℕ). 151 ∷ g ∷ second ∷ third ∷ rest) (eqb-true first 83 p.0) ∙ ap (λ (g : ℕ). 151 ∷ 83 ∷ g ∷ third ∷ rest) (eqb-true second 86 p.1) ∙ ap (λ (g : ℕ). 151 ∷ 83 ∷ 86 ∷ g ∷ rest) (last_by third which e)
@@ -97,9 +88,9 @@ system_by first second third rest which true is e =
 
 -- what is computed is a system name
 pub system_sound : (rest : List ℕ) (which : SystemName) → system_name rest ≡ Some which → (more : List ℕ) × (151 ∷ rest ≡ system_text which ++ more)
-system_sound [] which e = absurd (none_is_some which e)
-system_sound (first ∷ []) which e = absurd (none_is_some which e)
-system_sound (first ∷ second ∷ []) which e = absurd (none_is_some which e)
+system_sound [] which e = absurd (none-some which e)
+system_sound (first ∷ []) which e = absurd (none-some which e)
+system_sound (first ∷ second ∷ []) which e = absurd (none-some which e)
 system_sound (first ∷ second ∷ third ∷ more) which e = (more, system_by first second third more which (eqb first 83 && eqb second 86) refl e)
 
 -- and each system name is computed
@@ -111,7 +102,7 @@ system_complete Svq more = refl
 system_complete Svs more = refl
 
 pub system_none : (rest : List ℕ) → system_name rest ≡ None → (which : SystemName) (others : List ℕ) → 151 ∷ rest ≡ system_text which ++ others → ⊥
-system_none rest e which others same = none_is_some which (sym e ∙ ap (λ (xs : List ℕ). system_name (drop 1 xs)) same ∙ system_complete which others)
+system_none rest e which others same = none-some which (sym e ∙ ap (λ (xs : List ℕ). system_name (drop 1 xs)) same ∙ system_complete which others)
 
 absent_by : (rest : List ℕ) (found : Option SystemName) → system_name rest ≡ found → ((which : SystemName) (others : List ℕ) → 151 ∷ rest ≡ system_text which ++ others → ⊥) → found ≡ None
 absent_by rest None e absent = refl
