@@ -1,6 +1,5 @@
 mod Examples
 mod Factorials
-pub mod Places
 mod Powers
 mod Reports
 mod Residues

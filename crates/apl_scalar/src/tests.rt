@@ -1,6 +1,6 @@
 mod cases;
 
-use crate::{by_place, dyadic, identity_of, item_of, monadic};
+use crate::{dyadic, identity_of, item_of, monadic};
 use apl_arrays::{
     Array, Dyad, Fail, Glyph, Item, Items, Line, List, Monad, NumberList, Report, WantOfMemory,
 };
