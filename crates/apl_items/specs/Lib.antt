@@ -1,3 +1,5 @@
 pub mod Answers
 pub mod Extension
+pub mod Moves
 pub mod Places
+pub mod Refusals

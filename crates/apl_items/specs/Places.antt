@@ -42,3 +42,7 @@ abbrev pub MakesItems : {T : Type 0} → Result (Listed T) Fail → ℕ → (ℕ
 MakesItems (Ok list) count rule = IsByPlace count rule list.items
 MakesItems (Err (fail.Report report)) count rule = (report ≡ Domain) × LacksItem count rule
 MakesItems (Err fail.WantOfMemory) count rule = ⊤
+
+-- whatever a call answers at one of so many places is what a definition gives there
+abbrev pub Follows : {A : Type 0} → (ℕ → A → Type 0) → ℕ → (ℕ → A) → Type 0
+Follows {A} answers count rule = (place : ℕ) (answer : A) → place < count → answers place answer → answer ≡ rule place

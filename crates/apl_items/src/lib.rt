@@ -4,6 +4,10 @@
 
 mod extension;
 mod loops;
+mod moves;
+mod refusals;
 
 pub use loops::{by_place, each, glyph_pairs, pairs};
+pub use moves::{Walk, moved};
+pub use refusals::{Refusal, by_rule, first_refusal, lacks_one};
 pub use extension::{glyph_at, is_single, leader, number_at, ranks_differ, shapes_differ};

@@ -106,7 +106,7 @@ pub fn glyph_pairs<F: Fn(bool) -> Option<i64>>(
 }
 
 /// An empty list with room for so many items.
-fn room_for<T>(alloc: Global, count: usize) -> Result<Vec<T>, WantOfMemory>
+pub fn room_for<T>(alloc: Global, count: usize) -> Result<Vec<T>, WantOfMemory>
     ensures len { IfOk result (λ items. vec_len items ≡ 0) }
     ensures room { IfOk result (λ items. vec_capacity items ≡ count) }
 {
