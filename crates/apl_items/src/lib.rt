@@ -2,12 +2,16 @@
 //! and items that move to other places.
 #![tactic(auto)]
 
+mod axes;
 mod extension;
 mod loops;
 mod moves;
 mod refusals;
+mod shapes;
 
+pub use axes::{Axes, moved_by_axes};
 pub use loops::{by_place, each, glyph_pairs, pairs};
 pub use moves::{Walk, moved};
 pub use refusals::{Refusal, by_rule, first_refusal, lacks_one};
+pub use shapes::Split;
 pub use extension::{glyph_at, is_single, leader, number_at, ranks_differ, shapes_differ};
