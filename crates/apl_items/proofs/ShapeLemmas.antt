@@ -1,11 +1,13 @@
 -- Places in row-major order.
 use Rattle.std.proofs.Common.{◌≡◌, ℕ, zero, suc, ◌+◌, ◌*◌, ◌/◌, ◌%◌, ◌<◌, ◌≤◌, List, [], ◌∷◌, ◌++◌, length, take, drop, get_or, fold, refl, sym, ap, ◌∙◌, arith}
-use Rattle.std.proofs.Math.Nat.{mul_assoc, mul_comm}
+use Rattle.std.proofs.Math.Nat.{mul_assoc, mul_comm, le-mul_of_pos_right}
+use Rattle.std.proofs.lemmas.List.{length-take, length-drop}
+use Rattle.std.proofs.lemmas.List.Elements.{All-take, All-drop}
 use Rattle.std.proofs.lemmas.List.Sums.{fold-append}
 use Rattle.std.proofs.lemmas.Nat.{mul-add-lt, div-mul-add, mod-mul-add, div-add-mod', div_below, mod_below}
-use Rattle.apl_arrays.specs.Array.{element_count}
+use Rattle.apl_arrays.specs.Array.{FitsLimits, element_count}
 use Rattle.apl_items.specs.declared.shapes.Split.{Split}
-use Rattle.apl_items.specs.Shapes.{place_of, coordinates_of, stride_of, split_at, split_count, place_along, outer_of, along_of, inner_of}
+use Rattle.apl_items.specs.Shapes.{AreWithin, place_of, coordinates_of, stride_of, split_at, split_count, place_along, outer_of, along_of, inner_of}
 
 -- ---- how many elements
 
@@ -80,3 +82,72 @@ pub coordinates_of_row : (axis : ℕ) (shape : List ℕ) (first place : ℕ) →
     → coordinates_of (axis ∷ shape) (first * element_count shape + place) ≡ first ∷ coordinates_of shape place
 coordinates_of_row axis shape first place h =
     rw (div-mul-add first (element_count shape) place h, mod-mul-add first (element_count shape) place h) refl
+
+-- coordinates within a shape make a place below its count
+pub place_of_below : (shape coordinates : List ℕ) → AreWithin shape coordinates → place_of shape coordinates < element_count shape
+
+place_of_below [] [] h = omega arith
+place_of_below [] (first ∷ coordinates) h = absurd h
+place_of_below (axis ∷ shape) [] h = absurd h
+place_of_below (axis ∷ shape) (first ∷ coordinates) h =
+    let rest = place_of_below shape coordinates h.1 in
+    let turned = mul_comm axis (element_count shape) in
+    omega (arith, element_count-cons axis shape, mul-add-lt first (element_count shape) (place_of shape coordinates) axis h.0 rest)
+
+-- the coordinates of the place that coordinates make are these
+pub coordinates_of_place : (shape coordinates : List ℕ) → AreWithin shape coordinates → coordinates_of shape (place_of shape coordinates) ≡ coordinates
+coordinates_of_place [] [] h = refl
+coordinates_of_place [] (first ∷ coordinates) h = absurd h
+coordinates_of_place (axis ∷ shape) [] h = absurd h
+coordinates_of_place (axis ∷ shape) (first ∷ coordinates) h =
+    coordinates_of_row axis shape first (place_of shape coordinates) (place_of_below shape coordinates h.1)
+    ∙ ap (λ (rest : List ℕ). first ∷ rest) (coordinates_of_place shape coordinates h.1)
+
+-- the coordinates of a place are within the shape
+pub coordinates_are_within : (shape : List ℕ) (place : ℕ) → place < element_count shape → AreWithin shape (coordinates_of shape place)
+coordinates_are_within [] place h = tt
+coordinates_are_within (axis ∷ shape) place h =
+    let count = element_count shape in
+    let total : place < axis * count = simp element_count-cons at h in
+    let some : 0 < count = positive axis count total in
+    (div_below place count axis some total, coordinates_are_within shape (place % count) (mod_below place count some))
+  where
+    positive : (a b : ℕ) → place < a * b → 0 < b
+    positive a zero below = absurd (omega arith)
+    positive a (suc b) below = omega arith
+
+-- places and coordinates name each other
+pub ruleset places_and_coordinates = (place_of_coordinates, coordinates_are_within, coordinates_of_place, place_of_below)
+
+-- a place by a split, and its parts
+pub ruleset splits = (split_count_lem, place_along_below, outer_of_place, along_of_place, inner_of_place, place_along_parts)
+
+-- ---- parts of a shape within the limits
+
+-- no factor passes a product that is not 0
+factors_below : (a b c total : ℕ) → a * b * c ≡ total → 0 < total → (a ≤ total) × (c ≤ total)
+factors_below zero b c total e some = absurd (let none : zero * b * c ≡ 0 = omega arith in omega arith)
+factors_below (suc a) zero c total e some = absurd (let none : suc a * zero * c ≡ 0 = omega arith in omega arith)
+factors_below (suc a) (suc b) zero total e some = absurd (omega arith)
+factors_below (suc a) (suc b) (suc c) total e some =
+    let one = le-mul_of_pos_right {m = suc b} (suc a) (omega arith) in
+    let two = le-mul_of_pos_right {m = suc c} (suc a * suc b) (omega arith) in
+    let pair : 0 < suc a * suc b = omega (arith, one) in
+    let three = le-mul_of_pos_right {m = suc a * suc b} (suc c) pair in
+    let turned = mul_comm (suc c) (suc a * suc b) in
+    (omega (arith, one, two), omega (arith, three, turned))
+
+-- the axes before and after one of a shape that has elements are within the limits too
+pub parts_fit : (shape : List ℕ) (axis : ℕ) → FitsLimits shape → 0 < element_count shape → axis < length shape
+    → FitsLimits (take axis shape) × FitsLimits (drop (axis + 1) shape)
+parts_fit shape axis fits some inside =
+    let factors = factors_below (element_count (take axis shape)) (get_or shape axis 0) (element_count (drop (axis + 1) shape)) (element_count shape) (split_count_lem shape axis inside) some in
+    (record {
+      rank = omega (arith, fits.rank, length-take axis shape);
+      axes = All-take (λ n. n ≤ 16384) axis shape fits.axes;
+      elements = omega (arith, fits.elements, factors.0);
+    }, record {
+      rank = omega (arith, fits.rank, length-drop (axis + 1) shape);
+      axes = All-drop (λ n. n ≤ 16384) (axis + 1) shape fits.axes;
+      elements = omega (arith, fits.elements, factors.1);
+    })

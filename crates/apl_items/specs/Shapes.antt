@@ -1,4 +1,4 @@
-use Rattle.std.specs.Prelude.{◌+◌, ◌*◌, ◌/◌, ◌%◌, ℕ, List, [], ◌∷◌, length, take, drop, slice_index}
+use Rattle.std.specs.Prelude.{◌+◌, ◌*◌, ◌/◌, ◌%◌, ◌<◌, ⊤, ℕ, List, [], ◌∷◌, length, take, drop, slice_index}
 use Rattle.apl_arrays.specs.Array.{element_count}
 use Rattle.apl_items.specs.declared.shapes.Split.{Split}
 
@@ -14,6 +14,13 @@ place_of (axis ∷ shape) (first ∷ coordinates) = first * element_count shape 
 abbrev pub coordinates_of : List ℕ → ℕ → List ℕ
 coordinates_of [] place = []
 coordinates_of (axis ∷ shape) place = place / element_count shape ∷ coordinates_of shape (place % element_count shape)
+
+-- as many coordinates as axes, each below the length of its axis
+abbrev pub AreWithin : List ℕ → List ℕ → Type 0
+AreWithin [] [] = ⊤
+AreWithin [] (first ∷ coordinates) = ⊥
+AreWithin (axis ∷ shape) [] = ⊥
+AreWithin (axis ∷ shape) (first ∷ coordinates) = (first < axis) × AreWithin shape coordinates
 
 -- how far apart two neighbours along an axis stand
 abbrev pub stride_of : List ℕ → ℕ → ℕ

@@ -6,7 +6,8 @@ ghost use Rattle.apl_items.specs.Shapes.{coordinates_of};
 
 use crate::loops::room_for;
 use crate::moves::item_at_source;
-use apl_arrays::{ELEMENT_LIMIT, Glyph, Items, List, WantOfMemory};
+use crate::shapes::element_count;
+use apl_arrays::{Glyph, Items, List, WantOfMemory};
 use std::alloc::Global;
 
 /// Where the places along each axis of a result come from. The source place for an item is the sum of the offsets along
@@ -99,16 +100,4 @@ fn together(base: Option<usize>, offset: Option<usize>) -> Option<usize>
     ensures { result ≡ added base offset }
 {
     Some(base? + offset?)
-}
-
-/// The number of elements of a shape within the limits.
-fn element_count(shape: &[u32]) -> usize
-    requires { FitsLimits shape.now }
-    ensures { result ≡ element_count shape.now }
-{
-    let mut count = 1;
-    for axis in shape {
-        count = (count * *axis as usize).min(ELEMENT_LIMIT + 1);
-    }
-    count
 }

@@ -4,6 +4,7 @@
 
 mod axes;
 mod extension;
+pub mod laws;
 mod loops;
 mod moves;
 mod refusals;

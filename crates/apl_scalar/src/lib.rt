@@ -2,6 +2,7 @@
 #![tactic(auto)]
 
 pub mod counting;
+pub mod laws;
 mod monad_rules;
 pub mod rules;
 mod scalar;

@@ -1,6 +1,6 @@
 use Rattle.std.proofs.Common.{◌≡◌, min, take}
 use Rattle.apl_arrays.specs.Array.{element_count}
-use Rattle.apl_items.proofs.axes.element_count.Given as goal
+use Rattle.apl_items.proofs.shapes.element_count.Given as goal
 
 -- the count so far, capped
 abbrev pub invariant-loop-axis : goal.invariant-loop-axis
