@@ -1,10 +1,10 @@
 -- Items made row by row are the items made place by place.
-use Rattle.std.proofs.Common.{◌≡◌, ℕ, zero, suc, ◌+◌, ◌*◌, ◌<◌, ◌≤◌, List, [], ◌∷◌, ◌++◌, map, Option, Some, None, refl, sym, ap, append_assoc, ◌∙◌, arith}
+use Rattle.std.proofs.Common.{◌≡◌, ℕ, zero, suc, ◌+◌, ◌*◌, ◌<◌, ◌≤◌, List, ◌∷◌, ◌++◌, map, Option, Some, None, refl, sym, ap, subst, append_assoc, get_or, IfSome, ◌∙◌, arith}
 use Rattle.std.proofs.lemmas.Nat.{mul-add-lt, div-mul-add, mod-mul-add, row_fits}
 use Rattle.std.proofs.Math.Nat.{mul_comm}
 use Rattle.std.specs.List.{range_with_len}
 use Rattle.apl_arrays.specs.Array.{element_count}
-use Rattle.apl_items.specs.Axes.{AreSmall, added, offset_at}
+use Rattle.apl_items.specs.Axes.{AreNoLonger, added, offset_at}
 use Rattle.apl_items.specs.Moves.{IsWithin, item_or, moved_list}
 use Rattle.apl_items.specs.Shapes.{coordinates_of}
 use Rattle.apl_items.proofs.ShapeLemmas.{element_count-cons}
@@ -101,12 +101,26 @@ some_same : (m n : ℕ) → Some m ≡ Some n → m ≡ n
 some_same m n e = cc
 
 -- a base beyond which the offsets of the axes left are small
-pub row_is_bound : (offset : ℕ → ℕ → Option ℕ) (axis along : ℕ) (base beyond : Option ℕ) (left size : ℕ) → AreSmall offset → beyond ≡ added base (offset axis along)
+pub row_is_bound : (base offset beyond : Option ℕ) (left size : ℕ) → IfSome offset (λ from. from < 4294967296) → beyond ≡ added base offset
     → ((from : ℕ) → base ≡ Some from → from + (left + 1) * 4294967296 < size) → (from : ℕ) → beyond ≡ Some from → from + left * 4294967296 < size
-row_is_bound offset axis along base beyond left size small is bound from at = by_parts base (offset axis along) refl refl (sym is ∙ at)
-  where
-    by_parts : (a b : Option ℕ) → base ≡ a → offset axis along ≡ b → added a b ≡ Some from → from + left * 4294967296 < size
-    by_parts None b at_base at_offset sum = absurd (cc)
-    by_parts (Some a) None at_base at_offset sum = absurd (cc)
-    by_parts (Some a) (Some b) at_base at_offset sum =
-        let total : a + b ≡ from = some_same (a + b) from sum in let one = bound a at_base in let two = small axis along b at_offset in omega arith
+row_is_bound None offset beyond left size small is bound from at = let none : None ≡ Some from = sym is ∙ at in absurd (cc)
+row_is_bound (Some a) None beyond left size small is bound from at = let none : None ≡ Some from = sym is ∙ at in absurd (cc)
+row_is_bound (Some a) (Some b) beyond left size small is bound from at =
+    let total : a + b ≡ from = some_same (a + b) from (sym is ∙ at) in let one = bound a refl in omega arith
+
+-- the axes after the first are no longer either
+pub rest_no_longer : (shape : List ℕ) (first : ℕ) (rest : List ℕ) (axis : ℕ) (lengths : ℕ → ℕ) → shape ≡ first ∷ rest
+    → AreNoLonger shape axis lengths → AreNoLonger rest (axis + 1) lengths
+rest_no_longer shape first rest axis lengths e lower k h =
+    let next = subst (λ (xs : List ℕ). AreNoLonger xs axis lengths) e lower (suc k) (omega arith) in
+    let same : axis + suc k ≡ (axis + 1) + k = omega arith in
+    subst (λ (n : ℕ). get_or rest k 0 ≤ lengths n) same next
+
+-- a place along the first axis is below its length
+pub first_no_longer : (shape : List ℕ) (first : ℕ) (rest : List ℕ) (axis along : ℕ) (lengths : ℕ → ℕ) → shape ≡ first ∷ rest
+    → AreNoLonger shape axis lengths → along < first → along < lengths axis
+first_no_longer shape first rest axis along lengths e lower below =
+    let here = subst (λ (xs : List ℕ). AreNoLonger xs axis lengths) e lower 0 (omega arith) in
+    let same : axis + 0 ≡ axis = omega arith in
+    let at : first ≤ lengths axis = subst (λ (n : ℕ). first ≤ lengths n) same here in
+    omega arith

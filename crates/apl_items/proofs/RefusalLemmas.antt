@@ -1,5 +1,5 @@
 -- The places seen so far, and what was refused at them.
-use Rattle.std.proofs.Common.{◌≡◌, ◌≢◌, ℕ, ◌+◌, ◌<◌, Bool, true, false, not, ◌||◌, cond, List, [], ◌∷◌, ◌++◌, map, Option, Some, None, Result, Ok, Err, option_map, refl, sym, ap, subst, ◌∙◌, arith, get_or, length, slice_get, IfOk, is_none, is_some}
+use Rattle.std.proofs.Common.{◌≡◌, ℕ, ◌+◌, ◌<◌, Bool, true, false, not, ◌||◌, cond, List, [], ◌∷◌, ◌++◌, map, Option, Some, None, Result, Ok, Err, option_map, refl, sym, ap, subst, ◌∙◌, arith, get_or, length, slice_get, IfOk, is_none, is_some}
 use Rattle.std.specs.List.{list_any, range_with_len}
 use Rattle.std.specs.Result.{result_ok}
 use Rattle.std.proofs.lemmas.List.Folds.{list_any-append, list_any_at}
@@ -10,7 +10,7 @@ use Rattle.apl_arrays.specs.declared.report.Report.TheVariants as report
 use Rattle.apl_arrays.specs.List.{Listed}
 use Rattle.apl_items.specs.declared.refusals.Refusal.{Refusal}
 use Rattle.apl_items.specs.declared.refusals.Refusal.TheVariants.{Domain, Index}
-use Rattle.apl_items.specs.Answers.{Faults, first_report, no_faults}
+use Rattle.apl_items.specs.Answers.{first_report, no_faults}
 use Rattle.apl_items.specs.Places.{places, lacks_item, Follows, IsByPlace, OnDomain}
 use Rattle.apl_items.specs.Refusals.{GivesItems, item_faults, is_domain, is_index, report_of}
 use Rattle.apl_items.proofs.PlaceLemmas.{made}

@@ -7,7 +7,7 @@ use Rattle.std.proofs.lemmas.List.Sums.{fold-append}
 use Rattle.std.proofs.lemmas.Nat.{mul-add-lt, div-mul-add, mod-mul-add, div-add-mod', div_below, mod_below}
 use Rattle.apl_arrays.specs.Array.{FitsLimits, element_count}
 use Rattle.apl_items.specs.declared.shapes.Split.{Split}
-use Rattle.apl_items.specs.Shapes.{AreWithin, place_of, coordinates_of, stride_of, split_at, split_count, place_along, outer_of, along_of, inner_of}
+use Rattle.apl_items.specs.Shapes.{AreWithin, place_of, coordinates_of, split_at, split_count, place_along, outer_of, along_of, inner_of}
 
 -- ---- how many elements
 

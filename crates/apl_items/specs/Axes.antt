@@ -1,4 +1,4 @@
-use Rattle.std.specs.Prelude.{◌≡◌, ◌+◌, ◌<◌, ◌^◌, ℕ, List, [], ◌∷◌, Option, Some, None}
+use Rattle.std.specs.Prelude.{◌+◌, ◌<◌, ◌≤◌, ℕ, List, [], ◌∷◌, Option, Some, None, length, slice_index}
 use Rattle.apl_items.specs.Shapes.{coordinates_of}
 
 -- two offsets together, where both are there
@@ -16,6 +16,6 @@ offset_at offset axis (first ∷ coordinates) = added (offset axis first) (offse
 abbrev pub source_by_axes : List ℕ → (ℕ → ℕ → Option ℕ) → ℕ → Option ℕ
 source_by_axes shape offset place = offset_at offset 0 (coordinates_of shape place)
 
--- offsets are of 32 bits
-abbrev pub AreSmall : (ℕ → ℕ → Option ℕ) → Type 0
-AreSmall offset = (axis along from : ℕ) → offset axis along ≡ Some from → from < 2 ^ 32
+-- the axes of a shape, from one on, are no longer than these
+abbrev pub AreNoLonger : List ℕ → ℕ → (ℕ → ℕ) → Type 0
+AreNoLonger shape axis lengths = (k : ℕ) → k < length shape → slice_index shape k ≤ lengths (axis + k)

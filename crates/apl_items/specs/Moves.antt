@@ -1,5 +1,5 @@
 use Rattle.std.specs.Prelude.{◌≡◌, ◌<◌, ℕ, pos, List, Option, Some, None, map, slice_index_or}
-use Rattle.apl_arrays.specs.Array.{PlainArray, PlainItems, numbers, chars, element_count, item_count}
+use Rattle.apl_arrays.specs.Array.{PlainArray, PlainItems, numbers, chars, element_count}
 use Rattle.apl_arrays.specs.Glyph.{blank}
 use Rattle.apl_items.specs.Places.{places}
 

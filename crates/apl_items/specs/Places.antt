@@ -1,4 +1,4 @@
-use Rattle.std.specs.Prelude.{◌≡◌, ◌<◌, ⊤, ℕ, ℤ, Bool, List, Option, Some, None, Result, Ok, Err, length, slice_get, is_none}
+use Rattle.std.specs.Prelude.{◌≡◌, ◌<◌, ⊤, ℕ, ℤ, Bool, List, Option, None, Result, Ok, Err, length, slice_get, is_none}
 use Rattle.std.specs.List.{range_with_len, list_any, filter_map}
 use Rattle.apl_arrays.specs.declared.report.Fail.{Fail}
 use Rattle.apl_arrays.specs.declared.report.Fail.TheVariants as fail

@@ -1,4 +1,4 @@
-use Rattle.std.specs.Prelude.{◌+◌, ◌*◌, ◌/◌, ◌%◌, ◌<◌, ⊤, ℕ, List, [], ◌∷◌, length, take, drop, slice_index}
+use Rattle.std.specs.Prelude.{◌+◌, ◌*◌, ◌/◌, ◌%◌, ◌<◌, ⊤, ℕ, List, [], ◌∷◌, take, drop, slice_index}
 use Rattle.apl_arrays.specs.Array.{element_count}
 use Rattle.apl_items.specs.declared.shapes.Split.{Split}
 

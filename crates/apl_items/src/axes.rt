@@ -1,24 +1,28 @@
-ghost use Rattle.std.specs.Prelude.{◌≡◌, ◌+◌, ◌*◌, ◌^◌, ◌<◌, ◌≤◌, ◌++◌, ℕ, Option, Some, IfOk, length, vec_len, vec_capacity};
+ghost use Rattle.std.specs.Prelude.{◌≡◌, ◌+◌, ◌*◌, ◌^◌, ◌<◌, ◌≤◌, ◌++◌, ℕ, Option, Some, IfOk, IfSome, length, vec_len, vec_capacity};
 ghost use Rattle.apl_arrays.specs.Array.{FitsLimits, element_count, item_count, plain_items};
-ghost use Rattle.apl_items.specs.Axes.{AreSmall, added, offset_at, source_by_axes};
+ghost use Rattle.apl_items.specs.Axes.{AreNoLonger, added, offset_at, source_by_axes};
 ghost use Rattle.apl_items.specs.Moves.{IsWithin, item_or, moved_items, moved_list};
 ghost use Rattle.apl_items.specs.Shapes.{coordinates_of};
 
 use crate::loops::room_for;
 use crate::moves::item_at_source;
-use crate::shapes::element_count;
-use apl_arrays::{Glyph, Items, List, WantOfMemory};
+use apl_arrays::{Glyph, Items, List, WantOfMemory, count_of_elements};
 use std::alloc::Global;
 
 /// Where the places along each axis of a result come from. The source place for an item is the sum of the offsets along
 /// all axes, and an item is filled where one of them is none.
 pub trait Axes {
+    // How long an axis is.
+    ghost length_of: { Self → ℕ → ℕ };
+
     // The offset of a place along an axis, or none where it is filled.
     ghost offset: { Self → ℕ → ℕ → Option ℕ };
 
-    /// The offset of a place along an axis, or `None` where it is filled. No memory.
+    /// The offset of a place along an axis, of 32 bits, or `None` where it is filled. No memory.
     fn offset(&self, axis: usize, along: usize) -> Option<usize>
-        ensures { result ≡ offset self.now axis along };
+        requires { along < length_of self.now axis }
+        ensures value { result ≡ offset self.now axis along }
+        ensures small { IfSome result (λ from. from < 2 ^ 32) };
 }
 
 /// The items of a result of a shape, each from the sum of its offsets along the axes, or the fill, 0 or the blank. They
@@ -30,7 +34,7 @@ pub fn moved_by_axes<X: Axes>(
     axes: &X,
 ) -> Result<Items, WantOfMemory>
     requires fits { FitsLimits shape.now }
-    requires small { AreSmall (X.offset axes.now) }
+    requires lengths { AreNoLonger shape.now 0 (X.length_of axes.now) }
     requires within { IsWithin (source_by_axes shape.now (X.offset axes.now)) (element_count shape.now) (item_count (plain_items items.now)) }
     ensures { IfOk result (λ made. plain_items made ≡ moved_items (plain_items items.now) (element_count shape.now) (source_by_axes shape.now (X.offset axes.now))) }
 {
@@ -55,11 +59,11 @@ fn list_by_axes<T: Copy + Drop, X: Axes>(
     axes: &X,
 ) -> Result<List<T>, WantOfMemory>
     requires fits { FitsLimits shape.now }
-    requires small { AreSmall (X.offset axes.now) }
+    requires lengths { AreNoLonger shape.now 0 (X.length_of axes.now) }
     requires within { IsWithin (source_by_axes shape.now (X.offset axes.now)) (element_count shape.now) (length list.now) }
     ensures { IfOk result (λ made. made.items ≡ moved_list fill list.now (element_count shape.now) (source_by_axes shape.now (X.offset axes.now))) }
 {
-    let mut made = room_for(alloc, element_count(shape))?;
+    let mut made = room_for(alloc, count_of_elements(shape))?;
     push_axes(&mut made, list, fill, shape, 0, Some(0), axes);
     Ok(List::from(made))
 }
@@ -75,7 +79,7 @@ fn push_axes<T: Copy + Drop, X: Axes>(
     axes: &X,
 )
     requires room { vec_len made.old + element_count shape.now ≤ vec_capacity made.old }
-    requires small { AreSmall (X.offset axes.now) }
+    requires lengths { AreNoLonger shape.now axis (X.length_of axes.now) }
     requires bound { (from : ℕ) → base ≡ Some from → from + length shape.now * 2 ^ 32 < 2 ^ 64 }
     requires axis { axis + length shape.now < 2 ^ 64 }
     requires within { IsWithin (λ place. added base (offset_at (X.offset axes.now) axis (coordinates_of shape.now place))) (element_count shape.now) (length list.now) }

@@ -9,10 +9,12 @@ mod loops;
 mod moves;
 mod refusals;
 mod shapes;
+#[cfg(test)]
+mod tests;
 
 pub use axes::{Axes, moved_by_axes};
 pub use loops::{by_place, each, glyph_pairs, pairs};
 pub use moves::{Walk, moved};
 pub use refusals::{Refusal, by_rule, first_refusal, lacks_one};
-pub use shapes::Split;
+pub use shapes::{Split, shape_report};
 pub use extension::{glyph_at, is_single, leader, number_at, ranks_differ, shapes_differ};

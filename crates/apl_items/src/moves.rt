@@ -1,4 +1,4 @@
-ghost use Rattle.std.specs.Prelude.{◌≡◌, ◌+◌, ◌<◌, ℕ, Option, IfOk, length};
+ghost use Rattle.std.specs.Prelude.{◌≡◌, ◌+◌, ◌<◌, ◌≤◌, ℕ, Option, IfOk, length};
 ghost use Rattle.apl_arrays.specs.Array.{item_count, plain_items};
 ghost use Rattle.apl_items.specs.Moves.{IsWithin, item_or, moved_items, moved_list};
 
@@ -8,13 +8,18 @@ use std::alloc::Global;
 
 /// The source places for the places of a result, one after another in row-major order.
 pub trait Walk {
+    // How many places it has left to go over.
+    ghost left: { Self → ℕ };
+
     // The source place for the n-th place from here on, or none where that place is filled.
     ghost source: { Self → ℕ → Option ℕ };
 
     /// The source place for the next place. No memory.
     fn advance(&mut self) -> Option<usize>
+        requires { 0 < left self.old }
         ensures value { result ≡ source self.old 0 }
-        ensures rest { (n : ℕ) → source self.new n ≡ source self.old (n + 1) };
+        ensures rest { (n : ℕ) → source self.new n ≡ source self.old (n + 1) }
+        ensures left { left self.new + 1 ≡ left self.old };
 }
 
 /// So many items, each from the source place that a walk gives, or the fill, 0 or the blank. The kind is chosen once. It
@@ -25,7 +30,8 @@ pub fn moved<W: Walk + Drop>(
     count: usize,
     walk: W,
 ) -> Result<Items, WantOfMemory>
-    requires { IsWithin (W.source walk) count (item_count (plain_items items.now)) }
+    requires left { count ≤ W.left walk }
+    requires within { IsWithin (W.source walk) count (item_count (plain_items items.now)) }
     ensures { IfOk result (λ made. plain_items made ≡ moved_items (plain_items items.now) count (W.source walk)) }
 {
     match items {
@@ -48,7 +54,8 @@ fn moved_list<T: Copy + Drop, W: Walk + Drop>(
     count: usize,
     mut walk: W,
 ) -> Result<List<T>, WantOfMemory>
-    requires { IsWithin (W.source walk) count (length list.now) }
+    requires left { count ≤ W.left walk }
+    requires within { IsWithin (W.source walk) count (length list.now) }
     ensures { IfOk result (λ made. made.items ≡ moved_list fill list.now count (W.source walk)) }
 {
     let mut made = room_for(alloc, count)?;

@@ -1,7 +1,8 @@
-ghost use Rattle.std.specs.Prelude.{◌≡◌, ◌<◌, ◌≤◌, ℕ, List, length, take, drop};
+ghost use Rattle.std.specs.Prelude.{◌≡◌, ◌<◌, length};
 ghost use Rattle.apl_arrays.specs.Array.{FitsLimits, element_count};
+ghost use Rattle.apl_items.specs.Answers.{first_report, shape_faults};
 
-use apl_arrays::ELEMENT_LIMIT;
+use apl_arrays::{Report, ShapeFault, count_of_elements, shape_fault};
 
 /// A shape seen from one of its axes: how many rows stand before it, how long it is, and how many items each of its
 /// places has.
@@ -23,21 +24,20 @@ impl Split {
         ensures { result ≡ split_at shape.now axis }
     {
         Split {
-            outer: element_count(&shape[..axis]),
+            outer: count_of_elements(&shape[..axis]),
             along: shape[axis] as usize,
-            inner: element_count(&shape[axis + 1..]),
+            inner: count_of_elements(&shape[axis + 1..]),
         }
     }
 }
 
-/// The number of elements of a shape within the limits. No memory.
-pub fn element_count(shape: &[u32]) -> usize
-    requires { FitsLimits shape.now }
-    ensures { result ≡ element_count shape.now }
+/// The report of a result of this shape: RANK where it has too many axes, WS FULL where it is too large. No memory.
+pub fn shape_report(shape: &[u32]) -> Option<Report>
+    ensures { result ≡ first_report (shape_faults shape.now) }
 {
-    let mut count = 1;
-    for axis in shape {
-        count = (count * *axis as usize).min(ELEMENT_LIMIT + 1);
+    match shape_fault(shape) {
+        Some(ShapeFault::Rank) => Some(Report::Rank),
+        Some(ShapeFault::Size) => Some(Report::WsFull),
+        None => None,
     }
-    count
 }

@@ -1,7 +1,7 @@
 use crate::{
     Axes, Refusal, Split, Walk, by_place, by_rule, first_refusal, lacks_one, moved, moved_by_axes,
 };
-use apl_arrays::{Array, Fail, Glyph, Items, Line, List, NumberList, Report, WantOfMemory};
+use apl_arrays::{Fail, Glyph, Items, Line, List, NumberList, Report, WantOfMemory};
 use std::alloc::Global;
 use std::process::Abort;
 
@@ -64,25 +64,59 @@ fn number_of_row(place: usize) -> Result<i64, Refusal> {
     }
 }
 
-/// A walk from a place on, to the front and then past it.
+/// A walk over three places: two of the source, from the second on, and one that is filled.
 #[derive(Drop)]
-struct Backward {
-    next: Option<usize>,
+struct Onward {
+    done: usize,
 }
 
-impl Walk for Backward {
-    ghost use Rattle.apl_items.specs.Backward.{place_behind};
+impl Walk for Onward {
+    ghost use Rattle.std.specs.Prelude.{◌+◌, ◌-◌, Some, None, nat_lt, if◌then◌else◌};
 
-    ghost source = { λ w n. place_behind w.next n };
+    ghost left = { λ w. 3 - w.done };
+
+    ghost source = { λ w n. if nat_lt (w.done + n) 2 then Some ((w.done + n) + 1) else None };
 
     fn advance(&mut self) -> Option<usize> {
-        let here = self.next;
-        self.next = match here {
-            Some(place) if place > 0 => Some(place - 1),
-            _ => None,
-        };
-        here
+        let place = self.done;
+        self.done += 1;
+        if place < 2 { Some(place + 1) } else { None }
     }
+}
+
+/// The rows and the columns of a matrix of two rows exchanged: three rows of two.
+struct Exchanged;
+
+impl Axes for Exchanged {
+    ghost use Rattle.std.specs.Prelude.{◌*◌, Some, nat_lt, if◌then◌else◌};
+
+    ghost length_of = { λ _ axis. if nat_lt axis 1 then 3 else 2 };
+
+    ghost offset = { λ _ axis along. Some (if nat_lt axis 1 then along else 3 * along) };
+
+    fn offset(&self, axis: usize, along: usize) -> Option<usize> {
+        Some(if axis == 0 { along } else { 3 * along })
+    }
+}
+
+/// Items that move by a walk and by axes, with a fill of either kind.
+fn moves(rt: &impl Abort, alloc: Global) -> Result<(), WantOfMemory> {
+    let three = Items::Numbers(numbers(alloc, &[7, 8, 9])?);
+    assert!(rt; moved(alloc, &three, 3, Onward { done: 0 })? == Items::Numbers(numbers(alloc, &[8, 9, 0])?));
+    let word = Items::Chars(letters(rt, alloc, b"ABC")?);
+    assert!(rt; moved(alloc, &word, 3, Onward { done: 0 })? == Items::Chars(letters(rt, alloc, b"BC ")?));
+    let matrix = Items::Numbers(numbers(alloc, &[1, 2, 3, 4, 5, 6])?);
+    assert!(rt; moved_by_axes(alloc, &matrix, &[3, 2], &Exchanged)? == Items::Numbers(numbers(alloc, &[1, 4, 2, 5, 3, 6])?));
+    Ok(())
+}
+
+/// The line of codes.
+fn letters(rt: &impl Abort, alloc: Global, codes: &[u8]) -> Result<Line, WantOfMemory> {
+    let mut line = List::new(alloc);
+    for code in codes {
+        line.push(Glyph::of_code(*code).expect(rt, "a glyph"))?;
+    }
+    Ok(line)
 }
 
 /// The numbers of a list.

@@ -1,9 +1,9 @@
 -- The floor of a quotient is the greatest number below it, and the residue is what is left.
-use Rattle.std.proofs.Common.{◌≡◌, ℕ, zero, suc, ◌+◌, ◌*◌, ◌/◌, ◌%◌, ◌<◌, ◌≤◌, ℤ, pos, negsuc, ◌+ℤ◌, ◌*ℤ◌, neg_ℤ, ◌≤ℤ◌, ◌<ℤ◌, arith, refl}
+use Rattle.std.proofs.Common.{◌≡◌, ℕ, zero, suc, ◌*◌, ◌/◌, ◌<◌, ◌≤◌, ℤ, pos, negsuc, ◌+ℤ◌, ◌*ℤ◌, neg_ℤ, ◌≤ℤ◌, ◌<ℤ◌, arith, refl}
 use Rattle.std.proofs.Math.Nat.{mod-lt, le-div_iff_mul-le, div-lt_iff_lt-mul}
 use Rattle.std.proofs.lemmas.Int.{ints}
 use Rattle.apl_scalar.specs.Counting.{floor_by, floor_quotient, residue}
-use Rattle.apl_scalar.proofs.Residues.{residue_pos_pos, residue_pos_neg, residue_neg_pos, residue_neg_neg, next_mod}
+use Rattle.apl_scalar.proofs.Residues.{residue_pos_pos, residue_pos_neg, residue_neg_pos, residue_neg_neg}
 
 floor_by_below : (b : ℤ) (d : ℕ) → (floor_by b (suc d) *ℤ pos (suc d)) ≤ℤ b
 floor_by_below (pos n) d = omega (arith, ints)

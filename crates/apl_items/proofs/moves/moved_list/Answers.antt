@@ -10,5 +10,6 @@ loop-place-preserved g c =
       whole = omega arith;
       room = omega arith;
       items = c.push_reserved.ensures.items ∙ moved_list_more c.args.fill c.args.list.now source c.loop-place._place _ _ _ walk.items (c.advance-source.ensures.value ∙ walk.ahead 0) c.item_at_source.ensures;
+      left = omega (arith, walk.left, c.advance-source.ensures.left);
       ahead = λ n. let e : c.loop-place._place + (n + 1) ≡ (c.loop-place._place + 1) + n = omega arith in c.advance-source.ensures.rest n ∙ walk.ahead (n + 1) ∙ ap source e;
     }

@@ -8,5 +8,6 @@ invariant-loop-place g l = record {
   whole : vec_len l.made ≡ l._place;
   room : vec_capacity l.made ≡ l.count;
   items : l.made.items ≡ moved_list l.fill l.list l._place (g.W.Walk.source l.fn.walk);
+  left : g.W.Walk.left l.walk + l._place ≡ g.W.Walk.left l.fn.walk;
   ahead : (n : ℕ) → g.W.Walk.source l.walk n ≡ g.W.Walk.source l.fn.walk (l._place + n);
 }

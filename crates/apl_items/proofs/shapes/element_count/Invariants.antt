@@ -1,7 +1,0 @@
-use Rattle.std.proofs.Common.{◌≡◌, min, take}
-use Rattle.apl_arrays.specs.Array.{element_count}
-use Rattle.apl_items.proofs.shapes.element_count.Given as goal
-
--- the count so far, capped
-abbrev pub invariant-loop-axis : goal.invariant-loop-axis
-invariant-loop-axis l = l.count ≡ min (element_count (take l.axis-index l.shape)) 16385
