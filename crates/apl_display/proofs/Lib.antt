@@ -1,3 +1,4 @@
+pub mod AnswerLemmas
 pub mod ExtentLemmas
 pub mod FormatLemmas
 pub mod GroupLemmas

@@ -1,7 +1,8 @@
 ghost use Rattle.std.specs.Prelude.{◌≡◌, ◌+◌, ◌-◌, ◌*◌, ◌^◌, ◌<◌, ◌≤◌, ◌++◌, ◌∷◌, [], ℕ, min, IfOk, IfErr, OnOk, length, map, sum};
 ghost use Rattle.std.specs.List.{concat, range_with_len};
-ghost use Rattle.apl_arrays.specs.Array.{numbers, chars, element_count, item_count, FitsLimits};
-ghost use Rattle.apl_display.specs.Format.{number_format, formatted, IsReasonToRefuse};
+ghost use Rattle.apl_arrays.specs.Array.{numbers, chars, element_count, item_count, FitsLimits, IsArray};
+ghost use Rattle.apl_display.specs.Format.{format_of, formatted, number_format, IsReasonToRefuse};
+ghost use Rattle.apl_items.specs.Answers.{Answers};
 ghost use Rattle.apl_display.specs.Joined.{with_blanks};
 ghost use Rattle.apl_display.specs.Matrices.{aligned, row_of};
 ghost use Rattle.apl_display.specs.Number.{number_text};
@@ -132,17 +133,25 @@ fn format_numbers(alloc: Global, b: &Array, list: &[i64]) -> Result<Array, Fail>
     table_format(alloc, b, list)
 }
 
-/// An array as characters: one of characters unchanged, a number scalar or vector as the vector of its display line,
-/// and any other array of numbers in its shape with the width of its display lines, which is 0 without elements, as
-/// the last axis. `WsFull` where the result would pass the limits of an array. It takes memory for the result and for
-/// a number a column. This profile.
-pub fn format(alloc: Global, b: &Array) -> Result<Array, Fail>
+// An array as characters, or a true reason to make none.
+fn as_characters(alloc: Global, b: &Array) -> Result<Array, Fail>
     ensures value { IfOk result (λ array. array ≡ formatted b.now) }
     ensures fits { OnOk result (FitsLimits (formatted b.now).shape) }
     ensures refused { IfErr result (IsReasonToRefuse (formatted b.now).shape) }
+    ensures array { IsArray b.now }
 {
     match b.items() {
         Items::Chars(_) => Ok(b.copy(alloc)?),
         Items::Numbers(list) => format_numbers(alloc, b, list.as_slice()),
     }
+}
+
+/// An array as characters: one of characters unchanged, a number scalar or vector as the vector of its display line,
+/// and any other array of numbers in its shape with the width of its display lines, which is 0 without elements, as
+/// the last axis. WS FULL exactly where the result would pass the limits of an array. It takes memory for the result
+/// and for a number a column.
+pub fn format(alloc: Global, b: &Array) -> Result<Array, Fail>
+    ensures { Answers result (format_of b.now) }
+{
+    as_characters(alloc, b)
 }

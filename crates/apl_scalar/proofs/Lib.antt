@@ -1,7 +1,7 @@
 mod Examples
 mod Factorials
-pub mod Places
 mod Powers
+pub mod Quotients
 mod Reports
 mod Residues
 mod Ways

@@ -3,7 +3,8 @@ use Rattle.std.proofs.Common.{◌≡◌, Bool, true, false, ◌||◌, Some, Err,
 use Rattle.apl_arrays.specs.declared.report.Report.{Report}
 use Rattle.apl_arrays.specs.declared.verb.Dyad.{Dyad}
 use Rattle.apl_arrays.specs.Array.{PlainArray}
-use Rattle.apl_scalar.specs.ByItems.{no_faults, first_report, answer_of, ranks_differ, shapes_differ}
+use Rattle.apl_items.specs.Answers.{no_faults, first_report, answer_of}
+use Rattle.apl_items.specs.Extension.{ranks_differ, shapes_differ}
 use Rattle.apl_scalar.specs.Scalar.{dyadic_of, is_unfit}
 
 reported : (rank shape unfit lacks : Bool) (array : PlainArray) (report : Report)

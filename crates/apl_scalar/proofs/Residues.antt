@@ -7,7 +7,7 @@ use Rattle.std.specs.Int.RustNames.{int_rem}
 use Rattle.apl_scalar.specs.Counting.{residue}
 
 -- the remainder of one more
-next_mod : (n m : ℕ) → 0 < m → (suc n % m ≡ suc (n % m)) ⊎ ((suc (n % m) ≡ m) × (suc n % m ≡ 0))
+pub next_mod : (n m : ℕ) → 0 < m → (suc n % m ≡ suc (n % m)) ⊎ ((suc (n % m) ≡ m) × (suc n % m ≡ 0))
 next_mod n m h =
     let below : n % m < m = mod-lt n h in
     ⊎_elim (λ (fits : suc (n % m) < m). inl (suc-mod n m ∙ mod-eq_of_lt fits))
@@ -20,10 +20,10 @@ residue_pos_pos d n = omega (arith, ints)
 pub residue_pos_neg : (d n : ℕ) → residue (pos (suc d)) (negsuc n) +ℤ pos (suc (n % suc d)) ≡ pos (suc d)
 residue_pos_neg d n = omega (arith, ints)
 
-residue_neg_pos : (d n : ℕ) → residue (negsuc d) (pos (suc n)) +ℤ pos (suc d) ≡ pos (suc (n % suc d))
+pub residue_neg_pos : (d n : ℕ) → residue (negsuc d) (pos (suc n)) +ℤ pos (suc d) ≡ pos (suc (n % suc d))
 residue_neg_pos d n = omega (arith, ints)
 
-residue_neg_neg : (d n : ℕ) → residue (negsuc d) (negsuc n) ≡ neg_ℤ (pos (suc n % suc d))
+pub residue_neg_neg : (d n : ℕ) → residue (negsuc d) (negsuc n) ≡ neg_ℤ (pos (suc n % suc d))
 residue_neg_neg d n = omega (arith, ints)
 
 -- the remainder is turned into the divisor's sign

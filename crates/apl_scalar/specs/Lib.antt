@@ -1,4 +1,3 @@
-pub mod ByItems
 pub mod Counting
 pub mod Scalar
 pub mod Table

@@ -2,7 +2,9 @@ use Rattle.std.specs.Prelude.{◌&&◌, ◌||◌, ℕ, ℤ, Bool, List, Option, 
 use Rattle.apl_arrays.specs.declared.verb.Monad.{Monad}
 use Rattle.apl_arrays.specs.declared.verb.Dyad.{Dyad}
 use Rattle.apl_arrays.specs.Array.{PlainArray, PlainItems, is_chars, numbers_in, element_count}
-use Rattle.apl_scalar.specs.ByItems.{Answer, no_faults, answer_of, lacks_item, numbers_by, number_at, item_at, ranks_differ, shapes_differ, leader}
+use Rattle.apl_items.specs.Answers.{Answer, no_faults, answer_of}
+use Rattle.apl_items.specs.Extension.{number_at, item_at, ranks_differ, shapes_differ, leader}
+use Rattle.apl_items.specs.Places.{lacks_item, numbers_by}
 use Rattle.apl_scalar.specs.Table.{monadic_item, pair_item, takes_chars}
 
 -- the item of a monadic function at a place of its argument

@@ -4,7 +4,7 @@ ghost use Rattle.apl_scalar.specs.Table.{monadic_item, dyadic_item, item_where};
 
 use apl_arrays::{Dyad, Monad};
 
-/// The power. This profile. No memory.
+/// The power. No memory.
 pub fn power(a: i64, b: i64) -> Option<i64>
     ensures { result ≡ dyadic_item Dyad.Power a b }
 {
@@ -32,7 +32,7 @@ fn high_power(base: i64, exponent: i64) -> Option<i64>
     }
 }
 
-/// The factorial. This profile. No memory.
+/// The factorial. No memory.
 #[tactic(auto, using(crate::proofs::Factorials::factorials))]
 pub fn factorial(b: i64) -> Option<i64>
     ensures { result ≡ monadic_item Monad.Factorial b }
@@ -58,7 +58,7 @@ fn small_factorial(number: u64) -> u64
     product
 }
 
-/// The ways to take so many things. This profile. No memory.
+/// The ways to take so many things. No memory.
 pub fn binomial(a: i64, b: i64) -> Option<i64>
     ensures { result ≡ dyadic_item Dyad.Binomial a b }
 {

@@ -2,8 +2,7 @@
 #![tactic(auto)]
 
 pub mod counting;
-mod extension;
-mod loops;
+pub mod laws;
 mod monad_rules;
 pub mod rules;
 mod scalar;
@@ -11,6 +10,5 @@ mod table;
 #[cfg(test)]
 mod tests;
 
-pub use loops::by_place;
 pub use scalar::{dyadic, monadic};
 pub use table::{identity_of, item_of};

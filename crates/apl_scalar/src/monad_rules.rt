@@ -4,56 +4,56 @@ ghost use Rattle.apl_scalar.specs.Table.{monadic_item};
 use crate::rules::is_truth;
 use apl_arrays::Monad;
 
-/// The number itself, for `+`. This profile. No memory.
+/// The number itself, for `+`. No memory.
 pub fn identity(b: i64) -> Option<i64>
     ensures { result ≡ monadic_item Monad.Identity b }
 {
     Some(b)
 }
 
-/// The ceiling, which is the number itself. This profile. No memory.
+/// The ceiling, which is the number itself. No memory.
 pub fn ceiling(b: i64) -> Option<i64>
     ensures { result ≡ monadic_item Monad.Ceiling b }
 {
     Some(b)
 }
 
-/// The floor, which is the number itself. This profile. No memory.
+/// The floor, which is the number itself. No memory.
 pub fn floor(b: i64) -> Option<i64>
     ensures { result ≡ monadic_item Monad.Floor b }
 {
     Some(b)
 }
 
-/// The negative. This profile. No memory.
+/// The negative. No memory.
 pub fn negative(b: i64) -> Option<i64>
     ensures { result ≡ monadic_item Monad.Negative b }
 {
     b.checked_neg()
 }
 
-/// -1, 0 or 1 by the sign. This profile. No memory.
+/// -1, 0 or 1 by the sign. No memory.
 pub fn sign(b: i64) -> Option<i64>
     ensures { result ≡ monadic_item Monad.Sign b }
 {
     Some(b.signum())
 }
 
-/// The magnitude. This profile. No memory.
+/// The magnitude. No memory.
 pub fn magnitude(b: i64) -> Option<i64>
     ensures { result ≡ monadic_item Monad.Magnitude b }
 {
     b.checked_abs()
 }
 
-/// The reciprocal, of 1 and -1. This profile. No memory.
+/// The reciprocal, of 1 and -1. No memory.
 pub fn reciprocal(b: i64) -> Option<i64>
     ensures { result ≡ monadic_item Monad.Reciprocal b }
 {
     if b == 1 || b == -1 { Some(b) } else { None }
 }
 
-/// 1 for 0, and 0 for 1. This profile. No memory.
+/// 1 for 0, and 0 for 1. No memory.
 pub fn not(b: i64) -> Option<i64>
     ensures { result ≡ monadic_item Monad.Not b }
 {

@@ -4,28 +4,28 @@ ghost use Rattle.apl_scalar.specs.Table.{dyadic_item, item_of_chars, is_truth, t
 
 use apl_arrays::Dyad;
 
-/// The sum. This profile. No memory.
+/// The sum. No memory.
 pub fn plus(a: i64, b: i64) -> Option<i64>
     ensures { result ≡ dyadic_item Dyad.Plus a b }
 {
     a.checked_add(b)
 }
 
-/// The difference. This profile. No memory.
+/// The difference. No memory.
 pub fn minus(a: i64, b: i64) -> Option<i64>
     ensures { result ≡ dyadic_item Dyad.Minus a b }
 {
     a.checked_sub(b)
 }
 
-/// The product. This profile. No memory.
+/// The product. No memory.
 pub fn times(a: i64, b: i64) -> Option<i64>
     ensures { result ≡ dyadic_item Dyad.Times a b }
 {
     a.checked_mul(b)
 }
 
-/// The exact quotient. This profile. No memory.
+/// The exact quotient. No memory.
 pub fn divide(a: i64, b: i64) -> Option<i64>
     ensures { result ≡ dyadic_item Dyad.Divide a b }
 {
@@ -38,21 +38,21 @@ pub fn divide(a: i64, b: i64) -> Option<i64>
     }
 }
 
-/// The greater one. This profile. No memory.
+/// The greater one. No memory.
 pub fn maximum(a: i64, b: i64) -> Option<i64>
     ensures { result ≡ dyadic_item Dyad.Maximum a b }
 {
     Some(a.max(b))
 }
 
-/// The lesser one. This profile. No memory.
+/// The lesser one. No memory.
 pub fn minimum(a: i64, b: i64) -> Option<i64>
     ensures { result ≡ dyadic_item Dyad.Minimum a b }
 {
     Some(a.min(b))
 }
 
-/// The residue of the second by the first. This profile. No memory.
+/// The residue of the second by the first. No memory.
 pub fn residue(a: i64, b: i64) -> Option<i64>
     ensures { result ≡ dyadic_item Dyad.Residue a b }
 {
@@ -79,7 +79,7 @@ fn floor_remainder(number: i64, divisor: i64) -> i64
     }
 }
 
-/// 1 where both are 1. This profile. No memory.
+/// 1 where both are 1. No memory.
 pub fn and(a: i64, b: i64) -> Option<i64>
     ensures { result ≡ dyadic_item Dyad.And a b }
 {
@@ -90,7 +90,7 @@ pub fn and(a: i64, b: i64) -> Option<i64>
     }
 }
 
-/// 1 where one of them is 1. This profile. No memory.
+/// 1 where one of them is 1. No memory.
 pub fn or(a: i64, b: i64) -> Option<i64>
     ensures { result ≡ dyadic_item Dyad.Or a b }
 {
@@ -101,7 +101,7 @@ pub fn or(a: i64, b: i64) -> Option<i64>
     }
 }
 
-/// 0 where both are 1. This profile. No memory.
+/// 0 where both are 1. No memory.
 pub fn nand(a: i64, b: i64) -> Option<i64>
     ensures { result ≡ dyadic_item Dyad.Nand a b }
 {
@@ -112,7 +112,7 @@ pub fn nand(a: i64, b: i64) -> Option<i64>
     }
 }
 
-/// 0 where one of them is 1. This profile. No memory.
+/// 0 where one of them is 1. No memory.
 pub fn nor(a: i64, b: i64) -> Option<i64>
     ensures { result ≡ dyadic_item Dyad.Nor a b }
 {
@@ -123,56 +123,56 @@ pub fn nor(a: i64, b: i64) -> Option<i64>
     }
 }
 
-/// Whether the first is less. This profile. No memory.
+/// Whether the first is less. No memory.
 pub fn less(a: i64, b: i64) -> Option<i64>
     ensures { result ≡ dyadic_item Dyad.Less a b }
 {
     Some(truth(a < b))
 }
 
-/// Whether the first is not greater. This profile. No memory.
+/// Whether the first is not greater. No memory.
 pub fn not_greater(a: i64, b: i64) -> Option<i64>
     ensures { result ≡ dyadic_item Dyad.NotGreater a b }
 {
     Some(truth(a <= b))
 }
 
-/// Whether they are equal. This profile. No memory.
+/// Whether they are equal. No memory.
 pub fn equal(a: i64, b: i64) -> Option<i64>
     ensures { result ≡ dyadic_item Dyad.Equal a b }
 {
     Some(truth(a == b))
 }
 
-/// Whether the first is not less. This profile. No memory.
+/// Whether the first is not less. No memory.
 pub fn not_less(a: i64, b: i64) -> Option<i64>
     ensures { result ≡ dyadic_item Dyad.NotLess a b }
 {
     Some(truth(a >= b))
 }
 
-/// Whether the first is greater. This profile. No memory.
+/// Whether the first is greater. No memory.
 pub fn greater(a: i64, b: i64) -> Option<i64>
     ensures { result ≡ dyadic_item Dyad.Greater a b }
 {
     Some(truth(a > b))
 }
 
-/// Whether they differ. This profile. No memory.
+/// Whether they differ. No memory.
 pub fn not_equal(a: i64, b: i64) -> Option<i64>
     ensures { result ≡ dyadic_item Dyad.NotEqual a b }
 {
     Some(truth(a != b))
 }
 
-/// Whether two characters are the same. This profile. No memory.
+/// Whether two characters are the same. No memory.
 pub fn same(alike: bool) -> Option<i64>
     ensures { result ≡ item_of_chars Dyad.Equal alike }
 {
     Some(truth(alike))
 }
 
-/// Whether two characters differ. This profile. No memory.
+/// Whether two characters differ. No memory.
 pub fn different(alike: bool) -> Option<i64>
     ensures { result ≡ item_of_chars Dyad.NotEqual alike }
 {

@@ -1,18 +1,19 @@
 ghost use Rattle.std.specs.Prelude.{◌≡◌, ◌==◌, length, true, false, not, if◌then◌else◌};
 ghost use Rattle.apl_arrays.specs.Array.{FitsLimits, element_count, is_chars, item_count, numbers, numbers_in, plain_items};
-ghost use Rattle.apl_scalar.specs.ByItems.{Answers, MakesItems, Reaches, answer_of, char_at, first_report, lacks_item, leader, no_faults, numbers_by, ranks_differ, shapes_differ};
+ghost use Rattle.apl_items.specs.Answers.{Answers, answer_of, first_report, no_faults};
+ghost use Rattle.apl_items.specs.Extension.{Reaches, char_at, leader, ranks_differ, shapes_differ};
+ghost use Rattle.apl_items.specs.Places.{MakesItems, lacks_item, numbers_by};
 ghost use Rattle.apl_scalar.specs.Scalar.{dyadic_at, dyadic_of, is_unfit, monadic_at, monadic_of};
 ghost use Rattle.apl_scalar.specs.Table.{item_of_chars, takes_chars};
 
-use crate::extension::{leader, ranks_differ, shapes_differ};
-use crate::loops::{by_place, glyph_pairs};
 use crate::rules;
 use crate::table::{character_of, dyadic_items, monadic_items};
 use apl_arrays::{Array, Dyad, Fail, Glyph, Items, Monad, NumberList, Report};
+use apl_items::{by_place, glyph_pairs, leader, ranks_differ, shapes_differ};
 use std::alloc::Global;
 
 /// A monadic scalar function of an array, item by item. DOMAIN where the argument is of characters, or where an item
-/// has no value of 64 bits. It takes memory for the items. This profile.
+/// has no value of 64 bits. It takes memory for the items.
 pub fn monadic(alloc: Global, f: Monad, b: &Array) -> Result<Array, Fail>
     ensures { Answers result (monadic_of f b.now) }
 {
@@ -24,7 +25,7 @@ pub fn monadic(alloc: Global, f: Monad, b: &Array) -> Result<Array, Fail>
 }
 
 /// A monadic function of an array of numbers.
-#[tactic(auto, using(crate::proofs::Places::by_places))]
+#[tactic(auto, using(apl_items::proofs::PlaceLemmas::by_places))]
 fn each_number(alloc: Global, f: Monad, b: &Array) -> Result<Array, Fail>
     requires { is_chars b.now.items ≡ false }
     ensures { Answers result (monadic_of f b.now) }
@@ -47,7 +48,7 @@ fn own_items(alloc: Global, f: Monad, count: usize, b: &Items) -> Result<NumberL
 
 /// A dyadic scalar function of two arrays, item by item, where an array with one element extends to the shape of the
 /// other. RANK where the ranks differ, else LENGTH where the shapes do, else DOMAIN where an argument is of characters,
-/// but for `=` and `≠`, or where a pair of items has no value of 64 bits. It takes memory for the items. This profile.
+/// but for `=` and `≠`, or where a pair of items has no value of 64 bits. It takes memory for the items.
 pub fn dyadic(alloc: Global, f: Dyad, a: &Array, b: &Array) -> Result<Array, Fail>
     ensures { Answers result (dyadic_of f a.now b.now) }
 {
@@ -73,7 +74,7 @@ fn misfit(f: Dyad, a: &Array, b: &Array) -> Option<Report>
 }
 
 /// A dyadic function of two arrays whose shapes and kinds fit.
-#[tactic(auto, using(crate::proofs::Places::by_places))]
+#[tactic(auto, using(apl_items::proofs::PlaceLemmas::by_places))]
 fn item_by_item(alloc: Global, f: Dyad, a: &Array, b: &Array) -> Result<Array, Fail>
     requires rank { ranks_differ a.now b.now ≡ false }
     requires shape { shapes_differ a.now b.now ≡ false }

@@ -1,10 +1,11 @@
 ghost use Rattle.std.specs.Prelude.{◌≡◌, length};
-ghost use Rattle.apl_scalar.specs.ByItems.{Reaches, MakesItems, number_at};
+ghost use Rattle.apl_items.specs.Extension.{Reaches, number_at};
+ghost use Rattle.apl_items.specs.Places.{MakesItems};
 ghost use Rattle.apl_scalar.specs.Table.{monadic_item, dyadic_item, pair_item, item_of_chars, row_of};
 
-use crate::loops::{each, pairs};
 use crate::{counting, monad_rules, rules};
 use apl_arrays::{Dyad, Fail, Item, Monad, NumberList};
+use apl_items::{each, pairs};
 use std::alloc::Global;
 
 /// The table of the dyadic functions: for each its rule, a function of two numbers, and its identity where it has one.
@@ -101,21 +102,21 @@ pub fn dyadic_items(
     dyadic_table!(f, loop_of_pairs(alloc, count, a, b))
 }
 
-/// The item of a dyadic function at two numbers, or `None`, which is DOMAIN. This profile. No memory.
+/// The item of a dyadic function at two numbers, or `None`, which is DOMAIN. No memory.
 pub fn number_of(f: Dyad, a: i64, b: i64) -> Option<i64>
     ensures { result ≡ dyadic_item f a b }
 {
     dyadic_table!(f, call_of(a, b))
 }
 
-/// The identity of a dyadic function, if it has one. This profile. No memory.
+/// The identity of a dyadic function, if it has one. No memory.
 pub fn identity_of(f: Dyad) -> Option<i64>
     ensures { result ≡ (row_of f).identity }
 {
     dyadic_table!(f, identity_of())
 }
 
-/// The item at two characters that are the same or not, or `None`, which is DOMAIN. This profile. No memory.
+/// The item at two characters that are the same or not, or `None`, which is DOMAIN. No memory.
 pub fn character_of(f: Dyad, alike: bool) -> Option<i64>
     ensures { result ≡ item_of_chars f alike }
 {
@@ -126,7 +127,7 @@ pub fn character_of(f: Dyad, alike: bool) -> Option<i64>
     }
 }
 
-/// The item of a dyadic function at two items, or `None`, which is DOMAIN. This profile. No memory.
+/// The item of a dyadic function at two items, or `None`, which is DOMAIN. No memory.
 pub fn item_of(f: Dyad, a: &Item, b: &Item) -> Option<i64>
     ensures { result ≡ pair_item f a.now b.now }
 {

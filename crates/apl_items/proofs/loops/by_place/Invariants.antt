@@ -1,5 +1,5 @@
 use Rattle.std.proofs.Common.{◌≡◌, ◌<◌, ℕ, vec_len, vec_capacity, slice_get}
-use Rattle.apl_scalar.proofs.loops.by_place.Given as goal
+use Rattle.apl_items.proofs.loops.by_place.Given as goal
 
 -- so many items, with room for all, and each as the rule gave it
 abbrev pub invariant-loop-place : goal.invariant-loop-place

@@ -1,7 +1,7 @@
 -- What is made place by place is what the definition says.
 use Rattle.std.proofs.Common.{◌≡◌, ℕ, zero, suc, ◌+◌, ◌<◌, Bool, true, false, ◌||◌, is_none, List, [], ◌∷◌, length, Option, Some, None, slice_get, refl, ap, sym, ◌∙◌, arith}
 use Rattle.std.specs.List.{filter_map, list_any, range_with_len}
-use Rattle.apl_scalar.specs.ByItems.{IsByPlace, LacksItem, items_by, lacks_item}
+use Rattle.apl_items.specs.Places.{IsByPlace, LacksItem, items_by, lacks_item}
 
 or_true : (b : Bool) → (b || true) ≡ true
 or_true true = refl

@@ -1,5 +1,5 @@
 ghost use Rattle.std.specs.Prelude.{◌≡◌, ◌<◌, length};
-ghost use Rattle.apl_scalar.specs.ByItems.{is_single, ranks_differ, shapes_differ, leader, place_in, number_at, char_at};
+ghost use Rattle.apl_items.specs.Extension.{is_single, ranks_differ, shapes_differ, leader, place_in, number_at, char_at};
 
 use apl_arrays::{Array, Glyph};
 

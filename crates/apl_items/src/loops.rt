@@ -1,11 +1,12 @@
 ghost use Rattle.std.specs.Prelude.{◌≡◌, ◌<◌, ◌==◌, ℕ, length, slice_get, IfOk, vec_len, vec_capacity};
-ghost use Rattle.apl_scalar.specs.ByItems.{Reaches, place_in, number_at, char_at, OnDomain};
+ghost use Rattle.apl_items.specs.Extension.{Reaches, place_in, number_at, char_at};
+ghost use Rattle.apl_items.specs.Places.{OnDomain};
 
 use crate::extension::{glyph_at, number_at};
 use apl_arrays::{Fail, Glyph, List, NumberList, Report, WantOfMemory};
 use std::alloc::Global;
 
-/// The items that a rule gives at each place, or DOMAIN where it gives none. This profile. It asks once for memory.
+/// The items that a rule gives at each place, or DOMAIN where it gives none. It asks once for memory.
 pub fn by_place<T: Drop, F: Fn(usize) -> Option<T>>(
     alloc: Global,
     count: usize,
@@ -105,7 +106,7 @@ pub fn glyph_pairs<F: Fn(bool) -> Option<i64>>(
 }
 
 /// An empty list with room for so many items.
-fn room_for<T>(alloc: Global, count: usize) -> Result<Vec<T>, WantOfMemory>
+pub fn room_for<T>(alloc: Global, count: usize) -> Result<Vec<T>, WantOfMemory>
     ensures len { IfOk result (λ items. vec_len items ≡ 0) }
     ensures room { IfOk result (λ items. vec_capacity items ≡ count) }
 {

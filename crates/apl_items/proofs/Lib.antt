@@ -1,0 +1,5 @@
+mod AxisLemmas
+pub mod MoveLemmas
+pub mod PlaceLemmas
+pub mod RefusalLemmas
+pub mod ShapeLemmas

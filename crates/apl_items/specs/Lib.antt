@@ -1,0 +1,7 @@
+pub mod Answers
+pub mod Axes
+pub mod Extension
+pub mod Moves
+pub mod Places
+pub mod Refusals
+pub mod Shapes

@@ -1,0 +1,20 @@
+//! Functions by items: of several faults the first report, the item for each place, extension of an array with one item,
+//! and items that move to other places.
+#![tactic(auto)]
+
+mod axes;
+mod extension;
+pub mod laws;
+mod loops;
+mod moves;
+mod refusals;
+mod shapes;
+#[cfg(test)]
+mod tests;
+
+pub use axes::{Axes, moved_by_axes};
+pub use loops::{by_place, each, glyph_pairs, pairs};
+pub use moves::{Walk, moved};
+pub use refusals::{Refusal, by_rule, first_refusal, lacks_one};
+pub use shapes::{Split, shape_report};
+pub use extension::{glyph_at, is_single, leader, number_at, ranks_differ, shapes_differ};
