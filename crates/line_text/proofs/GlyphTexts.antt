@@ -4,9 +4,9 @@ use Rattle.std.proofs.lemmas.Bool.Decides.{nat_tests}
 use Rattle.std.proofs.lemmas.List.Elements.{All-nil, All-cons, All-append, recursion_from_All}
 use Rattle.std.specs.Fmt.{decimal}
 use Rattle.std.specs.List.{All, list_all, flat_map, AllByRecursion}
-use Rattle.apl_arrays.specs.Glyph.{IsGlyph}
+use Rattle.apl_arrays.specs.Glyph.{IsGlyph, bar, blank, overbar}
 use Rattle.line_text.specs.Lines.{heading, content, user_lines, end_line}
-use Rattle.line_text.specs.Number.{overbar, number_text}
+use Rattle.line_text.specs.Number.{number_text}
 use Rattle.line_text.specs.Spaced.{is_plain, spaced}
 use Rattle.line_text.proofs.Decimals.{digits_are_plain}
 use Rattle.line_text.proofs.SameNumbers.{Fits64}
@@ -46,14 +46,14 @@ number_glyphs (pos n) fits = count_glyphs n (omega arith)
 number_glyphs (negsuc n) fits =
     with_first overbar (decimal (suc n)) (omega arith, omega arith, λ same. omega arith) (count_glyphs (suc n) (omega arith))
 
-blank_glyph : IsGlyph 32
+blank_glyph : IsGlyph blank
 blank_glyph = (omega arith, omega arith, λ same. omega arith)
 
 pub spaced_glyphs : (texts : List (List ℕ)) → AllByRecursion Glyphs texts → Glyphs (spaced texts)
 spaced_glyphs [] a = none
 spaced_glyphs (x ∷ []) a = a.0
 spaced_glyphs (x ∷ y ∷ texts) a =
-    joined x (32 ∷ spaced (y ∷ texts)) a.0 (with_first 32 (spaced (y ∷ texts)) blank_glyph (spaced_glyphs (y ∷ texts) a.1))
+    joined x (32 ∷ spaced (y ∷ texts)) a.0 (with_first blank (spaced (y ∷ texts)) blank_glyph (spaced_glyphs (y ∷ texts) a.1))
 
 pub each_text : {A : Type 0} (f : A → List ℕ) (ok : A → Type 0) → ((x : A) → ok x → Glyphs (f x)) → (xs : List A) → AllByRecursion ok xs → AllByRecursion Glyphs (map f xs)
 each_text f ok known [] a = tt
@@ -69,7 +69,7 @@ abbrev pub AreGlyphs : List (List ℕ) → Type 0
 AreGlyphs lines = All Glyphs lines
 
 pub content_glyphs : (line : List ℕ) → Glyphs line → Glyphs (content line)
-content_glyphs line a = with_first 124 line (omega arith, omega arith, λ same. omega arith) a
+content_glyphs line a = with_first bar line (omega arith, omega arith, λ same. omega arith) a
 
 contents_glyphs : (lines : List (List ℕ)) → AllByRecursion Glyphs lines → AreGlyphs (map content lines)
 contents_glyphs [] a = All-nil Glyphs

@@ -4,8 +4,8 @@ use Rattle.std.proofs.lemmas.Bool.{false≢true}
 use Rattle.std.proofs.lemmas.Fmt.{decimal_injective, decimal_nonempty}
 use Rattle.std.specs.Fmt.{decimal}
 use Rattle.std.specs.List.{list_all, flat_map, AllByRecursion}
-use Rattle.apl_arrays.specs.Glyph.{is_digit}
-use Rattle.line_text.specs.Number.{overbar, number_text}
+use Rattle.apl_arrays.specs.Glyph.{is_digit, overbar}
+use Rattle.line_text.specs.Number.{number_text}
 use Rattle.line_text.specs.Spaced.{spaced}
 use Rattle.line_text.proofs.Decimals.{digits_are_digits}
 use Rattle.line_text.proofs.Spaced.{spaced_is}

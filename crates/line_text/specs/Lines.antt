@@ -1,12 +1,8 @@
 -- Lines as they are read and written.
 use Rattle.std.specs.Prelude.{ℕ, List, [], ◌∷◌, ◌++◌, map, codes, decimal}
 use Rattle.std.specs.List.{flat_map}
-use Rattle.apl_arrays.specs.Glyph.{line_utf8}
+use Rattle.apl_arrays.specs.Glyph.{bar, line_utf8}
 use Rattle.line_text.specs.Spaced.{spaced}
-
--- the glyph |
-abbrev pub bar : ℕ
-bar = 124
 
 -- the byte that ends each line
 abbrev pub line_feed : ℕ

@@ -1,8 +1,5 @@
 use Rattle.std.specs.Prelude.{ℕ, ℤ, pos, negsuc, unsigned_abs, List, [], ◌∷◌, ◌++◌, decimal, length}
-
--- the glyph ¯
-abbrev pub overbar : ℕ
-overbar = 152
+use Rattle.apl_arrays.specs.Glyph.{overbar}
 
 -- the sign of a number: ¯ where it is negative
 abbrev pub sign_of : ℤ → List ℕ

@@ -1,10 +1,6 @@
 use Rattle.std.specs.Prelude.{ℕ, Bool, List}
 use Rattle.std.specs.List.{join_with_byte}
-use Rattle.apl_arrays.specs.Glyph.{is_between}
-
--- the glyph blank
-abbrev pub blank : ℕ
-blank = 32
+use Rattle.apl_arrays.specs.Glyph.{blank, is_between}
 
 -- a printable glyph of ASCII
 abbrev pub is_plain : ℕ → Bool

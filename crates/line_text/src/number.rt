@@ -6,9 +6,6 @@ use crate::text::add_text;
 use apl_arrays::{Glyph, Line, WantOfMemory};
 use itoa::Buffer;
 
-/// The sign of a negative number.
-const OVERBAR: u8 = 0x98;
-
 /// How many decimal digits a number has. No memory.
 #[tactic(auto, using(crate::proofs::Decimals::digit_limit_wide))]
 pub fn digit_count(number: u64) -> usize
@@ -48,7 +45,7 @@ fn add_sign(line: &mut Line, number: i64) -> Result<(), WantOfMemory>
     ensures room { length (sign_of number) ≤ line.old.room → line.new.room + length (sign_of number) ≡ line.old.room }
 {
     if number < 0 {
-        line.push(Glyph::with_code(OVERBAR))?;
+        line.push(Glyph::OVERBAR)?;
     }
     Ok(())
 }

@@ -1,8 +1,9 @@
 ghost use Rattle.std.specs.Prelude.{◌≡◌, ◌+◌, ◌≤◌, All, FitsSigned, ◌∷◌, [], ◌++◌, IsTrue, IsOk, OnOk, map, length, decimal, replicate};
 ghost use Rattle.std.specs.Int.{w64};
 ghost use Rattle.std.specs.List.{list_all};
+ghost use Rattle.apl_arrays.specs.Glyph.{blank};
 ghost use Rattle.line_text.specs.Number.{number_text};
-ghost use Rattle.line_text.specs.Spaced.{blank, is_plain, spaced};
+ghost use Rattle.line_text.specs.Spaced.{is_plain, spaced};
 
 use crate::number::{add_count, add_number};
 use apl_arrays::{Glyph, Line, WantOfMemory};

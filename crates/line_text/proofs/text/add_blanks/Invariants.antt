@@ -1,5 +1,5 @@
 use Rattle.std.proofs.Common.{◌≡◌, ◌++◌, replicate}
-use Rattle.line_text.specs.Spaced.{blank}
+use Rattle.apl_arrays.specs.Glyph.{blank}
 use Rattle.line_text.proofs.text.add_blanks.Given as goal
 
 abbrev pub invariant-loop : goal.invariant-loop
