@@ -1,0 +1,148 @@
+-- Worked outputs: transcripts and entries, and what is written of them.
+use Rattle.std.specs.Prelude.{ℕ, ℤ, pos, negsuc, List, [], ◌∷◌, ◌++◌, codes, Some, None}
+use Rattle.std.specs.List.{flat_map}
+use Rattle.apl_arrays.specs.Array.{PlainArray, numbers, chars, scalar}
+use Rattle.apl_arrays.specs.Glyph.{bar, blank, delta, left_arrow, quad, quote, rho}
+use Rattle.line_text.specs.Lines.{line_feed}
+use Rattle.sv_events.specs.Answer.{PlainAnswer, degree, granted, value, no_value, not_shared, offer_limit, full, done}
+use Rattle.sv_events.specs.Entry.{PlainEntry}
+use Rattle.sv_events.specs.declared.event.Act.{Act}
+use Rattle.sv_events.specs.declared.event.Act.TheVariants.{Offer, Set, Use, Leave}
+use Rattle.sv_events.specs.declared.entry.Pair.{Pair}
+use Rattle.sv_journal.specs.Output.{PlainTranscript}
+
+-- an entry that couples nothing
+abbrev pub plain : ℕ → Act → PlainAnswer → PlainEntry
+plain party act answer = record { party = party; act = act; answer = answer; made = [] }
+
+-- two users share X: one hands in 3 and sets 4, the other uses it
+abbrev pub plain_path_entries : List PlainEntry
+plain_path_entries =
+    plain 1001 (Offer 1002 (codes "X") (codes "X") (Some (scalar (pos 3)))) (degree 1)
+    ∷ record { party = 1002; act = Offer 1001 (codes "X") (codes "X") None; answer = degree 2; made = record { a = 1; b = 2 } ∷ [] }
+    ∷ plain 1001 (Set (codes "X") (scalar (pos 4))) granted
+    ∷ plain 1002 (Use (codes "X")) (value (scalar (pos 4)))
+    ∷ plain 1001 Leave done
+    ∷ plain 1002 Leave done
+    ∷ []
+
+-- the line X←n, where the arrow is one glyph
+abbrev pub assignment : List ℕ → List ℕ → List ℕ
+assignment arrow n = codes "      X" ++ (arrow ++ n)
+
+-- the line that offers X to a party, where the quad is one glyph
+abbrev pub offer_line : List ℕ → List ℕ → List ℕ
+offer_line quad party = codes "      " ++ (party ++ (32 ∷ (quad ++ codes "SVO 'X'")))
+
+-- what the two users saw, in codes of glyphs
+abbrev pub plain_path_transcripts : List PlainTranscript
+plain_path_transcripts =
+    record { user = 1001; lines = assignment (left_arrow ∷ []) (codes "3") ∷ offer_line (quad ∷ []) (codes "1002") ∷ codes "1" ∷ assignment (left_arrow ∷ []) (codes "4") ∷ [] }
+    ∷ record { user = 1002; lines = offer_line (quad ∷ []) (codes "1001") ∷ codes "2" ∷ codes "      X" ∷ codes "4" ∷ [] }
+    ∷ []
+
+-- the arrow and the quad in UTF-8
+abbrev pub arrow_utf8 : List ℕ
+arrow_utf8 = 226 ∷ 134 ∷ 144 ∷ []
+
+abbrev pub quad_utf8 : List ℕ
+quad_utf8 = 226 ∷ 142 ∷ 149 ∷ []
+
+-- the bytes that are written, line by line
+abbrev pub plain_path_output : List ℕ
+plain_path_output =
+    flat_map (λ line. line ++ line_feed ∷ [])
+    (codes "user 1001"
+    ∷ (bar ∷ assignment arrow_utf8 (codes "3"))
+    ∷ (bar ∷ offer_line quad_utf8 (codes "1002"))
+    ∷ codes "|1"
+    ∷ (bar ∷ assignment arrow_utf8 (codes "4"))
+    ∷ codes "user 1002"
+    ∷ (bar ∷ offer_line quad_utf8 (codes "1001"))
+    ∷ codes "|2"
+    ∷ codes "|      X"
+    ∷ codes "|4"
+    ∷ codes "journal"
+    ∷ codes "1 1001 offer 1002 X X N()3 : degree 1"
+    ∷ codes "2 1002 offer 1001 X X none : degree 2 + 1 2"
+    ∷ codes "3 1001 set X N()4 : granted"
+    ∷ codes "4 1002 use X : value N()4"
+    ∷ codes "5 1001 leave : done"
+    ∷ codes "6 1002 leave : done"
+    ∷ codes "end"
+    ∷ [])
+
+-- numbers in a shape, and characters
+abbrev pub number_array : List ℕ → List ℤ → PlainArray
+number_array shape list = record { shape = shape; items = numbers list }
+
+abbrev pub char_array : List ℕ → List ℕ → PlainArray
+char_array shape text = record { shape = shape; items = chars text }
+
+-- an entry that makes pairs
+abbrev pub making : ℕ → Act → PlainAnswer → List Pair → PlainEntry
+making party act answer made = record { party = party; act = act; answer = answer; made = made }
+
+-- entries of every kind of act, answer and value, few of which a journal could have
+abbrev pub every_kind_entries : List PlainEntry
+every_kind_entries =
+    plain 1001 (Offer 0 (codes "A") (delta ∷ codes "b_9") None) (degree 1)
+    ∷ making 10 (Offer 1002 (codes "X") (codes "Y") (Some (number_array (2 ∷ 2 ∷ []) (pos 1 ∷ pos 2 ∷ pos 3 ∷ negsuc 3 ∷ [])))) (degree 2) (record { a = 1; b = 2 } ∷ [])
+    ∷ plain 1999 (Offer 20 (codes "aaaaaaaaaaaaaaaaaaaaaaaaaaaaaaa9") (codes "Z") (Some (char_array (5 ∷ []) (codes "HELLO")))) offer_limit
+    ∷ plain 1001 (Set (codes "A") (number_array (0 ∷ []) [])) granted
+    ∷ plain 1001 (Set (codes "A") (char_array (0 ∷ []) [])) not_shared
+    ∷ plain 1002 (Set (codes "Y") (char_array (4 ∷ []) (codes "IT'S"))) granted
+    ∷ plain 1002 (Set (codes "Y") (char_array [] (codes "'"))) granted
+    ∷ plain 1002 (Set (codes "Y") (char_array (2 ∷ 0 ∷ []) [])) granted
+    ∷ plain 1002 (Set (codes "Y") (number_array (1 ∷ 1 ∷ 1 ∷ 1 ∷ 1 ∷ 1 ∷ 1 ∷ 1 ∷ []) (pos 0 ∷ []))) granted
+    ∷ plain 1001 (Use (codes "A")) (value (number_array [] (negsuc 9223372036854775807 ∷ [])))
+    ∷ plain 1001 (Use (codes "A")) (value (number_array (1 ∷ []) (pos 9223372036854775807 ∷ [])))
+    ∷ plain 1001 (Use (codes "A")) (value (char_array (2 ∷ 2 ∷ []) (blank ∷ rho ∷ left_arrow ∷ quote ∷ [])))
+    ∷ plain 1001 (Use (codes "A")) no_value
+    ∷ plain 1002 (Use (codes "B")) not_shared
+    ∷ making 4294967295 Leave done (record { a = 1; b = 3 } ∷ record { a = 10; b = 18446744073709551615 } ∷ [])
+    ∷ plain 0 Leave full
+    ∷ []
+
+-- users who saw next to nothing
+abbrev pub every_kind_transcripts : List PlainTranscript
+every_kind_transcripts =
+    record { user = 1001; lines = [] } ∷ record { user = 1002; lines = [] ∷ [] } ∷ record { user = 1999; lines = [] } ∷ []
+
+-- the signs that are no ASCII, in UTF-8
+abbrev pub overbar_utf8 : List ℕ
+overbar_utf8 = 194 ∷ 175 ∷ []
+
+abbrev pub delta_utf8 : List ℕ
+delta_utf8 = 226 ∷ 136 ∷ 134 ∷ []
+
+abbrev pub rho_utf8 : List ℕ
+rho_utf8 = 226 ∷ 141 ∷ 180 ∷ []
+
+-- the bytes that are written, line by line
+abbrev pub every_kind_output : List ℕ
+every_kind_output =
+    flat_map (λ line. line ++ line_feed ∷ [])
+    (codes "user 1001"
+    ∷ codes "user 1002"
+    ∷ codes "|"
+    ∷ codes "user 1999"
+    ∷ codes "journal"
+    ∷ (codes "1 1001 offer 0 A " ++ (delta_utf8 ++ codes "b_9 none : degree 1"))
+    ∷ (codes "2 10 offer 1002 X Y N(2 2)1 2 3 " ++ (overbar_utf8 ++ codes "4 : degree 2 + 1 2"))
+    ∷ codes "3 1999 offer 20 aaaaaaaaaaaaaaaaaaaaaaaaaaaaaaa9 Z C(5)'HELLO' : limit"
+    ∷ codes "4 1001 set A N(0) : granted"
+    ∷ codes "5 1001 set A C(0)'' : notshared"
+    ∷ codes "6 1002 set Y C(4)'IT''S' : granted"
+    ∷ codes "7 1002 set Y C()'''' : granted"
+    ∷ codes "8 1002 set Y C(2 0)'' : granted"
+    ∷ codes "9 1002 set Y N(1 1 1 1 1 1 1 1)0 : granted"
+    ∷ (codes "10 1001 use A : value N()" ++ (overbar_utf8 ++ codes "9223372036854775808"))
+    ∷ codes "11 1001 use A : value N(1)9223372036854775807"
+    ∷ (codes "12 1001 use A : value C(2 2)' " ++ (rho_utf8 ++ (arrow_utf8 ++ codes "'''")))
+    ∷ codes "13 1001 use A : novalue"
+    ∷ codes "14 1002 use B : notshared"
+    ∷ codes "15 4294967295 leave : done + 1 3 + 10 18446744073709551615"
+    ∷ codes "16 0 leave : full"
+    ∷ codes "end"
+    ∷ [])
