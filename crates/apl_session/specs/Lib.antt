@@ -1,0 +1,13 @@
+pub mod Ascending
+pub mod Bundle
+pub mod PlainSession
+pub mod Progress
+pub mod Run
+pub mod RunLaws
+pub mod Session
+pub mod Statement
+pub mod Transcripts
+pub mod User
+pub mod Wants
+pub mod Workspace
+pub mod NumberText

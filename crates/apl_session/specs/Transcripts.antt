@@ -1,0 +1,16 @@
+use Rattle.std.specs.Prelude.{ℕ, List, map}
+use Rattle.apl_session.specs.Ascending.{Ascend}
+use Rattle.apl_session.specs.declared.transcripts.Transcript.{Transcript}
+
+-- a transcript as plain data: whose it is, and its lines
+pub record PlainTranscript : Type 0 where
+  pub user : ℕ
+  pub lines : List (List ℕ)
+
+-- the transcript, whatever room is left in its lists
+abbrev pub plain_transcript : Transcript → PlainTranscript
+plain_transcript transcript = record { user = transcript.user; lines = transcript.lines.items }
+
+-- the users ascend, each once
+abbrev pub IsAscending : List PlainTranscript → Type 0
+IsAscending transcripts = Ascend (map (λ transcript. transcript.user) transcripts)

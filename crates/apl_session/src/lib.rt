@@ -1,0 +1,16 @@
+//! A user's lines: what they mean, a session that evaluates them, and what a run of a bundle is.
+#![tactic(auto)]
+
+mod evaluation;
+mod line_text;
+mod progress;
+mod run_laws;
+mod session;
+mod statement;
+mod transcripts;
+mod workspace;
+
+pub use run_laws::{one_transcript_of_parts, others_change_no_part};
+pub use session::{Session, Stage, Wants};
+pub use statement::{Statement, statement_of};
+pub use transcripts::{Transcript, Transcripts};
