@@ -3,7 +3,7 @@ use Rattle.std.proofs.Common.{◌≡◌, ◌⊎◌, ℕ, List, [], ◌∷◌, �
 use Rattle.sv_events.specs.Answer.{PlainAnswer, full}
 use Rattle.sv_events.specs.declared.event.Act.{Act}
 use Rattle.sv_rules.specs.Entries.{Entries}
-use Rattle.apl_session.specs.User.{PlainUser}
+use Rattle.bundle_text.specs.User.{PlainUser}
 use Rattle.apl_session.specs.Session.{Evaluated, line_alone, line_answered, after_line, after_act, asked_by, by_act, evaluated_on, evaluated}
 use Rattle.apl_session.specs.Workspace.{Names}
 use Rattle.apl_session.specs.Transcripts.{PlainTranscript}

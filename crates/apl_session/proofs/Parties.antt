@@ -8,7 +8,7 @@ use Rattle.sv_events.specs.Entry.{PlainEntry}
 use Rattle.sv_rules.specs.Entries.{Entries, is_leave, has_left, entry_elements, counted_entries, held_elements, is_full}
 use Rattle.apl_session.specs.Run.{entries_of, acts_in, answers_in, before_leave, IsPart}
 use Rattle.apl_session.specs.Session.{Evaluated, evaluated}
-use Rattle.apl_session.specs.User.{PlainUser}
+use Rattle.bundle_text.specs.User.{PlainUser}
 
 module _ (e : PlainEntry) (journal : Entries) (party : ℕ) where
   -- an entry of another does not make a party leave

@@ -1,5 +1,3 @@
-pub mod Ascending
-pub mod Bundle
 pub mod PlainSession
 pub mod Progress
 pub mod Run
@@ -7,7 +5,6 @@ pub mod RunLaws
 pub mod Session
 pub mod Statement
 pub mod Transcripts
-pub mod User
 pub mod Wants
 pub mod Workspace
 pub mod NumberText

@@ -4,8 +4,8 @@ use Rattle.sv_events.specs.Answer.{PlainAnswer, full}
 use Rattle.sv_events.specs.declared.event.Act.{Act}
 use Rattle.sv_rules.specs.Entries.{Entries, has_left, is_full, is_leave}
 use Rattle.sv_rules.specs.Legal.{IsLegal}
-use Rattle.apl_session.specs.Bundle.{PlainBundle}
-use Rattle.apl_session.specs.User.{PlainUser}
+use Rattle.bundle_text.specs.Bundle.{PlainBundle}
+use Rattle.bundle_text.specs.User.{PlainUser}
 use Rattle.apl_session.specs.Session.{evaluated}
 use Rattle.apl_session.specs.Transcripts.{PlainTranscript}
 

@@ -2,8 +2,8 @@
 use Rattle.std.specs.Prelude.{◌≡◌, ◌≢◌, ℕ, List, ◌∷◌}
 use Rattle.sv_events.specs.Entry.{PlainEntry}
 use Rattle.sv_rules.specs.Entries.{Entries}
-use Rattle.apl_session.specs.Bundle.{PlainBundle}
-use Rattle.apl_session.specs.User.{PlainUser}
+use Rattle.bundle_text.specs.Bundle.{PlainBundle}
+use Rattle.bundle_text.specs.User.{PlainUser}
 use Rattle.apl_session.specs.Transcripts.{PlainTranscript}
 use Rattle.apl_session.specs.Run.{IsPart, AreParts}
 

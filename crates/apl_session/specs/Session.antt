@@ -1,6 +1,7 @@
 -- What a user's lines do: what is printed, and which acts are asked, given the answers to those asked before.
 use Rattle.std.specs.Prelude.{ℕ, pos, List, [], ◌∷◌, ◌++◌, replicate, Option, Some, None, option_and_then, if◌then◌else◌}
 use Rattle.apl_arrays.specs.Array.{PlainArray, scalar}
+use Rattle.apl_arrays.specs.Glyph.{blank}
 use Rattle.apl_arrays.specs.Report.{report_text}
 use Rattle.apl_arrays.specs.declared.report.Report.{Report}
 use Rattle.apl_arrays.specs.declared.report.Report.TheVariants.{Syntax, Value, SvFull, SvLimit}
@@ -16,7 +17,7 @@ use Rattle.apl_session.specs.declared.statement.Statement.TheVariants.{Assign, O
 
 -- a line as it was read, after six blanks
 abbrev pub echo : List ℕ → List ℕ
-echo line = replicate 6 32 ++ line
+echo line = replicate 6 blank ++ line
 
 -- a report: its name, and the line again
 abbrev pub report_lines : Report → List ℕ → List (List ℕ)

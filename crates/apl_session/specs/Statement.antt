@@ -1,13 +1,13 @@
 -- The three forms of a line: a name, ← and a number; a user's number and an offer of a name; a name.
-use Rattle.std.specs.Prelude.{ℕ, ◌+◌, ◌-◌, ◌*◌, ◌^◌, ◌==◌, nat_eq, nat_lt, nat_le, ℤ, pos, neg_ℤ, List, [], ◌∷◌, length, take, drop, fold, Option, Some, None, option_and_then, if◌then◌else◌}
+use Rattle.std.specs.Prelude.{ℕ, ◌+◌, ◌-◌, ◌*◌, ◌^◌, ◌==◌, nat_eq, nat_lt, nat_le, ℤ, pos, neg_ℤ, List, [], ◌∷◌, length, take, drop, fold, Option, Some, None, option_and_then, codes, if◌then◌else◌}
 use Rattle.std.specs.List.{list_all, position, ends_with}
 use Rattle.std.specs.Cmp.Lexicographic.{pointwise}
-use Rattle.std.specs.Option.{option_map}
-use Rattle.apl_arrays.specs.Glyph.{is_digit, is_between}
+use Rattle.std.specs.Option.{option_map, unwrap_or}
+use Rattle.apl_arrays.specs.Glyph.{is_digit, digit_value, blank, quote, left_arrow, quad, overbar}
 use Rattle.apl_arrays.specs.Name.{is_name}
+use Rattle.apl_arrays.specs.Parties.{is_user_number}
 use Rattle.apl_session.specs.declared.statement.Statement.{Statement}
 use Rattle.apl_session.specs.declared.statement.Statement.TheVariants.{Assign, Offer, Reference}
-use Rattle.apl_session.specs.declared.statement.TheConstants.{ARROW, BLANK, NEGATIVE, QUOTE, OFFERING, FIRST_USER, LAST_USER}
 
 -- the glyphs, where they are a name
 abbrev pub name_in : List ℕ → Option (List ℕ)
@@ -15,7 +15,7 @@ name_in glyphs = if is_name glyphs then Some glyphs else None
 
 -- the number that digits write, the first digit the highest
 abbrev pub digits_value : List ℕ → ℕ
-digits_value digits = fold (λ value digit. value * 10 + (digit - 48)) 0 digits
+digits_value digits = fold (λ value digit. value * 10 + unwrap_or (digit_value digit) 0) 0 digits
 
 -- one or more digits
 abbrev pub magnitude_in : List ℕ → Option ℕ
@@ -33,7 +33,7 @@ negative magnitude = if nat_le magnitude (2 ^ 63) then Some (neg_ℤ (pos magnit
 -- digits, behind a ¯ where the number is negative
 abbrev pub integer_in : List ℕ → Option ℤ
 integer_in [] = None
-integer_in (first ∷ rest) = if first == NEGATIVE then option_and_then negative (magnitude_in rest) else option_and_then positive (magnitude_in (first ∷ rest))
+integer_in (first ∷ rest) = if first == overbar then option_and_then negative (magnitude_in rest) else option_and_then positive (magnitude_in (first ∷ rest))
 
 -- a name, and the number that it is to have
 abbrev pub assignment_in : List ℕ → List ℕ → Option Statement
@@ -41,15 +41,19 @@ assignment_in target value = option_and_then (λ name. option_map (λ number. As
 
 -- the number of a user
 abbrev pub user_number_in : List ℕ → Option ℕ
-user_number_in glyphs = option_and_then (λ number. if is_between FIRST_USER LAST_USER number then Some number else None) (magnitude_in glyphs)
+user_number_in glyphs = option_and_then (λ number. if is_user_number number then Some number else None) (magnitude_in glyphs)
 
 -- a name, and a quote behind it
 abbrev pub closed_name_in : List ℕ → Option (List ℕ)
-closed_name_in glyphs = if ends_with nat_eq glyphs (QUOTE ∷ []) then name_in (take (length glyphs - 1) glyphs) else None
+closed_name_in glyphs = if ends_with nat_eq glyphs (quote ∷ []) then name_in (take (length glyphs - 1) glyphs) else None
+
+-- ⎕SVO, a blank and a quote
+abbrev pub offering : List ℕ
+offering = quad ∷ codes "SVO '"
 
 -- ⎕SVO, a blank, and a name in quotes
 abbrev pub offered_in : List ℕ → Option (List ℕ)
-offered_in glyphs = if pointwise nat_eq (take (length OFFERING) glyphs) OFFERING then closed_name_in (drop (length OFFERING) glyphs) else None
+offered_in glyphs = if pointwise nat_eq (take (length offering) glyphs) offering then closed_name_in (drop (length offering) glyphs) else None
 
 -- the user to whom an offer is made, and the name that it offers
 abbrev pub offer_in : List ℕ → List ℕ → Option Statement
@@ -71,4 +75,4 @@ statement_by None None line = reference_in line
 
 -- the statement that a line of glyphs is, if it is one
 abbrev pub statement_in : List ℕ → Option Statement
-statement_in line = statement_by (parts_at ARROW line) (parts_at BLANK line) line
+statement_in line = statement_by (parts_at left_arrow line) (parts_at blank line) line

@@ -1,5 +1,5 @@
 use Rattle.std.specs.Prelude.{ℕ, List, map}
-use Rattle.apl_session.specs.Ascending.{Ascend}
+use Rattle.apl_arrays.specs.Ascending.{Ascend}
 use Rattle.apl_session.specs.declared.transcripts.Transcript.{Transcript}
 
 -- a transcript as plain data: whose it is, and its lines

@@ -4,12 +4,14 @@
 mod evaluation;
 mod line_text;
 mod progress;
+mod run;
 mod run_laws;
 mod session;
 mod statement;
 mod transcripts;
 mod workspace;
 
+pub use run::Run;
 pub use run_laws::{one_transcript_of_parts, others_change_no_part};
 pub use session::{Session, Stage, Wants};
 pub use statement::{Statement, statement_of};

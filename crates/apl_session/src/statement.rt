@@ -2,30 +2,15 @@ ghost use Rattle.std.specs.Prelude.{◌≡◌, ◌==◌, min};
 ghost use Rattle.std.specs.List.{list_all, position};
 ghost use Rattle.std.specs.Option.{option_map};
 ghost use Rattle.apl_arrays.specs.Glyph.{is_digit};
-ghost use Rattle.apl_session.specs.Statement.{name_in, digits_value, magnitude_in, positive, negative, integer_in, assignment_in, user_number_in, closed_name_in, offered_in, offer_in, reference_in, parts_at, statement_by, statement_in};
+ghost use Rattle.apl_session.specs.Statement.{name_in, digits_value, magnitude_in, positive, negative, integer_in, assignment_in, user_number_in, closed_name_in, offering, offered_in, offer_in, reference_in, parts_at, statement_by, statement_in};
 
 use apl_arrays::{Glyph, Name};
 
-/// The code of `←`.
-pub const ARROW: u8 = 149;
-
-/// The code of the blank.
-pub const BLANK: u8 = 32;
-
-/// The code of `¯`.
-pub const NEGATIVE: u8 = 152;
-
-/// The code of the quote.
-pub const QUOTE: u8 = 39;
-
-/// The codes of `⎕SVO`, a blank and a quote.
-pub const OFFERING: [u8; 6] = [151, 83, 86, 79, BLANK, QUOTE];
-
 /// The least number of a user.
-pub const FIRST_USER: u32 = 1001;
+const FIRST_USER: u64 = 1001;
 
 /// The greatest number of a user.
-pub const LAST_USER: u32 = 1999;
+const LAST_USER: u64 = 1999;
 
 /// What a line asks for.
 #[derive(Clone, Copy, Debug, PartialEq, Eq)]
@@ -44,16 +29,10 @@ fn name_of(glyphs: &[Glyph]) -> Option<Name>
     Name::of(glyphs)
 }
 
-fn is_digit(glyph: Glyph) -> bool
-    ensures { result ≡ is_digit glyph }
-{
-    matches!(glyph.code(), b'0'..=b'9')
-}
-
 fn are_digits(glyphs: &[Glyph]) -> bool
     ensures { result ≡ list_all is_digit glyphs.now }
 {
-    glyphs.iter().all(|glyph| is_digit(*glyph))
+    glyphs.iter().all(|glyph| glyph.is_digit())
 }
 
 // The number that digits write, or the greatest of 64 bits where it is greater.
@@ -62,7 +41,7 @@ fn capped_value(digits: &[Glyph]) -> u64
 {
     let mut value = 0u64;
     for digit in digits {
-        let last = u64::from(digit.code().saturating_sub(b'0'));
+        let last = u64::from(digit.digit_value().unwrap_or(0));
         value = value.saturating_mul(10).saturating_add(last);
     }
     value
@@ -106,7 +85,7 @@ fn integer_of(glyphs: &[Glyph]) -> Option<i64>
 {
     match glyphs {
         [] => None,
-        [first, rest @ ..] if first.code() == NEGATIVE => negative(magnitude_of(rest)?),
+        [first, rest @ ..] if *first == Glyph::OVERBAR => negative(magnitude_of(rest)?),
         _ => positive(magnitude_of(glyphs)?),
     }
 }
@@ -123,7 +102,7 @@ fn user_number(glyphs: &[Glyph]) -> Option<u32>
     ensures { result ≡ user_number_in glyphs.now }
 {
     let number = magnitude_of(glyphs)?;
-    if number >= u64::from(FIRST_USER) && number <= u64::from(LAST_USER) {
+    if number >= FIRST_USER && number <= LAST_USER {
         Some(number as u32)
     } else {
         None
@@ -132,22 +111,22 @@ fn user_number(glyphs: &[Glyph]) -> Option<u32>
 
 // The glyphs of `⎕SVO`, a blank and a quote.
 fn offering() -> [Glyph; 6]
-    ensures { result ≡ OFFERING }
+    ensures { result ≡ offering }
 {
     [
-        Glyph::with_code(OFFERING[0]),
-        Glyph::with_code(OFFERING[1]),
-        Glyph::with_code(OFFERING[2]),
-        Glyph::with_code(OFFERING[3]),
-        Glyph::with_code(OFFERING[4]),
-        Glyph::with_code(OFFERING[5]),
+        Glyph::QUAD,
+        Glyph::with_code(b'S'),
+        Glyph::with_code(b'V'),
+        Glyph::with_code(b'O'),
+        Glyph::BLANK,
+        Glyph::QUOTE,
     ]
 }
 
 fn closed_name(glyphs: &[Glyph]) -> Option<Name>
     ensures { result ≡ closed_name_in glyphs.now }
 {
-    name_of(glyphs.strip_suffix(&[Glyph::with_code(QUOTE)])?)
+    name_of(glyphs.strip_suffix(&[Glyph::QUOTE])?)
 }
 
 // The name in quotes that is offered.
@@ -171,14 +150,14 @@ fn reference(glyphs: &[Glyph]) -> Option<Statement>
     Some(Statement::Reference(name_of(glyphs)?))
 }
 
-fn place_of(glyph: u8, line: &[Glyph]) -> Option<usize>
+fn place_of(glyph: Glyph, line: &[Glyph]) -> Option<usize>
     ensures { result ≡ position (λ other. other == glyph) line.now }
 {
-    line.iter().position(|other| other.code() == glyph)
+    line.iter().position(|other| *other == glyph)
 }
 
 // What stands before and after the first such glyph.
-fn parts_at(glyph: u8, line: &[Glyph]) -> Option<(&[Glyph], &[Glyph])>
+fn parts_at(glyph: Glyph, line: &[Glyph]) -> Option<(&[Glyph], &[Glyph])>
     ensures { option_map (λ parts. (parts.0.now, parts.1.now)) result ≡ parts_at glyph line.now }
 {
     let place = place_of(glyph, line)?;
@@ -191,9 +170,9 @@ fn parts_at(glyph: u8, line: &[Glyph]) -> Option<(&[Glyph], &[Glyph])>
 pub fn statement_of(line: &[Glyph]) -> Option<Statement>
     ensures { result ≡ statement_in line.now }
 {
-    if let Some((target, value)) = parts_at(ARROW, line) {
+    if let Some((target, value)) = parts_at(Glyph::LEFT_ARROW, line) {
         assignment(target, value)
-    } else if let Some((party, function)) = parts_at(BLANK, line) {
+    } else if let Some((party, function)) = parts_at(Glyph::BLANK, line) {
         offer(party, function)
     } else {
         reference(line)
