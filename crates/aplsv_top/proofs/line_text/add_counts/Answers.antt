@@ -1,8 +1,0 @@
-use Rattle.std.proofs.Common.{◌++◌, ap, ◌∙◌, arith}
-use Rattle.std.specs.Fmt.{decimal}
-use Rattle.aplsv_top.proofs.Spaced.{spaced_after}
-use Rattle.aplsv_top.proofs.line_text.add_counts.Goals as goal
-
-pub returns : goal.returns
-returns c =
-    spaced_after decimal c.in-Some.first.now c.in-Some.others.now c.args.counts.now c.loop-count.count-index c.args.line.now.items c.add_count.new.line.items c.loop-count.line.items c.in-Some.ensures.cases.0 (c.in_ok-add_count.ensures.text ∙ ap (λ n. c.args.line.now.items ++ decimal n) c.from.ensures) (omega arith) c.loop-count.invariant

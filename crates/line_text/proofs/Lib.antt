@@ -1,0 +1,7 @@
+pub mod AllMore
+pub mod Decimals
+pub mod GlyphTexts
+pub mod SameLines
+pub mod SameNumbers
+pub mod Spaced
+pub mod Spans
