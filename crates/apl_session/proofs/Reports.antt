@@ -4,7 +4,7 @@ use Rattle.std.specs.List.{list_all}
 use Rattle.apl_arrays.specs.Report.{report_text}
 use Rattle.apl_arrays.specs.declared.report.Report.{Report}
 use Rattle.apl_arrays.specs.declared.report.Report.TheVariants.{Character, Syntax, Value, Domain, Rank, Length, Index, Defn, WsFull, Interrupt, SvInterrupt, SvFull, SvLimit}
-use Rattle.apl_session.specs.NumberText.{is_plain}
+use Rattle.line_text.specs.Spaced.{is_plain}
 
 -- they are printable ASCII
 pub report_is_plain : (report : Report) → IsTrue (list_all is_plain (report_text report))

@@ -7,4 +7,3 @@ pub mod Statement
 pub mod Transcripts
 pub mod Wants
 pub mod Workspace
-pub mod NumberText

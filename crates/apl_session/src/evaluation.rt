@@ -7,11 +7,11 @@ ghost use Rattle.apl_session.specs.Workspace.{copy_of, with_value};
 ghost use Rattle.apl_session.specs.Progress.{started, with_line};
 ghost use Rattle.apl_session.specs.Session.{echo, report_lines, act_of, asked_by, looked_up, statement_alone, report_in, degree_in, accepted, statement_answered, line_answered};
 
-use crate::line_text::{add_glyphs, add_text};
 use crate::statement::{Statement, statement_of};
 use crate::workspace::Workspace;
 use apl_arrays::{Array, Glyph, Line, LineList, List, Name, Report, WantOfMemory};
 use apl_display::lines_of;
+use line_text::{add_glyphs, add_text};
 use std::alloc::Global;
 use std::marker::Model;
 use sv_events::{Act, Answer};

@@ -2,13 +2,15 @@
 #![tactic(auto)]
 
 mod evaluation;
-mod line_text;
 mod progress;
 mod run;
 mod run_laws;
 mod session;
 mod statement;
+#[cfg(test)]
+mod tests;
 mod transcripts;
+pub mod worked;
 mod workspace;
 
 pub use run::Run;
