@@ -6,7 +6,7 @@ use Rattle.sv_rules.specs.Entries.{Entries}
 use Rattle.bundle_text.specs.User.{PlainUser}
 use Rattle.apl_session.specs.Session.{Evaluated, line_alone, line_answered, after_line, after_act, asked_by, by_act, evaluated_on, evaluated}
 use Rattle.apl_session.specs.Workspace.{Names}
-use Rattle.apl_session.specs.Transcripts.{PlainTranscript}
+use Rattle.sv_journal.specs.Output.{PlainTranscript}
 use Rattle.apl_session.specs.Run.{IsPart, AreParts, entries_of, answers_in}
 use Rattle.apl_session.specs.RunLaws.{PartsMakeOneTranscript}
 

@@ -7,7 +7,7 @@ use Rattle.sv_rules.specs.Legal.{IsLegal}
 use Rattle.bundle_text.specs.Bundle.{PlainBundle}
 use Rattle.bundle_text.specs.User.{PlainUser}
 use Rattle.apl_session.specs.Session.{evaluated}
-use Rattle.apl_session.specs.Transcripts.{PlainTranscript}
+use Rattle.sv_journal.specs.Output.{PlainTranscript}
 
 -- the entries of a party other than its leave, the newest first
 abbrev pub entries_of : Entries → ℕ → Entries

@@ -4,7 +4,7 @@ use Rattle.sv_events.specs.Entry.{PlainEntry}
 use Rattle.sv_rules.specs.Entries.{Entries}
 use Rattle.bundle_text.specs.Bundle.{PlainBundle}
 use Rattle.bundle_text.specs.User.{PlainUser}
-use Rattle.apl_session.specs.Transcripts.{PlainTranscript}
+use Rattle.sv_journal.specs.Output.{PlainTranscript}
 use Rattle.apl_session.specs.Run.{IsPart, AreParts}
 
 -- a user's part stays true when an entry of another follows

@@ -1,11 +1,7 @@
-use Rattle.std.specs.Prelude.{ℕ, List, map}
+use Rattle.std.specs.Prelude.{List, map}
 use Rattle.apl_arrays.specs.Ascending.{Ascend}
+use Rattle.sv_journal.specs.Output.{PlainTranscript}
 use Rattle.apl_session.specs.declared.transcripts.Transcript.{Transcript}
-
--- a transcript as plain data: whose it is, and its lines
-pub record PlainTranscript : Type 0 where
-  pub user : ℕ
-  pub lines : List (List ℕ)
 
 -- the transcript, whatever room is left in its lists
 abbrev pub plain_transcript : Transcript → PlainTranscript

@@ -21,7 +21,8 @@ pub struct Transcripts {
 impl Model for Transcripts {
     ghost use Rattle.std.specs.Prelude.{map};
     ghost use Rattle.apl_arrays.specs.List.{Listed};
-    ghost use Rattle.apl_session.specs.Transcripts.{PlainTranscript, plain_transcript, IsAscending};
+    ghost use Rattle.apl_session.specs.Transcripts.{plain_transcript, IsAscending};
+    ghost use Rattle.sv_journal.specs.Output.{PlainTranscript};
 
     ghost Value = { Listed PlainTranscript };
 

@@ -7,7 +7,8 @@ use Rattle.apl_session.specs.PlainSession.{PlainSession}
 use Rattle.aplsv_replay.specs.Participants.{participant_of}
 use Rattle.aplsv_replay.specs.TurnLaws.{IsDone, transcript_of}
 use Rattle.apl_arrays.specs.Ascending.{Ascend}
-use Rattle.apl_session.specs.Transcripts.{PlainTranscript, IsAscending as TranscriptsAscend}
+use Rattle.apl_session.specs.Transcripts.{IsAscending as TranscriptsAscend}
+use Rattle.sv_journal.specs.Output.{PlainTranscript}
 use Rattle.bundle_text.specs.User.{PlainUser, IsAscending}
 
 -- users that ascend have numbers that ascend

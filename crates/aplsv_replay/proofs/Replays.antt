@@ -14,7 +14,7 @@ use Rattle.bundle_text.specs.User.{PlainUser, plain_user, IsAscending}
 use Rattle.bundle_text.specs.declared.user.BundleUser.{BundleUser}
 use Rattle.apl_session.specs.PlainSession.{PlainSession}
 use Rattle.apl_session.specs.Run.{IsRun, AreParts, user_numbers}
-use Rattle.apl_session.specs.Transcripts.{PlainTranscript}
+use Rattle.sv_journal.specs.Output.{PlainTranscript}
 use Rattle.aplsv_replay.specs.Participants.{participant_of, participants_of}
 use Rattle.aplsv_replay.specs.TurnLaws.{IsDone, IsOver, RoundsEnd, transcript_of}
 use Rattle.aplsv_replay.specs.Turns.{Participant, Replay, turn, round, rounds, newcomer, beginning, IsJournalOfTurns}

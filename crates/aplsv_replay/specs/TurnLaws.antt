@@ -5,7 +5,7 @@ use Rattle.bundle_text.specs.Bundle.{PlainBundle}
 use Rattle.bundle_text.specs.User.{PlainUser, IsAscending}
 use Rattle.apl_session.specs.Session.{evaluated}
 use Rattle.apl_session.specs.Run.{AreParts}
-use Rattle.apl_session.specs.Transcripts.{PlainTranscript}
+use Rattle.sv_journal.specs.Output.{PlainTranscript}
 use Rattle.aplsv_replay.specs.Turns.{Participant, Replay, rounds, beginning, IsJournalOfTurns}
 
 -- no act of the user waits for its answer

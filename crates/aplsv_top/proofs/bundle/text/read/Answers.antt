@@ -1,5 +1,0 @@
-use Rattle.aplsv_top.proofs.Reading.{only_bundle}
-use Rattle.aplsv_top.proofs.bundle.text.read.Goals as goal
-
-pub returns-clause-only : goal.returns-clause-only
-returns-clause-only c = only_bundle c.args.bytes.now c.read_lines.result c.read_lines.ensures
