@@ -1,4 +1,5 @@
 pub mod AllMore
+pub mod Ascii
 pub mod Decimals
 pub mod GlyphTexts
 pub mod SameLines

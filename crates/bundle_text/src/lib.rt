@@ -1,0 +1,17 @@
+//! The text in which a run's input is written: users, and the lines of their input.
+#![tactic(auto)]
+
+mod bundle;
+mod draft;
+mod limits;
+mod line;
+mod refused;
+mod text;
+mod user;
+pub mod worked;
+
+pub use bundle::Bundle;
+pub use limits::{FIRST_USER, GLYPH_LIMIT, LINE_LIMIT, USER_LIMIT};
+pub use refused::{BundleRefused, BundleRule};
+pub use text::{read, texts_are_of_one_bundle};
+pub use user::{BundleUser, UserList};

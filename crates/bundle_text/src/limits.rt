@@ -1,0 +1,11 @@
+/// The most users of a bundle.
+pub const USER_LIMIT: usize = 2;
+
+/// The most lines of a user.
+pub const LINE_LIMIT: usize = 10_000;
+
+/// The most glyphs of a line.
+pub const GLYPH_LIMIT: usize = 1_000;
+
+/// The least number of a user.
+pub const FIRST_USER: u32 = 1001;

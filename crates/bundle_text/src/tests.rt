@@ -1,0 +1,48 @@
+use crate::{Bundle, BundleRefused, BundleRule, read};
+use apl_arrays::WantOfMemory;
+use std::alloc::{AllocError, Global};
+use std::test::Fail;
+
+const TEXT: &[u8] = "user 1001\n|X←3\n|X\nuser 1999\n|Y\nend".as_bytes();
+
+// A reading that memory failed is made again.
+fn bundle(alloc: Global) -> Result<Bundle, BundleRefused> {
+    match read(alloc, TEXT) {
+        Err(BundleRefused::WantOfMemory) => read(alloc, TEXT),
+        outcome => outcome,
+    }
+}
+
+#[test]
+fn reads_two_users(rt: HostRuntime) -> Result<(), Fail> {
+    let bundle = bundle(rt.alloc())?;
+    assert_eq!(rt; bundle.users().len(), 2);
+    assert_eq!(rt; bundle.offset_of(0, 1), 17);
+    assert_eq!(rt; bundle.offset_of(1, 0), 30);
+    let users = bundle.into_users().into_vec();
+    assert_eq!(rt; users[1].number, 1999);
+    assert_eq!(rt; users[0].lines.as_slice().len(), 2);
+    Ok(())
+}
+
+fn told(alloc: Global, why: BundleRefused) -> Result<String, AllocError> {
+    match why.to_string(alloc) {
+        Err(_) => why.to_string(alloc),
+        outcome => outcome,
+    }
+}
+
+#[test]
+fn reasons_are_told(rt: HostRuntime) -> Result<(), Fail> {
+    let malformed = BundleRefused::Malformed {
+        offset: 12,
+        rule: BundleRule::Party,
+    };
+    assert_eq!(rt;
+        told(rt.alloc(), malformed)?.as_str(),
+        "malformed at 12: party"
+    );
+    let wanting = told(rt.alloc(), BundleRefused::from(WantOfMemory))?;
+    assert_eq!(rt; wanting.as_str(), "out of memory");
+    Ok(())
+}
