@@ -1,7 +1,9 @@
 ghost use Rattle.std.specs.Prelude.{◌≡◌, map};
 ghost use Rattle.bundle_text.specs.User.{plain_user};
 ghost use Rattle.bundle_text.specs.Bundle.{IsBundle};
+ghost use Rattle.bundle_text.specs.Offset.{offset_of};
 
+use crate::offset::offset_of;
 use crate::user::{BundleUser, UserList};
 use std::marker::Model;
 
@@ -44,5 +46,13 @@ impl Bundle {
         ensures bundle { IsBundle self }
     {
         self.users
+    }
+
+    /// Where a line of a user begins in the bundle's text, both counted from 0: how many bytes stand in front of its bar.
+    /// A line past the user's last stands where its lines end, and a user past the last where the end stands. No memory.
+    pub fn offset_of(&self, user: usize, line: usize) -> u64
+        ensures { result ≡ offset_of self.now.users user line }
+    {
+        offset_of(self.users.as_slice(), user, line)
     }
 }

@@ -5,7 +5,10 @@ mod bundle;
 mod draft;
 mod limits;
 mod line;
+mod offset;
 mod refused;
+#[cfg(test)]
+mod tests;
 mod text;
 mod user;
 pub mod worked;

@@ -4,5 +4,6 @@ pub mod Decimals
 pub mod GlyphTexts
 pub mod SameLines
 pub mod SameNumbers
+pub mod Sizes
 pub mod Spaced
 pub mod Spans

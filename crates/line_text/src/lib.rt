@@ -3,6 +3,7 @@
 
 mod lines;
 mod number;
+mod size;
 mod text;
 pub mod worked;
 
@@ -11,4 +12,5 @@ pub use lines::{
     add_word,
 };
 pub use number::{a_text_tells_its_number, add_count, add_number, digit_count, number_width};
+pub use size::{heading_size, line_size};
 pub use text::{add_blank, add_blanks, add_counts, add_glyphs, add_numbers, add_text};
