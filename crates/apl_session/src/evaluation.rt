@@ -14,7 +14,7 @@ use apl_display::lines_of;
 use line_text::{add_glyphs, add_text};
 use std::alloc::Global;
 use std::marker::Model;
-use sv_events::{Act, Answer};
+use sv_events::{Act, Answer, copy_value};
 
 /// What a user's lines work on: the names, and what was read and printed.
 #[derive(Drop)]
@@ -97,7 +97,7 @@ impl Evaluation {
                 to: *to,
                 local: *name,
                 surrogate: *name,
-                value: copied(self.alloc, self.names.copy_of(name))?,
+                value: copy_value(self.alloc, self.names.copy_of(name))?,
             })),
             Statement::Reference(name) => {
                 if self.names.is_shared(name) {
@@ -227,16 +227,6 @@ impl Evaluation {
             self.transcript.push(line)?;
         }
         Ok(())
-    }
-}
-
-// A copy of a value, where there is one.
-fn copied(alloc: Global, value: Option<&Array>) -> Result<Option<Array>, WantOfMemory>
-    ensures { IfOk result (λ copied. copied ≡ option_copied value.entry) }
-{
-    match value {
-        None => Ok(None),
-        Some(value) => Ok(Some(value.copy(alloc)?)),
     }
 }
 
