@@ -1,18 +1,17 @@
-ghost use Rattle.std.specs.Prelude.{◌≡◌, All, ◌+◌, ◌++◌, OnOk, IfOk, map};
+ghost use Rattle.std.specs.Prelude.{◌≡◌, All, ◌++◌, OnOk, IfOk, map};
 ghost use Rattle.std.specs.List.{flat_map};
-ghost use Rattle.line_text.specs.Lines.{line_text, lines_text};
+ghost use Rattle.line_text.specs.Lines.{lines_text};
 ghost use Rattle.sv_events.specs.Entry.{plain_entry};
-ghost use Rattle.sv_journal.specs.EntryText.{entry_text};
-ghost use Rattle.sv_journal.specs.Output.{transcript_lines, entry_lines, journal_lines, output_text};
-ghost use Rattle.sv_journal.specs.Printable.{IsPrintableEntry, IsPrintableTranscript, ArePrintable};
+ghost use Rattle.sv_journal.specs.Output.{transcript_lines, output_text};
+ghost use Rattle.sv_journal.specs.Printable.{IsPrintableTranscript, ArePrintable};
 ghost use Rattle.apl_session.specs.Transcripts.{plain_transcript};
 
 use apl_arrays::{Bytes, List, WantOfMemory};
 use apl_session::{Transcript, Transcripts};
-use line_text::{add_line, add_user_lines, add_word};
+use line_text::add_user_lines;
 use std::alloc::Global;
 use sv_events::Entry;
-use sv_journal::text_of;
+use sv_journal::add_journal;
 
 // Adds a transcript.
 fn add_transcript(
@@ -41,43 +40,6 @@ fn add_transcripts(
         add_transcript(alloc, bytes, transcript)?;
     }
     Ok(())
-}
-
-// Adds an entry's line.
-fn add_entry_line(
-    alloc: Global,
-    bytes: &mut Vec<u8>,
-    place: u64,
-    entry: &Entry,
-) -> Result<(), WantOfMemory>
-    ensures text { OnOk result (bytes.new.items
-        ≡ bytes.old.items ++ line_text (entry_text place (plain_entry entry.now))) }
-    ensures printable { OnOk result (IsPrintableEntry (plain_entry entry.now)) }
-{
-    add_line(alloc, bytes, &text_of(alloc, place, entry)?)
-}
-
-// Adds entries, numbered from 1.
-fn add_entries(alloc: Global, bytes: &mut Vec<u8>, entries: &[Entry]) -> Result<(), WantOfMemory>
-    ensures text { OnOk result (bytes.new.items
-        ≡ bytes.old.items ++ lines_text (entry_lines 1 (map plain_entry entries.now))) }
-    ensures printable { OnOk result (All IsPrintableEntry (map plain_entry entries.now)) }
-{
-    for (index, entry) in entries.iter().enumerate() {
-        add_entry_line(alloc, bytes, index as u64 + 1, entry)?;
-    }
-    Ok(())
-}
-
-// Adds the journal between its heading and the end.
-fn add_journal(alloc: Global, bytes: &mut Vec<u8>, entries: &[Entry]) -> Result<(), WantOfMemory>
-    ensures text { OnOk result (bytes.new.items
-        ≡ bytes.old.items ++ lines_text (journal_lines (map plain_entry entries.now))) }
-    ensures printable { OnOk result (All IsPrintableEntry (map plain_entry entries.now)) }
-{
-    add_word(alloc, bytes, "journal")?;
-    add_entries(alloc, bytes, entries)?;
-    add_word(alloc, bytes, "end")
 }
 
 /// What is written of transcripts and a journal with its oldest entry first: each user's lines, the entries numbered
