@@ -2,7 +2,6 @@ pub mod ExtentLemmas
 pub mod FormatLemmas
 pub mod GroupLemmas
 pub mod MeasuredLemmas
-pub mod NumberLemmas
 pub mod RowLemmas
 pub mod TextLemmas
 pub mod WidthLemmas

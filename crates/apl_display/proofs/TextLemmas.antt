@@ -6,10 +6,12 @@ use Rattle.std.proofs.lemmas.List.Sums.{sum_by-cons}
 use Rattle.std.proofs.lemmas.Slice.Zip.{length-zip}
 use Rattle.std.specs.List.{concat, flat_map, range_with_len, sum_by, zip}
 use Rattle.apl_display.proofs.GroupLemmas.{joined_more_at}
-use Rattle.apl_display.proofs.RowLemmas.{gap, gap_later}
-use Rattle.apl_display.specs.Joined.{blank, with_blanks, with_empty_lines}
+use Rattle.apl_display.proofs.RowLemmas.{gap, gap_later, spaced_joined}
+use Rattle.apl_display.specs.Joined.{joined, with_empty_lines}
+use Rattle.apl_arrays.specs.Glyph.{blank}
+use Rattle.line_text.specs.Spaced.{spaced}
 use Rattle.apl_display.specs.Matrices.{cell, aligned, right_aligned}
-use Rattle.apl_display.specs.Number.{number_text, number_width}
+use Rattle.line_text.specs.Number.{number_text, number_width}
 
 pub concat-append : (xs ys : List (List ℕ)) → concat (xs ++ ys) ≡ concat xs ++ concat ys
 concat-append [] ys = refl
@@ -28,10 +30,13 @@ length_further (text ∷ texts) =
     let lengths : length (text ++ flat_map (λ t. (blank ∷ []) ++ t) texts) ≡ length text + length (flat_map (λ t. (blank ∷ []) ++ t) texts) = length-append text (flat_map (λ t. (blank ∷ []) ++ t) texts) in
     omega (arith, lengths, length_further texts, sum_by-cons length text texts)
 
-pub length-with_blanks : (texts : List (List ℕ)) → length (with_blanks texts) ≡ length texts - 1 + sum_by length texts
-length-with_blanks [] = refl
-length-with_blanks (text ∷ texts) =
+length_joined : (texts : List (List ℕ)) → length (joined (blank ∷ []) texts) ≡ length texts - 1 + sum_by length texts
+length_joined [] = refl
+length_joined (text ∷ texts) =
     omega (arith, length-append text (flat_map (λ t. (blank ∷ []) ++ t) texts), length_further texts, sum_by-cons length text texts)
+
+pub length-spaced : (texts : List (List ℕ)) → length (spaced texts) ≡ length texts - 1 + sum_by length texts
+length-spaced texts = ap length (spaced_joined texts) ∙ length_joined texts
 
 length-right_aligned : (width : ℕ) (text : List ℕ) → length text ≤ width → length (right_aligned width text) ≡ width
 length-right_aligned width text fits =
@@ -52,7 +57,7 @@ length_cells (width ∷ widths) (number ∷ row) same fits =
 
 pub length-aligned : (widths : List ℕ) (row : List ℤ) → length widths ≡ length row → ((k : ℕ) → k < length row → number_width (get_or row k (pos 0)) ≤ get_or widths k 0) → length (aligned widths row) ≡ length widths - 1 + sum widths
 length-aligned widths row same fits =
-    omega (arith, length-with_blanks (map cell (zip widths row)), length-map (zip widths row) cell, length-zip widths row, length_cells widths row same fits)
+    omega (arith, length-spaced (map cell (zip widths row)), length-map (zip widths row) cell, length-zip widths row, length_cells widths row same fits)
 
 -- the widths of texts
 text_widths : (list : List ℤ) → sum_by length (map number_text list) ≡ sum_by number_width list
@@ -60,9 +65,9 @@ text_widths [] = refl
 text_widths (number ∷ list) =
     omega (arith, sum_by-cons length (number_text number) (map number_text list), sum_by-cons number_width number list, text_widths list)
 
-pub length_of_numbers : (list : List ℤ) → length (with_blanks (map number_text list)) ≡ length list - 1 + sum_by number_width list
+pub length_of_numbers : (list : List ℤ) → length (spaced (map number_text list)) ≡ length list - 1 + sum_by number_width list
 length_of_numbers list =
-    omega (arith, length-with_blanks (map number_text list), length-map list number_text, text_widths list)
+    omega (arith, length-spaced (map number_text list), length-map list number_text, text_widths list)
 
 -- lines that are equally long
 pub length_of_lines : (f : ℕ → List ℕ) (n width : ℕ) → ((k : ℕ) → k < n → length (f k) ≡ width) → length (concat (map f (range_with_len 0 n))) ≡ n * width

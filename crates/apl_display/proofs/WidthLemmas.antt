@@ -8,7 +8,7 @@ use Rattle.std.proofs.lemmas.Nat.{row_fits}
 use Rattle.std.specs.List.{range_with_len}
 use Rattle.apl_display.proofs.TextLemmas.{length-aligned}
 use Rattle.apl_display.specs.Matrices.{column_width, column_widths, row_of, aligned}
-use Rattle.apl_display.specs.Number.{number_width}
+use Rattle.line_text.specs.Number.{number_width}
 
 -- the greatest of one number more
 greatest_more : (f : ℕ → ℕ) (n : ℕ) → fold max 0 (map f (range_with_len 0 (n + 1))) ≡ max (fold max 0 (map f (range_with_len 0 n))) (f n)

@@ -1,12 +1,12 @@
 use Rattle.std.specs.Prelude.{◌==◌, ℕ, nat_lt, List, [], ◌∷◌, length, map, if◌then◌else◌}
 use Rattle.apl_arrays.specs.Array.{PlainArray, PlainItems, numbers, chars, item_count}
-use Rattle.apl_display.specs.Joined.{with_blanks}
+use Rattle.line_text.specs.Spaced.{spaced}
 use Rattle.apl_display.specs.Matrices.{extent_of, matrices_lines}
-use Rattle.apl_display.specs.Number.{number_text}
+use Rattle.line_text.specs.Number.{number_text}
 
 -- items in one line: numbers with one blank between, characters as they are
 abbrev pub item_line : PlainItems → List ℕ
-item_line (numbers list) = with_blanks (map number_text list)
+item_line (numbers list) = spaced (map number_text list)
 item_line (chars list) = list
 
 -- the lines of an array: one of a scalar or a vector, none without elements at a higher rank, else those of its matrices

@@ -6,14 +6,6 @@ abbrev pub joined : {A : Type 0} → List A → List (List A) → List A
 joined between [] = []
 joined between (first ∷ others) = first ++ flat_map (λ piece. between ++ piece) others
 
--- the glyph blank
-abbrev pub blank : ℕ
-blank = 32
-
--- texts with one blank between
-abbrev pub with_blanks : List (List ℕ) → List ℕ
-with_blanks texts = joined (blank ∷ []) texts
-
 -- lines in groups, with one empty line between
 abbrev pub with_empty_lines : List (List (List ℕ)) → List (List ℕ)
 with_empty_lines groups = joined ([] ∷ []) groups

@@ -2,5 +2,4 @@ pub mod Display
 pub mod Format
 pub mod Joined
 pub mod Matrices
-pub mod Number
 pub mod Worked

@@ -2,8 +2,10 @@ use Rattle.std.specs.Prelude.{◌+◌, ◌-◌, ◌*◌, ℕ, max, ℤ, pos, Lis
 use Rattle.std.specs.List.{range_with_len, zip}
 use Rattle.apl_arrays.specs.Array.{PlainItems, numbers, chars, element_count}
 use Rattle.apl_display.specs.declared.matrices.Extent.{Extent}
-use Rattle.apl_display.specs.Joined.{blank, with_blanks, with_empty_lines}
-use Rattle.apl_display.specs.Number.{number_text, number_width}
+use Rattle.apl_display.specs.Joined.{with_empty_lines}
+use Rattle.apl_arrays.specs.Glyph.{blank}
+use Rattle.line_text.specs.Spaced.{spaced}
+use Rattle.line_text.specs.Number.{number_text, number_width}
 
 -- the matrices of an array of rank 2 or more: the last axis is the columns, the one before it the rows
 abbrev pub extent_of : List ℕ → Extent
@@ -36,7 +38,7 @@ cell placed = right_aligned placed.0 (number_text placed.1)
 
 -- numbers, each at the right of its column, with one blank between
 abbrev pub aligned : List ℕ → List ℤ → List ℕ
-aligned widths list = with_blanks (map cell (zip widths list))
+aligned widths list = spaced (map cell (zip widths list))
 
 -- the items of a row
 abbrev pub row_of : {A : Type 0} → List A → ℕ → ℕ → List A

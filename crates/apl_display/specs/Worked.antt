@@ -1,7 +1,7 @@
 -- Arrays and texts of the worked lines.
 use Rattle.std.specs.Prelude.{◌-◌, ℕ, ℤ, negsuc, List, ◌∷◌}
 use Rattle.apl_arrays.specs.Array.{PlainArray, numbers, chars}
-use Rattle.apl_display.specs.Number.{high_minus}
+use Rattle.apl_arrays.specs.Glyph.{overbar}
 
 -- an array of numbers
 abbrev pub number_array : List ℕ → List ℤ → PlainArray
@@ -17,4 +17,4 @@ minus n = negsuc (n - 1)
 
 -- the sign ¯ in front of a text
 abbrev pub signed : List ℕ → List ℕ
-signed text = high_minus ∷ text
+signed text = overbar ∷ text

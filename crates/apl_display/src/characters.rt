@@ -2,16 +2,16 @@ ghost use Rattle.std.specs.Prelude.{◌≡◌, ◌+◌, ◌-◌, ◌*◌, ◌^�
 ghost use Rattle.std.specs.List.{concat, range_with_len};
 ghost use Rattle.apl_arrays.specs.Array.{numbers, chars, element_count, item_count, FitsLimits};
 ghost use Rattle.apl_display.specs.Format.{number_format, formatted, IsReasonToRefuse};
-ghost use Rattle.apl_display.specs.Joined.{with_blanks};
+ghost use Rattle.line_text.specs.Spaced.{spaced};
 ghost use Rattle.apl_display.specs.Matrices.{aligned, row_of};
-ghost use Rattle.apl_display.specs.Number.{number_text};
+ghost use Rattle.line_text.specs.Number.{number_text};
 
 use crate::display::vector_line;
 use crate::matrices::extent_of;
-use crate::number::number_width;
 use crate::row::{push_row, row_of};
 use crate::widths::column_widths;
 use apl_arrays::{Array, ELEMENT_LIMIT, Fail, Items, Line, List, RANK_LIMIT, Report, WantOfMemory};
+use line_text::number_width;
 use std::alloc::Global;
 
 // The array of characters in rows of a width.
@@ -39,7 +39,7 @@ fn line_width(widths: &[usize]) -> usize
 
 // How wide the line of a vector is.
 fn vector_width(numbers: &[i64]) -> usize
-    ensures { result ≡ min (length (with_blanks (map number_text numbers.now))) (2 ^ 64 - 1) }
+    ensures { result ≡ min (length (spaced (map number_text numbers.now))) (2 ^ 64 - 1) }
 {
     let mut width = numbers.len().saturating_sub(1);
     for number in numbers {
@@ -135,7 +135,7 @@ fn format_numbers(alloc: Global, b: &Array, list: &[i64]) -> Result<Array, Fail>
 /// An array as characters: one of characters unchanged, a number scalar or vector as the vector of its display line,
 /// and any other array of numbers in its shape with the width of its display lines, which is 0 without elements, as
 /// the last axis. `WsFull` where the result would pass the limits of an array. It takes memory for the result and for
-/// a number a column. This profile.
+/// a number a column.
 pub fn format(alloc: Global, b: &Array) -> Result<Array, Fail>
     ensures value { IfOk result (λ array. array ≡ formatted b.now) }
     ensures fits { OnOk result (FitsLimits (formatted b.now).shape) }

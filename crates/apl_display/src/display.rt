@@ -1,26 +1,22 @@
 ghost use Rattle.std.specs.Prelude.{◌≡◌, ◌<◌, ◌≤◌, ◌∷◌, [], IfOk, length, map};
 ghost use Rattle.apl_arrays.specs.Array.{plain_items, item_count};
 ghost use Rattle.apl_display.specs.Display.{item_line, display_lines};
-ghost use Rattle.apl_display.specs.Joined.{with_blanks};
+ghost use Rattle.line_text.specs.Spaced.{spaced};
 ghost use Rattle.apl_display.specs.Matrices.{extent_of, matrices_lines};
-ghost use Rattle.apl_display.specs.Number.{number_text};
+ghost use Rattle.line_text.specs.Number.{number_text};
 
 use crate::matrices::extent_of;
-use crate::number::push_number;
-use crate::row::push_gap;
 use crate::table::{Table, matrices_lines, widths_of};
 use apl_arrays::{Array, Items, Line, LineList, List, WantOfMemory};
+use line_text::add_numbers;
 use std::alloc::Global;
 
 /// Numbers in one line, with one blank between.
 pub fn vector_line(alloc: Global, numbers: &[i64]) -> Result<Line, WantOfMemory>
-    ensures { IfOk result (λ line. line.items ≡ with_blanks (map number_text numbers.now)) }
+    ensures { IfOk result (λ line. line.items ≡ spaced (map number_text numbers.now)) }
 {
     let mut line = List::new(alloc);
-    for (place, number) in numbers.iter().enumerate() {
-        push_gap(&mut line, place)?;
-        push_number(&mut line, *number)?;
-    }
+    add_numbers(&mut line, numbers)?;
     Ok(line)
 }
 
@@ -62,7 +58,7 @@ fn table_lines(alloc: Global, b: &Array) -> Result<LineList, WantOfMemory>
 
 /// The lines that show an array: one of a scalar or a vector, none of an array without elements at a higher rank,
 /// else one of each row, with an empty line between two matrices. Numbers stand at the right of their columns, with
-/// one blank between. It takes memory for the lines and for a number a column. This profile.
+/// one blank between. It takes memory for the lines and for a number a column.
 pub fn lines_of(alloc: Global, b: &Array) -> Result<LineList, WantOfMemory>
     ensures { IfOk result (λ lines. lines.items ≡ display_lines b.now) }
 {

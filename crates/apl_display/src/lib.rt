@@ -4,11 +4,8 @@
 mod characters;
 mod display;
 mod matrices;
-mod number;
 mod row;
 mod table;
-#[cfg(test)]
-mod tests;
 mod widths;
 pub mod worked;
 

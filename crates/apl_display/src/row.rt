@@ -1,9 +1,10 @@
 ghost use Rattle.std.specs.Prelude.{◌≡◌, ◌+◌, ◌*◌, ◌≤◌, ◌==◌, ◌++◌, ◌∷◌, [], IfOk, OnOk, length, if◌then◌else◌};
-ghost use Rattle.apl_display.specs.Joined.{blank};
-ghost use Rattle.apl_display.specs.Matrices.{aligned, row_of};
+ghost use Rattle.apl_arrays.specs.Glyph.{blank};
+ghost use Rattle.line_text.specs.Number.{number_text};
+ghost use Rattle.apl_display.specs.Matrices.{aligned, right_aligned, row_of};
 
-use crate::number::push_aligned;
 use apl_arrays::{Glyph, Line, List, WantOfMemory};
+use line_text::{add_blank, add_blanks, add_number, number_width};
 use std::alloc::Global;
 
 /// The items of a row.
@@ -21,9 +22,17 @@ pub fn push_gap(line: &mut Line, column: usize) -> Result<(), WantOfMemory>
     ensures { OnOk result (line.new.items ≡ line.old.items ++ (if column == 0 then [] else blank ∷ [])) }
 {
     if column > 0 {
-        line.push(Glyph::BLANK)?;
+        add_blank(line)?;
     }
     Ok(())
+}
+
+// Adds the text of a number at the right of a column of a width.
+fn push_aligned(line: &mut Line, width: usize, number: i64) -> Result<(), WantOfMemory>
+    ensures { OnOk result (line.new.items ≡ line.old.items ++ right_aligned width (number_text number)) }
+{
+    add_blanks(line, width.saturating_sub(number_width(number)))?;
+    add_number(line, number)
 }
 
 /// Adds numbers at the right of their columns, with one blank between.

@@ -1,10 +1,10 @@
 ghost use Rattle.std.specs.Prelude.{◌≡◌, ◌*◌, ◌<◌, ◌≤◌, ℕ, pos, max, IfOk, length, slice_index, slice_index_or};
 ghost use Rattle.apl_display.specs.Matrices.{column_widths};
-ghost use Rattle.apl_display.specs.Number.{number_width};
+ghost use Rattle.line_text.specs.Number.{number_width};
 
-use crate::number::number_width;
 use crate::row::row_of;
 use apl_arrays::WantOfMemory;
+use line_text::number_width;
 use std::alloc::Global;
 
 // Widens columns to the numbers of a row.

@@ -6,7 +6,7 @@ ghost use Rattle.apl_display.specs.Format.{formatted};
 ghost use Rattle.apl_display.specs.Worked.{number_array, char_array, minus, signed};
 
 /// Numbers stand at the right of their columns, each as wide as its widest number, signs counted. The call does
-/// nothing. This profile.
+/// nothing.
 pub fn numbers_stand_at_the_right()
     ensures two_rows { display_lines (number_array (2 ∷ 2 ∷ []) (pos 1 ∷ minus 10 ∷ pos 2 ∷ pos 3 ∷ [])) ≡
         (codes "1 " ++ signed (codes "10")) ∷ codes "2   3" ∷ [] }
@@ -17,7 +17,7 @@ pub fn numbers_stand_at_the_right()
     ensures scalar { display_lines (number_array [] (minus 5 ∷ [])) ≡ signed (codes "5") ∷ [] }
 {}
 
-/// Widths are those of all matrices, and one empty line stands between two. The call does nothing. This profile.
+/// Widths are those of all matrices, and one empty line stands between two. The call does nothing.
 pub fn matrices_share_their_widths()
     ensures wider_below { display_lines (number_array (2 ∷ 1 ∷ 2 ∷ []) (pos 1 ∷ pos 2 ∷ pos 3 ∷ pos 40 ∷ [])) ≡
         codes "1  2" ∷ [] ∷ codes "3 40" ∷ [] }
@@ -28,7 +28,6 @@ pub fn matrices_share_their_widths()
 {}
 
 /// An empty vector is an empty line; an array without elements at a higher rank has no line. The call does nothing.
-/// This profile.
 pub fn nothing_is_shown()
     ensures numbers { display_lines (number_array (0 ∷ []) []) ≡ [] ∷ [] }
     ensures characters { display_lines (char_array (0 ∷ []) []) ≡ [] ∷ [] }
@@ -37,7 +36,7 @@ pub fn nothing_is_shown()
     ensures no_matrices { display_lines (char_array (0 ∷ 2 ∷ 2 ∷ []) []) ≡ [] }
 {}
 
-/// As characters a matrix keeps its rows, and a number is a vector. The call does nothing. This profile.
+/// As characters a matrix keeps its rows, and a number is a vector. The call does nothing.
 pub fn numbers_become_characters()
     ensures scalar { formatted (number_array [] (pos 5 ∷ [])) ≡ char_array (1 ∷ []) (codes "5") }
     ensures vector { formatted (number_array (2 ∷ []) (pos 1 ∷ pos 23 ∷ [])) ≡ char_array (4 ∷ []) (codes "1 23") }

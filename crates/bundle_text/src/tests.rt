@@ -3,12 +3,12 @@ use apl_arrays::WantOfMemory;
 use std::alloc::{AllocError, Global};
 use std::test::Fail;
 
-const TEXT: &[u8] = "user 1001\n|X←3\n|X\nuser 1999\n|Y\nend".as_bytes();
+const TEXT: &str = "user 1001\n|X←3\n|X\nuser 1999\n|Y\nend";
 
 // A reading that memory failed is made again.
 fn bundle(alloc: Global) -> Result<Bundle, BundleRefused> {
-    match read(alloc, TEXT) {
-        Err(BundleRefused::WantOfMemory) => read(alloc, TEXT),
+    match read(alloc, TEXT.as_bytes()) {
+        Err(BundleRefused::WantOfMemory) => read(alloc, TEXT.as_bytes()),
         outcome => outcome,
     }
 }

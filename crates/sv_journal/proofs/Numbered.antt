@@ -5,8 +5,9 @@ use Rattle.std.proofs.lemmas.List.Concat.{flat_map-append}
 use Rattle.std.specs.List.{flat_map}
 use Rattle.sv_events.specs.Entry.{PlainEntry, plain_entry}
 use Rattle.sv_events.specs.declared.entry.Entry.{Entry}
-use Rattle.aplsv_top.specs.EntryText.{entry_text}
-use Rattle.aplsv_top.specs.Output.{entry_lines, line_text}
+use Rattle.sv_journal.specs.EntryText.{entry_text}
+use Rattle.line_text.specs.Lines.{line_text}
+use Rattle.sv_journal.specs.Output.{entry_lines}
 
 -- the line of one entry more
 entry_lines_more : (place : ℕ) (entries : List PlainEntry) (entry : PlainEntry) → entry_lines place (entries ++ entry ∷ []) ≡ entry_lines place entries ++ entry_text (place + length entries) entry ∷ []

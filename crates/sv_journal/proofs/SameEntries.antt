@@ -12,12 +12,12 @@ use Rattle.sv_events.specs.Entry.{PlainEntry}
 use Rattle.sv_events.specs.declared.event.Act.{Act}
 use Rattle.sv_events.specs.declared.event.Act.TheVariants.{Offer, Set, Use, Leave}
 use Rattle.sv_events.specs.declared.entry.Pair.{Pair}
-use Rattle.aplsv_top.specs.EntryText.{act_text, answer_text, pair_text, entry_text}
-use Rattle.aplsv_top.specs.Printable.{IsPrintableAct, IsPrintableAnswer, IsPrintablePair, IsPrintableEntry}
-use Rattle.aplsv_top.specs.ValueText.{array_text, value_text}
-use Rattle.aplsv_top.proofs.SameNumbers.{no_digit_here, same_count}
-use Rattle.aplsv_top.proofs.SameValues.{EndsValue, same_array, same_value}
-use Rattle.aplsv_top.proofs.Spans.{begins, same_span, Reads, same_list}
+use Rattle.sv_journal.specs.EntryText.{act_text, answer_text, pair_text, entry_text}
+use Rattle.sv_journal.specs.Printable.{IsPrintableAct, IsPrintableAnswer, IsPrintablePair, IsPrintableEntry}
+use Rattle.sv_journal.specs.ValueText.{array_text, value_text}
+use Rattle.line_text.proofs.SameNumbers.{no_digit_here, same_count}
+use Rattle.sv_journal.proofs.SameValues.{EndsValue, same_array, same_value}
+use Rattle.line_text.proofs.Spans.{begins, same_span, Reads, same_list}
 
 -- names
 

@@ -6,12 +6,13 @@ use Rattle.std.proofs.lemmas.List.Elements.{recursion_from_All}
 use Rattle.std.specs.Fmt.{decimal}
 use Rattle.std.specs.List.{flat_map, AllByRecursion}
 use Rattle.apl_arrays.specs.Array.{PlainItems, numbers, chars, PlainArray}
-use Rattle.apl_display.specs.Number.{number_text}
-use Rattle.aplsv_top.specs.NumberText.{spaced}
-use Rattle.aplsv_top.specs.Printable.{ArePrintableItems, IsPrintableArray}
-use Rattle.aplsv_top.specs.ValueText.{quote, char_text, kind_text, items_text, array_text, value_text}
-use Rattle.aplsv_top.proofs.SameNumbers.{Fits64, Count64, ends_numbers, same_spaced, counts_are_like_numbers, numbers_are_like_numbers}
-use Rattle.aplsv_top.proofs.Spans.{begins, Reads, same_list}
+use Rattle.line_text.specs.Number.{number_text}
+use Rattle.line_text.specs.Spaced.{spaced}
+use Rattle.sv_journal.specs.Printable.{ArePrintableItems, IsPrintableArray}
+use Rattle.apl_arrays.specs.Glyph.{quote}
+use Rattle.sv_journal.specs.ValueText.{char_text, kind_text, items_text, array_text, value_text}
+use Rattle.line_text.proofs.SameNumbers.{Fits64, Count64, ends_numbers, same_spaced, counts_are_like_numbers, numbers_are_like_numbers}
+use Rattle.line_text.proofs.Spans.{begins, Reads, same_list}
 
 kinds_differ : codes "N" ≡ codes "C" → ⊥
 kinds_differ e = omega (arith, ap (λ text. get_or text 0 0) e)

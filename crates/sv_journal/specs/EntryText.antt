@@ -5,8 +5,8 @@ use Rattle.sv_events.specs.Entry.{PlainEntry}
 use Rattle.sv_events.specs.declared.event.Act.{Act}
 use Rattle.sv_events.specs.declared.event.Act.TheVariants.{Offer, Set, Use, Leave}
 use Rattle.sv_events.specs.declared.entry.Pair.{Pair}
-use Rattle.aplsv_top.specs.NumberText.{spaced}
-use Rattle.aplsv_top.specs.ValueText.{array_text, value_text}
+use Rattle.line_text.specs.Spaced.{spaced}
+use Rattle.sv_journal.specs.ValueText.{array_text, value_text}
 
 -- an act: its word, and what it is made with
 abbrev pub act_text : Act → List ℕ

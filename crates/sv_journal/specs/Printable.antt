@@ -9,7 +9,7 @@ use Rattle.sv_events.specs.Entry.{PlainEntry}
 use Rattle.sv_events.specs.declared.event.Act.{Act}
 use Rattle.sv_events.specs.declared.event.Act.TheVariants.{Offer, Set, Use, Leave}
 use Rattle.sv_events.specs.declared.entry.Pair.{Pair}
-use Rattle.aplsv_top.specs.Transcripts.{PlainTranscript}
+use Rattle.sv_journal.specs.Output.{PlainTranscript}
 
 -- numbers of 64 bits, or glyphs
 abbrev pub ArePrintableItems : PlainItems → Type 0

@@ -1,12 +1,9 @@
 use Rattle.std.specs.Prelude.{ℕ, List, [], ◌∷◌, ◌++◌, ◌==◌, map, codes, decimal, Option, Some, None, if◌then◌else◌}
 use Rattle.std.specs.List.{flat_map}
+use Rattle.apl_arrays.specs.Glyph.{quote}
 use Rattle.apl_arrays.specs.Array.{PlainItems, numbers, chars, PlainArray}
-use Rattle.apl_display.specs.Number.{number_text}
-use Rattle.aplsv_top.specs.NumberText.{spaced}
-
--- the quote, which stands round characters
-abbrev pub quote : ℕ
-quote = 39
+use Rattle.line_text.specs.Number.{number_text}
+use Rattle.line_text.specs.Spaced.{spaced}
 
 -- a character between quotes: a quote is written twice
 abbrev pub char_text : ℕ → List ℕ

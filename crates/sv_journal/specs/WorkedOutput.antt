@@ -1,12 +1,15 @@
 -- Worked outputs: transcripts and entries, and what is written of them.
-use Rattle.std.specs.Prelude.{ℕ, pos, List, [], ◌∷◌, ◌++◌, codes, Some, None}
+use Rattle.std.specs.Prelude.{ℕ, ℤ, pos, negsuc, List, [], ◌∷◌, ◌++◌, codes, Some, None}
 use Rattle.std.specs.List.{flat_map}
-use Rattle.apl_arrays.specs.Array.{scalar}
-use Rattle.sv_events.specs.Answer.{PlainAnswer, degree, granted, value, done}
+use Rattle.apl_arrays.specs.Array.{PlainArray, numbers, chars, scalar}
+use Rattle.apl_arrays.specs.Glyph.{bar, blank, delta, left_arrow, quad, quote, rho}
+use Rattle.line_text.specs.Lines.{line_feed}
+use Rattle.sv_events.specs.Answer.{PlainAnswer, degree, granted, value, no_value, not_shared, offer_limit, full, done}
 use Rattle.sv_events.specs.Entry.{PlainEntry}
 use Rattle.sv_events.specs.declared.event.Act.{Act}
 use Rattle.sv_events.specs.declared.event.Act.TheVariants.{Offer, Set, Use, Leave}
-use Rattle.aplsv_top.specs.Transcripts.{PlainTranscript}
+use Rattle.sv_events.specs.declared.entry.Pair.{Pair}
+use Rattle.sv_journal.specs.Output.{PlainTranscript}
 
 -- an entry that couples nothing
 abbrev pub plain : ℕ → Act → PlainAnswer → PlainEntry
@@ -34,8 +37,8 @@ offer_line quad party = codes "      " ++ (party ++ (32 ∷ (quad ++ codes "SVO 
 -- what the two users saw, in codes of glyphs
 abbrev pub plain_path_transcripts : List PlainTranscript
 plain_path_transcripts =
-    record { user = 1001; lines = assignment (149 ∷ []) (codes "3") ∷ offer_line (151 ∷ []) (codes "1002") ∷ codes "1" ∷ assignment (149 ∷ []) (codes "4") ∷ [] }
-    ∷ record { user = 1002; lines = offer_line (151 ∷ []) (codes "1001") ∷ codes "2" ∷ codes "      X" ∷ codes "4" ∷ [] }
+    record { user = 1001; lines = assignment (left_arrow ∷ []) (codes "3") ∷ offer_line (quad ∷ []) (codes "1002") ∷ codes "1" ∷ assignment (left_arrow ∷ []) (codes "4") ∷ [] }
+    ∷ record { user = 1002; lines = offer_line (quad ∷ []) (codes "1001") ∷ codes "2" ∷ codes "      X" ∷ codes "4" ∷ [] }
     ∷ []
 
 -- the arrow and the quad in UTF-8
@@ -48,14 +51,14 @@ quad_utf8 = 226 ∷ 142 ∷ 149 ∷ []
 -- the bytes that are written, line by line
 abbrev pub plain_path_output : List ℕ
 plain_path_output =
-    flat_map (λ line. line ++ 10 ∷ [])
+    flat_map (λ line. line ++ line_feed ∷ [])
     (codes "user 1001"
-    ∷ (124 ∷ assignment arrow_utf8 (codes "3"))
-    ∷ (124 ∷ offer_line quad_utf8 (codes "1002"))
+    ∷ (bar ∷ assignment arrow_utf8 (codes "3"))
+    ∷ (bar ∷ offer_line quad_utf8 (codes "1002"))
     ∷ codes "|1"
-    ∷ (124 ∷ assignment arrow_utf8 (codes "4"))
+    ∷ (bar ∷ assignment arrow_utf8 (codes "4"))
     ∷ codes "user 1002"
-    ∷ (124 ∷ offer_line quad_utf8 (codes "1001"))
+    ∷ (bar ∷ offer_line quad_utf8 (codes "1001"))
     ∷ codes "|2"
     ∷ codes "|      X"
     ∷ codes "|4"
@@ -66,5 +69,80 @@ plain_path_output =
     ∷ codes "4 1002 use X : value N()4"
     ∷ codes "5 1001 leave : done"
     ∷ codes "6 1002 leave : done"
+    ∷ codes "end"
+    ∷ [])
+
+-- numbers in a shape, and characters
+abbrev pub number_array : List ℕ → List ℤ → PlainArray
+number_array shape list = record { shape = shape; items = numbers list }
+
+abbrev pub char_array : List ℕ → List ℕ → PlainArray
+char_array shape text = record { shape = shape; items = chars text }
+
+-- an entry that makes pairs
+abbrev pub making : ℕ → Act → PlainAnswer → List Pair → PlainEntry
+making party act answer made = record { party = party; act = act; answer = answer; made = made }
+
+-- entries of every kind of act, answer and value, few of which a journal could have
+abbrev pub every_kind_entries : List PlainEntry
+every_kind_entries =
+    plain 1001 (Offer 0 (codes "A") (delta ∷ codes "b_9") None) (degree 1)
+    ∷ making 10 (Offer 1002 (codes "X") (codes "Y") (Some (number_array (2 ∷ 2 ∷ []) (pos 1 ∷ pos 2 ∷ pos 3 ∷ negsuc 3 ∷ [])))) (degree 2) (record { a = 1; b = 2 } ∷ [])
+    ∷ plain 1999 (Offer 20 (codes "aaaaaaaaaaaaaaaaaaaaaaaaaaaaaaa9") (codes "Z") (Some (char_array (5 ∷ []) (codes "HELLO")))) offer_limit
+    ∷ plain 1001 (Set (codes "A") (number_array (0 ∷ []) [])) granted
+    ∷ plain 1001 (Set (codes "A") (char_array (0 ∷ []) [])) not_shared
+    ∷ plain 1002 (Set (codes "Y") (char_array (4 ∷ []) (codes "IT'S"))) granted
+    ∷ plain 1002 (Set (codes "Y") (char_array [] (codes "'"))) granted
+    ∷ plain 1002 (Set (codes "Y") (char_array (2 ∷ 0 ∷ []) [])) granted
+    ∷ plain 1002 (Set (codes "Y") (number_array (1 ∷ 1 ∷ 1 ∷ 1 ∷ 1 ∷ 1 ∷ 1 ∷ 1 ∷ []) (pos 0 ∷ []))) granted
+    ∷ plain 1001 (Use (codes "A")) (value (number_array [] (negsuc 9223372036854775807 ∷ [])))
+    ∷ plain 1001 (Use (codes "A")) (value (number_array (1 ∷ []) (pos 9223372036854775807 ∷ [])))
+    ∷ plain 1001 (Use (codes "A")) (value (char_array (2 ∷ 2 ∷ []) (blank ∷ rho ∷ left_arrow ∷ quote ∷ [])))
+    ∷ plain 1001 (Use (codes "A")) no_value
+    ∷ plain 1002 (Use (codes "B")) not_shared
+    ∷ making 4294967295 Leave done (record { a = 1; b = 3 } ∷ record { a = 10; b = 18446744073709551615 } ∷ [])
+    ∷ plain 0 Leave full
+    ∷ []
+
+-- users who saw next to nothing
+abbrev pub every_kind_transcripts : List PlainTranscript
+every_kind_transcripts =
+    record { user = 1001; lines = [] } ∷ record { user = 1002; lines = [] ∷ [] } ∷ record { user = 1999; lines = [] } ∷ []
+
+-- the signs that are no ASCII, in UTF-8
+abbrev pub overbar_utf8 : List ℕ
+overbar_utf8 = 194 ∷ 175 ∷ []
+
+abbrev pub delta_utf8 : List ℕ
+delta_utf8 = 226 ∷ 136 ∷ 134 ∷ []
+
+abbrev pub rho_utf8 : List ℕ
+rho_utf8 = 226 ∷ 141 ∷ 180 ∷ []
+
+-- the bytes that are written, line by line
+abbrev pub every_kind_output : List ℕ
+every_kind_output =
+    flat_map (λ line. line ++ line_feed ∷ [])
+    (codes "user 1001"
+    ∷ codes "user 1002"
+    ∷ codes "|"
+    ∷ codes "user 1999"
+    ∷ codes "journal"
+    ∷ (codes "1 1001 offer 0 A " ++ (delta_utf8 ++ codes "b_9 none : degree 1"))
+    ∷ (codes "2 10 offer 1002 X Y N(2 2)1 2 3 " ++ (overbar_utf8 ++ codes "4 : degree 2 + 1 2"))
+    ∷ codes "3 1999 offer 20 aaaaaaaaaaaaaaaaaaaaaaaaaaaaaaa9 Z C(5)'HELLO' : limit"
+    ∷ codes "4 1001 set A N(0) : granted"
+    ∷ codes "5 1001 set A C(0)'' : notshared"
+    ∷ codes "6 1002 set Y C(4)'IT''S' : granted"
+    ∷ codes "7 1002 set Y C()'''' : granted"
+    ∷ codes "8 1002 set Y C(2 0)'' : granted"
+    ∷ codes "9 1002 set Y N(1 1 1 1 1 1 1 1)0 : granted"
+    ∷ (codes "10 1001 use A : value N()" ++ (overbar_utf8 ++ codes "9223372036854775808"))
+    ∷ codes "11 1001 use A : value N(1)9223372036854775807"
+    ∷ (codes "12 1001 use A : value C(2 2)' " ++ (rho_utf8 ++ (arrow_utf8 ++ codes "'''")))
+    ∷ codes "13 1001 use A : novalue"
+    ∷ codes "14 1002 use B : notshared"
+    ∷ codes "15 4294967295 leave : done + 1 3 + 10 18446744073709551615"
+    ∷ codes "16 0 leave : full"
     ∷ codes "end"
     ∷ [])

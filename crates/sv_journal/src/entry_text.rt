@@ -2,14 +2,14 @@ ghost use Rattle.std.specs.Prelude.{◌≡◌, All, ◌<◌, ◌^◌, ◌∷◌,
 ghost use Rattle.std.specs.List.{flat_map};
 ghost use Rattle.sv_events.specs.Answer.{plain_answer};
 ghost use Rattle.sv_events.specs.Entry.{PlainEntry, plain_entry};
-ghost use Rattle.aplsv_top.specs.EntryText.{act_text, answer_text, pair_text, entry_text};
-ghost use Rattle.aplsv_top.specs.NumberText.{spaced};
+ghost use Rattle.sv_journal.specs.EntryText.{act_text, answer_text, pair_text, entry_text};
+ghost use Rattle.line_text.specs.Spaced.{spaced};
 ghost use Rattle.apl_arrays.specs.Name.{IsName};
-ghost use Rattle.aplsv_top.specs.Printable.{IsPrintableAct, IsPrintableAnswer, IsPrintablePair, IsPrintableEntry};
+ghost use Rattle.sv_journal.specs.Printable.{IsPrintableAct, IsPrintableAnswer, IsPrintablePair, IsPrintableEntry};
 
-use crate::line_text::{add_blank, add_count, add_glyphs, add_text};
 use crate::value_text::{add_array, add_value};
 use apl_arrays::{Array, Line, List, Name, WantOfMemory};
+use line_text::{add_blank, add_count, add_glyphs, add_text};
 use std::alloc::Global;
 use sv_events::{Act, Answer, Entry, Pair};
 
@@ -160,7 +160,7 @@ fn add_entry(line: &mut Line, place: u64, entry: &Entry) -> Result<(), WantOfMem
 }
 
 /// The text of an entry at its place, which counts from 1: party, act, answer, and the pairs that it made. No entry of a
-/// journal has the answer `Full`; its text is the word `full`. It takes memory for the line. This profile.
+/// journal has the answer `Full`; its text is the word `full`. It takes memory for the line.
 pub fn text_of(alloc: Global, place: u64, entry: &Entry) -> Result<Line, WantOfMemory>
     ensures text { IfOk result (λ line. line.items ≡ entry_text place (plain_entry entry.now)) }
     ensures printable { OnOk result ((place < 2 ^ 64) × IsPrintableEntry (plain_entry entry.now)) }
@@ -170,32 +170,9 @@ pub fn text_of(alloc: Global, place: u64, entry: &Entry) -> Result<Line, WantOfM
     Ok(line)
 }
 
-/// No two entries have one text: a text tells the place, and each part of the entry. The call does nothing. This
-/// profile.
+/// No two entries have one text: a text tells the place, and each part of the entry. The call does nothing.
 pub fn an_entry_is_read_in_one_way()
     ensures { (place other : ℕ) (entry another : PlainEntry) → place < 2 ^ 64 → other < 2 ^ 64
         → IsPrintableEntry entry → IsPrintableEntry another
         → entry_text place entry ≡ entry_text other another → (place ≡ other) × (entry ≡ another) }
 {}
-
-#[cfg(test)]
-mod tests {
-    use super::*;
-    use crate::text_samples::{entry, twice};
-    use apl_arrays::{Bytes, GlyphRefused, utf8_of};
-    use std::test::Fail;
-
-    fn last_leave(alloc: Global) -> Result<Bytes, GlyphRefused> {
-        let leave = entry(alloc, 1002, Act::Leave, Answer::Done, &[])?;
-        let line = text_of(alloc, u64::MAX, &leave)?;
-        Ok(utf8_of(alloc, &line)?)
-    }
-
-    #[test]
-    fn writes_the_greatest_place(rt: HostRuntime) -> Result<(), Fail> {
-        let bytes = twice(rt.alloc(), last_leave)?;
-        let text = b"18446744073709551615 1002 leave : done";
-        assert_eq!(rt; bytes.as_slice(), text.as_slice());
-        Ok(())
-    }
-}

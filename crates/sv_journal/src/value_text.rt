@@ -2,21 +2,18 @@ ghost use Rattle.std.specs.Prelude.{◌≡◌, All, IfSome, ◌∷◌, [], ◌++
 ghost use Rattle.std.specs.List.{flat_map};
 ghost use Rattle.apl_arrays.specs.Array.{plain_items};
 ghost use Rattle.apl_arrays.specs.Glyph.{IsGlyph};
-ghost use Rattle.aplsv_top.specs.Printable.{ArePrintableItems, IsPrintableArray};
-ghost use Rattle.aplsv_top.specs.ValueText.{quote, char_text, kind_text, items_text, array_text, value_text};
+ghost use Rattle.sv_journal.specs.Printable.{ArePrintableItems, IsPrintableArray};
+ghost use Rattle.sv_journal.specs.ValueText.{char_text, kind_text, items_text, array_text, value_text};
 
-use crate::line_text::{add_counts, add_numbers, add_text};
 use apl_arrays::{Array, Glyph, Items, Line, WantOfMemory};
-
-/// The quote, which stands round characters.
-const QUOTE: u8 = b'\'';
+use line_text::{add_counts, add_numbers, add_text};
 
 // Adds a character as it stands between quotes.
 fn add_char(line: &mut Line, glyph: Glyph) -> Result<(), WantOfMemory>
     ensures text { OnOk result (line.new.items ≡ line.old.items ++ char_text glyph) }
     ensures printable { IsGlyph glyph }
 {
-    if glyph.code() == QUOTE {
+    if glyph == Glyph::QUOTE {
         line.push(glyph)?;
     }
     line.push(glyph)
@@ -59,8 +56,9 @@ fn add_items(line: &mut Line, items: &Items) -> Result<(), WantOfMemory>
     }
 }
 
-// Adds an array.
-pub(crate) fn add_array(line: &mut Line, array: &Array) -> Result<(), WantOfMemory>
+/// Adds an array at the end of a line: its kind, its axes, its items. It takes memory where there is no room for them;
+/// where that runs out, a part of the text may stand there.
+pub fn add_array(line: &mut Line, array: &Array) -> Result<(), WantOfMemory>
     ensures text { OnOk result (line.new.items ≡ line.old.items ++ array_text array.now) }
     ensures printable { OnOk result (IsPrintableArray array.now) }
 {
@@ -71,8 +69,9 @@ pub(crate) fn add_array(line: &mut Line, array: &Array) -> Result<(), WantOfMemo
     add_items(line, array.items())
 }
 
-// Adds a value, or that there is none.
-pub(crate) fn add_value(line: &mut Line, value: &Option<Array>) -> Result<(), WantOfMemory>
+/// Adds a value at the end of a line, or that there is none. It takes memory where there is no room for it; where that
+/// runs out, a part of the text may stand there.
+pub fn add_value(line: &mut Line, value: &Option<Array>) -> Result<(), WantOfMemory>
     ensures text { OnOk result (line.new.items ≡ line.old.items ++ value_text value.now) }
     ensures printable { OnOk result (IfSome value.now (λ array. IsPrintableArray array)) }
 {

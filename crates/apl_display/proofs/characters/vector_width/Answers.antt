@@ -1,7 +1,7 @@
 use Rattle.std.proofs.Common.{◌+◌, ◌-◌, ◌^◌, min, length, ap, sym, ◌∙◌, arith}
 use Rattle.std.proofs.lemmas.List.{take_all}
 use Rattle.std.specs.List.{sum_by}
-use Rattle.apl_display.specs.Number.{number_width}
+use Rattle.line_text.specs.Number.{number_width}
 use Rattle.apl_display.proofs.TextLemmas.{length_of_numbers}
 use Rattle.apl_display.proofs.characters.vector_width.Goals as goal
 

@@ -1,6 +1,6 @@
 use Rattle.std.proofs.Common.{◌≡◌, ◌+◌, ◌-◌, ◌^◌, min, length, take}
 use Rattle.std.specs.List.{sum_by}
-use Rattle.apl_display.specs.Number.{number_width}
+use Rattle.line_text.specs.Number.{number_width}
 use Rattle.apl_display.proofs.characters.vector_width.Given as goal
 
 abbrev pub invariant-loop-number : goal.invariant-loop-number

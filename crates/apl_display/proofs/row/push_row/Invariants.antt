@@ -1,8 +1,8 @@
 use Rattle.std.proofs.Common.{◌≡◌, ◌++◌, take, map}
 use Rattle.std.specs.List.{zip}
-use Rattle.apl_display.specs.Joined.{with_blanks}
+use Rattle.line_text.specs.Spaced.{spaced}
 use Rattle.apl_display.specs.Matrices.{cell}
 use Rattle.apl_display.proofs.row.push_row.Given as goal
 
 abbrev pub invariant-loop-column : goal.invariant-loop-column
-invariant-loop-column l = l.line.items ≡ l.fn.line.items ++ with_blanks (map cell (take l.column (zip l.widths l.row)))
+invariant-loop-column l = l.line.items ≡ l.fn.line.items ++ spaced (map cell (take l.column (zip l.widths l.row)))

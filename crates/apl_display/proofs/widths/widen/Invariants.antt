@@ -1,5 +1,5 @@
 use Rattle.std.proofs.Common.{◌≡◌, ◌<◌, ◌≤◌, ℕ, pos, max, get_or}
-use Rattle.apl_display.specs.Number.{number_width}
+use Rattle.line_text.specs.Number.{number_width}
 use Rattle.apl_display.proofs.widths.widen.Given as goal
 
 abbrev pub invariant-loop-column : goal.invariant-loop-column

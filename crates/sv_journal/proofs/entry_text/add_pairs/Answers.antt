@@ -1,8 +1,8 @@
 use Rattle.std.proofs.Common.{arith}
 use Rattle.std.proofs.lemmas.Grind.{common_steps}
 use Rattle.std.proofs.lemmas.List.Elements.{All-more}
-use Rattle.aplsv_top.specs.Printable.{IsPrintablePair}
-use Rattle.aplsv_top.proofs.entry_text.add_pairs.Goals as goal
+use Rattle.sv_journal.specs.Printable.{IsPrintablePair}
+use Rattle.sv_journal.proofs.entry_text.add_pairs.Goals as goal
 
 pub loop-pair-preserved : goal.loop-pair-preserved
 loop-pair-preserved c = record {

@@ -1,8 +1,8 @@
 use Rattle.std.proofs.Common.{◌≡◌, ◌++◌, take}
 use Rattle.std.specs.List.{All, flat_map}
-use Rattle.aplsv_top.specs.EntryText.{pair_text}
-use Rattle.aplsv_top.specs.Printable.{IsPrintablePair}
-use Rattle.aplsv_top.proofs.entry_text.add_pairs.Given as goal
+use Rattle.sv_journal.specs.EntryText.{pair_text}
+use Rattle.sv_journal.specs.Printable.{IsPrintablePair}
+use Rattle.sv_journal.proofs.entry_text.add_pairs.Given as goal
 
 abbrev pub invariant-loop-pair : goal.invariant-loop-pair
 invariant-loop-pair l = record {

@@ -1,0 +1,5 @@
+pub mod GlyphTexts
+pub mod Numbered
+pub mod SameEntries
+pub mod SameOutput
+pub mod SameValues

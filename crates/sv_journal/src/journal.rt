@@ -1,0 +1,63 @@
+ghost use Rattle.std.specs.Prelude.{◌≡◌, All, ◌++◌, List as ListOf, OnOk, map};
+ghost use Rattle.sv_events.specs.Entry.{PlainEntry, plain_entry};
+ghost use Rattle.line_text.specs.Lines.{line_text, lines_text};
+ghost use Rattle.sv_journal.specs.EntryText.{entry_text};
+ghost use Rattle.sv_journal.specs.Output.{PlainTranscript, entry_lines, journal_lines, output_text};
+ghost use Rattle.sv_journal.specs.Printable.{IsPrintableEntry, ArePrintable};
+
+use crate::entry_text::text_of;
+use apl_arrays::WantOfMemory;
+use line_text::{add_line, add_word};
+use std::alloc::Global;
+use sv_events::Entry;
+
+// Adds an entry's line.
+fn add_entry_line(
+    alloc: Global,
+    bytes: &mut Vec<u8>,
+    place: u64,
+    entry: &Entry,
+) -> Result<(), WantOfMemory>
+    ensures text { OnOk result (bytes.new.items
+        ≡ bytes.old.items ++ line_text (entry_text place (plain_entry entry.now))) }
+    ensures printable { OnOk result (IsPrintableEntry (plain_entry entry.now)) }
+{
+    add_line(alloc, bytes, &text_of(alloc, place, entry)?)
+}
+
+// Adds entries, numbered from 1.
+fn add_entries(alloc: Global, bytes: &mut Vec<u8>, entries: &[Entry]) -> Result<(), WantOfMemory>
+    ensures text { OnOk result (bytes.new.items
+        ≡ bytes.old.items ++ lines_text (entry_lines 1 (map plain_entry entries.now))) }
+    ensures printable { OnOk result (All IsPrintableEntry (map plain_entry entries.now)) }
+{
+    for (index, entry) in entries.iter().enumerate() {
+        add_entry_line(alloc, bytes, index as u64 + 1, entry)?;
+    }
+    Ok(())
+}
+
+/// Adds a journal, its oldest entry first, between its heading and the end. It takes memory for the bytes and for one
+/// line; where that runs out, a part of the journal may stand there.
+pub fn add_journal(
+    alloc: Global,
+    bytes: &mut Vec<u8>,
+    entries: &[Entry],
+) -> Result<(), WantOfMemory>
+    ensures text { OnOk result (bytes.new.items
+        ≡ bytes.old.items ++ lines_text (journal_lines (map plain_entry entries.now))) }
+    ensures printable { OnOk result (All IsPrintableEntry (map plain_entry entries.now)) }
+{
+    add_word(alloc, bytes, "journal")?;
+    add_entries(alloc, bytes, entries)?;
+    add_word(alloc, bytes, "end")
+}
+
+/// The bytes that are written tell the transcripts and the journal: no others have the same output. The call does
+/// nothing.
+pub fn an_output_is_read_in_one_way()
+    ensures { (transcripts others : ListOf PlainTranscript) (journal another : ListOf PlainEntry)
+        → ArePrintable transcripts journal → ArePrintable others another
+        → output_text transcripts journal ≡ output_text others another
+        → (transcripts ≡ others) × (journal ≡ another) }
+{}
