@@ -4,25 +4,27 @@ use Rattle.std.specs.declared.option.Option.{Option}
 use Rattle.std.specs.Io.KnownBytes.{Appends}
 use Rattle.apl_io.specs.Whole.{ReadsAll, AppendsPrefix}
 use Rattle.sv_rules.specs.Entries.{Entries}
-use Rattle.aplsv_top.specs.Bundle.{PlainBundle, BundleText, IsNoBundle}
-use Rattle.aplsv_top.specs.Output.{output_text}
-use Rattle.aplsv_top.specs.Printable.{ArePrintable}
-use Rattle.aplsv_top.specs.Run.{IsRun}
-use Rattle.aplsv_top.specs.Transcripts.{PlainTranscript}
+use Rattle.sv_journal.specs.Output.{PlainTranscript, output_text}
+use Rattle.sv_journal.specs.Printable.{ArePrintable}
+use Rattle.bundle_text.specs.Bundle.{PlainBundle}
+use Rattle.apl_session.specs.Run.{IsRun}
+use Rattle.aplsv_replay.specs.Turns.{IsJournalOfTurns}
+use Rattle.aplsv_top.specs.Runnable.{RunnableText, IsNotRunnable}
 
--- the text is the output of a run of this bundle: its transcripts, and its journal with the oldest entry first. They are
--- printable, and no others that are have this output
+-- the text is the output of a run of this bundle: its transcripts, and its journal with the oldest entry first, which is
+-- the journal of the bundle's turns. They are printable, and no others that are have this output
 pub record IsOutputOf (bundle : PlainBundle) (text : List ℕ) : Type 0 where
   pub transcripts : List PlainTranscript
   pub journal : Entries
   pub run : IsRun bundle journal transcripts
+  pub turns : IsJournalOfTurns bundle journal
   pub output : text ≡ output_text transcripts (reverse journal)
   pub printable : ArePrintable transcripts (reverse journal)
 
--- the bytes are the text of a bundle, and the text is the output of a run of it
+-- the bytes are the text of a bundle each of whose lines is a statement, and the text is the output of a run of it
 pub record IsOutputFor (bytes text : List ℕ) : Type 0 where
   pub bundle : PlainBundle
-  pub read : BundleText bytes bundle
+  pub read : RunnableText bytes bundle
   pub run : IsOutputOf bundle text
 
 -- all bytes were read, to their end, and the output of a run of their bundle was written
@@ -41,8 +43,8 @@ pub record WritesFront (left rest held now : Option (List ℕ)) : Type 0 where
   pub run : IsOutputFor bytes text
   pub written : AppendsPrefix held now text
 
--- all bytes were read, to their end, and they are the text of no bundle
+-- all bytes were read, to their end, and they are the text of no bundle each of whose lines is a statement
 pub record FindsNoBundle (left rest : Option (List ℕ)) : Type 0 where
   pub bytes : List ℕ
   pub read : ReadsAll left rest bytes
-  pub none : IsNoBundle bytes
+  pub none : IsNotRunnable bytes

@@ -16,15 +16,15 @@ IsMalformed status.WriteFault = ⊥
 IsMalformed status.TooLong = ⊥
 IsMalformed status.WantOfMemory = ⊥
 
--- the bytes were answered: their run was written, or they are said to be no bundle, or memory ran out
-abbrev pub IsAnswered : Status → Type 0
-IsAnswered status.Done = Unit {0}
-IsAnswered (status.Malformed offset rule) = Unit {0}
-IsAnswered status.WantOfMemory = Unit {0}
-IsAnswered status.Usage = ⊥
-IsAnswered status.ReadFault = ⊥
-IsAnswered status.WriteFault = ⊥
-IsAnswered status.TooLong = ⊥
+-- the bytes themselves decided: their run was written, or they are said to be no bundle, or memory ran out
+abbrev pub IsConclusion : Status → Type 0
+IsConclusion status.Done = Unit {0}
+IsConclusion (status.Malformed offset rule) = Unit {0}
+IsConclusion status.WantOfMemory = Unit {0}
+IsConclusion status.Usage = ⊥
+IsConclusion status.ReadFault = ⊥
+IsConclusion status.WriteFault = ⊥
+IsConclusion status.TooLong = ⊥
 
 -- the exit status of the process, for each way to end
 abbrev pub exit_status : Status → ℕ

@@ -1,7 +1,7 @@
 ghost use Rattle.std.specs.Prelude.{◌≡◌};
 ghost use Rattle.aplsv_top.specs.Words.{exit_status};
 
-use crate::bundle::BundleRule;
+use bundle_text::BundleRule;
 use std::fmt;
 
 /// How the program ended.
@@ -24,7 +24,7 @@ pub enum Status {
 }
 
 impl Status {
-    /// The exit status of the process. No memory. This profile.
+    /// The exit status of the process. No memory.
     pub fn code(self) -> u8
         ensures { result ≡ exit_status self }
     {

@@ -2,18 +2,16 @@
 use Rattle.std.proofs.Common.{◌≡◌, ◌≤◌, ◌<◌, ◌+◌, ℕ, Bool, true, false, not, leb, ◌||◌, ◌&&◌, ◌==◌, List, [], ◌∷◌, ◌++◌, length, map, filter, count_by, cond, ap, sym, refl, ◌∙◌, arith, add_comm, IsTrue, Result, Ok, Err, OnOk, is_ok, All, subst}
 use Rattle.std.proofs.lemmas.List.{append-nil}
 use Rattle.std.proofs.lemmas.Bool.{or_parts, leb-false}
-use Rattle.std.proofs.lemmas.List.Elements.{filter_agree, All-weaker}
+use Rattle.std.proofs.lemmas.List.Elements.{filter_agree}
 use Rattle.std.proofs.lemmas.List.Sums.{length-filter, sum_by-cons, count_by-le-length}
-use Rattle.apl_arrays.specs.List.{Listed}
 use Rattle.sv_events.specs.Entry.{PlainEntry}
-use Rattle.sv_events.specs.declared.entry.Pair.{Pair}
 use Rattle.sv_rules.specs.declared.coupling.Made.{Made}
 use Rattle.sv_rules.specs.declared.standing.Standing.{Standing}
 use Rattle.sv_rules.specs.Entries.{Entries, has_left, is_leave, is_full, counted_entries, held_elements, entry_elements, next_place}
 use Rattle.sv_rules.specs.Standing.{standing}
 use Rattle.sv_rules.specs.Coupling.{couplings, made_in, both_stand}
 use Rattle.sv_rules.specs.Legal.{MayFollow}
-use Rattle.sv_core.specs.Core.{present, IsKept, IsQuiet, IsPlaced, IsSpare}
+use Rattle.sv_core.specs.Core.{present, Parts, IsKept, IsQuiet}
 
 and-false : (b : Bool) → (b && false) ≡ false
 and-false true = refl
@@ -69,55 +67,40 @@ not_true false h = refl
 pub not_full : (journal : Entries) (e : PlainEntry) → is_leave e.act ≡ false → IsTrue (is_leave e.act || not (is_full journal)) → is_full journal ≡ false
 not_full journal e h room = not_true (is_full journal) (rw h at room)
 
--- what was placed before an entry is placed after it
-pub later_offers : (journal : Entries) (e : PlainEntry) → All (λ offer. offer.place ≤ length journal) (standing journal) → All (λ offer. offer.place ≤ length (e ∷ journal)) (standing journal)
-later_offers journal e all = All-weaker (λ offer. offer.place ≤ length journal) (λ offer. offer.place ≤ length (e ∷ journal)) (λ offer placed. omega (arith, placed)) (standing journal) all
-
-pub later_pairs : (journal : Entries) (e : PlainEntry) (pairs : List Made) → All (λ made. IsPlaced (length journal) made.pair) pairs → All (λ made. IsPlaced (length (e ∷ journal)) made.pair) pairs
-later_pairs journal e pairs all =
-    All-weaker (λ made. IsPlaced (length journal) made.pair) (λ made. IsPlaced (length (e ∷ journal)) made.pair) (λ made placed. record { a = omega (arith, placed.a); b = omega (arith, placed.b) }) pairs all
-
--- an entry without pairs adds none to those that were made
-made_in-alone : (journal : Entries) (e : PlainEntry) → e.made ≡ [] → made_in (e ∷ journal) ≡ made_in journal
-made_in-alone journal e alone =
-    ap (λ pairs. made_in journal ++ map (λ pair. record { pair = pair; at = next_place journal }) pairs) alone ∙ append-nil (made_in journal)
-
 -- a quiet entry keeps all
-pub kept_quiet : {users : List ℕ} {journal : Entries} {room : ℕ} {left : List ℕ} {left_capacity : ℕ} {offers : List Standing} {coupled : List Made} {capacity scratch : ℕ} {spares : List (Listed Pair)} {counted elements : ℕ} → IsKept users journal room left left_capacity offers coupled capacity scratch spares counted elements → (e : PlainEntry) → MayFollow users journal e → IsQuiet journal e → (more : ℕ) → present users journal ≤ more → (held : ℕ) → held ≡ entry_elements e → held ≤ 32768 → IsKept users (e ∷ journal) more left left_capacity offers coupled capacity scratch spares (counted + 1) (elements + held)
-kept_quiet {users} {journal} {room} {left} {left_capacity} {offers} {coupled} {capacity} {scratch} {spares} {counted} {elements} k e may quiet more fits held is small =
-    let below = below_limits journal (not_full journal e quiet.stays may.room) in
-    let stay = present-stay users journal e quiet.stays in
+pub kept_quiet : (core : Parts) → IsKept core → (e : PlainEntry) → MayFollow core.users core.journal e → IsQuiet core.journal e → (more : ℕ) → present core.users core.journal ≤ more →
+    (held : ℕ) → held ≡ entry_elements e → held ≤ 32768 →
+    IsKept (record core { journal = e ∷ core.journal; entries_room = more; counted = core.counted + 1; elements = core.elements + held })
+kept_quiet core k e may quiet more fits held is small =
+    let below = below_limits core.journal (not_full core.journal e quiet.stays may.room) in
+    let stay = present-stay core.users core.journal e quiet.stays in
     record {
       legal = (may, k.legal);
       stand = k.stand ∙ sym quiet.offers;
-      couple = k.couple ∙ sym (couplings-quiet journal e quiet);
-      count = ap (λ n. n + 1) k.count ∙ sym (counted-more journal e quiet.stays);
-      hold = ap (λ n. n + held) k.hold ∙ ap (λ n. held_elements journal + n) is ∙ sym (held-more journal e);
+      couple = k.couple ∙ sym (couplings-quiet core.journal e quiet);
+      count = ap (λ n. n + 1) k.count ∙ sym (counted-more core.journal e quiet.stays);
+      hold = ap (λ n. n + held) k.hold ∙ ap (λ n. held_elements core.journal + n) is ∙ sym (held-more core.journal e);
       few = omega (arith, below.0, k.count);
       small = omega (arith, below.1, k.hold, small);
-      gone = λ party. k.gone party ∙ sym (has_left-stay journal e party quiet.stays);
+      gone = λ party. k.gone party ∙ sym (has_left-stay core.journal e party quiet.stays);
       entries_room = omega (arith, stay, fits);
       left_room = omega (arith, stay, k.left_room);
       spare_count = omega (arith, stay, k.spare_count);
       spare_room = k.spare_room;
-      coupled_room = rw stay k.coupled_room;
       scratch_room = k.scratch_room;
-      offers_placed = subst (All (λ offer. offer.place ≤ length (e ∷ journal))) (sym quiet.offers) (later_offers journal e k.offers_placed);
-      pairs_placed = subst (All (λ made. IsPlaced (length (e ∷ journal)) made.pair)) (sym (made_in-alone journal e quiet.alone)) (later_pairs journal e (made_in journal) k.pairs_placed);
     }
 
 -- what is kept of equal parts
-pub kept_same : {users : List ℕ} {journal journal' : Entries} {room : ℕ} {left : List ℕ} {left_capacity : ℕ} {offers offers' : List Standing} {coupled coupled' : List Made} {capacity capacity' scratch scratch' : ℕ} {spares : List (Listed Pair)} {counted elements : ℕ} → journal ≡ journal' → offers ≡ offers' → coupled ≡ coupled' → capacity ≡ capacity' → scratch ≡ scratch' → IsKept users journal room left left_capacity offers coupled capacity scratch spares counted elements → IsKept users journal' room left left_capacity offers' coupled' capacity' scratch' spares counted elements
-kept_same {users} {journal} {journal'} {room} {left} {left_capacity} {offers} {offers'} {coupled} {coupled'} {capacity} {capacity'} {scratch} {scratch'} {spares} {counted} {elements} j o c p s k =
-    subst (λ x. IsKept users journal' room left left_capacity offers' coupled' capacity' x spares counted elements) s
-    (subst (λ x. IsKept users journal' room left left_capacity offers' coupled' x scratch spares counted elements) p
-    (subst (λ x. IsKept users journal' room left left_capacity offers' x capacity scratch spares counted elements) c
-    (subst (λ x. IsKept users journal' room left left_capacity x coupled capacity scratch spares counted elements) o
-    (subst (λ x. IsKept users x room left left_capacity offers coupled capacity scratch spares counted elements) j k))))
+pub kept_same : (core : Parts) {journal : Entries} {offers : List Standing} {coupled : List Made} → core.journal ≡ journal → core.offers ≡ offers → core.coupled ≡ coupled →
+    IsKept core → IsKept (record core { journal = journal; offers = offers; coupled = coupled })
+kept_same core {journal} {offers} {coupled} j o c k =
+    subst (λ x. IsKept (record core { journal = journal; offers = offers; coupled = x })) c
+    (subst (λ x. IsKept (record core { journal = journal; offers = x })) o
+    (subst (λ x. IsKept (record core { journal = x })) j k))
 
 -- what is kept is kept with more room
-pub kept_wider : {users : List ℕ} {journal : Entries} {room : ℕ} {left : List ℕ} {left_capacity : ℕ} {offers : List Standing} {coupled : List Made} {capacity scratch : ℕ} {spares : List (Listed Pair)} {counted elements : ℕ} → IsKept users journal room left left_capacity offers coupled capacity scratch spares counted elements → (room' capacity' scratch' : ℕ) (spares' : List (Listed Pair)) → room ≤ room' → capacity ≤ capacity' → scratch ≤ scratch' → length spares' ≡ length spares → All (IsSpare (length offers)) spares' → IsKept users journal room' left left_capacity offers coupled capacity' scratch' spares' counted elements
-kept_wider k room' capacity' scratch' spares' r c s count spare = record {
+pub kept_wider : (core : Parts) → IsKept core → (room scratch : ℕ) → core.entries_room ≤ room → core.scratch ≤ scratch → IsKept (record core { entries_room = room; scratch = scratch })
+kept_wider core k room scratch roomy wide = record {
   legal = k.legal;
   stand = k.stand;
   couple = k.couple;
@@ -126,12 +109,9 @@ kept_wider k room' capacity' scratch' spares' r c s count spare = record {
   few = k.few;
   small = k.small;
   gone = k.gone;
-  entries_room = omega (arith, k.entries_room, r);
+  entries_room = omega (arith, k.entries_room, roomy);
   left_room = k.left_room;
-  spare_count = omega (arith, k.spare_count, count);
-  spare_room = spare;
-  coupled_room = omega (arith, k.coupled_room, c);
-  scratch_room = omega (arith, k.scratch_room, s);
-  offers_placed = k.offers_placed;
-  pairs_placed = k.pairs_placed;
+  spare_count = k.spare_count;
+  spare_room = k.spare_room;
+  scratch_room = omega (arith, k.scratch_room, wide);
 }

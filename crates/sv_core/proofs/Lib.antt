@@ -1,4 +1,3 @@
-pub mod Filters
 pub mod Kept
 pub mod Left
 pub mod Offered

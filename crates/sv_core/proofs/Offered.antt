@@ -10,7 +10,7 @@ use Rattle.sv_rules.specs.declared.standing.Standing.{Standing}
 use Rattle.sv_rules.specs.Entries.{Entries, next_place}
 use Rattle.sv_rules.specs.Standing.{standing, own_offer, offer_count}
 use Rattle.sv_rules.specs.Coupling.{couplings, open_match, pair_of, stands_at}
-use Rattle.sv_rules.specs.Outcome.{Outcome, outcome, answered, new_offer, offer_outcome, joined_to}
+use Rattle.sv_rules.specs.Outcome.{Outcome, outcome, answer_only, new_offer, offer_outcome, joined_to}
 use Rattle.sv_rules.specs.Legal.{MayFollow}
 use Rattle.sv_core.specs.Core.{PlainCore, MayAct, IsOpened, offer_entry}
 
@@ -23,23 +23,11 @@ outcome_new journal new handed place fresh =
 -- it is coupled with its open match
 pub new_coupled : (journal : Entries) (new other : Standing) → nat_le 64 (offer_count (standing journal) new.party) ≡ false → open_match (standing journal) (couplings journal) new ≡ Some other → new_offer (standing journal) (couplings journal) new ≡ record { answer = degree 2; made = pair_of other new ∷ [] }
 new_coupled journal new other few matched =
-    ap (λ b. cond b (answered offer_limit) (joined_to new (open_match (standing journal) (couplings journal) new))) few ∙ ap (joined_to new) matched
-
--- its pair has the earlier offer first
-pub pair_of-earlier : (other new : Standing) → other.place < new.place → pair_of other new ≡ record { a = other.place; b = new.place }
-pair_of-earlier other new before =
-    cond-true (nat_lt other.place new.place) (record { a = other.place; b = new.place }) (record { a = new.place; b = other.place }) (lt-ltb other.place new.place before)
+    ap (λ b. cond b (answer_only offer_limit) (joined_to new (open_match (standing journal) (couplings journal) new))) few ∙ ap (joined_to new) matched
 
 -- it is opened
-pub coupled_opens : (journal : Entries) (new other : Standing) → new.place ≡ next_place journal → own_offer (standing journal) new.party new.local ≡ None → stands_at (standing journal) other.place ≡ true → other.place < next_place journal → IsOpened journal new (degree 2) (pair_of other new ∷ [])
-coupled_opens journal new other place fresh stands before = record {
-  place = place;
-  degree = refl;
-  fresh = fresh;
-  pairs = All-cons (λ pair. (stands_at (standing journal) pair.a ≡ true) × (pair.b ≡ new.place)) (pair_of other new) []
-      (subst (λ (pair : Pair). (stands_at (standing journal) pair.a ≡ true) × (pair.b ≡ new.place)) (sym (pair_of-earlier other new (omega (arith, place, before)))) (stands, refl))
-      (All-nil (λ pair. (stands_at (standing journal) pair.a ≡ true) × (pair.b ≡ new.place)));
-}
+pub coupled_opens : (journal : Entries) (new : Standing) → new.place ≡ next_place journal → own_offer (standing journal) new.party new.local ≡ None → IsOpened journal new (degree 2)
+coupled_opens journal new place fresh = record { place = place; degree = refl; fresh = fresh }
 
 -- it may follow
 pub coupled_may : (core : PlainCore) (new other : Standing) (handed : Option PlainArray) → MayAct core new.party → new.place ≡ next_place core.journal → own_offer (standing core.journal) new.party new.local ≡ None → nat_le 64 (offer_count (standing core.journal) new.party) ≡ false → open_match (standing core.journal) (couplings core.journal) new ≡ Some other → MayFollow core.users core.journal (offer_entry new handed (degree 2) (pair_of other new ∷ []))

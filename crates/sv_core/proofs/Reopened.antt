@@ -4,16 +4,15 @@ use Rattle.std.specs.List.{filter}
 use Rattle.sv_rules.specs.declared.coupling.Made.{Made}
 use Rattle.sv_rules.specs.declared.standing.Standing.{Standing}
 use Rattle.sv_rules.specs.Standing.{without_party}
-use Rattle.sv_rules.specs.Coupling.{is_coupled, couplings_among, reopened_among, recoupled, made_by_leave}
-use Rattle.sv_core.proofs.Filters.{filter-both}
-use Rattle.sv_core.proofs.Left.{filter_fewer}
+use Rattle.sv_rules.specs.Coupling.{is_coupled, kept_by_leave, reopened_by_leave, couplings_among, reopened_among, recoupled, made_by_leave}
+use Rattle.sv_rules.proofs.Members.{filter-filter}
 
 -- the offers that are noted and kept are those that the leave reopens
 pub noted_are_reopened : (offers : List Standing) (coupled : List Made) (party : ℕ) (left noted opened : List Standing) (kept : List Made) → left ≡ without_party offers party → kept ≡ couplings_among left coupled → noted ≡ filter (λ offer. is_coupled coupled offer.place) left → opened ≡ filter (λ offer. not (is_coupled kept offer.place)) noted → opened ≡ reopened_among (without_party offers party) coupled (couplings_among (without_party offers party) coupled)
 noted_are_reopened offers coupled party left noted opened kept is_left is_kept is_noted is_opened =
     is_opened
     ∙ ap (filter (λ offer. not (is_coupled kept offer.place))) is_noted
-    ∙ filter-both (λ offer. not (is_coupled kept offer.place)) (λ offer. is_coupled coupled offer.place) left
+    ∙ filter-filter (λ offer. not (is_coupled kept offer.place)) (λ offer. is_coupled coupled offer.place) left
     ∙ ap (λ k. reopened_among left coupled k) is_kept
     ∙ ap (λ l. reopened_among l coupled (couplings_among l coupled)) is_left
 
@@ -23,9 +22,3 @@ recoupled_is_made at offers coupled party left opened kept is_left is_kept is_op
     ap (λ k. recoupled at left k opened) is_kept
     ∙ ap (λ l. recoupled at l (couplings_among l coupled) opened) is_left
     ∙ ap (λ o. recoupled at (without_party offers party) (couplings_among (without_party offers party) coupled) o) is_opened
-
--- no more are reopened than stood
-pub reopened_fewer : (offers : List Standing) (coupled : List Made) (party : ℕ) → length (reopened_among (without_party offers party) coupled (couplings_among (without_party offers party) coupled)) ≤ length offers
-reopened_fewer offers coupled party =
-    let left = without_party offers party in
-    omega (arith, filter_fewer (λ offer. is_coupled coupled offer.place && not (is_coupled (couplings_among left coupled) offer.place)) left, filter_fewer (λ offer. not (offer.party == party)) offers)

@@ -15,8 +15,8 @@ use std::alloc::Global;
 use std::marker::Model;
 use sv_events::{Act, Answer, Entry, Journal, PairList};
 use sv_rules::{
-    ENTRY_LIMIT, HELD_LIMIT, OFFER_LIMIT, Standing, coupling_at, degree_at, elements_asked,
-    elements_told, known_value, last_value, offer_count, open_match, own_offer, pair_of,
+    ENTRY_LIMIT, HELD_LIMIT, OFFER_LIMIT, Standing, act_elements, answer_elements, coupling_at,
+    degree_at, known_value, last_value, offer_count, open_match, own_offer, pair_of,
 };
 
 /// The processor of some users: it has the journal, in which each entry may follow those before it, and the parties
@@ -47,7 +47,7 @@ impl Model for Core {
 
 impl Core {
     /// The processor of these users, with an empty journal. It takes memory for the users and for the room of all their
-    /// leaves. This profile.
+    /// leaves.
     pub fn new(alloc: Global, users: &[u32]) -> Result<Core, WantOfMemory>
         ensures { IfOk result (λ core. core ≡ record { users = users.now; journal = [] }) }
     {
@@ -64,21 +64,21 @@ impl Core {
         })
     }
 
-    /// Whether the party has left. No memory. This profile.
+    /// Whether the party has left. No memory.
     pub fn has_left(&self, party: u32) -> bool
         ensures { result ≡ has_left self.now.journal party }
     {
         self.left.contains(&party)
     }
 
-    /// Whether the journal takes no more entries but leaves. No memory. This profile.
+    /// Whether the journal takes no more entries but leaves. No memory.
     pub fn is_full(&self) -> bool
         ensures { result ≡ is_full self.now.journal }
     {
         self.counted >= ENTRY_LIMIT || self.elements >= HELD_LIMIT
     }
 
-    /// The entries, oldest first. No memory. This profile.
+    /// The entries, oldest first. No memory.
     pub fn journal(&self) -> &[Entry]
         ensures value { journal_of result.now ≡ self.now.journal }
         ensures legal { IsLegal self.now.users self.now.journal }
@@ -86,7 +86,7 @@ impl Core {
         self.journal.as_slice()
     }
 
-    /// The entries as they are kept, oldest first. No memory. This profile.
+    /// The entries as they are kept, oldest first. No memory.
     pub fn into_journal(self) -> Journal
         ensures value { reverse result.items ≡ self.journal }
         ensures legal { IsLegal self.users self.journal }
@@ -96,7 +96,7 @@ impl Core {
 
     /// The answer to an act, other than a leave, of a user that has not left. One entry is added, with this answer and
     /// the pairs that the act couples; a full journal answers `Full` and adds none. It takes memory for the entry, the
-    /// answer and the room of later leaves; after `WantOfMemory` all is as before. This profile.
+    /// answer and the room of later leaves; after `WantOfMemory` all is as before.
     pub fn step(&mut self, party: u32, act: Act) -> Result<Answer, WantOfMemory>
         requires user { IsTrue (is_user self.old.users party) }
         requires present { IsTrue (not (has_left self.old.journal party)) }
@@ -157,8 +157,8 @@ impl Core {
         ensures err { OnErr result (self.new ≡ self.old) }
     {
         let answer = self.value_answer(party, &name)?;
-        let told = answer.copy(self.alloc)?;
-        self.enter_quiet(quiet_entry(self.alloc, party, Act::Use(name), told))?;
+        let kept = answer.copy(self.alloc)?;
+        self.enter_quiet(quiet_entry(self.alloc, party, Act::Use(name), kept))?;
         Ok(answer)
     }
 
@@ -253,11 +253,9 @@ impl Core {
         offer_count(&self.table.offers, party) >= OFFER_LIMIT
     }
 
-    // The open match of a new offer; it stands at an earlier place.
+    // The open match of a new offer.
     fn match_of(&self, new: &Standing) -> Option<Standing>
-        ensures value { result ≡ open_match (standing self.now.journal) (couplings self.now.journal) new.now }
-        ensures stands { IfSome result (λ other. stands_at (standing self.now.journal) other.place ≡ true) }
-        ensures earlier { IfSome result (λ other. other.place < next_place self.now.journal) }
+        ensures { result ≡ open_match (standing self.now.journal) (couplings self.now.journal) new.now }
     {
         open_match(&self.table.offers, &self.table.coupled, new)
     }
@@ -274,7 +272,7 @@ impl Core {
             return Err(WantOfMemory);
         }
         self.counted += 1;
-        self.elements += elements_asked(&entry.act) + elements_told(&entry.answer);
+        self.elements += act_elements(&entry.act) + answer_elements(&entry.answer);
         self.journal.push_reserved(entry);
         Ok(())
     }
@@ -295,7 +293,8 @@ impl Core {
         made: PairList,
     ) -> Result<(), WantOfMemory>
         requires may { MayFollow self.old.users self.old.journal (offer_entry new value (plain_answer answer) made.items) }
-        requires opened { IsOpened self.old.journal new (plain_answer answer) made.items }
+        requires opened { IsOpened self.old.journal new (plain_answer answer) }
+        requires few { length made.items ≤ 1 }
         ensures journal { OnOk result (self.new ≡ record { users = self.old.users; journal = offer_entry new value (plain_answer answer) made.items ∷ self.old.journal }) }
         ensures err { OnErr result (self.new ≡ self.old) }
     {
@@ -305,10 +304,8 @@ impl Core {
             surrogate: new.surrogate,
             value,
         };
-        let users = self.users.len();
-        let pairs = made.as_slice().len();
-        let wide = self.table.widen(users, pairs);
-        if wide.is_err() || self.journal.reserve(users + 1).is_err() {
+        let wide = self.table.widen();
+        if wide.is_err() || self.journal.reserve(self.users.len() + 1).is_err() {
             discard(Entry {
                 party: new.party,
                 act,
@@ -318,7 +315,7 @@ impl Core {
             return Err(WantOfMemory);
         }
         self.counted += 1;
-        self.elements += elements_asked(&act) + elements_told(&answer);
+        self.elements += act_elements(&act) + answer_elements(&answer);
         self.table.open(&new, made.as_slice());
         self.journal.push_reserved(Entry {
             party: new.party,
@@ -330,7 +327,7 @@ impl Core {
     }
 
     /// The party leaves: its offers cease together, and those that this reopens are coupled again, by place, each
-    /// with its open match of the lowest place. No memory. This profile.
+    /// with its open match of the lowest place. No memory.
     pub fn leave(&mut self, party: u32)
         requires user { IsTrue (is_user self.old.users party) }
         requires present { IsTrue (not (has_left self.old.journal party)) }

@@ -1,4 +1,5 @@
 ghost use Rattle.std.specs.Prelude.{◌≡◌, IfOk};
+ghost use Rattle.std.specs.Option.{option_copied};
 
 use apl_arrays::{Array, Name, WantOfMemory};
 use std::alloc::Global;
@@ -43,7 +44,7 @@ pub enum Answer {
 }
 
 impl Act {
-    /// An equal act. It takes memory for its value. This profile.
+    /// An equal act. It takes memory for its value.
     pub fn copy(&self, alloc: Global) -> Result<Act, WantOfMemory>
         ensures { IfOk result (λ act. act ≡ self.now) }
     {
@@ -57,7 +58,7 @@ impl Act {
                 to: *to,
                 local: *local,
                 surrogate: *surrogate,
-                value: copy_value(alloc, value)?,
+                value: copy_value(alloc, value.as_ref())?,
             }),
             Act::Set(name, value) => Ok(Act::Set(*name, value.copy(alloc)?)),
             Act::Use(name) => Ok(Act::Use(*name)),
@@ -67,7 +68,7 @@ impl Act {
 }
 
 impl Answer {
-    /// An equal answer. It takes memory for its value. This profile.
+    /// An equal answer. It takes memory for its value.
     pub fn copy(&self, alloc: Global) -> Result<Answer, WantOfMemory>
         ensures { IfOk result (λ answer. answer ≡ self.now) }
     {
@@ -84,9 +85,9 @@ impl Answer {
     }
 }
 
-/// An equal value, or none where there is none. It takes memory for the value. This profile.
-pub fn copy_value(alloc: Global, value: &Option<Array>) -> Result<Option<Array>, WantOfMemory>
-    ensures { IfOk result (λ copy. copy ≡ value.now) }
+/// An equal value, or none where there is none. It takes memory for the value.
+pub fn copy_value(alloc: Global, value: Option<&Array>) -> Result<Option<Array>, WantOfMemory>
+    ensures { IfOk result (λ copy. copy ≡ option_copied value.entry) }
 {
     match value {
         None => Ok(None),

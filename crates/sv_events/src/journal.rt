@@ -23,7 +23,7 @@ impl Model for Journal {
 }
 
 impl Journal {
-    /// No entries. It takes no memory. This profile.
+    /// No entries. It takes no memory.
     pub fn new(alloc: Global) -> Self
         ensures { result.items ≡ [] }
     {
@@ -32,14 +32,14 @@ impl Journal {
         }
     }
 
-    /// The entries, oldest first. It takes no memory. This profile.
+    /// The entries, oldest first. It takes no memory.
     pub fn as_slice(&self) -> &[Entry]
         ensures { map plain_entry result.now ≡ self.now.items }
     {
         self.entries.as_slice()
     }
 
-    /// The entries as a `Vec`. It takes no memory. This profile.
+    /// The entries as a `Vec`. It takes no memory.
     pub fn into_vec(self) -> Vec<Entry>
         ensures { map plain_entry result.items ≡ self.items }
     {
@@ -47,7 +47,6 @@ impl Journal {
     }
 
     /// Makes room for at least so many pushes, and takes memory for it. `WantOfMemory` leaves the journal as it was.
-    /// This profile.
     pub fn reserve(&mut self, room: usize) -> Result<(), WantOfMemory>
         ensures items { self.new.items ≡ self.old.items }
         ensures room { OnOk result (room ≤ self.new.room) }
@@ -59,7 +58,7 @@ impl Journal {
     }
 
     /// Adds an entry at the end. Where there is room it is granted and takes no memory, else it takes memory for more.
-    /// `WantOfMemory` leaves the journal as it was. This profile.
+    /// `WantOfMemory` leaves the journal as it was.
     pub fn push(&mut self, entry: Entry) -> Result<(), WantOfMemory>
         ensures ok { OnOk result (self.new.items ≡ self.old.items ++ plain_entry entry ∷ []) }
         ensures err { OnErr result (self.new ≡ self.old) }
@@ -69,7 +68,7 @@ impl Journal {
         self.entries.push(entry)
     }
 
-    /// Adds an entry at the end, where there is room. It takes no memory. This profile.
+    /// Adds an entry at the end, where there is room. It takes no memory.
     pub fn push_reserved(&mut self, entry: Entry)
         requires { 0 < self.old.room }
         ensures items { self.new.items ≡ self.old.items ++ plain_entry entry ∷ [] }

@@ -8,5 +8,5 @@ mod journal;
 mod tests;
 
 pub use entry::{Entry, Pair, PairList};
-pub use event::{Act, Answer};
+pub use event::{Act, Answer, copy_value};
 pub use journal::Journal;

@@ -1,5 +1,4 @@
-use crate::event::copy_value;
-use crate::{Act, Answer, Entry, Journal, Pair, PairList};
+use crate::{Act, Answer, Entry, Journal, Pair, PairList, copy_value};
 use apl_arrays::{Array, GlyphRefused, List, Name, WantOfMemory, glyphs_of};
 use std::alloc::Global;
 use std::process::Abort;
@@ -82,8 +81,8 @@ fn answers_are_copied(rt: &impl Abort, alloc: Global) -> Result<(), GlyphRefused
 
 fn values_are_copied(rt: &impl Abort, alloc: Global) -> Result<(), GlyphRefused> {
     let three = Some(Array::scalar(alloc, 3)?);
-    assert!(rt; copy_value(alloc, &three)? == three);
-    assert!(rt; copy_value(alloc, &None)?.is_none());
+    assert!(rt; copy_value(alloc, three.as_ref())? == three);
+    assert!(rt; copy_value(alloc, None)?.is_none());
     Ok(())
 }
 

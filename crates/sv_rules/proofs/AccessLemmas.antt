@@ -21,7 +21,7 @@ use Rattle.sv_events.specs.declared.event.Act.TheVariants.{Offer, Set, Use, Leav
 use Rattle.sv_rules.specs.declared.standing.Standing.{Standing}
 use Rattle.sv_rules.specs.declared.coupling.Coupling.{Coupling}
 use Rattle.sv_rules.specs.Entries.{Entries, next_place, same_name, is_granted, value_got, counted_entries, held_elements, is_full}
-use Rattle.sv_rules.specs.Story.{Passed, passed_on, passed, known, handed_in, told, opening_story, story}
+use Rattle.sv_rules.specs.Story.{GrantedAccess, access_to, access_on, known, handed_in, story_part, opening_story, story}
 use Rattle.sv_rules.specs.StoryLaws.{IsAccessTo, IsAccessOn, HasNoAccess, offer_on, accesses_of}
 use Rattle.sv_rules.proofs.Members.{Contains-head, Contains-cons_cases}
 use Rattle.sv_rules.proofs.StoryLemmas.{story-opening}
@@ -50,67 +50,67 @@ same_name-is : (one other : List ℕ) → same_name one other ≡ true → one �
 same_name-is one other h = (bytes_eq-Decides one other).0 h
 
 -- an access that an act and its answer make
-IsAccessTo-from_passed : (local : List ℕ) (answer : PlainAnswer) (act : Act) (access : Passed) → passed_on local answer act ≡ Some access → IsAccessTo local access.kind access.value act answer
-IsAccessTo-from_passed local answer (Set name new) access h =
+IsAccessTo-from_access : (local : List ℕ) (answer : PlainAnswer) (act : Act) (access : GrantedAccess) → access_to local answer act ≡ Some access → IsAccessTo local access.kind access.value act answer
+IsAccessTo-from_access local answer (Set name new) access h =
     let parts = cond_some (same_name name local && is_granted answer) _ access h in
     let both = and_parts (same_name name local) (is_granted answer) parts.0 in
-    subst (λ (p : Passed). IsAccessTo local p.kind p.value (Set name new) answer) parts.1
+    subst (λ (p : GrantedAccess). IsAccessTo local p.kind p.value (Set name new) answer) parts.1
     (ap (λ n. Set n new) (same_name-is name local both.0), granted-is answer both.1)
-IsAccessTo-from_passed local answer (Use name) access h = elim (cases_Bool (same_name name local)) [
+IsAccessTo-from_access local answer (Use name) access h = elim (cases_Bool (same_name name local)) [
   | inl same ↦ with_value (ap Use (same_name-is name local same)) (value_got answer) refl (rw same at h)
   | inr other ↦ absurd (none-some access (rw other at h))
 ]
   where
-    with_value : Use name ≡ Use local → (got : Option PlainArray) → value_got answer ≡ got → option_map (λ v. let p : Passed = record { kind = kind.Use; value = v } in p) got ≡ Some access →
+    with_value : Use name ≡ Use local → (got : Option PlainArray) → value_got answer ≡ got → option_map (λ v. let p : GrantedAccess = record { kind = kind.Use; value = v } in p) got ≡ Some access →
         IsAccessTo local access.kind access.value (Use name) answer
     with_value same None none k = absurd (none-some access k)
-    with_value same (Some v) some k = subst (λ (p : Passed). IsAccessTo local p.kind p.value (Use name) answer) (same_Some _ access k) (same, got-is answer v some)
-IsAccessTo-from_passed local answer (Offer to offered surrogate handed) access h = absurd (none-some access h)
-IsAccessTo-from_passed local answer Leave access h = absurd (none-some access h)
+    with_value same (Some v) some k = subst (λ (p : GrantedAccess). IsAccessTo local p.kind p.value (Use name) answer) (same_Some _ access k) (same, got-is answer v some)
+IsAccessTo-from_access local answer (Offer to offered surrogate handed) access h = absurd (none-some access h)
+IsAccessTo-from_access local answer Leave access h = absurd (none-some access h)
 
-passed-from_IsAccessTo : (local : List ℕ) (answer : PlainAnswer) (act : Act) (kind : Kind) (v : PlainArray) → IsAccessTo local kind v act answer →
-    passed_on local answer act ≡ Some (record { kind = kind; value = v })
-passed-from_IsAccessTo local answer act kind.Set v h = rw (h.0, h.1, nat_list_eq_equiv.refl local) refl
-passed-from_IsAccessTo local answer act kind.Use v h = rw (h.0, h.1, nat_list_eq_equiv.refl local) refl
+access_to-from_IsAccessTo : (local : List ℕ) (answer : PlainAnswer) (act : Act) (kind : Kind) (v : PlainArray) → IsAccessTo local kind v act answer →
+    access_to local answer act ≡ Some (record { kind = kind; value = v })
+access_to-from_IsAccessTo local answer act kind.Set v h = rw (h.0, h.1, nat_list_eq_equiv.refl local) refl
+access_to-from_IsAccessTo local answer act kind.Use v h = rw (h.0, h.1, nat_list_eq_equiv.refl local) refl
 
-pub IsAccessOn-from_passed : (offer : Standing) (e : PlainEntry) (access : Passed) → passed offer e ≡ Some access → IsAccessOn offer e access
-IsAccessOn-from_passed offer e access h = elim (cases_Bool (eqb e.party offer.party)) [
-  | inl own ↦ (eqb-true _ _ own, IsAccessTo-from_passed offer.local e.answer e.act access (rw own at h))
+pub IsAccessOn-from_access : (offer : Standing) (e : PlainEntry) (access : GrantedAccess) → access_on offer e ≡ Some access → IsAccessOn offer e access
+IsAccessOn-from_access offer e access h = elim (cases_Bool (eqb e.party offer.party)) [
+  | inl own ↦ (eqb-true _ _ own, IsAccessTo-from_access offer.local e.answer e.act access (rw own at h))
   | inr others ↦ absurd (none-some access (rw others at h))
 ]
 
-pub passed-from_IsAccessOn : (offer : Standing) (e : PlainEntry) (access : Passed) → IsAccessOn offer e access → passed offer e ≡ Some access
-passed-from_IsAccessOn offer e access h =
+pub access_on-from_IsAccessOn : (offer : Standing) (e : PlainEntry) (access : GrantedAccess) → IsAccessOn offer e access → access_on offer e ≡ Some access
+access_on-from_IsAccessOn offer e access h =
     let own : eqb e.party offer.party ≡ true = eq-eqb _ _ h.0 in
-    rw own (passed-from_IsAccessTo offer.local e.answer e.act access.kind access.value h.1)
+    rw own (access_to-from_IsAccessTo offer.local e.answer e.act access.kind access.value h.1)
 
 -- an entry that is no access on the offer
-passed-None : (offer : Standing) (e : PlainEntry) → ((access : Passed) → IsAccessOn offer e access → ⊥) → passed offer e ≡ None
-passed-None offer e none = by (passed offer e) refl
+access_on-None : (offer : Standing) (e : PlainEntry) → ((access : GrantedAccess) → IsAccessOn offer e access → ⊥) → access_on offer e ≡ None
+access_on-None offer e none = by (access_on offer e) refl
   where
-    by : (got : Option Passed) → passed offer e ≡ got → got ≡ None
+    by : (got : Option GrantedAccess) → access_on offer e ≡ got → got ≡ None
     by None h = refl
-    by (Some access) h = absurd (none access (IsAccessOn-from_passed offer e access h))
+    by (Some access) h = absurd (none access (IsAccessOn-from_access offer e access h))
 
 -- accesses by others change nothing of the known value
 known_past : (offer : Standing) (later : Entries) (before : Entries) → offer.place ≤ length before → HasNoAccess offer later → known (later ++ before) offer ≡ known before offer
 known_past offer [] before early none = refl
 known_past offer (e ∷ later) before early none =
-    let P : PlainEntry → Type 0 = λ (f : PlainEntry). (access : Passed) → ¬ IsAccessOn offer f access in
+    let P : PlainEntry → Type 0 = λ (f : PlainEntry). (access : GrantedAccess) → ¬ IsAccessOn offer f access in
     let early_later : ltb offer.place (length (later ++ before) + 1) ≡ true = lt-ltb _ _ (omega (arith, length-append later before)) in
-    rw (early_later, passed-None offer e (All-head P e later none)) (known_past offer later before early (All-tail P e later none))
+    rw (early_later, access_on-None offer e (All-head P e later none)) (known_past offer later before early (All-tail P e later none))
 
 -- the access itself gives its value
-known_at : (offer : Standing) (e : PlainEntry) (before : Entries) (access : Passed) → offer.place ≤ length before → IsAccessOn offer e access → known (e ∷ before) offer ≡ Some access.value
+known_at : (offer : Standing) (e : PlainEntry) (before : Entries) (access : GrantedAccess) → offer.place ≤ length before → IsAccessOn offer e access → known (e ∷ before) offer ≡ Some access.value
 known_at offer e before access early h =
     let early_now : ltb offer.place (length before + 1) ≡ true = lt-ltb _ _ (omega arith) in
-    rw (early_now, passed-from_IsAccessOn offer e access h) refl
+    rw (early_now, access_on-from_IsAccessOn offer e access h) refl
 
 known_offered : (offer : Standing) (offered : PlainEntry) (before : Entries) → offer.place ≡ next_place before → known (offered ∷ before) offer ≡ handed_in offered.act
 known_offered offer offered before at =
     let not_after : ltb offer.place (length before + 1) ≡ false = le-ltb _ _ (omega arith) in rw not_after refl
 
-pub known_is_the_last_access : (offer : Standing) (before : Entries) (offered : PlainEntry) (between : Entries) (e : PlainEntry) (later : Entries) (access : Passed) →
+pub known_is_the_last_access : (offer : Standing) (before : Entries) (offered : PlainEntry) (between : Entries) (e : PlainEntry) (later : Entries) (access : GrantedAccess) →
     offer.place ≡ next_place before → IsAccessOn offer e access → HasNoAccess offer later → known (later ++ e ∷ (between ++ offered ∷ before)) offer ≡ Some access.value
 known_is_the_last_access offer before offered between e later access at h none =
     let size : length (between ++ offered ∷ before) ≡ length between + length (offered ∷ before) = length-append between (offered ∷ before) in
@@ -121,40 +121,40 @@ pub known_is_handed_in : (offer : Standing) (before : Entries) (offered : PlainE
 known_is_handed_in offer before offered later at none =
     known_past offer later (offered ∷ before) (omega arith) none ∙ known_offered offer offered before at
 
-told_cases : (side : Side) (got : Option Passed) (access : Access PlainArray) → Contains (told side got) access → (access.side ≡ side) × (got ≡ Some (record { kind = access.kind; value = access.value }))
-told_cases side None access h = absurd (omega (arith, h.1))
-told_cases side (Some p) access h =
+story_part_cases : (side : Side) (got : Option GrantedAccess) (access : Access PlainArray) → Contains (story_part side got) access → (access.side ≡ side) × (got ≡ Some (record { kind = access.kind; value = access.value }))
+story_part_cases side None access h = absurd (omega (arith, h.1))
+story_part_cases side (Some p) access h =
     let made : Access PlainArray = record { side = side; kind = p.kind; value = p.value } in
     elim (Contains-cons_cases made [] access h) [
-      | inl same ↦ (ap (λ (a : Access PlainArray). a.side) (sym same), ap (λ (a : Access PlainArray). let q : Passed = record { kind = a.kind; value = a.value } in Some q) same)
+      | inl same ↦ (ap (λ (a : Access PlainArray). a.side) (sym same), ap (λ (a : Access PlainArray). let q : GrantedAccess = record { kind = a.kind; value = a.value } in Some q) same)
       | inr none ↦ absurd (omega (arith, none.1))
     ]
 
 -- the access that an entry makes on the offer of a side
-told_on : (coupling : Coupling) (e : PlainEntry) (side : Side) (access : Access PlainArray) → Contains (told side (passed (offer_on coupling side) e)) access →
+story_part_on : (coupling : Coupling) (e : PlainEntry) (side : Side) (access : Access PlainArray) → Contains (story_part side (access_on (offer_on coupling side) e)) access →
     IsAccessOn (offer_on coupling access.side) e (record { kind = access.kind; value = access.value })
-told_on coupling e side access h =
-    let parts = told_cases side (passed (offer_on coupling side) e) access h in
-    let got : Passed = record { kind = access.kind; value = access.value } in
-    subst (λ s. IsAccessOn (offer_on coupling s) e got) (sym parts.0) (IsAccessOn-from_passed (offer_on coupling side) e got parts.1)
+story_part_on coupling e side access h =
+    let parts = story_part_cases side (access_on (offer_on coupling side) e) access h in
+    let got : GrantedAccess = record { kind = access.kind; value = access.value } in
+    subst (λ s. IsAccessOn (offer_on coupling s) e got) (sym parts.0) (IsAccessOn-from_access (offer_on coupling side) e got parts.1)
 
-has_told : (coupling : Coupling) (e : PlainEntry) (side : Side) (kind : Kind) (v : PlainArray) → IsAccessOn (offer_on coupling side) e (record { kind = kind; value = v }) →
+has_story_part : (coupling : Coupling) (e : PlainEntry) (side : Side) (kind : Kind) (v : PlainArray) → IsAccessOn (offer_on coupling side) e (record { kind = kind; value = v }) →
     Contains (accesses_of coupling e) (record { side = side; kind = kind; value = v })
-has_told coupling e A kind v h =
-    rw (passed-from_IsAccessOn coupling.a e (record { kind = kind; value = v }) h) (Contains-head _ (told B (passed coupling.b e)))
-has_told coupling e B kind v h =
+has_story_part coupling e A kind v h =
+    rw (access_on-from_IsAccessOn coupling.a e (record { kind = kind; value = v }) h) (Contains-head _ (story_part B (access_on coupling.b e)))
+has_story_part coupling e B kind v h =
     let access : Access PlainArray = record { side = B; kind = kind; value = v } in
-    Contains-append_right (told A (passed coupling.a e)) (told B (passed coupling.b e)) access
-    (rw (passed-from_IsAccessOn coupling.b e (record { kind = kind; value = v }) h) (Contains-head access []))
+    Contains-append_right (story_part A (access_on coupling.a e)) (story_part B (access_on coupling.b e)) access
+    (rw (access_on-from_IsAccessOn coupling.b e (record { kind = kind; value = v }) h) (Contains-head access []))
 
 pub sides_are_offers : (coupling : Coupling) (e : PlainEntry) (access : Access PlainArray) →
     Contains (accesses_of coupling e) access ↔ IsAccessOn (offer_on coupling access.side) e (record { kind = access.kind; value = access.value })
 sides_are_offers coupling e access = (
-  (λ h. elim (Contains-append_cases (told A (passed coupling.a e)) (told B (passed coupling.b e)) access h) [
-    | inl by_a ↦ told_on coupling e A access by_a
-    | inr by_b ↦ told_on coupling e B access by_b
+  (λ h. elim (Contains-append_cases (story_part A (access_on coupling.a e)) (story_part B (access_on coupling.b e)) access h) [
+    | inl by_a ↦ story_part_on coupling e A access by_a
+    | inr by_b ↦ story_part_on coupling e B access by_b
   ]),
-  has_told coupling e access.side access.kind access.value,
+  has_story_part coupling e access.side access.kind access.value,
 )
 
 pub story_is_opening_and_accesses : (coupling : Coupling) (before : Entries) (later : Entries) → 0 < length before → coupling.at ≡ length before →

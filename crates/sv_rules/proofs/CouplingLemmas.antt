@@ -70,15 +70,19 @@ found_first p (offer ∷ offers) first other ascend found h passes = elim (cases
       ]
 ]
 
-pub oldest_match_is_taken : (journal : Entries) (coupled : List Made) (offer match : Standing) → open_match (standing journal) coupled offer ≡ Some match →
-    IsOldestOpenMatch (standing journal) coupled offer match
-oldest_match_is_taken journal coupled offer match h =
-    let found = find_passed (is_open_match coupled offer) (standing journal) match h in
+-- among offers that come by place, the open match that is found is the oldest
+pub oldest_match : (offers : List Standing) (coupled : List Made) (offer match : Standing) → AllPairs ComesBefore offers → open_match offers coupled offer ≡ Some match → IsOldestOpenMatch offers coupled offer match
+oldest_match offers coupled offer match ascend h =
+    let found = find_passed (is_open_match coupled offer) offers match h in
     record {
       among = found.1;
       open_match = found.0;
-      oldest = λ other has passes. found_first (is_open_match coupled offer) (standing journal) match other (places_ascend journal) h has passes;
+      oldest = λ other has passes. found_first (is_open_match coupled offer) offers match other ascend h has passes;
     }
+
+pub oldest_match_is_taken : (journal : Entries) (coupled : List Made) (offer match : Standing) → open_match (standing journal) coupled offer ≡ Some match →
+    IsOldestOpenMatch (standing journal) coupled offer match
+oldest_match_is_taken journal coupled offer match h = oldest_match (standing journal) coupled offer match (places_ascend journal) h
 
 pub none_is_taken_of_none : (p : Standing → Bool) (offers : List Standing) (other : Standing) → find p offers ≡ None → Contains offers other → p other ≡ true → ⊥
 none_is_taken_of_none p [] other none h passes = omega (arith, h.1)

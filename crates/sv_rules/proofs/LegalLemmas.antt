@@ -60,7 +60,7 @@ leave_made offers coupled place party =
     let kept = couplings_among remaining coupled in
     recoupled_made remaining kept place (reopened_among remaining coupled kept) (λ o h. Contains-from_filter _ remaining o h)
 
-leave_again : (offers : List Standing) (coupled : List Made) (place party : ℕ) →
+pub leave_again : (offers : List Standing) (coupled : List Made) (place party : ℕ) →
     made_at place (map (λ one. one.pair) (made_by_leave place offers coupled party)) ≡ made_by_leave place offers coupled party
 leave_again offers coupled place party =
     made_again place (made_by_leave place offers coupled party)
@@ -71,7 +71,7 @@ made_by_change : (offers : List Standing) (coupled : List Made) (place : ℕ) (a
     All (IsMadeOf after place) (made_at place pairs)
 made_by_change offers coupled place after pairs (unchanged same none) =
     subst (λ ps. All (IsMadeOf after place) (made_at place ps)) (sym none) (All-nil (IsMadeOf after place))
-made_by_change offers coupled place after pairs (alone new at few same none) =
+made_by_change offers coupled place after pairs (alone new at few same found none) =
     subst (λ ps. All (IsMadeOf after place) (made_at place ps)) (sym none) (All-nil (IsMadeOf after place))
 made_by_change offers coupled place after pairs (joined new match at few same found pair) =
     let m = open_match_is offers coupled new match found in
@@ -104,7 +104,7 @@ once_by_change : (offers : List Standing) (coupled : List Made) (place : ℕ) (a
     is_coupled coupled place ≡ false → ((p : ℕ) → uses_of p coupled ≤ 1) → (p : ℕ) → uses_of p (couplings_among after coupled ++ made_at place pairs) ≤ 1
 once_by_change offers coupled place after pairs (unchanged same none) fresh once p =
     subst (λ ps. uses_of p (couplings_among after coupled ++ made_at place ps) ≤ 1) (sym none) (none_added offers coupled after once p)
-once_by_change offers coupled place after pairs (alone new at few same none) fresh once p =
+once_by_change offers coupled place after pairs (alone new at few same found none) fresh once p =
     subst (λ ps. uses_of p (couplings_among after coupled ++ made_at place ps) ≤ 1) (sym none) (none_added offers coupled after once p)
 once_by_change offers coupled place after pairs (joined new match at few same found pair) fresh once p =
     let m = open_match_is offers coupled new match found in
@@ -137,7 +137,7 @@ one_more offers new limit few party =
 limit_by_change : (offers : List Standing) (coupled : List Made) (place : ℕ) (after : List Standing) (pairs : List Pair) → Change offers coupled place after pairs →
     ((party : ℕ) → offer_count offers party ≤ 64) → (party : ℕ) → offer_count after party ≤ 64
 limit_by_change offers coupled place after pairs (unchanged same none) limit party = subst (λ os. offer_count os party ≤ 64) (sym same) (limit party)
-limit_by_change offers coupled place after pairs (alone new at few same none) limit party = subst (λ os. offer_count os party ≤ 64) (sym same) (one_more offers new limit few party)
+limit_by_change offers coupled place after pairs (alone new at few same found none) limit party = subst (λ os. offer_count os party ≤ 64) (sym same) (one_more offers new limit few party)
 limit_by_change offers coupled place after pairs (joined new match at few same found pair) limit party = subst (λ os. offer_count os party ≤ 64) (sym same) (one_more offers new limit few party)
 limit_by_change offers coupled place after pairs (left other same made) limit party =
     subst (λ os. offer_count os party ≤ 64) (sym same)
@@ -222,7 +222,7 @@ order_later e journal coupled h =
     All-weaker (IsInOrder (length journal)) (IsInOrder (length (e ∷ journal)))
     (λ m order. record { some = order.some; lower = order.lower; made_then = order.made_then; within = omega (arith, order.within) }) coupled h
 
-order_of_couplings : (journal : Entries) → All (IsInOrder (length journal)) (made_in journal) → All (IsInOrder (length journal)) (couplings journal)
+pub order_of_couplings : (journal : Entries) → All (IsInOrder (length journal)) (made_in journal) → All (IsInOrder (length journal)) (couplings journal)
 order_of_couplings journal h = All-filter (λ (m : Made). both_stand (standing journal) m.pair) (IsInOrder (length journal)) (made_in journal) h
 
 -- no coupling has the next place

@@ -7,6 +7,9 @@ pub mod ChangeLemmas
 pub mod MatchLemmas
 pub mod RecoupledLemmas
 pub mod LegalLemmas
+pub mod OpenLemmas
+pub mod LeaveLemmas
+pub mod FewLemmas
+pub mod LookupLemmas
 pub mod AccessLemmas
 pub mod CouplingLemmas
-pub mod SameLemmas

@@ -60,11 +60,11 @@ Stands-from_after journal party (Offer to local surrogate handed) answer made of
     let old : Contains (standing journal) offer → Stands (entry ∷ journal) offer =
     λ there. Stands-after entry journal offer (and_right _ false refl) (before offer there) in
     elim (cases_Bool (is_degree answer)) [
-      | inl told ↦ elim (with_offer-cases (standing journal) new offer (rw told at h)) [
+      | inl with_degree ↦ elim (with_offer-cases (standing journal) new offer (rw with_degree at h)) [
         | inl there ↦ old there
-        | inr added ↦ Stands-new entry journal offer (ap Some added.1) told (subst (λ (o : Standing). is_none (own_offer (standing journal) o.party o.local) ≡ true) added.1 added.0)
+        | inr added ↦ Stands-new entry journal offer (ap Some added.1) with_degree (subst (λ (o : Standing). is_none (own_offer (standing journal) o.party o.local) ≡ true) added.1 added.0)
       ]
-      | inr untold ↦ old (rw untold at h)
+      | inr without ↦ old (rw without at h)
     ]
 Stands-from_after journal party (Set name new) answer made offer before h = Stands-after _ journal offer (and_right _ false refl) (before offer h)
 Stands-from_after journal party (Use name) answer made offer before h = Stands-after _ journal offer (and_right _ false refl) (before offer h)

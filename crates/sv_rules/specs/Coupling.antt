@@ -70,13 +70,18 @@ abbrev pub reopened_among : List Standing → List Made → List Made → List S
 reopened_among offers before now =
     filter (λ offer. is_coupled before offer.place && not (is_coupled now offer.place)) offers
 
--- the pairs that a leave at a place makes: the party's offers cease together, and each offer that this reopens takes
--- its open match, by place
+-- the couplings that are left where a party's offers cease together
+abbrev pub kept_by_leave : List Standing → List Made → ℕ → List Made
+kept_by_leave offers coupled party = couplings_among (without_party offers party) coupled
+
+-- the offers that this reopens, by place
+abbrev pub reopened_by_leave : List Standing → List Made → ℕ → List Standing
+reopened_by_leave offers coupled party = reopened_among (without_party offers party) coupled (kept_by_leave offers coupled party)
+
+-- the pairs that a leave at a place makes: each offer that it reopens takes its open match, by place
 abbrev pub made_by_leave : ℕ → List Standing → List Made → ℕ → List Made
 made_by_leave at offers coupled party =
-    let left = without_party offers party in
-    let kept = couplings_among left coupled in
-    recoupled at left kept (reopened_among left coupled kept)
+    recoupled at (without_party offers party) (kept_by_leave offers coupled party) (reopened_by_leave offers coupled party)
 
 -- the offer at a place
 abbrev pub offer_at : List Standing → ℕ → Option Standing

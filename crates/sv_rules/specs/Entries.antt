@@ -3,6 +3,7 @@ use Rattle.std.specs.List.{list_any}
 use Rattle.std.specs.Option.{option_map_or}
 use Rattle.std.specs.Cmp.Lexicographic.{pointwise}
 use Rattle.apl_arrays.specs.Array.{PlainArray, item_count}
+use Rattle.apl_arrays.specs.Limits.{most_entries, most_journal_elements}
 use Rattle.sv_events.specs.Answer.{PlainAnswer, degree, granted, value, no_value, not_shared, offer_limit, full, done}
 use Rattle.sv_events.specs.Entry.{PlainEntry}
 use Rattle.sv_events.specs.declared.event.Act.{Act}
@@ -69,15 +70,19 @@ abbrev pub elements_of : Option PlainArray → ℕ
 elements_of handed = option_map_or (λ array. item_count array.items) handed 0
 
 -- the elements that an act holds
-abbrev pub elements_asked : Act → ℕ
-elements_asked (Offer to local surrogate handed) = elements_of handed
-elements_asked (Set name new) = item_count new.items
-elements_asked (Use name) = 0
-elements_asked Leave = 0
+abbrev pub act_elements : Act → ℕ
+act_elements (Offer to local surrogate handed) = elements_of handed
+act_elements (Set name new) = item_count new.items
+act_elements (Use name) = 0
+act_elements Leave = 0
+
+-- the elements that an answer holds
+abbrev pub answer_elements : PlainAnswer → ℕ
+answer_elements answer = elements_of (value_got answer)
 
 -- the elements of an entry: those of its act and those of its answer
 abbrev pub entry_elements : PlainEntry → ℕ
-entry_elements e = elements_asked e.act + elements_of (value_got e.answer)
+entry_elements e = act_elements e.act + answer_elements e.answer
 
 -- how many entries are no leaves
 abbrev pub counted_entries : Entries → ℕ
@@ -89,4 +94,4 @@ held_elements journal = sum_by entry_elements journal
 
 -- the journal takes no more entries but leaves: 200,000 others, or 4,194,304 elements
 abbrev pub is_full : Entries → Bool
-is_full journal = nat_le 200000 (counted_entries journal) || nat_le 4194304 (held_elements journal)
+is_full journal = nat_le most_entries (counted_entries journal) || nat_le most_journal_elements (held_elements journal)

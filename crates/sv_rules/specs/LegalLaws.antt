@@ -1,4 +1,5 @@
 use Rattle.std.specs.Prelude.{◌≡◌, ◌<◌, ◌≤◌, ◌↔◌, ℕ, List, ◌∷◌, ◌++◌, IsTrue, length, map, count_by, All, Contains}
+use Rattle.apl_arrays.specs.Limits.{most_offers}
 use Rattle.sv_events.specs.Entry.{PlainEntry}
 use Rattle.sv_events.specs.declared.entry.Pair.{Pair}
 use Rattle.sv_rules.specs.declared.standing.Standing.{Standing}
@@ -18,7 +19,7 @@ LegalIsEntryByEntry = (users : List ℕ) (journal : Entries) → IsLegal users j
 
 -- no party has over 64 standing offers
 abbrev pub OffersAreLimited : Type 0
-OffersAreLimited = (users : List ℕ) (journal : Entries) → IsLegal users journal → (party : ℕ) → offer_count (standing journal) party ≤ 64
+OffersAreLimited = (users : List ℕ) (journal : Entries) → IsLegal users journal → (party : ℕ) → offer_count (standing journal) party ≤ most_offers
 
 -- the pair has its lower place first, and its higher one not after the entry that made it, which is among the first so many
 pub record IsInOrder (entries : ℕ) (made : Made) : Type 0 where

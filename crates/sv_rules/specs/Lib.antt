@@ -4,12 +4,9 @@ pub mod Standing
 pub mod Coupling
 pub mod Story
 pub mod Outcome
-pub mod PlainOutcome
 pub mod Legal
 pub mod StandingLaws
 pub mod CouplingLaws
 pub mod LegalLaws
+pub mod LeaveLaws
 pub mod StoryLaws
-pub mod Rows
-pub mod ChangedRows
-pub mod RarerRows

@@ -1,5 +1,6 @@
 use Rattle.std.specs.Prelude.{ℕ, nat_le, List, [], ◌∷◌, map, Option, Some, None, if◌then◌else◌}
 use Rattle.apl_arrays.specs.Array.{PlainArray}
+use Rattle.apl_arrays.specs.Limits.{most_offers}
 use Rattle.sv_access.specs.Story.{last_value}
 use Rattle.sv_events.specs.Answer.{PlainAnswer, degree, granted, value, no_value, not_shared, offer_limit, done}
 use Rattle.sv_events.specs.declared.entry.Pair.{Pair}
@@ -19,28 +20,28 @@ pub record Outcome : Type 0 where
   pub made : List Pair
 
 -- an answer that couples nothing
-abbrev pub answered : PlainAnswer → Outcome
-answered answer = record { answer = answer; made = [] }
+abbrev pub answer_only : PlainAnswer → Outcome
+answer_only answer = record { answer = answer; made = [] }
 
 -- a new offer is coupled with its open match, if there is one
 abbrev pub joined_to : Standing → Option Standing → Outcome
-joined_to new None = answered (degree 1)
+joined_to new None = answer_only (degree 1)
 joined_to new (Some match) = record { answer = degree 2; made = pair_of match new ∷ [] }
 
 -- an offer of a name that the party has not offered: refused where the party has 64 offers
 abbrev pub new_offer : List Standing → List Made → Standing → Outcome
 new_offer offers coupled new =
-    if nat_le 64 (offer_count offers new.party) then answered offer_limit else joined_to new (open_match offers coupled new)
+    if nat_le most_offers (offer_count offers new.party) then answer_only offer_limit else joined_to new (open_match offers coupled new)
 
 -- an offer of a name that stands answers its degree, and changes nothing
 abbrev pub offer_outcome : List Standing → List Made → Standing → Option Standing → Outcome
 offer_outcome offers coupled new None = new_offer offers coupled new
-offer_outcome offers coupled new (Some old) = answered (degree (degree_at coupled old.place))
+offer_outcome offers coupled new (Some old) = answer_only (degree (degree_at coupled old.place))
 
 -- a set of a name that stands is granted
 abbrev pub set_outcome : Option Standing → Outcome
-set_outcome None = answered not_shared
-set_outcome (Some offer) = answered granted
+set_outcome None = answer_only not_shared
+set_outcome (Some offer) = answer_only granted
 
 -- a value, or that there is none
 abbrev pub value_answer : Option PlainArray → PlainAnswer
@@ -54,8 +55,8 @@ value_for journal offer (Some coupling) = last_value (story journal coupling)
 
 -- a use of a name that stands gives its value
 abbrev pub use_outcome : Entries → Option Standing → Outcome
-use_outcome journal None = answered not_shared
-use_outcome journal (Some offer) = answered (value_answer (value_for journal offer (coupling_at (standing journal) (couplings journal) offer.place)))
+use_outcome journal None = answer_only not_shared
+use_outcome journal (Some offer) = answer_only (value_answer (value_for journal offer (coupling_at (standing journal) (couplings journal) offer.place)))
 
 -- what becomes of an act of a party after a journal that is not full
 abbrev pub outcome : Entries → ℕ → Act → Outcome

@@ -1,6 +1,7 @@
 use Rattle.std.specs.Prelude.{◌≡◌, ◌<◌, ◌≤◌, ◌⊎◌, ◌↔◌, ℕ, List, ◌∷◌, ◌++◌, IsTrue, length, All, Contains, Some}
 use Rattle.std.specs.List.{flat_map}
 use Rattle.apl_arrays.specs.Array.{PlainArray}
+use Rattle.apl_arrays.specs.Limits.{most_entries, most_journal_elements}
 use Rattle.sv_access.specs.declared.access.Side.{Side}
 use Rattle.sv_access.specs.declared.access.Side.TheVariants.{A, B}
 use Rattle.sv_access.specs.declared.access.Kind.{Kind}
@@ -14,7 +15,7 @@ use Rattle.sv_events.specs.declared.event.Act.TheVariants.{Set, Use}
 use Rattle.sv_rules.specs.declared.standing.Standing.{Standing}
 use Rattle.sv_rules.specs.declared.coupling.Coupling.{Coupling}
 use Rattle.sv_rules.specs.Entries.{Entries, next_place, counted_entries, held_elements, is_full}
-use Rattle.sv_rules.specs.Story.{Passed, passed, told, known, handed_in, opening_story, story}
+use Rattle.sv_rules.specs.Story.{GrantedAccess, access_on, story_part, known, handed_in, opening_story, story}
 
 -- the act and its answer are an access of this kind on a local name: a set of the value that was granted, or a use that
 -- was answered with it
@@ -23,21 +24,21 @@ IsAccessTo local kind.Set v act answer = (act ≡ Set local v) × (answer ≡ gr
 IsAccessTo local kind.Use v act answer = (act ≡ Use local) × (answer ≡ value v)
 
 -- the entry is an access on the offer: its party's, on its local name
-abbrev pub IsAccessOn : Standing → PlainEntry → Passed → Type 0
+abbrev pub IsAccessOn : Standing → PlainEntry → GrantedAccess → Type 0
 IsAccessOn offer e access = (e.party ≡ offer.party) × IsAccessTo offer.local access.kind access.value e.act e.answer
 
 -- none of the entries is an access on the offer
 abbrev pub HasNoAccess : Standing → Entries → Type 0
-HasNoAccess offer entries = All (λ e. (access : Passed) → ¬ IsAccessOn offer e access) entries
+HasNoAccess offer entries = All (λ e. (access : GrantedAccess) → ¬ IsAccessOn offer e access) entries
 
 -- the accesses on an offer are granted sets and answered uses of its party on its local name
 abbrev pub AccessesAreSetsAndUses : Type 0
-AccessesAreSetsAndUses = (offer : Standing) (e : PlainEntry) (access : Passed) → (passed offer e ≡ Some access) ↔ IsAccessOn offer e access
+AccessesAreSetsAndUses = (offer : Standing) (e : PlainEntry) (access : GrantedAccess) → (access_on offer e ≡ Some access) ↔ IsAccessOn offer e access
 
 -- the known value of an offer is the value of the last access on it that follows its entry
 abbrev pub KnownIsTheLastAccess : Type 0
 KnownIsTheLastAccess =
-    (offer : Standing) (before : Entries) (offered : PlainEntry) (between : Entries) (e : PlainEntry) (later : Entries) (access : Passed) →
+    (offer : Standing) (before : Entries) (offered : PlainEntry) (between : Entries) (e : PlainEntry) (later : Entries) (access : GrantedAccess) →
     offer.place ≡ next_place before → IsAccessOn offer e access → HasNoAccess offer later →
     known (later ++ e ∷ (between ++ offered ∷ before)) offer ≡ Some access.value
 
@@ -54,7 +55,7 @@ offer_on coupling B = coupling.b
 
 -- the accesses that an entry makes on the two sides of a coupling
 abbrev pub accesses_of : Coupling → PlainEntry → Story PlainArray
-accesses_of coupling e = told A (passed coupling.a e) ++ told B (passed coupling.b e)
+accesses_of coupling e = story_part A (access_on coupling.a e) ++ story_part B (access_on coupling.b e)
 
 -- they are those that it makes on the offer of their side
 abbrev pub SidesAreOffers : Type 0
@@ -71,4 +72,4 @@ StoryIsOpeningAndAccesses =
 
 -- a journal is full where it has 200,000 entries other than leaves, or 4,194,304 elements
 abbrev pub FullIsByEntriesOrElements : Type 0
-FullIsByEntriesOrElements = (journal : Entries) → IsTrue (is_full journal) ↔ ((200000 ≤ counted_entries journal) ⊎ (4194304 ≤ held_elements journal))
+FullIsByEntriesOrElements = (journal : Entries) → IsTrue (is_full journal) ↔ ((most_entries ≤ counted_entries journal) ⊎ (most_journal_elements ≤ held_elements journal))

@@ -1,5 +1,5 @@
-ghost use Rattle.std.specs.Prelude.{◌≡◌, find};
-ghost use Rattle.sv_rules.specs.Coupling.{has_place, is_coupled, degree_at, is_open_match, open_match, pair_of, offer_at, coupling_of, coupling_at};
+ghost use Rattle.std.specs.Prelude.{◌≡◌, ◌≤◌, find, vec_len, vec_capacity};
+ghost use Rattle.sv_rules.specs.Coupling.{stands_at, both_stand, couplings_among, has_place, is_coupled, degree_at, is_open_match, open_match, pair_of, rejoined, offer_at, coupling_of, coupling_at};
 
 use crate::Standing;
 use crate::standing::is_match;
@@ -20,20 +20,42 @@ pub struct Coupling {
     pub at: u64,
 }
 
+fn stands_at(offers: &[Standing], place: u64) -> bool
+    ensures { result ≡ stands_at offers.now place }
+{
+    offers.iter().any(|offer| offer.place == place)
+}
+
+/// Whether both offers of a pair are among these. No memory.
+pub fn both_stand(offers: &[Standing], pair: &Pair) -> bool
+    ensures { result ≡ both_stand offers.now pair.now }
+{
+    stands_at(offers, pair.a) && stands_at(offers, pair.b)
+}
+
+/// Keeps the couplings of which both offers are among these. No memory.
+pub fn keep_couplings(coupled: &mut Vec<Made>, offers: &[Standing])
+    ensures items { coupled.new.items ≡ couplings_among offers.now coupled.old.items }
+    ensures len { vec_len coupled.new ≤ vec_len coupled.old }
+    ensures capacity { vec_capacity coupled.new ≡ vec_capacity coupled.old }
+{
+    coupled.retain(|made| both_stand(offers, &made.pair));
+}
+
 fn has_place(place: u64, made: &Made) -> bool
     ensures { result ≡ has_place place made.now }
 {
     made.pair.a == place || made.pair.b == place
 }
 
-/// Whether the offer at a place is coupled. No memory. This profile.
+/// Whether the offer at a place is coupled. No memory.
 pub fn is_coupled(coupled: &[Made], place: u64) -> bool
     ensures { result ≡ is_coupled coupled.now place }
 {
     coupled.iter().any(|made| has_place(place, made))
 }
 
-/// 2 for a coupled offer, else 1. No memory. This profile.
+/// 2 for a coupled offer, else 1. No memory.
 pub fn degree_at(coupled: &[Made], place: u64) -> u8
     ensures { result ≡ degree_at coupled.now place }
 {
@@ -46,7 +68,7 @@ fn is_open_match(coupled: &[Made], offer: &Standing, other: &Standing) -> bool
     !is_coupled(coupled, other.place) && is_match(offer, other)
 }
 
-/// The open match of an offer, of the lowest place, if there is one. No memory. This profile.
+/// The open match of an offer, of the lowest place, if there is one. No memory.
 pub fn open_match(offers: &[Standing], coupled: &[Made], offer: &Standing) -> Option<Standing>
     ensures { result ≡ open_match offers.now coupled.now offer.now }
 {
@@ -56,7 +78,7 @@ pub fn open_match(offers: &[Standing], coupled: &[Made], offer: &Standing) -> Op
         .copied()
 }
 
-/// The pair of two offers, the lower place first. No memory. This profile.
+/// The pair of two offers, the lower place first. No memory.
 pub fn pair_of(one: &Standing, other: &Standing) -> Pair
     ensures { result ≡ pair_of one.now other.now }
 {
@@ -66,6 +88,21 @@ pub fn pair_of(one: &Standing, other: &Standing) -> Pair
         (other.place, one.place)
     };
     Pair { a, b }
+}
+
+/// The pair that a reopened offer makes at a place: with its open match, where it is still open itself and has one. No
+/// memory.
+pub fn rejoined(at: u64, offers: &[Standing], coupled: &[Made], offer: &Standing) -> Option<Made>
+    ensures { result ≡ rejoined at offers.now coupled.now offer.now }
+{
+    if is_coupled(coupled, offer.place) {
+        return None;
+    }
+    let other = open_match(offers, coupled, offer)?;
+    Some(Made {
+        pair: pair_of(offer, &other),
+        at,
+    })
 }
 
 fn offer_at(offers: &[Standing], place: u64) -> Option<Standing>
@@ -88,7 +125,7 @@ fn made_with(coupled: &[Made], place: u64) -> Option<Made>
     coupled.iter().find(|made| has_place(place, made)).copied()
 }
 
-/// The coupling of the offer at a place, if it has one. No memory. This profile.
+/// The coupling of the offer at a place, if it has one. No memory.
 pub fn coupling_at(offers: &[Standing], coupled: &[Made], place: u64) -> Option<Coupling>
     ensures { result ≡ coupling_at offers.now coupled.now place }
 {

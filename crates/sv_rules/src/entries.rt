@@ -1,20 +1,20 @@
 ghost use Rattle.std.specs.Prelude.{◌≡◌, ◌≤◌};
 ghost use Rattle.apl_arrays.specs.Array.{item_count};
 ghost use Rattle.sv_events.specs.Answer.{plain_answer};
-ghost use Rattle.sv_rules.specs.Entries.{is_leave, has_left, elements_of, elements_asked, value_got};
+ghost use Rattle.sv_rules.specs.Entries.{is_leave, has_left, elements_of, act_elements, answer_elements};
 ghost use Rattle.sv_rules.specs.Journal.{journal_of};
 
 use apl_arrays::{Array, ELEMENT_LIMIT};
 use sv_events::{Act, Answer, Entry};
 
-/// Whether the act is a leave. No memory. This profile.
+/// Whether the act is a leave. No memory.
 pub fn is_leave(act: &Act) -> bool
     ensures { result ≡ is_leave act.now }
 {
     matches!(act, Act::Leave)
 }
 
-/// Whether the party has left. No memory. This profile.
+/// Whether the party has left. No memory.
 pub fn has_left(entries: &[Entry], party: u32) -> bool
     ensures { result ≡ has_left (journal_of entries.now) party }
 {
@@ -40,9 +40,9 @@ fn elements_of(value: &Option<Array>) -> u64
     }
 }
 
-/// How many elements an act holds. No memory. This profile.
-pub fn elements_asked(act: &Act) -> u64
-    ensures count { result ≡ elements_asked act.now }
+/// How many elements an act holds. No memory.
+pub fn act_elements(act: &Act) -> u64
+    ensures count { result ≡ act_elements act.now }
     ensures limit { result ≤ ELEMENT_LIMIT }
 {
     match act {
@@ -52,9 +52,9 @@ pub fn elements_asked(act: &Act) -> u64
     }
 }
 
-/// How many elements an answer holds. No memory. This profile.
-pub fn elements_told(answer: &Answer) -> u64
-    ensures count { result ≡ elements_of (value_got (plain_answer answer.now)) }
+/// How many elements an answer holds. No memory.
+pub fn answer_elements(answer: &Answer) -> u64
+    ensures count { result ≡ answer_elements (plain_answer answer.now) }
     ensures limit { result ≤ ELEMENT_LIMIT }
 {
     match answer {

@@ -1,5 +1,5 @@
-ghost use Rattle.std.specs.Prelude.{◌≡◌};
-ghost use Rattle.sv_rules.specs.Standing.{own_offer, offer_count, is_match};
+ghost use Rattle.std.specs.Prelude.{◌≡◌, ◌≤◌, vec_len, vec_capacity};
+ghost use Rattle.sv_rules.specs.Standing.{own_offer, offer_count, without_party, is_match};
 
 use apl_arrays::Name;
 
@@ -14,7 +14,7 @@ pub struct Standing {
     pub surrogate: Name,
 }
 
-/// The party's offer of a local name, if it has one. No memory. This profile.
+/// The party's offer of a local name, if it has one. No memory.
 pub fn own_offer(offers: &[Standing], party: u32, local: &Name) -> Option<Standing>
     ensures { result ≡ own_offer offers.now party local.now }
 {
@@ -24,15 +24,24 @@ pub fn own_offer(offers: &[Standing], party: u32, local: &Name) -> Option<Standi
         .copied()
 }
 
-/// How many of the offers are the party's. No memory. This profile.
+/// How many of the offers are the party's. No memory.
 pub fn offer_count(offers: &[Standing], party: u32) -> usize
     ensures { result ≡ offer_count offers.now party }
 {
     offers.iter().filter(|offer| offer.party == party).count()
 }
 
+/// Takes the party's offers out. No memory.
+pub fn end_offers(offers: &mut Vec<Standing>, party: u32)
+    ensures items { offers.new.items ≡ without_party offers.old.items party }
+    ensures len { vec_len offers.new ≤ vec_len offers.old }
+    ensures capacity { vec_capacity offers.new ≡ vec_capacity offers.old }
+{
+    offers.retain(|offer| offer.party != party);
+}
+
 /// Whether two offers are of different parties under one surrogate, each made to the other's party or to any, and not
-/// both to any. No memory. This profile.
+/// both to any. No memory.
 pub fn is_match(one: &Standing, other: &Standing) -> bool
     ensures { result ≡ is_match one.now other.now }
 {

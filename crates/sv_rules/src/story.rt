@@ -5,7 +5,7 @@ ghost use Rattle.sv_events.specs.Answer.{plain_answer};
 ghost use Rattle.sv_events.specs.Entry.{plain_entry};
 ghost use Rattle.sv_rules.specs.Entries.{is_granted, value_got};
 ghost use Rattle.sv_rules.specs.Journal.{journal_of};
-ghost use Rattle.sv_rules.specs.Story.{passed_on, passed, set_value, set_on, set_by_either, handed_in, known, opening_story, story};
+ghost use Rattle.sv_rules.specs.Story.{access_to, access_on, set_value, set_on, set_by_either, handed_in, known, opening_story, story};
 
 use crate::{Coupling, Standing};
 use apl_arrays::{Array, Name};
@@ -26,8 +26,8 @@ fn value_got(answer: &Answer) -> Option<&Array>
     }
 }
 
-fn value_passed<'a>(local: &Name, entry: &'a Entry) -> Option<&'a Array>
-    ensures { option_copied result ≡ option_map (λ access. access.value) (passed_on local.now (plain_answer entry.now.answer) entry.now.act) }
+fn value_to<'a>(local: &Name, entry: &'a Entry) -> Option<&'a Array>
+    ensures { option_copied result ≡ option_map (λ access. access.value) (access_to local.now (plain_answer entry.now.answer) entry.now.act) }
 {
     match &entry.act {
         Act::Set(name, value) => {
@@ -48,8 +48,8 @@ fn value_passed<'a>(local: &Name, entry: &'a Entry) -> Option<&'a Array>
     }
 }
 
-fn value_set<'a>(local: &Name, entry: &'a Entry) -> Option<&'a Array>
-    ensures { option_copied result ≡ set_value (passed_on local.now (plain_answer entry.now.answer) entry.now.act) }
+fn value_set_to<'a>(local: &Name, entry: &'a Entry) -> Option<&'a Array>
+    ensures { option_copied result ≡ set_value (access_to local.now (plain_answer entry.now.answer) entry.now.act) }
 {
     match &entry.act {
         Act::Set(name, value) => {
@@ -67,7 +67,7 @@ fn set_on<'a>(offer: &Standing, entry: &'a Entry) -> Option<&'a Array>
     ensures { option_copied result ≡ set_on offer.now (plain_entry entry.now) }
 {
     if entry.party == offer.party {
-        value_set(&offer.local, entry)
+        value_set_to(&offer.local, entry)
     } else {
         None
     }
@@ -82,11 +82,11 @@ fn set_by_either<'a>(coupling: &Coupling, entry: &'a Entry) -> Option<&'a Array>
     }
 }
 
-fn passed_value<'a>(offer: &Standing, entry: &'a Entry) -> Option<&'a Array>
-    ensures { option_copied result ≡ option_map (λ access. access.value) (passed offer.now (plain_entry entry.now)) }
+fn value_on<'a>(offer: &Standing, entry: &'a Entry) -> Option<&'a Array>
+    ensures { option_copied result ≡ option_map (λ access. access.value) (access_on offer.now (plain_entry entry.now)) }
 {
     if entry.party == offer.party {
-        value_passed(&offer.local, entry)
+        value_to(&offer.local, entry)
     } else {
         None
     }
@@ -111,7 +111,7 @@ fn handed_in(act: &Act) -> Option<&Array>
 }
 
 /// The known value of an offer: the last value that its party set or got on it, else the one handed in with it. No
-/// memory. This profile.
+/// memory.
 pub fn known_value<'a>(entries: &'a [Entry], offer: &Standing) -> Option<&'a Array>
     ensures { option_copied result ≡ known (journal_of entries.now) offer.now }
 {
@@ -121,7 +121,7 @@ pub fn known_value<'a>(entries: &'a [Entry], offer: &Standing) -> Option<&'a Arr
         if offer.place >= left as u64 {
             return handed_in(&entry.act);
         }
-        if let Some(value) = passed_value(offer, entry) {
+        if let Some(value) = value_on(offer, entry) {
             return Some(value);
         }
         left -= 1;
@@ -129,7 +129,7 @@ pub fn known_value<'a>(entries: &'a [Entry], offer: &Standing) -> Option<&'a Arr
     None
 }
 
-/// The last value set on either side of a coupling, the initial value included. No memory. This profile.
+/// The last value set on either side of a coupling, the initial value included. No memory.
 pub fn last_value<'a>(entries: &'a [Entry], coupling: &Coupling) -> Option<&'a Array>
     ensures { option_copied result ≡ last_value (story (journal_of entries.now) coupling.now) }
 {

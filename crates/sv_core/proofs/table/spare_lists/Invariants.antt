@@ -5,5 +5,5 @@ use Rattle.sv_core.proofs.table.spare_lists.Given as goal
 abbrev pub invariant-loop-made : goal.invariant-loop-made
 invariant-loop-made l = record {
   count : vec_len l.spares ≡ l._made;
-  spares : All (IsSpare 0) l.spares.items;
+  spares : All IsSpare l.spares.items;
 }

@@ -1,6 +1,7 @@
 use Rattle.std.proofs.Common.{subst}
 use Rattle.sv_rules.specs.Legal.{IsLegal}
 use Rattle.sv_rules.proofs.LegalLemmas.{IsSound-from_legal, couplings_go_on, MayFollow-from_legal, IsLegal-from_entries}
+use Rattle.sv_rules.proofs.LeaveLemmas.{none_match}
 use Rattle.sv_rules.proofs.laws.legal_law.Goals as goal
 
 pub returns-clause-entries : goal.returns-clause-entries
@@ -21,3 +22,6 @@ returns-clause-once c = λ users journal legal. (IsSound-from_legal users journa
 
 pub returns-clause-matching : goal.returns-clause-matching
 returns-clause-matching c = λ users journal legal. (IsSound-from_legal users journal legal).matching
+
+pub returns-clause-unmatched : goal.returns-clause-unmatched
+returns-clause-unmatched c = none_match

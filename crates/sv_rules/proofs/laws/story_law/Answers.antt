@@ -1,8 +1,8 @@
-use Rattle.sv_rules.proofs.AccessLemmas.{IsAccessOn-from_passed, passed-from_IsAccessOn, known_is_the_last_access, known_is_handed_in, sides_are_offers, story_is_opening_and_accesses, full_is}
+use Rattle.sv_rules.proofs.AccessLemmas.{IsAccessOn-from_access, access_on-from_IsAccessOn, known_is_the_last_access, known_is_handed_in, sides_are_offers, story_is_opening_and_accesses, full_is}
 use Rattle.sv_rules.proofs.laws.story_law.Goals as goal
 
 pub returns-clause-accesses : goal.returns-clause-accesses
-returns-clause-accesses c = λ offer e access. (IsAccessOn-from_passed offer e access, passed-from_IsAccessOn offer e access)
+returns-clause-accesses c = λ offer e access. (IsAccessOn-from_access offer e access, access_on-from_IsAccessOn offer e access)
 
 pub returns-clause-known : goal.returns-clause-known
 returns-clause-known c = known_is_the_last_access

@@ -3,6 +3,7 @@ use Rattle.std.proofs.lemmas.List.{reverse-append}
 use Rattle.sv_events.specs.Entry.{plain_entry}
 use Rattle.sv_rules.specs.Legal.{MayFollow}
 use Rattle.sv_core.specs.Core.{PlainCore, present, IsQuiet}
+use Rattle.sv_core.specs.Invariant.{parts_of}
 use Rattle.sv_core.proofs.Kept.{kept_quiet, on_success, present-le-length}
 use Rattle.sv_core.proofs.processor.Core.enter_quiet.Goals as goal
 
@@ -17,4 +18,4 @@ invariant_of-self-2 c =
     let spared = c.if-is_err.ensures in
     let fits : present inside.users.items (reverse inside.journal.items) ≤ c.push_reserved.new.self.room =
     let roomy = on_success c.reserve.result _ spared.negation c.reserve.ensures.room in omega (arith, present-le-length inside.users.items (reverse inside.journal.items), roomy) in
-    rw grown (kept_quiet c.self.invariant e may quiet c.push_reserved.new.self.room fits _ (omega (arith, c.elements_asked.ensures.count, c.elements_told.ensures.count)) (omega arith))
+    rw grown (kept_quiet (parts_of inside) c.self.invariant e may quiet c.push_reserved.new.self.room fits _ (omega (arith, c.act_elements.ensures.count, c.answer_elements.ensures.count)) (omega arith))

@@ -1,0 +1,9 @@
+pub mod PlainSession
+pub mod Progress
+pub mod Run
+pub mod RunLaws
+pub mod Session
+pub mod Statement
+pub mod Transcripts
+pub mod Wants
+pub mod Workspace

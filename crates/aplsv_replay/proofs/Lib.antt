@@ -1,0 +1,6 @@
+pub mod Ascents
+pub mod OneJournal
+pub mod Replays
+pub mod Rounds
+pub mod RunEnds
+pub mod UserTurns

@@ -1,0 +1,52 @@
+use Rattle.std.proofs.Common.{rules, ◌≡◌, ◌∙◌, ◌++◌, map, take, drop, length, ap, refl}
+use Rattle.bundle_text.specs.User.{plain_user}
+use Rattle.aplsv_replay.specs.Participants.{participants_of}
+use Rattle.aplsv_replay.proofs.Replays.{plain_numbers, is_over, begins, each_begins, round_more, all_done, all_ascend, ends, of_turns}
+use Rattle.aplsv_replay.proofs.Rounds.{each_more}
+use Rattle.aplsv_replay.proofs.driver.replay.Goals as goal
+
+pub loop-round-init : goal.loop-round-init
+loop-round-init c =
+    let kept : map plain_user c.into_vec.result.items ≡ c.args.bundle.users = c.into_vec.ensures.value ∙ c.into_users-users.ensures.value in
+    let numbers : map (λ user. user.number) c.as_slice.result.now ≡ map (λ user. user.number) c.args.bundle.users = plain_numbers c.as_slice.result.now c.args.bundle.users (c.as_slice.ensures.value ∙ c.into_users-users.ensures.value) in
+    let users : c.in_ok-core.core.users ≡ map (λ user. user.number) c.args.bundle.users = ap (λ core. core.users) c.in_ok-core.ensures ∙ (c.deref.ensures.value ∙ (c.in_ok-numbers.ensures ∙ numbers)) in
+    record {
+      turns = begins c.args.bundle c.into_vec.result.items c.in_ok-core.core.journal c.in_ok-sessions.sessions.items kept (ap (λ core. core.journal) c.in_ok-core.ensures) c.in_ok-sessions.ensures;
+      users = refl;
+      each = each_begins c.args.bundle c.into_vec.result.items c.in_ok-core.core.users c.in_ok-sessions.sessions.items kept users c.in_ok-sessions.ensures;
+    }
+
+pub loop-round-preserved : goal.loop-round-preserved
+loop-round-preserved c =
+    let loop = c.loop-round in
+    let others = drop (length c.round.new.sessions) loop.sessions.items in
+    let many : length loop.sessions.items ≡ loop.sessions.len = search rules in
+    let more = round_more c.args.bundle loop._round loop.core.journal c.round.new.core.journal loop.sessions.items c.deref_mut.result.now c.round.new.sessions others loop.sessions.len loop.invariant.turns c.deref_mut.ensures.value many c.in_ok-round.ensures.turns in
+    record {
+      turns = more.0;
+      users = c.in_ok-round.ensures.users ∙ loop.invariant.users;
+      each = each_more loop.core.users c.round.new.core.users loop.core.journal (participants_of loop.sessions.items) (participants_of (take loop.sessions.len (c.round.new.sessions ++ others))) c.in_ok-round.ensures.users more.1 loop.invariant.each;
+    }
+
+pub transcripts_of-requires-clause-done : goal.transcripts_of-requires-clause-done
+transcripts_of-requires-clause-done c =
+    let over = is_over c.args.bundle c.as_slice-2.result.now c.rounds_needed-needed.result c.loop-round._round c.rounds_end.ensures c.into_users-users.ensures.bundle.ascending (c.as_slice-2.ensures.value ∙ c.into_users-users.ensures.value) c.rounds_needed-needed.ensures c.loop-round-test.false in
+    all_done c.args.bundle c.loop-round._round c.loop-round.core.journal (participants_of c.loop-round.sessions.items) c.loop-round.invariant.turns over
+
+pub transcripts_of-requires-clause-ascending : goal.transcripts_of-requires-clause-ascending
+transcripts_of-requires-clause-ascending c =
+    let ascending = c.into_users-users.ensures.bundle.ascending in
+    let over = is_over c.args.bundle c.as_slice-2.result.now c.rounds_needed-needed.result c.loop-round._round c.rounds_end.ensures ascending (c.as_slice-2.ensures.value ∙ c.into_users-users.ensures.value) c.rounds_needed-needed.ensures c.loop-round-test.false in
+    all_ascend c.args.bundle c.loop-round._round c.loop-round.core.journal c.loop-round.sessions.items c.loop-round.invariant.turns over ascending
+
+pub returns-clause-run : goal.returns-clause-run
+returns-clause-run c =
+    let numbers : map (λ user. user.number) c.as_slice.result.now ≡ map (λ user. user.number) c.args.bundle.users = plain_numbers c.as_slice.result.now c.args.bundle.users (c.as_slice.ensures.value ∙ c.into_users-users.ensures.value) in
+    let users : c.loop-round.core.users ≡ map (λ user. user.number) c.args.bundle.users = c.loop-round.invariant.users ∙ (ap (λ core. core.users) c.in_ok-core.ensures ∙ (c.deref.ensures.value ∙ (c.in_ok-numbers.ensures ∙ numbers))) in
+    let over = is_over c.args.bundle c.as_slice-2.result.now c.rounds_needed-needed.result c.loop-round._round c.rounds_end.ensures c.into_users-users.ensures.bundle.ascending (c.as_slice-2.ensures.value ∙ c.into_users-users.ensures.value) c.rounds_needed-needed.ensures c.loop-round-test.false in
+    ends c.args.bundle _ c.loop-round.core.journal (participants_of c.loop-round.sessions.items) c.loop-round._round c.loop-round.invariant.turns over c.into_journal.ensures.value c.in_ok-transcripts.transcripts.items c.loop-round.core.users c.into_journal.ensures.legal users c.in_ok-transcripts.ensures
+
+pub returns-clause-turns : goal.returns-clause-turns
+returns-clause-turns c =
+    let over = is_over c.args.bundle c.as_slice-2.result.now c.rounds_needed-needed.result c.loop-round._round c.rounds_end.ensures c.into_users-users.ensures.bundle.ascending (c.as_slice-2.ensures.value ∙ c.into_users-users.ensures.value) c.rounds_needed-needed.ensures c.loop-round-test.false in
+    of_turns c.args.bundle _ c.loop-round.core.journal (participants_of c.loop-round.sessions.items) c.loop-round._round c.loop-round.invariant.turns over c.into_journal.ensures.value

@@ -1,0 +1,3 @@
+pub mod Participants
+pub mod TurnLaws
+pub mod Turns

@@ -1,0 +1,130 @@
+ghost use Rattle.std.specs.Prelude.{◌≡◌, ◌<◌, IsTrue, IfOk, OnOk, All, length, map, reverse};
+ghost use Rattle.sv_rules.specs.Legal.{is_user};
+ghost use Rattle.apl_arrays.specs.Ascending.{Ascend};
+ghost use Rattle.bundle_text.specs.User.{plain_user};
+ghost use Rattle.apl_session.specs.Run.{IsRun};
+ghost use Rattle.apl_session.specs.Transcripts.{plain_transcript};
+ghost use Rattle.aplsv_replay.specs.Participants.{participant_of, participants_of};
+ghost use Rattle.aplsv_replay.specs.TurnLaws.{IsDone, transcript_of};
+ghost use Rattle.aplsv_replay.specs.Turns.{newcomer, turn, round, IsJournalOfTurns};
+
+use crate::turn_laws::rounds_end;
+use apl_arrays::WantOfMemory;
+use apl_session::{Run, Session, Transcript, Transcripts, Wants};
+use bundle_text::{Bundle, BundleUser};
+use std::alloc::Global;
+use sv_core::Core;
+
+/// Runs a bundle on one thread: the users take turns, ascending, until all have left. `WantOfMemory` where memory ran
+/// out, and then there is no run. It takes memory for sessions, journal and transcripts.
+pub fn replay(alloc: Global, bundle: Bundle) -> Result<Run, WantOfMemory>
+    ensures run { IfOk result (λ run. IsRun bundle (reverse run.journal.items) run.transcripts.items) }
+    ensures turns { IfOk result (λ run. IsJournalOfTurns bundle (reverse run.journal.items)) }
+{
+    let users = bundle.into_users();
+    let numbers = numbers_of(alloc, users.as_slice())?;
+    let needed = rounds_needed(users.as_slice());
+    let mut core = Core::new(alloc, &numbers)?;
+    let mut sessions = sessions_of(alloc, users.into_vec())?;
+    for _round in 0..needed {
+        round(&mut core, &mut sessions)?;
+    }
+    rounds_end();
+    let transcripts = transcripts_of(alloc, sessions)?;
+    Ok(Run {
+        transcripts,
+        journal: core.into_journal(),
+    })
+}
+
+// The users' numbers.
+fn numbers_of(alloc: Global, users: &[BundleUser]) -> Result<Vec<u32>, WantOfMemory>
+    ensures { IfOk result (λ numbers. numbers.items ≡ map (λ user. user.number) users.now) }
+{
+    let mut numbers = Vec::new(alloc);
+    for user in users {
+        numbers.push(user.number)?;
+    }
+    Ok(numbers)
+}
+
+// One round for each line of the user with the most, and one in which that user leaves.
+fn rounds_needed(users: &[BundleUser]) -> usize
+    ensures { All (λ user. length user.lines.items < result) users.now }
+{
+    let mut needed = 0;
+    for user in users {
+        needed = (user.lines.as_slice().len() + 1).max(needed);
+    }
+    needed
+}
+
+// A session for each user.
+fn sessions_of(alloc: Global, users: Vec<BundleUser>) -> Result<Vec<Session>, WantOfMemory>
+    ensures { IfOk result (λ sessions. participants_of sessions.items ≡ map newcomer (map plain_user users.items)) }
+{
+    let mut sessions = Vec::new(alloc);
+    for user in users {
+        sessions.push(Session::new(alloc, user.number, user.lines))?;
+    }
+    Ok(sessions)
+}
+
+// The transcript of a session in which no act waits. Lines that are left are done first.
+fn transcript_of(mut session: Session) -> Result<Transcript, WantOfMemory>
+    requires { IsDone (participant_of session) }
+    ensures { IfOk result (λ transcript. plain_transcript transcript ≡ transcript_of (participant_of session)) }
+{
+    let _finished = session.next()?;
+    Ok(session.into_transcript())
+}
+
+// The transcript of each session.
+fn transcripts_of(alloc: Global, sessions: Vec<Session>) -> Result<Transcripts, WantOfMemory>
+    requires done { All IsDone (participants_of sessions.items) }
+    requires ascending { Ascend (map (λ session. session.user) sessions.items) }
+    ensures { IfOk result (λ transcripts. transcripts.items ≡ map transcript_of (participants_of sessions.items)) }
+{
+    let mut transcripts = Transcripts::new(alloc);
+    for session in sessions {
+        transcripts.push(transcript_of(session)?)?;
+    }
+    Ok(transcripts)
+}
+
+// A turn for each session, in their order.
+fn round(core: &mut Core, sessions: &mut [Session]) -> Result<(), WantOfMemory>
+    requires users { All (λ participant. IsTrue (is_user core.old.users participant.number)) (participants_of sessions.old) }
+    ensures turns { OnOk result (record { journal = core.new.journal; participants = participants_of sessions.new } ≡ round core.old.journal (participants_of sessions.old)) }
+    ensures users { core.new.users ≡ core.old.users }
+{
+    match sessions.split_first_mut() {
+        None => Ok(()),
+        Some((session, others)) => {
+            turn(core, session)?;
+            round(core, others)
+        }
+    }
+}
+
+// A user that has not left makes its next act, or leaves where its lines are done.
+fn turn(core: &mut Core, session: &mut Session) -> Result<(), WantOfMemory>
+    requires { IsTrue (is_user core.old.users session.old.user) }
+    ensures turn { OnOk result (record { journal = core.new.journal; participant = participant_of session.new } ≡ turn core.old.journal (participant_of session.old)) }
+    ensures users { core.new.users ≡ core.old.users }
+{
+    let user = session.user();
+    if core.has_left(user) {
+        return Ok(());
+    }
+    match session.next()? {
+        Wants::Finished => {
+            core.leave(user);
+            Ok(())
+        }
+        Wants::Act(act) => {
+            let answer = core.step(user, act)?;
+            session.answer(answer)
+        }
+    }
+}

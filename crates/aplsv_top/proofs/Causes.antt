@@ -1,0 +1,76 @@
+-- Why the program ends as it does.
+use Rattle.std.proofs.Common.{◌≡◌, ◌≢◌, ◌≤◌, ◌+◌, ℕ, List, [], length, Option, Some, None, IsSomeAnd, ap, sym, subst, ◌∙◌, refl, arith}
+use Rattle.std.specs.Io.KnownBytes.{Appends}
+use Rattle.apl_arrays.specs.Limits.{most_input_bytes}
+use Rattle.apl_io.specs.Faults.{Rose}
+use Rattle.apl_io.specs.Whole.{ReadsAll, TakesExactly, TakesAtMost, AppendsPrefix}
+use Rattle.bundle_text.specs.declared.refused.BundleRule.{BundleRule}
+use Rattle.aplsv_top.specs.Causes.{Device, HasCause}
+use Rattle.aplsv_top.specs.Headline.{IsOutputFor, WritesRun, WritesFront, FindsNoBundle}
+use Rattle.aplsv_top.specs.Runnable.{RunnableText, IsNotRunnable}
+use Rattle.aplsv_top.specs.Words.{IsMalformed}
+use Rattle.aplsv_top.specs.declared.status.Status.{Status}
+use Rattle.aplsv_top.specs.declared.status.Status.TheVariants as status
+
+-- where bytes can't be run, no run of them is written
+no_run : (left rest held now : Option (List ℕ)) → IsSomeAnd left IsNotRunnable → WritesRun left rest held now → ⊥
+no_run None rest held now none run = absurd none
+no_run (Some bytes) rest held now none run = none run.run.bundle (subst (λ some. RunnableText some run.run.bundle) run.read.0 run.run.read)
+
+-- nor a front part of one
+no_front : (left rest held now : Option (List ℕ)) → IsSomeAnd left IsNotRunnable → WritesFront left rest held now → ⊥
+no_front None rest held now none run = absurd none
+no_front (Some bytes) rest held now none run = none run.run.bundle (subst (λ some. RunnableText some run.run.bundle) run.read.0 run.run.read)
+
+module _ (ending : Status) (source rest sink grown : Device) where
+  -- what stands behind a status, where no bytes that can't be run were run
+  pub caused : (ending ≡ status.Done → WritesRun source.bytes rest.bytes sink.bytes grown.bytes)
+      → (ending ≡ status.WriteFault → WritesFront source.bytes rest.bytes sink.bytes grown.bytes)
+      → (ending ≡ status.ReadFault → Rose source.faults rest.faults)
+      → (ending ≡ status.WriteFault → Rose sink.faults grown.faults)
+      → (ending ≡ status.TooLong → TakesExactly source.bytes rest.bytes (most_input_bytes + 1))
+      → (ending ≢ status.TooLong → TakesAtMost source.bytes rest.bytes most_input_bytes)
+      → (IsMalformed ending → FindsNoBundle source.bytes rest.bytes)
+      → HasCause ending source rest sink grown
+  caused done front read_fault write_fault too_long taken malformed = record {
+    done = done;
+    front = front;
+    read_fault = read_fault;
+    write_fault = write_fault;
+    too_long = too_long;
+    taken = taken;
+    malformed = malformed;
+    no_bundle = λ none. (λ is. no_run source.bytes rest.bytes sink.bytes grown.bytes none (done is), λ is. no_front source.bytes rest.bytes sink.bytes grown.bytes none (front is));
+  }
+
+-- a source that told these bytes, and has no faults
+abbrev pub given : List ℕ → Device
+given bytes = record { bytes = Some bytes; faults = 0 }
+
+-- a source that told that none is left
+abbrev pub used_up : Device
+used_up = record { bytes = Some []; faults = 0 }
+
+module _ (ending : Status) (bytes : List ℕ) (source rest sink grown : Device) (all : ReadsAll source.bytes rest.bytes bytes) (few : length bytes ≤ most_input_bytes) (h : HasCause ending (given bytes) used_up sink grown) where
+  same_bytes : (other : List ℕ) → ReadsAll (Some bytes) (Some []) other → ReadsAll source.bytes rest.bytes other
+  same_bytes other same = subst (ReadsAll source.bytes rest.bytes) (sym same.0) all
+
+  run_of : WritesRun (Some bytes) (Some []) sink.bytes grown.bytes → WritesRun source.bytes rest.bytes sink.bytes grown.bytes
+  run_of run = record { bytes = run.bytes; text = run.text; read = same_bytes run.bytes run.read; run = run.run; written = run.written }
+
+  front_of : WritesFront (Some bytes) (Some []) sink.bytes grown.bytes → WritesFront source.bytes rest.bytes sink.bytes grown.bytes
+  front_of run = record { bytes = run.bytes; text = run.text; read = same_bytes run.bytes run.read; run = run.run; written = run.written }
+
+  none_of : FindsNoBundle (Some bytes) (Some []) → FindsNoBundle source.bytes rest.bytes
+  none_of found = record { bytes = found.bytes; read = same_bytes found.bytes found.read; none = found.none }
+
+  -- what becomes of bytes is what becomes of a source of which they were read
+  pub by_bytes : TakesAtMost source.bytes rest.bytes most_input_bytes → HasCause ending source rest sink grown
+  by_bytes taken = caused ending source rest sink grown
+      (λ is. run_of (h.done is))
+      (λ is. front_of (h.front is))
+      (λ is. let rose : 1 ≤ 0 = h.read_fault is in absurd (omega (arith, rose)))
+      h.write_fault
+      (λ is. let many : most_input_bytes + 1 ≤ length bytes = (h.too_long is).0 in absurd (omega (arith, many, few)))
+      (λ other. taken)
+      (λ malformed. none_of (h.malformed malformed))

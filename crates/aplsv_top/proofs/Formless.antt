@@ -1,0 +1,65 @@
+-- The first line that is no statement.
+use Rattle.std.proofs.Common.{◌≡◌, ℕ, ◌<◌, ◌≤◌, Bool, true, false, cond, List, [], ◌∷◌, length, get_or, ltb, Option, Some, None, IsSome, is_none, refl, sym, subst, ◌∙◌, arith}
+use Rattle.std.specs.List.{All, position, position_or_len}
+use Rattle.std.proofs.lemmas.Bool.{ltb-false}
+use Rattle.std.proofs.lemmas.List.Elements.{All-nil, All-cons, All-head, All-tail}
+use Rattle.std.proofs.lemmas.List.Quantifiers.{position-Some}
+use Rattle.std.proofs.lemmas.List.Sums.{fails_before_first}
+use Rattle.bundle_text.specs.Bundle.{PlainBundle, BundleText}
+use Rattle.bundle_text.specs.User.{PlainUser}
+use Rattle.apl_session.specs.Statement.{statement_in}
+use Rattle.apl_session.specs.declared.statement.Statement.{Statement}
+use Rattle.aplsv_top.specs.Runnable.{AreStatements, RunnableText, IsNotRunnable, LinePlace, formless_line, found_first, formless_place}
+
+none_is_false : (b : Bool) (n : ℕ) → cond b (Some n) None ≡ None → b ≡ false
+none_is_false true n e = absurd cc
+none_is_false false n e = refl
+
+-- where nothing is found each fails the test
+all_fail : {X : Type 0} (p : X → Bool) (xs : List X) → position p xs ≡ None → (k : ℕ) (d : X) → k < length xs → p (get_or xs k d) ≡ false
+all_fail p xs none k d within =
+    let beyond : length xs ≤ position_or_len p xs = ltb-false _ _ (none_is_false (ltb (position_or_len p xs) (length xs)) (position_or_len p xs) none) in
+    fails_before_first p xs k d (omega (arith, beyond, within))
+
+some_statement : (statement : Option Statement) → is_none statement ≡ false → IsSome statement
+some_statement None e = absurd cc
+some_statement (Some statement) e = refl
+
+not_both : (statement : Option Statement) → is_none statement ≡ true → IsSome statement → ⊥
+not_both None e some = absurd cc
+not_both (Some statement) e some = absurd cc
+
+-- a user without such a line has statements alone
+statements_alone : (user : PlainUser) → formless_line user.lines ≡ None → AreStatements user
+statements_alone user none k d within = some_statement (statement_in (get_or user.lines k d)) (all_fail (λ line. is_none (statement_in line)) user.lines none k d within)
+
+-- and one with such a line has not
+one_is_none : (user : PlainUser) (line : ℕ) → formless_line user.lines ≡ Some line → AreStatements user → ⊥
+one_is_none user line found statements =
+    let at = position-Some (λ one. is_none (statement_in one)) user.lines line [] found in
+    not_both (statement_in (get_or user.lines line [])) at.1 (statements line [] at.0)
+
+all_by : (user : PlainUser) (users : List PlainUser) (found : Option ℕ) (others : Option LinePlace) → formless_line user.lines ≡ found → (others ≡ None → All AreStatements users) → found_first found others ≡ None → All AreStatements (user ∷ users)
+all_by user users None None is later e = All-cons AreStatements user users (statements_alone user is) (later refl)
+all_by user users None (Some place) is later e = absurd cc
+all_by user users (Some line) others is later e = absurd cc
+
+-- where no such line is found all lines are statements
+pub all_statements : (users : List PlainUser) → formless_place users ≡ None → All AreStatements users
+all_statements [] e = All-nil AreStatements
+all_statements (user ∷ users) e = all_by user users (formless_line user.lines) (formless_place users) refl (all_statements users) e
+
+none_by : (user : PlainUser) (users : List PlainUser) (found : Option ℕ) (others : Option LinePlace) (place : LinePlace) → formless_line user.lines ≡ found → ((later : LinePlace) → others ≡ Some later → All AreStatements users → ⊥) → found_first found others ≡ Some place → All AreStatements (user ∷ users) → ⊥
+none_by user users None None place is later e all = absurd cc
+none_by user users None (Some other) place is later e all = later other refl (All-tail AreStatements user users all)
+none_by user users (Some line) others place is later e all = one_is_none user line is (All-head AreStatements user users all)
+
+-- where one is found not all are
+pub not_all_statements : (users : List PlainUser) (place : LinePlace) → formless_place users ≡ Some place → All AreStatements users → ⊥
+not_all_statements [] place e all = absurd cc
+not_all_statements (user ∷ users) place e all = none_by user users (formless_line user.lines) (formless_place users) place refl (not_all_statements users) e all
+
+-- so the text of a bundle with such a line is that of none that can be run
+pub not_runnable : (bytes : List ℕ) (bundle : PlainBundle) (users : List PlainUser) (place : LinePlace) → ((bytes : List ℕ) (bundle other : PlainBundle) → BundleText bytes bundle → BundleText bytes other → bundle ≡ other) → BundleText bytes bundle → users ≡ bundle.users → formless_place users ≡ Some place → IsNotRunnable bytes
+not_runnable bytes bundle users place one text are found other runnable =
+    not_all_statements users place found (subst (All AreStatements) (sym are) (subst (λ b. All AreStatements b.users) (sym (one bytes bundle other text runnable.text)) runnable.statements))

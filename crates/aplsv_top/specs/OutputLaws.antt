@@ -1,0 +1,7 @@
+-- What holds of outputs.
+use Rattle.std.specs.Prelude.{◌≡◌, ℕ, List}
+use Rattle.aplsv_top.specs.Headline.{IsOutputFor}
+
+-- the output is one function of the bytes read
+abbrev pub BundlesHaveOneOutput : Type 0
+BundlesHaveOneOutput = (bytes text other : List ℕ) → IsOutputFor bytes text → IsOutputFor bytes other → text ≡ other

@@ -1,0 +1,39 @@
+-- The bundles that can be run: each line is a statement.
+use Rattle.std.specs.Prelude.{ℕ, ◌+◌, List, [], ◌∷◌, All, Option, Some, None, IsSome, is_none}
+use Rattle.std.specs.List.{position}
+use Rattle.std.specs.Option.{option_map}
+use Rattle.bundle_text.specs.Bundle.{PlainBundle, BundleText}
+use Rattle.bundle_text.specs.User.{PlainUser}
+use Rattle.apl_session.specs.Statement.{statement_in}
+
+-- each line of the user is a statement
+abbrev pub AreStatements : PlainUser → Type 0
+AreStatements user = All (λ line. IsSome (statement_in line)) user.lines
+
+-- the bytes are the text of this bundle, each of whose lines is a statement
+pub record RunnableText (bytes : List ℕ) (bundle : PlainBundle) : Type 0 where
+  pub text : BundleText bytes bundle
+  pub statements : All AreStatements bundle.users
+
+-- the bytes are the text of no bundle each of whose lines is a statement
+abbrev pub IsNotRunnable : List ℕ → Type 0
+IsNotRunnable bytes = (bundle : PlainBundle) → ¬ RunnableText bytes bundle
+
+-- the place of a line: its user, and its place among that user's lines, both counted from 0
+pub record LinePlace : Type 0 where
+  pub user : ℕ
+  pub line : ℕ
+
+-- the first line that is no statement
+abbrev pub formless_line : List (List ℕ) → Option ℕ
+formless_line lines = position (λ line. is_none (statement_in line)) lines
+
+-- a line of the first user, else what was found of the others
+abbrev pub found_first : Option ℕ → Option LinePlace → Option LinePlace
+found_first (Some line) others = Some (record { user = 0; line = line })
+found_first None others = option_map (λ place. record { user = place.user + 1; line = place.line }) others
+
+-- the place of the first line of all users that is no statement
+abbrev pub formless_place : List PlainUser → Option LinePlace
+formless_place [] = None
+formless_place (user ∷ users) = found_first (formless_line user.lines) (formless_place users)

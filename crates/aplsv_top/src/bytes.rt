@@ -1,0 +1,31 @@
+ghost use Rattle.std.specs.Prelude.{IfOk, IfErr};
+ghost use Rattle.bundle_text.specs.Refused.{IsReason};
+ghost use Rattle.aplsv_top.specs.Headline.{IsOutputOf, IsOutputFor};
+ghost use Rattle.aplsv_top.specs.Runnable.{IsNotRunnable};
+
+use crate::output::output_of;
+use crate::runnable::read_runnable;
+use apl_arrays::{Bytes, WantOfMemory};
+use aplsv_replay::replay;
+use bundle_text::{Bundle, BundleRefused};
+use std::alloc::Global;
+
+/// What the program writes for these bytes: the output of a run of the bundle that they are the text of. The journal in
+/// it is one legal history, and each transcript is its user's lines evaluated alone with the answers that the journal
+/// gives that user. `Malformed` where the bytes are the text of no bundle each of whose lines is a statement. It takes
+/// memory for the bundle, the run and the bytes.
+pub fn replay_bytes(alloc: Global, bytes: &[u8]) -> Result<Bytes, BundleRefused>
+    ensures done { IfOk result (λ text. IsOutputFor bytes.now text.items) }
+    ensures malformed { IfErr result (λ why. IsReason why (IsNotRunnable bytes.now)) }
+{
+    let bundle = read_runnable(alloc, bytes)?;
+    Ok(output_for(alloc, bundle)?)
+}
+
+// What is written of a run of a bundle.
+fn output_for(alloc: Global, bundle: Bundle) -> Result<Bytes, WantOfMemory>
+    ensures { IfOk result (λ text. IsOutputOf bundle text.items) }
+{
+    let run = replay(alloc, bundle)?;
+    output_of(alloc, &run.transcripts, run.journal.as_slice())
+}

@@ -1,0 +1,63 @@
+ghost use Rattle.std.specs.Prelude.{◌≡◌, ◌<◌, IfOk, IfErr, IfSome, length, map};
+ghost use Rattle.apl_arrays.specs.List.{glyphs_in};
+ghost use Rattle.bundle_text.specs.Bundle.{PlainBundle, BundleText};
+ghost use Rattle.bundle_text.specs.Refused.{IsReason};
+ghost use Rattle.bundle_text.specs.User.{plain_user};
+ghost use Rattle.aplsv_top.specs.Runnable.{RunnableText, IsNotRunnable, formless_line, formless_place};
+
+use apl_arrays::Line;
+use apl_session::statement_of;
+use bundle_text::{Bundle, BundleRefused, BundleRule, BundleUser, read, texts_are_of_one_bundle};
+use std::alloc::Global;
+
+/// The place of a line: its user, and its place among that user's lines, both counted from 0.
+#[derive(Clone, Copy, Debug, PartialEq, Eq)]
+pub struct LinePlace {
+    pub user: usize,
+    pub line: usize,
+}
+
+/// The bundle that the bytes are the text of, where each of its lines is a statement. `Malformed` where they are the
+/// text of no bundle, and with the rule `Form` at the first line that is no statement. It takes memory for the users
+/// and their lines.
+pub fn read_runnable(alloc: Global, bytes: &[u8]) -> Result<Bundle, BundleRefused>
+    ensures runnable { IfOk result (λ bundle. RunnableText bytes.now bundle) }
+    ensures malformed { IfErr result (λ why. IsReason why (IsNotRunnable bytes.now)) }
+{
+    let bundle = read(alloc, bytes)?;
+    texts_are_of_one_bundle();
+    match formless_place(bundle.users()) {
+        None => Ok(bundle),
+        Some(place) => Err(BundleRefused::Malformed {
+            offset: 0,
+            rule: BundleRule::Form,
+        }),
+    }
+}
+
+// The first of the lines that is no statement.
+fn formless_line(lines: &[Line]) -> Option<usize>
+    ensures { result ≡ formless_line (map glyphs_in lines.now) }
+{
+    lines
+        .iter()
+        .position(|line| statement_of(line.as_slice()).is_none())
+}
+
+// The place of the first line that is no statement.
+fn formless_place(users: &[BundleUser]) -> Option<LinePlace>
+    ensures place { result ≡ formless_place (map plain_user users.now) }
+    ensures within { IfSome result (λ place. place.user < length users.now) }
+{
+    let (first, others) = users.split_first()?;
+    match formless_line(first.lines.as_slice()) {
+        Some(line) => Some(LinePlace { user: 0, line }),
+        None => {
+            let place = formless_place(others)?;
+            Some(LinePlace {
+                user: place.user + 1,
+                line: place.line,
+            })
+        }
+    }
+}

@@ -1,0 +1,180 @@
+ghost use Rattle.std.specs.Prelude.{◌<◌};
+
+mod journals;
+
+use crate::is_legal;
+use apl_arrays::{Array, Glyph, List, Name, WantOfMemory};
+use journals::JOURNALS;
+use std::alloc::Global;
+use std::process::Abort;
+use std::str::SplitWhitespace;
+use std::test::Fail;
+use sv_events::{Act, Answer, Entry, Pair};
+
+fn number(word: Option<&str>) -> u32 {
+    match word {
+        None => 0,
+        Some(digits) => digits.parse().unwrap_or(0),
+    }
+}
+
+fn name(rt: &impl Abort, alloc: Global, word: Option<&str>) -> Result<Name, WantOfMemory> {
+    let mut glyphs = Vec::new(alloc);
+    for byte in word.unwrap_or("").bytes() {
+        glyphs.push(Glyph::of_code(byte).unwrap_or(Glyph::BLANK))?;
+    }
+    Ok(Name::of(&glyphs).expect(rt, "a name"))
+}
+
+fn value(alloc: Global, word: Option<&str>) -> Result<Array, WantOfMemory> {
+    Array::scalar(alloc, i64::from(number(word)))
+}
+
+fn read_offer(
+    rt: &impl Abort,
+    alloc: Global,
+    words: &mut SplitWhitespace<'_>,
+) -> Result<Act, WantOfMemory> {
+    let local = name(rt, alloc, words.next())?;
+    let surrogate = name(rt, alloc, words.next())?;
+    let to = number(words.next());
+    let word = words.next();
+    let value = if word == Some("-") {
+        None
+    } else {
+        Some(value(alloc, word)?)
+    };
+    Ok(Act::Offer {
+        to,
+        local,
+        surrogate,
+        value,
+    })
+}
+
+fn read_act(
+    rt: &impl Abort,
+    alloc: Global,
+    words: &mut SplitWhitespace<'_>,
+) -> Result<Act, WantOfMemory> {
+    match words.next() {
+        Some("offer") => read_offer(rt, alloc, words),
+        Some("set") => Ok(Act::Set(name(rt, alloc, words.next())?, value(alloc, words.next())?)),
+        Some("use") => Ok(Act::Use(name(rt, alloc, words.next())?)),
+        _ => Ok(Act::Leave),
+    }
+}
+
+fn read_answer(alloc: Global, words: &mut SplitWhitespace<'_>) -> Result<Answer, WantOfMemory> {
+    match words.next() {
+        Some("degree") => Ok(Answer::Degree(words.next().unwrap_or("").parse().unwrap_or(0))),
+        Some("granted") => Ok(Answer::Granted),
+        Some("value") => Ok(Answer::Value(value(alloc, words.next())?)),
+        Some("none") => Ok(Answer::NoValue),
+        Some("unshared") => Ok(Answer::NotShared),
+        Some("limit") => Ok(Answer::OfferLimit),
+        Some("full") => Ok(Answer::Full),
+        _ => Ok(Answer::Done),
+    }
+}
+
+fn read_entry(rt: &impl Abort, alloc: Global, line: &str) -> Result<Entry, WantOfMemory> {
+    let mut words = line.split_whitespace();
+    let party = number(words.next());
+    let act = read_act(rt, alloc, &mut words)?;
+    let answer = read_answer(alloc, &mut words)?;
+    let mut made = List::new(alloc);
+    for word in words {
+        if let Some((a, b)) = word.split_once('-') {
+            let pair = Pair {
+                a: u64::from(number(Some(a))),
+                b: u64::from(number(Some(b))),
+            };
+            made.push(pair)?;
+        }
+    }
+    Ok(Entry {
+        party,
+        act,
+        answer,
+        made,
+    })
+}
+
+// The offer of one of 64 names to any.
+fn numbered_offer(rt: &impl Abort, alloc: Global, party: u32, n: u8) -> Entry
+    requires { n < 64 }
+{
+    let letters = [b'A' + n / 8, b'A' + n % 8];
+    let glyphs = letters.map(|letter| Glyph::of_code(letter).unwrap_or(Glyph::BLANK));
+    let name = Name::of(&glyphs).expect(rt, "a name");
+    Entry {
+        party,
+        act: Act::Offer {
+            to: 0,
+            local: name,
+            surrogate: name,
+            value: None,
+        },
+        answer: Answer::Degree(1),
+        made: List::new(alloc),
+    }
+}
+
+fn push_line(
+    rt: &impl Abort,
+    alloc: Global,
+    entries: &mut Vec<Entry>,
+    line: &str,
+) -> Result<(), WantOfMemory> {
+    match line.split_once(" fill ") {
+        None => entries.push(read_entry(rt, alloc, line)?)?,
+        Some((party, count)) => {
+            for n in 0..number(Some(count)).min(64) as u8 {
+                entries.push(numbered_offer(rt, alloc, number(Some(party)), n))?;
+            }
+        }
+    }
+    Ok(())
+}
+
+fn judge(rt: &impl Abort, alloc: Global, journal: &str) -> Result<bool, WantOfMemory> {
+    let mut users = Vec::new(alloc);
+    let mut entries = Vec::new(alloc);
+    let mut lines = journal.lines();
+    let mut heading = lines.next().unwrap_or("").split_whitespace();
+    let verdict = heading.next();
+    for word in heading {
+        users.push(number(Some(word)))?;
+    }
+    for line in lines {
+        push_line(rt, alloc, &mut entries, line)?;
+    }
+    let legal = is_legal(alloc, &users, &entries)?;
+    assert_eq!(rt; legal, verdict == Some("legal"), "{journal}");
+    Ok(legal)
+}
+
+fn judge_all(rt: &impl Abort, alloc: Global) -> Result<(), WantOfMemory> {
+    let mut legal = 0u32;
+    let mut illegal = 0u32;
+    for journal in JOURNALS.split("\n\n") {
+        if judge(rt, alloc, journal)? {
+            legal = legal.saturating_add(1);
+        } else {
+            illegal = illegal.saturating_add(1);
+        }
+    }
+    assert_eq!(rt; legal, 32, "legal journals");
+    assert_eq!(rt; illegal, 48, "illegal journals");
+    Ok(())
+}
+
+#[test]
+fn journals_are_judged(rt: HostRuntime) -> Result<(), Fail> {
+    // Where memory was wanting once, the same call gives every verdict the next time.
+    if judge_all(&rt, rt.alloc()).is_err() {
+        judge_all(&rt, rt.alloc())?;
+    }
+    Ok(())
+}

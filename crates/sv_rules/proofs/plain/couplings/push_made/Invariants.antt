@@ -1,7 +1,0 @@
-use Rattle.std.proofs.Common.{◌≡◌, ◌++◌, take}
-use Rattle.sv_rules.specs.LegalLaws.{made_at}
-use Rattle.sv_rules.proofs.plain.couplings.push_made.Given as goal
-
--- the pairs so far were added
-abbrev pub invariant-loop-pair : goal.invariant-loop-pair
-invariant-loop-pair l = l.made.items ≡ l.initial.made.items ++ made_at l.at (take l.pair-index l.pairs)

@@ -1,6 +1,0 @@
-use Rattle.std.proofs.lemmas.Bool.Decides.{Decides-at}
-use Rattle.sv_rules.proofs.SameLemmas.{same_answer_decides}
-use Rattle.sv_rules.proofs.plain.legal.same_answer.Goals as goal
-
-pub returns : goal.returns
-returns c = Decides-at c.eq.result _ c.eq.ensures (same_answer_decides c.args.one.now c.args.other.now)

@@ -1,7 +1,0 @@
-use Rattle.sv_events.specs.Answer.{plain_answer}
-use Rattle.sv_rules.specs.Outcome as rules
-use Rattle.sv_rules.specs.declared.plain.outcome.Outcome.{Outcome}
-
--- the outcome, whatever room is left in its lists
-abbrev pub plain_outcome : Outcome → rules.Outcome
-plain_outcome o = record { answer = plain_answer o.answer; made = o.made.items }
