@@ -1,5 +1,5 @@
 -- What a core keeps is kept by an entry more.
-use Rattle.std.proofs.Common.{◌≡◌, ◌≤◌, ◌<◌, ◌+◌, ℕ, Bool, true, false, not, leb, ◌||◌, ◌&&◌, ◌==◌, List, [], ◌∷◌, ◌++◌, length, map, filter, count_by, cond, ap, sym, refl, ◌∙◌, arith, add_comm, IsTrue, Result, Ok, Err, OnOk, is_ok, All, subst}
+use Rattle.std.proofs.Common.{◌≡◌, ◌≤◌, ◌<◌, ◌+◌, ℕ, Bool, true, false, not, leb, ◌||◌, ◌&&◌, ◌==◌, List, ◌∷◌, ◌++◌, length, map, filter, count_by, cond, ap, sym, refl, ◌∙◌, arith, add_comm, IsTrue, Result, Ok, Err, OnOk, is_ok, subst}
 use Rattle.std.proofs.lemmas.List.{append-nil}
 use Rattle.std.proofs.lemmas.Bool.{or_parts, leb-false}
 use Rattle.std.proofs.lemmas.List.Elements.{filter_agree}

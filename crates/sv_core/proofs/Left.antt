@@ -14,7 +14,6 @@ use Rattle.sv_rules.specs.Entries.{Entries, next_place, is_leave, has_left, entr
 use Rattle.sv_rules.specs.Standing.{standing, without_party}
 use Rattle.sv_rules.specs.Coupling.{couplings, kept_by_leave, made_by_leave}
 use Rattle.sv_rules.specs.Legal.{IsLegal, MayFollow, is_user}
-use Rattle.sv_rules.specs.LegalLaws.{made_at}
 use Rattle.sv_rules.proofs.LegalLemmas.{leave_again, couplings_go_on}
 use Rattle.sv_core.specs.Core.{present, Parts, IsKept, IsSpare}
 use Rattle.sv_core.proofs.Kept.{not_true}

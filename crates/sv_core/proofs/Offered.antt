@@ -1,15 +1,12 @@
 -- A new offer that is coupled.
-use Rattle.std.proofs.Common.{◌≡◌, ◌<◌, true, false, not, [], ◌∷◌, Option, None, Some, cond, nat_lt, nat_le, ap, sym, refl, ◌∙◌, subst, arith}
-use Rattle.std.proofs.lemmas.Bool.{cond-true, lt-ltb}
-use Rattle.std.proofs.lemmas.List.Elements.{All-cons, All-nil}
+use Rattle.std.proofs.Common.{◌≡◌, false, not, [], ◌∷◌, Option, None, Some, cond, nat_le, ap, sym, refl, ◌∙◌}
 use Rattle.apl_arrays.specs.Array.{PlainArray}
 use Rattle.sv_events.specs.Answer.{degree, offer_limit}
-use Rattle.sv_events.specs.declared.entry.Pair.{Pair}
 use Rattle.sv_events.specs.declared.event.Act.TheVariants.{Offer}
 use Rattle.sv_rules.specs.declared.standing.Standing.{Standing}
 use Rattle.sv_rules.specs.Entries.{Entries, next_place}
 use Rattle.sv_rules.specs.Standing.{standing, own_offer, offer_count}
-use Rattle.sv_rules.specs.Coupling.{couplings, open_match, pair_of, stands_at}
+use Rattle.sv_rules.specs.Coupling.{couplings, open_match, pair_of}
 use Rattle.sv_rules.specs.Outcome.{Outcome, outcome, answer_only, new_offer, offer_outcome, joined_to}
 use Rattle.sv_rules.specs.Legal.{MayFollow}
 use Rattle.sv_core.specs.Core.{PlainCore, MayAct, IsOpened, offer_entry}

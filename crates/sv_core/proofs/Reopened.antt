@@ -1,10 +1,10 @@
 -- The steps of a leave, one after another, are the leave.
-use Rattle.std.proofs.Common.{◌≡◌, ◌≤◌, ℕ, not, ◌&&◌, List, length, ap, ◌∙◌, arith, ◌==◌}
+use Rattle.std.proofs.Common.{◌≡◌, ℕ, not, List, ap, ◌∙◌}
 use Rattle.std.specs.List.{filter}
 use Rattle.sv_rules.specs.declared.coupling.Made.{Made}
 use Rattle.sv_rules.specs.declared.standing.Standing.{Standing}
 use Rattle.sv_rules.specs.Standing.{without_party}
-use Rattle.sv_rules.specs.Coupling.{is_coupled, kept_by_leave, reopened_by_leave, couplings_among, reopened_among, recoupled, made_by_leave}
+use Rattle.sv_rules.specs.Coupling.{is_coupled, couplings_among, reopened_among, recoupled, made_by_leave}
 use Rattle.sv_rules.proofs.Members.{filter-filter}
 
 -- the offers that are noted and kept are those that the leave reopens

@@ -21,9 +21,9 @@ pub(crate) enum Asked {
     Leave,
 }
 
-// What it is told.
+// What it should be answered.
 #[derive(Clone, Copy)]
-pub(crate) enum Told {
+pub(crate) enum Expected {
     Degree(u8),
     Granted,
     Value(i64),
@@ -82,24 +82,24 @@ pub(crate) fn act_of(alloc: Global, asked: Asked) -> Result<Option<Act>, GlyphRe
     }
 }
 
-fn answer_of(alloc: Global, told: Told) -> Result<Answer, WantOfMemory> {
-    match told {
-        Told::Degree(degree) => Ok(Answer::Degree(degree)),
-        Told::Granted => Ok(Answer::Granted),
-        Told::Value(value) => Ok(Answer::Value(Array::scalar(alloc, value)?)),
-        Told::NoValue => Ok(Answer::NoValue),
-        Told::NotShared => Ok(Answer::NotShared),
-        Told::OfferLimit => Ok(Answer::OfferLimit),
-        Told::Done => Ok(Answer::Done),
+fn answer_of(alloc: Global, expected: Expected) -> Result<Answer, WantOfMemory> {
+    match expected {
+        Expected::Degree(degree) => Ok(Answer::Degree(degree)),
+        Expected::Granted => Ok(Answer::Granted),
+        Expected::Value(value) => Ok(Answer::Value(Array::scalar(alloc, value)?)),
+        Expected::NoValue => Ok(Answer::NoValue),
+        Expected::NotShared => Ok(Answer::NotShared),
+        Expected::OfferLimit => Ok(Answer::OfferLimit),
+        Expected::Done => Ok(Answer::Done),
     }
 }
 
-// The entry of what a party asks and is told, with the pairs that this couples.
+// The entry of what a party asks and should be answered, with the pairs that this couples.
 pub(crate) fn entry_of(
     alloc: Global,
     party: u32,
     asked: Asked,
-    told: Told,
+    expected: Expected,
     pairs: &[(u64, u64)],
 ) -> Result<Entry, GlyphRefused> {
     let mut made = List::new(alloc);
@@ -113,7 +113,7 @@ pub(crate) fn entry_of(
     Ok(Entry {
         party,
         act,
-        answer: answer_of(alloc, told)?,
+        answer: answer_of(alloc, expected)?,
         made,
     })
 }

@@ -2,7 +2,7 @@ ghost use Rattle.std.specs.Prelude.{◌≡◌, IfOk, IsTrue};
 ghost use Rattle.sv_rules.specs.Legal.{is_user};
 
 use crate::Core;
-use crate::samples::{Asked, BAD_SAMPLE, Told, act_of, entry_of};
+use crate::samples::{Asked, BAD_SAMPLE, Expected, act_of, entry_of};
 use crate::shown::{Shown, shown_by};
 use apl_arrays::{GlyphRefused, WantOfMemory};
 use std::alloc::Global;
@@ -10,102 +10,132 @@ use std::process::Abort;
 use std::test::Fail;
 use sv_events::{Answer, Entry};
 
-// One event of a worked journal: the place of its party among the users, what it asks, what it is told, and the
+// One event of a worked journal: the place of its party among the users, what it asks, what it should be answered, and the
 // pairs that this couples.
-type Step = (usize, Asked, Told, &'static [(u64, u64)]);
+type Step = (usize, Asked, Expected, &'static [(u64, u64)]);
 
 const X: &str = "X";
 
 // One user sets a value and the other uses it.
 const PLAIN_PATH: [Step; 6] = [
-    (0, Asked::Offer(1002, X, X, Some(3)), Told::Degree(1), &[]),
+    (
+        0,
+        Asked::Offer(1002, X, X, Some(3)),
+        Expected::Degree(1),
+        &[],
+    ),
     (
         1,
         Asked::Offer(1001, X, X, None),
-        Told::Degree(2),
+        Expected::Degree(2),
         &[(1, 2)],
     ),
-    (0, Asked::Set(X, 4), Told::Granted, &[]),
-    (1, Asked::Use(X), Told::Value(4), &[]),
-    (0, Asked::Leave, Told::Done, &[]),
-    (1, Asked::Leave, Told::Done, &[]),
+    (0, Asked::Set(X, 4), Expected::Granted, &[]),
+    (1, Asked::Use(X), Expected::Value(4), &[]),
+    (0, Asked::Leave, Expected::Done, &[]),
+    (1, Asked::Leave, Expected::Done, &[]),
 ];
 
 // An open offer without a value gives none.
 const NO_VALUE: [Step; 3] = [
-    (0, Asked::Offer(1002, X, X, None), Told::Degree(1), &[]),
-    (0, Asked::Use(X), Told::NoValue, &[]),
-    (0, Asked::Leave, Told::Done, &[]),
+    (0, Asked::Offer(1002, X, X, None), Expected::Degree(1), &[]),
+    (0, Asked::Use(X), Expected::NoValue, &[]),
+    (0, Asked::Leave, Expected::Done, &[]),
 ];
 
 // Where both hand in a value, that of the older offer is used; a name without an offer is not shared.
 const OLDER_VALUE: [Step; 7] = [
-    (0, Asked::Offer(1002, X, X, Some(1)), Told::Degree(1), &[]),
-    (1, Asked::Set(X, 5), Told::NotShared, &[]),
-    (1, Asked::Use(X), Told::NotShared, &[]),
+    (
+        0,
+        Asked::Offer(1002, X, X, Some(1)),
+        Expected::Degree(1),
+        &[],
+    ),
+    (1, Asked::Set(X, 5), Expected::NotShared, &[]),
+    (1, Asked::Use(X), Expected::NotShared, &[]),
     (
         1,
         Asked::Offer(1001, X, X, Some(2)),
-        Told::Degree(2),
+        Expected::Degree(2),
         &[(1, 4)],
     ),
-    (1, Asked::Use(X), Told::Value(1), &[]),
-    (1, Asked::Leave, Told::Done, &[]),
-    (0, Asked::Leave, Told::Done, &[]),
+    (1, Asked::Use(X), Expected::Value(1), &[]),
+    (1, Asked::Leave, Expected::Done, &[]),
+    (0, Asked::Leave, Expected::Done, &[]),
 ];
 
 // Two local names are shared under one surrogate; an offer made again tells its degree.
 const SURROGATES: [Step; 9] = [
-    (0, Asked::Offer(1002, "A", X, Some(1)), Told::Degree(1), &[]),
-    (1, Asked::Offer(1001, "B", "Y", None), Told::Degree(1), &[]),
+    (
+        0,
+        Asked::Offer(1002, "A", X, Some(1)),
+        Expected::Degree(1),
+        &[],
+    ),
+    (
+        1,
+        Asked::Offer(1001, "B", "Y", None),
+        Expected::Degree(1),
+        &[],
+    ),
     (
         1,
         Asked::Offer(1001, "C", X, None),
-        Told::Degree(2),
+        Expected::Degree(2),
         &[(1, 3)],
     ),
-    (1, Asked::Use("C"), Told::Value(1), &[]),
-    (0, Asked::Set("A", 10), Told::Granted, &[]),
-    (1, Asked::Use("C"), Told::Value(10), &[]),
-    (1, Asked::Offer(1001, "C", X, Some(7)), Told::Degree(2), &[]),
-    (0, Asked::Leave, Told::Done, &[]),
-    (1, Asked::Leave, Told::Done, &[]),
+    (1, Asked::Use("C"), Expected::Value(1), &[]),
+    (0, Asked::Set("A", 10), Expected::Granted, &[]),
+    (1, Asked::Use("C"), Expected::Value(10), &[]),
+    (
+        1,
+        Asked::Offer(1001, "C", X, Some(7)),
+        Expected::Degree(2),
+        &[],
+    ),
+    (0, Asked::Leave, Expected::Done, &[]),
+    (1, Asked::Leave, Expected::Done, &[]),
 ];
 
 // A leave reopens an offer, which is coupled with its open match.
 const MATCHED_AGAIN: [Step; 6] = [
-    (0, Asked::Offer(0, X, X, None), Told::Degree(1), &[]),
+    (0, Asked::Offer(0, X, X, None), Expected::Degree(1), &[]),
     (
         1,
         Asked::Offer(1001, X, X, None),
-        Told::Degree(2),
+        Expected::Degree(2),
         &[(1, 2)],
     ),
-    (2, Asked::Offer(1001, X, X, None), Told::Degree(1), &[]),
-    (1, Asked::Leave, Told::Done, &[(1, 3)]),
-    (0, Asked::Leave, Told::Done, &[]),
-    (2, Asked::Leave, Told::Done, &[]),
+    (2, Asked::Offer(1001, X, X, None), Expected::Degree(1), &[]),
+    (1, Asked::Leave, Expected::Done, &[(1, 3)]),
+    (0, Asked::Leave, Expected::Done, &[]),
+    (2, Asked::Leave, Expected::Done, &[]),
 ];
 
 // A leave reopens two offers, and each is coupled in the order of their places.
 const LEAVE_OF_TWO: [Step; 7] = [
-    (0, Asked::Offer(0, X, X, None), Told::Degree(1), &[]),
+    (0, Asked::Offer(0, X, X, None), Expected::Degree(1), &[]),
     (
         1,
         Asked::Offer(1001, X, X, None),
-        Told::Degree(2),
+        Expected::Degree(2),
         &[(1, 2)],
     ),
-    (2, Asked::Offer(0, "Y", "Y", None), Told::Degree(1), &[]),
+    (2, Asked::Offer(0, "Y", "Y", None), Expected::Degree(1), &[]),
     (
         1,
         Asked::Offer(1003, "Y", "Y", None),
-        Told::Degree(2),
+        Expected::Degree(2),
         &[(3, 4)],
     ),
-    (2, Asked::Offer(1001, X, X, None), Told::Degree(1), &[]),
-    (0, Asked::Offer(1003, "Z", "Y", None), Told::Degree(1), &[]),
-    (1, Asked::Leave, Told::Done, &[(1, 5), (3, 6)]),
+    (2, Asked::Offer(1001, X, X, None), Expected::Degree(1), &[]),
+    (
+        0,
+        Asked::Offer(1003, "Z", "Y", None),
+        Expected::Degree(1),
+        &[],
+    ),
+    (1, Asked::Leave, Expected::Done, &[(1, 5), (3, 6)]),
 ];
 
 const WORKED: [&[Step]; 6] = [
@@ -182,9 +212,9 @@ fn answer_at_last(
 }
 
 fn wanted(alloc: Global, party: u32, step: &Step) -> Result<Entry, GlyphRefused> {
-    let (_, asked, told, pairs) = *step;
-    match entry_of(alloc, party, asked, told, pairs) {
-        Err(GlyphRefused::WantOfMemory) => entry_of(alloc, party, asked, told, pairs),
+    let (_, asked, expected, pairs) = *step;
+    match entry_of(alloc, party, asked, expected, pairs) {
+        Err(GlyphRefused::WantOfMemory) => entry_of(alloc, party, asked, expected, pairs),
         outcome => outcome,
     }
 }
@@ -249,12 +279,12 @@ fn run(rt: &impl Abort, alloc: Global, steps: &[Step]) -> Result<(), GlyphRefuse
 fn many_offers(alloc: Global) -> Result<Vec<Step>, WantOfMemory> {
     let mut steps: Vec<Step> = Vec::new(alloc);
     for number in 1..=OFFERS_TAKEN {
-        steps.push((0, Asked::Numbered(1002, number), Told::Degree(1), &[]))?;
+        steps.push((0, Asked::Numbered(1002, number), Expected::Degree(1), &[]))?;
     }
     steps.push((
         0,
         Asked::Numbered(1002, OFFERS_TAKEN + 1),
-        Told::OfferLimit,
+        Expected::OfferLimit,
         &[],
     ))?;
     Ok(steps)

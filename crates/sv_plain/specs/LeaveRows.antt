@@ -4,18 +4,18 @@ use Rattle.sv_events.specs.Answer.{degree, done}
 use Rattle.sv_events.specs.declared.entry.Pair.{Pair}
 use Rattle.sv_events.specs.declared.event.Act.TheVariants.{Offer, Leave}
 use Rattle.sv_rules.specs.Entries.{Entries}
-use Rattle.sv_plain.specs.Rows.{plain, joining, offer_x}
+use Rattle.sv_plain.specs.Rows.{lone, joining, offer_x}
 
 -- 1001 offers X to any; 1002 and 1003 to 1001; 1002 leaves, which couples the first with the third
 abbrev pub matched_again : List Pair → Entries
 matched_again made =
     reverse
-    (plain 1001 (offer_x 0 None) (degree 1)
+    (lone 1001 (offer_x 0 None) (degree 1)
     ∷ joining 1002 (offer_x 1001 None) (degree 2) 1 2
-    ∷ plain 1003 (offer_x 1001 None) (degree 1)
+    ∷ lone 1003 (offer_x 1001 None) (degree 1)
     ∷ record { party = 1002; act = Leave; answer = done; made = made }
-    ∷ plain 1001 Leave done
-    ∷ plain 1003 Leave done
+    ∷ lone 1001 Leave done
+    ∷ lone 1003 Leave done
     ∷ [])
 
 -- 1002 leaves two couplings, with 1001 and with 1003, whose offers to any stand again: the older is coupled with the
@@ -23,12 +23,12 @@ matched_again made =
 abbrev pub leave_of_two : List Pair → Entries
 leave_of_two made =
     reverse
-    (plain 1001 (offer_x 0 None) (degree 1)
+    (lone 1001 (offer_x 0 None) (degree 1)
     ∷ joining 1002 (offer_x 1001 None) (degree 2) 1 2
-    ∷ plain 1003 (Offer 0 (codes "Y") (codes "Y") None) (degree 1)
+    ∷ lone 1003 (Offer 0 (codes "Y") (codes "Y") None) (degree 1)
     ∷ joining 1002 (Offer 1003 (codes "Y") (codes "Y") None) (degree 2) 3 4
-    ∷ plain 1003 (offer_x 1001 None) (degree 1)
-    ∷ plain 1001 (Offer 1003 (codes "Z") (codes "Y") None) (degree 1)
+    ∷ lone 1003 (offer_x 1001 None) (degree 1)
+    ∷ lone 1001 (Offer 1003 (codes "Z") (codes "Y") None) (degree 1)
     ∷ record { party = 1002; act = Leave; answer = done; made = made }
     ∷ [])
 
@@ -36,10 +36,10 @@ leave_of_two made =
 abbrev pub two_open_matches_left : List Pair → Entries
 two_open_matches_left made =
     reverse
-    (plain 1001 (offer_x 0 None) (degree 1)
+    (lone 1001 (offer_x 0 None) (degree 1)
     ∷ joining 1002 (offer_x 1001 None) (degree 2) 1 2
-    ∷ plain 1003 (offer_x 1001 None) (degree 1)
-    ∷ plain 1003 (Offer 1001 (codes "Y") (codes "X") None) (degree 1)
+    ∷ lone 1003 (offer_x 1001 None) (degree 1)
+    ∷ lone 1003 (Offer 1001 (codes "Y") (codes "X") None) (degree 1)
     ∷ record { party = 1002; act = Leave; answer = done; made = made }
     ∷ [])
 
@@ -47,10 +47,10 @@ two_open_matches_left made =
 abbrev pub one_match_for_two : List Pair → Entries
 one_match_for_two made =
     reverse
-    (plain 1001 (Offer 0 (codes "A") (codes "X") None) (degree 1)
-    ∷ plain 1001 (Offer 0 (codes "B") (codes "X") None) (degree 1)
+    (lone 1001 (Offer 0 (codes "A") (codes "X") None) (degree 1)
+    ∷ lone 1001 (Offer 0 (codes "B") (codes "X") None) (degree 1)
     ∷ joining 1002 (Offer 1001 (codes "A") (codes "X") None) (degree 2) 1 3
     ∷ joining 1002 (Offer 1001 (codes "B") (codes "X") None) (degree 2) 2 4
-    ∷ plain 1003 (offer_x 1001 None) (degree 1)
+    ∷ lone 1003 (offer_x 1001 None) (degree 1)
     ∷ record { party = 1002; act = Leave; answer = done; made = made }
     ∷ [])

@@ -22,8 +22,8 @@ abbrev pub number : ℕ → PlainArray
 number n = scalar (pos n)
 
 -- an entry that couples nothing
-abbrev pub plain : ℕ → Act → PlainAnswer → PlainEntry
-plain party act answer = record { party = party; act = act; answer = answer; made = [] }
+abbrev pub lone : ℕ → Act → PlainAnswer → PlainEntry
+lone party act answer = record { party = party; act = act; answer = answer; made = [] }
 
 -- an entry that couples one pair
 abbrev pub joining : ℕ → Act → PlainAnswer → ℕ → ℕ → PlainEntry
@@ -36,41 +36,41 @@ offer_x to handed = Offer to (codes "X") (codes "X") handed
 -- two users share X: the end differs
 abbrev pub shared_x : Option PlainArray → Option PlainArray → List PlainEntry → Entries
 shared_x first second entries =
-    reverse (plain 1001 (offer_x 1002 first) (degree 1) ∷ joining 1002 (offer_x 1001 second) (degree 2) 1 2 ∷ entries)
+    reverse (lone 1001 (offer_x 1002 first) (degree 1) ∷ joining 1002 (offer_x 1001 second) (degree 2) 1 2 ∷ entries)
 
 -- 1001 hands in 3 and sets 4; 1002 uses this value
 abbrev pub plain_path : PlainArray → Entries
 plain_path used =
     shared_x (Some (number 3)) None
-    (plain 1001 (Set (codes "X") (number 4)) granted ∷ plain 1002 (Use (codes "X")) (value used) ∷ plain 1001 Leave done
-    ∷ plain 1002 Leave done ∷ [])
+    (lone 1001 (Set (codes "X") (number 4)) granted ∷ lone 1002 (Use (codes "X")) (value used) ∷ lone 1001 Leave done
+    ∷ lone 1002 Leave done ∷ [])
 
 -- the plain path with another answer and other pairs of the second offer
 abbrev pub second_offer : ℕ → List Pair → Entries
 second_offer d made =
-    reverse (plain 1001 (offer_x 1002 None) (degree 1) ∷ record { party = 1002; act = offer_x 1001 None; answer = degree d; made = made } ∷ [])
+    reverse (lone 1001 (offer_x 1002 None) (degree 1) ∷ record { party = 1002; act = offer_x 1001 None; answer = degree d; made = made } ∷ [])
 
 -- an open offer without a value is used
 abbrev pub no_value_yet : PlainAnswer → Entries
-no_value_yet answer = reverse (plain 1001 (offer_x 1002 None) (degree 1) ∷ plain 1001 (Use (codes "X")) answer ∷ plain 1001 Leave done ∷ [])
+no_value_yet answer = reverse (lone 1001 (offer_x 1002 None) (degree 1) ∷ lone 1001 (Use (codes "X")) answer ∷ lone 1001 Leave done ∷ [])
 
 -- both hand in a value, and 1002 uses the older offer's
 abbrev pub older_value : PlainArray → Entries
 older_value used =
     shared_x (Some (number 1)) (Some (number 2))
-    (plain 1002 (Use (codes "X")) (value used) ∷ plain 1002 Leave done ∷ plain 1001 Leave done ∷ [])
+    (lone 1002 (Use (codes "X")) (value used) ∷ lone 1002 Leave done ∷ lone 1001 Leave done ∷ [])
 
 -- A is shared as X with B; 1002 uses B before and after 1001 sets A
 abbrev pub with_surrogates : PlainArray → PlainArray → List ℕ → Entries
 with_surrogates first second surrogate =
     reverse
-    (plain 1001 (Offer 1002 (codes "A") (codes "X") (Some (number 1))) (degree 1)
+    (lone 1001 (Offer 1002 (codes "A") (codes "X") (Some (number 1))) (degree 1)
     ∷ joining 1002 (Offer 1001 (codes "B") surrogate None) (degree 2) 1 2
-    ∷ plain 1002 (Use (codes "B")) (value first)
-    ∷ plain 1001 (Set (codes "A") (number 10)) granted
-    ∷ plain 1002 (Use (codes "B")) (value second)
-    ∷ plain 1001 Leave done
-    ∷ plain 1002 Leave done
+    ∷ lone 1002 (Use (codes "B")) (value first)
+    ∷ lone 1001 (Set (codes "A") (number 10)) granted
+    ∷ lone 1002 (Use (codes "B")) (value second)
+    ∷ lone 1001 Leave done
+    ∷ lone 1002 Leave done
     ∷ [])
 
 -- A and a number in decimal
@@ -79,7 +79,7 @@ numbered_name n = 65 ∷ (if nat_lt n 10 then (48 + n) ∷ [] else (48 + n / 10)
 
 -- an offer of such a name to 1002
 abbrev pub numbered_offer : ℕ → PlainAnswer → PlainEntry
-numbered_offer n answer = plain 1001 (Offer 1002 (numbered_name n) (numbered_name n) None) answer
+numbered_offer n answer = lone 1001 (Offer 1002 (numbered_name n) (numbered_name n) None) answer
 
 -- 64 names are offered, and one more
 abbrev pub one_more_offer : PlainAnswer → Entries
@@ -91,4 +91,4 @@ last_of_64 answer = reverse (map (λ n. numbered_offer n (degree 1)) (range_with
 
 -- 1001 leaves, and then makes an entry
 abbrev pub back_again : Act → PlainAnswer → Entries
-back_again act answer = reverse (plain 1001 Leave done ∷ plain 1001 act answer ∷ [])
+back_again act answer = reverse (lone 1001 Leave done ∷ lone 1001 act answer ∷ [])
