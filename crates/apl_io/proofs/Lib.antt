@@ -1,2 +1,5 @@
 mod Ascending
+mod Entries
+mod Members
+mod Names
 mod Streams

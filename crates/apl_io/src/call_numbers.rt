@@ -1,5 +1,7 @@
 ghost use Rattle.std.specs.Prelude.{◌≡◌, ◌+◌, ◌<◌, ◌≤◌, ◌↔◌, [], ◌∷◌, ◌++◌, OnOk, OnErr, IsOk, IsTrue, Contains};
 ghost use Rattle.std.specs.List.Sorted.{IsStrictlyIncreasing};
+ghost use Rattle.apl_io.specs.Content.{fails_after};
+ghost use Rattle.apl_io.specs.Faults.{one_more};
 
 use apl_arrays::{List, WantOfMemory};
 use std::alloc::Global;
@@ -24,7 +26,7 @@ impl Model for CallNumbers {
 }
 
 impl CallNumbers {
-    /// No numbers. It takes no memory. This profile.
+    /// No numbers. It takes no memory.
     pub fn new(alloc: Global) -> Self
         ensures { result.items ≡ [] }
     {
@@ -33,7 +35,7 @@ impl CallNumbers {
         }
     }
 
-    /// The numbers, ascending. It takes no memory. This profile.
+    /// The numbers, ascending. It takes no memory.
     pub fn as_slice(&self) -> &[u64]
         ensures items { result.now ≡ self.now.items }
         ensures ascending { IsStrictlyIncreasing result.now }
@@ -41,7 +43,7 @@ impl CallNumbers {
         self.numbers.as_slice()
     }
 
-    /// The numbers as a `Vec`. It takes no memory. This profile.
+    /// The numbers as a `Vec`. It takes no memory.
     pub fn into_vec(self) -> Vec<u64>
         ensures items { result.items ≡ self.items }
         ensures ascending { IsStrictlyIncreasing result.items }
@@ -49,8 +51,7 @@ impl CallNumbers {
         self.numbers.into_vec()
     }
 
-    /// Makes room for at least so many pushes, and takes memory for it. `WantOfMemory` leaves the list as it was. This
-    /// profile.
+    /// Makes room for at least so many pushes, and takes memory for it. `WantOfMemory` leaves the list as it was.
     pub fn reserve(&mut self, room: usize) -> Result<(), WantOfMemory>
         ensures items { self.new.items ≡ self.old.items }
         ensures room { OnOk result (room ≤ self.new.room) }
@@ -62,7 +63,7 @@ impl CallNumbers {
     }
 
     /// Adds a number above all the others. Where there is room it is granted and takes no memory, else it takes memory
-    /// for more. `WantOfMemory` leaves the list as it was. This profile.
+    /// for more. `WantOfMemory` leaves the list as it was.
     pub fn push(&mut self, number: u64) -> Result<(), WantOfMemory>
         requires { IsStrictlyIncreasing (self.old.items ++ number ∷ []) }
         ensures ok { OnOk result (self.new.items ≡ self.old.items ++ number ∷ []) }
@@ -78,5 +79,14 @@ impl CallNumbers {
         ensures { IsTrue result ↔ Contains self.now.items number }
     {
         self.as_slice().binary_search(&number).is_ok()
+    }
+
+    /// Counts a call, and says whether its number is one of them. It takes no memory.
+    pub(crate) fn counts(&self, calls: &mut u64) -> bool
+        ensures counted { calls.new ≡ one_more calls.old }
+        ensures listed { result ≡ fails_after calls.old self.now.items }
+    {
+        *calls = calls.saturating_add(1);
+        self.contains(*calls)
     }
 }

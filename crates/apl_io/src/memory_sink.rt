@@ -36,7 +36,7 @@ impl MemorySink {
 
     /// An empty sink with room for so many bytes in all, which it takes at once. A call takes at most `piece` of them.
     /// Calls are numbered from 1, and the number stands still at the greatest `u64`; those that `fails` has are to
-    /// fail. `WantOfMemory` only for the room. This profile.
+    /// fail. `WantOfMemory` only for the room.
     pub fn new(
         alloc: Global,
         room: usize,
@@ -57,7 +57,7 @@ impl MemorySink {
         })
     }
 
-    /// The bytes that it holds. It takes no memory. This profile.
+    /// The bytes that it holds. It takes no memory.
     pub fn bytes(&self) -> &[u8]
         ensures { result.now ≡ self.now.held }
     {

@@ -14,12 +14,12 @@ pub trait Sink {
     ghost faults: { Self → ℕ };
 
     /// How often the sink has failed. The count never falls, and stands still at the greatest `u64`. What memory it
-    /// takes is the sink's own. This profile.
+    /// takes is the sink's own.
     fn faults(&self) -> u64
         ensures { result ≡ faults self.now };
 
     /// Writes from the front of a piece that isn't empty, and says how many bytes it took: one at least, else it is a
-    /// fault. A call that fails takes none. What memory it takes is the sink's own. This profile.
+    /// fault. A call that fails takes none. What memory it takes is the sink's own.
     fn write(&mut self, piece: &[u8]) -> Result<usize, Failed>
         requires { 0 < length piece.now }
         ensures some { IfOk result (λ count. 0 < count) }

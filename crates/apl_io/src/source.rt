@@ -14,12 +14,12 @@ pub trait Source {
     ghost faults: { Self → ℕ };
 
     /// How often the source has failed. The count never falls, and stands still at the greatest `u64`. What memory it
-    /// takes is the source's own. This profile.
+    /// takes is the source's own.
     fn faults(&self) -> u64
         ensures { result ≡ faults self.now };
 
     /// Reads into a buffer that isn't empty, and says how many bytes it gave: 0 only at the end. A call that fails
-    /// gives none. What memory it takes is the source's own. This profile.
+    /// gives none. What memory it takes is the source's own.
     fn read(&mut self, into: &mut [u8]) -> Result<usize, Failed>
         requires { 0 < length into.old }
         ensures count { IfOk result (λ count. count ≤ length into.new) }

@@ -84,7 +84,7 @@ fn read_front<S: Source>(source: &mut S, buffer: &mut [u8], room: usize) -> Resu
 
 /// Reads all bytes to the end of the source. It returns for every source, since each turn takes a byte or is the last.
 /// `ReadFault` where the source failed, and `TooLong` where it gave one byte more than `limit`. It takes memory for
-/// the bytes; where that runs out, the bytes taken so far are lost. This profile.
+/// the bytes; where that runs out, the bytes taken so far are lost.
 pub fn read_all<S: Source>(
     alloc: Global,
     source: &mut S,
@@ -121,8 +121,7 @@ pub fn read_all<S: Source>(
 }
 
 /// Writes all the bytes, in order. It returns for every sink, since each turn writes a byte or is the last. `WriteFault`
-/// where the sink failed, which then has taken a front part of them, perhaps none, not all. It takes no memory. This
-/// profile.
+/// where the sink failed, which then has taken a front part of them, perhaps none, not all. It takes no memory.
 pub fn write_all<W: Sink>(sink: &mut W, bytes: &[u8]) -> Result<(), WriteFault>
     ensures ok { OnOk result (Appends (W.held sink.old) (W.held sink.new) bytes.now) }
     ensures fault { OnErr result (Rose (W.faults sink.old) (W.faults sink.new)) }
