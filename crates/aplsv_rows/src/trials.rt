@@ -12,7 +12,7 @@ pub const REPLAY: &str = "--replay";
 #[derive(Clone, Copy, Debug)]
 pub struct Refusals;
 
-/// Long bundles: the input, and the output.
+/// Bundles: the input, and the output.
 #[derive(Clone, Copy, Debug)]
 pub struct Texts;
 
