@@ -1,0 +1,84 @@
+use crate::glyphs::{push_glyphs, text_of};
+use crate::numbers::{numbers_of, push_numbers};
+use anyhow::{Context, Result, bail};
+use apl_arrays::{Array, Fail, Items, glyphs_of};
+use std::alloc::{AllocError, Global};
+
+fn shape_of(alloc: Global, text: &str) -> Result<Vec<u32>> {
+    let mut shape = Vec::new(alloc);
+    for word in text.split_whitespace() {
+        shape.push(word.parse::<u32>().context("no axis")?)?;
+    }
+    Ok(shape)
+}
+
+// Characters stand between quotes, and a quote among them is written twice.
+fn chars_of(alloc: Global, text: &str) -> Result<Items> {
+    let inside = text
+        .strip_prefix("'")
+        .and_then(|rest| rest.strip_suffix("'"));
+    let mut plain = String::new(alloc);
+    for (place, piece) in inside.context("no quotes")?.split("''").enumerate() {
+        if place > 0 {
+            plain.push('\'')?;
+        }
+        plain.push_str(piece)?;
+    }
+    Ok(Items::Chars(glyphs_of(alloc, plain.as_bytes())?))
+}
+
+/// The array that a field says: its kind, N or C, its shape in parentheses, and its items. It may have escapes.
+pub fn array_of(alloc: Global, field: &str) -> Result<Array> {
+    let text = text_of(alloc, field)?;
+    let (kind, rest) = text.split_once("(").context("no shape")?;
+    let (axes, items) = rest.split_once(")").context("no end of a shape")?;
+    let items = match kind {
+        "N" => Items::Numbers(numbers_of(alloc, items)?),
+        "C" => chars_of(alloc, items)?,
+        _ => bail!("no kind: {kind}"),
+    };
+    Ok(Array::try_new(&shape_of(alloc, axes)?, items)?)
+}
+
+fn push_shape(text: &mut String, shape: &[u32]) -> Result<(), AllocError> {
+    for (place, axis) in shape.iter().enumerate() {
+        if place > 0 {
+            text.push(' ')?;
+        }
+        write!(text, "{axis}")?;
+    }
+    Ok(())
+}
+
+fn push_items(alloc: Global, text: &mut String, items: &Items) -> Result<()> {
+    match items {
+        Items::Numbers(numbers) => push_numbers(text, numbers.as_slice())?,
+        Items::Chars(line) => {
+            let mut plain = String::new(alloc);
+            push_glyphs(alloc, &mut plain, line.as_slice())?;
+            text.push('\'')?;
+            text.push_str(plain.replace(alloc, "'", "''")?.as_str())?;
+            text.push('\'')?;
+        }
+    }
+    Ok(())
+}
+
+/// The text of an array, as fields have it.
+pub fn array_text(alloc: Global, array: &Array) -> Result<String> {
+    let mut text = String::new(alloc);
+    text.push_str(if array.is_chars() { "C(" } else { "N(" })?;
+    push_shape(&mut text, array.shape())?;
+    text.push(')')?;
+    push_items(alloc, &mut text, array.items())?;
+    Ok(text)
+}
+
+/// The text of the array that a call gave, or of its report.
+pub fn outcome_text(alloc: Global, outcome: Result<Array, Fail>) -> Result<String> {
+    match outcome {
+        Ok(array) => array_text(alloc, &array),
+        Err(Fail::Report(report)) => Ok(String::from_str(alloc, report.text())?),
+        Err(Fail::WantOfMemory) => bail!("out of memory"),
+    }
+}
