@@ -6,6 +6,7 @@ use Rattle.std.proofs.lemmas.Bool.{and_parts}
 use Rattle.std.proofs.lemmas.Bool.Decides.{nat_tests}
 use Rattle.std.proofs.lemmas.List.{length-append}
 use Rattle.std.proofs.lemmas.List.Folds.{length-prefix_len}
+use Rattle.apl_arrays.specs.Glyph as named
 use Rattle.apl_arrays.specs.Glyph.{is_blank, is_digit}
 use Rattle.line_scanner.specs.Number.{number, next_number, next_numbers, numbers_then, with_number, constant}
 use Rattle.apl_arrays.specs.Run.{begins}
@@ -42,7 +43,7 @@ next_sound line found e =
       len = omega (arith, p.3, len);
     }
 
-overbar_not_blank : is_blank 152 ≡ false
+overbar_not_blank : is_blank named.overbar ≡ false
 overbar_not_blank = refl
 
 digit_not_blank : (g : ℕ) → is_digit g ≡ true → is_blank g ≡ false
