@@ -1,10 +1,11 @@
-use crate::glyphs::{push_glyphs, text_of};
+use crate::fields::{push_glyphs, quoted, text_of};
 use crate::numbers::{numbers_of, push_numbers};
 use anyhow::{Context, Result, bail};
 use apl_arrays::{Array, Fail, Items, glyphs_of};
 use std::alloc::{AllocError, Global};
 
-fn shape_of(alloc: Global, text: &str) -> Result<Vec<u32>> {
+/// The axes that a text names, with blanks between.
+pub fn shape_of(alloc: Global, text: &str) -> Result<Vec<u32>> {
     let mut shape = Vec::new(alloc);
     for word in text.split_whitespace() {
         shape.push(word.parse::<u32>().context("no axis")?)?;
@@ -12,18 +13,9 @@ fn shape_of(alloc: Global, text: &str) -> Result<Vec<u32>> {
     Ok(shape)
 }
 
-// Characters stand between quotes, and a quote among them is written twice.
+// A quote among the characters is written twice.
 fn chars_of(alloc: Global, text: &str) -> Result<Items> {
-    let inside = text
-        .strip_prefix("'")
-        .and_then(|rest| rest.strip_suffix("'"));
-    let mut plain = String::new(alloc);
-    for (place, piece) in inside.context("no quotes")?.split("''").enumerate() {
-        if place > 0 {
-            plain.push('\'')?;
-        }
-        plain.push_str(piece)?;
-    }
+    let plain = quoted(text)?.replace(alloc, "''", "'")?;
     Ok(Items::Chars(glyphs_of(alloc, plain.as_bytes())?))
 }
 

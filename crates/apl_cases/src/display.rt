@@ -1,5 +1,5 @@
 use crate::arrays::{array_of, outcome_text};
-use crate::glyphs::{push_glyphs, unless_wanted};
+use crate::fields::{push_glyphs, unless_wanted};
 use anyhow::{Result, bail};
 use apl_display::{format, lines_of};
 use case_tables::Trial;

@@ -3,25 +3,50 @@
 #![tactic(auto)]
 
 mod arrays;
+mod characters;
 mod display;
-mod glyphs;
+mod fields;
+mod names;
 mod numbers;
 mod scalar;
+mod shapes;
 mod tokens;
 
 use anyhow::Result;
 use case_tables::{Tally, run_table};
+use characters::{BadGlyphs, Glyphs};
 use display::{Formats, Lines};
+use names::{FileNameOrder, FileNames, NameOrder, Names, Words};
 use scalar::{Dyads, Monads};
+use shapes::{Equality, Shapes};
 use std::process::ExitCode;
 use tokens::Tokens;
 
-fn all_tables(rt: &HostRuntime) -> Result<Tally> {
+fn values(rt: &HostRuntime) -> Result<Tally> {
+    let mut tally = run_table(rt, "glyphs.txt", &Glyphs)?;
+    tally.add(run_table(rt, "bad_glyphs.txt", &BadGlyphs)?);
+    tally.add(run_table(rt, "names.txt", &Names)?);
+    tally.add(run_table(rt, "name_order.txt", &NameOrder)?);
+    tally.add(run_table(rt, "file_names.txt", &FileNames)?);
+    tally.add(run_table(rt, "file_name_order.txt", &FileNameOrder)?);
+    tally.add(run_table(rt, "words.txt", &Words)?);
+    tally.add(run_table(rt, "shapes.txt", &Shapes)?);
+    tally.add(run_table(rt, "equality.txt", &Equality)?);
+    Ok(tally)
+}
+
+fn functions(rt: &HostRuntime) -> Result<Tally> {
     let mut tally = run_table(rt, "monads.txt", &Monads)?;
     tally.add(run_table(rt, "dyads.txt", &Dyads)?);
-    tally.add(run_table(rt, "tokens.txt", &Tokens)?);
     tally.add(run_table(rt, "lines.txt", &Lines)?);
     tally.add(run_table(rt, "formats.txt", &Formats)?);
+    Ok(tally)
+}
+
+fn all_tables(rt: &HostRuntime) -> Result<Tally> {
+    let mut tally = values(rt)?;
+    tally.add(functions(rt)?);
+    tally.add(run_table(rt, "tokens.txt", &Tokens)?);
     Ok(tally)
 }
 

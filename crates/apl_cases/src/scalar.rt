@@ -1,5 +1,5 @@
 use crate::arrays::{array_of, outcome_text};
-use crate::glyphs::unless_wanted;
+use crate::fields::unless_wanted;
 use anyhow::{Context, Result, bail};
 use apl_arrays::{Dyad, Monad};
 use apl_scalar::{dyadic, monadic};

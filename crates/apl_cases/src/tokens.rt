@@ -1,4 +1,4 @@
-use crate::glyphs::{line_of, push_glyphs, unless_wanted};
+use crate::fields::{line_of, push_glyphs, text_of, unless_wanted};
 use crate::numbers::push_numbers;
 use anyhow::{Result, bail};
 use case_tables::Trial;
@@ -58,7 +58,8 @@ fn tokens_text(alloc: Global, tokens: &line_scanner::Tokens) -> Result<String> {
 }
 
 fn scanned(alloc: Global, field: &str) -> Result<String> {
-    match scan(alloc, &line_of(alloc, field)?) {
+    let line = line_of(alloc, text_of(alloc, field)?.as_str())?;
+    match scan(alloc, &line) {
         Ok(tokens) => tokens_text(alloc, &tokens),
         Err(ScanRefused::CharacterError(at)) => Ok(format!(in alloc; "character {at}")?),
         Err(ScanRefused::SyntaxError(at)) => Ok(format!(in alloc; "syntax {at}")?),

@@ -1,0 +1,100 @@
+use crate::arrays::{array_of, array_text, shape_of};
+use crate::fields::{unless, unless_wanted};
+use anyhow::{Context, Result, bail};
+use apl_arrays::{
+    Array, ArrayRefused, Glyph, Items, Line, NumberList, ShapeFault, count_of_elements, shape_fault,
+};
+use case_tables::Trial;
+use std::alloc::Global;
+
+/// Shapes: a shape, how many items, what an array of both is, and what the shape alone is.
+#[derive(Clone, Copy, Debug)]
+pub struct Shapes;
+
+/// Equality of arrays: an array, whether another is the same, and that one.
+#[derive(Clone, Copy, Debug)]
+pub struct Equality;
+
+fn numbers(alloc: Global, count: i64) -> Result<Items> {
+    let mut numbers = NumberList::new(alloc);
+    for number in 0..count {
+        numbers.push(number)?;
+    }
+    Ok(Items::Numbers(numbers))
+}
+
+fn chars(alloc: Global, count: i64) -> Result<Items> {
+    let mut line = Line::new(alloc);
+    for _ in 0..count {
+        line.push(Glyph::BLANK)?;
+    }
+    Ok(Items::Chars(line))
+}
+
+// What an array of a shape and items is. One that is made has both.
+fn made_text(shape: &[u32], items: Items, copy: &Items) -> &'static str {
+    let is_chars = matches!(items, Items::Chars(_));
+    match Array::try_new(shape, items) {
+        Err(ArrayRefused::TooLarge) => "too large",
+        Err(ArrayRefused::BadShape) => "bad shape",
+        Ok(array) => {
+            let is_same = array.shape() == shape && array.items() == copy;
+            if is_same && array.is_chars() == is_chars {
+                "array"
+            } else {
+                "another array"
+            }
+        }
+    }
+}
+
+fn alone_text(shape: &[u32]) -> &'static str {
+    match shape_fault(shape) {
+        None => "fits",
+        Some(ShapeFault::Rank) => "rank",
+        Some(ShapeFault::Size) => "size",
+    }
+}
+
+impl Trial for Shapes {
+    fn difference(&self, alloc: Global, fields: &[&str]) -> Result<Option<String>> {
+        let [shape, count, made, alone] = fields else {
+            bail!("a shape, a count, what is made and what the shape is are wanted");
+        };
+        let axes = shape
+            .strip_prefix("(")
+            .and_then(|rest| rest.strip_suffix(")"));
+        let shape = shape_of(alloc, axes.context("no shape")?)?;
+        let count = count.parse()?;
+        let first = made_text(&shape, numbers(alloc, count)?, &numbers(alloc, count)?);
+        let second = made_text(&shape, chars(alloc, count)?, &chars(alloc, count)?);
+        let third = alone_text(&shape);
+        let found = format!(in alloc; "{first}, {second}, {third}")?;
+        unless_wanted(
+            alloc,
+            found,
+            format!(in alloc; "{made}, {made}, {alone}")?.as_str(),
+        )
+    }
+}
+
+// Whether the copy of an array is the array, and its text the one that it was read from.
+fn is_copied(alloc: Global, field: &str) -> Result<bool> {
+    let array = array_of(alloc, field)?;
+    let copy = array.copy(alloc)?;
+    Ok(copy == array && array_text(alloc, &copy)?.as_str() == field)
+}
+
+impl Trial for Equality {
+    fn difference(&self, alloc: Global, fields: &[&str]) -> Result<Option<String>> {
+        let [one, wanted, other] = fields else {
+            bail!("two arrays and whether they are the same are wanted");
+        };
+        if !is_copied(alloc, *one)? {
+            return unless(alloc, false, "the copy is another");
+        }
+        let is_same = array_of(alloc, *one)? == array_of(alloc, *other)?;
+        let found = if is_same { "same" } else { "other" };
+        unless_wanted(alloc, String::from_str(alloc, found)?, *wanted)
+    }
+}
