@@ -3,12 +3,12 @@ use Rattle.std.proofs.Common.{◌≡◌, ℕ, ◌<◌, Bool, true, false, not, L
 use Rattle.std.specs.List.{list_all, prefix_len, take_while}
 use Rattle.std.proofs.Math.Seq.{drop-append_seam}
 use Rattle.std.proofs.lemmas.Bool.{and_parts}
+use Rattle.std.proofs.lemmas.Option.{same_Some}
 use Rattle.std.proofs.lemmas.List.{append-nil}
 use Rattle.std.proofs.lemmas.List.Sums.{take_while-cons}
 use Rattle.apl_arrays.specs.Glyph.{is_blank}
 use Rattle.apl_arrays.specs.Run.{begins}
 use Rattle.apl_arrays.specs.Word.{IsNextWord, is_no_blank, next_word, word_at_front}
-use Rattle.apl_arrays.proofs.Names.{some_is}
 use Rattle.apl_arrays.proofs.Runs.{run_passes, run_splits, run_stops, take_run, drop_run, run_is}
 
 negation : (b : Bool) → b ≡ false → not b ≡ true
@@ -56,7 +56,7 @@ word_by (first ∷ more) word rest e ink =
     let line : List ℕ = first ∷ more in
     let here : List ℕ × List ℕ = (take (prefix_len is_no_blank line) line, drop (prefix_len is_no_blank line) line) in
     let there : List ℕ × List ℕ = (word, rest) in
-    let same : here ≡ there = some_is here there e in
+    let same : here ≡ there = same_Some here there e in
     let run : take (prefix_len is_no_blank line) line ≡ word = ap (λ x. x.0) same in
     let others : drop (prefix_len is_no_blank line) line ≡ rest = ap (λ x. x.1) same in
     let count : length (take (prefix_len is_no_blank line) line) ≡ length word = ap length run in
