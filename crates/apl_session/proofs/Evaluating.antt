@@ -101,7 +101,7 @@ on_ok : (result : Result (Unit {0}) WantOfMemory) (P : Type 0) → is_err result
 on_ok (Ok done) P fine h = h
 on_ok (Err why) P fine h = absurd cc
 
--- a session that is told an answer
+-- a session that is given an answer
 pub answered_on : (lines : List (List ℕ)) (shown : List (List ℕ)) (kept all : List Answer) (answer : Answer) (before now : Progress) (stage : Stage) (result : Result (Unit {0}) WantOfMemory) → shown ≡ lines → stage ≡ Waiting → (stage ≢ Failed → IsEvaluated lines (map plain_answer kept) before stage)
     → ((asked : Act) → open_at shown before ≡ Some asked → OnOk result ((further : List PlainAnswer) → ahead shown before (plain_answer answer ∷ further) ≡ after_act asked (ahead shown now further))) → is_err result ≡ false
     → all ≡ kept ++ answer ∷ [] → IsEvaluated lines (map plain_answer all) now Ready

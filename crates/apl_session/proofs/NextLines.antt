@@ -20,7 +20,7 @@ line_at lines done found line within is glyphs =
 asks_there : (lines : List (Listed ℕ)) (self : Progress) (found : Listed ℕ) (line : List ℕ) → self.done < length lines → found ≡ get_or lines self.done found → line ≡ found.items → asked_by self.evaluation.names line ≡ open_at (map glyphs_in lines) self
 asks_there lines self found line within is glyphs = sym (ap (λ rest. first_asked rest self.evaluation.names) (line_at lines self.done found line within is glyphs))
 
--- a line that is passed asks an act that waits
+-- a line that is started asks an act that waits
 pub waits_there : (lines : List (Listed ℕ)) (self : Progress) (found : Listed ℕ) (line : List ℕ) (now : PlainEvaluation) (asked : Option Act) → self.done < length lines → found ≡ get_or lines self.done found → line ≡ found.items → asked ≡ asked_by self.evaluation.names line
     → now ≡ started self.evaluation line asked → is_some asked ≡ true → asked ≡ open_at (map glyphs_in lines) (record { done = self.done; evaluation = now })
 waits_there lines self found line now None within is glyphs asks done some = absurd cc

@@ -22,7 +22,7 @@ pub fn replay(alloc: Global, bundle: Bundle) -> Result<Run, WantOfMemory>
     ensures turns { IfOk result (λ run. IsJournalOfTurns bundle (reverse run.journal.items)) }
 {
     let users = bundle.into_users();
-    let numbers = numbers_of(alloc, users.as_slice())?;
+    let numbers = user_numbers(alloc, users.as_slice())?;
     let needed = rounds_needed(users.as_slice());
     let mut core = Core::new(alloc, &numbers)?;
     let mut sessions = sessions_of(alloc, users.into_vec())?;
@@ -38,7 +38,7 @@ pub fn replay(alloc: Global, bundle: Bundle) -> Result<Run, WantOfMemory>
 }
 
 // The users' numbers.
-fn numbers_of(alloc: Global, users: &[BundleUser]) -> Result<Vec<u32>, WantOfMemory>
+fn user_numbers(alloc: Global, users: &[BundleUser]) -> Result<Vec<u32>, WantOfMemory>
     ensures { IfOk result (λ numbers. numbers.items ≡ map (λ user. user.number) users.now) }
 {
     let mut numbers = Vec::new(alloc);

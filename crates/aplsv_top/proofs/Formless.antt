@@ -9,7 +9,8 @@ use Rattle.bundle_text.specs.Bundle.{PlainBundle, BundleText}
 use Rattle.bundle_text.specs.User.{PlainUser}
 use Rattle.apl_session.specs.Statement.{statement_in}
 use Rattle.apl_session.specs.declared.statement.Statement.{Statement}
-use Rattle.aplsv_top.specs.Runnable.{AreStatements, RunnableText, IsNotRunnable, LinePlace, formless_line, found_first, formless_place}
+use Rattle.aplsv_top.specs.declared.runnable.LinePlace.{LinePlace}
+use Rattle.aplsv_top.specs.Runnable.{AreStatements, RunnableText, IsNotRunnable, formless_line, found_first, formless_place}
 
 none_is_false : (b : Bool) (n : ℕ) → cond b (Some n) None ≡ None → b ≡ false
 none_is_false true n e = absurd cc

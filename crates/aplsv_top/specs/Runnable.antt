@@ -1,10 +1,15 @@
 -- The bundles that can be run: each line is a statement.
-use Rattle.std.specs.Prelude.{ℕ, ◌+◌, List, [], ◌∷◌, All, Option, Some, None, IsSome, is_none}
+use Rattle.std.specs.Prelude.{◌≡◌, ℕ, ◌+◌, List, [], ◌∷◌, All, Option, Some, None, IsSome, is_none}
 use Rattle.std.specs.List.{position}
 use Rattle.std.specs.Option.{option_map}
 use Rattle.bundle_text.specs.Bundle.{PlainBundle, BundleText}
 use Rattle.bundle_text.specs.User.{PlainUser}
+use Rattle.bundle_text.specs.Offset.{offset_of}
+use Rattle.bundle_text.specs.declared.refused.BundleRefused.{BundleRefused}
+use Rattle.bundle_text.specs.declared.refused.BundleRefused.TheVariants.{Malformed, WantOfMemory}
+use Rattle.bundle_text.specs.declared.refused.BundleRule.TheVariants.{Form}
 use Rattle.apl_session.specs.Statement.{statement_in}
+use Rattle.aplsv_top.specs.declared.runnable.LinePlace.{LinePlace}
 
 -- each line of the user is a statement
 abbrev pub AreStatements : PlainUser → Type 0
@@ -19,11 +24,6 @@ pub record RunnableText (bytes : List ℕ) (bundle : PlainBundle) : Type 0 where
 abbrev pub IsNotRunnable : List ℕ → Type 0
 IsNotRunnable bytes = (bundle : PlainBundle) → ¬ RunnableText bytes bundle
 
--- the place of a line: its user, and its place among that user's lines, both counted from 0
-pub record LinePlace : Type 0 where
-  pub user : ℕ
-  pub line : ℕ
-
 -- the first line that is no statement
 abbrev pub formless_line : List (List ℕ) → Option ℕ
 formless_line lines = position (λ line. is_none (statement_in line)) lines
@@ -37,3 +37,8 @@ found_first None others = option_map (λ place. record { user = place.user + 1; 
 abbrev pub formless_place : List PlainUser → Option LinePlace
 formless_place [] = None
 formless_place (user ∷ users) = found_first (formless_line user.lines) (formless_place users)
+
+-- the answer names the line's first byte and the rule of its form, unless memory ran out
+abbrev pub IsFormlessAt : List PlainUser → LinePlace → BundleRefused → Type 0
+IsFormlessAt users place (Malformed offset rule) = (offset ≡ offset_of users place.user place.line) × (rule ≡ Form)
+IsFormlessAt users place WantOfMemory = Unit {0}

@@ -1,9 +1,9 @@
-ghost use Rattle.std.specs.Prelude.{◌≡◌, ◌<◌, IfOk, IfErr, IfSome, length, map};
+ghost use Rattle.std.specs.Prelude.{◌≡◌, ◌<◌, Some, IfOk, IfErr, IfSome, length, map};
 ghost use Rattle.apl_arrays.specs.List.{glyphs_in};
 ghost use Rattle.bundle_text.specs.Bundle.{PlainBundle, BundleText};
 ghost use Rattle.bundle_text.specs.Refused.{IsReason};
 ghost use Rattle.bundle_text.specs.User.{plain_user};
-ghost use Rattle.aplsv_top.specs.Runnable.{RunnableText, IsNotRunnable, formless_line, formless_place};
+ghost use Rattle.aplsv_top.specs.Runnable.{RunnableText, IsNotRunnable, IsFormlessAt, formless_line, formless_place};
 
 use apl_arrays::Line;
 use apl_session::statement_of;
@@ -23,13 +23,15 @@ pub struct LinePlace {
 pub fn read_runnable(alloc: Global, bytes: &[u8]) -> Result<Bundle, BundleRefused>
     ensures runnable { IfOk result (λ bundle. RunnableText bytes.now bundle) }
     ensures malformed { IfErr result (λ why. IsReason why (IsNotRunnable bytes.now)) }
+    ensures formless { (bundle : PlainBundle) (place : LinePlace) → BundleText bytes.now bundle → formless_place bundle.users ≡ Some place
+        → IfErr result (λ why. IsFormlessAt bundle.users place why) }
 {
     let bundle = read(alloc, bytes)?;
     texts_are_of_one_bundle();
     match formless_place(bundle.users()) {
         None => Ok(bundle),
         Some(place) => Err(BundleRefused::Malformed {
-            offset: 0,
+            offset: bundle.offset_of(place.user, place.line),
             rule: BundleRule::Form,
         }),
     }
