@@ -1,10 +1,12 @@
 ghost use Rattle.std.specs.Prelude.{◌<◌};
 
-mod journals;
+mod illegal_journals;
+mod legal_journals;
 
 use crate::is_legal;
 use apl_arrays::{Array, Glyph, List, Name, WantOfMemory};
-use journals::JOURNALS;
+use illegal_journals::ILLEGAL;
+use legal_journals::LEGAL;
 use std::alloc::Global;
 use std::process::Abort;
 use std::str::SplitWhitespace;
@@ -155,18 +157,23 @@ fn judge(rt: &impl Abort, alloc: Global, journal: &str) -> Result<bool, WantOfMe
     Ok(legal)
 }
 
-fn judge_all(rt: &impl Abort, alloc: Global) -> Result<(), WantOfMemory> {
+// How many journals of a table are legal, and how many are not.
+fn judge_table(rt: &impl Abort, alloc: Global, journals: &str) -> Result<(u32, u32), WantOfMemory> {
     let mut legal = 0u32;
     let mut illegal = 0u32;
-    for journal in JOURNALS.split("\n\n") {
+    for journal in journals.split("\n\n") {
         if judge(rt, alloc, journal)? {
             legal = legal.saturating_add(1);
         } else {
             illegal = illegal.saturating_add(1);
         }
     }
-    assert_eq!(rt; legal, 32, "legal journals");
-    assert_eq!(rt; illegal, 48, "illegal journals");
+    Ok((legal, illegal))
+}
+
+fn judge_all(rt: &impl Abort, alloc: Global) -> Result<(), WantOfMemory> {
+    assert_eq!(rt; judge_table(rt, alloc, LEGAL)?, (32, 0));
+    assert_eq!(rt; judge_table(rt, alloc, ILLEGAL)?, (0, 48));
     Ok(())
 }
 
