@@ -9,4 +9,7 @@ pub mod Name
 pub mod Padded
 pub mod Parties
 pub mod Report
+pub mod Run
+pub mod Shape
 pub mod Text
+pub mod Word

@@ -1,7 +1,7 @@
-ghost use Rattle.std.specs.Prelude.{◌≡◌, ◌≤◌, IsTrue, IsSome, IfSome, ◌↔◌, length};
-ghost use Rattle.std.specs.List.{list_all};
+ghost use Rattle.std.specs.Prelude.{◌≡◌, ◌≤◌, IsTrue, IsSome, IfSome, ◌↔◌, ℕ, List as ListOf, Some, drop, length};
+ghost use Rattle.std.specs.List.{list_all, prefix_len};
 ghost use Rattle.apl_arrays.specs.Limits.{most_name_glyphs};
-ghost use Rattle.apl_arrays.specs.Name.{IsName, goes_on, is_name};
+ghost use Rattle.apl_arrays.specs.Name.{IsName, IsLongestName, goes_on, is_name, longest_name};
 ghost use Rattle.apl_arrays.specs.Padded.{padded};
 
 use crate::Glyph;
@@ -51,6 +51,26 @@ impl Name {
             glyphs: places,
             len: glyphs.len() as u8,
         })
+    }
+
+    /// How many glyphs at the front go on as a name does. No memory.
+    #[tactic(auto, using(crate::proofs::Runs::run_fits))]
+    pub fn run_length(line: &[Glyph]) -> usize
+        ensures value { result ≡ prefix_len goes_on line.now }
+        ensures within { result ≤ length line.now }
+    {
+        line.iter().take_while(|glyph| glyph.goes_on()).count()
+    }
+
+    /// The longest name at the front, and how many glyphs it has: all that go on as a name does. `None` where they are
+    /// no name: there are none or over 32, or the first is no letter. No memory.
+    pub fn longest(line: &[Glyph]) -> Option<(Name, usize)>
+        ensures value { result ≡ longest_name line.now }
+        ensures within { IfSome result (λ found. found.1 ≤ length line.now) }
+    {
+        let length = Name::run_length(line);
+        let name = Name::of(&line[..length])?;
+        Some((name, length))
     }
 
     /// Its glyphs. No memory.
@@ -148,3 +168,10 @@ fn is_name(glyphs: &[Glyph]) -> bool
         Some((first, rest)) => first.is_letter() && rest.len() < NAME_LIMIT && all_go_on(rest),
     }
 }
+
+/// The longest name of a line is the name at its front behind which nothing goes on as a name does. The call does
+/// nothing. No memory.
+pub fn longest_names_end()
+    ensures found { (line name rest : ListOf ℕ) → IsLongestName line name rest → longest_name line ≡ Some (name, length name) }
+    ensures ends { (line name : ListOf ℕ) (count : ℕ) → longest_name line ≡ Some (name, count) → (count ≡ length name) × IsLongestName line name (drop count line) }
+{}

@@ -6,26 +6,29 @@ use Rattle.std.proofs.lemmas.List.{length-append, append-nil}
 use Rattle.line_scanner.specs.Role.{is_quote}
 use Rattle.line_scanner.specs.Number.{behind}
 use Rattle.line_scanner.specs.Scanning.{with_char, chars_by, chars_from}
-use Rattle.line_scanner.specs.Grammar.{begins, doubled}
-use Rattle.line_scanner.proofs.Found.{some_is, behind_some, behind_none}
+use Rattle.apl_arrays.specs.Glyph as named
+use Rattle.apl_arrays.specs.Run.{begins}
+use Rattle.line_scanner.specs.Grammar.{doubled}
+use Rattle.std.proofs.lemmas.Option.{same_Some}
+use Rattle.line_scanner.proofs.Found.{behind_some, behind_none}
 use Rattle.line_scanner.proofs.Chars.{onto}
 
 -- a quote that stands before, if one does
 abbrev pub before : Bool → List ℕ
-before true = 39 ∷ []
+before true = named.quote ∷ []
 before false = []
 
 -- characters, their closing quote, and what follows it
 pub record CharsTaken (line list : List ℕ) (taken : ℕ) : Type 0 where
   pub more : List ℕ
-  pub whole : line ≡ flat_map doubled list ++ (39 ∷ more)
+  pub whole : line ≡ flat_map doubled list ++ (named.quote ∷ more)
   pub ends : begins is_quote more ≡ false
   pub len : taken ≡ length (flat_map doubled list) + 1
 
 with_char_some : (char : ℕ) (inner : Option (List ℕ × ℕ)) (found : List ℕ × ℕ) → with_char char inner ≡ Some found → (first : List ℕ × ℕ) × (inner ≡ Some first) × (char ∷ first.0 ≡ found.0) × (1 + first.1 ≡ found.1)
 with_char_some char None found e = absurd cc
 with_char_some char (Some first) found e =
-    let same = some_is (char ∷ first.0, 1 + first.1) found e in
+    let same = same_Some (char ∷ first.0, 1 + first.1) found e in
     (first, refl, ap (λ (x : List ℕ × ℕ). x.0) same, ap (λ (x : List ℕ × ℕ). x.1) same)
 
 doubled_plain : (g : ℕ) → is_quote g ≡ false → doubled g ≡ g ∷ []
@@ -38,7 +41,7 @@ doubled_quote g e = rw e refl
 char_before : (g : ℕ) (front line list : List ℕ) (taken n : ℕ) → front ≡ doubled g → n ≡ length front + taken → CharsTaken line list taken → CharsTaken (front ++ line) (g ∷ list) n
 char_before g front line list taken n e len h = record {
   more = h.more;
-  whole = ap (λ (xs : List ℕ). front ++ xs) h.whole ∙ ap (λ (xs : List ℕ). xs ++ (flat_map doubled list ++ (39 ∷ h.more))) e ∙ sym (append_assoc (doubled g) (flat_map doubled list) (39 ∷ h.more));
+  whole = ap (λ (xs : List ℕ). front ++ xs) h.whole ∙ ap (λ (xs : List ℕ). xs ++ (flat_map doubled list ++ (named.quote ∷ h.more))) e ∙ sym (append_assoc (doubled g) (flat_map doubled list) (named.quote ∷ h.more));
   ends = h.ends;
   len = omega (arith, len, h.len, ap length e, length-append (doubled g) (flat_map doubled list));
 }
@@ -56,22 +59,22 @@ sound_by false false g rest found is e beyond =
 sound_by false true g rest found is e beyond =
     let p = behind_some 1 (chars_from true rest) found e in
     let h = beyond true p.0 p.1 in
-    taken_same (39 ∷ rest) (g ∷ rest) p.0.0 found.0 (1 + p.0.1) (0 + found.1) (ap (λ (x : ℕ). x ∷ rest) (sym (eqb-true g 39 is))) p.2 (omega (arith, p.3)) h
+    taken_same (named.quote ∷ rest) (g ∷ rest) p.0.0 found.0 (1 + p.0.1) (0 + found.1) (ap (λ (x : ℕ). x ∷ rest) (sym (eqb-true g named.quote is))) p.2 (omega (arith, p.3)) h
 sound_by true true g rest found is e beyond =
     let p = with_char_some g (chars_from false rest) found e in
     let h = beyond false p.0 p.1 in
-    taken_same (g ∷ g ∷ rest) (39 ∷ g ∷ rest) (g ∷ p.0.0) found.0 (2 + p.0.1) (1 + found.1) (ap (λ (x : ℕ). x ∷ g ∷ rest) (eqb-true g 39 is)) p.2 (omega (arith, p.3)) (char_before g (g ∷ g ∷ []) rest p.0.0 (0 + p.0.1) (2 + p.0.1) (sym (doubled_quote g is)) (omega arith) h)
+    taken_same (g ∷ g ∷ rest) (named.quote ∷ g ∷ rest) (g ∷ p.0.0) found.0 (2 + p.0.1) (1 + found.1) (ap (λ (x : ℕ). x ∷ g ∷ rest) (eqb-true g named.quote is)) p.2 (omega (arith, p.3)) (char_before g (g ∷ g ∷ []) rest p.0.0 (0 + p.0.1) (2 + p.0.1) (sym (doubled_quote g is)) (omega arith) h)
 sound_by true false g rest found is e beyond =
-    let same = some_is ([], 0) found e in
-    taken_same (39 ∷ g ∷ rest) (39 ∷ g ∷ rest) [] found.0 1 (1 + found.1) refl (ap (λ (x : List ℕ × ℕ). x.0) same) (omega (arith, ap (λ (x : List ℕ × ℕ). x.1) same)) (record { more = g ∷ rest; whole = refl; ends = is; len = refl })
+    let same = same_Some ([], 0) found e in
+    taken_same (named.quote ∷ g ∷ rest) (named.quote ∷ g ∷ rest) [] found.0 1 (1 + found.1) refl (ap (λ (x : List ℕ × ℕ). x.0) same) (omega (arith, ap (λ (x : List ℕ × ℕ). x.1) same)) (record { more = g ∷ rest; whole = refl; ends = is; len = refl })
 
 -- what is computed are characters and their closing quote
 pub chars_sound : (closing : Bool) (line : List ℕ) (found : List ℕ × ℕ) → chars_from closing line ≡ Some found → CharsTaken (before closing ++ line) found.0 (length (before closing) + found.1)
 unfolding chars_from
 chars_sound false [] found e = absurd cc
 chars_sound true [] found e =
-    let same = some_is ([], 0) found e in
-    taken_same (39 ∷ []) (39 ∷ []) [] found.0 1 (1 + found.1) refl (ap (λ (x : List ℕ × ℕ). x.0) same) (omega (arith, ap (λ (x : List ℕ × ℕ). x.1) same)) (record { more = []; whole = refl; ends = refl; len = refl })
+    let same = same_Some ([], 0) found e in
+    taken_same (named.quote ∷ []) (named.quote ∷ []) [] found.0 1 (1 + found.1) refl (ap (λ (x : List ℕ × ℕ). x.0) same) (omega (arith, ap (λ (x : List ℕ × ℕ). x.1) same)) (record { more = []; whole = refl; ends = refl; len = refl })
 chars_sound closing (g ∷ rest) found e = sound_by closing (is_quote g) g rest found refl e (λ next inner i. chars_sound next rest inner i)
 
 -- characters that no quote closes
@@ -89,10 +92,10 @@ open_by false false g rest is e beyond =
     (g ∷ h.0, ap (λ (xs : List ℕ). g ∷ xs) h.1 ∙ ap (λ (xs : List ℕ). xs ++ flat_map doubled h.0) (sym (doubled_plain g is)))
 open_by false true g rest is e beyond =
     let h = beyond true (behind_none 1 (chars_from true rest) e) in
-    (h.0, ap (λ (x : ℕ). x ∷ rest) (eqb-true g 39 is) ∙ h.1)
+    (h.0, ap (λ (x : ℕ). x ∷ rest) (eqb-true g named.quote is) ∙ h.1)
 open_by true true g rest is e beyond =
     let h = beyond false (with_char_open g (chars_from false rest) e) in
-    (g ∷ h.0, ap (λ (x : ℕ). x ∷ g ∷ rest) (sym (eqb-true g 39 is)) ∙ ap (λ (xs : List ℕ). g ∷ g ∷ xs) h.1 ∙ ap (λ (xs : List ℕ). xs ++ flat_map doubled h.0) (sym (doubled_quote g is)))
+    (g ∷ h.0, ap (λ (x : ℕ). x ∷ g ∷ rest) (sym (eqb-true g named.quote is)) ∙ ap (λ (xs : List ℕ). g ∷ g ∷ xs) h.1 ∙ ap (λ (xs : List ℕ). xs ++ flat_map doubled h.0) (sym (doubled_quote g is)))
 open_by true false g rest is e beyond = absurd cc
 
 -- where none is computed no quote closes
@@ -130,14 +133,14 @@ chars_complete (g ∷ list) tail =
     let len : length (doubled g) + length others ≡ length (doubled g ++ others) = omega (arith, length-append (doubled g) others) in
     ap (chars_from false) (append_assoc (doubled g) others tail) ∙ doubled_by (is_quote g) g list (others ++ tail) (chars_from false tail) (length others) refl (chars_complete list tail) ∙ ap (λ (k : ℕ). onto (g ∷ list) k (chars_from false tail)) len
 
-closes : (more : List ℕ) → begins is_quote more ≡ false → chars_from false (39 ∷ more) ≡ Some ([], 1)
+closes : (more : List ℕ) → begins is_quote more ≡ false → chars_from false (named.quote ∷ more) ≡ Some ([], 1)
 unfolding chars_from
 closes [] e = refl
 closes (g ∷ more) e = rw e refl
 
 -- characters and their closing quote are computed
-pub chars_closed : (list more : List ℕ) → begins is_quote more ≡ false → chars_from false (flat_map doubled list ++ (39 ∷ more)) ≡ Some (list, length (flat_map doubled list) + 1)
-chars_closed list more e = chars_complete list (39 ∷ more) ∙ ap (onto list (length (flat_map doubled list))) (closes more e) ∙ ap (λ (xs : List ℕ). Some (xs, length (flat_map doubled list) + 1)) (append-nil list)
+pub chars_closed : (list more : List ℕ) → begins is_quote more ≡ false → chars_from false (flat_map doubled list ++ (named.quote ∷ more)) ≡ Some (list, length (flat_map doubled list) + 1)
+chars_closed list more e = chars_complete list (named.quote ∷ more) ∙ ap (onto list (length (flat_map doubled list))) (closes more e) ∙ ap (λ (xs : List ℕ). Some (xs, length (flat_map doubled list) + 1)) (append-nil list)
 
 -- characters that no quote closes are none
 pub chars_unclosed : (list : List ℕ) → chars_from false (flat_map doubled list) ≡ None

@@ -6,14 +6,16 @@ use Rattle.std.proofs.lemmas.Bool.{and_parts}
 use Rattle.std.proofs.lemmas.Bool.Decides.{nat_tests}
 use Rattle.std.proofs.lemmas.List.{length-append}
 use Rattle.std.proofs.lemmas.List.Folds.{length-prefix_len}
-use Rattle.apl_arrays.specs.Glyph.{is_digit}
-use Rattle.line_scanner.specs.Role.{is_blank}
+use Rattle.apl_arrays.specs.Glyph as named
+use Rattle.apl_arrays.specs.Glyph.{is_blank, is_digit}
 use Rattle.line_scanner.specs.Number.{number, next_number, next_numbers, numbers_then, with_number, constant}
-use Rattle.line_scanner.specs.Grammar.{begins, AreBlank, AreDigits, overbar, NumberNext, AreNext, IsConstant, NoNumberNext}
-use Rattle.line_scanner.proofs.Runs.{run_passes, run_splits, drop_run, run_is, begins_both, begins_front}
+use Rattle.apl_arrays.specs.Run.{begins}
+use Rattle.line_scanner.specs.Grammar.{AreBlank, AreDigits, overbar, NumberNext, AreNext, IsConstant, NoNumberNext}
+use Rattle.apl_arrays.proofs.Runs.{run_passes, run_splits, drop_run, run_is, begins_both, begins_front}
 use Rattle.line_scanner.proofs.Numbers.{nothing_next, next_numbers_some, next_numbers_none}
 use Rattle.line_scanner.proofs.NumberLaw.{NumberTaken, number_sound, number_complete}
-use Rattle.line_scanner.proofs.Found.{behind_some, none_is_some}
+use Rattle.std.proofs.lemmas.Option.{none-some}
+use Rattle.line_scanner.proofs.Found.{behind_some}
 
 -- a number taken behind blanks
 pub record NextTaken (line : List ℕ) (value : ℤ) (taken : ℕ) : Type 0 where
@@ -41,7 +43,7 @@ next_sound line found e =
       len = omega (arith, p.3, len);
     }
 
-overbar_not_blank : is_blank 152 ≡ false
+overbar_not_blank : is_blank named.overbar ≡ false
 overbar_not_blank = refl
 
 digit_not_blank : (g : ℕ) → is_digit g ≡ true → is_blank g ≡ false
@@ -67,7 +69,7 @@ next_complete line value others h =
 
 -- where none is computed the grammar has none
 pub next_none : (line : List ℕ) → next_number line ≡ None → (value : ℤ) (others : List ℕ) → NumberNext line value others → ⊥
-next_none line e value others h = none_is_some (value, length h.blanks + length h.first.number) (sym e ∙ next_complete line value others h)
+next_none line e value others h = none-some (value, length h.blanks + length h.first.number) (sym e ∙ next_complete line value others h)
 
 -- and the other way round
 next_absent : (line : List ℕ) (found : Option (ℤ × ℕ)) → next_number line ≡ found → ((value : ℤ) (others : List ℕ) → NumberNext line value others → ⊥) → found ≡ None

@@ -1,20 +1,13 @@
 -- What was found, or nothing.
 use Rattle.std.proofs.Common.{◌≡◌, ℕ, ◌+◌, Option, Some, None, refl, ap}
+use Rattle.std.proofs.lemmas.Option.{same_Some}
 use Rattle.line_scanner.specs.Number.{behind}
-
--- what is found is one thing
-pub some_is : {A : Type 0} (x y : A) → Some x ≡ Some y → x ≡ y
-some_is x y e = cc
-
--- nothing is not something
-pub none_is_some : {A : Type 0} (x : A) → None ≡ Some x → ⊥
-none_is_some x e = cc
 
 -- what was found behind some glyphs
 pub behind_some : {A : Type 0} (before : ℕ) (inner : Option (A × ℕ)) (found : A × ℕ) → behind before inner ≡ Some found → (first : A × ℕ) × (inner ≡ Some first) × (first.0 ≡ found.0) × (before + first.1 ≡ found.1)
 behind_some before None found e = absurd cc
 behind_some before (Some first) found e =
-    let same = some_is (first.0, before + first.1) found e in
+    let same = same_Some (first.0, before + first.1) found e in
     (first, refl, ap (λ x. x.0) same, ap (λ x. x.1) same)
 
 -- nothing behind some glyphs

@@ -7,7 +7,6 @@ pub mod FrontLaw
 pub mod NumberLaw
 pub mod Numbers
 pub mod Roles
-pub mod Runs
 pub mod ScanLaw
 pub mod Steps
 pub mod WordLaw

@@ -6,12 +6,15 @@ use Rattle.std.specs.Str.Parse.{digits_value}
 use Rattle.std.proofs.lemmas.Bool.{both_ways, false_from_ne_true, and_parts, ltb-true, lt-ltb, eqb-true, eqb-false, ne_eqb}
 use Rattle.std.proofs.lemmas.Bool.Decides.{nat_tests}
 use Rattle.std.proofs.lemmas.List.{length-append, nil_from_length}
+use Rattle.apl_arrays.specs.Glyph as named
 use Rattle.apl_arrays.specs.Glyph.{is_digit}
 use Rattle.line_scanner.specs.Role.{is_overbar}
 use Rattle.line_scanner.specs.Number.{signed, fits_64, of_glyphs, behind, number_of, number}
-use Rattle.line_scanner.specs.Grammar.{begins, AreDigits, overbar, IsNumber, NumberFirst, IsMalformed, no_digit, out_of_range}
-use Rattle.line_scanner.proofs.Found.{some_is, behind_some, behind_none}
-use Rattle.line_scanner.proofs.Runs.{run_passes, run_stops, run_splits, take_run}
+use Rattle.apl_arrays.specs.Run.{begins}
+use Rattle.line_scanner.specs.Grammar.{AreDigits, overbar, IsNumber, NumberFirst, IsMalformed, no_digit, out_of_range}
+use Rattle.std.proofs.lemmas.Option.{same_Some}
+use Rattle.line_scanner.proofs.Found.{behind_some, behind_none}
+use Rattle.apl_arrays.proofs.Runs.{run_passes, run_stops, run_splits, take_run}
 
 -- a number that passes the test fits, and the other way round
 pub fits_from_test : (z : ℤ) → fits_64 z ≡ true → FitsSigned w64 z
@@ -35,7 +38,7 @@ pub record NumberTaken (line : List ℕ) (value : ℤ) (taken : ℕ) : Type 0 wh
 of_by : (len : ℕ) (z : ℤ) (found : ℤ × ℕ) (empty fits : Bool) → cond empty None (of_glyphs len (cond fits (Some z) None)) ≡ Some found → (empty ≡ false) × (fits ≡ true) × (z ≡ found.0) × (len ≡ found.1)
 of_by len z found true fits e = absurd cc
 of_by len z found false false e = absurd cc
-of_by len z found false true e = (refl, refl, ap (λ (x : ℤ × ℕ). x.0) (some_is (z, len) found e), ap (λ (x : ℤ × ℕ). x.1) (some_is (z, len) found e))
+of_by len z found false true e = (refl, refl, ap (λ (x : ℤ × ℕ). x.0) (same_Some (z, len) found e), ap (λ (x : ℤ × ℕ). x.1) (same_Some (z, len) found e))
 
 -- the digits of a number behind its sign
 taken_of : (negative : Bool) (xs : List ℕ) (found : ℤ × ℕ) → number_of negative (take_while is_digit xs) ≡ Some found → NumberTaken (overbar negative ++ xs) found.0 (length (overbar negative) + found.1)
@@ -68,7 +71,7 @@ number_by : (first : ℕ) (rest : List ℕ) (found : ℤ × ℕ) (negative : Boo
     → cond negative (behind 1 (number_of true (take_while is_digit rest))) (number_of false (take_while is_digit (first ∷ rest))) ≡ Some found → NumberTaken (first ∷ rest) found.0 found.1
 number_by first rest found true is e =
     let inner = behind_some 1 (number_of true (take_while is_digit rest)) found e in
-    taken_same (152 ∷ rest) (first ∷ rest) inner.0.0 found.0 (1 + inner.0.1) found.1 (ap (λ (g : ℕ). g ∷ rest) (sym (eqb-true first 152 is))) inner.2 inner.3 (taken_of true rest inner.0 inner.1)
+    taken_same (named.overbar ∷ rest) (first ∷ rest) inner.0.0 found.0 (1 + inner.0.1) found.1 (ap (λ (g : ℕ). g ∷ rest) (sym (eqb-true first named.overbar is))) inner.2 inner.3 (taken_of true rest inner.0 inner.1)
 number_by first rest found false is e =
     let taken = taken_of false (first ∷ rest) found e in
     let same : length (overbar false) + found.1 ≡ found.1 = omega arith in
@@ -136,12 +139,12 @@ no_run xs e =
     let same : xs ≡ drop (prefix_len is_digit xs) xs = run_splits is_digit xs ∙ ap (λ (ys : List ℕ). ys ++ drop (prefix_len is_digit xs) xs) empty in
     ap (begins is_digit) same ∙ run_stops is_digit xs
 
-overbar_by : (rest : List ℕ) (empty : Bool) → eqb (length (take_while is_digit rest)) 0 ≡ empty → number_of true (take_while is_digit rest) ≡ None → IsMalformed (152 ∷ rest)
+overbar_by : (rest : List ℕ) (empty : Bool) → eqb (length (take_while is_digit rest)) 0 ≡ empty → number_of true (take_while is_digit rest) ≡ None → IsMalformed (named.overbar ∷ rest)
 overbar_by rest true is e = no_digit rest refl (no_run rest is)
 overbar_by rest false is e = let some : length (take_while is_digit rest) ≡ 0 → ⊥ = eqb-false _ _ is in out_by true rest (omega (arith, some)) e
 
 -- ¯ at which no number is computed begins none
-pub overbar_malformed : (rest : List ℕ) → number (152 ∷ rest) ≡ None → IsMalformed (152 ∷ rest)
+pub overbar_malformed : (rest : List ℕ) → number (named.overbar ∷ rest) ≡ None → IsMalformed (named.overbar ∷ rest)
 unfolding number
 overbar_malformed rest e = overbar_by rest (eqb (length (take_while is_digit rest)) 0) refl (behind_none 1 (number_of true (take_while is_digit rest)) e)
 
@@ -157,7 +160,7 @@ digit_malformed first rest digit e =
     first_counts first rest digit = let k : 1 + prefix_len is_digit rest ≡ suc (prefix_len is_digit rest) = omega arith in rw (digit, k) (omega arith)
 
 -- ¯ without a digit is no number
-pub no_digit_no_number : (more : List ℕ) → begins is_digit more ≡ false → number (152 ∷ more) ≡ None
+pub no_digit_no_number : (more : List ℕ) → begins is_digit more ≡ false → number (named.overbar ∷ more) ≡ None
 unfolding number
 no_digit_no_number more ends = let none : take (prefix_len is_digit more) more ≡ [] = take_run is_digit [] more refl ends in rw none refl
 

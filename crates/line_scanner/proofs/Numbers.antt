@@ -1,7 +1,7 @@
 -- The numbers of a constant, one after the other.
 use Rattle.std.proofs.Common.{◌≡◌, ℕ, zero, suc, ◌+◌, ◌-◌, ◌≤◌, ◌<◌, ℤ, List, [], ◌∷◌, ◌++◌, Some, None, length, take, drop, refl, sym, ap, ◌∙◌, append_assoc, arith}
 use Rattle.std.proofs.lemmas.List.{append-nil, length-drop, take_all}
-use Rattle.line_scanner.proofs.Found.{none_is_some}
+use Rattle.std.proofs.lemmas.Option.{none-some}
 use Rattle.line_scanner.specs.Number.{number, next_number, next_numbers, with_number}
 
 -- in nothing no number comes next
@@ -10,7 +10,7 @@ unfolding number next_number
 nothing_next = refl
 
 none_next : (found : ℤ × ℕ) → next_number [] ≡ Some found → ⊥
-none_next found e = none_is_some found (sym nothing_next ∙ e)
+none_next found e = none-some found (sym nothing_next ∙ e)
 
 -- passing over one glyph more
 suc_passes : (passed k : ℕ) (glyph : ℕ) (rest : List ℕ) → passed ≡ suc k → next_numbers passed (glyph ∷ rest) ≡ next_numbers k rest

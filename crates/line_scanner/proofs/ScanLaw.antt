@@ -4,7 +4,8 @@ use Rattle.std.specs.Prelude.{◌↔◌}
 use Rattle.std.specs.List.{list_all}
 use Rattle.std.proofs.Math.Seq.{drop-append_seam}
 use Rattle.std.proofs.lemmas.Bool.{and_parts, eqb-true}
-use Rattle.line_scanner.specs.Role.{is_blank}
+use Rattle.apl_arrays.specs.Glyph as named
+use Rattle.apl_arrays.specs.Glyph.{is_blank}
 use Rattle.line_scanner.specs.Token.{PlainKind, PlainToken}
 use Rattle.line_scanner.specs.Scanning.{PlainFront, nothing, blank, token, unused, malformed, Fault, character_at, syntax_at, Scanned, front_of, with_token, scan_front, scan_from, scan_of}
 use Rattle.line_scanner.specs.Grammar.{AreBlank, TokenNext, BlanksNext, TokensNext, at_end, ReadsFrom, IsReading}
@@ -62,17 +63,17 @@ malformed_step at (glyph ∷ rest) e = ap (λ front. scan_front front at (λ pas
 nothing_between : (at : ℕ) (line : List ℕ) → BlanksNext at line at line
 nothing_between at line = record { blanks = []; whole = refl; are_blank = refl; from = omega arith }
 
-blank_and_blanks : (at : ℕ) (line : List ℕ) (place : ℕ) (rest : List ℕ) → BlanksNext (at + 1) line place rest → BlanksNext at (32 ∷ line) place rest
-blank_and_blanks at line place rest h = record { blanks = 32 ∷ h.blanks; whole = ap (λ (xs : List ℕ). 32 ∷ xs) h.whole; are_blank = h.are_blank; from = omega (arith, h.from) }
+blank_and_blanks : (at : ℕ) (line : List ℕ) (place : ℕ) (rest : List ℕ) → BlanksNext (at + 1) line place rest → BlanksNext at (named.blank ∷ line) place rest
+blank_and_blanks at line place rest h = record { blanks = named.blank ∷ h.blanks; whole = ap (λ (xs : List ℕ). named.blank ∷ xs) h.whole; are_blank = h.are_blank; from = omega (arith, h.from) }
 
-blank_and_tokens : (tokens : List PlainToken) (at : ℕ) (line : List ℕ) (place : ℕ) (rest : List ℕ) → TokensNext (at + 1) line tokens place rest → TokensNext at (32 ∷ line) tokens place rest
+blank_and_tokens : (tokens : List PlainToken) (at : ℕ) (line : List ℕ) (place : ℕ) (rest : List ℕ) → TokensNext (at + 1) line tokens place rest → TokensNext at (named.blank ∷ line) tokens place rest
 blank_and_tokens [] at line place rest h = blank_and_blanks at line place rest h
 blank_and_tokens (first ∷ tokens) at line place rest (more, h, next) = (
   more,
   record {
-    blanks = 32 ∷ h.blanks;
+    blanks = named.blank ∷ h.blanks;
     text = h.text;
-    whole = ap (λ (xs : List ℕ). 32 ∷ xs) h.whole;
+    whole = ap (λ (xs : List ℕ). named.blank ∷ xs) h.whole;
     are_blank = h.are_blank;
     is_text = h.is_text;
     ends = h.ends;
@@ -82,7 +83,7 @@ blank_and_tokens (first ∷ tokens) at line place rest (more, h, next) = (
   next,
 )
 
-blank_before : (at : ℕ) (line : List ℕ) (reading : Scanned) → ReadsFrom (at + 1) line reading → ReadsFrom at (32 ∷ line) reading
+blank_before : (at : ℕ) (line : List ℕ) (reading : Scanned) → ReadsFrom (at + 1) line reading → ReadsFrom at (named.blank ∷ line) reading
 blank_before at line (Ok tokens) (place, rest, h, ends) = (place, rest, blank_and_tokens tokens at line place rest h, ends)
 blank_before at line (Err (character_at place)) (tokens, rest, h, fault) = (tokens, rest, blank_and_tokens tokens at line place rest h, fault)
 blank_before at line (Err (syntax_at place)) (tokens, rest, h, fault) = (tokens, rest, blank_and_tokens tokens at line place rest h, fault)
@@ -103,7 +104,7 @@ sound_by : (at glyph : ℕ) (rest : List ℕ) (front : PlainFront) → IsFront (
 sound_by at glyph rest nothing h beyond = (at, glyph ∷ rest, nothing_between at (glyph ∷ rest), h)
 sound_by at glyph rest blank (behind, e) beyond =
     let next : ReadsFrom (at + 1) rest (scan_from (at + 1) 0 rest) = subst (λ (k : ℕ). ReadsFrom k rest (scan_from (at + 1) 0 rest)) (omega arith) (beyond 0) in
-    subst (λ (xs : List ℕ). ReadsFrom at xs (scan_from (at + 1) 0 rest)) (ap (λ (xs : List ℕ). 32 ∷ drop 1 xs) e ∙ sym e) (blank_before at rest (scan_from (at + 1) 0 rest) next)
+    subst (λ (xs : List ℕ). ReadsFrom at xs (scan_from (at + 1) 0 rest)) (ap (λ (xs : List ℕ). named.blank ∷ drop 1 xs) e ∙ sym e) (blank_before at rest (scan_from (at + 1) 0 rest) next)
 sound_by at glyph rest (token kind taken) h beyond =
     let reading = scan_from (at + 1) (taken - 1) rest in
     let last : taken ≡ suc (taken - 1) = omega (arith, h.some) in
@@ -132,7 +133,7 @@ over_blanks : (at : ℕ) (blanks rest : List ℕ) → AreBlank blanks → scan_f
 over_blanks at [] rest are = ap (λ (k : ℕ). scan_from k 0 rest) (omega arith)
 over_blanks at (glyph ∷ blanks) rest are =
     let p = and_parts (is_blank glyph) (list_all is_blank blanks) are in
-    ap (λ (g : ℕ). scan_from at 0 (g ∷ (blanks ++ rest))) (eqb-true glyph 32 p.0) ∙ blank_step at (32 ∷ (blanks ++ rest)) (blank_complete (blanks ++ rest)) ∙ over_blanks (at + 1) blanks rest p.1
+    ap (λ (g : ℕ). scan_from at 0 (g ∷ (blanks ++ rest))) (eqb-true glyph named.blank p.0) ∙ blank_step at (named.blank ∷ (blanks ++ rest)) (blank_complete (blanks ++ rest)) ∙ over_blanks (at + 1) blanks rest p.1
     ∙ ap (λ (k : ℕ). scan_from k 0 rest) (omega arith)
 
 -- tokens before a reading

@@ -1,22 +1,20 @@
 -- The grammar of a line: which glyphs make which token, and what is an error.
-use Rattle.std.specs.Prelude.{◌≡◌, ◌<◌, ◌≤◌, ◌+◌, ◌++◌, ◌∷◌, [], ℕ, ℤ, Bool, true, false, List, Ok, Err, IsTrue, FitsSigned, length, slice_range, codes, if◌then◌else◌}
+use Rattle.std.specs.Prelude.{◌≡◌, ◌<◌, ◌≤◌, ◌+◌, ◌-◌, ◌++◌, ◌∷◌, [], ℕ, ℤ, Bool, true, false, List, Ok, Err, IsTrue, FitsSigned, length, slice_range, codes, if◌then◌else◌}
 use Rattle.std.specs.Int.{w64}
 use Rattle.std.specs.List.{list_all, flat_map}
 use Rattle.std.specs.Str.Parse.{digits_value}
-use Rattle.apl_arrays.specs.Glyph.{is_digit, is_letter}
+use Rattle.apl_arrays.specs.Glyph as named
+use Rattle.apl_arrays.specs.Glyph.{is_blank, is_digit, is_letter}
+use Rattle.apl_arrays.specs.Limits.{most_name_glyphs}
 use Rattle.apl_arrays.specs.Name.{IsName, goes_on}
+use Rattle.apl_arrays.specs.Run.{begins}
 use Rattle.line_scanner.specs.declared.role.Role.TheVariants.{Sign, Unused}
 use Rattle.line_scanner.specs.declared.token.SystemName.{SystemName}
 use Rattle.line_scanner.specs.declared.token.SystemName.TheVariants.{Svo, Svc, Svr, Svq, Svs}
 use Rattle.line_scanner.specs.Token.{PlainKind, numbers, chars, name, system, sign, PlainToken}
-use Rattle.line_scanner.specs.Role.{role_of, is_blank, is_quote}
+use Rattle.line_scanner.specs.Role.{role_of, is_quote}
 use Rattle.line_scanner.specs.Number.{signed}
 use Rattle.line_scanner.specs.Scanning.{character_at, syntax_at, Scanned}
-
--- the first glyph passes a test
-abbrev pub begins : (ℕ → Bool) → List ℕ → Bool
-begins test [] = false
-begins test (first ∷ rest) = test first
 
 -- only blanks
 abbrev pub AreBlank : List ℕ → Type 0
@@ -29,7 +27,7 @@ pub record AreDigits (digits : List ℕ) : Type 0 where
 
 -- ¯ before the digits of a negative number
 abbrev pub overbar : Bool → List ℕ
-overbar true = 152 ∷ []
+overbar true = named.overbar ∷ []
 overbar false = []
 
 -- a number: perhaps ¯, and digits, of a value that fits 64 bits
@@ -72,15 +70,15 @@ doubled char = if is_quote char then char ∷ char ∷ [] else char ∷ []
 
 -- a constant of characters
 abbrev pub quoted : List ℕ → List ℕ
-quoted list = 39 ∷ flat_map doubled list ++ 39 ∷ []
+quoted list = named.quote ∷ flat_map doubled list ++ named.quote ∷ []
 
 -- a system name
 abbrev pub system_text : SystemName → List ℕ
-system_text Svo = 151 ∷ codes "SVO"
-system_text Svc = 151 ∷ codes "SVC"
-system_text Svr = 151 ∷ codes "SVR"
-system_text Svq = 151 ∷ codes "SVQ"
-system_text Svs = 151 ∷ codes "SVS"
+system_text Svo = named.quad ∷ codes "SVO"
+system_text Svc = named.quad ∷ codes "SVC"
+system_text Svr = named.quad ∷ codes "SVR"
+system_text Svq = named.quad ∷ codes "SVQ"
+system_text Svs = named.quad ∷ codes "SVS"
 
 -- these glyphs are this token
 abbrev pub IsText : PlainKind → List ℕ → Type 0
@@ -129,7 +127,7 @@ TokensNext at line (token ∷ tokens) place rest = (more : List ℕ) × TokenNex
 -- the line ends, or a comment begins
 pub data EndsLine (rest : List ℕ) : Type 0 where
   at_end : rest ≡ [] → EndsLine rest
-  at_comment : (comment : List ℕ) → rest ≡ 156 ∷ comment → EndsLine rest
+  at_comment : (comment : List ℕ) → rest ≡ named.lamp ∷ comment → EndsLine rest
 
 -- a glyph without a role
 pub record IsUnused (rest : List ℕ) : Type 0 where
@@ -140,13 +138,13 @@ pub record IsUnused (rest : List ℕ) : Type 0 where
 
 -- no token begins so: ¯ without a digit, a number out of range, an open quote, a name longer than 32, or ⎕ without the rest of a system name
 pub data IsMalformed (rest : List ℕ) : Type 0 where
-  no_digit : (more : List ℕ) → rest ≡ 152 ∷ more → begins is_digit more ≡ false → IsMalformed rest
+  no_digit : (more : List ℕ) → rest ≡ named.overbar ∷ more → begins is_digit more ≡ false → IsMalformed rest
   out_of_range : (negative : Bool) (digits more : List ℕ) → rest ≡ overbar negative ++ (digits ++ more) → AreDigits digits → begins is_digit more ≡ false
       → (FitsSigned w64 (signed negative (digits_value 10 digits)) → ⊥) → IsMalformed rest
-  open_quote : (list : List ℕ) → rest ≡ 39 ∷ flat_map doubled list → IsMalformed rest
+  open_quote : (list : List ℕ) → rest ≡ named.quote ∷ flat_map doubled list → IsMalformed rest
   long_name : (first : ℕ) (others more : List ℕ) → rest ≡ first ∷ (others ++ more) → IsTrue (is_letter first) → IsTrue (list_all goes_on others) → begins goes_on more ≡ false
-      → 31 < length others → IsMalformed rest
-  no_system_name : (more : List ℕ) → rest ≡ 151 ∷ more → ((which : SystemName) (others : List ℕ) → rest ≡ system_text which ++ others → ⊥) → IsMalformed rest
+      → most_name_glyphs - 1 < length others → IsMalformed rest
+  no_system_name : (more : List ℕ) → rest ≡ named.quad ∷ more → ((which : SystemName) (others : List ℕ) → rest ≡ system_text which ++ others → ⊥) → IsMalformed rest
 
 -- what the glyphs from a place on are: tokens and the end of the line, or an error behind tokens
 abbrev pub ReadsFrom : ℕ → List ℕ → Scanned → Type 0

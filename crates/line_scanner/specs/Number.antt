@@ -2,8 +2,8 @@
 use Rattle.std.specs.Prelude.{◌+◌, ◌-◌, ◌^◌, ◌==◌, ℕ, zero, suc, ℤ, pos, negsuc, neg_ℤ, Bool, true, false, List, [], ◌∷◌, Option, Some, None, length, drop, take_while, nat_lt, if◌then◌else◌}
 use Rattle.std.specs.List.{prefix_len}
 use Rattle.std.specs.Str.Parse.{digits_value}
-use Rattle.apl_arrays.specs.Glyph.{is_digit}
-use Rattle.line_scanner.specs.Role.{is_blank, is_overbar}
+use Rattle.apl_arrays.specs.Glyph.{is_blank, is_digit}
+use Rattle.line_scanner.specs.Role.{is_overbar}
 
 -- a magnitude with its sign
 abbrev pub signed : Bool → ℕ → ℤ

@@ -1,6 +1,6 @@
 -- The tokens of a line, or its first error, computed.
-use Rattle.std.specs.Prelude.{◌≡◌, ◌+◌, ◌-◌, ◌==◌, ◌&&◌, ℕ, zero, suc, ℤ, Bool, true, false, List, [], ◌∷◌, Option, Some, None, Result, Ok, Err, length, take_while, if◌then◌else◌}
-use Rattle.apl_arrays.specs.Name.{goes_on, is_name}
+use Rattle.std.specs.Prelude.{◌≡◌, ◌+◌, ◌-◌, ◌==◌, ◌&&◌, ℕ, zero, suc, ℤ, Bool, true, false, List, [], ◌∷◌, Option, Some, None, Result, Ok, Err, slice_index, codes, if◌then◌else◌}
+use Rattle.apl_arrays.specs.Name.{longest_name}
 use Rattle.line_scanner.specs.declared.role.Role.{Role}
 use Rattle.line_scanner.specs.declared.role.Role.TheVariants.{Blank, Letter, Digit, Overbar, Quote, Quad, Lamp, Sign, Unused}
 use Rattle.line_scanner.specs.declared.refused.ScanRefused.{ScanRefused}
@@ -41,14 +41,18 @@ unfoldable pub chars_from : Bool → List ℕ → Option (List ℕ × ℕ)
 chars_from closing [] = if closing then Some ([], 0) else None
 chars_from closing (glyph ∷ rest) = chars_by closing (is_quote glyph) glyph (λ next. chars_from next rest)
 
+-- the glyph is the one of this text
+abbrev pub is_letter_of : List ℕ → ℕ → Bool
+is_letter_of text glyph = glyph == slice_index text 0
+
 -- the system name that ⎕SV and this glyph make
 abbrev pub shared_variable_name : ℕ → Option SystemName
 shared_variable_name glyph =
-    if glyph == 79 then Some Svo
-    else if glyph == 67 then Some Svc
-    else if glyph == 82 then Some Svr
-    else if glyph == 81 then Some Svq
-    else if glyph == 83 then Some Svs
+    if is_letter_of (codes "O") glyph then Some Svo
+    else if is_letter_of (codes "C") glyph then Some Svc
+    else if is_letter_of (codes "R") glyph then Some Svr
+    else if is_letter_of (codes "Q") glyph then Some Svq
+    else if is_letter_of (codes "S") glyph then Some Svs
     else None
 
 -- the system name behind ⎕
@@ -56,11 +60,12 @@ abbrev pub system_name : List ℕ → Option SystemName
 system_name [] = None
 system_name (first ∷ []) = None
 system_name (first ∷ second ∷ []) = None
-system_name (first ∷ second ∷ third ∷ rest) = if first == 83 && second == 86 then shared_variable_name third else None
+system_name (first ∷ second ∷ third ∷ rest) = if is_letter_of (codes "S") first && is_letter_of (codes "V") second then shared_variable_name third else None
 
--- the longest run that goes on as a name does, where it is one
-abbrev pub name_front : List ℕ → PlainFront
-name_front glyphs = if is_name glyphs then token (name glyphs) (length glyphs) else malformed
+-- a name, where there is one
+abbrev pub name_front : Option (List ℕ × ℕ) → PlainFront
+name_front None = malformed
+name_front (Some found) = token (name found.0) found.1
 
 -- a constant of numbers, where there is one
 abbrev pub constant_front : Option (List ℤ × ℕ) → PlainFront
@@ -80,7 +85,7 @@ system_front (Some which) = token (system which) 4
 -- what stands at the front, by the role of the first glyph
 abbrev pub front_by : Role → ℕ → List ℕ → PlainFront
 front_by Blank first rest = blank
-front_by Letter first rest = name_front (take_while goes_on (first ∷ rest))
+front_by Letter first rest = name_front (longest_name (first ∷ rest))
 front_by Digit first rest = constant_front (constant (first ∷ rest))
 front_by Overbar first rest = constant_front (constant (first ∷ rest))
 front_by Quote first rest = chars_front (behind 1 (chars_from false rest))

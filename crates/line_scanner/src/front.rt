@@ -1,6 +1,5 @@
-ghost use Rattle.std.specs.Prelude.{◌≡◌, ◌≤◌, false, IfOk, length, take_while};
-ghost use Rattle.std.specs.List.{prefix_len};
-ghost use Rattle.apl_arrays.specs.Name.{goes_on};
+ghost use Rattle.std.specs.Prelude.{◌≡◌, ◌≤◌, false, IfOk, length};
+ghost use Rattle.apl_arrays.specs.Name.{longest_name};
 ghost use Rattle.line_scanner.specs.Number.{constant, behind};
 ghost use Rattle.line_scanner.specs.Front.{plain_front, FitsIn};
 ghost use Rattle.line_scanner.specs.Scanning.{front_of, name_front, constant_front, chars_front, chars_from, system_name, shared_variable_name};
@@ -27,26 +26,12 @@ pub enum Front {
     Malformed,
 }
 
-fn goes_on(glyph: Glyph) -> bool
-    ensures { result ≡ goes_on glyph }
-{
-    matches!(glyph.code(), 48..=57 | 65..=90 | 95 | 97..=122 | 154)
-}
-
-/// How many glyphs at the front go on as a name does.
-fn run_length(glyphs: &[Glyph]) -> usize
-    ensures { result ≡ prefix_len goes_on glyphs.now }
-{
-    glyphs.iter().take_while(|glyph| goes_on(**glyph)).count()
-}
-
 /// The name at the front, as long as it goes on.
 fn name_front(glyphs: &[Glyph]) -> Front
-    ensures { plain_front result ≡ name_front (take_while goes_on glyphs.now) }
+    ensures { plain_front result ≡ name_front (longest_name glyphs.now) }
 {
-    let length = run_length(glyphs);
-    match Name::of(&glyphs[..length]) {
-        Some(name) => Front::Token(TokenKind::Name(name), length),
+    match Name::longest(glyphs) {
+        Some((name, length)) => Front::Token(TokenKind::Name(name), length),
         None => Front::Malformed,
     }
 }

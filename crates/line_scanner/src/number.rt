@@ -3,41 +3,22 @@ ghost use Rattle.std.specs.List.{prefix_len};
 ghost use Rattle.std.specs.Char.{digit_value};
 ghost use Rattle.std.specs.Str.Parse.{digits_value};
 ghost use Rattle.apl_arrays.specs.Glyph.{is_digit};
-ghost use Rattle.line_scanner.specs.Role.{is_blank, is_overbar};
+ghost use Rattle.line_scanner.specs.Role.{is_overbar};
 ghost use Rattle.line_scanner.specs.Number.{signed, in_64, number_of, number, next_number};
 
-use apl_arrays::Glyph;
-
-fn is_digit(glyph: Glyph) -> bool
-    ensures { result ≡ is_digit glyph }
-{
-    matches!(glyph.code(), 48..=57)
-}
-
-fn is_blank(glyph: Glyph) -> bool
-    ensures { result ≡ is_blank glyph }
-{
-    glyph == Glyph::BLANK
-}
+use apl_arrays::{Glyph, blank_count};
 
 fn is_overbar(glyph: Glyph) -> bool
     ensures { result ≡ is_overbar glyph }
 {
-    glyph.code() == 152
+    glyph == Glyph::OVERBAR
 }
 
 /// How many digits stand at the front.
 fn digit_count(glyphs: &[Glyph]) -> usize
     ensures { result ≡ prefix_len is_digit glyphs.now }
 {
-    glyphs.iter().take_while(|glyph| is_digit(**glyph)).count()
-}
-
-/// How many blanks stand at the front.
-fn blank_count(glyphs: &[Glyph]) -> usize
-    ensures { result ≡ prefix_len is_blank glyphs.now }
-{
-    glyphs.iter().take_while(|glyph| is_blank(**glyph)).count()
+    glyphs.iter().take_while(|glyph| glyph.is_digit()).count()
 }
 
 /// The number with a digit more, or `None` where it passes 64 bits.
@@ -47,7 +28,7 @@ fn with_digit(value: u64, digit: Glyph) -> Option<u64>
 {
     value
         .checked_mul(10)?
-        .checked_add(u64::from(digit.code() - b'0'))
+        .checked_add(u64::from(digit.digit_value()?))
 }
 
 /// The number of these digits, or `None` where it passes 64 bits.

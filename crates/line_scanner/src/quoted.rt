@@ -9,7 +9,7 @@ use std::alloc::Global;
 fn is_quote(glyph: Glyph) -> bool
     ensures { result ≡ is_quote glyph }
 {
-    glyph.code() == b'\''
+    glyph == Glyph::QUOTE
 }
 
 /// The characters up to the closing quote, and how many glyphs these and it take, or `None` where no quote closes.

@@ -10,7 +10,7 @@ use std::alloc::Global;
 /// The tokens of a line, each with its place. Outside quotes and comments a glyph without a role is a
 /// `CharacterError`. An open quote, a number past 64 bits, a `¯` without a digit, a name longer than 32 and a `⎕`
 /// without the rest of a system name are a `SyntaxError`, each at its first glyph. Of several errors the one of the
-/// lowest place is answered. It takes memory for the tokens. This profile.
+/// lowest place is answered. It takes memory for the tokens.
 #[tactic(auto, using(crate::proofs::Steps::scans))]
 pub fn scan(alloc: Global, line: &Line) -> Result<Tokens, ScanRefused>
     ensures tokens { IfOk result (λ found. scan_of line.now.items ≡ Ok found.tokens.items) }

@@ -23,7 +23,7 @@ impl Model for TokenList {
 }
 
 impl TokenList {
-    /// No tokens. It takes no memory. This profile.
+    /// No tokens. No memory.
     pub fn new(alloc: Global) -> Self
         ensures { result.items ≡ [] }
     {
@@ -32,22 +32,21 @@ impl TokenList {
         }
     }
 
-    /// The tokens, in order. It takes no memory. This profile.
+    /// The tokens, in order. No memory.
     pub fn as_slice(&self) -> &[Token]
         ensures { map plain_token result.now ≡ self.now.items }
     {
         self.tokens.as_slice()
     }
 
-    /// The tokens as a `Vec`. It takes no memory. This profile.
+    /// The tokens as a `Vec`. No memory.
     pub fn into_vec(self) -> Vec<Token>
         ensures { map plain_token result.items ≡ self.items }
     {
         self.tokens.into_vec()
     }
 
-    /// Makes room for at least so many pushes, and takes memory for it. `WantOfMemory` leaves the list as it was. This
-    /// profile.
+    /// Makes room for at least so many pushes, and takes memory for it. `WantOfMemory` leaves the list as it was.
     pub fn reserve(&mut self, room: usize) -> Result<(), WantOfMemory>
         ensures items { self.new.items ≡ self.old.items }
         ensures room { OnOk result (room ≤ self.new.room) }
@@ -59,7 +58,7 @@ impl TokenList {
     }
 
     /// Adds a token at the end. Where there is room it is granted and takes no memory, else it takes memory for more.
-    /// `WantOfMemory` leaves the list as it was. This profile.
+    /// `WantOfMemory` leaves the list as it was.
     pub fn push(&mut self, token: Token) -> Result<(), WantOfMemory>
         ensures ok { OnOk result (self.new.items ≡ self.old.items ++ plain_token token ∷ []) }
         ensures err { OnErr result (self.new ≡ self.old) }
