@@ -5,11 +5,12 @@ use Rattle.std.proofs.lemmas.Fmt.{decimal_injective, decimal_nonempty}
 use Rattle.std.specs.Fmt.{decimal}
 use Rattle.std.specs.List.{list_all, flat_map, AllByRecursion}
 use Rattle.apl_arrays.specs.Glyph.{is_digit, overbar}
+use Rattle.apl_arrays.specs.Run.{begins}
 use Rattle.line_text.specs.Number.{number_text}
 use Rattle.line_text.specs.Spaced.{spaced}
 use Rattle.line_text.proofs.Decimals.{digits_are_digits}
 use Rattle.line_text.proofs.Spaced.{spaced_is}
-use Rattle.line_text.proofs.Spans.{begins, same_span, Reads, follows_all, same_list}
+use Rattle.line_text.proofs.Spans.{same_span, Reads, follows_all, same_list}
 
 -- a digit, or the sign of a negative number
 abbrev pub starts_number : ℕ → Bool

@@ -1,4 +1,4 @@
-ghost use Rattle.std.specs.Prelude.{◌≡◌, ◌+◌, ◌≤◌, All, FitsSigned, ◌∷◌, [], ◌++◌, IsTrue, IsOk, OnOk, map, length, decimal, replicate};
+ghost use Rattle.std.specs.Prelude.{◌≡◌, ◌+◌, ◌<◌, ◌≤◌, All, FitsSigned, ◌∷◌, [], ◌++◌, IsTrue, IsOk, OnOk, OnErr, map, length, decimal, replicate};
 ghost use Rattle.std.specs.Int.{w64};
 ghost use Rattle.std.specs.List.{list_all};
 ghost use Rattle.apl_arrays.specs.Glyph.{blank};
@@ -38,13 +38,16 @@ pub fn add_glyphs(line: &mut Line, glyphs: &[Glyph]) -> Result<(), WantOfMemory>
 /// Adds a blank at the end of a line. Where there is room it is granted and takes no memory, else it takes memory for
 /// more. `WantOfMemory` leaves the line as it was.
 pub fn add_blank(line: &mut Line) -> Result<(), WantOfMemory>
-    ensures { OnOk result (line.new.items ≡ line.old.items ++ blank ∷ []) }
+    ensures text { OnOk result (line.new.items ≡ line.old.items ++ blank ∷ []) }
+    ensures err { OnErr result (line.new ≡ line.old) }
+    ensures granted { 0 < line.old.room → IsOk result }
+    ensures room { 0 < line.old.room → line.new.room + 1 ≡ line.old.room }
 {
     line.push(Glyph::BLANK)
 }
 
-/// Adds so many blanks at the end of a line. It takes memory where there is no room for them; where that runs out,
-/// some of the blanks may stand there.
+/// Adds so many blanks at the end of a line. It takes memory for them; where that runs out, some of the blanks may stand
+/// there.
 pub fn add_blanks(line: &mut Line, count: usize) -> Result<(), WantOfMemory>
     ensures { OnOk result (line.new.items ≡ line.old.items ++ replicate count blank) }
 {
@@ -54,8 +57,8 @@ pub fn add_blanks(line: &mut Line, count: usize) -> Result<(), WantOfMemory>
     Ok(())
 }
 
-/// Adds numbers at the end of a line, with one blank between each two. It takes memory where there is no room for
-/// them; where that runs out, a part of the text may stand there.
+/// Adds numbers at the end of a line, with one blank between each two. It takes memory for them; where that runs out, a
+/// part of the text may stand there.
 pub fn add_numbers(line: &mut Line, numbers: &[i64]) -> Result<(), WantOfMemory>
     ensures text { OnOk result (line.new.items
         ≡ line.old.items ++ spaced (map number_text numbers.now)) }
@@ -72,8 +75,8 @@ pub fn add_numbers(line: &mut Line, numbers: &[i64]) -> Result<(), WantOfMemory>
     Ok(())
 }
 
-/// Adds counts at the end of a line, with one blank between each two. It takes memory where there is no room for them;
-/// where that runs out, a part of the text may stand there.
+/// Adds counts at the end of a line, with one blank between each two. It takes memory for them; where that runs out, a
+/// part of the text may stand there.
 pub fn add_counts(line: &mut Line, counts: &[u32]) -> Result<(), WantOfMemory>
     ensures { OnOk result (line.new.items ≡ line.old.items ++ spaced (map decimal counts.now)) }
 {

@@ -3,10 +3,11 @@ use Rattle.std.proofs.Common.{◌≡◌, ℕ, ◌+◌, ◌<◌, ◌≤◌, ◌^�
 use Rattle.std.proofs.lemmas.Bool.Decides.{nat_tests}
 use Rattle.std.proofs.lemmas.List.Elements.{All-nil, All-cons, All-append, recursion_from_All}
 use Rattle.std.specs.Fmt.{decimal}
-use Rattle.std.specs.List.{All, flat_map, AllByRecursion}
+use Rattle.std.specs.List.{flat_map, AllByRecursion}
 use Rattle.apl_arrays.specs.Array.{PlainItems, numbers, chars, PlainArray}
 use Rattle.apl_arrays.specs.Glyph.{IsGlyph, quote}
 use Rattle.apl_arrays.specs.Name.{IsName, goes_on}
+use Rattle.apl_arrays.proofs.Names.{name_goes_on}
 use Rattle.sv_events.specs.Answer.{PlainAnswer, degree, granted, value, no_value, not_shared, offer_limit, full, done}
 use Rattle.sv_events.specs.Entry.{PlainEntry}
 use Rattle.sv_events.specs.declared.event.Act.{Act}
@@ -21,7 +22,6 @@ use Rattle.sv_journal.specs.EntryText.{act_text, answer_text, pair_text, entry_t
 use Rattle.sv_journal.specs.Output.{PlainTranscript, transcript_lines, entry_lines, journal_lines, output_lines}
 use Rattle.sv_journal.specs.Printable.{ArePrintableItems, IsPrintableArray, IsPrintableAct, IsPrintableAnswer, IsPrintablePair, IsPrintableEntry, IsPrintableTranscript, ArePrintable}
 use Rattle.sv_journal.specs.ValueText.{char_text, kind_text, items_text, array_text, value_text}
-use Rattle.sv_journal.proofs.SameEntries.{name_goes_on}
 use Rattle.sv_journal.proofs.SameValues.{char_cases}
 
 name_glyph : (glyph : ℕ) → goes_on glyph ≡ true → IsGlyph glyph

@@ -1,12 +1,12 @@
 -- The texts of entries are read in one way.
-use Rattle.std.proofs.Common.{◌≡◌, ℕ, ◌+◌, ◌*◌, ◌<◌, ◌^◌, Bool, true, false, ◌&&◌, ◌||◌, eqb, leb, Option, List, [], ◌∷◌, ◌++◌, length, get_or, refl, sym, ap, ◌∙◌, append-nil, append_assoc, arith}
-use Rattle.std.proofs.lemmas.Bool.{false≢true}
+use Rattle.std.proofs.Common.{◌≡◌, ℕ, ◌+◌, ◌*◌, ◌<◌, ◌^◌, false, Option, List, [], ◌∷◌, ◌++◌, get_or, refl, sym, ap, ◌∙◌, append-nil, append_assoc, arith}
 use Rattle.std.proofs.lemmas.List.Elements.{recursion_from_All}
 use Rattle.std.specs.Fmt.{decimal}
-use Rattle.std.specs.List.{list_all, flat_map, AllByRecursion}
+use Rattle.std.specs.List.{flat_map, AllByRecursion}
 use Rattle.apl_arrays.specs.Array.{PlainArray}
-use Rattle.apl_arrays.specs.Glyph.{is_digit, is_letter}
+use Rattle.apl_arrays.specs.Glyph.{is_digit}
 use Rattle.apl_arrays.specs.Name.{IsName, goes_on}
+use Rattle.apl_arrays.proofs.Names.{name_goes_on}
 use Rattle.sv_events.specs.Answer.{PlainAnswer, degree, granted, value, no_value, not_shared, offer_limit, full, done}
 use Rattle.sv_events.specs.Entry.{PlainEntry}
 use Rattle.sv_events.specs.declared.event.Act.{Act}
@@ -17,19 +17,10 @@ use Rattle.sv_journal.specs.Printable.{IsPrintableAct, IsPrintableAnswer, IsPrin
 use Rattle.sv_journal.specs.ValueText.{array_text, value_text}
 use Rattle.line_text.proofs.SameNumbers.{no_digit_here, same_count}
 use Rattle.sv_journal.proofs.SameValues.{EndsValue, same_array, same_value}
-use Rattle.line_text.proofs.Spans.{begins, same_span, Reads, same_list}
+use Rattle.apl_arrays.specs.Run.{begins}
+use Rattle.line_text.proofs.Spans.{same_span, Reads, same_list}
 
 -- names
-
-letter_goes_on : (letter short more digit low : Bool) → (letter && short && more) ≡ true → ((letter || digit || low) && more) ≡ true
-letter_goes_on true true more digit low e = e
-letter_goes_on true false more digit low e = absurd (false≢true e)
-letter_goes_on false short more digit low e = absurd (false≢true e)
-
-pub name_goes_on : (name : List ℕ) → IsName name → list_all goes_on name ≡ true
-name_goes_on [] e = absurd (false≢true e)
-name_goes_on (x ∷ xs) e =
-    letter_goes_on (is_letter x) (leb (length xs) 31) (list_all goes_on xs) (is_digit x) (eqb x 95) e
 
 same_name : (xs ys rest left : List ℕ) → IsName xs → IsName ys → xs ++ (32 ∷ rest) ≡ ys ++ (32 ∷ left) → (xs ≡ ys) × (rest ≡ left)
 same_name xs ys rest left a b e =

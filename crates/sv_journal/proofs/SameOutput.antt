@@ -16,7 +16,8 @@ use Rattle.sv_journal.specs.Printable.{IsPrintableEntry, IsPrintableTranscript, 
 use Rattle.sv_journal.proofs.GlyphTexts.{output_glyphs}
 use Rattle.sv_journal.proofs.SameEntries.{after_party, entry_parts, same_entry}
 use Rattle.line_text.proofs.SameNumbers.{begins_count}
-use Rattle.line_text.proofs.Spans.{begins, Reads, same_list}
+use Rattle.apl_arrays.specs.Run.{begins}
+use Rattle.line_text.proofs.Spans.{Reads, same_list}
 
 -- lines tell their kinds
 

@@ -12,7 +12,8 @@ use Rattle.sv_journal.specs.Printable.{ArePrintableItems, IsPrintableArray}
 use Rattle.apl_arrays.specs.Glyph.{quote}
 use Rattle.sv_journal.specs.ValueText.{char_text, kind_text, items_text, array_text, value_text}
 use Rattle.line_text.proofs.SameNumbers.{Fits64, Count64, ends_numbers, same_spaced, counts_are_like_numbers, numbers_are_like_numbers}
-use Rattle.line_text.proofs.Spans.{begins, Reads, same_list}
+use Rattle.apl_arrays.specs.Run.{begins}
+use Rattle.line_text.proofs.Spans.{Reads, same_list}
 
 kinds_differ : codes "N" ≡ codes "C" → ⊥
 kinds_differ e = omega (arith, ap (λ text. get_or text 0 0) e)

@@ -56,8 +56,8 @@ fn add_items(line: &mut Line, items: &Items) -> Result<(), WantOfMemory>
     }
 }
 
-/// Adds an array at the end of a line: its kind, its axes, its items. It takes memory where there is no room for them;
-/// where that runs out, a part of the text may stand there.
+/// Adds an array at the end of a line: its kind, its axes, its items. It takes memory for them; where that runs out, a
+/// part of the text may stand there.
 pub fn add_array(line: &mut Line, array: &Array) -> Result<(), WantOfMemory>
     ensures text { OnOk result (line.new.items ≡ line.old.items ++ array_text array.now) }
     ensures printable { OnOk result (IsPrintableArray array.now) }
@@ -69,8 +69,8 @@ pub fn add_array(line: &mut Line, array: &Array) -> Result<(), WantOfMemory>
     add_items(line, array.items())
 }
 
-/// Adds a value at the end of a line, or that there is none. It takes memory where there is no room for it; where that
-/// runs out, a part of the text may stand there.
+/// Adds a value at the end of a line, or that there is none. It takes memory for it; where that runs out, a part of the
+/// text may stand there.
 pub fn add_value(line: &mut Line, value: &Option<Array>) -> Result<(), WantOfMemory>
     ensures text { OnOk result (line.new.items ≡ line.old.items ++ value_text value.now) }
     ensures printable { OnOk result (IfSome value.now (λ array. IsPrintableArray array)) }
