@@ -1,5 +1,5 @@
 ghost use Rattle.std.specs.Prelude.{◌≡◌, ◌≢◌, ℕ, ◌+◌, ◌<◌, ◌^◌, length, decimal, MatchOption, MatchResult};
-ghost use Rattle.apl_arrays.specs.Glyph.{line_utf8, Spells};
+ghost use Rattle.apl_arrays.specs.Glyph.{digit, line_utf8, Spells};
 ghost use Rattle.line_text.specs.Lines.{heading};
 ghost use Rattle.bundle_text.specs.Bundle.{IsUserNumber};
 ghost use Rattle.bundle_text.specs.BundleLine.{plain_line, IsTextOf, IsNoLine, IsNoNumber, IsNoHeading, SpellsNothing};
@@ -7,7 +7,7 @@ ghost use Rattle.bundle_text.specs.Refused.{IsReason};
 
 use crate::limits::FIRST_USER;
 use crate::refused::{BundleRefused, BundleRule};
-use apl_arrays::{GlyphRefused, Line, glyphs_of};
+use apl_arrays::{Glyph, GlyphRefused, Line, glyphs_of};
 use std::alloc::Global;
 
 /// A line of a bundle before its end.
@@ -19,14 +19,12 @@ pub enum BundleLine {
     Content(Line),
 }
 
+// The value of a byte that is a digit.
 fn digit(byte: u8) -> Option<u32>
-    ensures { MatchOption result ((value : ℕ) → value < 10 → byte ≢ 48 + value) (λ value. (value < 10) × (byte ≡ 48 + value)) }
+    ensures { MatchOption result ((value : ℕ) → value < 10 → byte ≢ digit value) (λ value. (value < 10) × (byte ≡ digit value)) }
 {
-    if byte >= b'0' && byte <= b'9' {
-        Some(u32::from(byte - b'0'))
-    } else {
-        None
-    }
+    let value = Glyph::of_code(byte)?.digit_value()?;
+    Some(u32::from(value))
 }
 
 // The number of a user, as a heading has it: from 1001 on, with four digits.

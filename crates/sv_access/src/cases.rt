@@ -50,7 +50,6 @@ macro_rules! accesses {
 
 impl Cases<192> {
     /// The whole table: each control in force, state, side and kind once, with its verdict.
-    /// Source: this profile.
     pub fn kept() -> Self
         ensures verdicts { All (λ case. case.verdict ≡ verdict_of case.control case.state case.side case.kind) result.cases }
         ensures each_once { HasEachCaseOnce result.cases }

@@ -2,7 +2,6 @@ ghost use Rattle.sv_access.specs.Law.{StatesFollowStories, AccessesMoveTheState,
 
 /// The law of the table, for stories with values of any type: what the calls of this crate decide
 /// by control and state is what the plain story of a coupling says. The call does nothing.
-/// Source: this profile.
 pub fn table_is_the_stories_law<V>()
     ensures states { StatesFollowStories V }
     ensures moves { AccessesMoveTheState V }

@@ -23,7 +23,7 @@ pub fn decide(control: Control, state: State, side: Side, kind: Kind) -> Verdict
 }
 
 /// Whose 1 refuses an access of a side, as that side sees it. `a` is A's vector and `b` is B's,
-/// each in its owner's view, and the element is in A's view. Source: this profile.
+/// each in its owner's view, and the element is in A's view.
 pub fn owners(a: Control, b: Control, side: Side, element: u8) -> Owners
     requires lowest { 1 ≤ element }
     requires highest { element ≤ 4 }
