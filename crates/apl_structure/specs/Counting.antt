@@ -1,4 +1,4 @@
-use Rattle.std.specs.Prelude.{◌+◌, ◌||◌, ℕ, ℤ, pos, Bool, not, List, [], ◌∷◌, length, map, nat_lt, unsigned_abs}
+use Rattle.std.specs.Prelude.{◌+◌, ◌||◌, ℕ, ℤ, pos, not, [], ◌∷◌, length, map, nat_lt, unsigned_abs}
 use Rattle.std.specs.Int.{is_negative}
 use Rattle.apl_arrays.specs.Array.{PlainArray, numbers, is_chars, numbers_in}
 use Rattle.apl_arrays.specs.Limits.{most_elements}

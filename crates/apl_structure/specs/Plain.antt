@@ -1,4 +1,4 @@
-use Rattle.std.specs.Prelude.{ℕ, pos, List, [], ◌∷◌, Ok, length, map}
+use Rattle.std.specs.Prelude.{pos, [], ◌∷◌, Ok, length, map}
 use Rattle.apl_arrays.specs.Array.{PlainArray, numbers, item_count}
 use Rattle.apl_items.specs.Answers.{Answer}
 

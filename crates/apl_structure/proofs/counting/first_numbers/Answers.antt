@@ -11,6 +11,6 @@ one_number_more place number before e is =
 
 pub loop-place-preserved : goal.loop-place-preserved
 loop-place-preserved c = record {
-  items = c.push_reserved.ensures.items ∙ one_number_more c.loop-place.place c.number_after.result c.loop-place.numbers.items c.loop-place.invariant.items (to_z-of_z w64 c.number_after.result (search rules) ∙ c.number_after.ensures);
+  items = c.push_reserved.ensures.items ∙ one_number_more c.loop-place.place _ c.loop-place.numbers.items c.loop-place.invariant.items (to_z-of_z w64 c.number_after.result (search rules) ∙ c.number_after.ensures);
   room = omega arith;
 }

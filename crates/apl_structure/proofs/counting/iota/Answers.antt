@@ -1,4 +1,4 @@
-use Rattle.std.proofs.Common.{◌+◌, ℕ, ℤ, pos, List, length, ap, arith}
+use Rattle.std.proofs.Common.{◌+◌, ℤ, pos, List, length, ap, arith}
 use Rattle.std.proofs.lemmas.List.FromFn.{length-map-range_with_len}
 use Rattle.apl_structure.proofs.counting.iota.Goals as goal
 
