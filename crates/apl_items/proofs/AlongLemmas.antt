@@ -1,12 +1,12 @@
 -- Items made along an axis are the items made place by place.
-use Rattle.std.proofs.Common.{◌≡◌, ℕ, zero, suc, ◌+◌, ◌*◌, ◌/◌, ◌%◌, ◌^◌, ◌<◌, ◌≤◌, List, [], ◌∷◌, ◌++◌, Option, Some, None, IfSome, take, drop, length, refl, sym, ap, ◌∙◌, append_assoc, arith}
-use Rattle.std.proofs.Math.Nat.{mul_assoc, mul_comm, le-mul_of_pos_right}
+use Rattle.std.proofs.Common.{◌≡◌, ℕ, zero, suc, ◌+◌, ◌*◌, ◌/◌, ◌%◌, ◌<◌, ◌≤◌, List, [], ◌∷◌, ◌++◌, Option, take, drop, length, refl, ap, ◌∙◌, append_assoc, arith}
+use Rattle.std.proofs.Math.Nat.{mul_comm, le-mul_of_pos_right}
 use Rattle.std.proofs.lemmas.Nat.{div-mul-add, mod-mul-add, div-add-mod', div_below, mod_below, row_fits, mul-add-lt, mul-le}
 use Rattle.apl_arrays.specs.Array.{FitsLimits, element_count}
 use Rattle.apl_items.specs.declared.shapes.Split.{Split}
-use Rattle.apl_items.specs.Along.{source_along, source_at, source_count, source_in_row}
+use Rattle.apl_items.specs.Along.{source_along, source_in_row}
 use Rattle.apl_items.specs.Moves.{item_or, moved_list}
-use Rattle.apl_items.specs.Shapes.{along_of, inner_of, outer_of, place_along, split_at, split_count}
+use Rattle.apl_items.specs.Shapes.{split_at}
 use Rattle.apl_items.proofs.AxisLemmas.{moved_list_row}
 use Rattle.apl_items.proofs.MoveLemmas.{moved_list_more}
 use Rattle.apl_items.proofs.ShapeLemmas.{along_of_place, inner_of_place, outer_of_place, parts_fit}

@@ -23,7 +23,10 @@ fn items_move(rt: HostRuntime) {
 
 #[test]
 fn refusals_are_found_without_items(rt: HostRuntime) {
-    assert_eq!(rt; first_refusal(300_000_000, &number_of_row), Some(Refusal::Domain));
+    assert_eq!(rt;
+        first_refusal(300_000_000, &number_of_row),
+        Some(Refusal::Domain)
+    );
     assert_eq!(rt; first_refusal(8, &number_of_row), Some(Refusal::Index));
     assert_eq!(rt; first_refusal(5, &number_of_row), None);
     assert!(rt; lacks_one(300_000_000, &small));
@@ -102,11 +105,18 @@ impl Axes for Exchanged {
 /// Items that move by a walk and by axes, with a fill of either kind.
 fn moves(rt: &impl Abort, alloc: Global) -> Result<(), WantOfMemory> {
     let three = Items::Numbers(numbers(alloc, &[7, 8, 9])?);
-    assert!(rt; moved(alloc, &three, 3, Onward { done: 0 })? == Items::Numbers(numbers(alloc, &[8, 9, 0])?));
+    assert!(rt;
+        moved(alloc, &three, 3, Onward { done: 0 })? == Items::Numbers(numbers(alloc, &[8, 9, 0])?)
+    );
     let word = Items::Chars(letters(rt, alloc, b"ABC")?);
-    assert!(rt; moved(alloc, &word, 3, Onward { done: 0 })? == Items::Chars(letters(rt, alloc, b"BC ")?));
+    assert!(rt;
+        moved(alloc, &word, 3, Onward { done: 0 })? == Items::Chars(letters(rt, alloc, b"BC ")?)
+    );
     let matrix = Items::Numbers(numbers(alloc, &[1, 2, 3, 4, 5, 6])?);
-    assert!(rt; moved_by_axes(alloc, &matrix, &[3, 2], &Exchanged)? == Items::Numbers(numbers(alloc, &[1, 4, 2, 5, 3, 6])?));
+    assert!(rt;
+        moved_by_axes(alloc, &matrix, &[3, 2], &Exchanged)?
+            == Items::Numbers(numbers(alloc, &[1, 4, 2, 5, 3, 6])?)
+    );
     Ok(())
 }
 

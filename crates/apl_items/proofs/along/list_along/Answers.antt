@@ -1,8 +1,8 @@
-use Rattle.std.proofs.Common.{◌≡◌, ◌+◌, ◌*◌, ◌<◌, ℕ, List, [], ◌++◌, ap, ◌∙◌, arith}
+use Rattle.std.proofs.Common.{◌≡◌, ◌<◌, ℕ, [], ap, ◌∙◌, arith}
 use Rattle.apl_arrays.specs.Array.{element_count}
 use Rattle.apl_items.specs.Along.{source_along}
 use Rattle.apl_items.specs.Moves.{moved_list}
-use Rattle.apl_items.specs.Shapes.{split_at, split_count}
+use Rattle.apl_items.specs.Shapes.{split_at}
 use Rattle.apl_items.proofs.AlongLemmas.{few_lines}
 use Rattle.apl_items.proofs.ShapeLemmas.{split_count_lem}
 use Rattle.apl_items.proofs.along.list_along.Goals as goal

@@ -1,4 +1,4 @@
-use Rattle.std.proofs.Common.{◌≡◌, ◌+◌, ◌*◌, ◌<◌, sym, subst, arith}
+use Rattle.std.proofs.Common.{◌+◌, ◌*◌, arith}
 use Rattle.apl_items.proofs.AlongLemmas.{source_below, parts_below}
 use Rattle.apl_items.proofs.along.place_of_source.Goals as goal
 

@@ -1,5 +1,5 @@
 use Rattle.std.proofs.Common.{◌≡◌, ◌+◌, ◌*◌, ◌/◌, ◌%◌, ◌++◌, vec_len, vec_capacity}
-use Rattle.apl_items.specs.Along.{source_along, source_in_row}
+use Rattle.apl_items.specs.Along.{source_in_row}
 use Rattle.apl_items.specs.Moves.{moved_list}
 use Rattle.apl_items.proofs.along.push_row.Given as goal
 

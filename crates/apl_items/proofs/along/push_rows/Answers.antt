@@ -1,4 +1,4 @@
-use Rattle.std.proofs.Common.{◌+◌, ◌*◌, ◌/◌, ◌%◌, ◌∙◌, arith}
+use Rattle.std.proofs.Common.{◌*◌, ◌/◌, ◌%◌, ◌∙◌, arith}
 use Rattle.std.proofs.Math.Nat.{mul_assoc}
 use Rattle.apl_items.specs.Along.{source_along, source_in_row}
 use Rattle.apl_items.proofs.AlongLemmas.{one_row_more, room_for_row, row_of_places}
@@ -19,5 +19,5 @@ loop-outer-preserved g c =
       whole = omega (arith, c.push_row.ensures.len, c.loop-outer.invariant.whole);
       room = c.push_row.ensures.room ∙ c.loop-outer.invariant.room;
       items = one_row_more c.args.fill c.args.list.now (source_along split long from) (λ place. source_in_row split long from c.loop-outer.outer (place / split.inner) (place % split.inner))
-        c.loop-outer.outer (split.along * split.inner) c.args.made.now.items c.loop-outer.made.items _ (row_of_places split long from c.loop-outer.outer) c.loop-outer.invariant.items c.push_row.ensures.items;
+          c.loop-outer.outer (split.along * split.inner) c.args.made.now.items c.loop-outer.made.items _ (row_of_places split long from c.loop-outer.outer) c.loop-outer.invariant.items c.push_row.ensures.items;
     }
