@@ -21,7 +21,7 @@ map_range-same f g first start zero same = refl
 map_range-same {T} f g first start (suc n) same =
     let here : f first ≡ g start = ap f (let e : first ≡ first + 0 = omega arith in e) ∙ same 0 (omega arith) ∙ ap g (let e : start + 0 ≡ start = omega arith in e) in
     let rest = map_range-same f g (first + 1) (start + 1) n (λ k h.
-        ap f (let e : (first + 1) + k ≡ first + suc k = omega arith in e) ∙ same (suc k) (omega arith) ∙ ap g (let e : start + suc k ≡ (start + 1) + k = omega arith in e)) in
+    ap f (let e : (first + 1) + k ≡ first + suc k = omega arith in e) ∙ same (suc k) (omega arith) ∙ ap g (let e : start + suc k ≡ (start + 1) + k = omega arith in e)) in
     ap (λ (x : T). x ∷ map f (range_with_len (first + 1) n)) here ∙ ap (λ (xs : List T). g start ∷ xs) rest
 
 -- one row more
@@ -33,7 +33,7 @@ moved_list_row {T} fill list source row rows count same =
     let start : 0 + rows * count ≡ rows * count = omega arith in
     let item : ℕ → T = λ p. item_or fill list (source p) in
     let one_row = map_range-same item (λ (p : ℕ). item_or fill list (row p)) (0 + rows * count) 0 count
-        (λ k h. ap item (let e : (0 + rows * count) + k ≡ rows * count + k = omega arith in e) ∙ ap (item_or fill list) (same k h ∙ ap row (let e : k ≡ 0 + k = omega arith in e))) in
+    (λ k h. ap item (let e : (0 + rows * count) + k ≡ rows * count + k = omega arith in e) ∙ ap (item_or fill list) (same k h ∙ ap row (let e : k ≡ 0 + k = omega arith in e))) in
     ap (λ (xs : List T). moved_list fill list (rows * count) source ++ xs) (sym one_row) ∙ sym (map_range-append item 0 (rows * count) count) ∙ ap (λ (n : ℕ). moved_list fill list n source) total
 
 added_assoc : (a b c : Option ℕ) → added a (added b c) ≡ added (added a b) c
@@ -71,7 +71,7 @@ items_of_row {T} fill list offset axis base beyond shape first rest along before
     let source : ℕ → Option ℕ = λ place. added base (offset_at offset axis (coordinates_of shape place)) in
     let row : ℕ → Option ℕ = λ place. added beyond (offset_at offset (axis + 1) (coordinates_of rest place)) in
     let one = moved_list_row fill list source row along (element_count rest)
-        (λ q h. row_source offset axis base shape first rest along q e h ∙ ap (λ (b : Option ℕ). added b (offset_at offset (axis + 1) (coordinates_of rest q))) (sym is)) in
+    (λ q h. row_source offset axis base shape first rest along q e h ∙ ap (λ (b : Option ℕ). added b (offset_at offset (axis + 1) (coordinates_of rest q))) (sym is)) in
     now ∙ ap (λ (xs : List T). xs ++ moved_list fill list (element_count rest) row) was
     ∙ append_assoc before (moved_list fill list (along * element_count rest) source) (moved_list fill list (element_count rest) row)
     ∙ ap (λ (xs : List T). before ++ xs) one

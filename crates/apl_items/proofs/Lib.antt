@@ -1,3 +1,4 @@
+mod AlongLemmas
 mod AxisLemmas
 pub mod MoveLemmas
 pub mod PlaceLemmas

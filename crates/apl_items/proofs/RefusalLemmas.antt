@@ -51,9 +51,10 @@ pub seen_item : {T : Type 0} (answers : ℕ → Result T Refusal → Type 0) (co
     → Seen answers count place index → place < count → answers place answer → answer ≡ Ok x → next ≡ index → Seen answers count (place + 1) next
 seen_item answers count place index next answer x seen below told is kept item follows =
     let e = sym (follows place answer below told) ∙ is in
-    let so_far = seen item follows in
-    (list_any-places_more (λ p. is_domain (item p)) place false (ap is_domain e) ∙ ap (λ (b : Bool). b || false) so_far.0,
-     kept ∙ so_far.1 ∙ sym (or_false _) ∙ sym (list_any-places_more (λ p. is_index (item p)) place false (ap is_index e)))
+    let so_far = seen item follows in (
+      list_any-places_more (λ p. is_domain (item p)) place false (ap is_domain e) ∙ ap (λ (b : Bool). b || false) so_far.0,
+      kept ∙ so_far.1 ∙ sym (or_false _) ∙ sym (list_any-places_more (λ p. is_index (item p)) place false (ap is_index e)),
+    )
 
 pub seen_index : {T : Type 0} (answers : ℕ → Result T Refusal → Type 0) (count place : ℕ) (index next : Bool) (answer : Result T Refusal) (why : Refusal)
     → Seen answers count place index → place < count → answers place answer → answer ≡ Err why → why ≡ Index → next ≡ true
@@ -61,9 +62,10 @@ pub seen_index : {T : Type 0} (answers : ℕ → Result T Refusal → Type 0) (c
 seen_index {T} answers count place index next answer why seen below told is at_index set item follows =
     let refused : Refusal → Result T Refusal = λ r. Err r in
     let e = sym (follows place answer below told) ∙ is ∙ ap refused at_index in
-    let so_far = seen item follows in
-    (list_any-places_more (λ p. is_domain (item p)) place false (ap is_domain e) ∙ ap (λ (b : Bool). b || false) so_far.0,
-     set ∙ sym (or_true _) ∙ sym (list_any-places_more (λ p. is_index (item p)) place true (ap is_index e)))
+    let so_far = seen item follows in (
+      list_any-places_more (λ p. is_domain (item p)) place false (ap is_domain e) ∙ ap (λ (b : Bool). b || false) so_far.0,
+      set ∙ sym (or_true _) ∙ sym (list_any-places_more (λ p. is_index (item p)) place true (ap is_index e)),
+    )
   where
     or_true : (b : Bool) → (b || true) ≡ true
     or_true true = refl

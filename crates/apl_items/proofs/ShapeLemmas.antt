@@ -85,7 +85,6 @@ coordinates_of_row axis shape first place h =
 
 -- coordinates within a shape make a place below its count
 pub place_of_below : (shape coordinates : List ℕ) → AreWithin shape coordinates → place_of shape coordinates < element_count shape
-
 place_of_below [] [] h = omega arith
 place_of_below [] (first ∷ coordinates) h = absurd h
 place_of_below (axis ∷ shape) [] h = absurd h
@@ -141,13 +140,15 @@ factors_below (suc a) (suc b) (suc c) total e some =
 pub parts_fit : (shape : List ℕ) (axis : ℕ) → FitsLimits shape → 0 < element_count shape → axis < length shape
     → FitsLimits (take axis shape) × FitsLimits (drop (axis + 1) shape)
 parts_fit shape axis fits some inside =
-    let factors = factors_below (element_count (take axis shape)) (get_or shape axis 0) (element_count (drop (axis + 1) shape)) (element_count shape) (split_count_lem shape axis inside) some in
-    (record {
-      rank = omega (arith, fits.rank, length-take axis shape);
-      axes = All-take (λ n. n ≤ 16384) axis shape fits.axes;
-      elements = omega (arith, fits.elements, factors.0);
-    }, record {
-      rank = omega (arith, fits.rank, length-drop (axis + 1) shape);
-      axes = All-drop (λ n. n ≤ 16384) (axis + 1) shape fits.axes;
-      elements = omega (arith, fits.elements, factors.1);
-    })
+    let factors = factors_below (element_count (take axis shape)) (get_or shape axis 0) (element_count (drop (axis + 1) shape)) (element_count shape) (split_count_lem shape axis inside) some in (
+      record {
+        rank = omega (arith, fits.rank, length-take axis shape);
+        axes = All-take (λ n. n ≤ 16384) axis shape fits.axes;
+        elements = omega (arith, fits.elements, factors.0);
+      },
+      record {
+        rank = omega (arith, fits.rank, length-drop (axis + 1) shape);
+        axes = All-drop (λ n. n ≤ 16384) (axis + 1) shape fits.axes;
+        elements = omega (arith, fits.elements, factors.1);
+      },
+    )

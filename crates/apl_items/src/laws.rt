@@ -3,6 +3,7 @@
 ghost use Rattle.std.specs.Prelude.{◌≡◌, ◌+◌, ◌*◌, ◌<◌, ◌-◌, ℕ, Bool, true, false, List, [], ◌∷◌, Option, Some, None, Ok, Err, pos, map, length, nat_lt, if◌then◌else◌};
 ghost use Rattle.apl_arrays.specs.Array.{element_count, numbers, chars};
 ghost use Rattle.apl_arrays.specs.Glyph.{blank};
+ghost use Rattle.apl_items.specs.Along.{source_along};
 ghost use Rattle.apl_items.specs.Answers.{first_report, no_faults};
 ghost use Rattle.apl_items.specs.Axes.{offset_at, source_by_axes};
 ghost use Rattle.apl_items.specs.Moves.{moved};
@@ -75,4 +76,10 @@ pub fn columns_become_rows()
 #[tactic(auto, using(crate::proofs::ShapeLemmas::coordinates_of_place))]
 pub fn offsets_add_up()
     ensures { (offset : ℕ → ℕ → Option ℕ) (shape coordinates : List ℕ) → AreWithin shape coordinates → source_by_axes shape offset (place_of shape coordinates) ≡ offset_at offset 0 coordinates }
+{}
+
+/// A matrix of two rows and three columns, with its rows turned round. The call does nothing. No memory.
+pub fn rows_turned_round()
+    ensures { moved (2 ∷ 3 ∷ []) (numbers (pos 1 ∷ pos 2 ∷ pos 3 ∷ pos 4 ∷ pos 5 ∷ pos 6 ∷ [])) (source_along (split_at (2 ∷ 3 ∷ []) 1) 3 (λ line along. Some (2 - along)))
+        ≡ record { shape = 2 ∷ 3 ∷ []; items = numbers (pos 3 ∷ pos 2 ∷ pos 1 ∷ pos 6 ∷ pos 5 ∷ pos 4 ∷ []) } }
 {}

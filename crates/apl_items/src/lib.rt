@@ -2,6 +2,7 @@
 //! and items that move to other places.
 #![tactic(auto)]
 
+mod along;
 mod axes;
 mod extension;
 pub mod laws;
@@ -12,9 +13,10 @@ mod shapes;
 #[cfg(test)]
 mod tests;
 
+pub use along::{Along, moved_along};
 pub use axes::{Axes, moved_by_axes};
+pub use extension::{glyph_at, is_single, leader, number_at, ranks_differ, shapes_differ};
 pub use loops::{by_place, each, glyph_pairs, pairs};
 pub use moves::{Walk, moved};
 pub use refusals::{Refusal, by_rule, first_refusal, lacks_one};
 pub use shapes::{Split, shape_report};
-pub use extension::{glyph_at, is_single, leader, number_at, ranks_differ, shapes_differ};

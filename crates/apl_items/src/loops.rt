@@ -1,4 +1,4 @@
-ghost use Rattle.std.specs.Prelude.{◌≡◌, ◌<◌, ◌==◌, ℕ, length, slice_get, IfOk, vec_len, vec_capacity};
+ghost use Rattle.std.specs.Prelude.{◌≡◌, ◌<◌, ◌==◌, ℕ, [], length, slice_get, IfOk, vec_len, vec_capacity};
 ghost use Rattle.apl_items.specs.Extension.{Reaches, place_in, number_at, char_at};
 ghost use Rattle.apl_items.specs.Places.{OnDomain};
 
@@ -107,6 +107,7 @@ pub fn glyph_pairs<F: Fn(bool) -> Option<i64>>(
 
 /// An empty list with room for so many items.
 pub fn room_for<T>(alloc: Global, count: usize) -> Result<Vec<T>, WantOfMemory>
+    ensures none { IfOk result (λ room. room.items ≡ []) }
     ensures len { IfOk result (λ items. vec_len items ≡ 0) }
     ensures room { IfOk result (λ items. vec_capacity items ≡ count) }
 {

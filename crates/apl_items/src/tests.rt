@@ -1,7 +1,9 @@
+ghost use Rattle.std.specs.Prelude.{◌≡◌, IfOk};
+
 use crate::{
-    Axes, Refusal, Split, Walk, by_place, by_rule, first_refusal, lacks_one, moved, moved_by_axes,
+    Axes, Refusal, Walk, by_place, by_rule, first_refusal, lacks_one, moved, moved_by_axes,
 };
-use apl_arrays::{Fail, Glyph, Items, Line, List, NumberList, Report, WantOfMemory};
+use apl_arrays::{Fail, Glyph, Items, List, NumberList, Report, WantOfMemory};
 use std::alloc::Global;
 use std::process::Abort;
 
@@ -23,29 +25,37 @@ fn items_move(rt: HostRuntime) {
 
 #[test]
 fn refusals_are_found_without_items(rt: HostRuntime) {
-    assert_eq!(rt; first_refusal(300_000_000, &number_of_row), Some(Refusal::Domain));
-    assert_eq!(rt; first_refusal(8, &number_of_row), Some(Refusal::Index));
-    assert_eq!(rt; first_refusal(5, &number_of_row), None);
-    assert!(rt; lacks_one(300_000_000, &small));
-    assert!(rt; !lacks_one(9, &small));
-    assert_eq!(rt;
-        Split::at(&[2, 3, 4], 1),
-        Split {
-            outer: 2,
-            along: 3,
-            inner: 4
-        }
-    );
+    look(&rt, 300_000_000, Some(Refusal::Domain), true);
+    look(&rt, 8, Some(Refusal::Index), false);
+    look(&rt, 5, None, false);
+}
+
+/// Looks at so many places for the first refusal, and for a place without an item.
+fn look(rt: &impl Abort, count: usize, refusal: Option<Refusal>, lacks: bool) {
+    assert!(rt; first_refusal(count, &tenfold) == refusal);
+    assert!(rt; lacks_one(count, &small) == lacks);
 }
 
 /// Items place by place, and the report where a place has none.
 fn by_places(rt: &impl Abort, alloc: Global) -> Result<(), WantOfMemory> {
-    assert!(rt; given(by_place(alloc, 4, small))? == Ok(numbers(alloc, &[0, 1, 2, 3])?));
-    assert!(rt; given(by_place(alloc, 10, small))? == Err(Report::Domain));
-    assert!(rt; given(by_rule(alloc, 3, &number_of_row))? == Ok(numbers(alloc, &[0, 10, 20])?));
-    assert!(rt; given(by_rule(alloc, 8, &number_of_row))? == Err(Report::Index));
-    assert!(rt; given(by_rule(alloc, 9, &number_of_row))? == Err(Report::Domain));
+    let four = list_of(alloc, &[0, 1, 2, 3])?;
+    assert!(rt; made_small(alloc, 4)? == Ok(four));
+    assert!(rt; made_small(alloc, 10)? == Err(Report::Domain));
+    let tens = list_of(alloc, &[0, 10, 20])?;
+    assert!(rt; made_tenfold(alloc, 3)? == Ok(tens));
+    assert!(rt; made_tenfold(alloc, 8)? == Err(Report::Index));
+    assert!(rt; made_tenfold(alloc, 9)? == Err(Report::Domain));
     Ok(())
+}
+
+/// So many small items.
+fn made_small(alloc: Global, count: usize) -> Result<Result<NumberList, Report>, WantOfMemory> {
+    given(by_place(alloc, count, small))
+}
+
+/// So many items, each ten times its place.
+fn made_tenfold(alloc: Global, count: usize) -> Result<Result<NumberList, Report>, WantOfMemory> {
+    given(by_rule(alloc, count, &tenfold))
 }
 
 /// The place as an item, where it is below 9.
@@ -54,7 +64,7 @@ fn small(place: usize) -> Option<i64> {
 }
 
 /// Ten times the place where it is below 5; else INDEX, and DOMAIN at place 8.
-fn number_of_row(place: usize) -> Result<i64, Refusal> {
+fn tenfold(place: usize) -> Result<i64, Refusal> {
     if place < 5 {
         Ok(place as i64 * 10)
     } else if place == 8 {
@@ -101,31 +111,24 @@ impl Axes for Exchanged {
 
 /// Items that move by a walk and by axes, with a fill of either kind.
 fn moves(rt: &impl Abort, alloc: Global) -> Result<(), WantOfMemory> {
-    let three = Items::Numbers(numbers(alloc, &[7, 8, 9])?);
-    assert!(rt; moved(alloc, &three, 3, Onward { done: 0 })? == Items::Numbers(numbers(alloc, &[8, 9, 0])?));
-    let word = Items::Chars(letters(rt, alloc, b"ABC")?);
-    assert!(rt; moved(alloc, &word, 3, Onward { done: 0 })? == Items::Chars(letters(rt, alloc, b"BC ")?));
-    let matrix = Items::Numbers(numbers(alloc, &[1, 2, 3, 4, 5, 6])?);
-    assert!(rt; moved_by_axes(alloc, &matrix, &[3, 2], &Exchanged)? == Items::Numbers(numbers(alloc, &[1, 4, 2, 5, 3, 6])?));
+    let three = Items::Numbers(list_of(alloc, &[7, 8, 9])?);
+    let filled = Items::Numbers(list_of(alloc, &[8, 9, 0])?);
+    assert!(rt; moved(alloc, &three, 3, Onward { done: 0 })? == filled);
+    let [a, b, c] = [Glyph::with_code(65), Glyph::with_code(66), Glyph::with_code(67)];
+    let word = Items::Chars(list_of(alloc, &[a, b, c])?);
+    let filled = Items::Chars(list_of(alloc, &[b, c, Glyph::BLANK])?);
+    assert!(rt; moved(alloc, &word, 3, Onward { done: 0 })? == filled);
+    let matrix = Items::Numbers(list_of(alloc, &[1, 2, 3, 4, 5, 6])?);
+    let exchanged = Items::Numbers(list_of(alloc, &[1, 4, 2, 5, 3, 6])?);
+    assert!(rt; moved_by_axes(alloc, &matrix, &[3, 2], &Exchanged)? == exchanged);
     Ok(())
 }
 
-/// The line of codes.
-fn letters(rt: &impl Abort, alloc: Global, codes: &[u8]) -> Result<Line, WantOfMemory> {
-    let mut line = List::new(alloc);
-    for code in codes {
-        line.push(Glyph::of_code(*code).expect(rt, "a glyph"))?;
-    }
-    Ok(line)
-}
-
-/// The numbers of a list.
-fn numbers(alloc: Global, list: &[i64]) -> Result<NumberList, WantOfMemory> {
-    let mut items = List::new(alloc);
-    for number in list {
-        items.push(*number)?;
-    }
-    Ok(items)
+/// The list of these items.
+fn list_of<T: Copy>(alloc: Global, items: &[T]) -> Result<List<T>, WantOfMemory>
+    ensures { IfOk result (λ list. list.items ≡ items.now) }
+{
+    Ok(List::from(Vec::from_slice(alloc, items)?))
 }
 
 /// What a call gave, where memory did not run out.

@@ -35,7 +35,9 @@ fn calls(rt: &impl Abort, alloc: Global) -> Result<(), WantOfMemory> {
     let two = vector(rt, alloc, &[2, -5])?;
     let one = vector(rt, alloc, &[3])?;
     assert!(rt; given(monadic(alloc, Monad::Magnitude, &two))? == Ok(vector(rt, alloc, &[2, 5])?));
-    assert!(rt; given(dyadic(alloc, Dyad::Times, &two, &one))? == Ok(vector(rt, alloc, &[6, -15])?));
+    assert!(rt;
+        given(dyadic(alloc, Dyad::Times, &two, &one))? == Ok(vector(rt, alloc, &[6, -15])?)
+    );
     assert!(rt; given(dyadic(alloc, Dyad::Power, &one, &two))? == Err(Report::Domain));
     Ok(())
 }

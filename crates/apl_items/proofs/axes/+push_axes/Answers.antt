@@ -9,13 +9,28 @@ push_axes-requires g t c κs within =
     let offset = g.X.Axes.offset c.args.axes.now in
     let shape_is = c.in-Some.ensures.cases in
     let beyond_is : c.together-beyond.result ≡ added c.args.base (offset c.args.axis c.loop-along.along) = c.together-beyond.ensures ∙ ap (added c.args.base) c.offset.ensures.value in
-    let smaller : length c.in-Some.rest.now < t = omega (arith, c.decreases) in
-    (smaller, (within.0, (within.1,
-    (row_has_room c.args.shape.now c.in-Some.first.now c.in-Some.rest.now c.loop-along.along _ _ _ shape_is.0 (omega arith) (omega arith) c.loop-along.invariant.whole,
-    (rest_no_longer c.args.shape.now c.in-Some.first.now c.in-Some.rest.now c.args.axis (g.X.Axes.length_of c.args.axes.now) shape_is.0 c.requires.lengths,
-    (row_is_bound c.args.base c.offset.result c.together-beyond.result (length c.in-Some.rest.now) _ c.offset.ensures.small c.together-beyond.ensures (λ from at. let bound = c.requires.bound from at in omega arith),
-    (omega arith,
-    row_within offset c.args.axis c.args.base c.together-beyond.result c.args.shape.now c.in-Some.first.now c.in-Some.rest.now c.loop-along.along (length c.args.list.now) shape_is.0 (omega arith) beyond_is c.requires.within)))))))
+    let smaller : length c.in-Some.rest.now < t = omega (arith, c.decreases) in (
+      smaller,
+      (
+        within.0,
+        (
+          within.1,
+          (
+            row_has_room c.args.shape.now c.in-Some.first.now c.in-Some.rest.now c.loop-along.along _ _ _ shape_is.0 (omega arith) (omega arith) c.loop-along.invariant.whole,
+            (
+              rest_no_longer c.args.shape.now c.in-Some.first.now c.in-Some.rest.now c.args.axis (g.X.Axes.length_of c.args.axes.now) shape_is.0 c.requires.lengths,
+              (
+                row_is_bound c.args.base c.offset.result c.together-beyond.result (length c.in-Some.rest.now) _ c.offset.ensures.small c.together-beyond.ensures (λ from at. let bound = c.requires.bound from at in omega arith),
+                (
+                  omega arith,
+                  row_within offset c.args.axis c.args.base c.together-beyond.result c.args.shape.now c.in-Some.first.now c.in-Some.rest.now c.loop-along.along (length c.args.list.now) shape_is.0 (omega arith) beyond_is c.requires.within,
+                ),
+              ),
+            ),
+          ),
+        ),
+      ),
+    )
 
 pub offset-requires : goal.offset-requires
 offset-requires g t c = first_no_longer c.args.shape.now c.in-Some.first.now c.in-Some.rest.now c.args.axis c.loop-along.along (g.X.Axes.length_of c.args.axes.now) c.in-Some.ensures.cases.0 c.requires.lengths (omega arith)
@@ -29,7 +44,7 @@ loop-along-preserved g t c =
       whole = omega (arith, c.push_axes.ensures.len, c.loop-along.invariant.whole);
       room = c.push_axes.ensures.room ∙ c.loop-along.invariant.room;
       items = items_of_row c.args.fill c.args.list.now offset c.args.axis c.args.base c.together-beyond.result c.args.shape.now c.in-Some.first.now c.in-Some.rest.now c.loop-along.along
-        c.args.made.now.items c.loop-along.made.items c.push_axes.new.made.items shape_is.0 beyond_is c.loop-along.invariant.items c.push_axes.ensures.items;
+          c.args.made.now.items c.loop-along.made.items c.push_axes.new.made.items shape_is.0 beyond_is c.loop-along.invariant.items c.push_axes.ensures.items;
     }
 
 pub returns-after-loop-along-clause-items : goal.returns-after-loop-along-clause-items

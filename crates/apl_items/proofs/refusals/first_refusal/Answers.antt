@@ -8,5 +8,6 @@ returns-in-Err-Domain g c = found_domain _ c.args.count c.loop-place.place _ _ (
 
 pub loop-place-preserved : goal.loop-place-preserved
 loop-place-preserved g c = elim c.match-rule.branch [
-    in-Ok w ↦ seen_item _ c.args.count c.loop-place.place _ _ _ _ c.loop-place.invariant (omega arith) c.rule.ensures w.in-Ok.is w.index-is
-  | in-Err-Index w ↦ seen_index _ c.args.count c.loop-place.place _ _ _ _ c.loop-place.invariant (omega arith) c.rule.ensures w.in-Err-Index.is w.in-Err-Index.field-0-is w.index-is ]
+  | in-Ok w ↦ seen_item _ c.args.count c.loop-place.place _ _ _ _ c.loop-place.invariant (omega arith) c.rule.ensures w.in-Ok.is w.index-is
+  | in-Err-Index w ↦ seen_index _ c.args.count c.loop-place.place _ _ _ _ c.loop-place.invariant (omega arith) c.rule.ensures w.in-Err-Index.is w.in-Err-Index.field-0-is w.index-is
+]
