@@ -1,10 +1,10 @@
 -- Why the program ends as it does.
-use Rattle.std.proofs.Common.{◌≡◌, ◌≢◌, ◌≤◌, ◌+◌, ℕ, List, [], length, Option, Some, None, IsSomeAnd, ap, sym, subst, ◌∙◌, refl, arith}
+use Rattle.std.proofs.Common.{◌≡◌, ◌≢◌, ◌≤◌, ◌+◌, ℕ, List, [], length, Option, Some, None, IsSomeAnd, ap, sym, subst, refl, arith}
+use Rattle.std.proofs.lemmas.List.{drop_all}
 use Rattle.std.specs.Io.KnownBytes.{Appends}
 use Rattle.apl_arrays.specs.Limits.{most_input_bytes}
 use Rattle.apl_io.specs.Faults.{Rose}
 use Rattle.apl_io.specs.Whole.{ReadsAll, TakesExactly, TakesAtMost, AppendsPrefix}
-use Rattle.bundle_text.specs.declared.refused.BundleRule.{BundleRule}
 use Rattle.aplsv_top.specs.Causes.{Device, HasCause}
 use Rattle.aplsv_top.specs.Headline.{IsOutputFor, WritesRun, WritesFront, FindsNoBundle}
 use Rattle.aplsv_top.specs.Runnable.{RunnableText, IsNotRunnable}
@@ -74,3 +74,33 @@ module _ (ending : Status) (bytes : List ℕ) (source rest sink grown : Device) 
       (λ is. let many : most_input_bytes + 1 ≤ length bytes = (h.too_long is).0 in absurd (omega (arith, many, few)))
       (λ other. taken)
       (λ malformed. none_of (h.malformed malformed))
+
+-- all of few bytes are few
+all_taken : (bytes : List ℕ) → length bytes ≤ most_input_bytes → TakesAtMost (Some bytes) (Some []) most_input_bytes
+all_taken bytes few = (length bytes, few, (omega arith, ap Some (sym (drop_all (length bytes) bytes (omega arith)))))
+
+module _ (bytes text slice : List ℕ) (sink grown : Device) (few : length bytes ≤ most_input_bytes) (run : IsOutputFor bytes text) (same : slice ≡ text) where
+  of_slice : IsOutputFor bytes slice
+  of_slice = subst (IsOutputFor bytes) (sym same) run
+
+  -- the whole output of a run was written
+  pub run_written : Appends sink.bytes grown.bytes slice → HasCause status.Done (given bytes) used_up sink grown
+  run_written written = caused status.Done (given bytes) used_up sink grown
+      (λ is. record { bytes = bytes; text = slice; read = (refl, refl); run = of_slice; written = written })
+      (λ is. absurd cc)
+      (λ is. absurd cc)
+      (λ is. absurd cc)
+      (λ is. absurd cc)
+      (λ other. all_taken bytes few)
+      (λ malformed. absurd malformed)
+
+  -- a front part of it was written, and the sink failed
+  pub front_written : AppendsPrefix sink.bytes grown.bytes slice → Rose sink.faults grown.faults → HasCause status.WriteFault (given bytes) used_up sink grown
+  front_written written rose = caused status.WriteFault (given bytes) used_up sink grown
+      (λ is. absurd cc)
+      (λ is. record { bytes = bytes; text = slice; read = (refl, refl); run = of_slice; written = written })
+      (λ is. absurd cc)
+      (λ is. rose)
+      (λ is. absurd cc)
+      (λ other. all_taken bytes few)
+      (λ malformed. absurd malformed)

@@ -1,16 +1,24 @@
 -- The first line that is no statement.
-use Rattle.std.proofs.Common.{◌≡◌, ℕ, ◌<◌, ◌≤◌, Bool, true, false, cond, List, [], ◌∷◌, length, get_or, ltb, Option, Some, None, IsSome, is_none, refl, sym, subst, ◌∙◌, arith}
-use Rattle.std.specs.List.{All, position, position_or_len}
+use Rattle.std.proofs.Common.{◌≡◌, ℕ, ◌+◌, ◌<◌, ◌≤◌, Bool, true, false, not, cond, List, [], ◌∷◌, length, map, get_or, ltb, ap, ap₂, Option, Some, None, IsSome, is_none, refl, sym, subst, ◌∙◌, arith}
+use Rattle.std.specs.List.{All, AllWithin, HoldsAt, position, position_or_len}
+use Rattle.std.specs.Prelude.{nat_lt, MatchOption}
 use Rattle.std.proofs.lemmas.Bool.{ltb-false}
+use Rattle.std.proofs.lemmas.Bool.Decides.{nat_tests}
+use Rattle.std.proofs.lemmas.List.{length-map}
 use Rattle.std.proofs.lemmas.List.Elements.{All-nil, All-cons, All-head, All-tail}
 use Rattle.std.proofs.lemmas.List.Quantifiers.{position-Some}
-use Rattle.std.proofs.lemmas.List.Sums.{fails_before_first}
-use Rattle.bundle_text.specs.Bundle.{PlainBundle, BundleText}
+use Rattle.std.proofs.lemmas.List.Sums.{fails_before_first, position_or_len_is}
+use Rattle.bundle_text.specs.Bundle.{PlainBundle, BundleText, IsNoBundle}
+use Rattle.bundle_text.specs.Offset.{offset_of}
+use Rattle.bundle_text.specs.Refused.{IsReason}
+use Rattle.bundle_text.specs.declared.refused.BundleRefused.{BundleRefused}
+use Rattle.bundle_text.specs.declared.refused.BundleRefused.TheVariants.{Malformed, WantOfMemory}
+use Rattle.bundle_text.specs.declared.refused.BundleRule.TheVariants.{Form}
 use Rattle.bundle_text.specs.User.{PlainUser}
 use Rattle.apl_session.specs.Statement.{statement_in}
 use Rattle.apl_session.specs.declared.statement.Statement.{Statement}
 use Rattle.aplsv_top.specs.declared.runnable.LinePlace.{LinePlace}
-use Rattle.aplsv_top.specs.Runnable.{AreStatements, RunnableText, IsNotRunnable, formless_line, found_first, formless_place}
+use Rattle.aplsv_top.specs.Runnable.{AreStatements, IsNotRunnable, IsFormlessAt, formless_line, found_first, formless_place}
 
 none_is_false : (b : Bool) (n : ℕ) → cond b (Some n) None ≡ None → b ≡ false
 none_is_false true n e = absurd cc
@@ -64,3 +72,46 @@ not_all_statements (user ∷ users) place e all = none_by user users (formless_l
 pub not_runnable : (bytes : List ℕ) (bundle : PlainBundle) (users : List PlainUser) (place : LinePlace) → ((bytes : List ℕ) (bundle other : PlainBundle) → BundleText bytes bundle → BundleText bytes other → bundle ≡ other) → BundleText bytes bundle → users ≡ bundle.users → formless_place users ≡ Some place → IsNotRunnable bytes
 not_runnable bytes bundle users place one text are found other runnable =
     not_all_statements users place found (subst (All AreStatements) (sym are) (subst (λ b. All AreStatements b.users) (sym (one bytes bundle other text runnable.text)) runnable.statements))
+
+-- the first place where a test passes, of things seen otherwise
+
+place_seen : {X Y : Type 0} (see : X → Y) (p : Y → Bool) (xs : List X) → position_or_len p (map see xs) ≡ position_or_len (λ x. p (see x)) xs
+place_seen see p [] = refl
+place_seen see p (x ∷ xs) = ap (λ n. cond (not (p (see x))) (1 + n) 0) (place_seen see p xs)
+
+pub position_seen : {X Y : Type 0} (see : X → Y) (p : Y → Bool) (xs : List X) → position (λ x. p (see x)) xs ≡ position p (map see xs)
+position_seen see p xs = sym (ap₂ (λ at len. cond (ltb at len) (Some at) None) (place_seen see p xs) (length-map xs see))
+
+-- what is no bundle can't be run
+pub no_bundle : (why : BundleRefused) (bytes : List ℕ) → IsReason why (IsNoBundle bytes) → IsReason why (IsNotRunnable bytes)
+no_bundle (Malformed offset rule) bytes none = λ bundle runnable. none bundle runnable.text
+no_bundle WantOfMemory bytes none = tt
+
+-- where memory ran out no line is named
+pub no_line : (why : BundleRefused) (users : List PlainUser) (place : LinePlace) → why ≡ WantOfMemory → IsFormlessAt users place why
+no_line why users place e = subst (IsFormlessAt users place) (sym e) tt
+
+-- the line that is named is the first of the one bundle that the bytes are the text of
+pub line_named : (bytes : List ℕ) (bundle other : PlainBundle) (users : List PlainUser) (place there : LinePlace) (offset : ℕ) → ((bytes : List ℕ) (bundle other : PlainBundle) → BundleText bytes bundle → BundleText bytes other → bundle ≡ other)
+    → BundleText bytes bundle → users ≡ bundle.users → formless_place users ≡ Some place → offset ≡ offset_of bundle.users place.user place.line → BundleText bytes other → formless_place other.users ≡ Some there
+    → IsFormlessAt other.users there (Malformed offset Form)
+line_named bytes bundle other users place there offset one text are found named other_text other_found =
+    let same : bundle ≡ other = one bytes bundle other text other_text in
+    let places : Some place ≡ Some there = sym found ∙ (ap formless_place (are ∙ ap (λ b. b.users) same) ∙ other_found) in
+    let place_is : place ≡ there = cc places in
+    (named ∙ ap₂ (λ b p. offset_of b.users p.user p.line) same place_is, refl)
+
+nothing_at : (n : ℕ) → cond (nat_lt n n) (Some n) None ≡ None
+nothing_at n = let beyond : nat_lt n n ≡ false = grind (arith, nat_tests) in ap (λ within. cond within (Some n) None) beyond
+
+something_at : (i n : ℕ) → i < n → cond (nat_lt i n) (Some i) None ≡ Some i
+something_at i n less = let within : nat_lt i n ≡ true = grind (arith, nat_tests) in ap (λ within. cond within (Some i) None) within
+
+-- what is found from the front on is the first place
+pub first_place : {X : Type 0} (p : X → Bool) (xs : List X) (d : X) (found : Option ℕ) → MatchOption found (AllWithin (λ x. p x ≡ false) xs 0 (length xs)) (λ i. (i < length xs) × HoldsAt (λ x. p x ≡ true) xs i × AllWithin (λ x. p x ≡ false) xs 0 i) → found ≡ position p xs
+first_place p xs d None h =
+    let at : position_or_len p xs ≡ length xs = position_or_len_is p xs (length xs) d (omega arith) (λ k less. h k d (omega arith) less) (λ less. absurd (omega (arith, less))) in
+    sym (ap (λ i. cond (nat_lt i (length xs)) (Some i) None) at ∙ nothing_at (length xs))
+first_place p xs d (Some i) h =
+    let at : position_or_len p xs ≡ i = position_or_len_is p xs i d (omega (arith, h.0)) (λ k less. h.2 k d (omega arith) less) (λ less. h.1 d) in
+    sym (ap (λ i. cond (nat_lt i (length xs)) (Some i) None) at ∙ something_at i (length xs) h.0)

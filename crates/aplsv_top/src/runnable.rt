@@ -1,8 +1,9 @@
-ghost use Rattle.std.specs.Prelude.{◌≡◌, ◌<◌, Some, IfOk, IfErr, IfSome, length, map};
+ghost use Rattle.std.specs.Prelude.{◌≡◌, ◌<◌, Some, IfOk, IfErr, IfSome, is_none, length, map};
 ghost use Rattle.apl_arrays.specs.List.{glyphs_in};
 ghost use Rattle.bundle_text.specs.Bundle.{PlainBundle, BundleText};
 ghost use Rattle.bundle_text.specs.Refused.{IsReason};
 ghost use Rattle.bundle_text.specs.User.{plain_user};
+ghost use Rattle.apl_session.specs.Statement.{statement_in};
 ghost use Rattle.aplsv_top.specs.Runnable.{RunnableText, IsNotRunnable, IsFormlessAt, formless_line, formless_place};
 
 use apl_arrays::Line;
@@ -37,13 +38,18 @@ pub fn read_runnable(alloc: Global, bytes: &[u8]) -> Result<Bundle, BundleRefuse
     }
 }
 
+// Whether a line is no statement.
+fn is_formless(line: &Line) -> bool
+    ensures { result ≡ is_none (statement_in line.now.items) }
+{
+    statement_of(line.as_slice()).is_none()
+}
+
 // The first of the lines that is no statement.
 fn formless_line(lines: &[Line]) -> Option<usize>
     ensures { result ≡ formless_line (map glyphs_in lines.now) }
 {
-    lines
-        .iter()
-        .position(|line| statement_of(line.as_slice()).is_none())
+    lines.iter().position(|line| is_formless(line))
 }
 
 // The place of the first line that is no statement.
