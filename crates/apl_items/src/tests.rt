@@ -114,7 +114,11 @@ fn moves(rt: &impl Abort, alloc: Global) -> Result<(), WantOfMemory> {
     let three = Items::Numbers(list_of(alloc, &[7, 8, 9])?);
     let filled = Items::Numbers(list_of(alloc, &[8, 9, 0])?);
     assert!(rt; moved(alloc, &three, 3, Onward { done: 0 })? == filled);
-    let [a, b, c] = [Glyph::with_code(65), Glyph::with_code(66), Glyph::with_code(67)];
+    let [a, b, c] = [
+        Glyph::with_code(65),
+        Glyph::with_code(66),
+        Glyph::with_code(67),
+    ];
     let word = Items::Chars(list_of(alloc, &[a, b, c])?);
     let filled = Items::Chars(list_of(alloc, &[b, c, Glyph::BLANK])?);
     assert!(rt; moved(alloc, &word, 3, Onward { done: 0 })? == filled);
