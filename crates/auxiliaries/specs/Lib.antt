@@ -1,0 +1,6 @@
+pub mod Clock
+pub mod Command
+pub mod File
+pub mod Plain
+pub mod Protocol
+pub mod Served
