@@ -6,8 +6,7 @@ use Rattle.std.proofs.lemmas.List.Quantifiers.{position-Some}
 use Rattle.std.proofs.lemmas.Str.{encode_same}
 use Rattle.std.specs.Char.{encode_utf8}
 use Rattle.std.specs.List.{position, position_or_len}
-use Rattle.apl_arrays.specs.declared.glyph.TheConstants.{SCALARS}
-use Rattle.apl_arrays.specs.Glyph.{IsGlyph, scalar_of, glyph_utf8, StartsWithNoGlyph}
+use Rattle.apl_arrays.specs.Glyph.{IsGlyph, scalars, scalar_of, glyph_utf8, StartsWithNoGlyph}
 use Rattle.apl_arrays.specs.Text.{StartsWithNoScalar}
 
 -- a test that every number below n passes
@@ -30,31 +29,31 @@ pass test (suc n) e k below =
 -- the table
 
 place_of_scalar : ℕ → ℕ
-place_of_scalar scalar = position_or_len (λ listed. eqb listed scalar) SCALARS
+place_of_scalar scalar = position_or_len (λ listed. eqb listed scalar) scalars
 
-listed_in_order : passes_below (λ k. eqb (place_of_scalar (get_or SCALARS k 0)) k) 35 ≡ true
+listed_in_order : passes_below (λ k. eqb (place_of_scalar (get_or scalars k 0)) k) 35 ≡ true
 unfolding passes_below place_of_scalar
 listed_in_order = refl
 
-listed_in_range : passes_below (λ k. ltb 159 (get_or SCALARS k 0) && ltb (get_or SCALARS k 0) 12288) 35 ≡ true
+listed_in_range : passes_below (λ k. ltb 159 (get_or scalars k 0) && ltb (get_or scalars k 0) 12288) 35 ≡ true
 unfolding passes_below
 listed_in_range = refl
 
 pub scalar_of_low : (code : ℕ) → code < 128 → scalar_of code ≡ code
 scalar_of_low code low = grind (arith, nat_tests)
 
-pub scalar_of_high : (code : ℕ) → 128 ≤ code → scalar_of code ≡ get_or SCALARS (code - 128) 0
+pub scalar_of_high : (code : ℕ) → 128 ≤ code → scalar_of code ≡ get_or scalars (code - 128) 0
 scalar_of_high code high = grind (arith, nat_tests)
 
-in_order : (k : ℕ) → k < 35 → place_of_scalar (get_or SCALARS k 0) ≡ k
+in_order : (k : ℕ) → k < 35 → place_of_scalar (get_or scalars k 0) ≡ k
 in_order k below =
-    let e = pass (λ n. eqb (place_of_scalar (get_or SCALARS n 0)) n) 35 listed_in_order k below in
+    let e = pass (λ n. eqb (place_of_scalar (get_or scalars n 0)) n) 35 listed_in_order k below in
     grind (arith, nat_tests)
 
-in_range : (k : ℕ) → k < 35 → (159 < get_or SCALARS k 0) × (get_or SCALARS k 0 < 12288)
+in_range : (k : ℕ) → k < 35 → (159 < get_or scalars k 0) × (get_or scalars k 0 < 12288)
 in_range k below =
-    let e = pass (λ n. ltb 159 (get_or SCALARS n 0) && ltb (get_or SCALARS n 0) 12288) 35 listed_in_range k below in
-    let parts = both (ltb 159 (get_or SCALARS k 0)) (ltb (get_or SCALARS k 0) 12288) e in
+    let e = pass (λ n. ltb 159 (get_or scalars n 0) && ltb (get_or scalars n 0) 12288) 35 listed_in_range k below in
+    let parts = both (ltb 159 (get_or scalars k 0)) (ltb (get_or scalars k 0) 12288) e in
     (grind (arith, nat_tests), grind (arith, nat_tests))
 
 pub scalar_of_bound : (code : ℕ) → IsGlyph code → (32 ≤ scalar_of code) × (scalar_of code < 12288) × (128 ≤ code → 159 < scalar_of code)
@@ -69,22 +68,22 @@ unlisted_low scalar low none code glyph e =
     (λ large. omega (arith, (scalar_of_bound code glyph).2 large))
     (cases_lt code 128)
 
-pub unlisted : (scalar : ℕ) → 128 ≤ scalar → position (λ listed. eqb listed scalar) SCALARS ≡ None → (code : ℕ) → IsGlyph code → scalar_of code ≢ scalar
+pub unlisted : (scalar : ℕ) → 128 ≤ scalar → position (λ listed. eqb listed scalar) scalars ≡ None → (code : ℕ) → IsGlyph code → scalar_of code ≢ scalar
 unfolding place_of_scalar
 unlisted scalar high none code glyph e =
     ⊎_elim (λ small. omega (arith, scalar_of_low code small))
     (λ large.
-    let same : get_or SCALARS (code - 128) 0 ≡ scalar = sym (scalar_of_high code large) ∙ e in
-    let place : position_or_len (λ listed. eqb listed scalar) SCALARS ≡ code - 128 = ap place_of_scalar (sym same) ∙ in_order (code - 128) (omega arith) in
+    let same : get_or scalars (code - 128) 0 ≡ scalar = sym (scalar_of_high code large) ∙ e in
+    let place : position_or_len (λ listed. eqb listed scalar) scalars ≡ code - 128 = ap place_of_scalar (sym same) ∙ in_order (code - 128) (omega arith) in
     let below : code - 128 < 35 = omega arith in
     grind (arith, nat_tests))
     (cases_lt code 128)
 
-pub listed : (scalar place : ℕ) → position (λ listed. eqb listed scalar) SCALARS ≡ Some place → (place < 35) × (IsGlyph (128 + place)) × (scalar_of (128 + place) ≡ scalar)
+pub listed : (scalar place : ℕ) → position (λ listed. eqb listed scalar) scalars ≡ Some place → (place < 35) × (IsGlyph (128 + place)) × (scalar_of (128 + place) ≡ scalar)
 listed scalar place e =
-    let at = position-Some (λ listed. eqb listed scalar) SCALARS place 0 e in
+    let at = position-Some (λ listed. eqb listed scalar) scalars place 0 e in
     let below : place < 35 = at.0 in
-    let same : get_or SCALARS place 0 ≡ scalar = grind (arith, nat_tests) in
+    let same : get_or scalars place 0 ≡ scalar = grind (arith, nat_tests) in
     (below, (omega arith, omega arith, λ h. omega arith), scalar_of_high (128 + place) (omega arith) ∙ rw (let same_place : 128 + place - 128 ≡ place = omega arith in same_place) same)
 
 -- what is known of the glyph of a scalar
@@ -96,7 +95,7 @@ pub of_low : (scalar : ℕ) (found : Option ℕ) → scalar < 128 → (IsSome fo
 of_low scalar None low known value = unlisted_low scalar low (λ glyph. false≢true (known.1 glyph))
 of_low scalar (Some glyph) low known value = (subst IsGlyph (sym value) (known.0 refl), ap scalar_of value ∙ scalar_of_low scalar low)
 
-pub of_high : (scalar place : ℕ) (found : Option ℕ) → position (λ item. eqb item scalar) SCALARS ≡ Some place → (IsSome found ↔ IsGlyph (128 + place)) → IfSome found (λ glyph. glyph ≡ 128 + place) → IsGlyphOf scalar found
+pub of_high : (scalar place : ℕ) (found : Option ℕ) → position (λ item. eqb item scalar) scalars ≡ Some place → (IsSome found ↔ IsGlyph (128 + place)) → IfSome found (λ glyph. glyph ≡ 128 + place) → IsGlyphOf scalar found
 of_high scalar place None e known value = absurd (false≢true (known.1 (listed scalar place e).1))
 of_high scalar place (Some glyph) e known value = (subst IsGlyph (sym value) (known.0 refl), ap scalar_of value ∙ (listed scalar place e).2)
 
@@ -128,5 +127,5 @@ same_code code other a b e =
     (cases_lt other 128))
     (cases_lt code 128)
 
-pub table_bound : (place : ℕ) → place < 35 → get_or SCALARS place 0 < 12288
+pub table_bound : (place : ℕ) → place < 35 → get_or scalars place 0 < 12288
 table_bound place below = (in_range place below).1

@@ -1,4 +1,9 @@
+pub mod Edits
 pub mod Glyphs
+pub mod Names
 pub mod Padding
+pub mod Runs
 pub mod Scalars
+pub mod Shapes
 pub mod Spelling
+pub mod Words

@@ -6,7 +6,7 @@ use Rattle.apl_arrays.specs.declared.array.Items.{Items}
 use Rattle.apl_arrays.specs.declared.array.Items.TheVariants.{Numbers, Chars}
 use Rattle.apl_arrays.specs.declared.array.Item.{Item}
 use Rattle.apl_arrays.specs.declared.array.Item.TheVariants.{Number, Char}
-use Rattle.apl_arrays.specs.declared.array.TheConstants.{RANK_LIMIT, ELEMENT_LIMIT}
+use Rattle.apl_arrays.specs.Limits.{most_axes, most_elements}
 
 -- the items of an array without the room of their list: numbers or characters
 pub data PlainItems : Type 0 where
@@ -53,9 +53,9 @@ element_count shape = fold ◌*◌ 1 shape
 
 -- a shape within the limits: eight axes at the most, and no axis and no product over 16,384
 pub record FitsLimits (shape : List ℕ) : Type 0 where
-  pub rank : length shape ≤ RANK_LIMIT
-  pub axes : All (λ axis. axis ≤ ELEMENT_LIMIT) shape
-  pub elements : element_count shape ≤ ELEMENT_LIMIT
+  pub rank : length shape ≤ most_axes
+  pub axes : All (λ axis. axis ≤ most_elements) shape
+  pub elements : element_count shape ≤ most_elements
 
 -- a shape within the limits, and as many items as it asks for
 pub record IsArray (array : PlainArray) : Type 0 where

@@ -1,9 +1,15 @@
 pub mod Array
+pub mod Ascending
 pub mod File
 pub mod FileList
 pub mod Glyph
+pub mod Limits
 pub mod List
 pub mod Name
 pub mod Padded
+pub mod Parties
 pub mod Report
+pub mod Run
+pub mod Shape
 pub mod Text
+pub mod Word

@@ -1,4 +1,7 @@
-ghost use Rattle.std.specs.Prelude.{◌≡◌, ◌≢◌, ◌+◌, ◌<◌, ◌≤◌, ◌↔◌, min, IsTrue, IfOk, OnOk, All, length};
+ghost use Rattle.std.specs.Prelude.{◌≡◌, ◌≢◌, ◌+◌, ◌<◌, ◌≤◌, ◌↔◌, ℕ, List as ListOf, Some, None, min, IsTrue, IfOk, OnOk, All, length};
+ghost use Rattle.std.specs.List.{list_all};
+ghost use Rattle.apl_arrays.specs.Limits.{most_axes, most_elements};
+ghost use Rattle.apl_arrays.specs.Shape.{is_small, shape_fault};
 ghost use Rattle.apl_arrays.specs.Array.{plain_items, item_count, element_count, is_chars, scalar, FitsLimits, IsArray, IsItemOf};
 
 use crate::{Glyph, Line, List, NumberList, WantOfMemory};
@@ -25,6 +28,15 @@ pub enum Items {
 pub enum Item {
     Number(i64),
     Char(Glyph),
+}
+
+/// Why an array of a shape would pass the limits.
+#[derive(Clone, Copy, Debug, PartialEq, Eq, Hash)]
+pub enum ShapeFault {
+    /// Over eight axes.
+    Rank,
+    /// No more axes, but one of them or the product of all is over 16,384.
+    Size,
 }
 
 /// Why shape and items make no array.
@@ -69,6 +81,7 @@ impl Model for Array {
 
 impl PartialEq for Items {
     ghost use Rattle.std.specs.Ordering.{on};
+    ghost use Rattle.apl_arrays.specs.Shape.{is_small, shape_fault};
     ghost use Rattle.apl_arrays.specs.Array.{plain_items, same_items};
     ghost use Rattle.std.specs.Cmp.Rules.{comparing};
     ghost use Rattle.std.proofs.Common.{rules};
@@ -123,16 +136,17 @@ impl Items {
 }
 
 impl Array {
-    /// The array of a shape and as many items. ISO 8485, with this profile's limits: `TooLarge` where there are over
+    /// The array of a shape and as many items. ISO 8485, with limits: `TooLarge` where there are over
     /// eight axes, or an axis or the product of all is over 16,384, else `BadShape` where the product is not the
     /// number of items. No memory.
+    #[tactic(auto, using(crate::proofs::Shapes::no_fault_fits, crate::proofs::Shapes::what_fits_has_no_fault, crate::proofs::Shapes::size_is_too_large, crate::proofs::Shapes::too_large_by_size))]
     pub fn try_new(shape: &[u32], items: Items) -> Result<Array, ArrayRefused>
         ensures array { IfOk result (λ array. array ≡ record { shape = shape.now; items = plain_items items }) }
         ensures too_large { (result ≡ Err ArrayRefused.TooLarge) ↔ ¬ FitsLimits shape.now }
         ensures bad_shape { (result ≡ Err ArrayRefused.BadShape)
             ↔ (FitsLimits shape.now × (element_count shape.now ≢ item_count (plain_items items))) }
     {
-        if !fits_limits(shape) {
+        if shape_fault(shape).is_some() {
             discard(items);
             return Err(ArrayRefused::TooLarge);
         }
@@ -244,9 +258,15 @@ impl Eq for Array {
 
 fn discard(_items: Items) {}
 
+fn has_small_axes(shape: &[u32]) -> bool
+    ensures { result ≡ list_all is_small shape.now }
+{
+    shape.iter().all(|axis| *axis as usize <= ELEMENT_LIMIT)
+}
+
 /// The number of elements, or one more than the limit where it is greater.
 fn capped_count(shape: &[u32]) -> usize
-    ensures { result ≡ min (element_count shape.now) (ELEMENT_LIMIT + 1) }
+    ensures { result ≡ min (element_count shape.now) (most_elements + 1) }
 {
     let mut count = 1;
     for axis in shape {
@@ -255,10 +275,33 @@ fn capped_count(shape: &[u32]) -> usize
     count
 }
 
-fn fits_limits(shape: &[u32]) -> bool
-    ensures { IsTrue result ↔ FitsLimits shape.now }
+/// Why an array of this shape would pass the limits, if it would: `Rank` where there are over eight axes, else `Size`
+/// where an axis or the product of all is over 16,384. ISO 8485, with limits. No memory.
+pub fn shape_fault(shape: &[u32]) -> Option<ShapeFault>
+    ensures { result ≡ shape_fault shape.now }
 {
-    shape.len() <= RANK_LIMIT
-        && shape.iter().all(|axis| *axis as usize <= ELEMENT_LIMIT)
-        && capped_count(shape) <= ELEMENT_LIMIT
+    if shape.len() > RANK_LIMIT {
+        Some(ShapeFault::Rank)
+    } else if has_small_axes(shape) && capped_count(shape) <= ELEMENT_LIMIT {
+        None
+    } else {
+        Some(ShapeFault::Size)
+    }
 }
+
+/// How many elements an array of this shape has. ISO 8485. No memory.
+pub fn count_of_elements(shape: &[u32]) -> usize
+    requires { FitsLimits shape.now }
+    ensures { result ≡ element_count shape.now }
+{
+    capped_count(shape)
+}
+
+/// A shape is faulty exactly where it passes the limits: by `Rank` where it has over eight axes, else by `Size`. The
+/// call does nothing. No memory.
+#[tactic(auto, using(crate::proofs::Shapes::no_fault_fits, crate::proofs::Shapes::what_fits_has_no_fault, crate::proofs::Shapes::size_is_too_large, crate::proofs::Shapes::too_large_by_size))]
+pub fn faulty_shapes_pass_the_limits()
+    ensures none { (shape : ListOf ℕ) → (shape_fault shape ≡ None) ↔ FitsLimits shape }
+    ensures rank { (shape : ListOf ℕ) → (shape_fault shape ≡ Some ShapeFault.Rank) ↔ (most_axes < length shape) }
+    ensures size { (shape : ListOf ℕ) → (shape_fault shape ≡ Some ShapeFault.Size) ↔ ((length shape ≤ most_axes) × ¬ FitsLimits shape) }
+{}

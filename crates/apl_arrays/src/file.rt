@@ -1,16 +1,20 @@
 ghost use Rattle.std.specs.Prelude.{◌≡◌, ◌<◌, ◌≤◌, ◌∷◌, [], ◌++◌, ◌↔◌, IsTrue, IsOk, IsSome, IfSome, OnOk, OnErr, length, map};
 ghost use Rattle.std.specs.List.{list_all};
+ghost use Rattle.apl_arrays.specs.Limits.{most_file_name_bytes};
 ghost use Rattle.apl_arrays.specs.File.{is_file_byte, is_file_name, IsFileName};
 
 use std::cmp::Ordering;
 use std::hash::{Hash, Hasher};
 use std::marker::Model;
 
+/// The most bytes of a file's name.
+pub const FILE_NAME_LIMIT: usize = 32;
+
 /// The name of a text file: 1 to 32 of `A` to `Z`, `a` to `z`, `0` to `9`, `_`, `.` and `-`, the first no dot. It
 /// is seen as its text.
 #[derive(Debug, Clone, Copy)]
 pub struct FileName {
-    bytes: [u8; 32],
+    bytes: [u8; FILE_NAME_LIMIT],
     len: u8,
 }
 
@@ -31,7 +35,7 @@ impl Model for FileName {
 }
 
 impl FileName {
-    /// The name that the text is, or `None` where it is no file name. No memory. This profile.
+    /// The name that the text is, or `None` where it is no file name. No memory.
     pub fn of(text: &str) -> Option<FileName>
         ensures known { IsSome result ↔ IsFileName text.now }
         ensures value { IfSome result (λ name. name ≡ text.now) }
@@ -46,7 +50,7 @@ impl FileName {
         if !is_file_name(text) {
             return None;
         }
-        let mut bytes = [0; 32];
+        let mut bytes = [0; FILE_NAME_LIMIT];
         bytes[..text.len()].copy_from_slice(text);
         Some(FileName {
             bytes,
@@ -54,7 +58,7 @@ impl FileName {
         })
     }
 
-    /// The bytes of its text. No memory. This profile.
+    /// The bytes of its text. No memory.
     pub fn as_bytes(&self) -> &[u8]
         ensures value { result.now ≡ self.now }
         ensures name { IsFileName self.now }
@@ -77,11 +81,13 @@ fn are_file_bytes(text: &[u8]) -> bool
 
 fn is_file_name(text: &[u8]) -> bool
     ensures value { result ≡ is_file_name text.now }
-    ensures short { IsTrue result → length text.now ≤ 32 }
+    ensures short { IsTrue result → length text.now ≤ most_file_name_bytes }
 {
     match text.split_first() {
         None => false,
-        Some((first, rest)) => *first != b'.' && rest.len() <= 31 && are_file_bytes(text),
+        Some((first, rest)) => *first != b'.'
+            && rest.len() < FILE_NAME_LIMIT
+            && are_file_bytes(text),
     }
 }
 

@@ -31,7 +31,7 @@ impl Model for FileList {
 }
 
 impl FileList {
-    /// No files. It takes no memory. This profile.
+    /// No files. No memory.
     pub fn new(alloc: Global) -> Self
         ensures { result.items ≡ [] }
     {
@@ -40,7 +40,7 @@ impl FileList {
         }
     }
 
-    /// The files, their names ascending. It takes no memory. This profile.
+    /// The files, their names ascending. No memory.
     pub fn as_slice(&self) -> &[File]
         ensures value { map plain_file result.now ≡ self.now.items }
         ensures ascending { IsAscending self.now.items }
@@ -48,7 +48,7 @@ impl FileList {
         self.files.as_slice()
     }
 
-    /// The files as a `Vec`. It takes no memory. This profile.
+    /// The files as a `Vec`. No memory.
     pub fn into_vec(self) -> Vec<File>
         ensures value { map plain_file result.items ≡ self.items }
         ensures ascending { IsAscending self.items }
@@ -56,8 +56,7 @@ impl FileList {
         self.files.into_vec()
     }
 
-    /// Makes room for at least so many pushes, and takes memory for it. `WantOfMemory` leaves the list as it was. This
-    /// profile.
+    /// Makes room for at least so many pushes, and takes memory for it. `WantOfMemory` leaves the list as it was.
     pub fn reserve(&mut self, room: usize) -> Result<(), WantOfMemory>
         ensures items { self.new.items ≡ self.old.items }
         ensures room { OnOk result (room ≤ self.new.room) }
@@ -69,7 +68,7 @@ impl FileList {
     }
 
     /// Adds a file at the end, whose name has to come after the others. Where there is room it is granted and takes no
-    /// memory, else it takes memory for more. `WantOfMemory` leaves the list as it was. This profile.
+    /// memory, else it takes memory for more. `WantOfMemory` leaves the list as it was.
     pub fn push(&mut self, file: File) -> Result<(), WantOfMemory>
         requires { IsAscending (self.old.items ++ plain_file file ∷ []) }
         ensures ok { OnOk result (self.new.items ≡ self.old.items ++ plain_file file ∷ []) }

@@ -5,27 +5,34 @@ mod array;
 mod file;
 mod file_list;
 mod glyph;
+mod laws;
 mod line_list;
 mod list;
 mod memory;
 mod name;
 mod report;
 mod text;
+mod threads;
 mod verb;
+mod word;
 
-pub use array::{Array, ArrayRefused, ELEMENT_LIMIT, Item, Items, RANK_LIMIT};
-pub use file::FileName;
+pub use array::{
+    Array, ArrayRefused, ELEMENT_LIMIT, Item, Items, RANK_LIMIT, ShapeFault, count_of_elements,
+    faulty_shapes_pass_the_limits, shape_fault,
+};
+pub use file::{FILE_NAME_LIMIT, FileName};
 pub use file_list::{File, FileList};
 pub use glyph::Glyph;
+pub use laws::{named_glyphs, numbers_are_as_defined};
 pub use line_list::LineList;
 pub use list::{Bytes, Line, List, NameList, NumberList, PartyList, Readings};
 pub use memory::WantOfMemory;
-pub use name::Name;
+pub use name::{NAME_LIMIT, Name, longest_names_end};
 pub use report::{Fail, Report};
 pub use text::{GlyphRefused, glyphs_of, texts_are_read_in_one_way, utf8_of};
+pub use threads::{lists_may_cross_threads, values_may_cross_threads};
 pub use verb::{Dyad, Mix1, Mix2, Monad, Verb, Way};
+pub use word::{blank_count, next_word, words_stand_between_blanks};
 
-#[cfg(test)]
-mod list_tests;
 #[cfg(test)]
 mod tests;

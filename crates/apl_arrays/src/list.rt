@@ -1,9 +1,10 @@
-ghost use Rattle.std.specs.Prelude.{◌≡◌, ◌+◌, ◌-◌, ◌<◌, ◌≤◌, [], ◌∷◌, ◌++◌, IfOk, OnOk, OnErr, IsOk, vec_len, vec_capacity};
+ghost use Rattle.std.specs.Prelude.{◌≡◌, ◌+◌, ◌-◌, ◌<◌, ◌≤◌, [], ◌∷◌, ◌++◌, Some, IfOk, OnOk, OnErr, IsOk, length, insert, remove, slice_get, slice_set, vec_len, vec_capacity};
 ghost use Rattle.apl_arrays.specs.List.{Listed};
 
 use crate::{Glyph, Name, WantOfMemory};
 use std::alloc::Global;
 use std::marker::Model;
+use std::mem;
 
 /// A list that grows, seen as its items and the room that is left: the number of pushes that ask for no memory.
 #[derive(Debug, Drop)]
@@ -18,7 +19,7 @@ impl<T> Model for List<T> {
 }
 
 impl<T> List<T> {
-    /// An empty list. It takes no memory. This profile.
+    /// An empty list. No memory.
     pub fn new(alloc: Global) -> Self
         ensures { result.items ≡ [] }
     {
@@ -27,21 +28,21 @@ impl<T> List<T> {
         }
     }
 
-    /// The items, in order. It takes no memory. This profile.
+    /// The items, in order. No memory.
     pub fn as_slice(&self) -> &[T]
         ensures { result.now ≡ self.now.items }
     {
         &self.items
     }
 
-    /// The items as a `Vec`. It takes no memory. This profile.
+    /// The items as a `Vec`. No memory.
     pub fn into_vec(self) -> Vec<T>
         ensures { result.items ≡ self.items }
     {
         self.items
     }
 
-    /// A list of the same items. It takes memory for them. This profile.
+    /// A list of the same items. It takes memory for them.
     pub fn copy(&self, alloc: Global) -> Result<Self, WantOfMemory>
     where
         T: Copy,
@@ -52,8 +53,7 @@ impl<T> List<T> {
         })
     }
 
-    /// Makes room for at least so many pushes, and takes memory for it. `WantOfMemory` leaves the list as it was. This
-    /// profile.
+    /// Makes room for at least so many pushes, and takes memory for it. `WantOfMemory` leaves the list as it was.
     pub fn reserve(&mut self, room: usize) -> Result<(), WantOfMemory>
         ensures items { self.new.items ≡ self.old.items }
         ensures room { OnOk result (room ≤ self.new.room) }
@@ -66,7 +66,7 @@ impl<T> List<T> {
     }
 
     /// Adds an item at the end. Where there is room it is granted and takes no memory, else it takes memory for more.
-    /// `WantOfMemory` leaves the list as it was. This profile.
+    /// `WantOfMemory` leaves the list as it was.
     pub fn push(&mut self, item: T) -> Result<(), WantOfMemory>
     where
         T: Drop,
@@ -84,13 +84,53 @@ impl<T> List<T> {
         Ok(())
     }
 
-    /// Adds an item at the end, where there is room. It takes no memory. This profile.
+    /// Adds an item at the end, where there is room. No memory.
     pub fn push_reserved(&mut self, item: T)
         requires { 0 < self.old.room }
         ensures items { self.new.items ≡ self.old.items ++ item ∷ [] }
         ensures room { self.new.room + 1 ≡ self.old.room }
     {
         self.items.push_reserved(item);
+    }
+
+    /// Puts an item in at a place from 0, before those that stand from there on. Where there is room it is granted and
+    /// takes no memory, else it takes memory for more. `WantOfMemory` leaves the list as it was.
+    pub fn insert(&mut self, at: usize, item: T) -> Result<(), WantOfMemory>
+    where
+        T: Drop,
+        requires { at ≤ length self.old.items }
+        ensures ok { OnOk result (self.new.items ≡ insert self.old.items at item) }
+        ensures err { OnErr result (self.new ≡ self.old) }
+        ensures granted { 0 < self.old.room → IsOk result }
+        ensures room { 0 < self.old.room → self.new.room + 1 ≡ self.old.room }
+    {
+        if self.items.len() == self.items.capacity() {
+            self.items.reserve(1)?;
+        }
+        match self.items.insert(at, item) {
+            Ok(()) => Ok(()),
+            Err(_) => unreachable!(),
+        }
+    }
+
+    /// Puts an item in place of another, and hands out that one. No memory.
+    pub fn replace(&mut self, at: usize, item: T) -> T
+        requires { at < length self.old.items }
+        ensures items { self.new.items ≡ slice_set self.old.items at item }
+        ensures room { self.new.room ≡ self.old.room }
+        ensures replaced { slice_get self.old.items at ≡ Some result }
+    {
+        mem::replace(&mut self.items[at], item)
+    }
+
+    /// Takes the item at a place out, and hands it out. No memory.
+    pub fn remove(&mut self, at: usize) -> T
+        requires { at < length self.old.items }
+        ensures items { self.new.items ≡ remove self.old.items at }
+        ensures room { self.new.room ≡ self.old.room + 1 }
+        ensures removed { slice_get self.old.items at ≡ Some result }
+    {
+        self.items.remove(at)
     }
 }
 

@@ -1,7 +1,7 @@
-ghost use Rattle.std.specs.Prelude.{◌≡◌, ◌≤◌, IsTrue, IsSome, IfSome, ◌↔◌, length};
-ghost use Rattle.std.specs.List.{list_all};
-ghost use Rattle.apl_arrays.specs.Glyph.{is_letter, is_digit};
-ghost use Rattle.apl_arrays.specs.Name.{IsName, goes_on, is_name};
+ghost use Rattle.std.specs.Prelude.{◌≡◌, ◌≤◌, IsTrue, IsSome, IfSome, ◌↔◌, ℕ, List as ListOf, Some, drop, length};
+ghost use Rattle.std.specs.List.{list_all, prefix_len};
+ghost use Rattle.apl_arrays.specs.Limits.{most_name_glyphs};
+ghost use Rattle.apl_arrays.specs.Name.{IsName, IsLongestName, goes_on, is_name, longest_name};
 ghost use Rattle.apl_arrays.specs.Padded.{padded};
 
 use crate::Glyph;
@@ -9,15 +9,19 @@ use std::cmp::Ordering;
 use std::hash::{Hash, Hasher};
 use std::marker::Model;
 
+/// The most glyphs of a name.
+pub const NAME_LIMIT: usize = 32;
+
 /// A name: a letter or `∆`, and then letters, `∆`, digits and `_`, 32 glyphs at most. It is seen as its glyphs.
 #[derive(Debug, Clone, Copy)]
 pub struct Name {
-    glyphs: [Glyph; 32],
+    glyphs: [Glyph; NAME_LIMIT],
     len: u8,
 }
 
 impl Model for Name {
     ghost use Rattle.std.specs.Prelude.{ℕ, List, length, take};
+    ghost use Rattle.apl_arrays.specs.Limits.{most_name_glyphs};
     ghost use Rattle.apl_arrays.specs.Name.{IsName};
     ghost use Rattle.apl_arrays.specs.Padded.{IsPadded, padded, counted_length, padded_again, same_parts};
 
@@ -33,7 +37,7 @@ impl Model for Name {
 }
 
 impl Name {
-    /// The name of these glyphs, or `None` where they are no name. No memory. This profile.
+    /// The name of these glyphs, or `None` where they are no name. No memory.
     pub fn of(glyphs: &[Glyph]) -> Option<Name>
         ensures known { IsSome result ↔ IsName glyphs.now }
         ensures value { IfSome result (λ name. name ≡ glyphs.now) }
@@ -41,7 +45,7 @@ impl Name {
         if !is_name(glyphs) {
             return None;
         }
-        let mut places = [Glyph::BLANK; 32];
+        let mut places = [Glyph::BLANK; NAME_LIMIT];
         places[..glyphs.len()].copy_from_slice(glyphs);
         Some(Name {
             glyphs: places,
@@ -49,7 +53,27 @@ impl Name {
         })
     }
 
-    /// Its glyphs. No memory. This profile.
+    /// How many glyphs at the front go on as a name does. No memory.
+    #[tactic(auto, using(crate::proofs::Runs::run_fits))]
+    pub fn run_length(line: &[Glyph]) -> usize
+        ensures value { result ≡ prefix_len goes_on line.now }
+        ensures within { result ≤ length line.now }
+    {
+        line.iter().take_while(|glyph| glyph.goes_on()).count()
+    }
+
+    /// The longest name at the front, and how many glyphs it has: all that go on as a name does. `None` where they are
+    /// no name: there are none or over 32, or the first is no letter. No memory.
+    pub fn longest(line: &[Glyph]) -> Option<(Name, usize)>
+        ensures value { result ≡ longest_name line.now }
+        ensures within { IfSome result (λ found. found.1 ≤ length line.now) }
+    {
+        let length = Name::run_length(line);
+        let name = Name::of(&line[..length])?;
+        Some((name, length))
+    }
+
+    /// Its glyphs. No memory.
     pub fn glyphs(&self) -> &[Glyph]
         ensures value { result.now ≡ self.now }
         ensures name { IsName self.now }
@@ -129,30 +153,25 @@ impl Hash for Name {
     }
 }
 
-fn is_letter(glyph: Glyph) -> bool
-    ensures { result ≡ is_letter glyph }
-{
-    matches!(glyph.code(), 65..=90 | 97..=122 | 154)
-}
-
-fn goes_on(glyph: Glyph) -> bool
-    ensures { result ≡ goes_on glyph }
-{
-    is_letter(glyph) || matches!(glyph.code(), 48..=57 | 95)
-}
-
 fn all_go_on(glyphs: &[Glyph]) -> bool
     ensures { result ≡ list_all goes_on glyphs.now }
 {
-    glyphs.iter().all(|glyph| goes_on(*glyph))
+    glyphs.iter().all(|glyph| glyph.goes_on())
 }
 
 fn is_name(glyphs: &[Glyph]) -> bool
     ensures value { result ≡ is_name glyphs.now }
-    ensures short { IsTrue result → length glyphs.now ≤ 32 }
+    ensures short { IsTrue result → length glyphs.now ≤ most_name_glyphs }
 {
     match glyphs.split_first() {
         None => false,
-        Some((first, rest)) => is_letter(*first) && rest.len() <= 31 && all_go_on(rest),
+        Some((first, rest)) => first.is_letter() && rest.len() < NAME_LIMIT && all_go_on(rest),
     }
 }
+
+/// The longest name of a line is the name at its front behind which nothing goes on as a name does. The call does
+/// nothing. No memory.
+pub fn longest_names_end()
+    ensures found { (line name rest : ListOf ℕ) → IsLongestName line name rest → longest_name line ≡ Some (name, length name) }
+    ensures ends { (line name : ListOf ℕ) (count : ℕ) → longest_name line ≡ Some (name, count) → (count ≡ length name) × IsLongestName line name (drop count line) }
+{}

@@ -1,7 +1,19 @@
+//! What allocates, once each where memory is had, and the texts of refusals. Tables of names, shapes and glyphs are run
+//! by a program above.
+
 use super::*;
 use std::alloc::Global;
-use std::cmp::Ordering;
 use std::process::Abort;
+
+// Lines of no glyph, of one and of two.
+fn three_lines(alloc: Global) -> Result<LineList, WantOfMemory> {
+    let mut lines = LineList::new(alloc);
+    lines.reserve(1)?;
+    lines.push(Line::new(alloc))?;
+    lines.push(line_of(alloc, "A")?)?;
+    lines.push(line_of(alloc, "AB")?)?;
+    Ok(lines)
+}
 
 fn line_of(alloc: Global, text: &str) -> Result<Line, WantOfMemory> {
     match glyphs_of(alloc, text.as_bytes()) {
@@ -10,359 +22,114 @@ fn line_of(alloc: Global, text: &str) -> Result<Line, WantOfMemory> {
     }
 }
 
-// So many items: 0, 1, 2 and on, or A, B, C and on to Z, and again from A.
-fn items_of(alloc: Global, count: u32, chars: bool) -> Result<Items, WantOfMemory> {
-    if chars {
-        let mut line = Line::new(alloc);
-        for place in 0..count {
-            let glyph = Glyph::of_code((65 + place % 26) as u8);
-            line.push(glyph.unwrap_or(Glyph::BLANK))?;
-        }
-        return Ok(Items::Chars(line));
-    }
-    let mut numbers = NumberList::new(alloc);
-    for place in 0..count {
-        numbers.push(i64::from(place))?;
-    }
-    Ok(Items::Numbers(numbers))
-}
-
-// A shape, how many items, and why they make no array, if they do not.
-const SHAPES: [(&[u32], u32, Option<ArrayRefused>); 24] = [
-    (&[2, 3], 6, None),
-    (&[2, 3], 5, Some(ArrayRefused::BadShape)),
-    (&[2, 3], 7, Some(ArrayRefused::BadShape)),
-    (&[2, 3], 0, Some(ArrayRefused::BadShape)),
-    (&[], 1, None),
-    (&[], 0, Some(ArrayRefused::BadShape)),
-    (&[], 2, Some(ArrayRefused::BadShape)),
-    (&[0], 0, None),
-    (&[0], 1, Some(ArrayRefused::BadShape)),
-    (&[16_384], 16_384, None),
-    (&[128, 128], 16_384, None),
-    (&[16_384], 16_383, Some(ArrayRefused::BadShape)),
-    (&[16_385], 16_385, Some(ArrayRefused::TooLarge)),
-    (&[16_385], 0, Some(ArrayRefused::TooLarge)),
-    (&[0, 16_385], 0, Some(ArrayRefused::TooLarge)),
-    (&[129, 128], 16_512, Some(ArrayRefused::TooLarge)),
-    (&[200, 200, 0], 0, None),
-    (&[0, 200, 200], 0, None),
-    (&[200, 200], 0, Some(ArrayRefused::TooLarge)),
-    (&[u32::MAX], 0, Some(ArrayRefused::TooLarge)),
-    (
-        &[
-            16_384, 16_384, 16_384, 16_384, 16_384, 16_384, 16_384, 16_384,
-        ],
-        0,
-        Some(ArrayRefused::TooLarge),
-    ),
-    (&[1, 1, 1, 1, 1, 1, 1, 1], 1, None),
-    (
-        &[1, 1, 1, 1, 1, 1, 1, 1, 1],
-        1,
-        Some(ArrayRefused::TooLarge),
-    ),
-    (
-        &[1, 1, 1, 1, 1, 1, 1, 1, 0],
-        0,
-        Some(ArrayRefused::TooLarge),
-    ),
-];
-
-fn makes_arrays(rt: &impl Abort, alloc: Global) -> Result<(), WantOfMemory> {
-    for (shape, count, refused) in SHAPES {
-        for chars in [false, true] {
-            let items = items_of(alloc, count, chars)?;
-            assert_eq!(rt; items.len(), count as usize);
-            assert_eq!(rt; items.is_empty(), count == 0);
-            match (Array::try_new(shape, items), refused) {
-                (Ok(array), None) => {
-                    assert_eq!(rt; array.shape(), shape);
-                    assert_eq!(rt; array.is_chars(), chars, "at {shape:?}");
-                    let want = items_of(alloc, count, chars)?;
-                    assert!(rt; array.items() == &want, "at {shape:?}");
-                }
-                (Err(why), Some(want)) => assert_eq!(rt; why, want, "at {shape:?}"),
-                _ => assert!(rt; false, "another answer at {shape:?}"),
-            }
-        }
-    }
+fn lists_are_edited(rt: &impl Abort, alloc: Global) -> Result<(), WantOfMemory> {
+    let mut list = NumberList::new(alloc);
+    list.reserve(2)?;
+    list.push_reserved(5);
+    list.push(i64::MIN)?;
+    list.push(8)?;
+    assert_eq!(rt; list.as_slice(), [5, i64::MIN, 8].as_slice());
+    list.insert(1, 6)?;
+    assert!(rt; list.as_slice().len() == 4);
+    assert_eq!(rt; list.replace(2, 7), i64::MIN);
+    assert_eq!(rt; list.remove(0), 5);
+    assert_eq!(rt; list.as_slice(), [6, 7, 8].as_slice());
+    let copy = list.copy(alloc)?;
+    assert!(rt; List::from(list.into_vec()) == copy);
     Ok(())
 }
 
-// The array of a shape and so many items, which it asks for.
-fn array_of(
-    rt: &impl Abort,
-    alloc: Global,
-    shape: &[u32],
-    count: u32,
-    chars: bool,
-) -> Result<Array, WantOfMemory> {
-    let items = items_of(alloc, count, chars)?;
-    match Array::try_new(shape, items) {
-        Ok(array) => Ok(array),
-        Err(why) => panic!(rt; "{why:?} at {shape:?}"),
+// Whether the lines are these.
+fn are(alloc: Global, lines: &LineList, texts: &[&str]) -> Result<bool, WantOfMemory> {
+    for (line, text) in lines.as_slice().iter().zip(texts) {
+        if *line != line_of(alloc, text)? {
+            return Ok(false);
+        }
     }
+    Ok(lines.as_slice().len() == texts.len())
 }
 
-// Two rows of three items.
-fn two_rows(rt: &impl Abort, alloc: Global, chars: bool) -> Result<Array, WantOfMemory> {
-    let items = items_of(alloc, 6, chars)?;
-    assert!(rt; items.len() == 6);
-    let array = Array::shaped(&[2, 3], items);
-    assert!(rt; array == array_of(rt, alloc, &[2, 3], 6, chars)?);
-    Ok(array)
-}
-
-fn gives_items(rt: &impl Abort, alloc: Global) -> Result<(), WantOfMemory> {
-    let numbers = two_rows(rt, alloc, false)?;
-    let chars = two_rows(rt, alloc, true)?;
-    for at in 0..6usize {
-        assert!(rt; at < numbers.items().len());
-        assert_eq!(rt; numbers.item(at), Item::Number(at as i64));
-        assert!(rt; at < chars.items().len());
-        let glyph = Glyph::of_code(65 + at as u8).unwrap_or(Glyph::BLANK);
-        assert_eq!(rt; chars.item(at), Item::Char(glyph));
-    }
+fn lines_are_edited(rt: &impl Abort, alloc: Global) -> Result<(), WantOfMemory> {
+    let mut lines = three_lines(alloc)?;
+    assert!(rt; are(alloc, &lines, &["", "A", "AB"])?);
+    assert!(rt; lines.as_slice().len() == 3);
+    lines.insert(3, line_of(alloc, "ABC")?)?;
+    lines.insert(0, line_of(alloc, "Z")?)?;
+    assert!(rt; are(alloc, &lines, &["Z", "", "A", "AB", "ABC"])?);
     Ok(())
 }
 
-// Shapes, numbers of items and whether these are characters, of arrays none of which is another.
-const ARRAYS: [(&[u32], u32, bool); 9] = [
-    (&[], 1, false),
-    (&[], 1, true),
-    (&[1], 1, false),
-    (&[2, 3], 6, false),
-    (&[3, 2], 6, false),
-    (&[2, 3], 6, true),
-    (&[0], 0, false),
-    (&[0], 0, true),
-    (&[0, 3], 0, false),
-];
-
-fn compares_arrays(rt: &impl Abort, alloc: Global) -> Result<(), WantOfMemory> {
-    for (place, (shape, count, chars)) in ARRAYS.iter().enumerate() {
-        let array = array_of(rt, alloc, *shape, *count, *chars)?;
-        let copy = array.copy(alloc)?;
-        assert_eq!(rt; copy, array);
-        assert_eq!(rt; copy.shape(), *shape);
-        assert_eq!(rt; array.items().copy(alloc)?, *array.items());
-        for (at, (shape, count, chars)) in ARRAYS.iter().enumerate() {
-            let other = array_of(rt, alloc, *shape, *count, *chars)?;
-            assert_eq!(rt; other == copy, at == place, "{at} and {place}");
-        }
-    }
+fn lines_are_taken_out(rt: &impl Abort, alloc: Global) -> Result<(), WantOfMemory> {
+    let mut lines = three_lines(alloc)?;
+    assert!(rt; lines.as_slice().len() == 3);
+    assert!(rt; lines.replace(1, line_of(alloc, "X")?) == line_of(alloc, "A")?);
+    assert!(rt; lines.as_slice().len() == 3);
+    assert!(rt; lines.remove(0).as_slice().is_empty());
+    assert!(rt; are(alloc, &lines, &["X", "AB"])?);
+    let copy = LineList::from(lines.copy(alloc)?.into_vec());
+    assert!(rt; are(alloc, &copy, &["X", "AB"])?);
     Ok(())
 }
 
-fn makes_scalars(rt: &impl Abort, alloc: Global) -> Result<(), WantOfMemory> {
-    for number in [3, 0, -1, i64::MAX, i64::MIN] {
-        let scalar = Array::scalar(alloc, number)?;
-        assert_eq!(rt; scalar.shape(), [].as_slice());
-        assert_eq!(rt; scalar.items().len(), 1);
-        assert_eq!(rt; scalar.item(0), Item::Number(number));
-        assert!(rt; !scalar.is_chars());
-        assert_eq!(rt; scalar.copy(alloc)?, scalar);
-        assert_eq!(rt; scalar == Array::scalar(alloc, 3)?, number == 3);
-    }
+fn files_are_listed(rt: &impl Abort, alloc: Global) -> Result<(), WantOfMemory> {
+    let mut files = FileList::new(alloc);
+    files.reserve(1)?;
+    let name = FileName::of("a.txt").expect(rt, "a name");
+    let bytes = Bytes::from(Vec::from_slice(alloc, b"hello")?);
+    files.push(File { name, bytes })?;
+    let all = files.into_vec();
+    assert!(rt; all.len() == 1);
+    assert_eq!(rt; all[0].name.as_bytes(), b"a.txt".as_slice());
+    assert_eq!(rt; all[0].bytes.as_slice(), b"hello".as_slice());
     Ok(())
 }
 
-// Glyphs, and whether they are a name.
-const NAMES: [(&str, bool); 27] = [
-    ("ABCDEFGHIJKLMNOPQRSTUVWXYZabcdef", true),
-    ("ABCDEFGHIJKLMNOPQRSTUVWXYZabcdefg", false),
-    ("A_______________________________", true),
-    ("A________________________________", false),
-    ("", false),
-    ("_", false),
-    ("_A", false),
-    ("0", false),
-    ("9A", false),
-    ("A", true),
-    ("Z", true),
-    ("a", true),
-    ("z", true),
-    ("∆", true),
-    ("A1", true),
-    ("A09", true),
-    ("a_b", true),
-    ("∆X", true),
-    ("X∆", true),
-    ("@", false),
-    ("[", false),
-    ("`", false),
-    ("{", false),
-    ("A B", false),
-    ("A.", false),
-    ("A⎕", false),
-    ("∇A", false),
-];
-
-fn takes_names(rt: &impl Abort, alloc: Global) -> Result<(), WantOfMemory> {
-    for (text, taken) in NAMES {
-        let line = line_of(alloc, text)?;
-        match Name::of(line.as_slice()) {
-            Some(name) => {
-                assert!(rt; taken, "took {text}");
-                assert_eq!(rt; name.glyphs(), line.as_slice());
-            }
-            None => assert!(rt; !taken, "refused {text}"),
-        }
-    }
+fn arrays_are_copied(rt: &impl Abort, alloc: Global) -> Result<(), WantOfMemory> {
+    let scalar = Array::scalar(alloc, -3)?;
+    assert_eq!(rt; scalar.copy(alloc)?, scalar);
+    let items = Items::Chars(line_of(alloc, "∆←")?);
+    assert!(rt; items.len() == 2);
+    let chars = Array::shaped(&[2], items);
+    assert_eq!(rt; chars.copy(alloc)?, chars);
+    let Items::Chars(line) = chars.items() else {
+        panic!(rt; "not characters");
+    };
+    let bytes = utf8_of(alloc, line)?;
+    assert_eq!(rt; bytes.as_slice(), "∆←".as_bytes());
     Ok(())
 }
 
-fn name_of(rt: &impl Abort, alloc: Global, text: &str) -> Result<Name, WantOfMemory> {
-    let line = line_of(alloc, text)?;
-    Ok(Name::of(line.as_slice()).expect(rt, "a name"))
-}
-
-fn orders_names(rt: &impl Abort, alloc: Global) -> Result<(), WantOfMemory> {
-    let ascending = ["A", "A0", "AA", "A_", "Aa", "B", "a", "∆"];
-    for (place, text) in ascending.iter().enumerate() {
-        let name = name_of(rt, alloc, *text)?;
-        for (at, text) in ascending.iter().enumerate() {
-            let other = name_of(rt, alloc, *text)?;
-            assert_eq!(rt; name.cmp(&other), place.cmp(&at), "{place} and {at}");
-            assert_eq!(rt; name == other, place == at, "{place} and {at}");
-        }
-    }
+fn refusals_are_named(rt: &impl Abort, alloc: Global) -> Result<(), WantOfMemory> {
+    let syntax = Fail::from(Report::Syntax).to_string(alloc)?;
+    assert_eq!(rt; syntax.as_str(), "SYNTAX ERROR");
+    let wanting = Fail::from(WantOfMemory).to_string(alloc)?;
+    assert_eq!(rt; wanting.as_str(), "out of memory");
+    let memory = WantOfMemory.to_string(alloc)?;
+    assert_eq!(rt; memory.as_str(), "out of memory");
+    let large = ArrayRefused::TooLarge.to_string(alloc)?;
+    assert_eq!(rt; large.as_str(), "array too large");
+    let shape = ArrayRefused::BadShape.to_string(alloc)?;
+    assert_eq!(rt; shape.as_str(), "shape and items differ");
+    let bad = GlyphRefused::BadGlyph(3).to_string(alloc)?;
+    assert_eq!(rt; bad.as_str(), "no glyph at byte 3");
+    let unread = GlyphRefused::from(WantOfMemory).to_string(alloc)?;
+    assert_eq!(rt; unread.as_str(), "out of memory");
     Ok(())
 }
 
-// Texts, and whether they are the name of a file.
-const FILES: [(&str, bool); 27] = [
-    ("ABCDEFGHIJKLMNOPQRSTUVWXYZ.a-_09", true),
-    ("ABCDEFGHIJKLMNOPQRSTUVWXYZ.a-_09z", false),
-    ("--------------------------------", true),
-    ("---------------------------------", false),
-    ("", false),
-    (".", false),
-    ("..", false),
-    (".a", false),
-    ("a.", true),
-    ("a..b", true),
-    ("-", true),
-    ("_", true),
-    ("0", true),
-    ("9.apl", true),
-    ("Z", true),
-    ("z", true),
-    ("a/b", false),
-    ("/", false),
-    ("a b", false),
-    ("a:", false),
-    ("a,b", false),
-    ("@", false),
-    ("[", false),
-    ("`", false),
-    ("{", false),
-    ("é", false),
-    ("a\n", false),
-];
-
-#[test]
-fn files_have_plain_names(rt: HostRuntime) {
-    for (text, taken) in FILES {
-        match FileName::of(text) {
-            Some(name) => {
-                assert!(rt; taken, "took {text}");
-                assert_eq!(rt; name.as_bytes(), text.as_bytes());
-            }
-            None => assert!(rt; !taken, "refused {text}"),
-        }
-    }
-    let capital = FileName::of("B").expect(&rt, "a name");
-    let longer = FileName::of("B.").expect(&rt, "a name");
-    let small = FileName::of("a").expect(&rt, "a name");
-    assert_eq!(rt; capital.cmp(&capital), Ordering::Equal);
-    assert_eq!(rt; capital.cmp(&longer), Ordering::Less);
-    assert_eq!(rt; small.cmp(&longer), Ordering::Greater);
-    assert!(rt; capital == capital && capital != longer);
-}
-
-#[test]
-fn reports_have_their_texts(rt: HostRuntime) {
-    for (report, text) in [
-        (Report::Character, "CHARACTER ERROR"),
-        (Report::Syntax, "SYNTAX ERROR"),
-        (Report::Value, "VALUE ERROR"),
-        (Report::Domain, "DOMAIN ERROR"),
-        (Report::Rank, "RANK ERROR"),
-        (Report::Length, "LENGTH ERROR"),
-        (Report::Index, "INDEX ERROR"),
-        (Report::Defn, "DEFN ERROR"),
-        (Report::WsFull, "WS FULL"),
-        (Report::Interrupt, "INTERRUPT"),
-        (Report::SvInterrupt, "SV INTERRUPT"),
-        (Report::SvFull, "SV FULL"),
-        (Report::SvLimit, "SV LIMIT"),
-    ] {
-        assert_eq!(rt; report.text(), text);
-    }
-}
-
-#[test]
-fn glyphs_have_codes_in_bounds(rt: HostRuntime) {
-    let mut count = 0u32;
-    for code in 0..=255u8 {
-        if let Some(glyph) = Glyph::of_code(code) {
-            assert_eq!(rt; glyph.code(), code);
-            count = count.wrapping_add(1);
-        }
-    }
-    assert_eq!(rt; count, 130);
-    for code in [0, 10, 31, 127, 163, 255] {
-        assert!(rt; Glyph::of_code(code).is_none(), "took {code}");
-    }
-    for code in [32, 126, 128, 162] {
-        assert!(rt; Glyph::of_code(code).is_some(), "refused {code}");
-    }
-    assert_eq!(rt; Glyph::BLANK.code(), 32);
-    assert_eq!(rt; Glyph::with_code(154).code(), 154);
+fn all_is_had(rt: &impl Abort, alloc: Global) -> Result<(), WantOfMemory> {
+    lists_are_edited(rt, alloc)?;
+    lines_are_edited(rt, alloc)?;
+    lines_are_taken_out(rt, alloc)?;
+    files_are_listed(rt, alloc)?;
+    arrays_are_copied(rt, alloc)?;
+    refusals_are_named(rt, alloc)
 }
 
 // Where an allocation was refused, the second attempt has all the memory.
-
 #[test]
-fn arrays_have_their_shapes(rt: HostRuntime) {
-    if makes_arrays(&rt, rt.alloc()).is_err() {
-        assert!(rt; makes_arrays(&rt, rt.alloc()).is_ok());
-    }
-}
-
-#[test]
-fn arrays_give_their_items(rt: HostRuntime) {
-    if gives_items(&rt, rt.alloc()).is_err() {
-        assert!(rt; gives_items(&rt, rt.alloc()).is_ok());
-    }
-}
-
-#[test]
-fn copies_are_equal_and_others_are_not(rt: HostRuntime) {
-    if compares_arrays(&rt, rt.alloc()).is_err() {
-        assert!(rt; compares_arrays(&rt, rt.alloc()).is_ok());
-    }
-}
-
-#[test]
-fn scalars_have_no_axes(rt: HostRuntime) {
-    if makes_scalars(&rt, rt.alloc()).is_err() {
-        assert!(rt; makes_scalars(&rt, rt.alloc()).is_ok());
-    }
-}
-
-#[test]
-fn names_begin_with_a_letter(rt: HostRuntime) {
-    if takes_names(&rt, rt.alloc()).is_err() {
-        assert!(rt; takes_names(&rt, rt.alloc()).is_ok());
-    }
-}
-
-#[test]
-fn names_ascend_by_code(rt: HostRuntime) {
-    if orders_names(&rt, rt.alloc()).is_err() {
-        assert!(rt; orders_names(&rt, rt.alloc()).is_ok());
+fn what_takes_memory_gives_what_it_says(rt: HostRuntime) {
+    if all_is_had(&rt, rt.alloc()).is_err() {
+        assert!(rt; all_is_had(&rt, rt.alloc()).is_ok());
     }
 }

@@ -124,7 +124,7 @@ fn glyph_at(bytes: &[u8]) -> Option<(Glyph, usize)>
 }
 
 /// The line that bytes spell in UTF-8, read in one pass. `BadGlyph` says where the first thing stands that is no
-/// glyph. It takes memory for the line. This profile.
+/// glyph. It takes memory for the line.
 #[tactic(auto, using(crate::proofs::Spelling::bad_here, crate::proofs::Spelling::one_more))]
 pub fn glyphs_of(alloc: Global, bytes: &[u8]) -> Result<Line, GlyphRefused>
     ensures line { IfOk result (λ line. Spells bytes.now line.items) }
@@ -160,7 +160,7 @@ fn char_of(glyph: Glyph) -> char
     char::from_u32(u32::from(SCALARS[usize::from(code) - 0x80])).unwrap()
 }
 
-/// A line in UTF-8. Read again it is this line. It takes memory for the bytes. This profile.
+/// A line in UTF-8. Read again it is this line. It takes memory for the bytes.
 pub fn utf8_of(alloc: Global, line: &Line) -> Result<Bytes, WantOfMemory>
     ensures text { IfOk result (λ bytes. bytes.items ≡ line_utf8 line.now.items) }
     ensures read_again { IfOk result (λ bytes. Spells bytes.items line.now.items) }
@@ -174,7 +174,7 @@ pub fn utf8_of(alloc: Global, line: &Line) -> Result<Bytes, WantOfMemory>
 
 /// What every text keeps: it spells at most one line, and then is bad nowhere; it is bad at one place at most; the
 /// texts of two lines join to that of the joined line; and no byte of a line is a control character. The call does
-/// nothing. This profile.
+/// nothing.
 pub fn texts_are_read_in_one_way()
     ensures one_line { (bytes line other : ListOf ℕ) → Spells bytes line → Spells bytes other → line ≡ other }
     ensures bad_nowhere { (bytes line : ListOf ℕ) (offset : ℕ) → Spells bytes line → IsBadFrom bytes offset → ⊥ }
@@ -182,114 +182,3 @@ pub fn texts_are_read_in_one_way()
     ensures joined { (line other : ListOf ℕ) → line_utf8 (line ++ other) ≡ line_utf8 line ++ line_utf8 other }
     ensures no_control { (line : ListOf ℕ) → All IsGlyph line → All (λ byte. 32 ≤ byte) (line_utf8 line) }
 {}
-
-#[cfg(test)]
-mod tests {
-    use super::*;
-    use std::alloc::AllocError;
-    use std::test::Fail;
-
-    // All 130 glyphs, in the order of their codes: 32 to 126, then 128 to 162.
-    const EVERY_GLYPH: &str =
-        " !\"#$%&'()*+,-./0123456789:;<=>?@ABCDEFGHIJKLMNOPQRSTUVWXYZ[\\]^_`abcdefghijklmnopqrstuvwxyz{|}~⍴⍳∊↑↓⍋⍒⌽⊖⍉⌈⌊×÷≤≥≠∧∨⍲⍱←→⎕¯∇∆∘⍝⊥⊤⌿⍀⍕⍎";
-
-    // Bytes, and where the first thing stands in them that is no glyph.
-    const BAD: [(&[u8], u64); 22] = [
-        (&[0x09], 0),
-        (&[0x41, 0x0A], 1),
-        (&[0xC3, 0x97, 0xC3, 0xB7, 0x0D], 4),
-        (&[0x7F], 0),
-        (&[0x41, 0x42, 0x7F, 0x43], 2),
-        (&[0x41, 0xC3, 0x28], 1),
-        (&[0xE2, 0x86, 0x90, 0xE2, 0x82, 0xAC], 3),
-        (&[0xE2, 0x8D, 0xB5], 0),
-        (&[0xC2, 0xA0], 0),
-        (&[0xF0, 0x9F, 0x98, 0x80], 0),
-        (&[0x41, 0xED, 0xA0, 0x80], 1),
-        (&[0xC0, 0xA0], 0),
-        (&[0x41, 0xC1, 0x81], 1),
-        (&[0xE0, 0x83, 0x97], 0),
-        (&[0x80], 0),
-        (&[0xFF], 0),
-        (&[0xC3], 0),
-        (&[0xC3, 0x97, 0xC3], 2),
-        (&[0xE2], 0),
-        (&[0xE2, 0x86], 0),
-        (&[0x2B, 0xE2, 0x8D], 1),
-        (&[0xE2, 0x86, 0x41], 0),
-    ];
-
-    // A call that memory failed is made again.
-    fn read(rt: &HostRuntime, bytes: &[u8]) -> Result<Line, GlyphRefused> {
-        match glyphs_of(rt.alloc(), bytes) {
-            Err(GlyphRefused::WantOfMemory) => glyphs_of(rt.alloc(), bytes),
-            outcome => outcome,
-        }
-    }
-
-    fn written(rt: &HostRuntime, line: &Line) -> Result<Bytes, WantOfMemory> {
-        match utf8_of(rt.alloc(), line) {
-            Err(WantOfMemory) => utf8_of(rt.alloc(), line),
-            outcome => outcome,
-        }
-    }
-
-    #[test]
-    fn reads_and_writes_an_arrow(rt: HostRuntime) -> Result<(), Fail> {
-        let line = read(&rt, &[0xE2, 0x86, 0x90])?;
-        assert_eq!(rt; line.as_slice().len(), 1);
-        assert_eq!(rt; line.as_slice()[0].code(), 149);
-        let bytes = written(&rt, &line)?;
-        assert_eq!(rt; bytes.as_slice(), [0xE2, 0x86, 0x90].as_slice());
-        Ok(())
-    }
-
-    #[test]
-    fn reads_and_writes_every_glyph(rt: HostRuntime) -> Result<(), Fail> {
-        let line = read(&rt, EVERY_GLYPH.as_bytes())?;
-        let glyphs = line.as_slice();
-        assert_eq!(rt; glyphs.len(), 130);
-        for (place, glyph) in glyphs.iter().enumerate() {
-            let code = if place < 95 { place + 32 } else { place + 33 };
-            assert_eq!(rt; usize::from(glyph.code()), code);
-        }
-        let bytes = written(&rt, &line)?;
-        assert_eq!(rt; bytes.as_slice(), EVERY_GLYPH.as_bytes());
-        Ok(())
-    }
-
-    #[test]
-    fn reads_and_writes_nothing(rt: HostRuntime) -> Result<(), Fail> {
-        let line = read(&rt, &[])?;
-        assert!(rt; line.as_slice().is_empty());
-        let bytes = written(&rt, &line)?;
-        assert!(rt; bytes.as_slice().is_empty());
-        Ok(())
-    }
-
-    #[test]
-    fn says_where_no_glyph_stands(rt: HostRuntime) {
-        for (bytes, offset) in BAD {
-            match read(&rt, bytes) {
-                Ok(_) => panic!(rt; "read {bytes:?}"),
-                Err(why) => assert_eq!(rt; why, GlyphRefused::BadGlyph(offset), "in {bytes:?}"),
-            }
-        }
-    }
-
-    fn shown(rt: &HostRuntime, why: GlyphRefused) -> Result<String, AllocError> {
-        match why.to_string(rt.alloc()) {
-            Err(_) => why.to_string(rt.alloc()),
-            outcome => outcome,
-        }
-    }
-
-    #[test]
-    fn names_the_reason(rt: HostRuntime) -> Result<(), Fail> {
-        let bad = shown(&rt, GlyphRefused::BadGlyph(3))?;
-        assert_eq!(rt; bad.as_str(), "no glyph at byte 3");
-        let wanting = shown(&rt, GlyphRefused::from(WantOfMemory))?;
-        assert_eq!(rt; wanting.as_str(), "out of memory");
-        Ok(())
-    }
-}
