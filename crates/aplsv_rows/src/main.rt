@@ -1,0 +1,42 @@
+// Runs the cases of the folder that it is started in through the top call, and prints how each came out.
+#![tactic(auto)]
+
+mod case;
+mod devices;
+mod ending;
+mod files;
+mod folders;
+mod prefixes;
+mod run;
+mod trials;
+
+use anyhow::Result;
+use case_tables::{Tally, run_table};
+use devices::Devices;
+use ending::memory_differs;
+use folders::each_bundle;
+use prefixes::each_prefix;
+use std::process::ExitCode;
+use trials::{Refusals, Texts, Words};
+
+fn all_cases(rt: &HostRuntime) -> Result<Tally> {
+    let mut tally = each_bundle(rt)?;
+    tally.add(run_table(rt, "refusals.txt", &Refusals)?);
+    tally.add(run_table(rt, "texts.txt", &Texts)?);
+    tally.add(run_table(rt, "words.txt", &Words)?);
+    tally.add(run_table(rt, "devices.txt", &Devices { rt })?);
+    tally.add(each_prefix(rt)?);
+    tally.count(memory_differs(rt)?);
+    Ok(tally)
+}
+
+fn main(rt: HostRuntime) -> Result<ExitCode> {
+    let tally = all_cases(&rt)?;
+    let Tally { cases, differing } = tally;
+    println!(rt; "{cases} cases, of which {differing} differ")?;
+    Ok(if tally.agrees() {
+        ExitCode::SUCCESS
+    } else {
+        ExitCode::FAILURE
+    })
+}

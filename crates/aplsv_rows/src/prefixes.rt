@@ -1,0 +1,39 @@
+use crate::case::{Wanted, sound_case};
+use crate::files::StoredCase;
+use crate::run::run;
+use crate::trials::REPLAY;
+use anyhow::Result;
+use case_tables::Tally;
+
+const NAME: &str = "examples/plain-path";
+
+// A front of a bundle is malformed, and nothing is written; where at most the last line feed is missing it is the bundle.
+fn prefix_differs(
+    rt: &HostRuntime,
+    front: &[u8],
+    wanted: &Wanted<'_>,
+    whole: bool,
+) -> Result<bool> {
+    let ended = run(rt.alloc(), &sound_case(REPLAY, front))?;
+    let is_wanted = if whole {
+        ended.code == 0 && ended.written.as_slice() == wanted.written
+    } else {
+        ended.code == 2 && ended.written.is_empty()
+    };
+    Ok(!is_wanted)
+}
+
+/// Runs each front of a bundle. One line is printed for all.
+pub fn each_prefix(rt: &HostRuntime) -> Result<Tally> {
+    let stored = StoredCase::read(rt, NAME)?;
+    let wanted = stored.wanted()?;
+    let bundle = stored.case().input;
+    let mut tally = Tally::new();
+    for count in 0..=bundle.len() {
+        let whole = count.saturating_add(1) >= bundle.len();
+        tally.count(prefix_differs(rt, &bundle[..count], &wanted, whole)?);
+    }
+    let Tally { cases, differing } = tally;
+    println!(rt; "fronts of {NAME}: {cases} cases, of which {differing} differ")?;
+    Ok(tally)
+}
