@@ -4,6 +4,7 @@ use Rattle.std.specs.List.{AllZip, position, position_or_len}
 use Rattle.std.specs.Option.{unwrap_or}
 use Rattle.std.proofs.lemmas.List.{drop_all}
 use Rattle.std.proofs.lemmas.Bool.{ltb-false}
+use Rattle.apl_arrays.specs.Glyph.{Spells}
 use Rattle.apl_arrays.specs.List.{Listed, glyphs_in}
 use Rattle.auxiliaries.specs.File.{lines_in, with_byte, IsLine, IsText, IsNoText, most_file_bytes, most_line_glyphs}
 
@@ -128,3 +129,13 @@ short_lines bytes lines text = each (lines_in bytes) lines text.each
 -- the lines behind the first are short where all are
 pub short_behind : (line : List ℕ) (lines : List (List ℕ)) → All (λ l. length l ≤ most_line_glyphs) (line ∷ lines) → All (λ l. length l ≤ most_line_glyphs) lines
 short_behind line lines all k d below = all (suc k) d (omega (arith, below))
+
+-- lines that spell the same bytes are the same
+pub same_lines : ((bytes line other : List ℕ) → Spells bytes line → Spells bytes other → line ≡ other) → (spelt lines other : List (List ℕ)) → AllZip IsLine spelt lines → AllZip IsLine spelt other → lines ≡ other
+same_lines one [] [] [] a b = refl
+same_lines one [] [] (line ∷ other) a b = absurd b
+same_lines one [] (line ∷ lines) other a b = absurd a
+same_lines one (bytes ∷ spelt) [] other a b = absurd a
+same_lines one (bytes ∷ spelt) (line ∷ lines) [] a b = absurd b
+same_lines one (bytes ∷ spelt) (line ∷ lines) (first ∷ other) a b =
+    ap (λ l. l ∷ lines) (one bytes line first a.0.spelt b.0.spelt) ∙ ap (λ ls. first ∷ ls) (same_lines one spelt lines other a.1 b.1)

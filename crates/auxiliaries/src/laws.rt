@@ -1,10 +1,14 @@
 ghost use Rattle.std.specs.Prelude.{◌≡◌, ◌∷◌, [], ◌++◌, ℕ, List, codes, Err, Ok, None, Some};
 ghost use Rattle.std.specs.declared.option.Option.{Option};
-ghost use Rattle.apl_arrays.specs.Array.{scalar};
+ghost use Rattle.apl_arrays.specs.Array.{PlainArray};
 ghost use Rattle.apl_io.specs.declared.store_error.StoreError.TheVariants.{Failed};
 ghost use Rattle.auxiliaries.specs.Command.{command_of, read, next, write, put, done, other};
-ghost use Rattle.auxiliaries.specs.File.{lines_in, line_text};
+ghost use Rattle.auxiliaries.specs.File.{lines_in, IsText};
+ghost use Rattle.auxiliaries.specs.Run.{Event, began, answered, IsRun};
 ghost use Rattle.auxiliaries.specs.Protocol.{step, answers, reads, replaces, refused, idle, reading, writing, code, vector, no_line, AfterRead, AfterReplace};
+
+use crate::Replier;
+use apl_arrays::texts_are_read_in_one_way;
 
 /// Commands as they are written: the word, one blank, and a name or a text, with nothing before or behind. The call does
 /// nothing.
@@ -49,4 +53,20 @@ pub fn lines_as_they_stand()
     ensures blank { lines_in (10 ∷ []) ≡ [] ∷ [] }
     ensures unended { lines_in (codes "A" ++ 10 ∷ codes "B") ≡ codes "A" ∷ codes "B" ∷ [] }
     ensures between { lines_in (codes "A" ++ 10 ∷ 10 ∷ codes "B" ++ 10 ∷ []) ≡ codes "A" ∷ [] ∷ codes "B" ∷ [] }
+{}
+
+/// The bytes of a file are the text of at most one list of lines. The call does nothing.
+pub fn files_are_read_in_one_way()
+    ensures { (bytes : List ℕ) (lines other : List (List ℕ)) → IsText bytes lines → IsText bytes other → lines ≡ other }
+{
+    texts_are_read_in_one_way();
+}
+
+/// A run of a replier goes on with each of its calls: what came before, and then that call. The call does nothing.
+pub fn runs_go_on<R: Replier + Drop>()
+    ensures starts { (state : R) → IsRun R.forgets R.replies state [] state }
+    ensures forgets { (start before after : R) (events : List Event) (party : ℕ) → IsRun R.forgets R.replies start events before
+        → R.forgets before party after → IsRun R.forgets R.replies start (began party ∷ events) after }
+    ensures replies { (start before after : R) (events : List Event) (party : ℕ) (value answer : PlainArray) → IsRun R.forgets R.replies start events before
+        → R.replies before party value answer after → IsRun R.forgets R.replies start (answered party value answer ∷ events) after }
 {}

@@ -11,7 +11,10 @@ mod text_aux;
 mod text_state;
 
 pub use clock_aux::ClockAux;
-pub use laws::{commands_as_written, lines_as_they_stand, session_as_worked};
+pub use laws::{
+    commands_as_written, files_are_read_in_one_way, lines_as_they_stand, runs_go_on,
+    session_as_worked,
+};
 pub use replier::Replier;
 pub use text_aux::TextAux;
 

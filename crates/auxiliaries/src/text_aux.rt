@@ -86,6 +86,7 @@ impl<T: TextStore> TextAux<T> {
         }
     }
 
+    // `READ name`.
     fn read(&mut self, name: &[Glyph]) -> Result<Array, WantOfMemory>
         ensures ok { IfOk result (λ answer. Takes T.told T.faults (step_read name.now self.old.state) self.old answer self.new) }
         ensures state { OnErr result (self.new.state ≡ self.old.state) }
@@ -101,6 +102,7 @@ impl<T: TextStore> TextAux<T> {
         }
     }
 
+    // Asks the store for a file of this name.
     fn read_file(&mut self, name: &str) -> Result<Array, WantOfMemory>
         ensures ok { IfOk result (λ answer. IsReadStep T.told T.faults self.old name.now answer self.new) }
         ensures state { OnErr result (self.new.state ≡ self.old.state) }
@@ -113,6 +115,7 @@ impl<T: TextStore> TextAux<T> {
         Ok(answer)
     }
 
+    // `NEXT`.
     fn next(&mut self) -> Result<Array, WantOfMemory>
         ensures ok { IfOk result (λ answer. Takes T.told T.faults (step_next self.old.state) self.old answer self.new) }
         ensures err { OnErr result (self.new ≡ self.old) }
@@ -123,6 +126,7 @@ impl<T: TextStore> TextAux<T> {
         }
     }
 
+    // `WRITE name`.
     fn write(&mut self, name: &[Glyph]) -> Result<Array, WantOfMemory>
         ensures ok { IfOk result (λ answer. Takes T.told T.faults (step_write name.now self.old.state) self.old answer self.new) }
         ensures err { OnErr result (self.new ≡ self.old) }
@@ -136,6 +140,7 @@ impl<T: TextStore> TextAux<T> {
         }
     }
 
+    // A file of this name is written from now on.
     fn begin_file(&mut self, name: String) -> Result<Array, WantOfMemory>
         ensures ok { IfOk result (λ answer. (answer ≡ code 0) × (self.new ≡ record { store = self.old.store; state = writing (string_bytes name) [] })) }
         ensures err { OnErr result (self.new ≡ self.old) }
@@ -145,6 +150,7 @@ impl<T: TextStore> TextAux<T> {
         Ok(answer)
     }
 
+    // `PUT text`.
     fn put(&mut self, text: &[Glyph]) -> Result<Array, WantOfMemory>
         ensures ok { IfOk result (λ answer. Takes T.told T.faults (step_put text.now self.old.state) self.old answer self.new) }
         ensures err { OnErr result (self.new ≡ self.old) }
@@ -155,6 +161,7 @@ impl<T: TextStore> TextAux<T> {
         }
     }
 
+    // `DONE`.
     fn done(&mut self) -> Result<Array, WantOfMemory>
         ensures ok { IfOk result (λ answer. Takes T.told T.faults (step_done self.old.state) self.old answer self.new) }
         ensures state { OnErr result (self.new.state ≡ self.old.state) }
