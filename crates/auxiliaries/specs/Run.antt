@@ -1,0 +1,19 @@
+-- What a replier does over time.
+use Rattle.std.specs.Prelude.{◌≡◌, ℕ, List, [], ◌∷◌}
+use Rattle.apl_arrays.specs.Array.{PlainArray}
+
+-- what happens to a replier: a coupling with a party begins, or a party's value is answered
+pub data Event : Type 0 where
+  began : ℕ → Event
+  answered : ℕ → PlainArray → PlainArray → Event
+
+module _ {S : Type 0} (forgets : S → ℕ → S → Type 0) (replies : S → ℕ → PlainArray → PlainArray → S → Type 0) where
+  -- one event leads from one state to another
+  abbrev pub Leads : Event → S → S → Type 0
+  Leads (began party) before after = forgets before party after
+  Leads (answered party value answer) before after = replies before party value answer after
+
+  -- these events, the newest first, lead from the state at the start to the one at the end
+  abbrev pub IsRun : S → List Event → S → Type 0
+  IsRun start [] end = end ≡ start
+  IsRun start (event ∷ earlier) end = (before : S) × IsRun start earlier before × Leads event before end

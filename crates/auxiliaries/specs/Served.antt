@@ -1,0 +1,52 @@
+-- The text auxiliary over a store: the protocol, and what it does to the store.
+use Rattle.std.specs.Prelude.{◌≡◌, ◌≤◌, ◌⊎◌, ℕ, List, Option, Result, IfSome, IsSomeAnd, IsErrOf}
+use Rattle.apl_arrays.specs.Array.{PlainArray}
+use Rattle.apl_io.specs.Content.{Told, by_name, entry_of, Reads, Writes}
+use Rattle.apl_io.specs.Faults.{Rose, one_more}
+use Rattle.apl_io.specs.declared.store_error.StoreError.{StoreError}
+use Rattle.apl_io.specs.declared.store_error.StoreError.TheVariants.{Failed}
+use Rattle.auxiliaries.specs.Command.{command_of}
+use Rattle.auxiliaries.specs.Protocol.{TextState, idle, Step, answers, reads, replaces, step, AfterRead, AfterReplace}
+
+-- a store, and where the protocol over it stands
+pub record Served (T : Type 0) : Type 0 where
+  pub store : T
+  pub state : TextState
+
+-- a call that failed raised the count of faults, which never falls
+pub record HasCause {R : Type 0} (before now : ℕ) (answer : Result R StoreError) : Type 0 where
+  pub counted : before ≤ now
+  pub cause : IsErrOf answer Failed → Rose before now
+
+module _ {T : Type 0} (told : T → Option (Told (List ℕ))) (faults : T → ℕ) where
+  -- one call of the store for a file, and what follows from its answer
+  pub record IsReadStep (old : Served T) (name : List ℕ) (answer : PlainArray) (new : Served T) : Type 0 where
+    pub reply : Result (Option (List ℕ)) StoreError
+    pub told_reply : Reads by_name (told old.store) name reply (told new.store)
+    pub fault : HasCause (faults old.store) (faults new.store) reply
+    pub after : AfterRead reply answer new.state
+
+  -- one call of the store to replace a file, and what follows from its answer
+  pub record IsReplaceStep (old : Served T) (name bytes : List ℕ) (answer : PlainArray) (new : Served T) : Type 0 where
+    pub reply : Result (Unit {0}) StoreError
+    pub told_reply : Writes by_name (told old.store) name bytes reply (told new.store)
+    pub fault : HasCause (faults old.store) (faults new.store) reply
+    pub after : AfterReplace reply old.state answer new.state
+
+  -- a step with its answer: without a call of the store, or with one
+  abbrev pub Takes : Step → Served T → PlainArray → Served T → Type 0
+  Takes (answers value state) old answer new = (answer ≡ value) × (new ≡ record { store = old.store; state = state })
+  Takes (reads name) old answer new = IsReadStep old name answer new
+  Takes (replaces name bytes) old answer new = IsReplaceStep old name bytes answer new
+
+  -- the answer to a value
+  abbrev pub Replies : Served T → PlainArray → PlainArray → Served T → Type 0
+  Replies old value answer new = Takes (step (command_of value) old.state) old answer new
+
+-- the protocol begins anew
+abbrev pub forgotten : {T : Type 0} → Served T → Served T
+forgotten served = record { store = served.store; state = idle }
+
+-- what a store tells is kept, though it may have had one call more
+abbrev pub KeepsFiles : Option (Told (List ℕ)) → Option (Told (List ℕ)) → Type 0
+KeepsFiles before now = IfSome before (λ old. IsSomeAnd now (λ new. (new.fails ≡ old.fails) × ((new.calls ≡ old.calls) ⊎ (new.calls ≡ one_more old.calls)) × ((name : List ℕ) → entry_of by_name new name ≡ entry_of by_name old name)))

@@ -1,0 +1,71 @@
+ghost use Rattle.std.specs.Prelude.{◌≡◌, ◌<◌, ◌≤◌, ◌∷◌, [], IfOk, length};
+ghost use Rattle.apl_arrays.specs.Array.{scalar};
+ghost use Rattle.auxiliaries.specs.File.{most_line_glyphs};
+ghost use Rattle.auxiliaries.specs.Plain.{code_number};
+ghost use Rattle.auxiliaries.specs.Protocol.{code, vector, no_line};
+
+use apl_arrays::{Array, Items, Line, NumberList, WantOfMemory};
+use std::alloc::Global;
+
+/// The answers of the text auxiliary that are numbers.
+#[derive(Clone, Copy, Debug, PartialEq, Eq)]
+pub(crate) enum Code {
+    /// The command is done.
+    Done,
+    /// There is no such file.
+    Missing,
+    /// It is no command in this state.
+    Refused,
+    /// The store failed.
+    Fault,
+    /// The file is no text, or would be too large.
+    NoText,
+}
+
+impl Code {
+    /// Its number. No memory.
+    pub(crate) fn number(self) -> i64
+        ensures { result ≡ code_number self }
+    {
+        match self {
+            Code::Done => 0,
+            Code::Missing => 1,
+            Code::Refused => 2,
+            Code::Fault => 3,
+            Code::NoText => 4,
+        }
+    }
+
+    /// Its number as an answer. It takes memory for it.
+    pub(crate) fn answer(self, alloc: Global) -> Result<Array, WantOfMemory>
+        ensures { IfOk result (λ answer. answer ≡ scalar (code_number self)) }
+    {
+        Array::scalar(alloc, self.number())
+    }
+}
+
+/// A number as an answer, in a list that has room for it. No memory.
+pub(crate) fn number_answer(mut list: NumberList, number: i64) -> Array
+    requires empty { list.items ≡ [] }
+    requires room { 0 < list.room }
+    ensures { result ≡ scalar number }
+{
+    list.push_reserved(number);
+    Array::shaped(&[], Items::Numbers(list))
+}
+
+/// A line as an answer. No memory.
+pub(crate) fn line_answer(line: Line) -> Array
+    requires { length line.items ≤ most_line_glyphs }
+    ensures { result ≡ vector line.items }
+{
+    let length = line.as_slice().len() as u32;
+    Array::shaped(&[length], Items::Chars(line))
+}
+
+/// The answer past the last line. No memory.
+pub(crate) fn no_line(alloc: Global) -> Array
+    ensures { result ≡ no_line }
+{
+    Array::shaped(&[0], Items::Numbers(NumberList::new(alloc)))
+}

@@ -1,0 +1,72 @@
+ghost use Rattle.std.specs.Prelude.{◌≡◌, ◌∷◌, [], ◌++◌, ℕ, List, codes, Err, Ok, None, Some};
+ghost use Rattle.std.specs.declared.option.Option.{Option};
+ghost use Rattle.apl_arrays.specs.Array.{PlainArray};
+ghost use Rattle.apl_io.specs.declared.store_error.StoreError.TheVariants.{Failed};
+ghost use Rattle.auxiliaries.specs.Command.{command_of, read, next, write, put, done, other};
+ghost use Rattle.auxiliaries.specs.File.{lines_in, IsText};
+ghost use Rattle.auxiliaries.specs.Run.{Event, began, answered, IsRun};
+ghost use Rattle.auxiliaries.specs.Protocol.{step, answers, reads, replaces, refused, idle, reading, writing, code, vector, no_line, AfterRead, AfterReplace};
+
+use crate::Replier;
+use apl_arrays::texts_are_read_in_one_way;
+
+/// Commands as they are written: the word, one blank, and a name or a text, with nothing before or behind. The call does
+/// nothing.
+pub fn commands_as_written()
+    ensures read { command_of (vector (codes "READ NOTES")) ≡ read (codes "NOTES") }
+    ensures next { command_of (vector (codes "NEXT")) ≡ next }
+    ensures write { command_of (vector (codes "WRITE OUT")) ≡ write (codes "OUT") }
+    ensures put { command_of (vector (codes "PUT HI")) ≡ put (codes "HI") }
+    ensures put_blank { command_of (vector (codes "PUT  HI ")) ≡ put (codes " HI ") }
+    ensures put_nothing { command_of (vector (codes "PUT ")) ≡ put [] }
+    ensures done { command_of (vector (codes "DONE")) ≡ done }
+    ensures no_text { command_of (vector (codes "PUT")) ≡ other }
+    ensures next_blank { command_of (vector (codes "NEXT ")) ≡ other }
+    ensures nothing { command_of (vector []) ≡ other }
+    ensures number { command_of (code 0) ≡ other }
+    ensures no_line { command_of no_line ≡ other }
+{}
+
+/// A session as it was worked by hand: a file that is not there, one of one line, a file written, and a failure of the
+/// store at its third call. The call does nothing.
+pub fn session_as_worked()
+    ensures gone { step (read (codes "GONE")) idle ≡ reads (codes "GONE") }
+    ensures missing { AfterRead (Ok None) (code 1) idle }
+    ensures no_next { step next idle ≡ answers (code 2) idle }
+    ensures notes { step (read (codes "NOTES")) idle ≡ reads (codes "NOTES") }
+    ensures line { lines_in (codes "ONE" ++ 10 ∷ []) ≡ codes "ONE" ∷ [] }
+    ensures one { step next (reading (codes "ONE" ∷ [])) ≡ answers (vector (codes "ONE")) (reading []) }
+    ensures past { step next (reading []) ≡ answers no_line (reading []) }
+    ensures no_put { step (put (codes "A")) (reading []) ≡ answers (code 2) (reading []) }
+    ensures out { step (write (codes "OUT")) (reading []) ≡ answers (code 0) (writing (codes "OUT") []) }
+    ensures no_read { step (read (codes "NOTES")) (writing (codes "OUT") []) ≡ answers (code 2) (writing (codes "OUT") []) }
+    ensures hi { step (put (codes "HI")) (writing (codes "OUT") []) ≡ answers (code 0) (writing (codes "OUT") (codes "HI" ++ 10 ∷ [])) }
+    ensures done { step done (writing (codes "OUT") (codes "HI" ++ 10 ∷ [])) ≡ replaces (codes "OUT") (codes "HI" ++ 10 ∷ []) }
+    ensures failed { AfterReplace {T = Unit {0}} (Err Failed) (writing (codes "OUT") (codes "HI" ++ 10 ∷ [])) (code 3) (writing (codes "OUT") (codes "HI" ++ 10 ∷ [])) }
+    ensures again { AfterReplace {T = Unit {0}} (Ok tt) (writing (codes "OUT") (codes "HI" ++ 10 ∷ [])) (code 0) idle }
+{}
+
+/// The lines of a file: a last line without a line feed counts, a blank line is a line, and a file without bytes has
+/// none. The call does nothing.
+pub fn lines_as_they_stand()
+    ensures nothing { lines_in [] ≡ [] }
+    ensures blank { lines_in (10 ∷ []) ≡ [] ∷ [] }
+    ensures unended { lines_in (codes "A" ++ 10 ∷ codes "B") ≡ codes "A" ∷ codes "B" ∷ [] }
+    ensures between { lines_in (codes "A" ++ 10 ∷ 10 ∷ codes "B" ++ 10 ∷ []) ≡ codes "A" ∷ [] ∷ codes "B" ∷ [] }
+{}
+
+/// The bytes of a file are the text of at most one list of lines. The call does nothing.
+pub fn files_are_read_in_one_way()
+    ensures { (bytes : List ℕ) (lines other : List (List ℕ)) → IsText bytes lines → IsText bytes other → lines ≡ other }
+{
+    texts_are_read_in_one_way();
+}
+
+/// A run of a replier goes on with each of its calls: what came before, and then that call. The call does nothing.
+pub fn runs_go_on<R: Replier + Drop>()
+    ensures starts { (state : R) → IsRun R.forgets R.replies state [] state }
+    ensures forgets { (start before after : R) (events : List Event) (party : ℕ) → IsRun R.forgets R.replies start events before
+        → R.forgets before party after → IsRun R.forgets R.replies start (began party ∷ events) after }
+    ensures replies { (start before after : R) (events : List Event) (party : ℕ) (value answer : PlainArray) → IsRun R.forgets R.replies start events before
+        → R.replies before party value answer after → IsRun R.forgets R.replies start (answered party value answer ∷ events) after }
+{}

@@ -1,0 +1,22 @@
+//! What answers behind shared variables: text files and a clock, each by a protocol of its own over a device.
+#![tactic(auto)]
+
+mod answer;
+mod clock_aux;
+mod command;
+mod file_text;
+mod laws;
+mod replier;
+mod text_aux;
+mod text_state;
+
+pub use clock_aux::ClockAux;
+pub use laws::{
+    commands_as_written, files_are_read_in_one_way, lines_as_they_stand, runs_go_on,
+    session_as_worked,
+};
+pub use replier::Replier;
+pub use text_aux::TextAux;
+
+#[cfg(test)]
+mod tests;
