@@ -1,6 +1,6 @@
 -- Each state of the marks can be brought to the end of a line.
 use Rattle.std.proofs.Common.{◌≡◌, ℕ, Bool, true, false, cond, List, [], ◌∷◌, ◌++◌, Option, Some, None, Ok, refl, sym, ap, ◌∙◌, ◌||◌}
-use Rattle.std.specs.Prelude.{pos, is_some}
+use Rattle.std.specs.Prelude.{◌==◌, pos, is_some, option_map}
 use Rattle.std.proofs.lemmas.Bool.{false≢true}
 use Rattle.apl_arrays.specs.Glyph as glyph
 use Rattle.apl_arrays.specs.declared.verb.Monad.{Monad}
@@ -11,6 +11,9 @@ use Rattle.apl_arrays.specs.declared.verb.Way.TheVariants.{Last}
 use Rattle.line_scanner.specs.declared.token.SystemName.TheVariants.{Svo, Svc, Svr, Svq, Svs}
 use Rattle.line_scanner.specs.Token.{PlainKind, numbers, chars, name, system, sign, PlainToken}
 use Rattle.line_trees.specs.declared.class.Class.{Class}
+use Rattle.apl_arrays.specs.declared.verb.Verb.TheVariants as verb
+use Rattle.line_trees.specs.declared.tree.Fun.{Fun}
+use Rattle.line_trees.specs.declared.tree.Fun.TheVariants as fun
 use Rattle.line_trees.specs.declared.tree.Mark.{Mark}
 use Rattle.line_trees.specs.declared.symbol.Fold.{Fold}
 use Rattle.line_trees.specs.declared.symbol.Fold.TheVariants as fold
@@ -112,24 +115,21 @@ ending classes len (Begins before.Subscript) brackets h = (one ∷ closers brack
 ending classes len (Begins before.Axis) brackets h = (one ∷ closers brackets, one_ends classes len (Begins before.Axis) brackets refl)
 ending classes len (Begins before.Product) brackets h = (one ∷ closers brackets, one_ends classes len (Begins before.Product) brackets refl)
 ending classes len (Begins (before.Lead (Some m) d)) brackets h = (one ∷ closers brackets, one_ends classes len (Begins (before.Lead (Some m) d)) brackets refl)
-ending classes len (Begins (before.Lead None (Some d))) brackets h =
-    let (f, e) = slash_is in (
-      token_of (sign glyph.slash) ∷ one ∷ closers brackets,
-      mark_before classes len (Begins (before.Lead None (Some d))) brackets (token_of (sign glyph.slash)) (one ∷ closers brackets) (symbol.Slash (fold.Reduce Last)) _ slash_is refl (one_ends classes len (Begins before.Axis) brackets refl),
-    )
+ending classes len (Begins (before.Lead None (Some d))) brackets h = (
+  token_of (sign glyph.slash) ∷ one ∷ closers brackets,
+  mark_before classes len (Begins (before.Lead None (Some d))) brackets (token_of (sign glyph.slash)) (one ∷ closers brackets) (symbol.Slash (fold.Reduce Last)) _ slash_is refl (one_ends classes len (Begins before.Axis) brackets refl),
+)
 ending classes len (Begins (before.Lead None None)) brackets h = absurd h
 ending classes len (Ends o) brackets h = (closers brackets, closing classes len o brackets)
-ending classes len Factor brackets h =
-    let (m, d, e) = plus_is in (
-      token_of (sign glyph.plus) ∷ one ∷ closers brackets,
-      mark_before classes len Factor brackets (token_of (sign glyph.plus)) (one ∷ closers brackets) (symbol.Scalar (Some monad.Identity) (Some dyad.Plus)) _ plus_is refl (one_ends classes len (Begins before.Plain) brackets refl),
-    )
-ending classes len Jot brackets h =
-    let (m, d, e) = plus_is in (
-      token_of (sign glyph.period) ∷ token_of (sign glyph.plus) ∷ one ∷ closers brackets,
-      mark_before classes len Jot brackets (token_of (sign glyph.period)) (token_of (sign glyph.plus) ∷ one ∷ closers brackets) symbol.Dot _ dot_is refl
-          (mark_before classes len Factor brackets (token_of (sign glyph.plus)) (one ∷ closers brackets) (symbol.Scalar (Some monad.Identity) (Some dyad.Plus)) _ plus_is refl (one_ends classes len (Begins before.Plain) brackets refl)),
-    )
+ending classes len Factor brackets h = (
+  token_of (sign glyph.plus) ∷ one ∷ closers brackets,
+  mark_before classes len Factor brackets (token_of (sign glyph.plus)) (one ∷ closers brackets) (symbol.Scalar (Some monad.Identity) (Some dyad.Plus)) _ plus_is refl (one_ends classes len (Begins before.Plain) brackets refl),
+)
+ending classes len Jot brackets h = (
+  token_of (sign glyph.period) ∷ token_of (sign glyph.plus) ∷ one ∷ closers brackets,
+  mark_before classes len Jot brackets (token_of (sign glyph.period)) (token_of (sign glyph.plus) ∷ one ∷ closers brackets) symbol.Dot _ dot_is refl
+      (mark_before classes len Factor brackets (token_of (sign glyph.plus)) (one ∷ closers brackets) (symbol.Scalar (Some monad.Identity) (Some dyad.Plus)) _ plus_is refl (one_ends classes len (Begins before.Plain) brackets refl)),
+)
 
 -- ---- each move leads to such a mode
 
@@ -150,28 +150,50 @@ real_scalar (Some m) d e = record { is = tt }
 real_scalar None (Some d) e = record { is = tt }
 real_scalar None None e = absurd (false≢true e)
 
-real_either : (b : Bool) (x y : Symbol) → (b ≡ true → Real x) → Real y → Real (cond b x y)
-real_either true x y h k = h refl
-real_either false x y h k = k
+other_by : (a b c d e f h i j k l : Bool)
+    → Real (cond a symbol.LeftParenthesis (cond b symbol.RightParenthesis (cond c symbol.LeftBracket (cond d symbol.RightBracket (cond e symbol.Semicolon (cond f symbol.Colon (cond h symbol.Dot (cond i symbol.Jot (cond j symbol.LeftArrow (cond k symbol.RightArrow (cond l symbol.Execute symbol.Unused)))))))))))
+other_by true b c d e f h i j k l = record { is = tt }
+other_by false true c d e f h i j k l = record { is = tt }
+other_by false false true d e f h i j k l = record { is = tt }
+other_by false false false true e f h i j k l = record { is = tt }
+other_by false false false false true f h i j k l = record { is = tt }
+other_by false false false false false true h i j k l = record { is = tt }
+other_by false false false false false false true i j k l = record { is = tt }
+other_by false false false false false false false true j k l = record { is = tt }
+other_by false false false false false false false false true k l = record { is = tt }
+other_by false false false false false false false false false true l = record { is = tt }
+other_by false false false false false false false false false false true = record { is = tt }
+other_by false false false false false false false false false false false = record { is = tt }
 
 real_other : (g : ℕ) → Real (other_sign g)
 unfolding other_sign
 real_other g =
-    real_either _ _ _ (λ _. record { is = tt }) (real_either _ _ _ (λ _. record { is = tt }) (real_either _ _ _ (λ _. record { is = tt }) (real_either _ _ _ (λ _. record { is = tt }) (real_either _ _ _ (λ _. record { is = tt })
-    (real_either _ _ _ (λ _. record { is = tt }) (real_either _ _ _ (λ _. record { is = tt }) (real_either _ _ _ (λ _. record { is = tt }) (real_either _ _ _ (λ _. record { is = tt }) (real_either _ _ _ (λ _. record { is = tt })
-    (real_either _ _ _ (λ _. record { is = tt }) (record { is = tt })))))))))))
+    other_by (g == glyph.left_parenthesis) (g == glyph.right_parenthesis) (g == glyph.left_bracket) (g == glyph.right_bracket) (g == glyph.semicolon) (g == glyph.colon) (g == glyph.period) (g == glyph.jot) (g == glyph.left_arrow)
+    (g == glyph.right_arrow) (g == glyph.execute)
 
 real_slash : (f : Option Fold) (g : ℕ) → Real (slash_or_other f g)
 real_slash (Some f) g = record { is = tt }
 real_slash None g = real_other g
 
+sign_by : (a b : Bool) (m : Option Monad) (d : Option Dyad) (f h : Option Fun) (other : Symbol) → (a ≡ true → Real (symbol.Scalar m d)) → Real other → Real (cond a (symbol.Scalar m d) (cond b (symbol.Function f h) other))
+sign_by true b m d f h other k r = k refl
+sign_by false true m d f h other k r = record { is = tt }
+sign_by false false m d f h other k r = r
+
 real_sign : (g : ℕ) → Real (sign_symbol g)
 unfolding sign_symbol
-real_sign g = real_either _ _ _ (real_scalar (monad_of g) (dyad_of g)) (real_either _ _ _ (λ _. record { is = tt }) (real_slash (fold_of g) g))
+real_sign g =
+    sign_by (is_some (monad_of g) || is_some (dyad_of g)) (is_some (mix1_of g) || is_some (mix2_of g)) (monad_of g) (dyad_of g) (option_map (λ f. fun.Verb (verb.Mixed1 f)) (mix1_of g)) (option_map (λ f. fun.Verb (verb.Mixed2 f)) (mix2_of g))
+    (slash_or_other (fold_of g) g) (real_scalar (monad_of g) (dyad_of g)) (real_slash (fold_of g) g)
+
+name_by : (a b : Bool) (n : List ℕ) → Real (cond a (symbol.Niladic n) (cond b (symbol.Function (Some (fun.Defined n)) None) (symbol.Function None (Some (fun.Defined n)))))
+name_by true b n = record { is = tt }
+name_by false true n = record { is = tt }
+name_by false false n = record { is = tt }
 
 real_name : (a : Option ℕ) (n : List ℕ) → Real (name_symbol a n)
 real_name None n = record { is = tt }
-real_name (Some a) n = real_either _ _ _ (λ _. record { is = tt }) (real_either _ _ _ (λ _. record { is = tt }) (record { is = tt }))
+real_name (Some a) n = name_by (a == 0) (a == 1) n
 
 real : (classes : List Class) (kind : PlainKind) → Real (symbol_of classes kind)
 real classes (numbers list) = record { is = tt }

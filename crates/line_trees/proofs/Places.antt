@@ -56,9 +56,9 @@ marked_error : (m : Mark) (marked : Marked) (at : ℕ) → with_mark m marked �
 marked_error m (Ok rest) at e = absurd cc
 marked_error m (Err place) at e = e
 
-end_error : (b : Bool) (len at : ℕ) → cond b (Ok []) (Err len) ≡ Err at → at ≡ len
-end_error true len at e = absurd cc
-end_error false len at e = cc
+end_error : (b : Bool) (len : ℕ) (m : Marked) (at : ℕ) → cond b (Ok []) (Err len) ≡ m → m ≡ Err at → at ≡ len
+end_error true len m at e f = absurd cc
+end_error false len m at e f = cc
 
 one_place : (x y : ℕ) (m : Marked) → m ≡ Err x → m ≡ Err y → y ≡ x
 one_place x y m e f = cc
@@ -72,7 +72,7 @@ breaks_by classes len mode brackets token tokens (Some move) at alive leads s e 
 
 breaks_off : (classes : List Class) (len : ℕ) (mode : Mode) (brackets : List Bracket) (tokens : List PlainToken) (at : ℕ) → IsAlive mode → marks_from classes len mode brackets tokens ≡ Err at → BreaksOff classes len mode brackets tokens at
 unfolding marks_from
-breaks_off classes len mode brackets [] at alive e = let (end, has) = ending classes len mode brackets alive in inr (end, end_error (may_end mode (first_of brackets)) len at e, has)
+breaks_off classes len mode brackets [] at alive e = let (end, has) = ending classes len mode brackets alive in inr (end, end_error (may_end mode (first_of brackets)) len (Err at) at e refl, has)
 breaks_off classes len mode brackets (token ∷ tokens) at alive e =
     breaks_by classes len mode brackets token tokens (step mode (first_of brackets) (symbol_of classes token.kind)) at alive (leads_on classes mode (first_of brackets) token) refl e (λ next more goes f. breaks_off classes len next more tokens at goes f)
 
