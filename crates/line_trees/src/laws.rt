@@ -145,7 +145,6 @@ pub fn each_line_has_one_tree()
 
 /// The place of an error is that of a token with which no line goes on, or the length of a line that ends too early. The
 /// call does nothing.
-#[tactic(auto, using(crate::proofs::Places::error_stops))]
 pub fn errors_stop_lines()
     ensures { (classes : List Class) (tokens : List PlainToken) (length at : ℕ) → parsed classes tokens length ≡ Err at → IsStop classes tokens length at }
 {}
