@@ -14,7 +14,6 @@ use Rattle.line_trees.specs.declared.tree.Mark.TheVariants as mark
 use Rattle.line_trees.specs.declared.tree.Pending.{Pending}
 use Rattle.line_trees.specs.declared.tree.Pending.TheVariants as pending
 use Rattle.line_trees.specs.declared.symbol.Fold.{Fold}
-use Rattle.line_trees.specs.declared.symbol.Symbol.{Symbol}
 use Rattle.line_trees.specs.declared.symbol.Symbol.TheVariants as symbol
 use Rattle.line_trees.specs.declared.machine.Before.TheVariants as before
 use Rattle.line_trees.specs.declared.machine.Operand.{Operand}
@@ -27,10 +26,9 @@ use Rattle.line_trees.specs.declared.machine.Change.TheVariants.{Keep, Open, Clo
 use Rattle.line_trees.specs.declared.machine.Move.{Move}
 use Rattle.line_trees.specs.Stacks.{first_of, others_of}
 use Rattle.line_trees.specs.Signs.{folded, between}
-use Rattle.line_trees.specs.Symbols.{symbol_of}
 use Rattle.line_trees.specs.Marks.{step, takes_axis, after_function, goes, opens, closes, close_bracket, next_subscript, is_name}
 use Rattle.line_trees.specs.Nodes as node
-use Rattle.line_trees.specs.Building.{Numbers, Built, whole, with_waiting, attached, operand_built, built_by, lead_built, dyadic_by, target_or_operand, subscripts_built}
+use Rattle.line_trees.specs.Building.{Built, whole, with_waiting, attached, operand_built, built_by, lead_built, dyadic_by, target_or_operand, subscripts_built}
 use Rattle.line_trees.specs.Trees.{Expr, constant, value, niladic, paren, indexed, monadic, monadic_along, dyadic, dyadic_along, assign, assign_at, Subscripts, no_more, omitted, given, Placed, PlacedList, placed, placed_subscripts}
 use Rattle.line_trees.specs.Grammar.{Is, symbols, IsMonadic, scalar_monad, operator, other_monad, IsDyadic, scalar_dyad, inner, outer, slash, other_dyad, IsOperand, InBrackets, IsExpr, AreSubscripts, AreMore}
 use Rattle.line_trees.proofs.Reading.{read, reads_token}

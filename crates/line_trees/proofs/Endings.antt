@@ -1,5 +1,5 @@
 -- Each state of the marks can be brought to the end of a line.
-use Rattle.std.proofs.Common.{◌≡◌, ℕ, Bool, true, false, cond, List, [], ◌∷◌, ◌++◌, Option, Some, None, Ok, refl, sym, ap, ◌∙◌, ◌||◌}
+use Rattle.std.proofs.Common.{◌≡◌, ℕ, Bool, true, false, cond, List, [], ◌∷◌, Option, Some, None, Ok, refl, ap, ◌∙◌, ◌||◌}
 use Rattle.std.specs.Prelude.{◌==◌, pos, is_some, option_map}
 use Rattle.std.proofs.lemmas.Bool.{false≢true}
 use Rattle.apl_arrays.specs.Glyph as glyph
@@ -19,7 +19,6 @@ use Rattle.line_trees.specs.declared.symbol.Fold.{Fold}
 use Rattle.line_trees.specs.declared.symbol.Fold.TheVariants as fold
 use Rattle.line_trees.specs.declared.symbol.Symbol.{Symbol}
 use Rattle.line_trees.specs.declared.symbol.Symbol.TheVariants as symbol
-use Rattle.line_trees.specs.declared.machine.Before.{Before}
 use Rattle.line_trees.specs.declared.machine.Before.TheVariants as before
 use Rattle.line_trees.specs.declared.machine.Operand.{Operand}
 use Rattle.line_trees.specs.declared.machine.Operand.TheVariants as operand
@@ -27,12 +26,11 @@ use Rattle.line_trees.specs.declared.machine.Mode.{Mode}
 use Rattle.line_trees.specs.declared.machine.Mode.TheVariants.{Begins, Ends, Jot, Factor}
 use Rattle.line_trees.specs.declared.machine.Bracket.{Bracket}
 use Rattle.line_trees.specs.declared.machine.Bracket.TheVariants as bracket
-use Rattle.line_trees.specs.declared.machine.Change.{Change}
 use Rattle.line_trees.specs.declared.machine.Move.{Move}
 use Rattle.line_trees.specs.Stacks.{first_of}
 use Rattle.line_trees.specs.Signs.{monad_of, dyad_of, mix1_of, mix2_of, fold_of}
-use Rattle.line_trees.specs.Symbols.{symbol_of, name_symbol, arguments_of, system_symbol, sign_symbol, other_sign, slash_or_other}
-use Rattle.line_trees.specs.Marks.{Marked, marks_from, marked_by, with_mark, step, may_end, changed, takes_axis, begin, begin_statement, begin_line, begin_subscript, begin_axis, begin_product, begin_lead, go_on, jot_dot, factor, close_bracket, close_parenthesis, next_subscript}
+use Rattle.line_trees.specs.Symbols.{symbol_of, name_symbol, arguments_of, sign_symbol, other_sign, slash_or_other}
+use Rattle.line_trees.specs.Marks.{marks_from, marked_by, with_mark, step, may_end, changed, takes_axis, begin, begin_statement, begin_line, begin_subscript, begin_axis, begin_product, begin_lead, go_on, jot_dot, factor, close_bracket, close_parenthesis, next_subscript}
 
 -- tokens have marks
 abbrev pub HasMarks : List Class → ℕ → Mode → List Bracket → List PlainToken → Type 0

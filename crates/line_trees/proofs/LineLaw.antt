@@ -1,5 +1,5 @@
 -- The tokens of a line of the grammar are parsed as its tree.
-use Rattle.std.proofs.Common.{◌≡◌, ℕ, Bool, true, false, cond, List, [], ◌∷◌, ◌++◌, Option, Some, None, Result, Ok, Err, refl, sym, ap, ◌∙◌, ◌⊎◌, inl, inr}
+use Rattle.std.proofs.Common.{◌≡◌, ℕ, true, List, [], ◌∷◌, Option, Some, None, Result, Ok, Err, refl, sym, ap, ◌∙◌, ◌⊎◌, inl, inr}
 use Rattle.std.proofs.lemmas.List.{append-nil}
 use Rattle.std.proofs.lemmas.Bool.{false≢true}
 use Rattle.line_scanner.specs.Token.{PlainToken}
@@ -9,22 +9,20 @@ use Rattle.line_trees.specs.declared.tree.Mark.TheVariants as mark
 use Rattle.line_trees.specs.declared.tree.Pending.TheVariants as pending
 use Rattle.line_trees.specs.declared.symbol.Symbol.{Symbol}
 use Rattle.line_trees.specs.declared.symbol.Symbol.TheVariants as symbol
-use Rattle.line_trees.specs.declared.machine.Before.{Before}
 use Rattle.line_trees.specs.declared.machine.Before.TheVariants as before
 use Rattle.line_trees.specs.declared.machine.Operand.TheVariants as operand
 use Rattle.line_trees.specs.declared.machine.Mode.{Mode}
 use Rattle.line_trees.specs.declared.machine.Mode.TheVariants.{Begins, Ends}
 use Rattle.line_trees.specs.declared.machine.Bracket.{Bracket}
-use Rattle.line_trees.specs.declared.machine.Change.{Change}
 use Rattle.line_trees.specs.declared.machine.Change.TheVariants.{Keep}
 use Rattle.line_trees.specs.declared.machine.Move.{Move}
 use Rattle.line_trees.specs.Stacks.{first_of}
 use Rattle.line_trees.specs.Symbols.{symbol_of}
-use Rattle.line_trees.specs.Marks.{Marked, marks_from, marked_by, with_mark, step, may_end, may_be_nothing, changed}
-use Rattle.line_trees.specs.Building.{Built, nothing_built, built_by, built_from}
-use Rattle.line_trees.specs.Parsing.{PlainTree, Parsed, tree_of, parsed_by, parsed}
+use Rattle.line_trees.specs.Marks.{Marked, marks_from, marked_by, with_mark, step, may_end, changed}
+use Rattle.line_trees.specs.Building.{Built, nothing_built, built_by}
+use Rattle.line_trees.specs.Parsing.{Parsed, tree_of, parsed_by, parsed}
 use Rattle.line_trees.specs.Trees.{Expr, Statement, nothing, branch, whole, execute, LineTree, placed, as_nodes, nodes_of_statement}
-use Rattle.line_trees.specs.Grammar.{Is, IsExpr, IsStatement, IsLabelled, IsLine}
+use Rattle.line_trees.specs.Grammar.{IsExpr, IsStatement, IsLabelled, IsLine}
 use Rattle.line_trees.proofs.Reading.{read_by, read, reads_token, reads_same, reads_end}
 use Rattle.line_trees.proofs.Starts.{leads, expr_led, at_statement, begins_as}
 use Rattle.line_trees.proofs.Complete.{ends_of, expr_on, Reads, expr_read}

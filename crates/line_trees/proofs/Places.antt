@@ -1,5 +1,5 @@
 -- The place of an error.
-use Rattle.std.proofs.Common.{◌≡◌, ℕ, Bool, true, false, cond, List, [], ◌∷◌, ◌++◌, Option, Some, None, Result, Ok, Err, refl, sym, ap, subst, ◌∙◌, ◌⊎◌, inl, inr, append_assoc}
+use Rattle.std.proofs.Common.{◌≡◌, ℕ, Bool, true, false, cond, List, [], ◌∷◌, ◌++◌, Option, Some, None, Ok, Err, refl, sym, ap, subst, ◌∙◌, ◌⊎◌, inl, inr, append_assoc}
 use Rattle.line_scanner.specs.Token.{PlainToken}
 use Rattle.line_trees.specs.declared.class.Class.{Class}
 use Rattle.line_trees.specs.declared.tree.Mark.{Mark}
@@ -7,13 +7,11 @@ use Rattle.line_trees.specs.declared.machine.Before.TheVariants as before
 use Rattle.line_trees.specs.declared.machine.Mode.{Mode}
 use Rattle.line_trees.specs.declared.machine.Mode.TheVariants.{Begins}
 use Rattle.line_trees.specs.declared.machine.Bracket.{Bracket}
-use Rattle.line_trees.specs.declared.machine.Change.{Change}
 use Rattle.line_trees.specs.declared.machine.Move.{Move}
 use Rattle.line_trees.specs.Stacks.{first_of}
 use Rattle.line_trees.specs.Symbols.{symbol_of}
 use Rattle.line_trees.specs.Marks.{Marked, marks_from, marked_by, with_mark, step, may_end, changed}
-use Rattle.line_trees.specs.Parsing.{PlainTree, Parsed, tree_of, parsed_by, parsed}
-use Rattle.line_trees.specs.Building.{built_from}
+use Rattle.line_trees.specs.Parsing.{PlainTree, Parsed, parsed_by, parsed}
 use Rattle.line_trees.specs.Trees.{LineTree, as_nodes, line_of}
 use Rattle.line_trees.specs.Grammar.{IsLine, BeginsLine, IsStop, stops_at, ends_early}
 use Rattle.line_trees.proofs.Endings.{HasMarks, mark_before, IsAlive, LeadsOn, ending, leads_on}

@@ -1,17 +1,11 @@
 -- Marks and what they build, a token at a time.
-use Rattle.std.proofs.Common.{◌≡◌, ℕ, Bool, true, false, List, [], ◌∷◌, ◌++◌, Option, Some, None, Result, Ok, Err, refl, sym, ap, ◌∙◌, cond}
-use Rattle.line_scanner.specs.Token.{PlainKind, PlainToken}
+use Rattle.std.proofs.Common.{◌≡◌, ℕ, Bool, true, List, [], ◌∷◌, Option, Some, Result, Ok, Err, ap, ◌∙◌, cond}
+use Rattle.line_scanner.specs.Token.{PlainToken}
 use Rattle.line_trees.specs.declared.class.Class.{Class}
 use Rattle.line_trees.specs.declared.symbol.Symbol.{Symbol}
-use Rattle.line_trees.specs.declared.symbol.Symbol.TheVariants as symbol
 use Rattle.line_trees.specs.declared.tree.Mark.{Mark}
-use Rattle.line_trees.specs.declared.machine.Before.{Before}
-use Rattle.line_trees.specs.declared.machine.Before.TheVariants as before
-use Rattle.line_trees.specs.declared.machine.Operand.TheVariants as operand
 use Rattle.line_trees.specs.declared.machine.Mode.{Mode}
-use Rattle.line_trees.specs.declared.machine.Mode.TheVariants.{Begins, Ends}
 use Rattle.line_trees.specs.declared.machine.Bracket.{Bracket}
-use Rattle.line_trees.specs.declared.machine.Change.{Change}
 use Rattle.line_trees.specs.declared.machine.Move.{Move}
 use Rattle.line_trees.specs.Stacks.{first_of}
 use Rattle.line_trees.specs.Symbols.{symbol_of}

@@ -1,5 +1,5 @@
 -- What the marks accept is a line of the grammar.
-use Rattle.std.proofs.Common.{◌≡◌, ℕ, Bool, true, false, cond, List, [], ◌∷◌, ◌++◌, Option, Some, None, Result, Ok, Err, refl, sym, ap, subst, ◌∙◌, ◌⊎◌, inl, inr, append_assoc}
+use Rattle.std.proofs.Common.{◌≡◌, ℕ, Bool, true, false, cond, List, [], ◌∷◌, ◌++◌, Option, Some, None, Ok, Err, refl, sym, ap, subst, ◌∙◌, ◌⊎◌, inl, inr, append_assoc}
 use Rattle.std.proofs.lemmas.Bool.{false≢true}
 use Rattle.std.proofs.lemmas.List.{append-nil}
 use Rattle.apl_arrays.specs.declared.verb.Monad.{Monad}
@@ -14,7 +14,6 @@ use Rattle.line_trees.specs.declared.symbol.Fold.{Fold}
 use Rattle.line_trees.specs.declared.symbol.Fold.TheVariants as fold
 use Rattle.line_trees.specs.declared.symbol.Symbol.{Symbol}
 use Rattle.line_trees.specs.declared.symbol.Symbol.TheVariants as symbol
-use Rattle.line_trees.specs.declared.machine.Before.{Before}
 use Rattle.line_trees.specs.declared.machine.Before.TheVariants as before
 use Rattle.line_trees.specs.declared.machine.Operand.{Operand}
 use Rattle.line_trees.specs.declared.machine.Operand.TheVariants as operand
@@ -22,15 +21,14 @@ use Rattle.line_trees.specs.declared.machine.Mode.{Mode}
 use Rattle.line_trees.specs.declared.machine.Mode.TheVariants.{Begins, Ends, Jot, Factor}
 use Rattle.line_trees.specs.declared.machine.Bracket.{Bracket}
 use Rattle.line_trees.specs.declared.machine.Bracket.TheVariants as bracket
-use Rattle.line_trees.specs.declared.machine.Change.{Change}
 use Rattle.line_trees.specs.declared.machine.Move.{Move}
 use Rattle.line_trees.specs.Stacks.{first_of}
 use Rattle.line_trees.specs.Signs.{folded, between}
 use Rattle.line_trees.specs.Symbols.{symbol_of}
-use Rattle.line_trees.specs.Marks.{Marked, marks_from, marked_by, with_mark, step, may_end, changed, takes_axis, after_function, begin, begin_statement, begin_line, begin_subscript, begin_axis, begin_product, begin_lead, go_on, is_name, close_bracket, close_parenthesis, next_subscript, jot_dot, factor, none_open}
+use Rattle.line_trees.specs.Marks.{Marked, marks_from, marked_by, with_mark, step, may_end, changed, takes_axis, begin, begin_statement, begin_line, begin_subscript, begin_axis, begin_product, begin_lead, go_on, close_bracket, close_parenthesis, next_subscript, jot_dot, factor, none_open}
 use Rattle.line_trees.specs.Building.{items_of}
 use Rattle.line_trees.specs.Trees.{Expr, constant, value, niladic, paren, indexed, monadic, monadic_along, dyadic, dyadic_along, assign, assign_at, Subscripts, no_more, omitted, given, Statement, nothing, branch, whole, execute, LineTree}
-use Rattle.line_trees.specs.Grammar.{Is, IsOne, IsConstant, symbols, IsMonadic, scalar_monad, operator, other_monad, IsDyadic, scalar_dyad, inner, outer, slash, other_dyad, IsOperand, InBrackets, InParentheses, IsExpr, AreSubscripts, AreMore, IsStatement, IsLine}
+use Rattle.line_trees.specs.Grammar.{Is, IsOne, symbols, IsMonadic, scalar_monad, operator, other_monad, IsDyadic, scalar_dyad, inner, outer, slash, other_dyad, IsOperand, InBrackets, IsExpr, AreSubscripts, AreMore, IsStatement, IsLine}
 
 -- these tokens are an operand of this kind
 abbrev OperandOf : List Class → Operand → Expr → List PlainToken → Type 0

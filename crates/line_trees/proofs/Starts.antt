@@ -1,5 +1,5 @@
 -- With which symbols an expression begins, and that it begins so wherever one may begin.
-use Rattle.std.proofs.Common.{◌≡◌, ℕ, Bool, true, false, List, [], ◌∷◌, ◌++◌, Option, Some, None, Ok, refl, sym, ap, ◌∙◌, append_assoc, map, cond}
+use Rattle.std.proofs.Common.{◌≡◌, ℕ, Bool, true, false, List, [], ◌∷◌, ◌++◌, Option, Some, Ok, refl, sym, ap, ◌∙◌, cond}
 use Rattle.std.proofs.lemmas.Bool.{false≢true}
 use Rattle.apl_arrays.specs.declared.verb.Monad.{Monad}
 use Rattle.apl_arrays.specs.declared.verb.Dyad.{Dyad}
@@ -8,10 +8,9 @@ use Rattle.line_trees.specs.declared.class.Class.{Class}
 use Rattle.line_trees.specs.declared.tree.Fun.{Fun}
 use Rattle.line_trees.specs.declared.symbol.Symbol.{Symbol}
 use Rattle.line_trees.specs.declared.symbol.Symbol.TheVariants as symbol
-use Rattle.line_trees.specs.declared.machine.Before.{Before}
 use Rattle.line_trees.specs.declared.machine.Before.TheVariants as before
 use Rattle.line_trees.specs.declared.machine.Mode.{Mode}
-use Rattle.line_trees.specs.declared.machine.Mode.TheVariants.{Begins, Ends}
+use Rattle.line_trees.specs.declared.machine.Mode.TheVariants.{Begins}
 use Rattle.line_trees.specs.declared.machine.Bracket.{Bracket}
 use Rattle.line_trees.specs.Stacks.{first_of}
 use Rattle.line_trees.specs.Symbols.{symbol_of}

@@ -1,9 +1,8 @@
 -- The nodes of a tree stand for that tree.
-use Rattle.std.proofs.Common.{◌≡◌, ℕ, zero, suc, ◌+◌, ◌<◌, List, [], ◌∷◌, ◌++◌, Option, Some, None, length, get_or, refl, sym, ap, ◌∙◌, append_assoc, arith, length-append}
-use Rattle.line_trees.specs.declared.tree.Fun.{Fun}
+use Rattle.std.proofs.Common.{◌≡◌, ℕ, zero, suc, ◌+◌, ◌<◌, List, [], ◌∷◌, ◌++◌, Option, Some, None, length, get_or, refl, ap, ◌∙◌, arith, length-append}
 use Rattle.line_trees.specs.Nodes as node
 use Rattle.line_trees.specs.Nodes.{PlainNode}
-use Rattle.line_trees.specs.Trees.{Expr, constant, value, niladic, paren, indexed, monadic, monadic_along, dyadic, dyadic_along, assign, assign_at, Subscripts, no_more, omitted, given, Statement, nothing, branch, whole, execute, LineTree, Placed, PlacedList, added, placed, placed_subscripts, as_nodes, tree_at, subscripts_at, expr_of, trees_from, tree_numbered, line_of}
+use Rattle.line_trees.specs.Trees.{Expr, constant, value, niladic, paren, indexed, monadic, monadic_along, dyadic, dyadic_along, assign, assign_at, Subscripts, no_more, omitted, given, Statement, nothing, branch, whole, execute, LineTree, Placed, PlacedList, added, placed, placed_subscripts, as_nodes, subscripts_at, expr_of, trees_from, tree_numbered, line_of}
 
 -- one node more
 trees_more : (made : List Expr) (nodes : List PlainNode) (n : PlainNode) → trees_from made (nodes ++ n ∷ []) ≡ trees_from made nodes ++ expr_of (trees_from made nodes) n ∷ []

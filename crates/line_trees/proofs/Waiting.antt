@@ -1,11 +1,11 @@
 -- What waits to the right of an expression.
-use Rattle.std.proofs.Common.{◌≡◌, ℕ, List, [], ◌∷◌, ◌++◌, Option, Some, None, refl, sym, ap, ◌∙◌, length}
+use Rattle.std.proofs.Common.{◌≡◌, ℕ, List, [], ◌∷◌, ◌++◌, Option, None, refl, ap, ◌∙◌, length}
 use Rattle.line_trees.specs.declared.tree.Pending.{Pending}
 use Rattle.line_trees.specs.declared.tree.Pending.TheVariants as pending
 use Rattle.line_trees.specs.Stacks.{first_of, others_of}
 use Rattle.line_trees.specs.Nodes.{PlainNode}
 use Rattle.line_trees.specs.Nodes as node
-use Rattle.line_trees.specs.Building.{Numbers, Built, whole, attached, operand_built, name_built, subscript_built, subscripts, behind_subscripts, target_or_operand, subscripts_built}
+use Rattle.line_trees.specs.Building.{Numbers, Built, whole, attached, name_built, subscript_built, subscripts, behind_subscripts, target_or_operand, subscripts_built}
 
 -- neither a label nor a target is waited for
 abbrev pub IsOpen : List Pending → Type 0

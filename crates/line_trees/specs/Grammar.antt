@@ -1,5 +1,5 @@
 -- The grammar of statements: which tokens are which tree, a production a case.
-use Rattle.std.specs.Prelude.{◌≡◌, ◌++◌, ◌∷◌, [], ℕ, List, Bool, true, false, Option, Some, None, IsTrue, Ok, Err, map, length}
+use Rattle.std.specs.Prelude.{◌≡◌, ◌++◌, ◌∷◌, [], ℕ, List, Option, Some, None, IsTrue, map}
 use Rattle.apl_arrays.specs.Array.{PlainItems}
 use Rattle.apl_arrays.specs.declared.verb.Dyad.{Dyad}
 use Rattle.apl_arrays.specs.declared.verb.Monad.{Monad}

@@ -1,9 +1,7 @@
 -- Trees as nodes in the order of evaluation.
 use Rattle.std.specs.Prelude.{ℕ, List, Option, Some, None}
 use Rattle.apl_arrays.specs.Array.{PlainItems, plain_items}
-use Rattle.line_scanner.specs.declared.token.SystemName.{SystemName}
 use Rattle.line_trees.specs.declared.tree.Fun.{Fun}
-use Rattle.line_trees.specs.declared.tree.Form.{Form}
 use Rattle.line_trees.specs.declared.tree.Node.{Node}
 use Rattle.line_trees.specs.declared.tree.Node.TheVariants as node
 

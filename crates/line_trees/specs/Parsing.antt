@@ -1,5 +1,5 @@
 -- The tree of a line, or the place of its error, computed.
-use Rattle.std.specs.Prelude.{◌≡◌, ℕ, List, [], ◌∷◌, Option, Some, None, Result, Ok, Err}
+use Rattle.std.specs.Prelude.{◌≡◌, ℕ, List, [], Option, Some, Result, Ok, Err}
 use Rattle.line_scanner.specs.Token.{PlainToken}
 use Rattle.line_trees.specs.declared.class.Class.{Class}
 use Rattle.line_trees.specs.declared.tree.Form.{Form}

@@ -1,5 +1,5 @@
 -- Which sign is which function.
-use Rattle.std.specs.Prelude.{◌==◌, ◌||◌, ℕ, Bool, true, false, Option, Some, None, option_map, is_some, if◌then◌else◌}
+use Rattle.std.specs.Prelude.{◌==◌, ℕ, Bool, true, false, Option, Some, None, if◌then◌else◌}
 use Rattle.apl_arrays.specs.Glyph as glyph
 use Rattle.apl_arrays.specs.declared.verb.Monad.{Monad}
 use Rattle.apl_arrays.specs.declared.verb.Monad.TheVariants as monad

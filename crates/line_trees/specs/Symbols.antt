@@ -1,15 +1,12 @@
 -- What a token is in the grammar of statements, by its kind and by the class of a name.
-use Rattle.std.specs.Prelude.{◌==◌, ◌||◌, ℕ, Bool, Option, Some, None, option_map, is_some, List, find, if◌then◌else◌}
+use Rattle.std.specs.Prelude.{◌==◌, ◌||◌, ℕ, Option, Some, None, option_map, is_some, List, find, if◌then◌else◌}
 use Rattle.std.specs.Cmp.Lexicographic.{pointwise}
 use Rattle.apl_arrays.specs.Glyph as glyph
-use Rattle.apl_arrays.specs.declared.verb.Mix1.{Mix1}
-use Rattle.apl_arrays.specs.declared.verb.Mix2.{Mix2}
 use Rattle.apl_arrays.specs.declared.verb.Verb.TheVariants as verb
 use Rattle.line_scanner.specs.declared.token.SystemName.{SystemName}
 use Rattle.line_scanner.specs.declared.token.SystemName.TheVariants.{Svo, Svc, Svr, Svq, Svs}
 use Rattle.line_scanner.specs.Token.{PlainKind, numbers, chars, name, system, sign}
 use Rattle.line_trees.specs.declared.class.Class.{Class}
-use Rattle.line_trees.specs.declared.tree.Fun.{Fun}
 use Rattle.line_trees.specs.declared.tree.Fun.TheVariants as fun
 use Rattle.line_trees.specs.declared.symbol.Fold.{Fold}
 use Rattle.line_trees.specs.declared.symbol.Symbol.{Symbol}
