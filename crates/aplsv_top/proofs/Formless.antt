@@ -8,17 +8,12 @@ use Rattle.std.proofs.lemmas.List.{length-map}
 use Rattle.std.proofs.lemmas.List.Elements.{All-nil, All-cons, All-head, All-tail}
 use Rattle.std.proofs.lemmas.List.Quantifiers.{position-Some}
 use Rattle.std.proofs.lemmas.List.Sums.{fails_before_first, position_or_len_is}
-use Rattle.bundle_text.specs.Bundle.{PlainBundle, BundleText, IsNoBundle}
-use Rattle.bundle_text.specs.Offset.{offset_of}
-use Rattle.bundle_text.specs.Refused.{IsReason}
-use Rattle.bundle_text.specs.declared.refused.BundleRefused.{BundleRefused}
-use Rattle.bundle_text.specs.declared.refused.BundleRefused.TheVariants.{Malformed, WantOfMemory}
-use Rattle.bundle_text.specs.declared.refused.BundleRule.TheVariants.{Form}
+use Rattle.bundle_text.specs.Bundle.{PlainBundle, BundleText}
 use Rattle.bundle_text.specs.User.{PlainUser}
 use Rattle.apl_session.specs.Statement.{statement_in}
 use Rattle.apl_session.specs.declared.statement.Statement.{Statement}
 use Rattle.aplsv_top.specs.declared.runnable.LinePlace.{LinePlace}
-use Rattle.aplsv_top.specs.Runnable.{AreStatements, IsNotRunnable, IsFormlessAt, formless_line, found_first, formless_place}
+use Rattle.aplsv_top.specs.Runnable.{AreStatements, IsNotRunnable, formless_line, found_first, formless_place}
 
 none_is_false : (b : Bool) (n : ℕ) → cond b (Some n) None ≡ None → b ≡ false
 none_is_false true n e = absurd cc
@@ -81,25 +76,6 @@ place_seen see p (x ∷ xs) = ap (λ n. cond (not (p (see x))) (1 + n) 0) (place
 
 pub position_seen : {X Y : Type 0} (see : X → Y) (p : Y → Bool) (xs : List X) → position (λ x. p (see x)) xs ≡ position p (map see xs)
 position_seen see p xs = sym (ap₂ (λ at len. cond (ltb at len) (Some at) None) (place_seen see p xs) (length-map xs see))
-
--- what is no bundle can't be run
-pub no_bundle : (why : BundleRefused) (bytes : List ℕ) → IsReason why (IsNoBundle bytes) → IsReason why (IsNotRunnable bytes)
-no_bundle (Malformed offset rule) bytes none = λ bundle runnable. none bundle runnable.text
-no_bundle WantOfMemory bytes none = tt
-
--- where memory ran out no line is named
-pub no_line : (why : BundleRefused) (users : List PlainUser) (place : LinePlace) → why ≡ WantOfMemory → IsFormlessAt users place why
-no_line why users place e = subst (IsFormlessAt users place) (sym e) tt
-
--- the line that is named is the first of the one bundle that the bytes are the text of
-pub line_named : (bytes : List ℕ) (bundle other : PlainBundle) (users : List PlainUser) (place there : LinePlace) (offset : ℕ) → ((bytes : List ℕ) (bundle other : PlainBundle) → BundleText bytes bundle → BundleText bytes other → bundle ≡ other)
-    → BundleText bytes bundle → users ≡ bundle.users → formless_place users ≡ Some place → offset ≡ offset_of bundle.users place.user place.line → BundleText bytes other → formless_place other.users ≡ Some there
-    → IsFormlessAt other.users there (Malformed offset Form)
-line_named bytes bundle other users place there offset one text are found named other_text other_found =
-    let same : bundle ≡ other = one bytes bundle other text other_text in
-    let places : Some place ≡ Some there = sym found ∙ (ap formless_place (are ∙ ap (λ b. b.users) same) ∙ other_found) in
-    let place_is : place ≡ there = cc places in
-    (named ∙ ap₂ (λ b p. offset_of b.users p.user p.line) same place_is, refl)
 
 nothing_at : (n : ℕ) → cond (nat_lt n n) (Some n) None ≡ None
 nothing_at n = let beyond : nat_lt n n ≡ false = grind (arith, nat_tests) in ap (λ within. cond within (Some n) None) beyond
