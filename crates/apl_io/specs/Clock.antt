@@ -14,6 +14,7 @@ abbrev pub first_of : List ℤ → Option ℤ
 first_of [] = None
 first_of (number ∷ rest) = Some number
 
+-- and those that come after it
 abbrev pub others_of : List ℤ → List ℤ
 others_of [] = []
 others_of (number ∷ rest) = rest

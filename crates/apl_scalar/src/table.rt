@@ -103,7 +103,7 @@ pub fn dyadic_items(
 }
 
 /// The item of a dyadic function at two numbers, or `None`, which is DOMAIN. No memory.
-pub fn number_of(f: Dyad, a: i64, b: i64) -> Option<i64>
+pub fn item_of_numbers(f: Dyad, a: i64, b: i64) -> Option<i64>
     ensures { result ≡ dyadic_item f a b }
 {
     dyadic_table!(f, call_of(a, b))
@@ -141,7 +141,7 @@ fn with_number(f: Dyad, a: i64, b: &Item) -> Option<i64>
     ensures { result ≡ pair_item f (Item.Number a) b.now }
 {
     match b {
-        Item::Number(b) => number_of(f, a, *b),
+        Item::Number(b) => item_of_numbers(f, a, *b),
         Item::Char(_) => character_of(f, false),
     }
 }

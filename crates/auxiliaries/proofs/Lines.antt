@@ -6,7 +6,7 @@ use Rattle.std.proofs.lemmas.List.{drop_all}
 use Rattle.std.proofs.lemmas.Bool.{ltb-false}
 use Rattle.apl_arrays.specs.Glyph.{Spells}
 use Rattle.apl_arrays.specs.List.{Listed, glyphs_in}
-use Rattle.auxiliaries.specs.File.{lines_in, with_byte, IsLine, IsText, IsNoText, most_file_bytes, most_line_glyphs}
+use Rattle.auxiliaries.specs.File.{lines_in, with_byte, IsFileLine, IsText, IsNoText, most_file_bytes, most_file_line_glyphs}
 
 -- where the first line feed stands, or the length
 abbrev pub feed : List ℕ → ℕ
@@ -33,12 +33,12 @@ first_line byte [] = front (eqb byte 10) byte [] refl
 first_line byte (next ∷ bytes) = front (eqb byte 10) byte (next ∷ bytes) (ap (λ lines. with_byte byte lines) (first_line next bytes))
 
 -- one more line that is spelt, and so all lines so far
-pub one_more : (bytes rest line behind : List ℕ) (lines : List (Listed ℕ)) (next : Listed ℕ) → lines_in rest ≡ line ∷ lines_in behind → IsLine line next.items
-    → ((more : List (List ℕ)) → AllZip IsLine (lines_in rest) more → AllZip IsLine (lines_in bytes) (map glyphs_in lines ++ more))
-    → (more : List (List ℕ)) → AllZip IsLine (lines_in behind) more → AllZip IsLine (lines_in bytes) (map glyphs_in (lines ++ next ∷ []) ++ more)
+pub one_more : (bytes rest line behind : List ℕ) (lines : List (Listed ℕ)) (next : Listed ℕ) → lines_in rest ≡ line ∷ lines_in behind → IsFileLine line next.items
+    → ((more : List (List ℕ)) → AllZip IsFileLine (lines_in rest) more → AllZip IsFileLine (lines_in bytes) (map glyphs_in lines ++ more))
+    → (more : List (List ℕ)) → AllZip IsFileLine (lines_in behind) more → AllZip IsFileLine (lines_in bytes) (map glyphs_in (lines ++ next ∷ []) ++ more)
 one_more bytes rest line behind lines next split is far more each =
-    let P : List (List ℕ) → Type 0 = λ all. AllZip IsLine (lines_in bytes) all in
-    let Q : List (List ℕ) → Type 0 = λ all. AllZip IsLine all (next.items ∷ more) in
+    let P : List (List ℕ) → Type 0 = λ all. AllZip IsFileLine (lines_in bytes) all in
+    let Q : List (List ℕ) → Type 0 = λ all. AllZip IsFileLine all (next.items ∷ more) in
     subst P (joined lines next more) (far (next.items ∷ more) (subst Q (sym split) (is, each)))
   where
     joined : (lines : List (Listed ℕ)) (next : Listed ℕ) (more : List (List ℕ)) → map glyphs_in lines ++ (next.items ∷ more) ≡ map glyphs_in (lines ++ next ∷ []) ++ more
@@ -46,36 +46,36 @@ one_more bytes rest line behind lines next split is far more each =
     joined (first ∷ lines) next more = ap (λ all. first.items ∷ all) (joined lines next more)
 
 -- the lines behind the first
-behind_first : (line : List ℕ) (rest more : List (List ℕ)) → AllZip IsLine (line ∷ rest) more → (others : List (List ℕ)) × AllZip IsLine rest others
+behind_first : (line : List ℕ) (rest more : List (List ℕ)) → AllZip IsFileLine (line ∷ rest) more → (others : List (List ℕ)) × AllZip IsFileLine rest others
 behind_first line rest [] each = absurd each
 behind_first line rest (first ∷ more) each = (more, each.1)
 
 -- what spells all lines spells those behind the first
-pub others : (bytes rest line behind : List ℕ) → lines_in rest ≡ line ∷ lines_in behind → ((lines : List (List ℕ)) → AllZip IsLine (lines_in bytes) lines → (more : List (List ℕ)) × AllZip IsLine (lines_in rest) more)
-    → (lines : List (List ℕ)) → AllZip IsLine (lines_in bytes) lines → (more : List (List ℕ)) × AllZip IsLine (lines_in behind) more
+pub others : (bytes rest line behind : List ℕ) → lines_in rest ≡ line ∷ lines_in behind → ((lines : List (List ℕ)) → AllZip IsFileLine (lines_in bytes) lines → (more : List (List ℕ)) × AllZip IsFileLine (lines_in rest) more)
+    → (lines : List (List ℕ)) → AllZip IsFileLine (lines_in bytes) lines → (more : List (List ℕ)) × AllZip IsFileLine (lines_in behind) more
 others bytes rest line behind split far lines each =
     let found = far lines each in
-    let Q : List (List ℕ) → Type 0 = λ all. AllZip IsLine all found.0 in
+    let Q : List (List ℕ) → Type 0 = λ all. AllZip IsFileLine all found.0 in
     behind_first line (lines_in behind) found.0 (subst Q split found.1)
 
 -- nothing spells the first line
-unspelt : (line : List ℕ) (rest more : List (List ℕ)) → ((glyphs : List ℕ) → ¬ IsLine line glyphs) → AllZip IsLine (line ∷ rest) more → ⊥
+unspelt : (line : List ℕ) (rest more : List (List ℕ)) → ((glyphs : List ℕ) → ¬ IsFileLine line glyphs) → AllZip IsFileLine (line ∷ rest) more → ⊥
 unspelt line rest [] none each = each
 unspelt line rest (first ∷ more) none each = none first each.0
 
 -- a line that nothing spells
-pub no_line : (bytes rest line behind : List ℕ) → lines_in rest ≡ line ∷ lines_in behind → ((lines : List (List ℕ)) → AllZip IsLine (lines_in bytes) lines → (more : List (List ℕ)) × AllZip IsLine (lines_in rest) more)
-    → ((glyphs : List ℕ) → ¬ IsLine line glyphs) → IsNoText bytes
+pub no_line : (bytes rest line behind : List ℕ) → lines_in rest ≡ line ∷ lines_in behind → ((lines : List (List ℕ)) → AllZip IsFileLine (lines_in bytes) lines → (more : List (List ℕ)) × AllZip IsFileLine (lines_in rest) more)
+    → ((glyphs : List ℕ) → ¬ IsFileLine line glyphs) → IsNoText bytes
 no_line bytes rest line behind split far none lines text =
     let found = far lines text.each in
-    let Q : List (List ℕ) → Type 0 = λ all. AllZip IsLine all found.0 in
+    let Q : List (List ℕ) → Type 0 = λ all. AllZip IsFileLine all found.0 in
     unspelt line (lines_in behind) found.0 none (subst Q split found.1)
 
 -- at the end all lines are spelt
 pub all_lines : (bytes rest : List ℕ) (lines : List (Listed ℕ)) → length rest ≡ 0 → length bytes ≤ most_file_bytes
-    → ((more : List (List ℕ)) → AllZip IsLine (lines_in rest) more → AllZip IsLine (lines_in bytes) (map glyphs_in lines ++ more)) → IsText bytes (map glyphs_in lines)
+    → ((more : List (List ℕ)) → AllZip IsFileLine (lines_in rest) more → AllZip IsFileLine (lines_in bytes) (map glyphs_in lines ++ more)) → IsText bytes (map glyphs_in lines)
 all_lines bytes [] lines none small far =
-    let P : List (List ℕ) → Type 0 = λ all. AllZip IsLine (lines_in bytes) all in
+    let P : List (List ℕ) → Type 0 = λ all. AllZip IsFileLine (lines_in bytes) all in
     record { small = small; each = subst P (append-nil (map glyphs_in lines)) (far [] tt) }
 all_lines bytes (byte ∷ rest) lines none small far = absurd (omega (arith, none))
 
@@ -117,21 +117,21 @@ unended bytes some is =
     take_nothing (suc n) = refl
 
 -- the lines of a text are short
-pub short_lines : (bytes : List ℕ) (lines : List (List ℕ)) → IsText bytes lines → All (λ line. length line ≤ most_line_glyphs) lines
+pub short_lines : (bytes : List ℕ) (lines : List (List ℕ)) → IsText bytes lines → All (λ line. length line ≤ most_file_line_glyphs) lines
 short_lines bytes lines text = each (lines_in bytes) lines text.each
   where
-    each : (spelt lines : List (List ℕ)) → AllZip IsLine spelt lines → (k : ℕ) (d : List ℕ) → k < length lines → length (get_or lines k d) ≤ most_line_glyphs
+    each : (spelt lines : List (List ℕ)) → AllZip IsFileLine spelt lines → (k : ℕ) (d : List ℕ) → k < length lines → length (get_or lines k d) ≤ most_file_line_glyphs
     each spelt [] zips k d below = absurd (omega (arith, below))
     each [] (line ∷ lines) zips k d below = absurd zips
     each (bytes ∷ spelt) (line ∷ lines) zips zero d below = zips.0.short
     each (bytes ∷ spelt) (line ∷ lines) zips (suc k) d below = each spelt lines zips.1 k d (omega (arith, below))
 
 -- the lines behind the first are short where all are
-pub short_behind : (line : List ℕ) (lines : List (List ℕ)) → All (λ l. length l ≤ most_line_glyphs) (line ∷ lines) → All (λ l. length l ≤ most_line_glyphs) lines
+pub short_behind : (line : List ℕ) (lines : List (List ℕ)) → All (λ l. length l ≤ most_file_line_glyphs) (line ∷ lines) → All (λ l. length l ≤ most_file_line_glyphs) lines
 short_behind line lines all k d below = all (suc k) d (omega (arith, below))
 
 -- lines that spell the same bytes are the same
-pub same_lines : ((bytes line other : List ℕ) → Spells bytes line → Spells bytes other → line ≡ other) → (spelt lines other : List (List ℕ)) → AllZip IsLine spelt lines → AllZip IsLine spelt other → lines ≡ other
+pub same_lines : ((bytes line other : List ℕ) → Spells bytes line → Spells bytes other → line ≡ other) → (spelt lines other : List (List ℕ)) → AllZip IsFileLine spelt lines → AllZip IsFileLine spelt other → lines ≡ other
 same_lines one [] [] [] a b = refl
 same_lines one [] [] (line ∷ other) a b = absurd b
 same_lines one [] (line ∷ lines) other a b = absurd a

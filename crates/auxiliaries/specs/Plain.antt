@@ -2,7 +2,7 @@
 use Rattle.std.specs.Prelude.{◌≤◌, ℤ, pos, All, length, map}
 use Rattle.std.specs.String.{string_bytes}
 use Rattle.apl_arrays.specs.List.{glyphs_in}
-use Rattle.auxiliaries.specs.File.{most_line_glyphs}
+use Rattle.auxiliaries.specs.File.{most_file_line_glyphs}
 use Rattle.auxiliaries.specs.Command.{Command as PlainCommand, read, next, write, put, done, other}
 use Rattle.auxiliaries.specs.Protocol.{TextState as PlainState, idle, reading, writing}
 use Rattle.auxiliaries.specs.declared.answer.Code.{Code}
@@ -30,7 +30,7 @@ plain_state (Writing name bytes) = writing (string_bytes name) bytes.items
 -- each line that is left can be an answer
 abbrev pub HasShortLines : PlainState → Type 0
 HasShortLines idle = Unit {0}
-HasShortLines (reading lines) = All (λ line. length line ≤ most_line_glyphs) lines
+HasShortLines (reading lines) = All (λ line. length line ≤ most_file_line_glyphs) lines
 HasShortLines (writing name bytes) = Unit {0}
 
 -- the number of a code

@@ -5,7 +5,8 @@ use Rattle.apl_arrays.specs.File.{is_file_name}
 use Rattle.apl_io.specs.declared.store_error.StoreError.{StoreError}
 use Rattle.apl_io.specs.declared.store_error.StoreError.TheVariants.{Failed, WantOfMemory}
 use Rattle.auxiliaries.specs.Command.{Command, read, next, write, put, done, other}
-use Rattle.auxiliaries.specs.File.{IsText, IsNoText, line_text, most_file_bytes}
+use Rattle.auxiliaries.specs.File.{IsText, IsNoText, most_file_bytes}
+use Rattle.line_text.specs.Lines.{line_text}
 
 -- between files, with the lines of a file that are left to read, or with the name and the bytes so far of a file to be written
 pub data TextState : Type 0 where

@@ -14,6 +14,6 @@ module _ {S : Type 0} (forgets : S → ℕ → S → Type 0) (replies : S → �
   Leads (answered party value answer) before after = replies before party value answer after
 
   -- these events, the newest first, lead from the state at the start to the one at the end
-  abbrev pub IsRun : S → List Event → S → Type 0
-  IsRun start [] end = end ≡ start
-  IsRun start (event ∷ earlier) end = (before : S) × IsRun start earlier before × Leads event before end
+  abbrev pub IsReplierRun : S → List Event → S → Type 0
+  IsReplierRun start [] end = end ≡ start
+  IsReplierRun start (event ∷ earlier) end = (before : S) × IsReplierRun start earlier before × Leads event before end

@@ -14,7 +14,7 @@ pub record Served (T : Type 0) : Type 0 where
   pub state : TextState
 
 -- a call that failed raised the count of faults, which never falls
-pub record HasCause {R : Type 0} (before now : ℕ) (answer : Result R StoreError) : Type 0 where
+pub record CountsFaults {R : Type 0} (before now : ℕ) (answer : Result R StoreError) : Type 0 where
   pub counted : before ≤ now
   pub cause : IsErrOf answer Failed → Rose before now
 
@@ -23,14 +23,14 @@ module _ {T : Type 0} (told : T → Option (Told (List ℕ))) (faults : T → �
   pub record IsReadStep (old : Served T) (name : List ℕ) (answer : PlainArray) (new : Served T) : Type 0 where
     pub reply : Result (Option (List ℕ)) StoreError
     pub told_reply : Reads by_name (told old.store) name reply (told new.store)
-    pub fault : HasCause (faults old.store) (faults new.store) reply
+    pub fault : CountsFaults (faults old.store) (faults new.store) reply
     pub after : AfterRead reply answer new.state
 
   -- one call of the store to replace a file, and what follows from its answer
   pub record IsReplaceStep (old : Served T) (name bytes : List ℕ) (answer : PlainArray) (new : Served T) : Type 0 where
     pub reply : Result (Unit {0}) StoreError
     pub told_reply : Writes by_name (told old.store) name bytes reply (told new.store)
-    pub fault : HasCause (faults old.store) (faults new.store) reply
+    pub fault : CountsFaults (faults old.store) (faults new.store) reply
     pub after : AfterReplace reply old.state answer new.state
 
   -- a step with its answer: without a call of the store, or with one

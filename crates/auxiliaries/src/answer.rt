@@ -1,6 +1,6 @@
 ghost use Rattle.std.specs.Prelude.{◌≡◌, ◌<◌, ◌≤◌, ◌∷◌, [], IfOk, length};
 ghost use Rattle.apl_arrays.specs.Array.{scalar};
-ghost use Rattle.auxiliaries.specs.File.{most_line_glyphs};
+ghost use Rattle.auxiliaries.specs.File.{most_file_line_glyphs};
 ghost use Rattle.auxiliaries.specs.Plain.{code_number};
 ghost use Rattle.auxiliaries.specs.Protocol.{code, vector, no_line};
 
@@ -56,7 +56,7 @@ pub(crate) fn number_answer(mut list: NumberList, number: i64) -> Array
 
 /// A line as an answer. No memory.
 pub(crate) fn line_answer(line: Line) -> Array
-    requires { length line.items ≤ most_line_glyphs }
+    requires { length line.items ≤ most_file_line_glyphs }
     ensures { result ≡ vector line.items }
 {
     let length = line.as_slice().len() as u32;

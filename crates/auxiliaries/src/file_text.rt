@@ -3,7 +3,8 @@ ghost use Rattle.std.specs.List.{position};
 ghost use Rattle.std.specs.String.{string_bytes};
 ghost use Rattle.apl_arrays.specs.File.{IsFileName};
 ghost use Rattle.apl_arrays.specs.List.{glyphs_in};
-ghost use Rattle.auxiliaries.specs.File.{lines_in, IsLine, IsText, IsNoText, line_text};
+ghost use Rattle.auxiliaries.specs.File.{lines_in, IsFileLine, IsText, IsNoText};
+ghost use Rattle.line_text.specs.Lines.{line_text};
 
 use apl_arrays::{Bytes, FileName, Glyph, GlyphRefused, Line, WantOfMemory, glyphs_of, utf8_of};
 use std::alloc::Global;
@@ -91,7 +92,7 @@ fn line_feed(bytes: &[u8]) -> Option<usize>
 
 // The line that bytes spell, or `None` where they spell none or it is too long.
 fn line_of(alloc: Global, bytes: &[u8]) -> Result<Option<Line>, WantOfMemory>
-    ensures { IfOk result (λ line. MatchOption line ((glyphs : List ℕ) → ¬ IsLine bytes.now glyphs) (λ line. IsLine bytes.now line.items)) }
+    ensures { IfOk result (λ line. MatchOption line ((glyphs : List ℕ) → ¬ IsFileLine bytes.now glyphs) (λ line. IsFileLine bytes.now line.items)) }
 {
     match glyphs_of(alloc, bytes) {
         Ok(line) if line.as_slice().len() <= LINE_LIMIT => Ok(Some(line)),
@@ -102,7 +103,7 @@ fn line_of(alloc: Global, bytes: &[u8]) -> Result<Option<Line>, WantOfMemory>
 }
 
 /// A line as it stands in a file: in UTF-8, with a line feed. It takes memory for it.
-pub(crate) fn line_text(alloc: Global, glyphs: &[Glyph]) -> Result<Bytes, WantOfMemory>
+pub(crate) fn line_bytes(alloc: Global, glyphs: &[Glyph]) -> Result<Bytes, WantOfMemory>
     ensures { IfOk result (λ text. text.items ≡ line_text glyphs.now) }
 {
     let line = Line::from(Vec::from_slice(alloc, glyphs)?);

@@ -4,7 +4,7 @@ ghost use Rattle.apl_arrays.specs.Array.{PlainArray};
 ghost use Rattle.apl_io.specs.declared.store_error.StoreError.TheVariants.{Failed};
 ghost use Rattle.auxiliaries.specs.Command.{command_of, read, next, write, put, done, other};
 ghost use Rattle.auxiliaries.specs.File.{lines_in, IsText};
-ghost use Rattle.auxiliaries.specs.Run.{Event, began, answered, IsRun};
+ghost use Rattle.auxiliaries.specs.Run.{Event, began, answered, IsReplierRun};
 ghost use Rattle.auxiliaries.specs.Protocol.{step, answers, reads, replaces, refused, idle, reading, writing, code, vector, no_line, AfterRead, AfterReplace};
 
 use crate::Replier;
@@ -64,9 +64,9 @@ pub fn files_are_read_in_one_way()
 
 /// A run of a replier goes on with each of its calls: what came before, and then that call. The call does nothing.
 pub fn runs_go_on<R: Replier + Drop>()
-    ensures starts { (state : R) → IsRun R.forgets R.replies state [] state }
-    ensures forgets { (start before after : R) (events : List Event) (party : ℕ) → IsRun R.forgets R.replies start events before
-        → R.forgets before party after → IsRun R.forgets R.replies start (began party ∷ events) after }
-    ensures replies { (start before after : R) (events : List Event) (party : ℕ) (value answer : PlainArray) → IsRun R.forgets R.replies start events before
-        → R.replies before party value answer after → IsRun R.forgets R.replies start (answered party value answer ∷ events) after }
+    ensures starts { (state : R) → IsReplierRun R.forgets R.replies state [] state }
+    ensures forgets { (start before after : R) (events : List Event) (party : ℕ) → IsReplierRun R.forgets R.replies start events before
+        → R.forgets before party after → IsReplierRun R.forgets R.replies start (began party ∷ events) after }
+    ensures replies { (start before after : R) (events : List Event) (party : ℕ) (value answer : PlainArray) → IsReplierRun R.forgets R.replies start events before
+        → R.replies before party value answer after → IsReplierRun R.forgets R.replies start (answered party value answer ∷ events) after }
 {}

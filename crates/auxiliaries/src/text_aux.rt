@@ -3,7 +3,8 @@ ghost use Rattle.std.specs.String.{string_bytes};
 ghost use Rattle.apl_arrays.specs.Array.{scalar};
 ghost use Rattle.apl_arrays.specs.List.{glyphs_in};
 ghost use Rattle.apl_io.specs.Replies.{plain_read};
-ghost use Rattle.auxiliaries.specs.File.{line_text, most_file_bytes};
+ghost use Rattle.auxiliaries.specs.File.{most_file_bytes};
+ghost use Rattle.line_text.specs.Lines.{line_text};
 ghost use Rattle.auxiliaries.specs.Plain.{plain_state, code_number, HasShortLines};
 ghost use Rattle.auxiliaries.specs.Protocol.{AfterRead, answers, reading, writing, code, step_read, step_next, step_write, step_put, step_done};
 ghost use Rattle.auxiliaries.specs.Served.{Replies, Takes, IsReadStep, IsReplaceStep, forgotten, KeepsFiles};
@@ -11,7 +12,7 @@ ghost use Rattle.auxiliaries.specs.Served.{Replies, Takes, IsReadStep, IsReplace
 use crate::Replier;
 use crate::answer::{Code, line_answer, no_line, number_answer};
 use crate::command::{Command, command_of};
-use crate::file_text::{FILE_LIMIT, file_name, line_text, text_lines};
+use crate::file_text::{FILE_LIMIT, file_name, line_bytes, text_lines};
 use crate::text_state::TextState;
 use apl_arrays::{Array, Bytes, Glyph, Line, NumberList, WantOfMemory};
 use apl_io::{StoreError, TextStore};
@@ -221,7 +222,7 @@ fn add_line(alloc: Global, bytes: &mut Vec<u8>, text: &[Glyph]) -> Result<Array,
     ensures bytes { OnOk result (bytes.new.items ≡ (if nat_le (length (bytes.old.items ++ line_text text.now)) most_file_bytes then bytes.old.items ++ line_text text.now else bytes.old.items)) }
     ensures err { OnErr result (bytes.new.items ≡ bytes.old.items) }
 {
-    let line = line_text(alloc, text)?;
+    let line = line_bytes(alloc, text)?;
     if line.as_slice().len() > FILE_LIMIT.saturating_sub(bytes.len()) {
         return Code::NoText.answer(alloc);
     }

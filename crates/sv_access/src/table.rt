@@ -8,8 +8,7 @@ use crate::state::{State, view};
 use crate::verdict::{Owners, Verdict};
 
 /// What becomes of an access under the control in force, which is in A's view. Its element there
-/// holds it where the state's vector has 1 at that element too; else it is granted. Source: this
-/// profile.
+/// holds it where the state's vector has 1 at that element too; else it is granted.
 pub fn decide(control: Control, state: State, side: Side, kind: Kind) -> Verdict
     ensures table { result ≡ verdict_of control state side kind }
     ensures element { NamesAnElement control result }

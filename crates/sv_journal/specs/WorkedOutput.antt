@@ -32,7 +32,7 @@ assignment arrow n = codes "      X" ++ (arrow ++ n)
 
 -- the line that offers X to a party, where the quad is one glyph
 abbrev pub offer_line : List ℕ → List ℕ → List ℕ
-offer_line quad party = codes "      " ++ (party ++ (32 ∷ (quad ++ codes "SVO 'X'")))
+offer_line quad party = codes "      " ++ (party ++ (codes " " ++ (quad ++ codes "SVO 'X'")))
 
 -- what the two users saw, in codes of glyphs
 abbrev pub plain_path_transcripts : List PlainTranscript
@@ -41,10 +41,11 @@ plain_path_transcripts =
     ∷ record { user = 1002; lines = offer_line (quad ∷ []) (codes "1001") ∷ codes "2" ∷ codes "      X" ∷ codes "4" ∷ [] }
     ∷ []
 
--- the arrow and the quad in UTF-8
+-- the arrow in UTF-8
 abbrev pub arrow_utf8 : List ℕ
 arrow_utf8 = 226 ∷ 134 ∷ 144 ∷ []
 
+-- the quad in UTF-8
 abbrev pub quad_utf8 : List ℕ
 quad_utf8 = 226 ∷ 142 ∷ 149 ∷ []
 
@@ -72,10 +73,11 @@ plain_path_output =
     ∷ codes "end"
     ∷ [])
 
--- numbers in a shape, and characters
+-- an array of numbers
 abbrev pub number_array : List ℕ → List ℤ → PlainArray
 number_array shape list = record { shape = shape; items = numbers list }
 
+-- an array of characters
 abbrev pub char_array : List ℕ → List ℕ → PlainArray
 char_array shape text = record { shape = shape; items = chars text }
 
@@ -109,13 +111,15 @@ abbrev pub every_kind_transcripts : List PlainTranscript
 every_kind_transcripts =
     record { user = 1001; lines = [] } ∷ record { user = 1002; lines = [] ∷ [] } ∷ record { user = 1999; lines = [] } ∷ []
 
--- the signs that are no ASCII, in UTF-8
+-- ¯ in UTF-8
 abbrev pub overbar_utf8 : List ℕ
 overbar_utf8 = 194 ∷ 175 ∷ []
 
+-- ∆ in UTF-8
 abbrev pub delta_utf8 : List ℕ
 delta_utf8 = 226 ∷ 136 ∷ 134 ∷ []
 
+-- ⍴ in UTF-8
 abbrev pub rho_utf8 : List ℕ
 rho_utf8 = 226 ∷ 141 ∷ 180 ∷ []
 
