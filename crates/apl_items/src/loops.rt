@@ -27,7 +27,7 @@ pub fn by_place<T: Drop, F: Fn(usize) -> Option<T>>(
     Ok(List::from(items))
 }
 
-/// The items that a rule gives to the numbers for each place.
+/// The items that a rule gives to the numbers for each place. It takes memory for the items.
 pub fn each<F: Fn(i64) -> Option<i64>>(
     alloc: Global,
     count: usize,
@@ -51,7 +51,7 @@ pub fn each<F: Fn(i64) -> Option<i64>>(
     )
 }
 
-/// The items that a rule gives to the pairs of numbers for each place.
+/// The items that a rule gives to the pairs of numbers for each place. It takes memory for the items.
 pub fn pairs<F: Fn(i64, i64) -> Option<i64>>(
     alloc: Global,
     count: usize,
@@ -79,6 +79,7 @@ pub fn pairs<F: Fn(i64, i64) -> Option<i64>>(
 }
 
 /// The items that a rule gives to the pairs of characters for each place, by whether they are the same.
+/// It takes memory for the items.
 pub fn glyph_pairs<F: Fn(bool) -> Option<i64>>(
     alloc: Global,
     count: usize,
@@ -105,7 +106,7 @@ pub fn glyph_pairs<F: Fn(bool) -> Option<i64>>(
     )
 }
 
-/// An empty list with room for so many items.
+/// An empty list with room for so many items. It takes that memory at once.
 pub fn room_for<T>(alloc: Global, count: usize) -> Result<Vec<T>, WantOfMemory>
     ensures none { IfOk result (λ room. room.items ≡ []) }
     ensures len { IfOk result (λ items. vec_len items ≡ 0) }

@@ -66,7 +66,7 @@ fn moved_list<T: Copy + Drop, W: Walk + Drop>(
     Ok(List::from(made))
 }
 
-/// The item at a source place, or the fill.
+/// The item at a source place, or the fill. No memory.
 pub fn item_at_source<T: Copy + Drop>(list: &[T], source: Option<usize>, fill: T) -> T
     requires { (from : ℕ) → source ≡ Some from → from < length list.now }
     ensures { result ≡ item_or fill list.now source }

@@ -6,7 +6,7 @@ ghost use Rattle.sv_access.specs.Control.{swapped, joined};
 #[derive(Clone, Copy, Debug, PartialEq, Eq)]
 pub struct Control(pub [bool; 4]);
 
-/// The same control as the partner sees it, in the order 2 1 4 3.
+/// The same control as the partner sees it, in the order 2 1 4 3. No memory.
 pub fn swap(c: Control) -> Control
     ensures { result ≡ swapped c }
 {
@@ -15,7 +15,7 @@ pub fn swap(c: Control) -> Control
 }
 
 /// The control in force for a coupling, in A's view: each element is 1 where one of the two
-/// vectors has it. `a` is in A's view and `b` in B's.
+/// vectors has it. `a` is in A's view and `b` in B's. No memory.
 pub fn join(a: Control, b: Control) -> Control
     ensures { result ≡ joined a b }
 {

@@ -12,7 +12,7 @@ pub enum State {
     UnseenB,
 }
 
-/// The state after a granted access.
+/// The state after a granted access. No memory.
 pub fn after(state: State, side: Side, kind: Kind) -> State
     ensures { result ≡ state_after state side kind }
 {
@@ -24,7 +24,7 @@ pub fn after(state: State, side: Side, kind: Kind) -> State
     }
 }
 
-/// The accesses that a state lets control hold, as a side sees them.
+/// The accesses that a state lets control hold, as a side sees them. No memory.
 pub fn view(state: State, side: Side) -> Control
     ensures { result ≡ vector_of_state state side }
 {
