@@ -1,7 +1,7 @@
 use crate::fields::{push_glyphs, quoted, text_of};
 use crate::numbers::{numbers_of, push_numbers};
 use anyhow::{Context, Result, bail};
-use apl_arrays::{Array, Fail, Items, glyphs_of};
+use apl_arrays::{Array, Fail, Glyph, Items, glyphs_of};
 use std::alloc::{AllocError, Global};
 
 /// The axes that a text names, with blanks between.
@@ -42,16 +42,20 @@ fn push_shape(text: &mut String, shape: &[u32]) -> Result<(), AllocError> {
     Ok(())
 }
 
+/// Adds characters to a text, in quotes, with each quote among them twice.
+pub fn push_quoted(alloc: Global, text: &mut String, glyphs: &[Glyph]) -> Result<()> {
+    let mut plain = String::new(alloc);
+    push_glyphs(alloc, &mut plain, glyphs)?;
+    text.push('\'')?;
+    text.push_str(plain.replace(alloc, "'", "''")?.as_str())?;
+    text.push('\'')?;
+    Ok(())
+}
+
 fn push_items(alloc: Global, text: &mut String, items: &Items) -> Result<()> {
     match items {
         Items::Numbers(numbers) => push_numbers(text, numbers.as_slice())?,
-        Items::Chars(line) => {
-            let mut plain = String::new(alloc);
-            push_glyphs(alloc, &mut plain, line.as_slice())?;
-            text.push('\'')?;
-            text.push_str(plain.replace(alloc, "'", "''")?.as_str())?;
-            text.push('\'')?;
-        }
+        Items::Chars(line) => push_quoted(alloc, text, line.as_slice())?,
     }
     Ok(())
 }

@@ -6,8 +6,10 @@ mod arrays;
 mod characters;
 mod display;
 mod fields;
+mod items;
 mod names;
 mod numbers;
+mod reports;
 mod scalar;
 mod shapes;
 mod tokens;
@@ -16,7 +18,9 @@ use anyhow::Result;
 use case_tables::{Tally, run_table};
 use characters::{BadGlyphs, Glyphs};
 use display::{Formats, Lines};
+use items::{PlacedItems, Scalars};
 use names::{FileNameOrder, FileNames, NameOrder, Names, Words};
+use reports::{Refusals, Reports};
 use scalar::{Dyads, Monads};
 use shapes::{Equality, Shapes};
 use std::process::ExitCode;
@@ -32,6 +36,10 @@ fn values(rt: &HostRuntime) -> Result<Tally> {
     tally.add(run_table(rt, "words.txt", &Words)?);
     tally.add(run_table(rt, "shapes.txt", &Shapes)?);
     tally.add(run_table(rt, "equality.txt", &Equality)?);
+    tally.add(run_table(rt, "scalars.txt", &Scalars)?);
+    tally.add(run_table(rt, "items.txt", &PlacedItems)?);
+    tally.add(run_table(rt, "reports.txt", &Reports)?);
+    tally.add(run_table(rt, "refusals.txt", &Refusals)?);
     Ok(tally)
 }
 

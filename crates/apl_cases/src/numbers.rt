@@ -2,7 +2,8 @@ use anyhow::{Context, Result};
 use apl_arrays::NumberList;
 use std::alloc::{AllocError, Global};
 
-fn number_of(alloc: Global, word: &str) -> Result<i64> {
+/// The number that a word says, with `¯` for a sign.
+pub fn number_of(alloc: Global, word: &str) -> Result<i64> {
     match word.strip_prefix("¯") {
         None => word.parse().context(format_args!("no number: {word}")),
         Some(digits) => {
