@@ -1,7 +1,8 @@
 ghost use Rattle.std.specs.Prelude.{◌≡◌, IfOk};
 
 use crate::{
-    Axes, Refusal, Walk, by_place, by_rule, first_refusal, lacks_one, moved, moved_by_axes,
+    Along, Axes, Refusal, Walk, by_place, by_rule, first_refusal, lacks_one, moved, moved_along,
+    moved_by_axes,
 };
 use apl_arrays::{Fail, Glyph, Items, List, NumberList, Report, WantOfMemory};
 use std::alloc::Global;
@@ -20,6 +21,13 @@ fn items_are_made_by_place(rt: HostRuntime) {
 fn items_move(rt: HostRuntime) {
     if moves(&rt, rt.alloc()).is_err() {
         assert!(rt; moves(&rt, rt.alloc()).is_ok());
+    }
+}
+
+#[test]
+fn lines_move(rt: HostRuntime) {
+    if moves_on_lines(&rt, rt.alloc()).is_err() {
+        assert!(rt; moves_on_lines(&rt, rt.alloc()).is_ok());
     }
 }
 
@@ -121,6 +129,42 @@ fn moves(rt: &impl Abort, alloc: Global) -> Result<(), WantOfMemory> {
     let matrix = Items::Numbers(list_of(alloc, &[1, 2, 3, 4, 5, 6])?);
     let exchanged = Items::Numbers(list_of(alloc, &[1, 4, 2, 5, 3, 6])?);
     assert!(rt; moved_by_axes(alloc, &matrix, &[3, 2], &Exchanged)? == exchanged);
+    Ok(())
+}
+
+/// Lines of three places: the first turned round, each other without its first place, filled at the end.
+struct ByLine;
+
+impl Along for ByLine {
+    ghost use Rattle.std.specs.Prelude.{◌+◌, ◌-◌, Some, None, nat_lt, if◌then◌else◌};
+
+    ghost length = { λ _. 3 };
+
+    ghost from = { λ _ line along. if nat_lt line 1 then (if nat_lt along 3 then Some (2 - along) else None) else (if nat_lt along 2 then Some (along + 1) else None) };
+
+    fn length(&self) -> usize {
+        3
+    }
+
+    fn from(&self, line: usize, along: usize) -> Option<usize> {
+        match line {
+            0 if along < 3 => Some(2 - along),
+            0 => None,
+            _ if along < 2 => Some(along + 1),
+            _ => None,
+        }
+    }
+}
+
+/// Items that move along the last axis and along the first, as each line says, also to a longer axis.
+fn moves_on_lines(rt: &impl Abort, alloc: Global) -> Result<(), WantOfMemory> {
+    let matrix = Items::Numbers(list_of(alloc, &[1, 2, 3, 4, 5, 6])?);
+    let rows = Items::Numbers(list_of(alloc, &[3, 2, 1, 5, 6, 0])?);
+    assert!(rt; moved_along(alloc, &matrix, &[2, 3], 1, &ByLine)? == rows);
+    let columns = Items::Numbers(list_of(alloc, &[5, 4, 3, 6, 1, 0])?);
+    assert!(rt; moved_along(alloc, &matrix, &[3, 2], 0, &ByLine)? == columns);
+    let longer = Items::Numbers(list_of(alloc, &[3, 2, 1, 0, 5, 6, 0, 0])?);
+    assert!(rt; moved_along(alloc, &matrix, &[2, 4], 1, &ByLine)? == longer);
     Ok(())
 }
 
