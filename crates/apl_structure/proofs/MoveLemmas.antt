@@ -1,0 +1,54 @@
+-- Arrays whose items moved.
+use Rattle.std.proofs.Common.{◌≡◌, ℕ, zero, suc, ◌+◌, ◌<◌, pos, List, [], ◌∷◌, map, Option, length, get_or, refl, sym, ap, ◌∙◌, arith}
+use Rattle.std.specs.List.{range_with_len}
+use Rattle.apl_arrays.specs.Array.{PlainArray, PlainItems, IsArray, numbers, chars, item_count}
+use Rattle.apl_arrays.specs.Glyph.{blank}
+use Rattle.apl_items.specs.Moves.{item_or, moved_items, moved_list}
+use Rattle.apl_items.specs.Along.{source_count}
+use Rattle.apl_items.specs.Shapes.{split_at}
+use Rattle.apl_items.proofs.MoveLemmas.{length-moved_list}
+use Rattle.apl_items.proofs.ShapeLemmas.{split_count_lem}
+
+-- the array of a shape and items
+abbrev pub array_of : List ℕ → PlainItems → PlainArray
+array_of shape items = record { shape = shape; items = items }
+
+-- as many items as places
+pub count_of_moved : (items : PlainItems) (count : ℕ) (source : ℕ → Option ℕ) → item_count (moved_items items count source) ≡ count
+count_of_moved (numbers list) count source = length-moved_list (pos 0) list count source
+count_of_moved (chars list) count source = length-moved_list blank list count source
+
+map_places : {T : Type 0} (f g : ℕ → T) (first n : ℕ) → ((k : ℕ) → k < n → f (first + k) ≡ g (first + k)) → map f (range_with_len first n) ≡ map g (range_with_len first n)
+map_places f g first zero same = refl
+map_places {T} f g first (suc n) same =
+    let at : first + 0 ≡ first = omega arith in
+    let here : f first ≡ g first = rw at at (same 0 (omega arith)) in
+    let rest = map_places f g (first + 1) n (λ k h. let next : (first + 1) + k ≡ first + suc k = omega arith in rw next (same (suc k) (omega arith))) in
+    ap (λ (x : T). x ∷ map f (range_with_len (first + 1) n)) here ∙ ap (λ (xs : List T). g first ∷ xs) rest
+
+same_list : {T : Type 0} (fill : T) (list : List T) (count : ℕ) (f g : ℕ → Option ℕ) → ((place : ℕ) → place < count → f place ≡ g place)
+    → moved_list fill list count f ≡ moved_list fill list count g
+same_list fill list count f g same =
+    map_places (λ p. item_or fill list (f p)) (λ p. item_or fill list (g p)) 0 count
+    (λ k h. let at : 0 + k ≡ k = omega arith in rw at (ap (item_or fill list) (same k h)))
+
+-- the same source places give the same items
+pub same_moved : (items : PlainItems) (count : ℕ) (f g : ℕ → Option ℕ) → ((place : ℕ) → place < count → f place ≡ g place)
+    → moved_items items count f ≡ moved_items items count g
+same_moved (numbers list) count f g same = ap numbers (same_list (pos 0) list count f g same)
+same_moved (chars list) count f g same = ap chars (same_list blank list count f g same)
+
+pub count_of_made : (made items : PlainItems) (count : ℕ) (source : ℕ → Option ℕ) → made ≡ moved_items items count source → count ≡ item_count made
+count_of_made made items count source is = sym (ap item_count is ∙ count_of_moved items count source)
+
+-- the source of a shape as long along an axis as an array has the array's items
+pub whole_source : (b : PlainArray) (shape : List ℕ) (items : PlainItems) (axis long : ℕ) → shape ≡ b.shape → items ≡ b.items → IsArray b → axis < length b.shape
+    → long ≡ get_or b.shape axis 0 → source_count (split_at shape axis) long ≡ item_count items
+whole_source b shape items axis long s i array inside is = rw (s, i, is) (split_count_lem b.shape axis inside ∙ array.whole)
+
+-- no items stay none
+pub none_moved : (items : PlainItems) (count : ℕ) (source : ℕ → Option ℕ) → item_count items ≡ 0 → count ≡ 0 → items ≡ moved_items items count source
+none_moved (numbers []) count source none zero_count = rw zero_count refl
+none_moved (numbers (x ∷ xs)) count source none zero_count = absurd (omega arith)
+none_moved (chars []) count source none zero_count = rw zero_count refl
+none_moved (chars (x ∷ xs)) count source none zero_count = absurd (omega arith)

@@ -1,0 +1,11 @@
+pub mod Axis
+pub mod Counting
+pub mod Lengths
+pub mod Moves
+pub mod Picks
+pub mod Plain
+pub mod Reshaping
+pub mod Reversal
+pub mod Rotation
+pub mod Taking
+pub mod Transposition

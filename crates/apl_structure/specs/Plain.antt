@@ -1,0 +1,11 @@
+use Rattle.std.specs.Prelude.{pos, [], ◌∷◌, Ok, length, map}
+use Rattle.apl_arrays.specs.Array.{PlainArray, numbers, item_count}
+use Rattle.apl_items.specs.Answers.{Answer}
+
+-- the shape of an array, as a vector
+abbrev pub shape_of : PlainArray → Answer
+shape_of b = Ok (record { shape = length b.shape ∷ []; items = numbers (map (λ axis. pos axis) b.shape) })
+
+-- all items of an array, as a vector
+abbrev pub ravel_of : PlainArray → Answer
+ravel_of b = Ok (record { shape = item_count b.items ∷ []; items = b.items })

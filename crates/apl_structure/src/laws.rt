@@ -1,0 +1,19 @@
+//! What holds of the definitions.
+
+ghost use Rattle.std.specs.Prelude.{◌≡◌, ◌<◌, ℕ, Ok, length};
+ghost use Rattle.apl_arrays.specs.Array.{PlainArray, IsArray};
+ghost use Rattle.apl_structure.specs.Plain.{ravel_of, shape_of};
+ghost use Rattle.apl_structure.specs.Reshaping.{reshape_of};
+ghost use Rattle.apl_structure.specs.Reversal.{reversed};
+
+/// An array that is reversed twice along an axis is the array. The call does nothing. No memory.
+#[tactic(auto, using(crate::proofs::LawLemmas::reversed_twice))]
+pub fn reversed_twice_is_the_same()
+    ensures { (b : PlainArray) (axis : ℕ) → IsArray b → (0 < length b.shape → axis < length b.shape) → reversed (reversed b axis) axis ≡ b }
+{}
+
+/// All items of an array in its shape are the array. The call does nothing. No memory.
+#[tactic(auto, using(crate::proofs::LawLemmas::reshaped_to_itself))]
+pub fn items_in_their_shape_are_the_array()
+    ensures { (b shape all : PlainArray) → IsArray b → shape_of b ≡ Ok shape → ravel_of b ≡ Ok all → reshape_of shape all ≡ Ok b }
+{}

@@ -1,0 +1,24 @@
+//! The functions of APL that look at the shape of an array, or move its items.
+#![tactic(auto)]
+
+mod axis;
+mod counting;
+pub mod laws;
+mod lengths;
+mod moves;
+mod picks;
+mod plain;
+mod reshaping;
+mod reversal;
+mod rotation;
+mod strides;
+mod taking;
+mod transposition;
+
+pub use counting::iota;
+pub use plain::{ravel, shape_of};
+pub use reshaping::reshape;
+pub use reversal::reverse;
+pub use rotation::rotate;
+pub use taking::{drop_items, take};
+pub use transposition::transpose;

@@ -1,0 +1,107 @@
+ghost use Rattle.std.specs.Prelude.{◌≡◌, ◌+◌, ◌%◌, ◌<◌, IfOk};
+ghost use Rattle.std.specs.Int.{is_negative};
+ghost use Rattle.std.specs.List.{list_any};
+ghost use Rattle.apl_arrays.specs.Array.{FitsLimits, element_count, item_count, numbers_in};
+ghost use Rattle.apl_items.specs.Answers.{Answers, first_report};
+ghost use Rattle.apl_structure.specs.Lengths.{capped};
+ghost use Rattle.apl_structure.specs.Reshaping.{reshape_faults, reshape_of, reshaped};
+
+use crate::lengths::{are_hollow, capped, pass_limits};
+use crate::picks::filled;
+use crate::taking::numbers_of;
+use apl_arrays::{Array, Fail, RANK_LIMIT, Report, WantOfMemory, count_of_elements};
+use apl_items::{Walk, moved};
+use std::alloc::Global;
+
+/// The items of B over and over, in the shape A. RANK where A is of rank over 1 or has over eight numbers, else DOMAIN
+/// where it is of characters, has a negative number, or asks for items where B has none, else WS FULL where the result
+/// is too large. It takes memory for the shape and the items.
+pub fn reshape(alloc: Global, a: &Array, b: &Array) -> Result<Array, Fail>
+    ensures { Answers result (reshape_of a.now b.now) }
+{
+    let shape = capped(alloc, numbers_of(a))?;
+    match reshape_report(a, b, shape.as_slice()) {
+        Some(report) => Err(Fail::Report(report)),
+        None => Ok(reshaped(alloc, b, shape.as_slice())?),
+    }
+}
+
+/// The report on a shape for B, told from the capped one, if there is one.
+fn reshape_report(a: &Array, b: &Array, shape: &[u32]) -> Option<Report>
+    requires { shape.now ≡ capped (numbers_in a.now.items) }
+    ensures { result ≡ first_report (reshape_faults a.now b.now) }
+{
+    let numbers = numbers_of(a);
+    if a.shape().len() > 1 || a.items().len() > RANK_LIMIT {
+        Some(Report::Rank)
+    } else if a.is_chars()
+        || has_negative(numbers)
+        || b.items().len() == 0 && !are_hollow(numbers, shape)
+    {
+        Some(Report::Domain)
+    } else if pass_limits(numbers, shape) {
+        Some(Report::WsFull)
+    } else {
+        None
+    }
+}
+
+/// Whether a number is negative.
+fn has_negative(numbers: &[i64]) -> bool
+    ensures { result ≡ list_any is_negative numbers.now }
+{
+    numbers.iter().any(|number| *number < 0)
+}
+
+/// The items of B over and over.
+fn reshaped(alloc: Global, b: &Array, shape: &[u32]) -> Result<Array, WantOfMemory>
+    requires fits { FitsLimits shape.now }
+    requires some { item_count b.now.items ≡ 0 → element_count shape.now ≡ 0 }
+    ensures { IfOk result (λ array. array ≡ reshaped shape.now b.now) }
+{
+    let count = count_of_elements(shape);
+    let items = b.items();
+    if count == 0 {
+        return Ok(Array::shaped(shape, filled(alloc, items, 0)?));
+    }
+    let walk = Cycle {
+        at: 0,
+        length: items.len(),
+        left: count,
+    };
+    Ok(Array::shaped(shape, moved(alloc, items, count, walk)?))
+}
+
+/// A walk over the items of a list, over and over.
+#[derive(Drop)]
+struct Cycle {
+    at: usize,
+    length: usize,
+    left: usize,
+    ghost inside: { at < length },
+}
+
+impl Walk for Cycle {
+    ghost use Rattle.std.specs.Prelude.{◌+◌, ◌%◌, Some};
+
+    ghost left = { λ w. w.left };
+
+    ghost source = { λ w n. Some ((w.at + n) % w.length) };
+
+    fn advance(&mut self) -> Option<usize> {
+        let place = self.at;
+        let next = after(place, self.length);
+        self.at = next;
+        self.left -= 1;
+        Some(place)
+    }
+}
+
+/// The place after this one, or the first after the last.
+fn after(place: usize, length: usize) -> usize
+    requires { place < length }
+    ensures value { result ≡ (place + 1) % length }
+    ensures inside { result < length }
+{
+    if place + 1 == length { 0 } else { place + 1 }
+}

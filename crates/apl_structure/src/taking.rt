@@ -1,0 +1,223 @@
+ghost use Rattle.std.specs.Prelude.{◌≡◌, ◌-◌, ◌<◌, None, pos, IfOk, length, map, slice_index, slice_index_or, unsigned_abs};
+ghost use Rattle.apl_arrays.specs.Array.{numbers_in};
+ghost use Rattle.apl_items.specs.Answers.{Answers, first_report};
+ghost use Rattle.apl_items.specs.Places.{places};
+ghost use Rattle.apl_structure.specs.Taking.{axes_faults, axes_for, drop_of, left, left_from, take_of, taken_from};
+
+use crate::lengths::{capped, pass_limits};
+use crate::picks::{Picks, picked};
+use apl_arrays::{Array, Fail, Items, RANK_LIMIT, Report, WantOfMemory};
+use std::alloc::Global;
+
+/// Per axis of B the first items, as many as A says, or the last where A is negative, filled. RANK where A is of rank
+/// over 1 or asks a scalar for over eight axes, else LENGTH where A has not one number for each axis, else DOMAIN where
+/// A is of characters, else WS FULL where the result is too large. It takes memory for the items, and for a shape and
+/// strides.
+pub fn take(alloc: Global, a: &Array, b: &Array) -> Result<Array, Fail>
+    ensures { Answers result (take_of a.now b.now) }
+{
+    match axes_report(a, b) {
+        Some(report) => Err(Fail::Report(report)),
+        None => taken(alloc, a, b),
+    }
+}
+
+/// Per axis of B the items without the first, as many as A says, or without the last where A is negative. RANK where A
+/// is of rank over 1 or asks a scalar for over eight axes, else LENGTH where A has not one number for each axis, else
+/// DOMAIN where A is of characters. It takes memory for the items, and for a shape and strides.
+pub fn drop_items(alloc: Global, a: &Array, b: &Array) -> Result<Array, Fail>
+    ensures { Answers result (drop_of a.now b.now) }
+{
+    match axes_report(a, b) {
+        Some(report) => Err(Fail::Report(report)),
+        None => Ok(left(alloc, a, b)?),
+    }
+}
+
+/// The report on the numbers for the axes of B, if there is one.
+fn axes_report(a: &Array, b: &Array) -> Option<Report>
+    ensures { result ≡ first_report (axes_faults a.now b.now) }
+{
+    let rank = b.shape().len();
+    let count = a.items().len();
+    if a.shape().len() > 1 || rank == 0 && count > RANK_LIMIT {
+        Some(Report::Rank)
+    } else if rank != 0 && count != rank {
+        Some(Report::Length)
+    } else if a.is_chars() {
+        Some(Report::Domain)
+    } else {
+        None
+    }
+}
+
+/// Per axis of B the first items or the last, or WS FULL where they are too many.
+fn taken(alloc: Global, a: &Array, b: &Array) -> Result<Array, Fail>
+    requires { None ≡ first_report (axes_faults a.now b.now) }
+    ensures { Answers result (take_of a.now b.now) }
+{
+    let numbers = numbers_of(a);
+    let lengths = capped(alloc, numbers)?;
+    let shape = lengths.as_slice();
+    if pass_limits(numbers, shape) {
+        return Err(Fail::Report(Report::WsFull));
+    }
+    let axes = axes_for(alloc, a.items().len(), b)?;
+    let source = axes.as_slice();
+    let picks = TakePlaces { numbers, source };
+    Ok(picked(alloc, b.items(), source, shape, &picks)?)
+}
+
+/// Per axis of B the items without the first or the last.
+fn left(alloc: Global, a: &Array, b: &Array) -> Result<Array, WantOfMemory>
+    requires { None ≡ first_report (axes_faults a.now b.now) }
+    ensures { IfOk result (λ array. array ≡ left a.now b.now) }
+{
+    let numbers = numbers_of(a);
+    let axes = axes_for(alloc, a.items().len(), b)?;
+    let source = axes.as_slice();
+    let lengths = left_shape(alloc, numbers, source)?;
+    let shape = lengths.as_slice();
+    let picks = DropPlaces { numbers, source };
+    picked(alloc, b.items(), source, shape, &picks)
+}
+
+/// The numbers of an array, none where it is of characters.
+pub(crate) fn numbers_of(a: &Array) -> &[i64]
+    ensures { result.now ≡ numbers_in a.now.items }
+{
+    match a.items() {
+        Items::Numbers(list) => list.as_slice(),
+        Items::Chars(_) => &[],
+    }
+}
+
+/// The axes of B, where a scalar has one place along each of so many.
+fn axes_for(alloc: Global, count: usize, b: &Array) -> Result<Vec<u32>, WantOfMemory>
+    ensures { IfOk result (λ axes. axes.items ≡ axes_for count b.now) }
+{
+    let shape = b.shape();
+    if shape.is_empty() {
+        Ok(vec![in alloc; 1; count]?)
+    } else {
+        Ok(Vec::from_slice(alloc, shape)?)
+    }
+}
+
+/// How long the axes of a drop are.
+fn left_shape(alloc: Global, numbers: &[i64], source: &[u32]) -> Result<Vec<u32>, WantOfMemory>
+    ensures { IfOk result (λ shape. shape.items ≡ map (λ axis. slice_index source.now axis - unsigned_abs (slice_index_or numbers.now axis (pos 0))) (places (length source.now))) }
+{
+    let mut shape = Vec::new(alloc);
+    for axis in 0..source.len() {
+        shape.push(left_length(numbers, source, axis))?;
+    }
+    Ok(shape)
+}
+
+/// What is left of the length of an axis.
+fn left_length(numbers: &[i64], source: &[u32], axis: usize) -> u32
+    ensures { result ≡ slice_index source.now axis - unsigned_abs (slice_index_or numbers.now axis (pos 0)) }
+{
+    let length = u64::from(length_of(source, axis));
+    length.saturating_sub(number_on(numbers, axis).unsigned_abs()) as u32
+}
+
+/// The number for an axis, 0 past the last.
+pub(crate) fn number_on(numbers: &[i64], axis: usize) -> i64
+    ensures { result ≡ slice_index_or numbers.now axis (pos 0) }
+{
+    match numbers.get(axis) {
+        Some(number) => *number,
+        None => 0,
+    }
+}
+
+/// The length of an axis, 0 past the last.
+pub(crate) fn length_of(shape: &[u32], axis: usize) -> u32
+    ensures { result ≡ slice_index shape.now axis }
+{
+    match shape.get(axis) {
+        Some(length) => *length,
+        None => 0,
+    }
+}
+
+/// The places of a take.
+#[derive(Drop)]
+struct TakePlaces<'a> {
+    numbers: &'a [i64],
+    source: &'a [u32],
+}
+
+impl Picks for TakePlaces<'_> {
+    ghost use Rattle.std.specs.Prelude.{pos, slice_index, slice_index_or};
+    ghost use Rattle.apl_structure.specs.Taking.{taken_from};
+
+    ghost from = { λ t axis along. taken_from (slice_index_or t.numbers.now axis (pos 0)) (slice_index t.source.now axis) along };
+
+    fn from(&self, axis: usize, along: usize) -> Option<usize> {
+        taken_from(
+            number_on(self.numbers, axis),
+            length_of(self.source, axis),
+            along,
+        )
+    }
+}
+
+/// Where along an axis the first items stand, or the last where the number is negative.
+fn taken_from(number: i64, length: u32, along: usize) -> Option<usize>
+    requires { along < 16384 }
+    ensures { result ≡ taken_from number length along }
+{
+    let end = along + length as usize;
+    let count = number.unsigned_abs() as usize;
+    if number < 0 && count <= end {
+        Some(end - count)
+    } else if number < 0 {
+        None
+    } else if along < length as usize {
+        Some(along)
+    } else {
+        None
+    }
+}
+
+/// The places of a drop.
+#[derive(Drop)]
+struct DropPlaces<'a> {
+    numbers: &'a [i64],
+    source: &'a [u32],
+}
+
+impl Picks for DropPlaces<'_> {
+    ghost use Rattle.std.specs.Prelude.{pos, slice_index, slice_index_or};
+    ghost use Rattle.apl_structure.specs.Taking.{left_from};
+
+    ghost from = { λ t axis along. left_from (slice_index_or t.numbers.now axis (pos 0)) (slice_index t.source.now axis) along };
+
+    fn from(&self, axis: usize, along: usize) -> Option<usize> {
+        left_from(
+            number_on(self.numbers, axis),
+            length_of(self.source, axis),
+            along,
+        )
+    }
+}
+
+/// Where along an axis the items without the first stand, or without the last where the number is negative.
+fn left_from(number: i64, length: u32, along: usize) -> Option<usize>
+    requires { along < 16384 }
+    ensures { result ≡ left_from number length along }
+{
+    let place = if number < 0 {
+        along
+    } else {
+        along + number.unsigned_abs() as usize
+    };
+    if place < length as usize {
+        Some(place)
+    } else {
+        None
+    }
+}
