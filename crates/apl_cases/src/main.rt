@@ -11,6 +11,7 @@ mod numbers;
 mod scalar;
 mod shapes;
 mod tokens;
+mod trees;
 
 use anyhow::Result;
 use case_tables::{Tally, run_table};
@@ -21,6 +22,7 @@ use scalar::{Dyads, Monads};
 use shapes::{Equality, Shapes};
 use std::process::ExitCode;
 use tokens::Tokens;
+use trees::{LongTrees, Trees};
 
 fn values(rt: &HostRuntime) -> Result<Tally> {
     let mut tally = run_table(rt, "glyphs.txt", &Glyphs)?;
@@ -43,10 +45,17 @@ fn functions(rt: &HostRuntime) -> Result<Tally> {
     Ok(tally)
 }
 
+fn texts(rt: &HostRuntime) -> Result<Tally> {
+    let mut tally = run_table(rt, "tokens.txt", &Tokens)?;
+    tally.add(run_table(rt, "trees.txt", &Trees)?);
+    tally.add(run_table(rt, "long_trees.txt", &LongTrees)?);
+    Ok(tally)
+}
+
 fn all_tables(rt: &HostRuntime) -> Result<Tally> {
     let mut tally = values(rt)?;
     tally.add(functions(rt)?);
-    tally.add(run_table(rt, "tokens.txt", &Tokens)?);
+    tally.add(texts(rt)?);
     Ok(tally)
 }
 
