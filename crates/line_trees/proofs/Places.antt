@@ -1,5 +1,6 @@
 -- The place of an error.
 use Rattle.std.proofs.Common.{◌≡◌, ℕ, Bool, true, false, cond, List, [], ◌∷◌, ◌++◌, Option, Some, None, Ok, Err, refl, sym, ap, subst, ◌∙◌, ◌⊎◌, inl, inr, append_assoc}
+use Rattle.std.proofs.lemmas.List.{append-nil}
 use Rattle.line_scanner.specs.Token.{PlainToken}
 use Rattle.line_trees.specs.declared.class.Class.{Class}
 use Rattle.line_trees.specs.declared.tree.Mark.{Mark}
@@ -119,3 +120,65 @@ tree_is_line classes tokens len t e = tree_by classes len (marks_from classes le
 pub one_tree : (classes : List Class) (tokens : List PlainToken) (first second : LineTree) → IsLine classes first tokens → IsLine classes second tokens → first ≡ second
 one_tree classes tokens first second h k =
     sym (line_again first) ∙ ap line_of (same_tree (as_nodes first) (as_nodes second) (parsed classes tokens 0) (line_parsed classes first tokens 0 h) (line_parsed classes second tokens 0 k)) ∙ line_again second
+
+-- ---- the place of an error is one
+
+-- a line that begins with more begins with less
+begins_less : (classes : List Class) (front more : List PlainToken) → BeginsLine classes (front ++ more) → BeginsLine classes front
+begins_less classes front more (rest, line, h) = (more ++ rest, line, subst (λ (x : List PlainToken). IsLine classes line x) (append_assoc front more rest) h)
+
+-- the same, up to a token
+begins_until : (classes : List Class) (front : List PlainToken) (token : PlainToken) (rest tokens : List PlainToken) → tokens ≡ front ++ token ∷ rest → BeginsLine classes tokens → BeginsLine classes (front ++ token ∷ [])
+begins_until classes front token rest tokens all h =
+    begins_less classes (front ++ token ∷ []) rest (subst (BeginsLine classes) (all ∙ sym (append_assoc front (token ∷ []) rest)) h)
+
+-- tokens split twice: at one token, or the one front goes on beyond the token of the other
+abbrev Splits : List PlainToken → PlainToken → List PlainToken → PlainToken → Type 0
+Splits front token other next = (token ≡ next) ⊎ (((more : List PlainToken) × (other ≡ front ++ token ∷ more)) ⊎ ((more : List PlainToken) × (front ≡ other ++ next ∷ more)))
+
+splits_more : (first second : PlainToken) (front : List PlainToken) (token : PlainToken) (other : List PlainToken) (next : PlainToken) → first ≡ second → Splits front token other next → Splits (first ∷ front) token (second ∷ other) next
+splits_more first second front token other next e (inl same) = inl same
+splits_more first second front token other next e (inr (inl (more, goes))) = inr (inl (more, ap (λ (x : PlainToken). x ∷ other) (sym e) ∙ ap (λ (x : List PlainToken). first ∷ x) goes))
+splits_more first second front token other next e (inr (inr (more, goes))) = inr (inr (more, ap (λ (x : PlainToken). x ∷ front) e ∙ ap (λ (x : List PlainToken). second ∷ x) goes))
+
+first_same : (x y : PlainToken) (xs ys : List PlainToken) → x ∷ xs ≡ y ∷ ys → x ≡ y
+first_same x y xs ys e = cc
+
+others_same : (x y : PlainToken) (xs ys : List PlainToken) → x ∷ xs ≡ y ∷ ys → xs ≡ ys
+others_same x y xs ys e = cc
+
+splits : (front : List PlainToken) (token : PlainToken) (rest other : List PlainToken) (next : PlainToken) (beyond : List PlainToken) → front ++ token ∷ rest ≡ other ++ next ∷ beyond → Splits front token other next
+splits [] token rest [] next beyond e = inl (first_same token next rest beyond e)
+splits [] token rest (second ∷ other) next beyond e = inr (inl (other, ap (λ (x : PlainToken). x ∷ other) (sym (first_same token second rest (other ++ next ∷ beyond) e))))
+splits (first ∷ front) token rest [] next beyond e = inr (inr (front, ap (λ (x : PlainToken). x ∷ front) (first_same first next (front ++ token ∷ rest) beyond e)))
+splits (first ∷ front) token rest (second ∷ other) next beyond e =
+    splits_more first second front token other next (first_same first second (front ++ token ∷ rest) (other ++ next ∷ beyond) e)
+    (splits front token rest other next beyond (others_same first second (front ++ token ∷ rest) (other ++ next ∷ beyond) e))
+
+same_place : (classes : List Class) (front other : List PlainToken) (token next : PlainToken) → BeginsLine classes front → (BeginsLine classes (front ++ token ∷ []) → ⊥) → BeginsLine classes other → (BeginsLine classes (other ++ next ∷ []) → ⊥)
+    → Splits front token other next → token.at ≡ next.at
+same_place classes front other token next begins stops others ends (inl same) = ap (λ (x : PlainToken). x.at) same
+same_place classes front other token next begins stops others ends (inr (inl (more, goes))) = absurd (stops (begins_until classes front token more other goes others))
+same_place classes front other token next begins stops others ends (inr (inr (more, goes))) = absurd (ends (begins_until classes other next more front goes begins))
+
+-- no line stops at two places
+one_stop : (classes : List Class) (tokens : List PlainToken) (len at place : ℕ) → IsStop classes tokens len at → IsStop classes tokens len place → at ≡ place
+one_stop classes tokens len at place (stops_at front token rest all is begins stops) (stops_at other next beyond whole has others ends) =
+    is ∙ same_place classes front other token next begins stops others ends (splits front token rest other next beyond (sym all ∙ whole)) ∙ sym has
+one_stop classes tokens len at place (stops_at front token rest all is begins stops) (ends_early has others ends) = absurd (stops (begins_until classes front token rest tokens all others))
+one_stop classes tokens len at place (ends_early is begins stops) (stops_at other next beyond whole has others ends) = absurd (ends (begins_until classes other next beyond tokens whole begins))
+one_stop classes tokens len at place (ends_early is begins stops) (ends_early has others ends) = is ∙ sym has
+
+-- no line of the grammar stops
+line_goes_on : (classes : List Class) (tokens : List PlainToken) (len at : ℕ) (line : LineTree) → IsLine classes line tokens → IsStop classes tokens len at → ⊥
+line_goes_on classes tokens len at line h (stops_at front token rest all is begins stops) =
+    stops (begins_until classes front token rest tokens all ([], line, subst (λ (x : List PlainToken). IsLine classes line x) (sym (append-nil tokens)) h))
+line_goes_on classes tokens len at line h (ends_early is begins stops) = stops line h
+
+stop_error : (classes : List Class) (tokens : List PlainToken) (len at : ℕ) (p : Parsed) → parsed classes tokens len ≡ p → IsStop classes tokens len at → p ≡ Err at
+stop_error classes tokens len at (Ok t) e stop = let (line, h, same) = tree_is_line classes tokens len t e in absurd (line_goes_on classes tokens len at line h stop)
+stop_error classes tokens len at (Err place) e stop = ap Err (one_stop classes tokens len place at (error_stops classes tokens len place e) stop)
+
+-- where no line goes on is the place that is computed
+pub stop_is_error : (classes : List Class) (tokens : List PlainToken) (len at : ℕ) → IsStop classes tokens len at → parsed classes tokens len ≡ Err at
+stop_is_error classes tokens len at stop = stop_error classes tokens len at (parsed classes tokens len) refl stop

@@ -14,7 +14,7 @@ use crate::signs::{between, folded};
 use crate::stack::Stack;
 use crate::symbol::{Fold, Symbol};
 use crate::tree::{Mark, Pending};
-use crate::{Form, Fun, Node, NodeList, Places, Tree};
+use crate::{Form, Fun, Node, NodeList, Places, Tree, pending};
 use apl_arrays::{Dyad, Items, List, Monad, Name, Verb, WantOfMemory};
 use line_scanner::TokenKind;
 use std::alloc::Global;
@@ -154,25 +154,12 @@ impl Builder {
         self.operand(alloc, Node::Paren(inner))
     }
 
-    /// A subscript ends to the left.
-    fn subscript(&mut self) -> Result<(), WantOfMemory>
-        ensures { OnOk result (plain_builder self.new ≡ with_waiting (plain_builder self.old) (subscript_built self.old.waiting (first_of self.old.waiting) (others_of self.old.waiting))) }
-    {
-        match self.waiting.top() {
-            Some(Pending::Expr(_, place)) => {
-                self.waiting.pop();
-                self.waiting.push(Pending::Subscript(Some(place)))
-            }
-            _ => self.waiting.push(Pending::Subscript(None)),
-        }
-    }
-
     /// `[` before subscripts.
     fn subscripts(&mut self, alloc: Global) -> Result<(), WantOfMemory>
         ensures { OnOk result (plain_builder self.new ≡ subscripts_built (plain_builder self.old) (subscript_built self.old.waiting (first_of self.old.waiting) (others_of self.old.waiting))) }
     {
-        self.subscript()?;
-        let list = taken_subscripts(alloc, &mut self.waiting)?;
+        pending::subscript(&mut self.waiting)?;
+        let list = pending::taken_subscripts(alloc, &mut self.waiting)?;
         self.lists.push(list)?;
         self.waiting.pop();
         match self.waiting.top() {
@@ -182,20 +169,6 @@ impl Builder {
             }
             _ => self.waiting.push(Pending::Indexing),
         }
-    }
-
-    /// `[` before an axis.
-    fn axis(&mut self) -> Result<(), WantOfMemory>
-        ensures { OnOk result (plain_builder self.new ≡ with_waiting (plain_builder self.old) (axis_built (first_of self.old.waiting) (others_of self.old.waiting))) }
-    {
-        let Some(Pending::Expr(_, axis)) = self.waiting.pop() else {
-            return Ok(());
-        };
-        self.waiting.pop();
-        let Some(Pending::Expr(_, right)) = self.waiting.pop() else {
-            return Ok(());
-        };
-        self.waiting.push(Pending::Expr(Some(axis), right))
     }
 
     /// A monadic function.
@@ -240,102 +213,6 @@ impl Builder {
         }
     }
 
-    /// A slash behind a scalar function.
-    fn slash(&mut self, fold: Fold) -> Result<(), WantOfMemory>
-        ensures { OnOk result (plain_builder self.new ≡ with_waiting (plain_builder self.old) (slash_built fold (first_of self.old.waiting) (others_of self.old.waiting))) }
-    {
-        match self.waiting.pop() {
-            Some(Pending::Expr(axis, right)) => {
-                self.waiting.push(Pending::Slash(fold, axis, right))
-            }
-            _ => Ok(()),
-        }
-    }
-
-    /// A dyadic function.
-    fn dyadic(&mut self, function: Fun) -> Result<(), WantOfMemory>
-        ensures { OnOk result (plain_builder self.new ≡ with_waiting (plain_builder self.old) (dyadic_built function (first_of self.old.waiting) (others_of self.old.waiting))) }
-    {
-        match self.waiting.pop() {
-            Some(Pending::Expr(axis, right)) => {
-                self.waiting.push(Pending::Dyadic(function, axis, right))
-            }
-            _ => Ok(()),
-        }
-    }
-
-    /// A dyadic scalar function, alone or before a dot.
-    fn scalar(&mut self, dyad: Dyad) -> Result<(), WantOfMemory>
-        ensures { OnOk result (plain_builder self.new ≡ with_waiting (plain_builder self.old) (scalar_built dyad (first_of self.old.waiting) (others_of self.old.waiting))) }
-    {
-        match self.waiting.pop() {
-            Some(Pending::Expr(axis, right)) => {
-                self.waiting
-                    .push(Pending::Dyadic(Fun::Verb(Verb::Two(dyad)), axis, right))
-            }
-            Some(Pending::Factor(factor, right)) => self.waiting.push(Pending::Dyadic(
-                Fun::Verb(Verb::Inner(dyad, factor)),
-                None,
-                right,
-            )),
-            _ => Ok(()),
-        }
-    }
-
-    /// `∘` before a dot.
-    fn jot(&mut self) -> Result<(), WantOfMemory>
-        ensures { OnOk result (plain_builder self.new ≡ with_waiting (plain_builder self.old) (jot_built (first_of self.old.waiting) (others_of self.old.waiting))) }
-    {
-        match self.waiting.pop() {
-            Some(Pending::Factor(factor, right)) => self.waiting.push(Pending::Dyadic(
-                Fun::Verb(Verb::Outer(factor)),
-                None,
-                right,
-            )),
-            _ => Ok(()),
-        }
-    }
-
-    /// A scalar function behind a dot.
-    fn factor(&mut self, dyad: Dyad) -> Result<(), WantOfMemory>
-        ensures { OnOk result (plain_builder self.new ≡ with_waiting (plain_builder self.old) (factor_built dyad (first_of self.old.waiting) (others_of self.old.waiting))) }
-    {
-        match self.waiting.pop() {
-            Some(Pending::Expr(_, right)) => self.waiting.push(Pending::Factor(dyad, right)),
-            _ => Ok(()),
-        }
-    }
-
-    /// `←` before its right side.
-    fn gets(&mut self) -> Result<(), WantOfMemory>
-        ensures { OnOk result (plain_builder self.new ≡ with_waiting (plain_builder self.old) (gets_built (first_of self.old.waiting) (others_of self.old.waiting))) }
-    {
-        match self.waiting.pop() {
-            Some(Pending::Expr(_, right)) => self.waiting.push(Pending::Gets(right)),
-            _ => Ok(()),
-        }
-    }
-
-    /// `→` before its expression.
-    fn branch(&mut self) -> Result<(), WantOfMemory>
-        ensures { OnOk result (plain_builder self.new ≡ with_waiting (plain_builder self.old) (branch_built (first_of self.old.waiting) (others_of self.old.waiting))) }
-    {
-        match self.waiting.pop() {
-            Some(Pending::Expr(_, right)) => self.waiting.push(Pending::Branch(right)),
-            _ => Ok(()),
-        }
-    }
-
-    /// `⍎` before its expression.
-    fn execute(&mut self) -> Result<(), WantOfMemory>
-        ensures { OnOk result (plain_builder self.new ≡ with_waiting (plain_builder self.old) (execute_built (first_of self.old.waiting) (others_of self.old.waiting))) }
-    {
-        match self.waiting.pop() {
-            Some(Pending::Expr(_, right)) => self.waiting.push(Pending::Execute(right)),
-            _ => Ok(()),
-        }
-    }
-
     fn name_by(&mut self, alloc: Global, symbol: Symbol) -> Result<(), WantOfMemory>
         ensures { OnOk result (plain_builder self.new ≡ name_by symbol (plain_builder self.old)) }
     {
@@ -367,7 +244,7 @@ impl Builder {
         ensures { OnOk result (plain_builder self.new ≡ slash_by symbol (plain_builder self.old)) }
     {
         match symbol {
-            Symbol::Slash(fold) => self.slash(fold),
+            Symbol::Slash(fold) => pending::slash(&mut self.waiting, fold),
             _ => Ok(()),
         }
     }
@@ -385,8 +262,8 @@ impl Builder {
         ensures { OnOk result (plain_builder self.new ≡ dyadic_by symbol (plain_builder self.old)) }
     {
         match symbol {
-            Symbol::Function(_, Some(function)) => self.dyadic(function),
-            Symbol::Slash(fold) => self.dyadic(Fun::Verb(between(fold))),
+            Symbol::Function(_, Some(function)) => pending::dyadic(&mut self.waiting, function),
+            Symbol::Slash(fold) => pending::dyadic(&mut self.waiting, Fun::Verb(between(fold))),
             _ => Ok(()),
         }
     }
@@ -395,7 +272,7 @@ impl Builder {
         ensures { OnOk result (plain_builder self.new ≡ scalar_by symbol (plain_builder self.old)) }
     {
         match symbol {
-            Symbol::Scalar(_, Some(dyad)) => self.scalar(dyad),
+            Symbol::Scalar(_, Some(dyad)) => pending::scalar(&mut self.waiting, dyad),
             _ => Ok(()),
         }
     }
@@ -404,7 +281,7 @@ impl Builder {
         ensures { OnOk result (plain_builder self.new ≡ factor_by symbol (plain_builder self.old)) }
     {
         match symbol {
-            Symbol::Scalar(_, Some(dyad)) => self.factor(dyad),
+            Symbol::Scalar(_, Some(dyad)) => pending::factor(&mut self.waiting, dyad),
             _ => Ok(()),
         }
     }
@@ -430,9 +307,9 @@ impl Builder {
             Mark::LeftParenthesis => self.parenthesis(alloc),
             Mark::RightParenthesis => self.waiting.push(Pending::Parenthesis),
             Mark::OpenSubscripts => self.subscripts(alloc),
-            Mark::Semicolon => self.subscript(),
+            Mark::Semicolon => pending::subscript(&mut self.waiting),
             Mark::CloseSubscripts => self.waiting.push(Pending::Subscripts),
-            Mark::OpenAxis => self.axis(),
+            Mark::OpenAxis => pending::axis(&mut self.waiting),
             Mark::CloseAxis => self.waiting.push(Pending::Axis),
             Mark::Lead => self.lead_by(symbol),
             Mark::Slash => self.slash_by(symbol),
@@ -440,12 +317,12 @@ impl Builder {
             Mark::Dyadic => self.dyadic_by(symbol),
             Mark::Scalar => self.scalar_by(symbol),
             Mark::Dot => Ok(()),
-            Mark::Jot => self.jot(),
+            Mark::Jot => pending::jot(&mut self.waiting),
             Mark::Factor => self.factor_by(symbol),
-            Mark::Gets => self.gets(),
+            Mark::Gets => pending::gets(&mut self.waiting),
             Mark::Colon => self.waiting.push(Pending::Label),
-            Mark::Branch => self.branch(),
-            Mark::Execute => self.execute(),
+            Mark::Branch => pending::branch(&mut self.waiting),
+            Mark::Execute => pending::execute(&mut self.waiting),
         }
     }
 
@@ -475,20 +352,6 @@ fn items_of(alloc: Global, kind: &TokenKind) -> Result<Items, WantOfMemory>
             Ok(Items::Chars(List::new(alloc)))
         }
     }
-}
-
-/// Takes the subscripts at the front.
-#[tactic(auto, using(crate::proofs::Loops::taking))]
-fn taken_subscripts(alloc: Global, waiting: &mut Stack<Pending>) -> Result<Places, WantOfMemory>
-    ensures list { IfOk result (λ list. list.items ≡ subscripts waiting.old) }
-    ensures rest { OnOk result (waiting.new ≡ behind_subscripts waiting.old) }
-{
-    let mut list = List::new(alloc);
-    while let Some(Pending::Subscript(place)) = waiting.top() {
-        waiting.pop();
-        list.push(place)?;
-    }
-    Ok(list)
 }
 
 /// The form of a statement.

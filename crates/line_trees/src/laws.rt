@@ -149,6 +149,11 @@ pub fn errors_stop_lines()
     ensures { (classes : List Class) (tokens : List PlainToken) (length at : ℕ) → parsed classes tokens length ≡ Err at → IsStop classes tokens length at }
 {}
 
+/// Where no line of the grammar goes on, there is the error: no tokens have two such places. The call does nothing.
+pub fn stops_are_errors()
+    ensures one_place { (classes : List Class) (tokens : List PlainToken) (length at : ℕ) → IsStop classes tokens length at → parsed classes tokens length ≡ Err at }
+{}
+
 /// The nodes of a line stand for its tree. The call does nothing.
 #[tactic(auto, using(crate::proofs::TreeLaw::line_again))]
 pub fn nodes_stand_for_trees()

@@ -8,6 +8,7 @@ mod machine;
 mod marking;
 mod node_list;
 mod parsing;
+mod pending;
 mod place_stack;
 mod refused;
 mod signs;

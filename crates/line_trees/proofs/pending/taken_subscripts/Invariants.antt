@@ -1,6 +1,6 @@
 use Rattle.std.proofs.Common.{◌≡◌, ◌++◌, length}
 use Rattle.line_trees.specs.Building.{subscripts, behind_subscripts}
-use Rattle.line_trees.proofs.builder.taken_subscripts.Given as goal
+use Rattle.line_trees.proofs.pending.taken_subscripts.Given as goal
 
 -- the subscripts that were taken and those that wait are all
 abbrev pub invariant-loop-place : goal.invariant-loop-place
