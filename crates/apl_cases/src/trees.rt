@@ -49,7 +49,7 @@ fn constant_text(alloc: Global, items: &Items) -> Result<String> {
     array_text(alloc, &array)
 }
 
-fn push_function(alloc: Global, text: &mut String, function: Fun) -> Result<()> {
+fn push_function(alloc: Global, text: &mut String, function: &Fun) -> Result<()> {
     match function {
         Fun::Verb(Verb::One(monad)) => write!(text, "{monad:?}")?,
         Fun::Verb(Verb::Two(dyad)) => write!(text, "{dyad:?}")?,
@@ -59,7 +59,7 @@ fn push_function(alloc: Global, text: &mut String, function: Fun) -> Result<()> 
         Fun::Defined(name) => push_glyphs(alloc, text, name.glyphs())?,
         Fun::System(name) => {
             text.push('⎕')?;
-            text.push_str(system_text(name))?;
+            text.push_str(system_text(*name))?;
         }
     }
     Ok(())
@@ -82,7 +82,7 @@ fn push_places(text: &mut String, places: &[Option<u64>]) -> Result<()> {
 fn push_apply(
     alloc: Global,
     text: &mut String,
-    function: Fun,
+    function: &Fun,
     left: Option<u64>,
     right: u64,
     axis: Option<u64>,
@@ -116,7 +116,7 @@ fn push_node(alloc: Global, text: &mut String, node: &Node) -> Result<()> {
             left,
             right,
             axis,
-        } => push_apply(alloc, text, *function, *left, *right, *axis)?,
+        } => push_apply(alloc, text, function, *left, *right, *axis)?,
         Node::Assign {
             target,
             subs,
@@ -143,7 +143,7 @@ fn form_text(alloc: Global, form: Form) -> Result<String> {
 
 fn tree_text(alloc: Global, tree: &Tree) -> Result<String> {
     let mut text = String::new(alloc);
-    if let Some(label) = tree.label {
+    if let Some(label) = &tree.label {
         push_glyphs(alloc, &mut text, label.glyphs())?;
         text.push_str(": ")?;
     }
