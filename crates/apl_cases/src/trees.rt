@@ -1,8 +1,8 @@
 use crate::arrays::array_text;
-use crate::fields::{line_of, push_glyphs, text_of, unless_wanted};
+use crate::fields::{line_of, name_of, push_glyphs, text_of, unless_wanted};
 use crate::tokens::system_text;
 use anyhow::{Context, Result, bail};
-use apl_arrays::{Array, Items, Name, Verb};
+use apl_arrays::{Array, Items, Verb};
 use case_tables::Trial;
 use line_scanner::scan;
 use line_trees::{Class, Classes, Form, Fun, Node, ParseRefused, Tree, parse};
@@ -16,10 +16,6 @@ pub struct Trees;
 /// error.
 #[derive(Clone, Copy, Debug)]
 pub struct LongTrees;
-
-fn name_of(alloc: Global, text: &str) -> Result<Name> {
-    Name::of(line_of(alloc, text)?.as_slice()).context("no name")
-}
 
 // The classes of a field: `NAME=ARGUMENTS`, with blanks between, or `-` where there are none.
 fn classes_of(alloc: Global, field: &str) -> Result<Classes> {
