@@ -10,10 +10,12 @@ pub struct Class {
     pub arguments: u8,
 }
 
-/// The classes of names: one for each name that is a function. Any other name is a value.
+/// The classes of names, in any order: one for each name that is a function, and of two of one name the first counts. Any
+/// other name is a value.
 pub type Classes = List<Class>;
 
-/// How many arguments the function of this name takes, or `None` where it is no function. No memory.
+/// How many arguments the function of this name takes, or `None` where it is no function. It goes through the classes
+/// from the first on. No memory.
 pub fn arguments_of(classes: &Classes, name: &Name) -> Option<u8>
     ensures { result ≡ arguments_of classes.now.items name.now }
 {
