@@ -1,5 +1,5 @@
 use anyhow::{Context, Result};
-use apl_arrays::{Glyph, Line, glyphs_of, utf8_of};
+use apl_arrays::{Glyph, Line, Name, glyphs_of, utf8_of};
 use case_tables::bytes_of;
 use std::alloc::Global;
 use std::str;
@@ -20,6 +20,11 @@ pub fn quoted(field: &str) -> Result<&str> {
 /// The line that a text spells.
 pub fn line_of(alloc: Global, text: &str) -> Result<Line> {
     Ok(glyphs_of(alloc, text.as_bytes())?)
+}
+
+/// The name that a text spells.
+pub fn name_of(alloc: Global, text: &str) -> Result<Name> {
+    Name::of(line_of(alloc, text)?.as_slice()).context("no name")
 }
 
 /// Adds glyphs to a text.

@@ -12,7 +12,9 @@ mod numbers;
 mod reports;
 mod scalar;
 mod shapes;
+mod structure;
 mod tokens;
+mod trees;
 
 use anyhow::Result;
 use case_tables::{Tally, run_table};
@@ -24,7 +26,9 @@ use reports::{Refusals, Reports};
 use scalar::{Dyads, Monads};
 use shapes::{Equality, Shapes};
 use std::process::ExitCode;
+use structure::{Drops, Reshapes, Reversals, Rotations, Takes, Transposes};
 use tokens::Tokens;
+use trees::{LongTrees, Trees};
 
 fn values(rt: &HostRuntime) -> Result<Tally> {
     let mut tally = run_table(rt, "glyphs.txt", &Glyphs)?;
@@ -51,10 +55,28 @@ fn functions(rt: &HostRuntime) -> Result<Tally> {
     Ok(tally)
 }
 
+fn structures(rt: &HostRuntime) -> Result<Tally> {
+    let mut tally = run_table(rt, "reverse.txt", &Reversals)?;
+    tally.add(run_table(rt, "transpose.txt", &Transposes)?);
+    tally.add(run_table(rt, "take.txt", &Takes)?);
+    tally.add(run_table(rt, "drop.txt", &Drops)?);
+    tally.add(run_table(rt, "reshape.txt", &Reshapes)?);
+    tally.add(run_table(rt, "rotate.txt", &Rotations)?);
+    Ok(tally)
+}
+
+fn texts(rt: &HostRuntime) -> Result<Tally> {
+    let mut tally = run_table(rt, "tokens.txt", &Tokens)?;
+    tally.add(run_table(rt, "trees.txt", &Trees)?);
+    tally.add(run_table(rt, "long_trees.txt", &LongTrees)?);
+    Ok(tally)
+}
+
 fn all_tables(rt: &HostRuntime) -> Result<Tally> {
     let mut tally = values(rt)?;
     tally.add(functions(rt)?);
-    tally.add(run_table(rt, "tokens.txt", &Tokens)?);
+    tally.add(structures(rt)?);
+    tally.add(texts(rt)?);
     Ok(tally)
 }
 

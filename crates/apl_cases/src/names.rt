@@ -1,4 +1,4 @@
-use crate::fields::{line_of, push_glyphs, quoted, text_of, unless_wanted};
+use crate::fields::{line_of, name_of, push_glyphs, quoted, text_of, unless_wanted};
 use anyhow::{Context, Result, bail};
 use apl_arrays::{FileName, Glyph, Name, next_word};
 use case_tables::Trial;
@@ -71,17 +71,14 @@ fn order_text<T: Ord>(one: &T, other: &T) -> &'static str {
     }
 }
 
-fn name_of(alloc: Global, field: &str) -> Result<Name> {
-    let line = line_of(alloc, quoted(field)?)?;
-    Name::of(line.as_slice()).context("no name")
-}
-
 impl Trial for NameOrder {
     fn difference(&self, alloc: Global, fields: &[&str]) -> Result<Option<String>> {
         let [one, order, other] = fields else {
             bail!("two names and their order are wanted");
         };
-        let found = order_text(&name_of(alloc, *one)?, &name_of(alloc, *other)?);
+        let one = name_of(alloc, quoted(*one)?)?;
+        let other = name_of(alloc, quoted(*other)?)?;
+        let found = order_text(&one, &other);
         unless_wanted(alloc, String::from_str(alloc, found)?, *order)
     }
 }

@@ -9,7 +9,8 @@ use std::alloc::Global;
 #[derive(Clone, Copy, Debug)]
 pub struct Tokens;
 
-fn system_text(name: SystemName) -> &'static str {
+/// The text of a system name, without its quad.
+pub fn system_text(name: SystemName) -> &'static str {
     match name {
         SystemName::Svo => "SVO",
         SystemName::Svc => "SVC",

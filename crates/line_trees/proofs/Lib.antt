@@ -1,0 +1,10 @@
+pub mod Complete
+pub mod Endings
+pub mod LineLaw
+pub mod Loops
+pub mod Places
+pub mod Reading
+pub mod Sound
+pub mod Starts
+pub mod TreeLaw
+pub mod Waiting

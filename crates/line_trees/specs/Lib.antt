@@ -1,0 +1,11 @@
+pub mod Stacks
+pub mod Signs
+pub mod Symbols
+pub mod Marks
+pub mod Nodes
+pub mod Building
+pub mod Builders
+pub mod Parsing
+pub mod Trees
+pub mod Grammar
+pub mod Worked
