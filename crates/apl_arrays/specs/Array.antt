@@ -62,6 +62,14 @@ pub record IsArray (array : PlainArray) : Type 0 where
   pub fits : FitsLimits array.shape
   pub whole : element_count array.shape ≡ item_count array.items
 
+-- an array of numbers
+abbrev pub number_array : List ℕ → List ℤ → PlainArray
+number_array shape list = record { shape = shape; items = numbers list }
+
+-- an array of characters
+abbrev pub char_array : List ℕ → List ℕ → PlainArray
+char_array shape list = record { shape = shape; items = chars list }
+
 -- the scalar of a number
 abbrev pub scalar : ℤ → PlainArray
 scalar n = record { shape = []; items = numbers (n ∷ []) }

@@ -2,7 +2,7 @@ ghost use Rattle.std.specs.Prelude.{◌≡◌, ◌≢◌, ◌+◌, ◌<◌, ◌�
 ghost use Rattle.std.specs.List.{list_all};
 ghost use Rattle.apl_arrays.specs.Limits.{most_axes, most_elements};
 ghost use Rattle.apl_arrays.specs.Shape.{is_small, shape_fault};
-ghost use Rattle.apl_arrays.specs.Array.{plain_items, item_count, element_count, is_chars, scalar, FitsLimits, IsArray, IsItemOf};
+ghost use Rattle.apl_arrays.specs.Array.{plain_items, item_count, numbers_in, element_count, is_chars, scalar, FitsLimits, IsArray, IsItemOf};
 
 use crate::{Glyph, Line, List, NumberList, WantOfMemory};
 use std::alloc::Global;
@@ -117,6 +117,16 @@ impl Items {
         }
     }
 
+    /// The numbers; none where the kind is characters. No memory.
+    pub fn numbers(&self) -> &[i64]
+        ensures { result.now ≡ numbers_in (plain_items self.now) }
+    {
+        match self {
+            Items::Numbers(list) => list.as_slice(),
+            Items::Chars(_) => &[],
+        }
+    }
+
     /// Equal items. It takes memory for them. ISO 8485.
     pub fn copy(&self, alloc: Global) -> Result<Items, WantOfMemory>
         ensures { IfOk result (λ items. plain_items items ≡ plain_items self.now) }
@@ -224,6 +234,13 @@ impl Array {
             Items::Numbers(list) => Item::Number(list.as_slice()[at]),
             Items::Chars(list) => Item::Char(list.as_slice()[at]),
         }
+    }
+
+    /// The numbers; none where the kind is characters. No memory.
+    pub fn numbers(&self) -> &[i64]
+        ensures { result.now ≡ numbers_in self.now.items }
+    {
+        self.items.numbers()
     }
 
     /// Whether the kind is characters, also of an empty array. No memory. ISO 8485.

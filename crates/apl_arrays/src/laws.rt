@@ -1,23 +1,20 @@
 ghost use Rattle.std.specs.Prelude.{◌≡◌, ◌∷◌, []};
 ghost use Rattle.apl_arrays.specs.Glyph as glyph;
 ghost use Rattle.apl_arrays.specs.Limits.{most_axes, most_elements, most_name_glyphs, most_file_name_bytes};
+ghost use Rattle.apl_arrays.specs.Parties.{first_user, last_user};
 
 use crate::array::{ELEMENT_LIMIT, RANK_LIMIT};
 use crate::file::FILE_NAME_LIMIT;
 use crate::glyph::{Glyph, SCALARS};
 use crate::name::NAME_LIMIT;
+use crate::party::{FIRST_USER, LAST_USER};
 
-/// The glyphs that have a name, in the order of their codes. No memory.
-pub fn named_glyphs() -> [Glyph; 57]
-    ensures { result ≡ glyph.blank ∷ glyph.exclamation ∷ glyph.quote ∷ glyph.left_parenthesis ∷ glyph.right_parenthesis ∷ glyph.star
-        ∷ glyph.plus ∷ glyph.comma ∷ glyph.minus ∷ glyph.period ∷ glyph.slash ∷ glyph.colon ∷ glyph.semicolon
-        ∷ glyph.less ∷ glyph.equal ∷ glyph.greater ∷ glyph.left_bracket ∷ glyph.backslash ∷ glyph.right_bracket
-        ∷ glyph.underscore ∷ glyph.bar ∷ glyph.tilde ∷ glyph.rho ∷ glyph.iota ∷ glyph.epsilon ∷ glyph.up_arrow
-        ∷ glyph.down_arrow ∷ glyph.grade_up ∷ glyph.grade_down ∷ glyph.reverse ∷ glyph.reverse_first ∷ glyph.transpose
-        ∷ glyph.ceiling ∷ glyph.floor ∷ glyph.times ∷ glyph.divide ∷ glyph.not_greater ∷ glyph.not_less
-        ∷ glyph.not_equal ∷ glyph.and ∷ glyph.or ∷ glyph.nand ∷ glyph.nor ∷ glyph.left_arrow ∷ glyph.right_arrow
-        ∷ glyph.quad ∷ glyph.overbar ∷ glyph.del ∷ glyph.delta ∷ glyph.jot ∷ glyph.lamp ∷ glyph.decode ∷ glyph.encode
-        ∷ glyph.slash_bar ∷ glyph.backslash_bar ∷ glyph.format ∷ glyph.execute ∷ [] }
+/// The glyphs of ASCII that have a name, in the order of their codes. No memory.
+pub fn named_glyphs_of_ascii() -> [Glyph; 22]
+    ensures { result ≡ glyph.blank ∷ glyph.exclamation ∷ glyph.quote ∷ glyph.left_parenthesis
+        ∷ glyph.right_parenthesis ∷ glyph.star ∷ glyph.plus ∷ glyph.comma ∷ glyph.minus ∷ glyph.period ∷ glyph.slash
+        ∷ glyph.colon ∷ glyph.semicolon ∷ glyph.less ∷ glyph.equal ∷ glyph.greater ∷ glyph.left_bracket
+        ∷ glyph.backslash ∷ glyph.right_bracket ∷ glyph.underscore ∷ glyph.bar ∷ glyph.tilde ∷ [] }
 {
     [
         Glyph::BLANK,
@@ -42,6 +39,19 @@ pub fn named_glyphs() -> [Glyph; 57]
         Glyph::UNDERSCORE,
         Glyph::BAR,
         Glyph::TILDE,
+    ]
+}
+
+/// The glyphs of APL, in the order of their codes, which are 128 to 162. No memory.
+pub fn named_glyphs_of_apl() -> [Glyph; 35]
+    ensures { result ≡ glyph.rho ∷ glyph.iota ∷ glyph.epsilon ∷ glyph.up_arrow ∷ glyph.down_arrow
+        ∷ glyph.grade_up ∷ glyph.grade_down ∷ glyph.reverse ∷ glyph.reverse_first ∷ glyph.transpose ∷ glyph.ceiling
+        ∷ glyph.floor ∷ glyph.times ∷ glyph.divide ∷ glyph.not_greater ∷ glyph.not_less ∷ glyph.not_equal ∷ glyph.and
+        ∷ glyph.or ∷ glyph.nand ∷ glyph.nor ∷ glyph.left_arrow ∷ glyph.right_arrow ∷ glyph.quad ∷ glyph.overbar
+        ∷ glyph.del ∷ glyph.delta ∷ glyph.jot ∷ glyph.lamp ∷ glyph.decode ∷ glyph.encode ∷ glyph.slash_bar
+        ∷ glyph.backslash_bar ∷ glyph.format ∷ glyph.execute ∷ [] }
+{
+    [
         Glyph::RHO,
         Glyph::IOTA,
         Glyph::EPSILON,
@@ -87,4 +97,6 @@ pub fn numbers_are_as_defined()
     ensures elements { ELEMENT_LIMIT ≡ most_elements }
     ensures name { NAME_LIMIT ≡ most_name_glyphs }
     ensures file_name { FILE_NAME_LIMIT ≡ most_file_name_bytes }
+    ensures least_user { FIRST_USER ≡ first_user }
+    ensures greatest_user { LAST_USER ≡ last_user }
 {}

@@ -1,9 +1,10 @@
 //! What an array looks like, at work on small arrays.
 
 ghost use Rattle.std.specs.Prelude.{◌≡◌, ◌∷◌, [], ◌++◌, pos, codes};
+ghost use Rattle.apl_arrays.specs.Array.{number_array, char_array};
 ghost use Rattle.apl_display.specs.Display.{display_lines};
 ghost use Rattle.apl_display.specs.Format.{formatted};
-ghost use Rattle.apl_display.specs.Worked.{number_array, char_array, minus, signed};
+ghost use Rattle.apl_display.specs.Worked.{minus, signed};
 
 /// Numbers stand at the right of their columns, each as wide as its widest number, signs counted. The call does
 /// nothing.

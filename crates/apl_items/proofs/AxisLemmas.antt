@@ -9,14 +9,14 @@ use Rattle.apl_items.specs.Moves.{IsWithin, item_or, moved_list}
 use Rattle.apl_items.specs.Shapes.{coordinates_of}
 use Rattle.apl_items.proofs.ShapeLemmas.{element_count-cons}
 
-map_range-append : {T : Type 0} (f : ℕ → T) (first m n : ℕ) → map f (range_with_len first (m + n)) ≡ map f (range_with_len first m) ++ map f (range_with_len (first + m) n)
+pub map_range-append : {T : Type 0} (f : ℕ → T) (first m n : ℕ) → map f (range_with_len first (m + n)) ≡ map f (range_with_len first m) ++ map f (range_with_len (first + m) n)
 map_range-append f first zero n =
     let e : zero + n ≡ n = omega arith in let s : first + zero ≡ first = omega arith in rw (e, s) refl
 map_range-append {T} f first (suc m) n =
     let e : suc m + n ≡ suc (m + n) = omega arith in let s : first + suc m ≡ (first + 1) + m = omega arith in
     rw (e, s) (ap (λ (xs : List T). f first ∷ xs) (map_range-append f (first + 1) m n))
 
-map_range-same : {T : Type 0} (f g : ℕ → T) (first start n : ℕ) → ((k : ℕ) → k < n → f (first + k) ≡ g (start + k)) → map f (range_with_len first n) ≡ map g (range_with_len start n)
+pub map_range-same : {T : Type 0} (f g : ℕ → T) (first start n : ℕ) → ((k : ℕ) → k < n → f (first + k) ≡ g (start + k)) → map f (range_with_len first n) ≡ map g (range_with_len start n)
 map_range-same f g first start zero same = refl
 map_range-same {T} f g first start (suc n) same =
     let here : f first ≡ g start = ap f (let e : first ≡ first + 0 = omega arith in e) ∙ same 0 (omega arith) ∙ ap g (let e : start + 0 ≡ start = omega arith in e) in

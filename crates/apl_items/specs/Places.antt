@@ -5,6 +5,7 @@ use Rattle.apl_arrays.specs.declared.report.Fail.TheVariants as fail
 use Rattle.apl_arrays.specs.declared.report.Report.TheVariants.{Domain}
 use Rattle.apl_arrays.specs.Array.{PlainArray, numbers, element_count}
 use Rattle.apl_arrays.specs.List.{Listed}
+use Rattle.apl_items.specs.Answers.{Faults, shape_faults}
 
 -- the places of so many items, in row-major order
 abbrev pub places : ℕ → List ℕ
@@ -21,6 +22,10 @@ lacks_item count rule = list_any (λ place. is_none (rule place)) (places count)
 -- the array of numbers that a rule gives, place by place
 abbrev pub numbers_by : List ℕ → (ℕ → Option ℤ) → PlainArray
 numbers_by shape rule = record { shape = shape; items = numbers (items_by (element_count shape) rule) }
+
+-- what is wrong with a result whose numbers a rule gives: its shape, and DOMAIN where one is lacking
+abbrev pub number_faults : List ℕ → (ℕ → Option ℤ) → Faults
+number_faults shape rule = record (shape_faults shape) { bad_domain = lacks_item (element_count shape) rule }
 
 -- each item is the one that the rule gives at its place
 pub record IsByPlace {T : Type 0} (count : ℕ) (rule : ℕ → Option T) (items : List T) : Type 0 where

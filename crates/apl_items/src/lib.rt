@@ -4,6 +4,7 @@
 
 mod along;
 mod axes;
+mod axis;
 mod extension;
 pub mod laws;
 mod loops;
@@ -15,8 +16,9 @@ mod tests;
 
 pub use along::{Along, moved_along};
 pub use axes::{Axes, moved_by_axes};
+pub use axis::{axis_of, lacks_axis};
 pub use extension::{glyph_at, is_single, leader, number_at, ranks_differ, shapes_differ};
-pub use loops::{by_place, each, glyph_pairs, pairs};
-pub use moves::{Walk, moved};
+pub use loops::{by_place, each, glyph_pairs, pairs, room_for};
+pub use moves::{Walk, item_at_source, moved};
 pub use refusals::{Refusal, by_rule, first_refusal, lacks_one};
-pub use shapes::{Split, shape_report};
+pub use shapes::{Split, joined_shape, shape_report};

@@ -1,8 +1,10 @@
-ghost use Rattle.std.specs.Prelude.{◌≡◌, ◌<◌, length};
+ghost use Rattle.std.specs.Prelude.{◌≡◌, ◌<◌, ◌^◌, ◌++◌, IfOk, length};
 ghost use Rattle.apl_arrays.specs.Array.{FitsLimits, element_count};
 ghost use Rattle.apl_items.specs.Answers.{first_report, shape_faults};
 
-use apl_arrays::{Report, ShapeFault, count_of_elements, shape_fault};
+use crate::loops::room_for;
+use apl_arrays::{Report, ShapeFault, WantOfMemory, count_of_elements, shape_fault};
+use std::alloc::Global;
 
 /// A shape seen from one of its axes: how many rows stand before it, how long it is, and how many items each of its
 /// places has.
@@ -14,7 +16,7 @@ pub struct Split {
 }
 
 impl Split {
-    ghost use Rattle.apl_items.specs.Shapes.{split_at};
+    ghost use Rattle.apl_items.specs.Shapes.{place_along, split_at, split_count};
 
     /// A shape that has elements, seen from one of its axes. No memory.
     pub fn at(shape: &[u32], axis: usize) -> Split
@@ -29,6 +31,19 @@ impl Split {
             inner: count_of_elements(&shape[axis + 1..]),
         }
     }
+
+    /// The place of a row, of a place along the axis, and of an item there. No memory.
+    pub fn place(self, outer: usize, along: usize, inner: usize) -> usize
+        requires outer { outer < self.outer }
+        requires along { along < self.along }
+        requires inner { inner < self.inner }
+        requires fits { split_count self < 2 ^ 64 }
+        ensures value { result ≡ place_along self outer along inner }
+        ensures below { result < split_count self }
+    {
+        let row = outer * self.along + along;
+        row * self.inner + inner
+    }
 }
 
 /// The report of a result of this shape: RANK where it has too many axes, WS FULL where it is too large. No memory.
@@ -40,4 +55,14 @@ pub fn shape_report(shape: &[u32]) -> Option<Report>
         Some(ShapeFault::Size) => Some(Report::WsFull),
         None => None,
     }
+}
+
+/// The axes of one shape, and then those of another. It takes memory once, for all of them.
+pub fn joined_shape(alloc: Global, front: &[u32], back: &[u32]) -> Result<Vec<u32>, WantOfMemory>
+    ensures { IfOk result (λ shape. shape.items ≡ front.now ++ back.now) }
+{
+    let mut shape = room_for(alloc, front.len() + back.len())?;
+    shape.extend_from_slice(front)?;
+    shape.extend_from_slice(back)?;
+    Ok(shape)
 }

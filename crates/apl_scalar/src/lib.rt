@@ -11,4 +11,4 @@ mod table;
 mod tests;
 
 pub use scalar::{dyadic, monadic};
-pub use table::{identity_of, item_of};
+pub use table::{character_of, dyadic_items, identity_of, item_of, item_of_numbers};

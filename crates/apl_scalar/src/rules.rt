@@ -179,8 +179,8 @@ pub fn different(alike: bool) -> Option<i64>
     Some(truth(!alike))
 }
 
-/// 1 for true, 0 for false.
-fn truth(holds: bool) -> i64
+/// 1 for true, 0 for false. No memory.
+pub fn truth(holds: bool) -> i64
     ensures { result ≡ truth holds }
 {
     if holds { 1 } else { 0 }

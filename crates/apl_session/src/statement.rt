@@ -4,13 +4,7 @@ ghost use Rattle.std.specs.Option.{option_map};
 ghost use Rattle.apl_arrays.specs.Glyph.{is_digit};
 ghost use Rattle.apl_session.specs.Statement.{name_in, digits_value, magnitude_in, positive, negative, integer_in, assignment_in, user_number_in, closed_name_in, offering, offered_in, offer_in, reference_in, parts_at, statement_by, statement_in};
 
-use apl_arrays::{Glyph, Name};
-
-/// The least number of a user.
-const FIRST_USER: u64 = 1001;
-
-/// The greatest number of a user.
-const LAST_USER: u64 = 1999;
+use apl_arrays::{FIRST_USER, Glyph, LAST_USER, Name};
 
 /// What a line asks for.
 #[derive(Clone, Copy, Debug, PartialEq, Eq)]
@@ -102,7 +96,7 @@ fn user_number(glyphs: &[Glyph]) -> Option<u32>
     ensures { result ≡ user_number_in glyphs.now }
 {
     let number = magnitude_of(glyphs)?;
-    if number >= FIRST_USER && number <= LAST_USER {
+    if number >= u64::from(FIRST_USER) && number <= u64::from(LAST_USER) {
         Some(number as u32)
     } else {
         None

@@ -1,4 +1,3 @@
-pub mod Axis
 pub mod Counting
 pub mod Lengths
 pub mod Moves

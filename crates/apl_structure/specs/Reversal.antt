@@ -2,7 +2,7 @@ use Rattle.std.specs.Prelude.{◌-◌, ◌==◌, ℕ, ℤ, Option, Some, None, l
 use Rattle.apl_arrays.specs.declared.verb.Way.{Way}
 use Rattle.apl_arrays.specs.Array.{PlainArray}
 use Rattle.apl_items.specs.Answers.{Answer, no_faults, answer_of}
-use Rattle.apl_structure.specs.Axis.{lacks_axis, axis_of}
+use Rattle.apl_items.specs.Axis.{lacks_axis, axis_of}
 use Rattle.apl_structure.specs.Moves.{moved_on}
 
 -- the place as far from the end of an axis as this one from its start, if it is on the axis

@@ -5,7 +5,7 @@ use Rattle.apl_arrays.specs.declared.verb.Way.{Way}
 use Rattle.apl_arrays.specs.Array.{PlainArray, is_chars, numbers_in}
 use Rattle.apl_items.specs.Answers.{Answer, Faults, no_faults, answer_of}
 use Rattle.apl_items.specs.Extension.{is_single, number_at}
-use Rattle.apl_structure.specs.Axis.{axis_of, lacks_axis}
+use Rattle.apl_items.specs.Axis.{axis_of, lacks_axis}
 use Rattle.apl_structure.specs.Moves.{moved_on}
 
 -- how far a number turns an axis, from 0 to below its length; an axis without places is not turned

@@ -1,7 +1,6 @@
 //! The functions of APL that look at the shape of an array, or move its items.
 #![tactic(auto)]
 
-mod axis;
 mod counting;
 pub mod laws;
 mod lengths;

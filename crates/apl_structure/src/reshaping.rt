@@ -8,7 +8,6 @@ ghost use Rattle.apl_structure.specs.Reshaping.{reshape_faults, reshape_of, resh
 
 use crate::lengths::{are_hollow, capped, pass_limits};
 use crate::picks::filled;
-use crate::taking::numbers_of;
 use apl_arrays::{Array, Fail, RANK_LIMIT, Report, WantOfMemory, count_of_elements};
 use apl_items::{Walk, moved};
 use std::alloc::Global;
@@ -19,7 +18,7 @@ use std::alloc::Global;
 pub fn reshape(alloc: Global, a: &Array, b: &Array) -> Result<Array, Fail>
     ensures { Answers result (reshape_of a.now b.now) }
 {
-    let shape = capped(alloc, numbers_of(a))?;
+    let shape = capped(alloc, a.numbers())?;
     match reshape_report(a, b, shape.as_slice()) {
         Some(report) => Err(Fail::Report(report)),
         None => Ok(reshaped(alloc, b, shape.as_slice())?),
@@ -31,7 +30,7 @@ fn reshape_report(a: &Array, b: &Array, shape: &[u32]) -> Option<Report>
     requires { shape.now ≡ capped (numbers_in a.now.items) }
     ensures { result ≡ first_report (reshape_faults a.now b.now) }
 {
-    let numbers = numbers_of(a);
+    let numbers = a.numbers();
     if a.shape().len() > 1 || a.items().len() > RANK_LIMIT {
         Some(Report::Rank)
     } else if a.is_chars()

@@ -1,10 +1,9 @@
 ghost use Rattle.apl_items.specs.Answers.{Answers};
 ghost use Rattle.apl_structure.specs.Reversal.{reverse_of};
 
-use crate::axis::{axis_of, lacks_axis};
 use crate::moves::moved_on;
 use apl_arrays::{Array, Fail, Report, Way};
-use apl_items::Along;
+use apl_items::{Along, axis_of, lacks_axis};
 use std::alloc::Global;
 
 /// An array with its items in reverse order along an axis, the last or the first where none is named; a scalar is

@@ -2,11 +2,10 @@ ghost use Rattle.std.specs.Prelude.{◌≡◌, ◌<◌, ◌≤◌, IfOk, IfSome,
 ghost use Rattle.apl_items.specs.Answers.{Answers, first_report};
 ghost use Rattle.apl_structure.specs.Rotation.{fits_around, rotate_faults, rotate_of, rotated, turn_of, turned_from, wrapped};
 
-use crate::axis::{axis_of, lacks_axis};
 use crate::moves::moved_on;
-use crate::taking::{length_of, numbers_of};
+use crate::taking::length_of;
 use apl_arrays::{Array, Fail, Report, WantOfMemory, Way};
-use apl_items::{Along, is_single};
+use apl_items::{Along, axis_of, is_single, lacks_axis};
 use std::alloc::Global;
 
 /// An array whose lines along an axis, the last or the first where none is named, are turned: an item comes from as many
@@ -70,7 +69,7 @@ fn rotated(alloc: Global, a: &Array, b: &Array, axis: usize) -> Result<Array, Wa
         return Ok(b.copy(alloc)?);
     }
     let length = length_of(b.shape(), axis);
-    let turns = turns_of(alloc, numbers_of(a), length)?;
+    let turns = turns_of(alloc, a.numbers(), length)?;
     let rule = Turns {
         turns: turns.as_slice(),
         length,

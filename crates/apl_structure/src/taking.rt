@@ -56,7 +56,7 @@ fn taken(alloc: Global, a: &Array, b: &Array) -> Result<Array, Fail>
     requires { None ≡ first_report (axes_faults a.now b.now) }
     ensures { Answers result (take_of a.now b.now) }
 {
-    let numbers = numbers_of(a);
+    let numbers = a.numbers();
     let lengths = capped(alloc, numbers)?;
     let shape = lengths.as_slice();
     if pass_limits(numbers, shape) {
@@ -73,23 +73,13 @@ fn left(alloc: Global, a: &Array, b: &Array) -> Result<Array, WantOfMemory>
     requires { None ≡ first_report (axes_faults a.now b.now) }
     ensures { IfOk result (λ array. array ≡ left a.now b.now) }
 {
-    let numbers = numbers_of(a);
+    let numbers = a.numbers();
     let axes = axes_for(alloc, a.items().len(), b)?;
     let source = axes.as_slice();
     let lengths = left_shape(alloc, numbers, source)?;
     let shape = lengths.as_slice();
     let picks = DropPlaces { numbers, source };
     picked(alloc, b.items(), source, shape, &picks)
-}
-
-/// The numbers of an array, none where it is of characters.
-pub(crate) fn numbers_of(a: &Array) -> &[i64]
-    ensures { result.now ≡ numbers_in a.now.items }
-{
-    match a.items() {
-        Items::Numbers(list) => list.as_slice(),
-        Items::Chars(_) => &[],
-    }
 }
 
 /// The axes of B, where a scalar has one place along each of so many.

@@ -6,6 +6,3 @@ pub const LINE_LIMIT: usize = 10_000;
 
 /// The most glyphs of a line.
 pub const GLYPH_LIMIT: usize = 1_000;
-
-/// The least number of a user.
-pub const FIRST_USER: u32 = 1001;

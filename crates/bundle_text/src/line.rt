@@ -5,9 +5,8 @@ ghost use Rattle.bundle_text.specs.Bundle.{IsUserNumber};
 ghost use Rattle.bundle_text.specs.BundleLine.{plain_line, IsTextOf, IsNoLine, IsNoNumber, IsNoHeading, SpellsNothing};
 ghost use Rattle.bundle_text.specs.Refused.{IsReason};
 
-use crate::limits::FIRST_USER;
 use crate::refused::{BundleRefused, BundleRule};
-use apl_arrays::{Glyph, GlyphRefused, Line, glyphs_of};
+use apl_arrays::{FIRST_USER, Glyph, GlyphRefused, Line, glyphs_of};
 use std::alloc::Global;
 
 /// A line of a bundle before its end.

@@ -59,7 +59,7 @@ fn behind_end(alloc: Global, after: &[u8], offset: u64) -> BundleRefused
 }
 
 // The bundle whose end was read, where nothing comes after it. What does stands at the offset.
-fn ended(alloc: Global, draft: Draft, after: &[u8], offset: u64) -> Result<Bundle, BundleRefused>
+fn finished(alloc: Global, draft: Draft, after: &[u8], offset: u64) -> Result<Bundle, BundleRefused>
     requires { offset + length after.now < 2 ^ 64 }
     ensures rules { IfOk result (λ bundle. IsBundle bundle) }
     ensures read { MatchResult result (λ bundle. (after.now ≡ []) × (bundle ≡ bundle_of draft))
@@ -104,7 +104,7 @@ fn read_lines(alloc: Global, bytes: &[u8]) -> Result<Bundle, BundleRefused>
     while let Some((line, after)) = first_line(rest) {
         let offset = (bytes.len() - rest.len()) as u64;
         if is_end(line) {
-            return ended(alloc, draft, after, offset + 4);
+            return finished(alloc, draft, after, offset + 4);
         }
         draft = with_line(alloc, draft, line, offset)?;
         rest = after;

@@ -1,7 +1,7 @@
 -- Worked outputs: transcripts and entries, and what is written of them.
 use Rattle.std.specs.Prelude.{ℕ, ℤ, pos, negsuc, List, [], ◌∷◌, ◌++◌, codes, Some, None}
 use Rattle.std.specs.List.{flat_map}
-use Rattle.apl_arrays.specs.Array.{PlainArray, numbers, chars, scalar}
+use Rattle.apl_arrays.specs.Array.{char_array, number_array, scalar}
 use Rattle.apl_arrays.specs.Glyph.{bar, blank, delta, left_arrow, quad, quote, rho}
 use Rattle.line_text.specs.Lines.{line_feed}
 use Rattle.sv_events.specs.Answer.{PlainAnswer, degree, granted, value, no_value, not_shared, offer_limit, full, done}
@@ -12,18 +12,18 @@ use Rattle.sv_events.specs.declared.entry.Pair.{Pair}
 use Rattle.sv_journal.specs.Output.{PlainTranscript}
 
 -- an entry that couples nothing
-abbrev pub plain : ℕ → Act → PlainAnswer → PlainEntry
-plain party act answer = record { party = party; act = act; answer = answer; made = [] }
+abbrev pub uncoupled : ℕ → Act → PlainAnswer → PlainEntry
+uncoupled party act answer = record { party = party; act = act; answer = answer; made = [] }
 
 -- two users share X: one hands in 3 and sets 4, the other uses it
 abbrev pub plain_path_entries : List PlainEntry
 plain_path_entries =
-    plain 1001 (Offer 1002 (codes "X") (codes "X") (Some (scalar (pos 3)))) (degree 1)
+    uncoupled 1001 (Offer 1002 (codes "X") (codes "X") (Some (scalar (pos 3)))) (degree 1)
     ∷ record { party = 1002; act = Offer 1001 (codes "X") (codes "X") None; answer = degree 2; made = record { a = 1; b = 2 } ∷ [] }
-    ∷ plain 1001 (Set (codes "X") (scalar (pos 4))) granted
-    ∷ plain 1002 (Use (codes "X")) (value (scalar (pos 4)))
-    ∷ plain 1001 Leave done
-    ∷ plain 1002 Leave done
+    ∷ uncoupled 1001 (Set (codes "X") (scalar (pos 4))) granted
+    ∷ uncoupled 1002 (Use (codes "X")) (value (scalar (pos 4)))
+    ∷ uncoupled 1001 Leave done
+    ∷ uncoupled 1002 Leave done
     ∷ []
 
 -- the line X←n, where the arrow is one glyph
@@ -73,14 +73,6 @@ plain_path_output =
     ∷ codes "end"
     ∷ [])
 
--- an array of numbers
-abbrev pub number_array : List ℕ → List ℤ → PlainArray
-number_array shape list = record { shape = shape; items = numbers list }
-
--- an array of characters
-abbrev pub char_array : List ℕ → List ℕ → PlainArray
-char_array shape text = record { shape = shape; items = chars text }
-
 -- an entry that makes pairs
 abbrev pub making : ℕ → Act → PlainAnswer → List Pair → PlainEntry
 making party act answer made = record { party = party; act = act; answer = answer; made = made }
@@ -88,22 +80,22 @@ making party act answer made = record { party = party; act = act; answer = answe
 -- entries of every kind of act, answer and value, few of which a journal could have
 abbrev pub every_kind_entries : List PlainEntry
 every_kind_entries =
-    plain 1001 (Offer 0 (codes "A") (delta ∷ codes "b_9") None) (degree 1)
+    uncoupled 1001 (Offer 0 (codes "A") (delta ∷ codes "b_9") None) (degree 1)
     ∷ making 10 (Offer 1002 (codes "X") (codes "Y") (Some (number_array (2 ∷ 2 ∷ []) (pos 1 ∷ pos 2 ∷ pos 3 ∷ negsuc 3 ∷ [])))) (degree 2) (record { a = 1; b = 2 } ∷ [])
-    ∷ plain 1999 (Offer 20 (codes "aaaaaaaaaaaaaaaaaaaaaaaaaaaaaaa9") (codes "Z") (Some (char_array (5 ∷ []) (codes "HELLO")))) offer_limit
-    ∷ plain 1001 (Set (codes "A") (number_array (0 ∷ []) [])) granted
-    ∷ plain 1001 (Set (codes "A") (char_array (0 ∷ []) [])) not_shared
-    ∷ plain 1002 (Set (codes "Y") (char_array (4 ∷ []) (codes "IT'S"))) granted
-    ∷ plain 1002 (Set (codes "Y") (char_array [] (codes "'"))) granted
-    ∷ plain 1002 (Set (codes "Y") (char_array (2 ∷ 0 ∷ []) [])) granted
-    ∷ plain 1002 (Set (codes "Y") (number_array (1 ∷ 1 ∷ 1 ∷ 1 ∷ 1 ∷ 1 ∷ 1 ∷ 1 ∷ []) (pos 0 ∷ []))) granted
-    ∷ plain 1001 (Use (codes "A")) (value (number_array [] (negsuc 9223372036854775807 ∷ [])))
-    ∷ plain 1001 (Use (codes "A")) (value (number_array (1 ∷ []) (pos 9223372036854775807 ∷ [])))
-    ∷ plain 1001 (Use (codes "A")) (value (char_array (2 ∷ 2 ∷ []) (blank ∷ rho ∷ left_arrow ∷ quote ∷ [])))
-    ∷ plain 1001 (Use (codes "A")) no_value
-    ∷ plain 1002 (Use (codes "B")) not_shared
+    ∷ uncoupled 1999 (Offer 20 (codes "aaaaaaaaaaaaaaaaaaaaaaaaaaaaaaa9") (codes "Z") (Some (char_array (5 ∷ []) (codes "HELLO")))) offer_limit
+    ∷ uncoupled 1001 (Set (codes "A") (number_array (0 ∷ []) [])) granted
+    ∷ uncoupled 1001 (Set (codes "A") (char_array (0 ∷ []) [])) not_shared
+    ∷ uncoupled 1002 (Set (codes "Y") (char_array (4 ∷ []) (codes "IT'S"))) granted
+    ∷ uncoupled 1002 (Set (codes "Y") (char_array [] (codes "'"))) granted
+    ∷ uncoupled 1002 (Set (codes "Y") (char_array (2 ∷ 0 ∷ []) [])) granted
+    ∷ uncoupled 1002 (Set (codes "Y") (number_array (1 ∷ 1 ∷ 1 ∷ 1 ∷ 1 ∷ 1 ∷ 1 ∷ 1 ∷ []) (pos 0 ∷ []))) granted
+    ∷ uncoupled 1001 (Use (codes "A")) (value (number_array [] (negsuc 9223372036854775807 ∷ [])))
+    ∷ uncoupled 1001 (Use (codes "A")) (value (number_array (1 ∷ []) (pos 9223372036854775807 ∷ [])))
+    ∷ uncoupled 1001 (Use (codes "A")) (value (char_array (2 ∷ 2 ∷ []) (blank ∷ rho ∷ left_arrow ∷ quote ∷ [])))
+    ∷ uncoupled 1001 (Use (codes "A")) no_value
+    ∷ uncoupled 1002 (Use (codes "B")) not_shared
     ∷ making 4294967295 Leave done (record { a = 1; b = 3 } ∷ record { a = 10; b = 18446744073709551615 } ∷ [])
-    ∷ plain 0 Leave full
+    ∷ uncoupled 0 Leave full
     ∷ []
 
 -- users who saw next to nothing

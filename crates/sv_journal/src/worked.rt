@@ -5,7 +5,7 @@ ghost use Rattle.sv_events.specs.Answer.{done};
 ghost use Rattle.sv_events.specs.declared.event.Act.TheVariants.{Leave};
 ghost use Rattle.sv_journal.specs.EntryText.{entry_text};
 ghost use Rattle.sv_journal.specs.Output.{output_text};
-ghost use Rattle.sv_journal.specs.WorkedOutput.{plain, plain_path_transcripts, plain_path_entries, plain_path_output, every_kind_transcripts, every_kind_entries, every_kind_output};
+ghost use Rattle.sv_journal.specs.WorkedOutput.{uncoupled, plain_path_transcripts, plain_path_entries, plain_path_output, every_kind_transcripts, every_kind_entries, every_kind_output};
 
 /// The output of one worked run, byte for byte. The call does nothing.
 pub fn plain_path_is_written()
@@ -16,6 +16,6 @@ pub fn plain_path_is_written()
 /// entries. The call does nothing.
 pub fn every_kind_is_written()
     ensures every_kind { output_text every_kind_transcripts every_kind_entries ≡ every_kind_output }
-    ensures greatest { entry_text 18446744073709551615 (plain 1002 Leave done) ≡ codes "18446744073709551615 1002 leave : done" }
+    ensures greatest { entry_text 18446744073709551615 (uncoupled 1002 Leave done) ≡ codes "18446744073709551615 1002 leave : done" }
     ensures nothing { output_text [] [] ≡ codes "journal\nend\n" }
 {}

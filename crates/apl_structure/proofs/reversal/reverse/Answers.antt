@@ -2,7 +2,7 @@ use Rattle.std.proofs.Common.{◌≡◌, ◌<◌, ◌==◌, ℕ, ℤ, false, Opt
 use Rattle.std.proofs.lemmas.Bool.Decides.{nat_tests}
 use Rattle.apl_arrays.specs.declared.verb.Way.{Way}
 use Rattle.apl_arrays.specs.Array.{PlainArray}
-use Rattle.apl_structure.specs.Axis.{axis_of, lacks_axis}
+use Rattle.apl_items.specs.Axis.{axis_of, lacks_axis}
 use Rattle.apl_structure.specs.Moves.{moved_on}
 use Rattle.apl_structure.specs.Reversal.{from_the_end, reverse_of}
 use Rattle.apl_structure.proofs.reversal.reverse.Goals as goal

@@ -13,6 +13,6 @@ returns c =
     let long = c.length_of-length.result in
     let some = some_axes (length b.shape) (ap (λ (xs : List ℕ). length xs == 0) (sym c.shape.ensures.value) ∙ sym c.is_empty.ensures ∙ c.if-is_empty.false) in
     let from : ℕ → ℕ → Option ℕ = λ line along. turned_from (slice_index turns (place_in (length turns) line)) long along in
-    let same = rotated_is a b c.args.axis c.numbers_of.result.now turns long some c.numbers_of.ensures
+    let same = rotated_is a b c.args.axis c.numbers.result.now turns long some c.numbers.ensures
     (c.length_of-length.ensures ∙ ap (λ (xs : List ℕ). slice_index xs c.args.axis) c.shape-2.ensures.value) (c.as_slice.ensures.value ∙ c.in_ok-turns.ensures) in
     IfOk-weaker c.moved_on.result (λ array. array ≡ moved_on b c.args.axis from) (λ array. array ≡ rotated a b c.args.axis) (λ array is. is ∙ same) c.moved_on.ensures

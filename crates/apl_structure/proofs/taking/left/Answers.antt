@@ -10,7 +10,7 @@ pub picked-requires-clause-fits : goal.picked-requires-clause-fits
 picked-requires-clause-fits c =
     let source_is = source_of c.args.a.now c.args.b.now c.len.result c.as_slice-source.result.now (c.len.ensures ∙ ap item_count c.items.ensures.value) (c.as_slice-source.ensures.value ∙ c.in_ok-axes.ensures) in
     let parts = source_fits c.args.a.now c.args.b.now c.items-2.ensures.array c.requires in
-    (left_fits c.as_slice-source.result.now c.numbers_of-numbers.result.now c.as_slice-shape.result.now (subst FitsLimits (sym source_is) parts.0) (c.as_slice-shape.ensures.value ∙ c.in_ok-lengths.ensures)).0
+    (left_fits c.as_slice-source.result.now c.numbers-numbers.result.now c.as_slice-shape.result.now (subst FitsLimits (sym source_is) parts.0) (c.as_slice-shape.ensures.value ∙ c.in_ok-lengths.ensures)).0
 
 pub picked-requires-clause-source : goal.picked-requires-clause-source
 picked-requires-clause-source c =
@@ -26,16 +26,16 @@ pub picked-requires-clause-rank : goal.picked-requires-clause-rank
 picked-requires-clause-rank c =
     let source_is = source_of c.args.a.now c.args.b.now c.len.result c.as_slice-source.result.now (c.len.ensures ∙ ap item_count c.items.ensures.value) (c.as_slice-source.ensures.value ∙ c.in_ok-axes.ensures) in
     let parts = source_fits c.args.a.now c.args.b.now c.items-2.ensures.array c.requires in
-    (left_fits c.as_slice-source.result.now c.numbers_of-numbers.result.now c.as_slice-shape.result.now (subst FitsLimits (sym source_is) parts.0) (c.as_slice-shape.ensures.value ∙ c.in_ok-lengths.ensures)).1
+    (left_fits c.as_slice-source.result.now c.numbers-numbers.result.now c.as_slice-shape.result.now (subst FitsLimits (sym source_is) parts.0) (c.as_slice-shape.ensures.value ∙ c.in_ok-lengths.ensures)).1
 
 pub returns : goal.returns
 returns c =
     let source = c.as_slice-source.result.now in
-    let numbers = c.numbers_of-numbers.result.now in
+    let numbers = c.numbers-numbers.result.now in
     let shape = c.as_slice-shape.result.now in
     let items = plain_items c.items-2.result.now in
     let source_is = source_of c.args.a.now c.args.b.now c.len.result source (c.len.ensures ∙ ap item_count c.items.ensures.value) (c.as_slice-source.ensures.value ∙ c.in_ok-axes.ensures) in
     let from : ℕ → ℕ → Option ℕ = λ axis along. left_from (slice_index_or numbers axis (pos 0)) (slice_index source axis) along in
     IfOk-weaker c.picked.result (λ array. array ≡ picked shape source items from) (λ array. array ≡ left c.args.a.now c.args.b.now)
-    (λ array is. is ∙ left_is c.args.a.now c.args.b.now numbers source shape items c.numbers_of-numbers.ensures source_is (c.as_slice-shape.ensures.value ∙ c.in_ok-lengths.ensures) c.items-2.ensures.value)
+    (λ array is. is ∙ left_is c.args.a.now c.args.b.now numbers source shape items c.numbers-numbers.ensures source_is (c.as_slice-shape.ensures.value ∙ c.in_ok-lengths.ensures) c.items-2.ensures.value)
     c.picked.ensures

@@ -9,7 +9,7 @@ use Rattle.apl_structure.proofs.taking.taken.Goals as goal
 pub returns-then-pass_limits : goal.returns-then-pass_limits
 returns-then-pass_limits c =
     take_too_large c.args.a.now c.args.b.now c.pass_limits.result c.requires
-    (c.pass_limits.ensures ∙ ap (λ (xs : List ℤ). is_some (shape_fault (lengths xs))) c.numbers_of-numbers.ensures) c.if-pass_limits.true
+    (c.pass_limits.ensures ∙ ap (λ (xs : List ℤ). is_some (shape_fault (lengths xs))) c.numbers-numbers.ensures) c.if-pass_limits.true
 
 pub picked-requires-clause-source : goal.picked-requires-clause-source
 picked-requires-clause-source c =
@@ -23,20 +23,20 @@ picked-requires-clause-whole c =
 
 pub picked-requires-clause-fits : goal.picked-requires-clause-fits
 picked-requires-clause-fits c =
-    (lengths_that_fit c.numbers_of-numbers.result.now c.as_slice-shape.result.now (c.as_slice-shape.ensures.value ∙ c.in_ok-lengths.ensures) (sym c.pass_limits.ensures ∙ c.if-pass_limits.false)).1
+    (lengths_that_fit c.numbers-numbers.result.now c.as_slice-shape.result.now (c.as_slice-shape.ensures.value ∙ c.in_ok-lengths.ensures) (sym c.pass_limits.ensures ∙ c.if-pass_limits.false)).1
 
 pub picked-requires-clause-inside : goal.picked-requires-clause-inside
 picked-requires-clause-inside c =
-    taken_inside c.numbers_of-numbers.result.now c.as_slice-shape.result.now c.as_slice-source.result.now
-    (lengths_that_fit c.numbers_of-numbers.result.now c.as_slice-shape.result.now (c.as_slice-shape.ensures.value ∙ c.in_ok-lengths.ensures) (sym c.pass_limits.ensures ∙ c.if-pass_limits.false)).0
+    taken_inside c.numbers-numbers.result.now c.as_slice-shape.result.now c.as_slice-source.result.now
+    (lengths_that_fit c.numbers-numbers.result.now c.as_slice-shape.result.now (c.as_slice-shape.ensures.value ∙ c.in_ok-lengths.ensures) (sym c.pass_limits.ensures ∙ c.if-pass_limits.false)).0
 
 pub returns : goal.returns
 returns c =
     let a = c.args.a.now in let b = c.args.b.now in
     let source_is = source_of a b c.len.result c.as_slice-source.result.now (c.len.ensures ∙ ap item_count c.items.ensures.value) (c.as_slice-source.ensures.value ∙ c.in_ok-axes.ensures) in
-    let fit = lengths_that_fit c.numbers_of-numbers.result.now c.as_slice-shape.result.now (c.as_slice-shape.ensures.value ∙ c.in_ok-lengths.ensures) (sym c.pass_limits.ensures ∙ c.if-pass_limits.false) in
-    let shape_is = fit.0 ∙ ap lengths c.numbers_of-numbers.ensures in
+    let fit = lengths_that_fit c.numbers-numbers.result.now c.as_slice-shape.result.now (c.as_slice-shape.ensures.value ∙ c.in_ok-lengths.ensures) (sym c.pass_limits.ensures ∙ c.if-pass_limits.false) in
+    let shape_is = fit.0 ∙ ap lengths c.numbers-numbers.ensures in
     take_fits a b c.in_ok-picked.field-0 c.pass_limits.result c.requires
-    (c.pass_limits.ensures ∙ ap (λ (xs : List ℤ). is_some (shape_fault (lengths xs))) c.numbers_of-numbers.ensures) c.if-pass_limits.false
+    (c.pass_limits.ensures ∙ ap (λ (xs : List ℤ). is_some (shape_fault (lengths xs))) c.numbers-numbers.ensures) c.if-pass_limits.false
     (c.in_ok-picked.ensures
-    ∙ taken_is a b c.numbers_of-numbers.result.now c.as_slice-source.result.now c.as_slice-shape.result.now (plain_items c.items-2.result.now) c.numbers_of-numbers.ensures source_is shape_is c.items-2.ensures.value)
+    ∙ taken_is a b c.numbers-numbers.result.now c.as_slice-source.result.now c.as_slice-shape.result.now (plain_items c.items-2.result.now) c.numbers-numbers.ensures source_is shape_is c.items-2.ensures.value)

@@ -7,7 +7,7 @@ use Rattle.bundle_text.proofs.text.read_lines.Goals as goal
 pub returns-then-is_end : goal.returns-then-is_end
 returns-then-is_end c =
     let line = c.in-Some.ensures in
-    result_at_end _ _ c.in-Some.line.now c.in-Some.after.now _ c.ended.result c.loop-line.invariant line.0 line.1 (c.is_end.ensures.0 c.if-is_end.true) c.ended.ensures.rules c.ended.ensures.read
+    result_at_end _ _ c.in-Some.line.now c.in-Some.after.now _ c.finished.result c.loop-line.invariant line.0 line.1 (c.is_end.ensures.0 c.if-is_end.true) c.finished.ensures.rules c.finished.ensures.read
 
 pub returns-in_err-draft : goal.returns-in_err-draft
 returns-in_err-draft c =

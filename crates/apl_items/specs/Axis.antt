@@ -1,4 +1,4 @@
-use Rattle.std.specs.Prelude.{◌-◌, ◌||◌, ◌==◌, ℕ, ℤ, Bool, false, Option, Some, None, nat_lt, unsigned_abs}
+use Rattle.std.specs.Prelude.{◌+◌, ◌-◌, ◌++◌, ◌||◌, ◌==◌, ℕ, ℤ, Bool, false, List, Option, Some, None, drop, nat_lt, take, unsigned_abs}
 use Rattle.std.specs.Int.{is_negative}
 use Rattle.apl_arrays.specs.declared.verb.Way.{Way}
 use Rattle.apl_arrays.specs.declared.verb.Way.TheVariants.{Last, First}
@@ -12,6 +12,10 @@ lacks_axis rank (Some k) = is_negative k || unsigned_abs k == 0 || nat_lt rank (
 abbrev pub end_axis : ℕ → Way → ℕ
 end_axis rank Last = rank - 1
 end_axis rank First = 0
+
+-- a shape without one of its axes
+abbrev pub without : ℕ → List ℕ → List ℕ
+without axis shape = take axis shape ++ drop (axis + 1) shape
 
 -- the axis that a function works along: the one that K names, else the last or the first
 abbrev pub axis_of : ℕ → Way → Option ℤ → ℕ

@@ -1,10 +1,10 @@
 ghost use Rattle.std.specs.Prelude.{◌≡◌, ◌<◌, false};
-ghost use Rattle.apl_structure.specs.Axis.{axis_of, end_axis, lacks_axis};
+ghost use Rattle.apl_items.specs.Axis.{axis_of, end_axis, lacks_axis};
 
 use apl_arrays::Way;
 
-/// Whether a number is given that names no axis.
-pub(crate) fn lacks_axis(rank: usize, axis: Option<i64>) -> bool
+/// Whether a number is given that names no axis of an array of this rank. No memory.
+pub fn lacks_axis(rank: usize, axis: Option<i64>) -> bool
     ensures { result ≡ lacks_axis rank axis }
 {
     match axis {
@@ -20,8 +20,8 @@ fn names_none(rank: usize, number: i64) -> bool
     number < 0 || number.unsigned_abs() == 0 || number.unsigned_abs() > rank as u64
 }
 
-/// The axis that a function works along: the one that a number names, else the last or the first.
-pub(crate) fn axis_of(rank: usize, way: Way, axis: Option<i64>) -> usize
+/// The axis that a function works along: the one that a number names, else the last or the first. No memory.
+pub fn axis_of(rank: usize, way: Way, axis: Option<i64>) -> usize
     ensures value { result ≡ axis_of rank way axis }
     ensures inside { 0 < rank → lacks_axis rank axis ≡ false → result < rank }
 {
