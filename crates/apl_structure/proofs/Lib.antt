@@ -1,7 +1,9 @@
 pub mod AxisLemmas
+pub mod IndexLemmas
 pub mod LawLemmas
 pub mod LengthLemmas
 pub mod MoveLemmas
 pub mod ReshapeLemmas
 pub mod RotateLemmas
+pub mod SubscriptLemmas
 pub mod TakeLemmas

@@ -1,4 +1,5 @@
 pub mod Counting
+pub mod Indexing
 pub mod Lengths
 pub mod Moves
 pub mod Picks
@@ -6,5 +7,6 @@ pub mod Plain
 pub mod Reshaping
 pub mod Reversal
 pub mod Rotation
+pub mod Subscripts
 pub mod Taking
 pub mod Transposition

@@ -2,6 +2,7 @@
 #![tactic(auto)]
 
 mod counting;
+mod indexing;
 pub mod laws;
 mod lengths;
 mod moves;
@@ -11,13 +12,16 @@ mod reshaping;
 mod reversal;
 mod rotation;
 mod strides;
+mod subscripts;
 mod taking;
 mod transposition;
 
 pub use counting::iota;
+pub use indexing::index;
 pub use plain::{ravel, shape_of};
 pub use reshaping::reshape;
 pub use reversal::reverse;
 pub use rotation::rotate;
+pub use subscripts::Subs;
 pub use taking::{drop_items, take};
 pub use transposition::transpose;
