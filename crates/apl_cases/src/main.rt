@@ -21,7 +21,7 @@ use anyhow::Result;
 use case_tables::{Tally, run_table};
 use characters::{BadGlyphs, Glyphs};
 use display::{Formats, Lines};
-use indexing::Indexings;
+use indexing::{Assignments, Indexings};
 use items::{PlacedItems, Scalars};
 use names::{FileNameOrder, FileNames, NameOrder, Names, Words};
 use reports::{Refusals, Reports};
@@ -65,6 +65,7 @@ fn structures(rt: &HostRuntime) -> Result<Tally> {
     tally.add(run_table(rt, "reshape.txt", &Reshapes)?);
     tally.add(run_table(rt, "rotate.txt", &Rotations)?);
     tally.add(run_table(rt, "index.txt", &Indexings)?);
+    tally.add(run_table(rt, "index_assign.txt", &Assignments)?);
     Ok(tally)
 }
 

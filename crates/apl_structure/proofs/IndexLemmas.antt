@@ -1,21 +1,20 @@
 -- The items that subscripts select.
-use Rattle.std.proofs.Common.{All, ◌≡◌, ℕ, ℤ, zero, suc, ◌+◌, ◌-◌, ◌*◌, ◌<◌, ◌≤◌, ◌==◌, ◌||◌, Bool, true, false, not, pos, cond, nat_lt, List, [], ◌∷◌, Option, Some, None, Ok, is_some, length, map, slice_get, slice_index, get_or, unsigned_abs, refl, sym, ap, subst, ◌∙◌, arith}
+use Rattle.std.proofs.Common.{All, ◌≡◌, ℕ, ℤ, zero, suc, ◌+◌, ◌-◌, ◌*◌, ◌<◌, ◌≤◌, ◌==◌, ◌||◌, Bool, true, false, nat_lt, List, [], ◌∷◌, Option, Some, None, is_some, length, map, slice_get, slice_index, get_or, unsigned_abs, refl, ap, ◌∙◌, arith}
 use Rattle.std.specs.Int.{is_negative}
 use Rattle.std.specs.List.{list_any, range_with_len}
 use Rattle.std.proofs.lemmas.Bool.Decides.{nat_tests}
 use Rattle.std.proofs.lemmas.List.Elements.{All-cons, All-nil, All-weaker}
 use Rattle.std.proofs.lemmas.List.FromFn.{get_or-map-range_with_len, length-map-range_with_len}
 use Rattle.std.proofs.Math.Nat.{le-mul_of_pos_right, mul_comm}
-use Rattle.apl_arrays.specs.declared.report.Report.{Report}
-use Rattle.apl_arrays.specs.Array.{PlainArray, PlainItems, FitsLimits, IsArray, element_count, item_count, numbers_in}
+use Rattle.apl_arrays.specs.Array.{PlainArray, PlainItems, FitsLimits, element_count, numbers_in}
 use Rattle.apl_arrays.specs.Shape.{shape_fault}
-use Rattle.apl_items.specs.Answers.{first_report, no_faults, unless}
+use Rattle.apl_items.specs.Answers.{first_report, no_faults}
 use Rattle.apl_items.specs.Axes.{source_by_axes}
 use Rattle.apl_items.specs.Moves.{moved, moved_items}
 use Rattle.apl_items.specs.Places.{places}
 use Rattle.apl_items.proofs.ShapeLemmas.{element_count-cons}
 use Rattle.apl_items.proofs.RefusalLemmas.{list_any-places}
-use Rattle.apl_structure.specs.Indexing.{index_faults, index_of, indexed}
+use Rattle.apl_structure.specs.Indexing.{index_faults, indexed}
 use Rattle.apl_arrays.proofs.Shapes.{no_fault_fits}
 use Rattle.apl_structure.specs.Picks.{PicksWithin, strided}
 use Rattle.apl_structure.specs.Subscripts.{is_miscounted, is_of_chars, is_outside, named_by, named_counts, named_on, point_outside, points_outside, selection_shape, sub_on}
@@ -32,13 +31,13 @@ of_places zero first along place e = absurd (cc)
 of_places (suc long) first zero place e = let is = some_place first place e in omega arith
 of_places (suc long) first (suc along) place e = let rest = of_places long (first + 1) along place e in omega arith
 
-number_inside : (negative none over : Bool) (size long place : ℕ) → (negative || none || over) ≡ false → (size == 0) ≡ none → nat_lt long size ≡ over → size - 1 ≡ place → place < long
+pub number_inside : (negative none over : Bool) (size long place : ℕ) → (negative || none || over) ≡ false → (size == 0) ≡ none → nat_lt long size ≡ over → size - 1 ≡ place → place < long
 number_inside true none over size long place e z o is = absurd (cc)
 number_inside false true over size long place e z o is = absurd (cc)
 number_inside false false true size long place e z o is = absurd (cc)
 number_inside false false false size long place e z o is = grind (arith, nat_tests)
 
-none_first : (a b : Bool) → (a || b) ≡ false → (a ≡ false) × (b ≡ false)
+pub none_first : (a b : Bool) → (a || b) ≡ false → (a ≡ false) × (b ≡ false)
 none_first true b e = absurd (cc)
 none_first false b e = (refl, e)
 

@@ -16,11 +16,13 @@ index_faults b subs =
       too_large = is_some (shape_fault shape);
     }
 
--- the item of B for each place of the selection: along each axis the place that its subscript names there
+-- the place of B that a place of the selection names: along each axis the one that its subscript names there
+abbrev pub named_place : List ℕ → List (Option PlainArray) → ℕ → Option ℕ
+named_place shape subs = source_by_axes (named_counts shape subs) (strided shape (λ axis along. slice_get (named_on shape subs axis) along))
+
+-- the items of B at the places that are named
 abbrev pub indexed : PlainArray → List (Option PlainArray) → PlainArray
-indexed b subs =
-    moved (selection_shape b.shape subs) b.items
-    (source_by_axes (named_counts b.shape subs) (strided b.shape (λ axis along. slice_get (named_on b.shape subs axis) along)))
+indexed b subs = moved (selection_shape b.shape subs) b.items (named_place b.shape subs)
 
 -- B[I;J]
 abbrev pub index_of : PlainArray → List (Option PlainArray) → Answer

@@ -1,6 +1,7 @@
 //! The functions of APL that look at the shape of an array, or move its items.
 #![tactic(auto)]
 
+mod assignment;
 mod counting;
 mod indexing;
 pub mod laws;
@@ -11,11 +12,13 @@ mod plain;
 mod reshaping;
 mod reversal;
 mod rotation;
+pub mod selection_laws;
 mod strides;
 mod subscripts;
 mod taking;
 mod transposition;
 
+pub use assignment::index_assign;
 pub use counting::iota;
 pub use indexing::index;
 pub use plain::{ravel, shape_of};
