@@ -110,7 +110,7 @@ reversed_twice b axis array inside = twice_by_rank b axis (length b.shape == 0) 
 places_stay : {T : Type 0} (fill : T) (list : List T) → moved_list fill list (length list) (λ place. Some place) ≡ list
 places_stay fill list = sym (fill_by_all (λ place. get_or list place fill) list (length list) fill refl (λ k h. refl))
 
-items_stay : (items : PlainItems) → moved_items items (item_count items) (λ place. Some place) ≡ items
+pub items_stay : (items : PlainItems) → moved_items items (item_count items) (λ place. Some place) ≡ items
 items_stay (numbers list) = ap numbers (places_stay (pos 0) list)
 items_stay (chars list) = ap chars (places_stay blank list)
 
@@ -118,7 +118,7 @@ lengths_of_shape : (shape : List ℕ) → lengths (map (λ axis. pos axis) shape
 lengths_of_shape [] = refl
 lengths_of_shape (x ∷ xs) = ap (λ (rest : List ℕ). x ∷ rest) (lengths_of_shape xs)
 
-not_negative : (n : ℕ) → is_negative (pos n) ≡ false
+pub not_negative : (n : ℕ) → is_negative (pos n) ≡ false
 not_negative n = grind (arith, nat_tests)
 
 no_negative : (shape : List ℕ) → list_any is_negative (map (λ axis. pos axis) shape) ≡ false
@@ -139,7 +139,7 @@ asks_for_none : (count : ℕ) (empty hollow : Bool) → (count == 0) ≡ empty �
 asks_for_none count false hollow e is = refl
 asks_for_none count true hollow e is = rw (is (same_number count 0 e)) refl
 
-few_axes : (n : ℕ) → n ≤ 8 → nat_lt 8 n ≡ false
+pub few_axes : (n : ℕ) → n ≤ 8 → nat_lt 8 n ≡ false
 few_axes n h = grind (arith, nat_tests)
 
 nothing_reported : (rank negative asks large : Bool) → rank ≡ false → negative ≡ false → asks ≡ false → large ≡ false

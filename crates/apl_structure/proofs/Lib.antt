@@ -1,7 +1,14 @@
+pub mod AssignLemmas
 pub mod AxisLemmas
+pub mod GivenBackLemmas
+pub mod IndexLemmas
 pub mod LawLemmas
 pub mod LengthLemmas
 pub mod MoveLemmas
+pub mod NamingLemmas
+pub mod OrderLemmas
+pub mod OwnPlacesLemmas
 pub mod ReshapeLemmas
 pub mod RotateLemmas
+pub mod SubscriptLemmas
 pub mod TakeLemmas

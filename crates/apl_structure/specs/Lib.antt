@@ -1,10 +1,15 @@
+pub mod Assignment
 pub mod Counting
+pub mod Indexing
 pub mod Lengths
 pub mod Moves
+pub mod Naming
 pub mod Picks
 pub mod Plain
 pub mod Reshaping
 pub mod Reversal
 pub mod Rotation
+pub mod SelectionLaws
+pub mod Subscripts
 pub mod Taking
 pub mod Transposition

@@ -1,7 +1,9 @@
 //! The functions of APL that look at the shape of an array, or move its items.
 #![tactic(auto)]
 
+mod assignment;
 mod counting;
+mod indexing;
 pub mod laws;
 mod lengths;
 mod moves;
@@ -10,14 +12,19 @@ mod plain;
 mod reshaping;
 mod reversal;
 mod rotation;
+pub mod selection_laws;
 mod strides;
+mod subscripts;
 mod taking;
 mod transposition;
 
+pub use assignment::index_assign;
 pub use counting::iota;
+pub use indexing::index;
 pub use plain::{ravel, shape_of};
 pub use reshaping::reshape;
 pub use reversal::reverse;
 pub use rotation::rotate;
+pub use subscripts::Subs;
 pub use taking::{drop_items, take};
 pub use transposition::transpose;

@@ -41,7 +41,7 @@ pub(crate) fn picked<P: Picks>(
 }
 
 /// The items that are picked from a source along each axis, or filled.
-fn picked_items<P: Picks>(
+pub(crate) fn picked_items<P: Picks>(
     alloc: Global,
     items: &Items,
     source: &[u32],
