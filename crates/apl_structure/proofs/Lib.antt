@@ -1,6 +1,10 @@
 pub mod AxisLemmas
+pub mod CompressLemmas
+pub mod ExpandLemmas
+pub mod FaultLemmas
 pub mod LawLemmas
 pub mod LengthLemmas
+pub mod ListingLemmas
 pub mod MoveLemmas
 pub mod ReshapeLemmas
 pub mod RotateLemmas

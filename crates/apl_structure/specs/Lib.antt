@@ -1,5 +1,9 @@
+pub mod Compression
 pub mod Counting
+pub mod Expansion
+pub mod Flags
 pub mod Lengths
+pub mod Listing
 pub mod Moves
 pub mod Picks
 pub mod Plain

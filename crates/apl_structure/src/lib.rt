@@ -1,9 +1,13 @@
 //! The functions of APL that look at the shape of an array, or move its items.
 #![tactic(auto)]
 
+mod compression;
 mod counting;
+mod expansion;
+mod flags;
 pub mod laws;
 mod lengths;
+mod listing;
 mod moves;
 mod picks;
 mod plain;
@@ -14,7 +18,9 @@ mod strides;
 mod taking;
 mod transposition;
 
+pub use compression::compress;
 pub use counting::iota;
+pub use expansion::expand;
 pub use plain::{ravel, shape_of};
 pub use reshaping::reshape;
 pub use reversal::reverse;
