@@ -2,6 +2,7 @@ pub mod Complete
 pub mod Endings
 pub mod LineLaw
 pub mod Loops
+pub mod Order
 pub mod Places
 pub mod Reading
 pub mod Sound

@@ -9,3 +9,4 @@ pub mod Parsing
 pub mod Trees
 pub mod Grammar
 pub mod Worked
+pub mod Order

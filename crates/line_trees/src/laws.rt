@@ -9,6 +9,7 @@ ghost use Rattle.line_scanner.specs.Token.{PlainToken};
 ghost use Rattle.line_trees.specs.Trees.{LineTree, as_nodes, line_of};
 ghost use Rattle.line_trees.specs.Grammar.{IsLine, IsStop};
 ghost use Rattle.line_trees.specs.Parsing.{PlainTree, parsed};
+ghost use Rattle.line_trees.specs.Order.{IsInOrder};
 ghost use Rattle.line_trees.specs.Worked.{parsed_glyphs, three_classes};
 
 use crate::{Form, Fun};
@@ -152,6 +153,11 @@ pub fn errors_stop_lines()
 /// Where no line of the grammar goes on, there is the error: no tokens have two such places. The call does nothing.
 pub fn stops_are_errors()
     ensures one_place { (classes : List Class) (tokens : List PlainToken) (length at : ℕ) → IsStop classes tokens length at → parsed classes tokens length ≡ Err at }
+{}
+
+/// Each node of a tree that is parsed stands after those that it names. The call does nothing.
+pub fn nodes_are_in_order()
+    ensures in_order { (classes : List Class) (tokens : List PlainToken) (length : ℕ) (tree : PlainTree) → parsed classes tokens length ≡ Ok tree → IsInOrder tree }
 {}
 
 /// The nodes of a line stand for its tree. The call does nothing.
