@@ -1,9 +1,14 @@
+pub mod BeginFits
 pub mod Complete
 pub mod Endings
+pub mod Fits
 pub mod LineLaw
 pub mod Loops
+pub mod OperandFits
 pub mod Order
 pub mod Places
+pub mod ReadFunctions
+pub mod ReadOperands
 pub mod Reading
 pub mod Sound
 pub mod Starts

@@ -5,7 +5,7 @@ use Rattle.line_trees.specs.declared.class.Class.{Class}
 use Rattle.line_trees.specs.Nodes as node
 use Rattle.line_trees.specs.Nodes.{PlainNode}
 use Rattle.line_trees.specs.Parsing.{PlainTree, parsed}
-use Rattle.line_trees.specs.Trees.{Expr, constant, value, niladic, paren, indexed, monadic, monadic_along, dyadic, dyadic_along, assign, assign_at, Subscripts, no_more, omitted, given, Statement, nothing, branch, whole, execute, LineTree, Placed, PlacedList, added, placed, placed_subscripts, as_nodes, nodes_of_statement}
+use Rattle.line_trees.specs.Trees.{Expr, constant, value, niladic, paren, indexed, monadic, monadic_along, dyadic, dyadic_along, assign, assign_at, Subscripts, no_more, omitted, given, Statement, nothing, branch, whole, execute, Placed, PlacedList, added, placed, placed_subscripts, nodes_of_statement}
 use Rattle.line_trees.specs.Order.{AreBelow, NamesBelow, NameEarlier, IsInOrder}
 use Rattle.line_trees.proofs.TreeLaw.{HoldAll, keeps_all, stands, stand_all}
 use Rattle.line_trees.proofs.Places.{tree_is_line}
