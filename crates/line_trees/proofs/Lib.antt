@@ -1,4 +1,5 @@
 pub mod BeginFits
+pub mod ClassesInOrder
 pub mod Complete
 pub mod Endings
 pub mod Fits

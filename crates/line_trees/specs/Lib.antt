@@ -1,6 +1,7 @@
 pub mod Stacks
 pub mod Signs
 pub mod Symbols
+pub mod Classes
 pub mod Marks
 pub mod Nodes
 pub mod Building
