@@ -17,7 +17,7 @@ pub struct Trees;
 #[derive(Clone, Copy, Debug)]
 pub struct LongTrees;
 
-// The classes of a field: `NAME=ARGUMENTS`, with blanks between, or `-` where there are none.
+// The classes of a field: `NAME=ARGUMENTS`, the names ascending, with blanks between, or `-` where there are none.
 fn classes_of(alloc: Global, field: &str) -> Result<Classes> {
     let mut classes = Classes::new(alloc);
     if field == "-" {
@@ -25,10 +25,12 @@ fn classes_of(alloc: Global, field: &str) -> Result<Classes> {
     }
     for word in field.split_whitespace() {
         let (name, arguments) = word.split_once("=").context("no class")?;
-        classes.push(Class {
-            name: name_of(alloc, name)?,
-            arguments: arguments.parse().context("no number of arguments")?,
-        })?;
+        let name = name_of(alloc, name)?;
+        let arguments = arguments.parse().context("no number of arguments")?;
+        if !classes.come_before(&name) {
+            bail!("the names of classes do not ascend");
+        }
+        classes.push(Class { name, arguments })?;
     }
     Ok(classes)
 }

@@ -1,8 +1,15 @@
+pub mod BeginFits
+pub mod ClassesInOrder
 pub mod Complete
 pub mod Endings
+pub mod Fits
 pub mod LineLaw
 pub mod Loops
+pub mod OperandFits
+pub mod Order
 pub mod Places
+pub mod ReadFunctions
+pub mod ReadOperands
 pub mod Reading
 pub mod Sound
 pub mod Starts

@@ -25,7 +25,8 @@ use Rattle.line_trees.specs.Trees.{Expr, Statement, nothing, branch, whole, exec
 use Rattle.line_trees.specs.Grammar.{IsExpr, IsStatement, IsLabelled, IsLine}
 use Rattle.line_trees.proofs.Reading.{read_by, read, reads_token, reads_same, reads_end}
 use Rattle.line_trees.proofs.Starts.{leads, expr_led, at_statement, begins_as}
-use Rattle.line_trees.proofs.Complete.{ends_of, expr_on, Reads, expr_read}
+use Rattle.line_trees.proofs.Complete.{expr_read}
+use Rattle.line_trees.proofs.ReadOperands.{ends_of, expr_on, Reads}
 
 -- what is built of a statement
 abbrev statement_built : Statement → Built

@@ -28,12 +28,12 @@ last_at xs x d k e = ap (λ (i : ℕ). get_or (xs ++ x ∷ []) i d) e ∙ at_end
     at_end (y ∷ ys) x d = at_end ys x d
 
 -- a number stands for a tree
-record Holds (nodes : List PlainNode) (k : ℕ) (e : Expr) : Type 0 where
-  below : k < length nodes
-  is : tree_numbered nodes k ≡ e
+pub record Holds (nodes : List PlainNode) (k : ℕ) (e : Expr) : Type 0 where
+  pub below : k < length nodes
+  pub is : tree_numbered nodes k ≡ e
 
 -- what stood for a tree still does
-abbrev Keeps : List PlainNode → List PlainNode → Type 0
+abbrev pub Keeps : List PlainNode → List PlainNode → Type 0
 Keeps nodes more = (k : ℕ) (e : Expr) → Holds nodes k e → Holds more k e
 
 keeps_added : (nodes : List PlainNode) (n : PlainNode) → Keeps nodes (nodes ++ n ∷ [])
@@ -50,13 +50,13 @@ holds_added nodes n e h = record {
 }
 
 -- numbers stand for subscripts
-abbrev HoldAll : List PlainNode → List (Option ℕ) → Subscripts → Type 0
+abbrev pub HoldAll : List PlainNode → List (Option ℕ) → Subscripts → Type 0
 HoldAll nodes [] no_more = Unit {0}
 HoldAll nodes (None ∷ places) (omitted more) = HoldAll nodes places more
 HoldAll nodes (Some k ∷ places) (given e more) = Holds nodes k e × HoldAll nodes places more
 HoldAll nodes places subs = ⊥
 
-keeps_all : (nodes more : List PlainNode) (places : List (Option ℕ)) (subs : Subscripts) → Keeps nodes more → HoldAll nodes places subs → HoldAll more places subs
+pub keeps_all : (nodes more : List PlainNode) (places : List (Option ℕ)) (subs : Subscripts) → Keeps nodes more → HoldAll nodes places subs → HoldAll more places subs
 keeps_all nodes more [] no_more h k = tt
 keeps_all nodes more (None ∷ places) (omitted subs) h k = keeps_all nodes more places subs h k
 keeps_all nodes more (Some i ∷ places) (given e subs) h k = (h i e k.0, keeps_all nodes more places subs h k.1)
@@ -69,19 +69,19 @@ subscripts_are nodes (Some i ∷ places) (given e subs) h = ap (λ (x : Expr). g
 subscripts_are nodes places subs h = absurd h
 
 -- nodes of a tree behind others stand for it, and those before for what they stood for
-record Stands (nodes : List PlainNode) (p : Placed) (e : Expr) : Type 0 where
-  holds : Holds p.0 p.1 e
-  keeps : Keeps nodes p.0
+pub record Stands (nodes : List PlainNode) (p : Placed) (e : Expr) : Type 0 where
+  pub holds : Holds p.0 p.1 e
+  pub keeps : Keeps nodes p.0
 
-record StandAll (nodes : List PlainNode) (p : PlacedList) (subs : Subscripts) : Type 0 where
-  hold : HoldAll p.0 p.1 subs
-  keeps : Keeps nodes p.0
+pub record StandAll (nodes : List PlainNode) (p : PlacedList) (subs : Subscripts) : Type 0 where
+  pub hold : HoldAll p.0 p.1 subs
+  pub keeps : Keeps nodes p.0
 
 stands_added : (nodes last : List PlainNode) (n : PlainNode) (e : Expr) → Keeps nodes last → expr_of (trees_from [] last) n ≡ e → Stands nodes (added last n) e
 stands_added nodes last n e keeps h = record { holds = holds_added last n e h; keeps = λ k x was. keeps_added last n k x (keeps k x was) }
 
 mutual
-  stands : (nodes : List PlainNode) (e : Expr) → Stands nodes (placed nodes e) e
+  pub stands : (nodes : List PlainNode) (e : Expr) → Stands nodes (placed nodes e) e
   stands nodes (constant items) = stands_added nodes nodes (node.constant items) (constant items) (λ k x h. h) refl
   stands nodes (value n) = stands_added nodes nodes (node.value n) (value n) (λ k x h. h) refl
   stands nodes (niladic n) = stands_added nodes nodes (node.niladic n) (niladic n) (λ k x h. h) refl
@@ -136,7 +136,7 @@ mutual
       stands_added nodes s.0 (node.assign_at n s.1 r.1) (assign_at n subs right) (λ i x was. k.keeps i x (h.keeps i x was))
       (ap (λ (x : Subscripts). assign_at n x (tree_numbered s.0 r.1)) (subscripts_are s.0 s.1 subs k.hold) ∙ ap (assign_at n subs) (k.keeps r.1 right h.holds).is)
 
-  stand_all : (nodes : List PlainNode) (subs : Subscripts) → StandAll nodes (placed_subscripts nodes subs) subs
+  pub stand_all : (nodes : List PlainNode) (subs : Subscripts) → StandAll nodes (placed_subscripts nodes subs) subs
   stand_all nodes no_more = record { hold = tt; keeps = λ k x h. h }
   stand_all nodes (omitted more) = let h = stand_all nodes more in record { hold = h.hold; keeps = h.keeps }
   stand_all nodes (given e more) =

@@ -1,6 +1,7 @@
 pub mod Stacks
 pub mod Signs
 pub mod Symbols
+pub mod Classes
 pub mod Marks
 pub mod Nodes
 pub mod Building
@@ -9,3 +10,4 @@ pub mod Parsing
 pub mod Trees
 pub mod Grammar
 pub mod Worked
+pub mod Order

@@ -1,5 +1,5 @@
 -- Worked lines: tokens of one glyph each.
-use Rattle.std.specs.Prelude.{◌+◌, ℕ, List, [], ◌∷◌, length}
+use Rattle.std.specs.Prelude.{◌+◌, ℕ, List, [], ◌∷◌, length, codes}
 use Rattle.line_scanner.specs.Token.{PlainKind, PlainToken}
 use Rattle.line_trees.specs.declared.class.Class.{Class}
 use Rattle.line_trees.specs.Parsing.{Parsed, parsed}
@@ -15,4 +15,4 @@ parsed_glyphs classes kinds = parsed classes (glyph_each 0 kinds) (length kinds)
 
 -- a function N without arguments, M with one, D with two
 abbrev pub three_classes : List Class
-three_classes = record { name = 78 ∷ []; arguments = 0 } ∷ record { name = 77 ∷ []; arguments = 1 } ∷ record { name = 68 ∷ []; arguments = 2 } ∷ []
+three_classes = record { name = codes "N"; arguments = 0 } ∷ record { name = codes "M"; arguments = 1 } ∷ record { name = codes "D"; arguments = 2 } ∷ []

@@ -1,7 +1,10 @@
-ghost use Rattle.std.specs.Prelude.{◌≡◌};
+ghost use Rattle.std.specs.Prelude.{◌≡◌, ◌-◌, ◌∷◌, ◌++◌, [], OnOk, OnErr, IsTrue, length, slice_get};
+ghost use Rattle.line_trees.specs.Classes.{NamesAscend, is_before, come_before, first_not_before, arguments_where};
 ghost use Rattle.line_trees.specs.Symbols.{arguments_of};
 
-use apl_arrays::{List, Name};
+use apl_arrays::{List, Name, WantOfMemory};
+use std::alloc::Global;
+use std::marker::Model;
 
 /// The name of a function, and how many arguments it takes: none, one or two.
 #[derive(Clone, Copy, Debug, PartialEq, Eq)]
@@ -10,18 +13,107 @@ pub struct Class {
     pub arguments: u8,
 }
 
-/// The classes of names, in any order: one for each name that is a function, and of two of one name the first counts. Any
-/// other name is a value.
-pub type Classes = List<Class>;
+/// The classes of names, seen as a list: one for each name that is a function, the names ascending. Any other name is a
+/// value.
+#[derive(Debug, Drop)]
+pub struct Classes {
+    classes: List<Class>,
+}
 
-/// How many arguments the function of this name takes, or `None` where it is no function. It goes through the classes
-/// from the first on. No memory.
-pub fn arguments_of(classes: &Classes, name: &Name) -> Option<u8>
-    ensures { result ≡ arguments_of classes.now.items name.now }
+impl Model for Classes {
+    ghost use Rattle.std.specs.Prelude.{List};
+    ghost use Rattle.line_trees.specs.declared.class.Class.{Class};
+    ghost use Rattle.line_trees.specs.Classes.{NamesAscend};
+
+    ghost Value = { List Class };
+
+    ghost view = { λ c. c.classes.items };
+
+    ghost invariant = { λ c. NamesAscend c.classes.items };
+}
+
+impl Classes {
+    /// No classes. No memory.
+    pub fn new(alloc: Global) -> Self
+        ensures { result ≡ [] }
+    {
+        Classes {
+            classes: List::new(alloc),
+        }
+    }
+
+    /// The classes, the names ascending. No memory.
+    pub fn as_slice(&self) -> &[Class]
+        ensures items { result.now ≡ self.now }
+        ensures ascending { NamesAscend result.now }
+    {
+        self.classes.as_slice()
+    }
+
+    /// Whether the names of all the classes come before a name. No memory.
+    pub fn come_before(&self, name: &Name) -> bool
+        ensures { result ≡ come_before self.now name.now }
+    {
+        match last_of(self.as_slice()) {
+            None => true,
+            Some(last) => is_before(&last.name, name),
+        }
+    }
+
+    /// Adds a class whose name comes behind all the others. It takes memory where there is no room. `WantOfMemory`
+    /// leaves the classes as they were.
+    #[tactic(auto, using(crate::proofs::ClassesInOrder::one_behind))]
+    pub fn push(&mut self, class: Class) -> Result<(), WantOfMemory>
+        requires { IsTrue (come_before self.old class.name) }
+        ensures ok { OnOk result (self.new ≡ self.old ++ class ∷ []) }
+        ensures err { OnErr result (self.new ≡ self.old) }
+    {
+        self.classes.push(class)
+    }
+
+    /// How many arguments the function of this name takes, or `None` where it is no function. A search by halves. No
+    /// memory.
+    pub fn arguments_of(&self, name: &Name) -> Option<u8>
+        ensures { result ≡ arguments_of self.now name.now }
+    {
+        arguments_where(first_not_before(self.as_slice(), name), name)
+    }
+}
+
+fn last_of(classes: &[Class]) -> Option<Class>
+    ensures { result ≡ slice_get classes.now (length classes.now - 1) }
 {
-    classes
-        .as_slice()
-        .iter()
-        .find(|class| class.name == *name)
-        .map(|class| class.arguments)
+    classes.last().copied()
+}
+
+fn class_at(classes: &[Class], at: usize) -> Option<Class>
+    ensures { result ≡ slice_get classes.now at }
+{
+    classes.get(at).copied()
+}
+
+fn is_before(one: &Name, other: &Name) -> bool
+    ensures { result ≡ is_before one.now other.now }
+{
+    one.cmp(other).is_lt()
+}
+
+// The first class whose name does not come before a name.
+fn first_not_before(classes: &[Class], name: &Name) -> Option<Class>
+    requires { NamesAscend classes.now }
+    ensures { result ≡ first_not_before name.now classes.now }
+{
+    let at = classes.partition_point(|class: &Class| class.name.cmp(name).is_lt());
+    class_at(classes, at)
+}
+
+fn arguments_where(class: Option<Class>, name: &Name) -> Option<u8>
+    ensures { result ≡ arguments_where name.now class }
+{
+    let class = class?;
+    if class.name == *name {
+        Some(class.arguments)
+    } else {
+        None
+    }
 }

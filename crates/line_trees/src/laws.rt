@@ -1,7 +1,8 @@
 //! What holds of the definitions: worked lines.
 
-ghost use Rattle.std.specs.Prelude.{◌≡◌, ◌∷◌, [], List, ℕ, pos, Some, None, Ok, Err};
+ghost use Rattle.std.specs.Prelude.{◌≡◌, ◌∷◌, [], List, ℕ, pos, Some, None, Ok, Err, codes};
 ghost use Rattle.apl_arrays.specs.Array as array;
+ghost use Rattle.apl_arrays.specs.Glyph as glyph;
 ghost use Rattle.line_scanner.specs.Token.{numbers, chars, name, system, sign};
 ghost use Rattle.line_trees.specs.Nodes.{constant, value, niladic, paren, indexed, apply, assign, assign_at};
 ghost use Rattle.line_trees.specs.declared.class.Class.{Class};
@@ -9,6 +10,7 @@ ghost use Rattle.line_scanner.specs.Token.{PlainToken};
 ghost use Rattle.line_trees.specs.Trees.{LineTree, as_nodes, line_of};
 ghost use Rattle.line_trees.specs.Grammar.{IsLine, IsStop};
 ghost use Rattle.line_trees.specs.Parsing.{PlainTree, parsed};
+ghost use Rattle.line_trees.specs.Order.{IsInOrder};
 ghost use Rattle.line_trees.specs.Worked.{parsed_glyphs, three_classes};
 
 use crate::{Form, Fun};
@@ -23,106 +25,106 @@ pub fn worked_functions()
     // 1 2
     ensures constant { parsed_glyphs [] (numbers (pos 1 ∷ pos 2 ∷ []) ∷ []) ≡ Ok (record { label = None; form = Form.Value 0; nodes = constant (array.numbers (pos 1 ∷ pos 2 ∷ [])) ∷ [] }) }
     // A+B
-    ensures dyadic { parsed_glyphs [] (name (65 ∷ []) ∷ sign 43 ∷ name (66 ∷ []) ∷ [])
-        ≡ Ok (record { label = None; form = Form.Value 2; nodes = value (66 ∷ []) ∷ value (65 ∷ []) ∷ apply (Fun.Verb (Verb.Two Dyad.Plus)) (Some 1) 0 None ∷ [] }) }
+    ensures dyadic { parsed_glyphs [] (name (codes "A") ∷ sign glyph.plus ∷ name (codes "B") ∷ [])
+        ≡ Ok (record { label = None; form = Form.Value 2; nodes = value (codes "B") ∷ value (codes "A") ∷ apply (Fun.Verb (Verb.Two Dyad.Plus)) (Some 1) 0 None ∷ [] }) }
     // A-B-C
-    ensures right_to_left { parsed_glyphs [] (name (65 ∷ []) ∷ sign 45 ∷ name (66 ∷ []) ∷ sign 45 ∷ name (67 ∷ []) ∷ [])
+    ensures right_to_left { parsed_glyphs [] (name (codes "A") ∷ sign glyph.minus ∷ name (codes "B") ∷ sign glyph.minus ∷ name (codes "C") ∷ [])
         ≡ Ok (record {
           label = None;
           form = Form.Value 4;
-          nodes = value (67 ∷ []) ∷ value (66 ∷ []) ∷ apply (Fun.Verb (Verb.Two Dyad.Minus)) (Some 1) 0 None
-              ∷ value (65 ∷ []) ∷ apply (Fun.Verb (Verb.Two Dyad.Minus)) (Some 3) 2 None ∷ [];
+          nodes = value (codes "C") ∷ value (codes "B") ∷ apply (Fun.Verb (Verb.Two Dyad.Minus)) (Some 1) 0 None
+              ∷ value (codes "A") ∷ apply (Fun.Verb (Verb.Two Dyad.Minus)) (Some 3) 2 None ∷ [];
         }) }
     // -B
-    ensures monadic { parsed_glyphs [] (sign 45 ∷ name (66 ∷ []) ∷ [])
-        ≡ Ok (record { label = None; form = Form.Value 1; nodes = value (66 ∷ []) ∷ apply (Fun.Verb (Verb.One Monad.Negative)) None 0 None ∷ [] }) }
+    ensures monadic { parsed_glyphs [] (sign glyph.minus ∷ name (codes "B") ∷ [])
+        ≡ Ok (record { label = None; form = Form.Value 1; nodes = value (codes "B") ∷ apply (Fun.Verb (Verb.One Monad.Negative)) None 0 None ∷ [] }) }
     // A--B
-    ensures dyadic_and_monadic { parsed_glyphs [] (name (65 ∷ []) ∷ sign 45 ∷ sign 45 ∷ name (66 ∷ []) ∷ [])
+    ensures dyadic_and_monadic { parsed_glyphs [] (name (codes "A") ∷ sign glyph.minus ∷ sign glyph.minus ∷ name (codes "B") ∷ [])
         ≡ Ok (record {
           label = None;
           form = Form.Value 3;
-          nodes = value (66 ∷ []) ∷ apply (Fun.Verb (Verb.One Monad.Negative)) None 0 None ∷ value (65 ∷ [])
+          nodes = value (codes "B") ∷ apply (Fun.Verb (Verb.One Monad.Negative)) None 0 None ∷ value (codes "A")
               ∷ apply (Fun.Verb (Verb.Two Dyad.Minus)) (Some 2) 1 None ∷ [];
         }) }
     // (A)
-    ensures parenthesis { parsed_glyphs [] (sign 40 ∷ name (65 ∷ []) ∷ sign 41 ∷ [])
-        ≡ Ok (record { label = None; form = Form.Value 1; nodes = value (65 ∷ []) ∷ paren 0 ∷ [] }) }
+    ensures parenthesis { parsed_glyphs [] (sign glyph.left_parenthesis ∷ name (codes "A") ∷ sign glyph.right_parenthesis ∷ [])
+        ≡ Ok (record { label = None; form = Form.Value 1; nodes = value (codes "A") ∷ paren 0 ∷ [] }) }
     // ⌽[1]B
-    ensures axis { parsed_glyphs [] (sign 135 ∷ sign 91 ∷ numbers (pos 1 ∷ []) ∷ sign 93 ∷ name (66 ∷ []) ∷ [])
-        ≡ Ok (record { label = None; form = Form.Value 2; nodes = value (66 ∷ []) ∷ constant (array.numbers (pos 1 ∷ [])) ∷ apply (Fun.Verb (Verb.Mixed1 (Mix1.Reverse Way.Last))) None 0 (Some 1) ∷ [] }) }
+    ensures axis { parsed_glyphs [] (sign glyph.reverse ∷ sign glyph.left_bracket ∷ numbers (pos 1 ∷ []) ∷ sign glyph.right_bracket ∷ name (codes "B") ∷ [])
+        ≡ Ok (record { label = None; form = Form.Value 2; nodes = value (codes "B") ∷ constant (array.numbers (pos 1 ∷ [])) ∷ apply (Fun.Verb (Verb.Mixed1 (Mix1.Reverse Way.Last))) None 0 (Some 1) ∷ [] }) }
     // A,[1]B
-    ensures axis_and_left { parsed_glyphs [] (name (65 ∷ []) ∷ sign 44 ∷ sign 91 ∷ numbers (pos 1 ∷ []) ∷ sign 93 ∷ name (66 ∷ []) ∷ [])
+    ensures axis_and_left { parsed_glyphs [] (name (codes "A") ∷ sign glyph.comma ∷ sign glyph.left_bracket ∷ numbers (pos 1 ∷ []) ∷ sign glyph.right_bracket ∷ name (codes "B") ∷ [])
         ≡ Ok (record {
           label = None;
           form = Form.Value 3;
-          nodes = value (66 ∷ []) ∷ constant (array.numbers (pos 1 ∷ [])) ∷ value (65 ∷ [])
+          nodes = value (codes "B") ∷ constant (array.numbers (pos 1 ∷ [])) ∷ value (codes "A")
               ∷ apply (Fun.Verb (Verb.Mixed2 Mix2.Catenate)) (Some 2) 0 (Some 1) ∷ [];
         }) }
     // ⍴[1]B
-    ensures no_axis { parsed_glyphs [] (sign 128 ∷ sign 91 ∷ numbers (pos 1 ∷ []) ∷ sign 93 ∷ name (66 ∷ []) ∷ []) ≡ Err 1 }
+    ensures no_axis { parsed_glyphs [] (sign glyph.rho ∷ sign glyph.left_bracket ∷ numbers (pos 1 ∷ []) ∷ sign glyph.right_bracket ∷ name (codes "B") ∷ []) ≡ Err 1 }
     // +/B
-    ensures reduction { parsed_glyphs [] (sign 43 ∷ sign 47 ∷ name (66 ∷ []) ∷ [])
-        ≡ Ok (record { label = None; form = Form.Value 1; nodes = value (66 ∷ []) ∷ apply (Fun.Verb (Verb.Reduce Dyad.Plus Way.Last)) None 0 None ∷ [] }) }
+    ensures reduction { parsed_glyphs [] (sign glyph.plus ∷ sign glyph.slash ∷ name (codes "B") ∷ [])
+        ≡ Ok (record { label = None; form = Form.Value 1; nodes = value (codes "B") ∷ apply (Fun.Verb (Verb.Reduce Dyad.Plus Way.Last)) None 0 None ∷ [] }) }
     // A/B
-    ensures compression { parsed_glyphs [] (name (65 ∷ []) ∷ sign 47 ∷ name (66 ∷ []) ∷ [])
-        ≡ Ok (record { label = None; form = Form.Value 2; nodes = value (66 ∷ []) ∷ value (65 ∷ []) ∷ apply (Fun.Verb (Verb.Mixed2 (Mix2.Compress Way.Last))) (Some 1) 0 None ∷ [] }) }
+    ensures compression { parsed_glyphs [] (name (codes "A") ∷ sign glyph.slash ∷ name (codes "B") ∷ [])
+        ≡ Ok (record { label = None; form = Form.Value 2; nodes = value (codes "B") ∷ value (codes "A") ∷ apply (Fun.Verb (Verb.Mixed2 (Mix2.Compress Way.Last))) (Some 1) 0 None ∷ [] }) }
     // A+/B
-    ensures no_operator { parsed_glyphs [] (name (65 ∷ []) ∷ sign 43 ∷ sign 47 ∷ name (66 ∷ []) ∷ []) ≡ Err 2 }
+    ensures no_operator { parsed_glyphs [] (name (codes "A") ∷ sign glyph.plus ∷ sign glyph.slash ∷ name (codes "B") ∷ []) ≡ Err 2 }
     // A+.×B
-    ensures inner { parsed_glyphs [] (name (65 ∷ []) ∷ sign 43 ∷ sign 46 ∷ sign 140 ∷ name (66 ∷ []) ∷ [])
-        ≡ Ok (record { label = None; form = Form.Value 2; nodes = value (66 ∷ []) ∷ value (65 ∷ []) ∷ apply (Fun.Verb (Verb.Inner Dyad.Plus Dyad.Times)) (Some 1) 0 None ∷ [] }) }
+    ensures inner { parsed_glyphs [] (name (codes "A") ∷ sign glyph.plus ∷ sign glyph.period ∷ sign glyph.times ∷ name (codes "B") ∷ [])
+        ≡ Ok (record { label = None; form = Form.Value 2; nodes = value (codes "B") ∷ value (codes "A") ∷ apply (Fun.Verb (Verb.Inner Dyad.Plus Dyad.Times)) (Some 1) 0 None ∷ [] }) }
     // A∘.+B
-    ensures outer { parsed_glyphs [] (name (65 ∷ []) ∷ sign 155 ∷ sign 46 ∷ sign 43 ∷ name (66 ∷ []) ∷ [])
-        ≡ Ok (record { label = None; form = Form.Value 2; nodes = value (66 ∷ []) ∷ value (65 ∷ []) ∷ apply (Fun.Verb (Verb.Outer Dyad.Plus)) (Some 1) 0 None ∷ [] }) }
+    ensures outer { parsed_glyphs [] (name (codes "A") ∷ sign glyph.jot ∷ sign glyph.period ∷ sign glyph.plus ∷ name (codes "B") ∷ [])
+        ≡ Ok (record { label = None; form = Form.Value 2; nodes = value (codes "B") ∷ value (codes "A") ∷ apply (Fun.Verb (Verb.Outer Dyad.Plus)) (Some 1) 0 None ∷ [] }) }
 {}
 
 /// Worked lines of subscripts, assignments, names of functions and statements. The call does nothing.
 #[tactic(auto, unfolding(crate::specs::Marks::marks_from, crate::specs::Marks::step, crate::specs::Marks::may_end, crate::specs::Building::built_from, crate::specs::Building::built_by, crate::specs::Building::attached, crate::specs::Symbols::sign_symbol, crate::specs::Symbols::other_sign, crate::specs::Signs::monad_of, crate::specs::Signs::dyad_of, crate::specs::Signs::mix1_of, crate::specs::Signs::mix2_of, crate::specs::Signs::fold_of))]
 pub fn worked_statements()
     // A[I;;J]
-    ensures subscripts { parsed_glyphs [] (name (65 ∷ []) ∷ sign 91 ∷ name (73 ∷ []) ∷ sign 59 ∷ sign 59 ∷ name (74 ∷ []) ∷ sign 93 ∷ [])
-        ≡ Ok (record { label = None; form = Form.Value 3; nodes = value (74 ∷ []) ∷ value (73 ∷ []) ∷ value (65 ∷ []) ∷ indexed 2 (Some 1 ∷ None ∷ Some 0 ∷ []) ∷ [] }) }
+    ensures subscripts { parsed_glyphs [] (name (codes "A") ∷ sign glyph.left_bracket ∷ name (codes "I") ∷ sign glyph.semicolon ∷ sign glyph.semicolon ∷ name (codes "J") ∷ sign glyph.right_bracket ∷ [])
+        ≡ Ok (record { label = None; form = Form.Value 3; nodes = value (codes "J") ∷ value (codes "I") ∷ value (codes "A") ∷ indexed 2 (Some 1 ∷ None ∷ Some 0 ∷ []) ∷ [] }) }
     // A[]
-    ensures all_items { parsed_glyphs [] (name (65 ∷ []) ∷ sign 91 ∷ sign 93 ∷ [])
-        ≡ Ok (record { label = None; form = Form.Value 1; nodes = value (65 ∷ []) ∷ indexed 0 (None ∷ []) ∷ [] }) }
+    ensures all_items { parsed_glyphs [] (name (codes "A") ∷ sign glyph.left_bracket ∷ sign glyph.right_bracket ∷ [])
+        ≡ Ok (record { label = None; form = Form.Value 1; nodes = value (codes "A") ∷ indexed 0 (None ∷ []) ∷ [] }) }
     // A[I][J]
-    ensures twice { parsed_glyphs [] (name (65 ∷ []) ∷ sign 91 ∷ name (73 ∷ []) ∷ sign 93 ∷ sign 91 ∷ name (74 ∷ []) ∷ sign 93 ∷ [])
-        ≡ Ok (record { label = None; form = Form.Value 4; nodes = value (74 ∷ []) ∷ value (73 ∷ []) ∷ value (65 ∷ []) ∷ indexed 2 (Some 1 ∷ []) ∷ indexed 3 (Some 0 ∷ []) ∷ [] }) }
+    ensures twice { parsed_glyphs [] (name (codes "A") ∷ sign glyph.left_bracket ∷ name (codes "I") ∷ sign glyph.right_bracket ∷ sign glyph.left_bracket ∷ name (codes "J") ∷ sign glyph.right_bracket ∷ [])
+        ≡ Ok (record { label = None; form = Form.Value 4; nodes = value (codes "J") ∷ value (codes "I") ∷ value (codes "A") ∷ indexed 2 (Some 1 ∷ []) ∷ indexed 3 (Some 0 ∷ []) ∷ [] }) }
     // A←B←1
-    ensures assignments { parsed_glyphs [] (name (65 ∷ []) ∷ sign 149 ∷ name (66 ∷ []) ∷ sign 149 ∷ numbers (pos 1 ∷ []) ∷ [])
-        ≡ Ok (record { label = None; form = Form.Value 2; nodes = constant (array.numbers (pos 1 ∷ [])) ∷ assign (66 ∷ []) 0 ∷ assign (65 ∷ []) 1 ∷ [] }) }
+    ensures assignments { parsed_glyphs [] (name (codes "A") ∷ sign glyph.left_arrow ∷ name (codes "B") ∷ sign glyph.left_arrow ∷ numbers (pos 1 ∷ []) ∷ [])
+        ≡ Ok (record { label = None; form = Form.Value 2; nodes = constant (array.numbers (pos 1 ∷ [])) ∷ assign (codes "B") 0 ∷ assign (codes "A") 1 ∷ [] }) }
     // A[I]←B
-    ensures assigned_items { parsed_glyphs [] (name (65 ∷ []) ∷ sign 91 ∷ name (73 ∷ []) ∷ sign 93 ∷ sign 149 ∷ name (66 ∷ []) ∷ [])
-        ≡ Ok (record { label = None; form = Form.Value 2; nodes = value (66 ∷ []) ∷ value (73 ∷ []) ∷ assign_at (65 ∷ []) (Some 1 ∷ []) 0 ∷ [] }) }
+    ensures assigned_items { parsed_glyphs [] (name (codes "A") ∷ sign glyph.left_bracket ∷ name (codes "I") ∷ sign glyph.right_bracket ∷ sign glyph.left_arrow ∷ name (codes "B") ∷ [])
+        ≡ Ok (record { label = None; form = Form.Value 2; nodes = value (codes "B") ∷ value (codes "I") ∷ assign_at (codes "A") (Some 1 ∷ []) 0 ∷ [] }) }
     // A[I][J]←B
-    ensures no_target { parsed_glyphs [] (name (65 ∷ []) ∷ sign 91 ∷ name (73 ∷ []) ∷ sign 93 ∷ sign 91 ∷ name (74 ∷ []) ∷ sign 93 ∷ sign 149 ∷ name (66 ∷ []) ∷ []) ≡ Err 7 }
+    ensures no_target { parsed_glyphs [] (name (codes "A") ∷ sign glyph.left_bracket ∷ name (codes "I") ∷ sign glyph.right_bracket ∷ sign glyph.left_bracket ∷ name (codes "J") ∷ sign glyph.right_bracket ∷ sign glyph.left_arrow ∷ name (codes "B") ∷ []) ≡ Err 7 }
     // N D M N
-    ensures defined { parsed_glyphs three_classes (name (78 ∷ []) ∷ name (68 ∷ []) ∷ name (77 ∷ []) ∷ name (78 ∷ []) ∷ [])
+    ensures defined { parsed_glyphs three_classes (name (codes "N") ∷ name (codes "D") ∷ name (codes "M") ∷ name (codes "N") ∷ [])
         ≡ Ok (record {
           label = None;
           form = Form.Value 3;
-          nodes = niladic (78 ∷ []) ∷ apply (Fun.Defined (77 ∷ [])) None 0 None ∷ niladic (78 ∷ [])
-              ∷ apply (Fun.Defined (68 ∷ [])) (Some 2) 1 None ∷ [];
+          nodes = niladic (codes "N") ∷ apply (Fun.Defined (codes "M")) None 0 None ∷ niladic (codes "N")
+              ∷ apply (Fun.Defined (codes "D")) (Some 2) 1 None ∷ [];
         }) }
     // N M N
-    ensures no_left_argument { parsed_glyphs three_classes (name (78 ∷ []) ∷ name (77 ∷ []) ∷ name (78 ∷ []) ∷ []) ≡ Err 1 }
+    ensures no_left_argument { parsed_glyphs three_classes (name (codes "N") ∷ name (codes "M") ∷ name (codes "N") ∷ []) ≡ Err 1 }
     // A ⎕SVO B, ⎕SVR B and A ⎕SVR B
-    ensures offer { parsed_glyphs [] (name (65 ∷ []) ∷ system SystemName.Svo ∷ name (66 ∷ []) ∷ [])
-        ≡ Ok (record { label = None; form = Form.Value 2; nodes = value (66 ∷ []) ∷ value (65 ∷ []) ∷ apply (Fun.System SystemName.Svo) (Some 1) 0 None ∷ [] }) }
-    ensures retract { parsed_glyphs [] (system SystemName.Svr ∷ name (66 ∷ []) ∷ [])
-        ≡ Ok (record { label = None; form = Form.Value 1; nodes = value (66 ∷ []) ∷ apply (Fun.System SystemName.Svr) None 0 None ∷ [] }) }
-    ensures no_dyadic_retract { parsed_glyphs [] (name (65 ∷ []) ∷ system SystemName.Svr ∷ name (66 ∷ []) ∷ []) ≡ Err 1 }
+    ensures offer { parsed_glyphs [] (name (codes "A") ∷ system SystemName.Svo ∷ name (codes "B") ∷ [])
+        ≡ Ok (record { label = None; form = Form.Value 2; nodes = value (codes "B") ∷ value (codes "A") ∷ apply (Fun.System SystemName.Svo) (Some 1) 0 None ∷ [] }) }
+    ensures retract { parsed_glyphs [] (system SystemName.Svr ∷ name (codes "B") ∷ [])
+        ≡ Ok (record { label = None; form = Form.Value 1; nodes = value (codes "B") ∷ apply (Fun.System SystemName.Svr) None 0 None ∷ [] }) }
+    ensures no_dyadic_retract { parsed_glyphs [] (name (codes "A") ∷ system SystemName.Svr ∷ name (codes "B") ∷ []) ≡ Err 1 }
     // L:→A
-    ensures labelled_branch { parsed_glyphs [] (name (76 ∷ []) ∷ sign 58 ∷ sign 150 ∷ name (65 ∷ []) ∷ [])
-        ≡ Ok (record { label = Some (76 ∷ []); form = Form.Branch 0; nodes = value (65 ∷ []) ∷ [] }) }
+    ensures labelled_branch { parsed_glyphs [] (name (codes "L") ∷ sign glyph.colon ∷ sign glyph.right_arrow ∷ name (codes "A") ∷ [])
+        ≡ Ok (record { label = Some (codes "L"); form = Form.Branch 0; nodes = value (codes "A") ∷ [] }) }
     // L:
-    ensures label { parsed_glyphs [] (name (76 ∷ []) ∷ sign 58 ∷ []) ≡ Ok (record { label = Some (76 ∷ []); form = Form.Nothing; nodes = [] }) }
+    ensures label { parsed_glyphs [] (name (codes "L") ∷ sign glyph.colon ∷ []) ≡ Ok (record { label = Some (codes "L"); form = Form.Nothing; nodes = [] }) }
     // ⍎A and A+⍎A
-    ensures executed { parsed_glyphs [] (sign 162 ∷ name (65 ∷ []) ∷ []) ≡ Ok (record { label = None; form = Form.Execute 0; nodes = value (65 ∷ []) ∷ [] }) }
-    ensures execute_inside { parsed_glyphs [] (name (65 ∷ []) ∷ sign 43 ∷ sign 162 ∷ name (65 ∷ []) ∷ []) ≡ Err 2 }
+    ensures executed { parsed_glyphs [] (sign glyph.execute ∷ name (codes "A") ∷ []) ≡ Ok (record { label = None; form = Form.Execute 0; nodes = value (codes "A") ∷ [] }) }
+    ensures execute_inside { parsed_glyphs [] (name (codes "A") ∷ sign glyph.plus ∷ sign glyph.execute ∷ name (codes "A") ∷ []) ≡ Err 2 }
     // A+ and (A
-    ensures ends_early { parsed_glyphs [] (name (65 ∷ []) ∷ sign 43 ∷ []) ≡ Err 2 }
-    ensures stays_open { parsed_glyphs [] (sign 40 ∷ name (65 ∷ []) ∷ []) ≡ Err 2 }
+    ensures ends_early { parsed_glyphs [] (name (codes "A") ∷ sign glyph.plus ∷ []) ≡ Err 2 }
+    ensures stays_open { parsed_glyphs [] (sign glyph.left_parenthesis ∷ name (codes "A") ∷ []) ≡ Err 2 }
 {}
 
 /// The tokens of each line of the grammar are parsed as its tree. The call does nothing.
@@ -152,6 +154,11 @@ pub fn errors_stop_lines()
 /// Where no line of the grammar goes on, there is the error: no tokens have two such places. The call does nothing.
 pub fn stops_are_errors()
     ensures one_place { (classes : List Class) (tokens : List PlainToken) (length at : ℕ) → IsStop classes tokens length at → parsed classes tokens length ≡ Err at }
+{}
+
+/// Each node of a tree that is parsed stands after those that it names. The call does nothing.
+pub fn nodes_are_in_order()
+    ensures in_order { (classes : List Class) (tokens : List PlainToken) (length : ℕ) (tree : PlainTree) → parsed classes tokens length ≡ Ok tree → IsInOrder tree }
 {}
 
 /// The nodes of a line stand for its tree. The call does nothing.

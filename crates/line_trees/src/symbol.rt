@@ -3,7 +3,6 @@ ghost use Rattle.line_scanner.specs.Token.{plain_kind};
 ghost use Rattle.line_trees.specs.Signs.{fold_of};
 ghost use Rattle.line_trees.specs.Symbols.{name_symbol, system_symbol, other_sign, sign_symbol, symbol_of, slash_or_other};
 
-use crate::class::arguments_of;
 use crate::signs::{dyad_of, fold_of, mix1_of, mix2_of, monad_of};
 use crate::{Classes, Fun};
 use apl_arrays::{Dyad, Glyph, Monad, Name, Verb, Way};
@@ -112,11 +111,11 @@ fn sign_symbol(glyph: Glyph) -> Symbol
 
 /// What a token of this kind is, by the classes of names.
 pub fn symbol_of(classes: &Classes, kind: &TokenKind) -> Symbol
-    ensures { result ≡ symbol_of classes.now.items (plain_kind kind.now) }
+    ensures { result ≡ symbol_of classes.now (plain_kind kind.now) }
 {
     match kind {
         TokenKind::Numbers(_) | TokenKind::Chars(_) => Symbol::Constant,
-        TokenKind::Name(name) => name_symbol(arguments_of(classes, name), *name),
+        TokenKind::Name(name) => name_symbol(classes.arguments_of(name), *name),
         TokenKind::System(name) => system_symbol(*name),
         TokenKind::Sign(glyph) => sign_symbol(*glyph),
     }
