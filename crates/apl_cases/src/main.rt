@@ -12,6 +12,7 @@ mod names;
 mod numbers;
 mod reports;
 mod scalar;
+mod search;
 mod shapes;
 mod structure;
 mod tokens;
@@ -26,6 +27,7 @@ use items::{PlacedItems, Scalars};
 use names::{FileNameOrder, FileNames, NameOrder, Names, Words};
 use reports::{Refusals, Reports};
 use scalar::{Dyads, Monads};
+use search::{Grades, Searches};
 use shapes::{Equality, Shapes};
 use std::process::ExitCode;
 use structure::{Drops, Reshapes, Reversals, Rotations, Takes, Transposes};
@@ -69,6 +71,15 @@ fn structures(rt: &HostRuntime) -> Result<Tally> {
     Ok(tally)
 }
 
+fn searches(rt: &HostRuntime) -> Result<Tally> {
+    let mut tally = run_table(rt, "index_of.txt", &Searches::Places)?;
+    tally.add(run_table(rt, "member.txt", &Searches::Members)?);
+    tally.add(run_table(rt, "grade.txt", &Grades)?);
+    tally.add(run_table(rt, "encode.txt", &Searches::Digits)?);
+    tally.add(run_table(rt, "decode.txt", &Searches::Values)?);
+    Ok(tally)
+}
+
 fn texts(rt: &HostRuntime) -> Result<Tally> {
     let mut tally = run_table(rt, "tokens.txt", &Tokens)?;
     tally.add(run_table(rt, "trees.txt", &Trees)?);
@@ -80,6 +91,7 @@ fn all_tables(rt: &HostRuntime) -> Result<Tally> {
     let mut tally = values(rt)?;
     tally.add(functions(rt)?);
     tally.add(structures(rt)?);
+    tally.add(searches(rt)?);
     tally.add(texts(rt)?);
     Ok(tally)
 }

@@ -1,9 +1,13 @@
 pub mod AssignLemmas
 pub mod AxisLemmas
+pub mod CompressLemmas
+pub mod ExpandLemmas
+pub mod FaultLemmas
 pub mod GivenBackLemmas
 pub mod IndexLemmas
 pub mod LawLemmas
 pub mod LengthLemmas
+pub mod ListingLemmas
 pub mod MoveLemmas
 pub mod NamingLemmas
 pub mod OrderLemmas

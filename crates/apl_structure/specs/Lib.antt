@@ -1,7 +1,11 @@
 pub mod Assignment
+pub mod Compression
 pub mod Counting
+pub mod Expansion
+pub mod Flags
 pub mod Indexing
 pub mod Lengths
+pub mod Listing
 pub mod Moves
 pub mod Naming
 pub mod Picks

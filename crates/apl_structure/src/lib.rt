@@ -2,10 +2,14 @@
 #![tactic(auto)]
 
 mod assignment;
+mod compression;
 mod counting;
+mod expansion;
+mod flags;
 mod indexing;
 pub mod laws;
 mod lengths;
+mod listing;
 mod moves;
 mod picks;
 mod plain;
@@ -19,7 +23,9 @@ mod taking;
 mod transposition;
 
 pub use assignment::index_assign;
+pub use compression::compress;
 pub use counting::iota;
+pub use expansion::expand;
 pub use indexing::index;
 pub use plain::{ravel, shape_of};
 pub use reshaping::reshape;

@@ -1,0 +1,5 @@
+pub mod Decode
+pub mod Encode
+pub mod Grade
+pub mod Lookup
+pub mod RoundTrip

@@ -1,0 +1,123 @@
+ghost use Rattle.std.specs.Prelude.{◌≡◌, ◌+◌, ◌≤◌, pos, IfOk, length, map};
+ghost use Rattle.std.specs.List.{list_any, position_or_len};
+ghost use Rattle.apl_arrays.specs.Array.{item_count, plain_items};
+ghost use Rattle.apl_items.specs.Answers.{Answers};
+ghost use Rattle.apl_scalar.specs.Table.{truth};
+ghost use Rattle.apl_search.specs.Lookup.{first_places, index_of_of, member_of, memberships};
+
+use crate::index::{has, index_for, place_of};
+use apl_arrays::{Array, Fail, Items, List, NumberList, Report, WantOfMemory};
+use apl_scalar::rules::truth;
+use std::alloc::Global;
+
+/// The first place in a vector of each item of another array, from 1; for an item that it has not, 1 and its length. A
+/// scalar is a vector of one item, and a character is no number. RANK where the first array is of rank over 1. It takes
+/// memory for the places, and where both have many items for those of the first in order.
+pub fn index_of(alloc: Global, a: &Array, b: &Array) -> Result<Array, Fail>
+    ensures { Answers result (index_of_of a.now b.now) }
+{
+    if a.shape().len() > 1 {
+        return Err(Fail::Report(Report::Rank));
+    }
+    let places = first_places(alloc, a.items(), b.items())?;
+    Ok(Array::shaped(b.shape(), Items::Numbers(places)))
+}
+
+/// The first place in some items of each of others, from 1; for one that they have not, 1 and their count.
+fn first_places(alloc: Global, a: &Items, b: &Items) -> Result<NumberList, WantOfMemory>
+    requires { item_count (plain_items a.now) ≤ 16384 }
+    ensures { IfOk result (λ places. places.items ≡ first_places (plain_items a.now) (plain_items b.now)) }
+{
+    match (a, b) {
+        (Items::Numbers(a), Items::Numbers(b)) => places_of(alloc, a.as_slice(), b.as_slice()),
+        (Items::Chars(a), Items::Chars(b)) => places_of(alloc, a.as_slice(), b.as_slice()),
+        (Items::Numbers(a), Items::Chars(b)) => all_same(
+            alloc,
+            b.as_slice(),
+            number_of(a.as_slice().len()),
+        ),
+        (Items::Chars(a), Items::Numbers(b)) => all_same(
+            alloc,
+            b.as_slice(),
+            number_of(a.as_slice().len()),
+        ),
+    }
+}
+
+/// The first place in a list of each item of another, from 1; for one that it has not, 1 and its length.
+fn places_of<T: Ord + Copy + Drop>(
+    alloc: Global,
+    a: &[T],
+    b: &[T],
+) -> Result<NumberList, WantOfMemory>
+    requires { length a.now ≤ 16384 }
+    ensures { IfOk result (λ places. places.items ≡ map (λ item. pos (position_or_len (T.eq item) a.now + 1)) b.now) }
+{
+    let index = index_for(alloc, a, b.len())?;
+    let mut places = List::new(alloc);
+    places.reserve(b.len())?;
+    for item in b {
+        places.push_reserved(number_of(place_of(a, &index, item)));
+    }
+    Ok(places)
+}
+
+/// The number of a place, counted from 1.
+fn number_of(place: usize) -> i64
+    requires { place ≤ 16384 }
+    ensures { result ≡ pos (place + 1) }
+{
+    (place + 1) as i64
+}
+
+/// One number for each item of a list.
+fn all_same<T>(alloc: Global, list: &[T], number: i64) -> Result<NumberList, WantOfMemory>
+    ensures { IfOk result (λ numbers. numbers.items ≡ map (λ item. number) list.now) }
+{
+    let mut numbers = List::new(alloc);
+    numbers.reserve(list.len())?;
+    for _item in list {
+        numbers.push_reserved(number);
+    }
+    Ok(numbers)
+}
+
+/// 1 for each item of an array that another has, 0 for each other. A character is no number. It takes memory for the
+/// numbers, and where both have many items for those of the second in order.
+pub fn member(alloc: Global, a: &Array, b: &Array) -> Result<Array, Fail>
+    ensures { Answers result (member_of a.now b.now) }
+{
+    let members = memberships(alloc, a.items(), b.items())?;
+    Ok(Array::shaped(a.shape(), Items::Numbers(members)))
+}
+
+/// 1 for each of some items that others have, 0 for each other.
+fn memberships(alloc: Global, a: &Items, b: &Items) -> Result<NumberList, WantOfMemory>
+    requires { item_count (plain_items b.now) ≤ 16384 }
+    ensures { IfOk result (λ members. members.items ≡ memberships (plain_items a.now) (plain_items b.now)) }
+{
+    match (a, b) {
+        (Items::Numbers(a), Items::Numbers(b)) => members_of(alloc, a.as_slice(), b.as_slice()),
+        (Items::Chars(a), Items::Chars(b)) => members_of(alloc, a.as_slice(), b.as_slice()),
+        (Items::Numbers(a), Items::Chars(_)) => all_same(alloc, a.as_slice(), 0),
+        (Items::Chars(a), Items::Numbers(_)) => all_same(alloc, a.as_slice(), 0),
+    }
+}
+
+/// 1 for each item of a list that another has, 0 for each other.
+fn members_of<T: Ord + Copy + Drop>(
+    alloc: Global,
+    a: &[T],
+    b: &[T],
+) -> Result<NumberList, WantOfMemory>
+    requires { length b.now ≤ 16384 }
+    ensures { IfOk result (λ members. members.items ≡ map (λ item. truth (list_any (T.eq item) b.now)) a.now) }
+{
+    let index = index_for(alloc, b, a.len())?;
+    let mut members = List::new(alloc);
+    members.reserve(a.len())?;
+    for item in a {
+        members.push_reserved(truth(has(b, &index, item)));
+    }
+    Ok(members)
+}

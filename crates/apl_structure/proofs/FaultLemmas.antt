@@ -1,0 +1,50 @@
+-- Calls on which nothing is reported.
+use Rattle.std.proofs.Common.{◌≡◌, ◌≤◌, ◌||◌, ℕ, Bool, true, false, None, length, refl, arith}
+use Rattle.apl_arrays.specs.Array.{PlainArray, PlainItems, IsArray, numbers, chars, is_chars, item_count, numbers_in}
+use Rattle.apl_items.specs.Answers.{Faults, first_report}
+
+-- no kind of fault
+pub record IsSound (faults : Faults) : Type 0 where
+  pub rank : faults.bad_rank ≡ false
+  pub long : faults.bad_length ≡ false
+  pub domain : faults.bad_domain ≡ false
+  pub index : faults.bad_index ≡ false
+  pub size : faults.too_large ≡ false
+
+sound_by : (rank long domain index size : Bool) → None ≡ first_report (record { bad_rank = rank; bad_length = long; bad_domain = domain; bad_index = index; too_large = size })
+    → (rank ≡ false) × (long ≡ false) × (domain ≡ false) × (index ≡ false) × (size ≡ false)
+sound_by true long domain index size e = absurd (cc)
+sound_by false true domain index size e = absurd (cc)
+sound_by false false true index size e = absurd (cc)
+sound_by false false false true size e = absurd (cc)
+sound_by false false false false true e = absurd (cc)
+sound_by false false false false false e = (refl, refl, refl, refl, refl)
+
+-- where nothing is reported nothing is wrong
+pub nothing_is_wrong : (faults : Faults) → None ≡ first_report faults → IsSound faults
+nothing_is_wrong faults none =
+    let parts = sound_by faults.bad_rank faults.bad_length faults.bad_domain faults.bad_index faults.too_large none in record {
+      rank = parts.0;
+      long = parts.1;
+      domain = parts.2;
+      index = parts.3;
+      size = parts.4;
+    }
+
+-- the first of two facts of which none holds
+pub or_first : (x y : Bool) → (x || y) ≡ false → x ≡ false
+or_first true y e = absurd (cc)
+or_first false y e = refl
+
+few_by : (items : PlainItems) (count : ℕ) → count ≡ item_count items → count ≤ 16384 → length (numbers_in items) ≤ 16384
+few_by (numbers list) count e few = omega arith
+few_by (chars list) count e few = omega arith
+
+-- an array has few numbers
+pub few_numbers : (a : PlainArray) → IsArray a → length (numbers_in a.items) ≤ 16384
+few_numbers a array = few_by a.items _ array.whole array.fits.elements
+
+-- as many as items, where the kind is numbers
+pub count_of_numbers : (items : PlainItems) → is_chars items ≡ false → item_count items ≡ length (numbers_in items)
+count_of_numbers (numbers list) e = refl
+count_of_numbers (chars list) e = absurd (cc)
