@@ -1,5 +1,5 @@
 -- What was put over the items that subscripts select is what they select afterwards.
-use Rattle.std.proofs.Common.{◌≡◌, ℕ, zero, suc, ◌+◌, ◌*◌, ◌<◌, ◌≤◌, ◌==◌, ◌||◌, Bool, true, false, nat_lt, pos, List, [], ◌∷◌, ◌++◌, Option, Some, None, Ok, is_some, length, map, drop, slice_get, get_or, refl, sym, ap, subst, ◌∙◌, arith}
+use Rattle.std.proofs.Common.{◌≡◌, ℕ, zero, suc, ◌+◌, ◌*◌, ◌<◌, ◌==◌, ◌||◌, Bool, true, false, nat_lt, pos, List, [], ◌∷◌, Option, Some, None, Ok, is_some, length, map, drop, slice_get, get_or, refl, sym, ap, subst, ◌∙◌, arith}
 use Rattle.std.specs.Bool.{beq}
 use Rattle.std.specs.List.{flat_map, list_any, range_with_len, zip}
 use Rattle.std.proofs.lemmas.List.{drop_more, get_or-map, get_or_default}

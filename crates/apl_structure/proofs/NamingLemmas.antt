@@ -1,18 +1,18 @@
 -- Strides of a selection, and the items that are put over others by them.
-use Rattle.std.proofs.Common.{◌≡◌, ℕ, zero, suc, ◌+◌, ◌*◌, ◌<◌, ◌≤◌, ◌==◌, ◌&&◌, ◌||◌, ◌^◌, Bool, not, true, false, List, [], ◌∷◌, Option, Some, None, is_some, length, map, drop, replicate, slice_index_or, get_or, refl, sym, ap, subst, ◌∙◌, arith}
+use Rattle.std.proofs.Common.{◌≡◌, ℕ, zero, suc, ◌+◌, ◌*◌, ◌<◌, ◌≤◌, ◌==◌, ◌&&◌, ◌||◌, Bool, not, true, false, List, [], ◌∷◌, Option, Some, None, is_some, length, map, drop, replicate, slice_index_or, get_or, refl, sym, ap, subst, ◌∙◌, arith}
 use Rattle.std.specs.Bool.{beq}
 use Rattle.std.specs.Cmp.Lexicographic.{pointwise, same_text}
 use Rattle.std.specs.List.{list_any, range_with_len, zip}
 use Rattle.std.proofs.lemmas.Bool.Decides.{nat_tests}
 use Rattle.std.proofs.lemmas.List.{drop_all, length-drop}
 use Rattle.std.proofs.lemmas.List.FromFn.{get_or-map-range_with_len}
-use Rattle.std.proofs.lemmas.List.FromFn.{get_or-map-range_with_len, length-range_with_len}
+use Rattle.std.proofs.lemmas.List.FromFn.{get_or-map-range_with_len}
 use Rattle.apl_arrays.specs.Array.{PlainArray, PlainItems, IsArray, numbers, chars, element_count, is_chars, item_count}
 use Rattle.apl_items.specs.Axes.{added, offset_at, source_by_axes}
 use Rattle.apl_items.specs.Answers.{first_report, no_faults}
 use Rattle.apl_items.specs.Extension.{is_single}
 use Rattle.apl_items.specs.Places.{places}
-use Rattle.apl_items.specs.Shapes.{AreWithin, coordinates_of, stride_of}
+use Rattle.apl_items.specs.Shapes.{coordinates_of, stride_of}
 use Rattle.apl_items.proofs.ShapeLemmas.{coordinates_are_within}
 use Rattle.apl_structure.specs.Assignment.{assign_faults, assigned, has_other_rank, has_other_shape, last_place, naming, overlaid, overlaid_list, put_over}
 use Rattle.apl_structure.specs.Naming.{AreSmall, AreStridesFor, naming_by, scaled_place}

@@ -1,4 +1,4 @@
-use Rattle.std.proofs.Common.{◌≡◌, false, refl, sym, ap, ◌∙◌, arith}
+use Rattle.std.proofs.Common.{refl, ap, ◌∙◌, arith}
 use Rattle.apl_structure.specs.Subscripts.{is_of_chars}
 use Rattle.apl_structure.proofs.SubscriptLemmas.{count_more, is_number, sub_read, whole_more}
 use Rattle.apl_structure.proofs.subscripts.named_counts.Goals as goal
