@@ -9,3 +9,4 @@ pub mod MoveLemmas
 pub mod ReshapeLemmas
 pub mod RotateLemmas
 pub mod TakeLemmas
+pub mod TransposeLemmas
