@@ -41,7 +41,7 @@ each_within (axis ∷ shape) (first ∷ coordinates) (suc k) h below = each_with
 some_same : (m n : ℕ) → Some m ≡ Some n → m ≡ n
 some_same m n e = cc
 
-count_from : (shape : List ℕ) (axis : ℕ) → axis < length shape → element_count (drop axis shape) ≡ get_or shape axis 0 * element_count (drop (axis + 1) shape)
+pub count_from : (shape : List ℕ) (axis : ℕ) → axis < length shape → element_count (drop axis shape) ≡ get_or shape axis 0 * element_count (drop (axis + 1) shape)
 count_from shape axis h = ap element_count (drop_more shape axis 0 h) ∙ element_count-cons (get_or shape axis 0) (drop (axis + 1) shape)
 
 count_of_none : (shape : List ℕ) (axis : ℕ) → length shape ≤ axis → element_count (drop axis shape) ≡ 1
@@ -155,7 +155,7 @@ picked_same source shape strides from fits rank inside each place below =
 
 -- ---- transposes
 
-element_count-reverse : (shape : List ℕ) → element_count (reverse shape) ≡ element_count shape
+pub element_count-reverse : (shape : List ℕ) → element_count (reverse shape) ≡ element_count shape
 element_count-reverse [] = refl
 element_count-reverse (x ∷ xs) =
     let one : 1 * x ≡ x = omega arith in

@@ -25,26 +25,26 @@ use Rattle.apl_structure.specs.Reversal.{from_the_end, reversed}
 use Rattle.apl_structure.proofs.MoveLemmas.{array_of, same_moved}
 use Rattle.apl_structure.proofs.TakeLemmas.{same_number}
 
--- the source of a place is a place whose source is the place itself
-pub record IsBack (count : ℕ) (source : ℕ → Option ℕ) (place : ℕ) : Type 0 where
+-- what moved first and then again is back at its place
+pub record IsBack (count : ℕ) (first again : ℕ → Option ℕ) (place : ℕ) : Type 0 where
   pub at : ℕ
   pub below : at < count
-  pub there : source place ≡ Some at
-  pub back : source at ≡ Some place
+  pub there : again place ≡ Some at
+  pub back : first at ≡ Some place
 
-twice_list : {T : Type 0} (fill : T) (list : List T) (count : ℕ) (source : ℕ → Option ℕ) → length list ≡ count → ((place : ℕ) → place < count → IsBack count source place)
-    → moved_list fill (moved_list fill list count source) count source ≡ list
-twice_list {T} fill list count source whole back =
-    sym (fill_by_all (λ place. item_or fill (moved_list fill list count source) (source place)) list count fill whole
+twice_list : {T : Type 0} (fill : T) (list : List T) (count : ℕ) (first again : ℕ → Option ℕ) → length list ≡ count → ((place : ℕ) → place < count → IsBack count first again place)
+    → moved_list fill (moved_list fill list count first) count again ≡ list
+twice_list {T} fill list count first again whole back =
+    sym (fill_by_all (λ place. item_or fill (moved_list fill list count first) (again place)) list count fill whole
     (λ place h. let b = back place h in
-    sym (ap (item_or fill (moved_list fill list count source)) b.there
-    ∙ get_or-map-range_with_len (λ p. item_or fill list (source p)) 0 count b.at b.at fill b.below (omega arith)
+    sym (ap (item_or fill (moved_list fill list count first)) b.there
+    ∙ get_or-map-range_with_len (λ p. item_or fill list (first p)) 0 count b.at b.at fill b.below (omega arith)
     ∙ ap (item_or fill list) b.back)))
 
-twice_items : (items : PlainItems) (count : ℕ) (source : ℕ → Option ℕ) → item_count items ≡ count → ((place : ℕ) → place < count → IsBack count source place)
-    → moved_items (moved_items items count source) count source ≡ items
-twice_items (numbers list) count source whole back = ap numbers (twice_list (pos 0) list count source whole back)
-twice_items (chars list) count source whole back = ap chars (twice_list blank list count source whole back)
+pub twice_items : (items : PlainItems) (count : ℕ) (first again : ℕ → Option ℕ) → item_count items ≡ count → ((place : ℕ) → place < count → IsBack count first again place)
+    → moved_items (moved_items items count first) count again ≡ items
+twice_items (numbers list) count first again whole back = ap numbers (twice_list (pos 0) list count first again whole back)
+twice_items (chars list) count first again whole back = ap chars (twice_list blank list count first again whole back)
 
 from_the_end_is : (long along : ℕ) → along < long → from_the_end long along ≡ Some (long - 1 - along)
 from_the_end_is long along h = let test : nat_lt along long ≡ true = within along long h in rw test refl
@@ -69,7 +69,11 @@ parts_within split place below =
 same_source : (split : Split) (long o a i x y z : ℕ) → o ≡ x → a ≡ y → i ≡ z → source_at split long o i (from_the_end long a) ≡ source_at split long x z (from_the_end long y)
 same_source split long o a i x y z p q r = rw (p, q, r) refl
 
-mirror_back : (split : Split) (place : ℕ) → place < split_count split → IsBack (split_count split) (source_along split split.along (λ line along. from_the_end split.along along)) place
+-- the source places of a reversal
+abbrev mirrored : Split → ℕ → Option ℕ
+mirrored split = source_along split split.along (λ line along. from_the_end split.along along)
+
+mirror_back : (split : Split) (place : ℕ) → place < split_count split → IsBack (split_count split) (mirrored split) (mirrored split) place
 mirror_back split place below =
     let parts = parts_within split place below in
     let o : ℕ = outer_of split place in
@@ -91,9 +95,8 @@ moved_twice : (b : PlainArray) (axis : ℕ) → IsArray b → axis < length b.sh
 moved_twice b axis array inside =
     let split = split_at b.shape axis in
     let count = split_count_lem b.shape axis inside in
-    let source : ℕ → Option ℕ = source_along split split.along (λ line along. from_the_end split.along along) in
-    ap (array_of b.shape) (twice_items b.items (element_count b.shape) source (sym array.whole)
-    (λ place h. subst (λ (n : ℕ). IsBack n source place) count (mirror_back split place (omega (arith, count, h)))))
+    ap (array_of b.shape) (twice_items b.items (element_count b.shape) (mirrored split) (mirrored split) (sym array.whole)
+    (λ place h. subst (λ (n : ℕ). IsBack n (mirrored split) (mirrored split) place) count (mirror_back split place (omega (arith, count, h)))))
 
 twice_by_rank : (b : PlainArray) (axis : ℕ) (scalar : Bool) → IsArray b → (length b.shape == 0) ≡ scalar → (0 < length b.shape → axis < length b.shape) → reversed (reversed b axis) axis ≡ b
 twice_by_rank b axis true array e inside = rw (e, e) refl

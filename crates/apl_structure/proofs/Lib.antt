@@ -16,3 +16,4 @@ pub mod ReshapeLemmas
 pub mod RotateLemmas
 pub mod SubscriptLemmas
 pub mod TakeLemmas
+pub mod TransposeLemmas

@@ -5,11 +5,18 @@ ghost use Rattle.apl_arrays.specs.Array.{PlainArray, IsArray};
 ghost use Rattle.apl_structure.specs.Plain.{ravel_of, shape_of};
 ghost use Rattle.apl_structure.specs.Reshaping.{reshape_of};
 ghost use Rattle.apl_structure.specs.Reversal.{reversed};
+ghost use Rattle.apl_structure.specs.Transposition.{transposed};
 
 /// An array that is reversed twice along an axis is the array. The call does nothing. No memory.
 #[tactic(auto, using(crate::proofs::LawLemmas::reversed_twice))]
 pub fn reversed_twice_is_the_same()
     ensures { (b : PlainArray) (axis : ℕ) → IsArray b → (0 < length b.shape → axis < length b.shape) → reversed (reversed b axis) axis ≡ b }
+{}
+
+/// An array that is transposed twice is the array. The call does nothing. No memory.
+#[tactic(auto, using(crate::proofs::TransposeLemmas::transposed_twice))]
+pub fn transposed_twice_is_the_same()
+    ensures { (b : PlainArray) → IsArray b → transposed (transposed b) ≡ b }
 {}
 
 /// All items of an array in its shape are the array. The call does nothing. No memory.
