@@ -6,6 +6,7 @@ mod arrays;
 mod characters;
 mod display;
 mod fields;
+mod flags;
 mod items;
 mod names;
 mod numbers;
@@ -20,6 +21,7 @@ use anyhow::Result;
 use case_tables::{Tally, run_table};
 use characters::{BadGlyphs, Glyphs};
 use display::{Formats, Lines};
+use flags::{Compressions, Expansions};
 use items::{PlacedItems, Scalars};
 use names::{FileNameOrder, FileNames, NameOrder, Names, Words};
 use reports::{Refusals, Reports};
@@ -62,6 +64,8 @@ fn structures(rt: &HostRuntime) -> Result<Tally> {
     tally.add(run_table(rt, "drop.txt", &Drops)?);
     tally.add(run_table(rt, "reshape.txt", &Reshapes)?);
     tally.add(run_table(rt, "rotate.txt", &Rotations)?);
+    tally.add(run_table(rt, "compress.txt", &Compressions)?);
+    tally.add(run_table(rt, "expand.txt", &Expansions)?);
     Ok(tally)
 }
 
