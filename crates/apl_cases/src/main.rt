@@ -8,6 +8,7 @@ mod display;
 mod fields;
 mod flags;
 mod items;
+mod joins;
 mod names;
 mod numbers;
 mod reports;
@@ -23,6 +24,7 @@ use characters::{BadGlyphs, Glyphs};
 use display::{Formats, Lines};
 use flags::{Compressions, Expansions};
 use items::{PlacedItems, Scalars};
+use joins::{Diagonals, Joins};
 use names::{FileNameOrder, FileNames, NameOrder, Names, Words};
 use reports::{Refusals, Reports};
 use scalar::{Dyads, Monads};
@@ -66,6 +68,8 @@ fn structures(rt: &HostRuntime) -> Result<Tally> {
     tally.add(run_table(rt, "rotate.txt", &Rotations)?);
     tally.add(run_table(rt, "compress.txt", &Compressions)?);
     tally.add(run_table(rt, "expand.txt", &Expansions)?);
+    tally.add(run_table(rt, "catenate.txt", &Joins)?);
+    tally.add(run_table(rt, "transpose_by.txt", &Diagonals)?);
     Ok(tally)
 }
 

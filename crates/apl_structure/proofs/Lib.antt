@@ -1,5 +1,8 @@
 pub mod AxisLemmas
+pub mod CatenateLemmas
 pub mod CompressLemmas
+pub mod DiagonalLaws
+pub mod DiagonalLemmas
 pub mod ExpandLemmas
 pub mod FaultLemmas
 pub mod LawLemmas

@@ -1,5 +1,7 @@
+pub mod Catenation
 pub mod Compression
 pub mod Counting
+pub mod Diagonals
 pub mod Expansion
 pub mod Flags
 pub mod Lengths

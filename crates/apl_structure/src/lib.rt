@@ -1,8 +1,10 @@
 //! The functions of APL that look at the shape of an array, or move its items.
 #![tactic(auto)]
 
+mod catenation;
 mod compression;
 mod counting;
+mod diagonals;
 mod expansion;
 mod flags;
 pub mod laws;
@@ -18,8 +20,10 @@ mod strides;
 mod taking;
 mod transposition;
 
+pub use catenation::catenate;
 pub use compression::compress;
 pub use counting::iota;
+pub use diagonals::transpose_by;
 pub use expansion::expand;
 pub use plain::{ravel, shape_of};
 pub use reshaping::reshape;
