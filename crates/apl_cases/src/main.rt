@@ -6,8 +6,10 @@ mod arrays;
 mod characters;
 mod display;
 mod fields;
+mod flags;
 mod indexing;
 mod items;
+mod joins;
 mod names;
 mod numbers;
 mod reports;
@@ -22,8 +24,10 @@ use anyhow::Result;
 use case_tables::{Tally, run_table};
 use characters::{BadGlyphs, Glyphs};
 use display::{Formats, Lines};
+use flags::{Compressions, Expansions};
 use indexing::{Assignments, Indexings};
 use items::{PlacedItems, Scalars};
+use joins::{Diagonals, Joins};
 use names::{FileNameOrder, FileNames, NameOrder, Names, Words};
 use reports::{Refusals, Reports};
 use scalar::{Dyads, Monads};
@@ -68,6 +72,10 @@ fn structures(rt: &HostRuntime) -> Result<Tally> {
     tally.add(run_table(rt, "rotate.txt", &Rotations)?);
     tally.add(run_table(rt, "index.txt", &Indexings)?);
     tally.add(run_table(rt, "index_assign.txt", &Assignments)?);
+    tally.add(run_table(rt, "compress.txt", &Compressions)?);
+    tally.add(run_table(rt, "expand.txt", &Expansions)?);
+    tally.add(run_table(rt, "catenate.txt", &Joins)?);
+    tally.add(run_table(rt, "transpose_by.txt", &Diagonals)?);
     Ok(tally)
 }
 

@@ -2,7 +2,7 @@
 use Rattle.std.proofs.Common.{◌≡◌, ℕ, ℤ, zero, suc, ◌+◌, ◌<◌, ◌≤◌, ◌==◌, ◌&&◌, Bool, true, false, not, cond, List, [], ◌∷◌, ◌++◌, map, Option, Some, None, length, get_or, refl, sym, ap, subst, ◌∙◌, arith}
 use Rattle.std.specs.List.{filter, list_any, range_with_len}
 use Rattle.std.proofs.lemmas.Bool.Decides.{nat_tests}
-use Rattle.std.proofs.lemmas.List.{length-map, map-append}
+use Rattle.std.proofs.lemmas.List.{append-nil, length-map, map-append}
 use Rattle.std.proofs.lemmas.List.Elements.{filter-append}
 use Rattle.std.proofs.lemmas.List.FromFn.{length-range_with_len}
 use Rattle.std.proofs.lemmas.List.Sums.{count_by-le-length, length-filter}
@@ -40,13 +40,9 @@ pub kept_yes : (flags : List ℤ) (long n : ℕ) (before : List (Option ℕ)) (p
 kept_yes flags long n before place one so_far is test e =
     ap (λ (xs : List (Option ℕ)). xs ++ Some place ∷ []) so_far ∙ ap (λ (m : ℕ). kept_of flags long n ++ Some m ∷ []) is ∙ sym (kept_more flags long n true (sym test ∙ e))
 
-append_nothing : (xs : List (Option ℕ)) → xs ++ [] ≡ xs
-append_nothing [] = refl
-append_nothing (x ∷ xs) = ap (λ (rest : List (Option ℕ)). x ∷ rest) (append_nothing xs)
-
 -- or is not
 pub kept_no : (flags : List ℤ) (long n : ℕ) (before : List (Option ℕ)) (one : Bool) → before ≡ kept_of flags long n → one ≡ is_one (number_at flags n) → one ≡ false → before ≡ kept_of flags long (n + 1)
-kept_no flags long n before one so_far test e = so_far ∙ sym (append_nothing (kept_of flags long n)) ∙ sym (kept_more flags long n false (sym test ∙ e))
+kept_no flags long n before one so_far test e = so_far ∙ sym (append-nil (kept_of flags long n)) ∙ sym (kept_more flags long n false (sym test ∙ e))
 
 -- ---- what is kept is on the axis
 

@@ -1,7 +1,9 @@
 -- Calls on which nothing is reported.
-use Rattle.std.proofs.Common.{◌≡◌, ◌≤◌, ◌||◌, ℕ, Bool, true, false, None, length, refl, arith}
+use Rattle.std.proofs.Common.{◌≡◌, ◌≤◌, ◌||◌, ℕ, Bool, true, false, Option, Some, None, Ok, Err, length, refl, sym, ap, arith}
 use Rattle.apl_arrays.specs.Array.{PlainArray, PlainItems, IsArray, numbers, chars, is_chars, item_count, numbers_in}
-use Rattle.apl_items.specs.Answers.{Faults, first_report}
+use Rattle.apl_arrays.specs.declared.report.Report.{Report}
+use Rattle.apl_arrays.specs.declared.report.Report.TheVariants.{WsFull}
+use Rattle.apl_items.specs.Answers.{Faults, answer_of, first_report, unless}
 
 -- no kind of fault
 pub record IsSound (faults : Faults) : Type 0 where
@@ -30,6 +32,29 @@ nothing_is_wrong faults none =
       index = parts.3;
       size = parts.4;
     }
+
+-- where nothing else is wrong the answer is WS FULL, if the result is too large
+pub answer_too_large : (faults : Faults) (array : PlainArray) (large : Bool) → None ≡ first_report faults → large ≡ true → answer_of (record faults { too_large = large }) array ≡ Err WsFull
+answer_too_large faults array large none e = let sound = nothing_is_wrong faults none in rw (sound.rank, sound.long, sound.domain, sound.index, e) refl
+
+-- else the array
+pub answer_fits : (faults : Faults) (array : PlainArray) (large : Bool) → None ≡ first_report faults → large ≡ false → answer_of (record faults { too_large = large }) array ≡ Ok array
+answer_fits faults array large none e = let sound = nothing_is_wrong faults none in rw (sound.rank, sound.long, sound.domain, sound.index, e) refl
+
+reported_by : (rank long domain index large : Bool) (report : Report)
+    → Some report ≡ first_report (record { bad_rank = rank; bad_length = long; bad_domain = domain; bad_index = index; too_large = false })
+    → first_report (record { bad_rank = rank; bad_length = long; bad_domain = domain; bad_index = index; too_large = large }) ≡ Some report
+reported_by true long domain index large report e = sym e
+reported_by false true domain index large report e = sym e
+reported_by false false true index large report e = sym e
+reported_by false false false true large report e = sym e
+reported_by false false false false large report e = absurd (cc)
+
+-- where something else is wrong its report goes before WS FULL
+pub answer_reported : (rank long domain index large : Bool) (array : PlainArray) (report : Report)
+    → Some report ≡ first_report (record { bad_rank = rank; bad_length = long; bad_domain = domain; bad_index = index; too_large = false })
+    → answer_of (record { bad_rank = rank; bad_length = long; bad_domain = domain; bad_index = index; too_large = large }) array ≡ Err report
+answer_reported rank long domain index large array report e = ap (λ (r : Option Report). unless r array) (reported_by rank long domain index large report e)
 
 -- the first of two facts of which none holds
 pub or_first : (x y : Bool) → (x || y) ≡ false → x ≡ false

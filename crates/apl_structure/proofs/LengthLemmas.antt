@@ -51,6 +51,7 @@ faulty_when_capped numbers =
     (is_small (element_count (capped numbers))) (is_small (element_count (lengths numbers))) (ap (nat_lt 8) (same_rank numbers)) (all_small numbers)
     (λ e. ap (λ (xs : List ℕ). is_small (element_count xs)) (small_lengths numbers e))
 
+-- no fault
 pub none_from : (o : Option ShapeFault) → is_some o ≡ false → o ≡ None
 none_from None e = refl
 none_from (Some fault) e = absurd (cc)

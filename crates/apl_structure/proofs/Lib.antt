@@ -1,6 +1,9 @@
 pub mod AssignLemmas
 pub mod AxisLemmas
+pub mod CatenateLemmas
 pub mod CompressLemmas
+pub mod DiagonalLaws
+pub mod DiagonalLemmas
 pub mod ExpandLemmas
 pub mod FaultLemmas
 pub mod GivenBackLemmas

@@ -1,5 +1,7 @@
 -- Arrays whose items moved.
-use Rattle.std.proofs.Common.{◌≡◌, ℕ, zero, suc, ◌+◌, ◌<◌, pos, List, [], ◌∷◌, map, Option, length, get_or, refl, sym, ap, ◌∙◌, arith}
+use Rattle.std.proofs.Common.{◌≡◌, ℕ, zero, suc, ◌+◌, ◌<◌, pos, List, [], ◌∷◌, map, ◌++◌, append_assoc, Option, length, get_or, refl, sym, ap, ◌∙◌, arith}
+use Rattle.std.proofs.lemmas.List.{append-nil}
+use Rattle.std.proofs.lemmas.List.FromFn.{map-range_with_len_more}
 use Rattle.std.specs.List.{range_with_len}
 use Rattle.apl_arrays.specs.Array.{PlainArray, PlainItems, IsArray, numbers, chars, item_count}
 use Rattle.apl_arrays.specs.Glyph.{blank}
@@ -26,11 +28,30 @@ map_places {T} f g first (suc n) same =
     let rest = map_places f g (first + 1) n (λ k h. let next : (first + 1) + k ≡ first + suc k = omega arith in rw next (same (suc k) (omega arith))) in
     ap (λ (x : T). x ∷ map f (range_with_len (first + 1) n)) here ∙ ap (λ (xs : List T). g first ∷ xs) rest
 
+-- the same items at each place make the same list
+pub same_map : {T : Type 0} (f g : ℕ → T) (n : ℕ) → ((k : ℕ) → k < n → f k ≡ g k) → map f (range_with_len 0 n) ≡ map g (range_with_len 0 n)
+same_map f g n same = map_places f g 0 n (λ k h. let at : 0 + k ≡ k = omega arith in rw at (same k h))
+
+-- the items of more places are those of the first and those of the others
+pub map_more : {T : Type 0} (f : ℕ → T) (m n : ℕ) → map f (range_with_len 0 (m + n)) ≡ map f (range_with_len 0 m) ++ map (λ (k : ℕ). f (m + k)) (range_with_len 0 n)
+map_more f m zero = let e : m + zero ≡ m = omega arith in rw e (sym (append-nil (map f (range_with_len 0 m))))
+map_more {T} f m (suc n) =
+    let e : m + suc n ≡ (m + n) + 1 = omega arith in
+    let next : n + 1 ≡ suc n = omega arith in
+    let later : ℕ → T = λ k. f (m + k) in
+    ap (λ (k : ℕ). map f (range_with_len 0 k)) e ∙ map-range_with_len_more f 0 (m + n) (m + n) (omega arith)
+    ∙ ap (λ (xs : List T). xs ++ f (m + n) ∷ []) (map_more f m n) ∙ append_assoc (map f (range_with_len 0 m)) (map later (range_with_len 0 n)) (f (m + n) ∷ [])
+    ∙ ap (λ (xs : List T). map f (range_with_len 0 m) ++ xs) (sym (map-range_with_len_more later 0 n n (omega arith)) ∙ ap (λ (k : ℕ). map later (range_with_len 0 k)) next)
+
+-- one place more
+pub one_place_more : (f : ℕ → ℕ) (place here : ℕ) (before : List ℕ) → before ≡ map f (range_with_len 0 place) → here ≡ f place → before ++ here ∷ [] ≡ map f (range_with_len 0 (place + 1))
+one_place_more f place here before e is =
+    ap (λ (xs : List ℕ). xs ++ here ∷ []) e ∙ ap (λ (x : ℕ). map f (range_with_len 0 place) ++ x ∷ []) is ∙ sym (map-range_with_len_more f 0 place place (omega arith))
+
 same_list : {T : Type 0} (fill : T) (list : List T) (count : ℕ) (f g : ℕ → Option ℕ) → ((place : ℕ) → place < count → f place ≡ g place)
     → moved_list fill list count f ≡ moved_list fill list count g
 same_list fill list count f g same =
-    map_places (λ p. item_or fill list (f p)) (λ p. item_or fill list (g p)) 0 count
-    (λ k h. let at : 0 + k ≡ k = omega arith in rw at (ap (item_or fill list) (same k h)))
+    same_map (λ p. item_or fill list (f p)) (λ p. item_or fill list (g p)) count (λ k h. ap (item_or fill list) (same k h))
 
 -- the same source places give the same items
 pub same_moved : (items : PlainItems) (count : ℕ) (f g : ℕ → Option ℕ) → ((place : ℕ) → place < count → f place ≡ g place)

@@ -1,6 +1,8 @@
 pub mod Assignment
+pub mod Catenation
 pub mod Compression
 pub mod Counting
+pub mod Diagonals
 pub mod Expansion
 pub mod Flags
 pub mod Indexing

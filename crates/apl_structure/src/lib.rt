@@ -2,8 +2,10 @@
 #![tactic(auto)]
 
 mod assignment;
+mod catenation;
 mod compression;
 mod counting;
+mod diagonals;
 mod expansion;
 mod flags;
 mod indexing;
@@ -23,8 +25,10 @@ mod taking;
 mod transposition;
 
 pub use assignment::index_assign;
+pub use catenation::catenate;
 pub use compression::compress;
 pub use counting::iota;
+pub use diagonals::transpose_by;
 pub use expansion::expand;
 pub use indexing::index;
 pub use plain::{ravel, shape_of};

@@ -1,0 +1,47 @@
+-- Each item of a transpose by axes stands where the axes say.
+use Rattle.std.proofs.Common.{◌≡◌, ℕ, ◌<◌, pos, List, Option, Some, None, Ok, length, get_or, refl, sym, ap, subst, ◌∙◌, arith}
+use Rattle.std.specs.List.{slice_get}
+use Rattle.std.proofs.lemmas.List.FromFn.{get_or-map-range_with_len, length-map-range_with_len}
+use Rattle.std.proofs.lemmas.Option.{get_or_from_slice_get, slice_get_read}
+use Rattle.apl_arrays.specs.declared.array.Item.{Item}
+use Rattle.apl_arrays.specs.declared.array.Item.TheVariants.{Number, Char}
+use Rattle.apl_arrays.specs.declared.report.Report.{Report}
+use Rattle.apl_arrays.specs.Array.{PlainArray, PlainItems, IsItemOf, numbers, chars, element_count, is_chars, numbers_in}
+use Rattle.apl_arrays.specs.Glyph.{blank}
+use Rattle.apl_items.specs.Answers.{first_report, unless}
+use Rattle.apl_items.specs.Moves.{item_or, moved_items, moved_list}
+use Rattle.apl_items.specs.Shapes.{AreWithin, coordinates_of, place_of}
+use Rattle.apl_items.proofs.ShapeLemmas.{coordinates_of_place, place_of_below}
+use Rattle.apl_structure.specs.Diagonals.{axes_named, coordinates_by, diagonal_shape, transpose_by_of, transposed_by}
+
+moved_to : {T : Type 0} (fill : T) (list : List T) (count place from : ℕ) (source : ℕ → Option ℕ) (item : T) → place < count → source place ≡ Some from → slice_get list from ≡ Some item
+    → slice_get (moved_list fill list count source) place ≡ Some item
+moved_to {T} fill list count place from source item low is there =
+    let at : ℕ → T = λ p. item_or fill list (source p) in
+    let here = get_or-map-range_with_len at 0 count place place item low (omega arith) in
+    let told : at place ≡ item = ap (item_or fill list) is ∙ get_or_from_slice_get list from item fill there in
+    slice_get_read (moved_list fill list count source) count place item (sym (length-map-range_with_len at 0 count)) low (sym (here ∙ told))
+
+moved_item : (items : PlainItems) (item : Item) (count place from : ℕ) (source : ℕ → Option ℕ) → place < count → source place ≡ Some from → IsItemOf items from item → IsItemOf (moved_items items count source) place item
+moved_item (numbers list) (Number n) count place from source low is there = moved_to (pos 0) list count place from source n low is there
+moved_item (numbers list) (Char n) count place from source low is there = absurd there
+moved_item (chars list) (Number n) count place from source low is there = absurd there
+moved_item (chars list) (Char n) count place from source low is there = moved_to blank list count place from source n low is there
+
+stands : (axes : List ℕ) (b : PlainArray) (at : List ℕ) (item : Item) → AreWithin (diagonal_shape axes b.shape) at → IsItemOf b.items (place_of b.shape (coordinates_by axes at)) item
+    → IsItemOf (transposed_by axes b).items (place_of (diagonal_shape axes b.shape) at) item
+stands axes b at item within there =
+    let shape : List ℕ = diagonal_shape axes b.shape in
+    moved_item b.items item (element_count shape) (place_of shape at) (place_of b.shape (coordinates_by axes at)) (λ place. Some (place_of b.shape (coordinates_by axes (coordinates_of shape place))))
+    (place_of_below shape at within) (ap (λ (xs : List ℕ). Some (place_of b.shape (coordinates_by axes xs))) (coordinates_of_place shape at within)) there
+
+answer_is : (report : Option Report) (x r : PlainArray) → unless report x ≡ Ok r → x ≡ r
+answer_is None x r e = cc
+answer_is (Some report) x r e = absurd (cc)
+
+-- at coordinates of the result stands the item of B at the coordinates that the axes say
+pub stand_by_axes : (a b r : PlainArray) (at : List ℕ) (item : Item) → transpose_by_of a b ≡ Ok r → AreWithin r.shape at
+    → IsItemOf b.items (place_of b.shape (coordinates_by (axes_named (numbers_in a.items)) at)) item → IsItemOf r.items (place_of r.shape at) item
+stand_by_axes a b r at item answer within there =
+    let same : transposed_by (axes_named (numbers_in a.items)) b ≡ r = answer_is _ (transposed_by (axes_named (numbers_in a.items)) b) r answer in
+    subst (λ (x : PlainArray). AreWithin x.shape at → IsItemOf x.items (place_of x.shape at) item) same (λ inside. stands (axes_named (numbers_in a.items)) b at item inside there) within
