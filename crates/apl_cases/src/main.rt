@@ -15,6 +15,7 @@ mod shapes;
 mod structure;
 mod tokens;
 mod trees;
+mod workspaces;
 
 use anyhow::Result;
 use case_tables::{Tally, run_table};
@@ -29,6 +30,7 @@ use std::process::ExitCode;
 use structure::{Drops, Reshapes, Reversals, Rotations, Takes, Transposes};
 use tokens::Tokens;
 use trees::{LongTrees, Trees};
+use workspaces::{Headers, Workspaces};
 
 fn values(rt: &HostRuntime) -> Result<Tally> {
     let mut tally = run_table(rt, "glyphs.txt", &Glyphs)?;
@@ -72,11 +74,18 @@ fn texts(rt: &HostRuntime) -> Result<Tally> {
     Ok(tally)
 }
 
+fn workspaces(rt: &HostRuntime) -> Result<Tally> {
+    let mut tally = run_table(rt, "headers.txt", &Headers)?;
+    tally.add(run_table(rt, "workspaces.txt", &Workspaces)?);
+    Ok(tally)
+}
+
 fn all_tables(rt: &HostRuntime) -> Result<Tally> {
     let mut tally = values(rt)?;
     tally.add(functions(rt)?);
     tally.add(structures(rt)?);
     tally.add(texts(rt)?);
+    tally.add(workspaces(rt)?);
     Ok(tally)
 }
 

@@ -1,8 +1,15 @@
+pub mod Ascending
 pub mod Comments
+pub mod Entering
 pub mod Giving
 pub mod HeaderLaw
+pub mod InOrder
 pub mod Innermost
+pub mod Labels
+pub mod Listed
 pub mod Locals
 pub mod NameLaw
+pub mod Places
 pub mod Symbols
 pub mod Tables
+pub mod Whole

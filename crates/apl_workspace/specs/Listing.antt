@@ -1,5 +1,5 @@
 -- Lists of global names.
-use Rattle.std.specs.Prelude.{ℕ, Bool, List, filter}
+use Rattle.std.specs.Prelude.{ℕ, Bool, true, List, Option, Some, None, filter}
 use Rattle.std.specs.Map.{keys_of}
 use Rattle.apl_workspace.specs.Meaning.{Names, is_function_meaning, is_shared_meaning, is_variable_meaning}
 use Rattle.apl_workspace.specs.Workspace.{PlainWorkspace}
@@ -12,6 +12,11 @@ abbrev pub is_asked : What → Meaning → Bool
 is_asked Functions = is_function_meaning
 is_asked Variables = is_variable_meaning
 is_asked Shares = is_shared_meaning
+
+-- what is asked for, or anything where nothing is
+abbrev pub is_wanted : Option What → Meaning → Bool
+is_wanted None meaning = true
+is_wanted (Some what) meaning = is_asked what meaning
 
 -- the names of a table that stand for what is asked, ascending
 abbrev pub names_among : What → Names → List (List ℕ)

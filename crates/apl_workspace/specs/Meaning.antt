@@ -1,5 +1,5 @@
 -- What names stand for, tables of names, and what they weigh.
-use Rattle.std.specs.Prelude.{◌≡◌, ◌<◌, ◌≤◌, ◌+◌, ℕ, Bool, true, false, List, [], ◌∷◌, Option, Some, None, sum_by, unwrap_or}
+use Rattle.std.specs.Prelude.{◌≡◌, ◌<◌, ◌≤◌, ◌+◌, ℕ, Bool, true, false, List, [], ◌∷◌, Option, Some, None, IfSome, sum_by, unwrap_or}
 use Rattle.std.specs.Option.{option_map}
 use Rattle.std.specs.Map.{keys_of, lookup, remove_entry, values_of}
 use Rattle.std.specs.List.Sorted.{IsStrictlySortedBy}
@@ -8,7 +8,7 @@ use Rattle.apl_arrays.specs.Array.{PlainArray, item_count}
 use Rattle.apl_arrays.specs.declared.report.Fail.{Fail}
 use Rattle.apl_arrays.specs.declared.report.Fail.TheVariants.{Report, WantOfMemory}
 use Rattle.apl_arrays.specs.declared.report.Report.TheVariants.{WsFull}
-use Rattle.apl_workspace.specs.Function.{PlainFunction, function_weight}
+use Rattle.apl_workspace.specs.Function.{IsFunction, PlainFunction, function_weight}
 use Rattle.apl_workspace.specs.Limits.{most_weight}
 use Rattle.apl_workspace.specs.Names.{name_order, is_name_of}
 use Rattle.apl_workspace.specs.declared.meaning.Meaning.{Meaning}
@@ -59,6 +59,14 @@ copy_of (Function function) = None
 copy_of (Label line) = None
 copy_of (Shared copy) = copy
 
+-- a function that a name stands for keeps its limits and has that name
+abbrev pub IsWhole : List ℕ → Meaning → Type 0
+IsWhole name Nothing = Unit {0}
+IsWhole name (Value value) = Unit {0}
+IsWhole name (Function function) = IsFunction function × (function.header.name ≡ name)
+IsWhole name (Label line) = Unit {0}
+IsWhole name (Shared copy) = Unit {0}
+
 -- names in their order, each with what it stands for
 abbrev pub Names : Type 0
 Names = List (List ℕ × Meaning)
@@ -92,11 +100,12 @@ is_shared_in names name = is_shared_meaning (unwrap_or (meaning_in names name) N
 abbrev pub table_weight : Names → ℕ
 table_weight names = sum_by meaning_weight (values_of names)
 
--- names ascend, each once, and weigh so much, which is not more than a workspace may
+-- names ascend, each once, functions are whole, and all weigh so much, which is not more than a workspace may
 pub record IsTable (weight : ℕ) (names : Names) : Type 0 where
   pub counted : weight ≡ table_weight names
   pub within : weight ≤ most_weight
   pub ascending : IsStrictlySortedBy name_order (keys_of names)
+  pub whole : (name : List ℕ) → IfSome (meaning_in names name) (IsWhole name)
 
 -- what a name weighs in a table
 abbrev pub weight_in : Names → List ℕ → ℕ

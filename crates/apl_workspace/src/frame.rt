@@ -22,15 +22,14 @@ pub fn frame_of(alloc: Global, function: &Function, args: Args) -> Result<Table,
 }
 
 /// The names of a header but the function's own: the arguments with their values, the result and the local names without.
+#[tactic(auto, using(crate::proofs::Entering::result_and_locals))]
 fn header_names(alloc: Global, header: &Header, args: Args) -> Result<Table, WantOfMemory>
     ensures { IfOk result (λ names. names ≡ header_names header.now args) }
 {
     let mut names = Table::new(alloc);
     put_argument(&mut names, header.left, args.left)?;
     put_argument(&mut names, header.right, args.right)?;
-    if let Some(name) = header.result {
-        names.put_light(name, Meaning::Nothing)?;
-    }
+    put_result(&mut names, header.result)?;
     put_locals(&mut names, header.locals.as_slice())?;
     Ok(names)
 }
@@ -50,11 +49,25 @@ fn put_argument(
     };
     match value {
         None => names.put_light(name, Meaning::Nothing),
-        Some(value) => names.put_light(name, Meaning::Value(value)),
+        Some(value) => {
+            let _ = value.items();
+            names.put_light(name, Meaning::Value(value))
+        }
+    }
+}
+
+/// Puts the name of the result in, where the header has one; it has no value yet.
+fn put_result(names: &mut Table, name: Option<Name>) -> Result<(), WantOfMemory>
+    ensures { OnOk result (names.new ≡ fold with_local_name names.old (option_to_list name)) }
+{
+    match name {
+        None => Ok(()),
+        Some(name) => names.put_light(name, Meaning::Nothing),
     }
 }
 
 /// Puts local names in that have no value yet.
+#[tactic(auto, using(crate::proofs::Entering::locals_on))]
 fn put_locals(names: &mut Table, locals: &[Name]) -> Result<(), WantOfMemory>
     ensures { OnOk result (names.new ≡ fold with_local_name names.old locals.now) }
 {
@@ -65,6 +78,7 @@ fn put_locals(names: &mut Table, locals: &[Name]) -> Result<(), WantOfMemory>
 }
 
 /// Puts the labels of lines in, of equal ones the first.
+#[tactic(auto, using(crate::proofs::Entering::labels_on, crate::proofs::Entering::no_labels))]
 fn put_labels(names: &mut Table, lines: &[Line]) -> Result<(), WantOfMemory>
     requires { length lines.now ≤ most_function_lines }
     ensures { OnOk result (names.new ≡ with_labels 1 (map glyphs_in lines.now) names.old) }

@@ -2,7 +2,7 @@ ghost use Rattle.std.specs.Prelude.{◌≡◌, ◌<◌, ◌≤◌, None, MatchOp
 ghost use Rattle.std.specs.Option.{option_copied};
 ghost use Rattle.apl_workspace.specs.Workspace.{AreFullFor, IsInnermostAt, in_innermost, innermost};
 ghost use Rattle.apl_workspace.specs.Limits.{most_weight};
-ghost use Rattle.apl_workspace.specs.Meaning.{table_weight};
+ghost use Rattle.apl_workspace.specs.Meaning.{IsWhole, table_weight};
 
 use crate::{Meaning, Table};
 use apl_arrays::{Fail, Name};
@@ -10,7 +10,8 @@ use apl_arrays::{Fail, Name};
 /// What a name stands for in the innermost frame that has it: the last one. No memory.
 #[tactic(auto, using(crate::proofs::Innermost::innermost_found, crate::proofs::Innermost::innermost_goes_on))]
 pub fn innermost<'a>(frames: &'a [Table], name: &Name) -> Option<&'a Meaning>
-    ensures { option_copied result ≡ innermost (reverse frames.entry.now) name.now }
+    ensures value { option_copied result ≡ innermost (reverse frames.entry.now) name.now }
+    ensures whole { IfSome result (λ meaning. IsWhole name.now meaning.now) }
 {
     let mut at = frames.len();
     while at > 0 {
@@ -55,6 +56,7 @@ pub fn put_innermost(
     requires weight { weight ≡ sum_by table_weight frames.old }
     requires within { weight ≤ most }
     requires limit { most ≤ most_weight }
+    requires whole { IsWhole name meaning }
     ensures ok { OnOk result (reverse frames.new ≡ in_innermost (reverse frames.old) name meaning) }
     ensures weight { IfOk result (λ weighs. weighs ≡ sum_by table_weight (in_innermost (reverse frames.old) name meaning)) }
     ensures fits { IfOk result (λ weighs. weighs ≤ most) }

@@ -1,10 +1,11 @@
-ghost use Rattle.std.specs.Prelude.{◌≡◌, ◌+◌, IfOk, map, min};
+ghost use Rattle.std.specs.Prelude.{◌≡◌, ◌+◌, IfOk, IfSome, map, min};
+ghost use Rattle.std.specs.List.{list_all};
 ghost use Rattle.apl_arrays.specs.List.{glyphs_in};
-ghost use Rattle.apl_workspace.specs.Function.{function_weight, lines_weight};
+ghost use Rattle.apl_workspace.specs.Function.{IsFunction, function_of, function_weight, is_short, keeps_limits, lines_weight};
 ghost use Rattle.apl_workspace.specs.Limits.{most_weight};
 
 use crate::Header;
-use crate::limits::WEIGHT_LIMIT;
+use crate::limits::{FUNCTION_LINE_LIMIT, LINE_GLYPH_LIMIT, WEIGHT_LIMIT};
 use apl_arrays::{Line, LineList, WantOfMemory};
 use std::alloc::Global;
 use std::marker::Model;
@@ -26,6 +27,27 @@ impl Model for Function {
 }
 
 impl Function {
+    /// The function of a header as it is entered and of lines, or `None` where that is no header, or a limit is passed:
+    /// 200 lines, 1,000 glyphs of the header and of each line. It takes memory for the header's names.
+    #[tactic(auto, using(crate::proofs::Whole::is_function))]
+    pub fn of(alloc: Global, text: Line, lines: LineList) -> Result<Option<Function>, WantOfMemory>
+        ensures value { IfOk result (λ made. made ≡ function_of text.items lines.items) }
+        ensures whole { IfOk result (λ made. IfSome made IsFunction) }
+    {
+        if !keeps_limits(&text, &lines) {
+            discard(text, lines);
+            return Ok(None);
+        }
+        match Header::read(alloc, &text)? {
+            None => Ok(None),
+            Some(header) => Ok(Some(Function {
+                text,
+                header,
+                lines,
+            })),
+        }
+    }
+
     /// An equal function. It takes memory for its texts and names.
     pub fn copy(&self, alloc: Global) -> Result<Function, WantOfMemory>
         ensures { IfOk result (λ function. function ≡ self.now) }
@@ -57,3 +79,25 @@ fn lines_weight(lines: &[Line]) -> usize
     }
     weight
 }
+
+/// Whether a header and lines are within their limits.
+fn keeps_limits(text: &Line, lines: &LineList) -> bool
+    ensures { result ≡ keeps_limits text.now.items lines.now.items }
+{
+    let lines = lines.as_slice();
+    is_short(text) && lines.len() <= FUNCTION_LINE_LIMIT && all_short(lines)
+}
+
+fn is_short(line: &Line) -> bool
+    ensures { result ≡ is_short line.now.items }
+{
+    line.as_slice().len() <= LINE_GLYPH_LIMIT
+}
+
+fn all_short(lines: &[Line]) -> bool
+    ensures { result ≡ list_all is_short (map glyphs_in lines.now) }
+{
+    lines.iter().all(|line| is_short(line))
+}
+
+fn discard(_text: Line, _lines: LineList) {}

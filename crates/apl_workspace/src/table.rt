@@ -1,9 +1,11 @@
-ghost use Rattle.std.specs.Prelude.{◌≡◌, ◌+◌, ◌<◌, ◌≤◌, ℕ, List as ListOf, [], Some, true, length, slice_get, unwrap_or, IsOk, IsSome, OnOk, OnErr, IfErr, IfOk};
+ghost use Rattle.std.specs.Prelude.{◌≡◌, ◌==◌, ◌+◌, ◌<◌, ◌≤◌, ◌++◌, ◌∷◌, ℕ, List as ListOf, [], Some, filter, if◌then◌else◌, true, length, slice_get, unwrap_or, IsOk, IsSome, OnOk, OnErr, IfErr, IfOk, IfSome};
+ghost use Rattle.std.specs.Cmp.Lexicographic.{pointwise};
+ghost use Rattle.std.specs.List.{IsDistinct};
 ghost use Rattle.std.specs.Map.{keys_of};
 ghost use Rattle.std.specs.Option.{option_copied};
 ghost use Rattle.apl_workspace.specs.Limits.{most_weight};
-ghost use Rattle.apl_workspace.specs.Listing.{names_among};
-ghost use Rattle.apl_workspace.specs.Meaning.{IsFullFor, copy_of, is_shared_in, meaning_in, meaning_weight, own_copy_in, table_weight, weight_in, with_meaning, with_value, without_name};
+ghost use Rattle.apl_workspace.specs.Listing.{is_wanted, names_among};
+ghost use Rattle.apl_workspace.specs.Meaning.{IsFullFor, IsWhole, copy_of, is_shared_in, meaning_in, meaning_weight, own_copy_in, table_weight, weight_in, with_meaning, with_value, without_name};
 ghost use Rattle.apl_workspace.specs.Sorted.{sorted};
 
 use crate::limits::WEIGHT_LIMIT;
@@ -33,6 +35,7 @@ impl Model for Table {
 
 impl Table {
     /// No names. No memory.
+    #[tactic(auto, using(crate::proofs::Tables::is_empty_table))]
     pub fn new(alloc: Global) -> Table
         ensures { result ≡ [] }
     {
@@ -43,8 +46,10 @@ impl Table {
     }
 
     /// What a name stands for, or `None` where the table does not have it. No memory.
+    #[tactic(auto, using(crate::proofs::InOrder::looked_up))]
     pub fn get(&self, name: &Name) -> Option<&Meaning>
-        ensures { option_copied result ≡ meaning_in self.now name.now }
+        ensures value { option_copied result ≡ meaning_in self.now name.now }
+        ensures whole { IfSome result (λ meaning. IsWhole name.now meaning.now) }
     {
         self.names.get(name)
     }
@@ -57,12 +62,19 @@ impl Table {
         self.weight
     }
 
-    /// The name stands for this, in place of what it stood for. `WsFull` where the table would weigh more than `most`;
-    /// it leaves the table as it was, and so does `WantOfMemory`. It takes memory for a name that is not there yet, and
-    /// for no other.
-    pub fn put(&mut self, name: Name, meaning: Meaning, most: usize) -> Result<(), Fail>
-        requires { most ≤ most_weight }
+    /// The name stands for this, and what it stood for is handed out. `WsFull` where the table would weigh more than
+    /// `most`; it leaves the table as it was, and so does `WantOfMemory`. It takes memory for a name that is not there
+    /// yet, and for no other.
+    fn exchange(
+        &mut self,
+        name: Name,
+        meaning: Meaning,
+        most: usize,
+    ) -> Result<Option<Meaning>, Fail>
+        requires limit { most ≤ most_weight }
+        requires whole { IsWhole name meaning }
         ensures ok { OnOk result (self.new ≡ with_meaning self.old name meaning) }
+        ensures before { IfOk result (λ before. before ≡ meaning_in self.old name) }
         ensures err { OnErr result (self.new ≡ self.old) }
         ensures fits { OnOk result (table_weight (with_meaning self.old name meaning) ≤ most) }
         ensures full { IfErr result (λ fail. IsFullFor most (with_meaning self.old name meaning) fail) }
@@ -74,15 +86,38 @@ impl Table {
             discard(meaning);
             return Err(Fail::Report(Report::WsFull));
         }
-        put_in(&mut self.names, name, meaning)?;
+        let before = put_in(&mut self.names, name, meaning)?;
         self.weight = weight;
-        Ok(())
+        Ok(before)
+    }
+
+    /// The name stands for this, in place of what it stood for. `WsFull` where the table would weigh more than `most`;
+    /// it leaves the table as it was, and so does `WantOfMemory`. It takes memory for a name that is not there yet, and
+    /// for no other.
+    pub fn put(&mut self, name: Name, meaning: Meaning, most: usize) -> Result<(), Fail>
+        requires limit { most ≤ most_weight }
+        requires whole { IsWhole name meaning }
+        ensures ok { OnOk result (self.new ≡ with_meaning self.old name meaning) }
+        ensures err { OnErr result (self.new ≡ self.old) }
+        ensures fits { OnOk result (table_weight (with_meaning self.old name meaning) ≤ most) }
+        ensures full { IfErr result (λ fail. IsFullFor most (with_meaning self.old name meaning) fail) }
+        ensures granted { IsSome (meaning_in self.old name) → table_weight (with_meaning self.old name meaning) ≤ most → IsOk result }
+    {
+        match self.exchange(name, meaning, most) {
+            Ok(before) => {
+                discard_old(before);
+                Ok(())
+            }
+            Err(fail) => Err(fail),
+        }
     }
 
     /// The name stands for this, where there is weight left for it. It takes memory for a name that is not there yet, and
     /// for no other; `WantOfMemory` leaves the table as it was.
+    #[tactic(auto, using(crate::proofs::Tables::at_most_heavier))]
     pub fn put_light(&mut self, name: Name, meaning: Meaning) -> Result<(), WantOfMemory>
-        requires { table_weight self.old + meaning_weight meaning ≤ most_weight }
+        requires fits { table_weight self.old + meaning_weight meaning ≤ most_weight }
+        requires whole { IsWhole name meaning }
         ensures ok { OnOk result (self.new ≡ with_meaning self.old name meaning) }
         ensures err { OnErr result (self.new ≡ self.old) }
         ensures weight { OnOk result (table_weight self.new ≤ table_weight self.old + meaning_weight meaning) }
@@ -95,6 +130,7 @@ impl Table {
     }
 
     /// Takes a name out, and hands out what it stood for. No memory.
+    #[tactic(auto, using(crate::proofs::InOrder::looked_up, crate::proofs::InOrder::taken_in_order))]
     pub fn remove(&mut self, name: &Name) -> Option<Meaning>
         ensures value { result ≡ meaning_in self.old name.now }
         ensures others { self.new ≡ without_name self.old name.now }
@@ -107,6 +143,7 @@ impl Table {
     /// A shared name is shared no more, and has the value handed in, or is not there where none is. Where the table
     /// would weigh more than `most` with that value, the name has its own copy, or is not there where it has none.
     /// No memory.
+    #[tactic(auto, using(crate::proofs::Tables::erasing_is_lighter))]
     pub fn unshare(&mut self, name: &Name, value: Option<Array>, most: usize)
         requires shared { is_shared_in self.old name.now ≡ true }
         requires limit { most ≤ most_weight }
@@ -130,49 +167,43 @@ impl Table {
         ensures value { self.new ≡ with_value self.old name.now (own_copy_in self.old name.now) }
         ensures weight { table_weight self.new ≤ table_weight self.old }
     {
-        match own_copy(self.exchange(name, Meaning::Nothing)) {
+        let _ = &self.names;
+        match own_copy(self.swap(name, Meaning::Nothing)) {
             None => discard_old(self.remove(name)),
-            Some(copy) => discard_old(self.exchange(name, Meaning::Value(copy))),
+            Some(copy) => discard_old(self.swap(name, Meaning::Value(copy))),
         }
     }
 
     /// A name that is there stands for this, and what it stood for is handed out. No memory.
-    fn exchange(&mut self, name: &Name, meaning: Meaning) -> Option<Meaning>
+    fn swap(&mut self, name: &Name, meaning: Meaning) -> Option<Meaning>
         requires there { IsSome (meaning_in self.old name.now) }
         requires fits { table_weight (with_meaning self.old name.now meaning) ≤ most_weight }
-        ensures value { result ≡ meaning_in self.old name.now }
-        ensures others { self.new ≡ with_meaning self.old name.now meaning }
+        requires whole { IsWhole name.now meaning }
+        ensures before { result ≡ meaning_in self.old name.now }
+        ensures value { self.new ≡ with_meaning self.old name.now meaning }
     {
-        let before = self.weight_at(name);
-        self.weight = self.weight - before + meaning.weight();
-        match self.names.insert(*name, meaning) {
-            Ok(old) => old,
+        match self.exchange(*name, meaning, WEIGHT_LIMIT) {
+            Ok(before) => before,
             Err(_) => unreachable!(),
         }
     }
 
     /// The names that stand for what is asked, ascending. It takes memory for them.
+    #[tactic(auto, using(crate::proofs::Listed::gathered))]
     pub fn names_among(&self, alloc: Global, what: What) -> Result<NameList, WantOfMemory>
         ensures { IfOk result (λ names. names.items ≡ names_among what self.now) }
     {
-        let mut names = Vec::new(alloc);
-        for (name, meaning) in &self.names {
-            if what.is_asked(meaning) {
-                names.push(*name)?;
-            }
-        }
+        let mut names = collected(alloc, &self.names, Some(what))?;
         names.sort()?;
         Ok(List::from(names))
     }
 
     /// All names, ascending. It takes memory for them.
+    #[tactic(auto, using(crate::proofs::Listed::all_gathered))]
     pub fn all_names(&self, alloc: Global) -> Result<NameList, WantOfMemory>
         ensures { IfOk result (λ names. names.items ≡ keys_of self.now) }
     {
-        let mut names = Vec::new(alloc);
-        for name in self.names.keys() {
-            names.push(*name)?;
-        }
+        let mut names = collected(alloc, &self.names, None)?;
         names.sort()?;
         Ok(List::from(names))
     }
@@ -187,6 +218,7 @@ impl Table {
         })
     }
 
+    #[tactic(auto, using(crate::proofs::InOrder::looked_up, crate::proofs::Tables::weight_without))]
     fn weight_at(&self, name: &Name) -> usize
         ensures value { result ≡ weight_in self.now name.now }
         ensures within { result ≤ table_weight self.now }
@@ -198,19 +230,20 @@ impl Table {
     }
 }
 
-/// The name stands for this. `WantOfMemory` leaves the names as they were, and comes only for a new one.
+/// The name stands for this, and what it stood for is handed out. `WantOfMemory` leaves the names as they were, and
+/// comes only for a new one.
+#[tactic(auto, using(crate::proofs::InOrder::put_in_order, crate::proofs::InOrder::there_by_glyphs, crate::proofs::InOrder::looked_up))]
 fn put_in(
     names: &mut IndexMap<Name, Meaning>,
     name: Name,
     meaning: Meaning,
-) -> Result<(), WantOfMemory>
+) -> Result<Option<Meaning>, WantOfMemory>
     ensures ok { OnOk result (sorted names.new.entries ≡ with_meaning (sorted names.old.entries) name meaning) }
+    ensures before { IfOk result (λ before. before ≡ meaning_in (sorted names.old.entries) name) }
     ensures err { OnErr result (names.new.entries ≡ names.old.entries) }
     ensures granted { IsSome (meaning_in (sorted names.old.entries) name) → IsOk result }
 {
-    let before = names.insert(name, meaning)?;
-    discard_old(before);
-    Ok(())
+    Ok(names.insert(name, meaning)?)
 }
 
 fn discard(_meaning: Meaning) {}
@@ -228,6 +261,7 @@ fn own_copy(meaning: Option<Meaning>) -> Option<Array>
 }
 
 /// Equal names, each with an equal meaning.
+#[tactic(auto, using(crate::proofs::Places::copied_on))]
 fn copy_of(
     alloc: Global,
     names: &IndexMap<Name, Meaning>,
@@ -255,6 +289,56 @@ fn copy_entry(
 {
     match names.get_index(at) {
         None => unreachable!(),
-        Some((name, meaning)) => put_in(copy, *name, meaning.copy(alloc)?),
+        Some((name, meaning)) => {
+            discard_old(put_in(copy, *name, meaning.copy(alloc)?)?);
+            Ok(())
+        }
+    }
+}
+
+/// The names that stand for what is asked, or all where nothing is, in no order.
+#[tactic(auto, using(crate::proofs::Places::collected_on))]
+fn collected(
+    alloc: Global,
+    names: &IndexMap<Name, Meaning>,
+    what: Option<What>,
+) -> Result<Vec<Name>, WantOfMemory>
+    ensures names { IfOk result (λ list. list.items ≡ keys_of (filter (λ entry. is_wanted what entry.1) names.now.entries)) }
+    ensures apart { IsDistinct (pointwise ◌==◌) (keys_of names.now.entries) }
+{
+    let mut list = Vec::new(alloc);
+    for at in 0..names.len() {
+        collect_name(names, at, what, &mut list)?;
+    }
+    Ok(list)
+}
+
+/// Adds the name at a place, where it stands for what is asked.
+fn collect_name(
+    names: &IndexMap<Name, Meaning>,
+    at: usize,
+    what: Option<What>,
+    list: &mut Vec<Name>,
+) -> Result<(), WantOfMemory>
+    requires { at < length names.now.entries }
+    ensures { OnOk result ((entry : ListOf ℕ × Meaning) → slice_get names.now.entries at ≡ Some entry → list.new.items ≡ (if is_wanted what entry.1 then list.old.items ++ entry.0 ∷ [] else list.old.items)) }
+{
+    match names.get_index(at) {
+        None => unreachable!(),
+        Some((name, meaning)) => {
+            if is_wanted(what, meaning) {
+                list.push(*name)?;
+            }
+            Ok(())
+        }
+    }
+}
+
+fn is_wanted(what: Option<What>, meaning: &Meaning) -> bool
+    ensures { result ≡ is_wanted what meaning.now }
+{
+    match what {
+        None => true,
+        Some(what) => what.is_asked(meaning),
     }
 }

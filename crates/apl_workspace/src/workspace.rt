@@ -1,8 +1,8 @@
-ghost use Rattle.std.specs.Prelude.{◌≡◌, ◌≤◌, ◌+◌, [], IfOk};
+ghost use Rattle.std.specs.Prelude.{◌≡◌, ◌≤◌, ◌+◌, [], IfOk, length};
 ghost use Rattle.apl_workspace.specs.Limits.{most_printed, most_weight};
 ghost use Rattle.apl_workspace.specs.Listing.{all_names, names_asked};
 ghost use Rattle.apl_workspace.specs.Seen.{plain_seen};
-ghost use Rattle.apl_workspace.specs.Meaning.{is_shared_meaning};
+ghost use Rattle.apl_workspace.specs.Meaning.{IsWhole, is_shared_meaning};
 ghost use Rattle.apl_workspace.specs.Workspace.{empty_workspace, global_in, is_local, is_shared, look, with_printed, workspace_weight};
 
 mod calls;
@@ -55,7 +55,8 @@ impl Workspace {
 
     /// What a name stands for: in the innermost frame that has it, else globally. No memory.
     pub fn look(&self, name: &Name) -> Seen<'_>
-        ensures { plain_seen result ≡ look self.now name.now }
+        ensures value { plain_seen result ≡ look self.now name.now }
+        ensures whole { IsWhole name.now (look self.now name.now) }
     {
         match innermost(&self.frames, name) {
             Some(local) => seen(local),
@@ -108,7 +109,8 @@ impl Workspace {
 
     /// What the global name stands for, whatever a frame has under it. No memory.
     pub fn global(&self, name: &Name) -> Seen<'_>
-        ensures { plain_seen result ≡ global_in self.now name.now }
+        ensures value { plain_seen result ≡ global_in self.now name.now }
+        ensures whole { IsWhole name.now (global_in self.now name.now) }
     {
         match self.globals.get(name) {
             Some(global) => seen(global),
@@ -136,6 +138,13 @@ impl Workspace {
         ensures within { result ≤ most_weight }
     {
         self.globals.weight() + self.frames_weight
+    }
+
+    /// How many functions are under way. No memory.
+    pub fn depth(&self) -> usize
+        ensures { result ≡ length self.now.frames }
+    {
+        self.frames.len()
     }
 
     /// An equal workspace. It takes memory for all that it holds.

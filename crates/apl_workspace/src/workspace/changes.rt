@@ -1,7 +1,7 @@
 ghost use Rattle.std.specs.Prelude.{◌≡◌, ◌≤◌, true, false, Some, IsOk, IsSome, OnOk, OnErr, IfErr, is_some};
 ghost use Rattle.apl_workspace.specs.Function.{IsFunction};
 ghost use Rattle.apl_workspace.specs.Limits.{most_weight};
-ghost use Rattle.apl_workspace.specs.Meaning.{is_shared_meaning, is_variable_meaning, meaning_in};
+ghost use Rattle.apl_workspace.specs.Meaning.{IsWhole, is_shared_meaning, is_variable_meaning, meaning_in};
 ghost use Rattle.apl_workspace.specs.Workspace.{IsFull, IsNotAssigned, assigned, given, global_in, is_assignable, is_shared, look, with_global, without_global, workspace_weight};
 
 use crate::frames::{innermost_place, put_innermost};
@@ -62,6 +62,7 @@ impl Workspace {
     /// The name stands for this: in the innermost frame that has it, else globally. `WsFull` where the workspace would
     /// weigh more than it may; it leaves the workspace as it was, and so does `WantOfMemory`.
     fn give(&mut self, name: &Name, meaning: Meaning) -> Result<(), Fail>
+        requires { IsWhole name.now meaning }
         ensures ok { OnOk result (self.new ≡ given self.old name.now meaning) }
         ensures fits { OnOk result (workspace_weight (given self.old name.now meaning) ≤ most_weight) }
         ensures err { OnErr result (self.new ≡ self.old) }
@@ -86,6 +87,7 @@ impl Workspace {
     /// The global name stands for this. `WsFull` where the workspace would weigh more than it may; it leaves the
     /// workspace as it was, and so does `WantOfMemory`.
     pub(super) fn put_global(&mut self, name: Name, meaning: Meaning) -> Result<(), Fail>
+        requires { IsWhole name meaning }
         ensures ok { OnOk result (self.new ≡ with_global self.old name meaning) }
         ensures fits { OnOk result (workspace_weight (with_global self.old name meaning) ≤ most_weight) }
         ensures err { OnErr result (self.new ≡ self.old) }

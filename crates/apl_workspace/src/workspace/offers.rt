@@ -1,7 +1,7 @@
-ghost use Rattle.std.specs.Prelude.{◌≡◌, ◌≤◌, true, false, Some, IsOk, OnOk, OnErr, IfErr};
+ghost use Rattle.std.specs.Prelude.{◌≡◌, ◌≤◌, true, false, Some, IsOk, OnOk, OnErr, IfErr, filter, vec_len};
 ghost use Rattle.apl_workspace.specs.Limits.{most_weight};
 ghost use Rattle.apl_workspace.specs.Meaning.{is_function_meaning};
-ghost use Rattle.apl_workspace.specs.Workspace.{IsFull, global_in, is_addressee, is_shared, marked, unmarked, with_global, workspace_weight};
+ghost use Rattle.apl_workspace.specs.Workspace.{IsFull, global_in, is_addressee, is_of_another, is_shared, marked, unmarked, with_global, workspace_weight};
 
 use crate::limits::{OFFER_LIMIT, WEIGHT_LIMIT};
 use crate::room::reserve_one;
@@ -51,7 +51,7 @@ impl Workspace {
     {
         let most = WEIGHT_LIMIT - self.frames_weight;
         self.globals.unshare(name, value, most);
-        self.offers.retain(|offer| offer.local != *name);
+        unlist(&mut self.offers, name);
     }
 
     /// The own copy of a shared variable is this value. `WsFull` where the workspace would weigh more than it may; it
@@ -66,4 +66,12 @@ impl Workspace {
     {
         self.put_global(*name, Meaning::Shared(Some(value)))
     }
+}
+
+/// Takes the offers of a name out of a list. No memory.
+fn unlist(offers: &mut Vec<Remake>, name: &Name)
+    ensures items { offers.new.items ≡ filter (is_of_another name.now) offers.old.items }
+    ensures len { vec_len offers.new ≤ vec_len offers.old }
+{
+    offers.retain(|offer| offer.local != *name);
 }

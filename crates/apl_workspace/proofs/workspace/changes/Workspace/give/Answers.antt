@@ -2,7 +2,7 @@ use Rattle.std.proofs.Common.{List, sym, subst, ◌∙◌}
 use Rattle.apl_workspace.specs.Meaning.{Names}
 use Rattle.apl_workspace.specs.Workspace.{IsInnermostAt}
 use Rattle.apl_workspace.proofs.Giving.{frames_counted, given_local, given_fits, given_full}
-use Rattle.apl_workspace.proofs.workspace.Workspace.give.Goals as goal
+use Rattle.apl_workspace.proofs.workspace.changes.Workspace.give.Goals as goal
 
 pub put_innermost-requires-clause-weight : goal.put_innermost-requires-clause-weight
 put_innermost-requires-clause-weight c = frames_counted _ _ _ c.self.invariant.counted c.deref_mut.ensures.value
