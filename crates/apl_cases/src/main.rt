@@ -74,7 +74,7 @@ fn texts(rt: &HostRuntime) -> Result<Tally> {
     Ok(tally)
 }
 
-fn workspaces(rt: &HostRuntime) -> Result<Tally> {
+fn scripts(rt: &HostRuntime) -> Result<Tally> {
     let mut tally = run_table(rt, "headers.txt", &Headers)?;
     tally.add(run_table(rt, "workspaces.txt", &Workspaces)?);
     Ok(tally)
@@ -85,7 +85,7 @@ fn all_tables(rt: &HostRuntime) -> Result<Tally> {
     tally.add(functions(rt)?);
     tally.add(structures(rt)?);
     tally.add(texts(rt)?);
-    tally.add(workspaces(rt)?);
+    tally.add(scripts(rt)?);
     Ok(tally)
 }
 

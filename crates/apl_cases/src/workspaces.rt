@@ -41,12 +41,7 @@ fn push_names(alloc: Global, text: &mut String, names: &[Name]) -> Result<()> {
 
 fn header_text(alloc: Global, header: &Header) -> Result<String> {
     let mut text = String::new(alloc);
-    for name in [
-        header.result,
-        header.left,
-        Some(header.name),
-        header.right,
-    ] {
+    for name in [header.result, header.left, Some(header.name), header.right] {
         push_name(alloc, &mut text, name)?;
         text.push(' ')?;
     }
@@ -212,22 +207,24 @@ fn zeros(alloc: Global, count: usize) -> Result<Array> {
     for _ in 0..count {
         items.push(0)?;
     }
-    Ok(Array::try_new(
-        &[u32::try_from(count)?],
-        Items::Numbers(items),
-    )?)
+    Ok(Array::try_new(&[u32::try_from(count)?], Items::Numbers(items))?)
 }
 
 // Assigns zeros to names W0, W1 and so on until the workspace weighs so much.
 fn fill(alloc: Global, ws: &mut Workspace, text: &str) -> Result<Result<(), Fail>> {
     let wanted: usize = text.parse().context("no weight")?;
+    let full = zeros(alloc, 16_384)?;
     for number in 0..300_u32 {
         let left = wanted.saturating_sub(ws.weight());
         if left == 0 {
             return Ok(Ok(()));
         }
         let name = name_of(alloc, format!(in alloc; "W{number}")?.as_str())?;
-        let value = zeros(alloc, left.min(16_385) - 1)?;
+        let value = if left > 16_384 {
+            full.copy(alloc)?
+        } else {
+            zeros(alloc, left - 1)?
+        };
         if matches!(ws.look(&name), Seen::Shared(_)) {
             bail!("a shared name is not assigned");
         }

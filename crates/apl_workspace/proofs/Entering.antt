@@ -1,7 +1,6 @@
 -- Functions that are entered and left.
-use Rattle.std.proofs.Common.{◌≡◌, ℕ, suc, ◌+◌, ◌-◌, ◌<◌, ◌≤◌, List, [], ◌∷◌, ◌++◌, Option, Some, None, length, take, drop, get_or, map, fold, reverse, sum_by, refl, sym, ap, ◌∙◌, subst, drop-cons, arith}
+use Rattle.std.proofs.Common.{◌≡◌, ℕ, suc, ◌+◌, ◌≤◌, List, [], ◌∷◌, ◌++◌, Option, Some, None, length, take, drop, get_or, map, fold, reverse, sum_by, refl, sym, ap, ◌∙◌, subst, drop-cons, arith}
 use Rattle.std.specs.Option.{option_to_list}
-use Rattle.std.proofs.lemmas.List.{length-reverse, reverse-append}
 use Rattle.std.proofs.lemmas.List.Sums.{fold-append, fold_more, sum_by-cons}
 use Rattle.apl_arrays.specs.List.{Listed, glyphs_in}
 use Rattle.apl_workspace.specs.declared.args.Args.{Args}
@@ -10,11 +9,9 @@ use Rattle.apl_workspace.specs.declared.meaning.Meaning.TheVariants.{Nothing, Va
 use Rattle.apl_workspace.specs.declared.remake.Remake.{Remake}
 use Rattle.apl_workspace.specs.Frame.{frame_of, with_label, with_labels, with_local_name}
 use Rattle.apl_workspace.specs.Label.{label_of}
-use Rattle.apl_workspace.specs.Limits.{most_depth, most_weight}
 use Rattle.apl_workspace.specs.Meaning.{Names, table_weight}
-use Rattle.apl_workspace.specs.Workspace.{IsFrameFor, IsWorkspace, PlainWorkspace, entered_by, left, workspace_weight}
+use Rattle.apl_workspace.specs.Workspace.{IsFrameFor, PlainWorkspace, entered_by, workspace_weight}
 use Rattle.apl_workspace.proofs.Giving.{with_frames}
-use Rattle.apl_workspace.proofs.Innermost.{weight_reversed}
 
 -- ---- the frame of a function
 
@@ -24,7 +21,7 @@ pub labels_on : (lines : List (Listed ℕ)) (number at : ℕ) (line : Listed ℕ
 labels_on lines number at line names before after more lt is put so =
     let next : suc at ≡ number = omega (arith, more) in
     let behind : drop at lines ≡ line ∷ drop number lines =
-        drop-cons lines at line (omega (arith, more, lt)) ∙ ap (λ (first : Listed ℕ). first ∷ drop (suc at) lines) (sym is) ∙ ap (λ (k : ℕ). line ∷ drop k lines) next in
+    drop-cons lines at line (omega (arith, more, lt)) ∙ ap (λ (first : Listed ℕ). first ∷ drop (suc at) lines) (sym is) ∙ ap (λ (k : ℕ). line ∷ drop k lines) next in
     put ∙ ap (with_label (label_of (glyphs_in line)) number) so ∙ ap (λ (k : ℕ). with_label (label_of (glyphs_in line)) k (with_labels (k + 1) (map glyphs_in (drop number lines)) names)) (sym more)
     ∙ sym (ap (λ rest. with_labels (at + 1) (map glyphs_in rest) names) behind)
 
@@ -48,9 +45,6 @@ result_and_locals names outcome locals = sym (fold-append with_local_name names 
 
 -- ---- a frame more, and one less
 
-last_first : (items : List Names) (frame : Names) → reverse (items ++ frame ∷ []) ≡ frame ∷ reverse items
-last_first items frame = reverse-append items (frame ∷ [])
-
 -- what stands before the others
 framed : (globals : Names) (offers : List Remake) (printed : ℕ) (frames : List Names) (frame : Names) (meaning : Meaning) (args : Args) → IsFrameFor meaning args frame
     → with_frames globals offers printed (frame ∷ frames) ≡ entered_by meaning (with_frames globals offers printed frames) args
@@ -60,48 +54,9 @@ framed globals offers printed frames frame (Function function) args h = ap (λ (
 framed globals offers printed frames frame (Label line) args h = absurd h
 framed globals offers printed frames frame (Shared copy) args h = absurd h
 
--- a workspace with a frame more
-pub record Enters (globals : Names) (offers : List Remake) (printed weight : ℕ) (items : List Names) (frame : Names) (w after : PlainWorkspace) : Type 0 where
-  pub view : with_frames globals offers printed (reverse (items ++ frame ∷ [])) ≡ after
-  pub weighs : workspace_weight after ≡ table_weight globals + (weight + table_weight frame)
-  pub counted : weight + table_weight frame ≡ sum_by table_weight (reverse (items ++ frame ∷ []))
-  pub depth : length (reverse (items ++ frame ∷ [])) ≡ length w.frames + 1
-
-pub enters : (globals : Names) (offers : List Remake) (printed weight : ℕ) (items : List Names) (frame : Names) (w : PlainWorkspace) (meaning : Meaning) (args : Args) → with_frames globals offers printed (reverse items) ≡ w
-    → weight ≡ sum_by table_weight (reverse items) → IsFrameFor meaning args frame → Enters globals offers printed weight items frame w (entered_by meaning w args)
-enters globals offers printed weight items frame w meaning args view counted h =
-    let whole = ap (with_frames globals offers printed) (last_first items frame) ∙ framed globals offers printed (reverse items) frame meaning args h ∙ ap (λ (x : PlainWorkspace). entered_by meaning x args) view in
-    let sum : sum_by table_weight (reverse (items ++ frame ∷ [])) ≡ table_weight frame + sum_by table_weight (reverse items) = ap (sum_by table_weight) (last_first items frame) ∙ sum_by-cons table_weight frame (reverse items) in
-    let deep : length (reverse items) ≡ length w.frames = ap (λ (x : PlainWorkspace). length x.frames) view in
-    record {
-      view = whole;
-      weighs = sym (ap workspace_weight whole) ∙ omega (arith, sum, counted);
-      counted = omega (arith, sum, counted);
-      depth = ap length (last_first items frame) ∙ omega (arith, deep);
-    }
-
--- a workspace with a frame less
-pub record Leaves (globals : Names) (offers : List Remake) (printed weight : ℕ) (rest : List Names) (frame : Names) (w : PlainWorkspace) : Type 0 where
-  pub view : with_frames globals offers printed (reverse rest) ≡ left w
-  pub lighter : table_weight frame ≤ weight
-  pub counted : weight - table_weight frame ≡ sum_by table_weight (reverse rest)
-  pub is : IsWorkspace (weight - table_weight frame) (with_frames globals offers printed (reverse rest))
-
-pub leaves : (globals : Names) (offers : List Remake) (printed weight : ℕ) (items rest : List Names) (frame : Names) (w : PlainWorkspace) → with_frames globals offers printed (reverse items) ≡ w → IsWorkspace weight (with_frames globals offers printed (reverse items))
-    → items ≡ rest ++ frame ∷ [] → Leaves globals offers printed weight rest frame w
-leaves globals offers printed weight items rest frame w view is more =
-    let frames : reverse items ≡ frame ∷ reverse rest = ap reverse more ∙ last_first rest frame in
-    let sum : sum_by table_weight (reverse items) ≡ table_weight frame + sum_by table_weight (reverse rest) = ap (sum_by table_weight) frames ∙ sum_by-cons table_weight frame (reverse rest) in
-    let deep : length (reverse items) ≡ length (reverse rest) + 1 = ap length frames ∙ omega arith in
-    record {
-      view = ap (λ (all : List Names). with_frames globals offers printed (drop 1 all)) (sym frames) ∙ ap left view;
-      lighter = omega (arith, sum, is.counted);
-      counted = omega (arith, sum, is.counted);
-      is = record {
-        counted = omega (arith, sum, is.counted);
-        weight = omega (arith, sum, is.weight);
-        depth = omega (arith, deep, is.depth);
-        offers = is.offers;
-        printed = is.printed;
-      };
-    }
+-- what a workspace with a frame more weighs
+pub entered_weight : (globals : Names) (offers : List Remake) (printed weight : ℕ) (items : List Names) (frame : Names) (w : PlainWorkspace) (meaning : Meaning) (args : Args) → with_frames globals offers printed (reverse items) ≡ w → weight ≡ sum_by table_weight (reverse items)
+    → IsFrameFor meaning args frame → workspace_weight (entered_by meaning w args) ≡ table_weight globals + (weight + table_weight frame)
+entered_weight globals offers printed weight items frame w meaning args view counted h =
+    let whole = framed globals offers printed (reverse items) frame meaning args h ∙ ap (λ (x : PlainWorkspace). entered_by meaning x args) view in
+    sym (ap workspace_weight whole) ∙ omega (arith, sum_by-cons table_weight frame (reverse items), counted)

@@ -74,7 +74,7 @@ label_found line label h =
     let tail = h.after ++ colon ∷ h.rest in
     let glyphs : behind_blanks line ≡ label ++ tail = ap behind_blanks h.whole ∙ drop_run is_blank h.before (label ++ tail) h.blank_before (name_is_no_blank label tail h.is_name) in
     let longest : longest_name (label ++ tail) ≡ Some (label, length label) =
-        longest_is_found (label ++ tail) label tail (record { whole = refl; is_name = h.is_name; ends = stops_name h.after h.rest h.blank_after }) in
+    longest_is_found (label ++ tail) label tail (record { whole = refl; is_name = h.is_name; ends = stops_name h.after h.rest h.blank_after }) in
     let behind : begins is_colon (behind_blanks (drop (length label) (label ++ tail))) ≡ true =
-        ap (λ (g : List ℕ). begins is_colon (behind_blanks g)) (drop-append_seam label tail) ∙ ap (begins is_colon) (drop_run is_blank h.after (colon ∷ h.rest) h.blank_after refl) in
+    ap (λ (g : List ℕ). begins is_colon (behind_blanks g)) (drop-append_seam label tail) ∙ ap (begins is_colon) (drop_run is_blank h.after (colon ∷ h.rest) h.blank_after refl) in
     ap (λ (g : List ℕ). label_in (longest_name g) g) glyphs ∙ ap (λ (o : Option (List ℕ × ℕ)). label_in o (label ++ tail)) longest ∙ ap (λ b. cond b (Some label) None) behind

@@ -16,7 +16,7 @@ use Rattle.apl_workspace.specs.declared.meaning.Meaning.TheVariants.{Nothing, Va
 use Rattle.apl_workspace.specs.Sorted.{sorted}
 use Rattle.apl_workspace.specs.Names.{name_order, is_name_of}
 use Rattle.apl_workspace.specs.Limits.{most_weight}
-use Rattle.apl_workspace.specs.Meaning.{Names, IsTable, IsWhole, copy_of, is_shared_in, is_shared_meaning, meaning_in, meaning_weight, own_copy_in, table_weight, value_weight, weight_in, with_meaning, without_name}
+use Rattle.apl_workspace.specs.Meaning.{Names, IsTable, IsWhole, copy_of, meaning_in, meaning_weight, own_copy_in, table_weight, value_weight, weight_in, with_meaning, without_name}
 use Rattle.apl_workspace.proofs.Ascending.{found_with, found_without, none_ascend, told_by_look_ups, with_ascends, without_ascends}
 use Rattle.apl_workspace.proofs.InOrder.{Entries, by_glyphs, looked_up}
 use Rattle.apl_workspace.proofs.NameLaw.{own_name, same_name}
@@ -153,17 +153,13 @@ put_and_taken names name first s =
 
 -- what is left of a shared name that keeps its own copy
 pub record KeepsCopy (names : Names) (name : List ℕ) : Type 0 where
-  pub there : IsSome (meaning_in names name)
+  pub bounded : table_weight names ≤ most_weight
   pub emptied : table_weight (with_meaning names name Nothing) ≤ table_weight names
   pub still_there : IsSome (meaning_in (with_meaning names name Nothing) name)
   pub taken : without_name (with_meaning names name Nothing) name ≡ without_name names name
   pub lighter : table_weight (without_name names name) ≤ table_weight names
   pub put : (copy : PlainArray) → with_meaning (with_meaning names name Nothing) name (Value copy) ≡ with_meaning names name (Value copy)
   pub as_heavy : (copy : PlainArray) → own_copy_in names name ≡ Some copy → table_weight (with_meaning names name (Value copy)) ≤ table_weight names
-
-shared_is_there : (o : Option Meaning) → is_shared_meaning (unwrap_or o Nothing) ≡ true → IsSome o
-shared_is_there None e = absurd (false≢true e)
-shared_is_there (Some meaning) e = refl
 
 copy_weighs : (o : Option Meaning) (copy : PlainArray) → copy_of (unwrap_or o Nothing) ≡ Some copy → unwrap_or (option_map meaning_weight o) 0 ≡ value_weight copy
 copy_weighs None copy e = absurd cc
@@ -174,13 +170,16 @@ copy_weighs (Some (Label line)) copy e = absurd cc
 copy_weighs (Some (Shared None)) copy e = absurd cc
 copy_weighs (Some (Shared (Some value))) copy e = ap (λ (o : Option PlainArray). unwrap_or (option_map value_weight o) 0) e
 
-pub keeps_copy : (names : Names) (name : List ℕ) → IsStrictlySortedBy name_order (keys_of names) → is_shared_in names name ≡ true → KeepsCopy names name
-keeps_copy names name s shared = record {
-  there = shared_is_there (meaning_in names name) shared;
-  emptied = at_most_heavier names name Nothing;
-  still_there = ap is_some (found_with names name Nothing name ∙ ap (λ b. cond b (Some Nothing) (meaning_in names name)) (own_name name));
-  taken = put_and_taken names name Nothing s;
-  lighter = erasing_is_lighter names name;
-  put = λ copy. put_twice names name Nothing (Value copy) s;
-  as_heavy = λ copy e. omega (arith, weight_with names name (Value copy) s, copy_weighs (meaning_in names name) copy e);
-}
+pub keeps_copy : (entries names : Names) (name : List ℕ) (weight : ℕ) → entries ≡ names → IsTable weight entries → KeepsCopy names name
+keeps_copy entries names name weight e table =
+    let s = subst (λ (n : Names). IsStrictlySortedBy name_order (keys_of n)) e table.ascending in
+    let same : weight ≡ table_weight names = table.counted ∙ ap table_weight e in
+    record {
+      bounded = omega (arith, same, table.within);
+      emptied = omega (arith, at_most_heavier names name Nothing);
+      still_there = ap is_some (found_with names name Nothing name ∙ ap (λ b. cond b (Some Nothing) (meaning_in names name)) (own_name name));
+      taken = put_and_taken names name Nothing s;
+      lighter = erasing_is_lighter names name;
+      put = λ copy. put_twice names name Nothing (Value copy) s;
+      as_heavy = λ copy own. omega (arith, weight_with names name (Value copy) s, copy_weighs (meaning_in names name) copy own);
+    }

@@ -1,10 +1,11 @@
 -- Functions that keep their limits.
-use Rattle.std.proofs.Common.{◌≡◌, ◌≤◌, ℕ, Bool, true, false, ◌&&◌, List, [], ◌∷◌, Some, All, length, refl, arith}
+use Rattle.std.proofs.Common.{◌≡◌, ◌≤◌, ℕ, Bool, true, false, ◌&&◌, List, [], ◌∷◌, Some, All, length, map, ap, refl, arith}
 use Rattle.std.specs.Prelude.{nat_le}
 use Rattle.std.specs.List.{AllByRecursion, list_all}
 use Rattle.std.proofs.lemmas.Bool.{and_parts}
 use Rattle.std.proofs.lemmas.Bool.Decides.{nat_tests}
 use Rattle.std.proofs.lemmas.List.Elements.{All-from_recursion}
+use Rattle.apl_arrays.specs.List.{Listed, glyphs_in}
 use Rattle.apl_arrays.specs.Limits.{most_line_glyphs}
 use Rattle.apl_workspace.specs.Function.{IsFunction, PlainFunction, function_with, is_short, keeps_limits}
 use Rattle.apl_workspace.specs.Header.{PlainHeader, header_of}
@@ -30,3 +31,8 @@ is_function text lines header keeps is =
       count = le_from (length lines) most_function_lines front.1;
       lines = All-from_recursion _ lines (each_short lines parts.1);
     }
+
+-- lines as they are kept, and as they are seen
+pub all_mapped : (lines : List (Listed ℕ)) → list_all (λ line. is_short (glyphs_in line)) lines ≡ list_all is_short (map glyphs_in lines)
+all_mapped [] = refl
+all_mapped (line ∷ lines) = ap (λ b. is_short (glyphs_in line) && b) (all_mapped lines)

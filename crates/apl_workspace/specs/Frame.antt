@@ -1,11 +1,12 @@
 -- Frames of functions under way.
-use Rattle.std.specs.Prelude.{◌≡◌, ◌+◌, ◌++◌, ℕ, List, [], ◌∷◌, Option, Some, None, fold, is_some}
+use Rattle.std.specs.Prelude.{◌≡◌, ◌+◌, ◌++◌, ℕ, List, [], ◌∷◌, Option, Some, None, fold, is_some, if◌then◌else◌}
 use Rattle.std.specs.Option.{option_or, option_to_list}
 use Rattle.apl_arrays.specs.Array.{PlainArray}
 use Rattle.apl_workspace.specs.Function.{PlainFunction}
 use Rattle.apl_workspace.specs.Header.{PlainHeader}
 use Rattle.apl_workspace.specs.Label.{label_of}
 use Rattle.apl_workspace.specs.Meaning.{Names, with_meaning}
+use Rattle.apl_workspace.specs.Names.{is_name_of}
 use Rattle.apl_workspace.specs.declared.args.Args.{Args}
 use Rattle.apl_workspace.specs.declared.meaning.Meaning.{Meaning}
 use Rattle.apl_workspace.specs.declared.meaning.Meaning.TheVariants.{Nothing, Value, Label}
@@ -46,3 +47,13 @@ frame_of function args = with_labels 1 function.lines (header_names function.hea
 pub record AreArgumentsOf (header : PlainHeader) (args : Args) : Type 0 where
   pub left : is_some args.left ≡ is_some header.left
   pub right : is_some args.right ≡ is_some header.right
+
+-- the number of a line where it has this label, else that of a later one
+abbrev pub this_or_later : Option (List ℕ) → List ℕ → ℕ → Option ℕ → Option ℕ
+this_or_later None name number later = later
+this_or_later (Some label) name number later = if is_name_of label name then Some number else later
+
+-- the number of the first of these lines that has this label, where one has it; the first line has this number
+abbrev pub labelled_line : ℕ → List (List ℕ) → List ℕ → Option ℕ
+labelled_line number [] name = None
+labelled_line number (line ∷ lines) name = this_or_later (label_of line) name number (labelled_line (number + 1) lines name)

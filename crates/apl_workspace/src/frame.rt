@@ -1,9 +1,11 @@
-ghost use Rattle.std.specs.Prelude.{◌≡◌, ◌+◌, ◌++◌, ◌≤◌, OnOk, IfOk, fold, length, map};
-ghost use Rattle.std.specs.Option.{option_to_list};
+ghost use Rattle.std.specs.Prelude.{◌≡◌, ◌+◌, ◌++◌, ◌≤◌, ℕ, List as ListOf, OnOk, IfOk, fold, length, map};
+ghost use Rattle.std.specs.Option.{option_map, option_or, option_to_list};
 ghost use Rattle.apl_arrays.specs.List.{glyphs_in};
-ghost use Rattle.apl_workspace.specs.Frame.{frame_of, header_names, with_argument, with_label, with_labels, with_local_name};
+ghost use Rattle.apl_workspace.specs.Frame.{frame_of, header_names, labelled_line, with_argument, with_label, with_labels, with_local_name};
+ghost use Rattle.apl_workspace.specs.Function.{PlainFunction};
+ghost use Rattle.apl_workspace.specs.Label.{label_of};
 ghost use Rattle.apl_workspace.specs.Limits.{most_function_lines};
-ghost use Rattle.apl_workspace.specs.Meaning.{table_weight};
+ghost use Rattle.apl_workspace.specs.Meaning.{meaning_in, table_weight};
 
 use crate::label::label_of;
 use crate::{Args, Function, Header, Meaning, Table};
@@ -48,7 +50,7 @@ fn put_argument(
         return Ok(());
     };
     match value {
-        None => names.put_light(name, Meaning::Nothing),
+        None => names.put_weightless(name, Meaning::Nothing),
         Some(value) => {
             let _ = value.items();
             names.put_light(name, Meaning::Value(value))
@@ -62,7 +64,7 @@ fn put_result(names: &mut Table, name: Option<Name>) -> Result<(), WantOfMemory>
 {
     match name {
         None => Ok(()),
-        Some(name) => names.put_light(name, Meaning::Nothing),
+        Some(name) => names.put_weightless(name, Meaning::Nothing),
     }
 }
 
@@ -72,7 +74,7 @@ fn put_locals(names: &mut Table, locals: &[Name]) -> Result<(), WantOfMemory>
     ensures { OnOk result (names.new ≡ fold with_local_name names.old locals.now) }
 {
     for name in locals {
-        names.put_light(*name, Meaning::Nothing)?;
+        names.put_weightless(*name, Meaning::Nothing)?;
     }
     Ok(())
 }
@@ -97,6 +99,13 @@ fn put_label(names: &mut Table, line: &Line, number: u32) -> Result<(), WantOfMe
 {
     match label_of(line.as_slice()) {
         None => Ok(()),
-        Some(label) => names.put_light(label, Meaning::Label(number)),
+        Some(label) => names.put_weightless(label, Meaning::Label(number)),
     }
 }
+
+/// A name of a frame stands for the first line that has it as its label; where none has, for what the header makes of it.
+/// The call does nothing. No memory.
+pub fn labels_hide_names()
+    ensures { (function : PlainFunction) (args : Args) (name : ListOf ℕ) → meaning_in (frame_of function args) name
+        ≡ option_or (option_map Meaning.Label (labelled_line 1 function.lines name)) (meaning_in (header_names function.header args) name) }
+{}

@@ -129,6 +129,19 @@ impl Table {
         }
     }
 
+    /// The name stands for this, which weighs nothing. It takes memory for a name that is not there yet, and for no other;
+    /// `WantOfMemory` leaves the table as it was.
+    pub fn put_weightless(&mut self, name: Name, meaning: Meaning) -> Result<(), WantOfMemory>
+        requires weightless { meaning_weight meaning ≡ 0 }
+        requires whole { IsWhole name meaning }
+        ensures ok { OnOk result (self.new ≡ with_meaning self.old name meaning) }
+        ensures err { OnErr result (self.new ≡ self.old) }
+        ensures weight { OnOk result (table_weight self.new ≤ table_weight self.old) }
+    {
+        let _ = &self.names;
+        self.put_light(name, meaning)
+    }
+
     /// Takes a name out, and hands out what it stood for. No memory.
     #[tactic(auto, using(crate::proofs::InOrder::looked_up, crate::proofs::InOrder::taken_in_order))]
     pub fn remove(&mut self, name: &Name) -> Option<Meaning>

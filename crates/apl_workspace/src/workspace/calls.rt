@@ -1,4 +1,4 @@
-ghost use Rattle.std.specs.Prelude.{◌≡◌, ◌≢◌, ◌<◌, ◌≤◌, [], OnOk, OnErr, IfErr, length};
+ghost use Rattle.std.specs.Prelude.{◌≡◌, ◌≢◌, ◌<◌, ◌≤◌, [], OnOk, OnErr, IfErr, IfOk, length};
 ghost use Rattle.apl_workspace.specs.Limits.{most_depth, most_weight};
 ghost use Rattle.apl_workspace.specs.Workspace.{AreArgumentsFor, IsFrameFor, IsNotEntered, entered, left, look, workspace_weight};
 
