@@ -1,5 +1,5 @@
 -- Functions that are entered and left.
-use Rattle.std.proofs.Common.{◌≡◌, ℕ, suc, ◌+◌, ◌≤◌, List, [], ◌∷◌, ◌++◌, Option, Some, None, length, take, drop, get_or, map, fold, reverse, sum_by, refl, sym, ap, ◌∙◌, subst, drop-cons, arith}
+use Rattle.std.proofs.Common.{◌≡◌, ℕ, suc, ◌+◌, ◌<◌, ◌≤◌, List, [], ◌∷◌, ◌++◌, Option, Some, None, length, take, drop, get_or, map, fold, reverse, sum_by, refl, sym, ap, ◌∙◌, subst, drop-cons, arith}
 use Rattle.std.specs.Option.{option_to_list}
 use Rattle.std.proofs.lemmas.List.Sums.{fold-append, fold_more, sum_by-cons}
 use Rattle.apl_arrays.specs.List.{Listed, glyphs_in}

@@ -1,6 +1,8 @@
 ghost use Rattle.std.specs.Prelude.{◌≡◌, ◌==◌, ◌+◌, ◌<◌, ◌≤◌, ◌++◌, ◌∷◌, ℕ, List as ListOf, [], Some, filter, if◌then◌else◌, true, length, slice_get, unwrap_or, IsOk, IsSome, OnOk, OnErr, IfErr, IfOk, IfSome};
 ghost use Rattle.std.specs.Cmp.Lexicographic.{pointwise};
 ghost use Rattle.std.specs.List.{IsDistinct};
+ghost use Rattle.std.specs.List.Sorted.{IsStrictlySortedBy};
+ghost use Rattle.apl_workspace.specs.Names.{name_order};
 ghost use Rattle.std.specs.Map.{keys_of};
 ghost use Rattle.std.specs.Option.{option_copied};
 ghost use Rattle.apl_workspace.specs.Limits.{most_weight};
@@ -58,6 +60,7 @@ impl Table {
     pub fn weight(&self) -> usize
         ensures value { result ≡ table_weight self.now }
         ensures within { result ≤ most_weight }
+        ensures ascending { IsStrictlySortedBy name_order (keys_of self.now) }
     {
         self.weight
     }

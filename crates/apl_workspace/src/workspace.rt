@@ -1,6 +1,8 @@
 ghost use Rattle.std.specs.Prelude.{◌≡◌, ◌≤◌, ◌+◌, [], IfOk, length};
+ghost use Rattle.std.specs.List.Sorted.{IsStrictlySortedBy};
 ghost use Rattle.apl_workspace.specs.Limits.{most_printed, most_weight};
 ghost use Rattle.apl_workspace.specs.Listing.{all_names, names_asked};
+ghost use Rattle.apl_workspace.specs.Names.{name_order};
 ghost use Rattle.apl_workspace.specs.Seen.{plain_seen};
 ghost use Rattle.apl_workspace.specs.Meaning.{IsWhole, is_shared_meaning};
 ghost use Rattle.apl_workspace.specs.Workspace.{empty_workspace, global_in, is_local, is_shared, look, with_printed, workspace_weight};
@@ -132,10 +134,11 @@ impl Workspace {
         self.globals.all_names(self.alloc)
     }
 
-    /// What it weighs: the global names and all frames. No memory.
+    /// What it weighs: the global names and all frames. The global names ascend, each once. No memory.
     pub fn weight(&self) -> usize
         ensures value { result ≡ workspace_weight self.now }
         ensures within { result ≤ most_weight }
+        ensures ascending { IsStrictlySortedBy name_order (all_names self.now) }
     {
         self.globals.weight() + self.frames_weight
     }
