@@ -5,6 +5,8 @@
 mod arrays;
 mod characters;
 mod display;
+mod editor;
+mod execute;
 mod fields;
 mod items;
 mod names;
@@ -21,6 +23,8 @@ use anyhow::Result;
 use case_tables::{Tally, run_table};
 use characters::{BadGlyphs, Glyphs};
 use display::{Formats, Lines};
+use editor::Definitions;
+use execute::{Merges, Texts};
 use items::{PlacedItems, Scalars};
 use names::{FileNameOrder, FileNames, NameOrder, Names, Words};
 use reports::{Refusals, Reports};
@@ -77,6 +81,9 @@ fn texts(rt: &HostRuntime) -> Result<Tally> {
 fn scripts(rt: &HostRuntime) -> Result<Tally> {
     let mut tally = run_table(rt, "headers.txt", &Headers)?;
     tally.add(run_table(rt, "workspaces.txt", &Workspaces)?);
+    tally.add(run_table(rt, "editor.txt", &Definitions)?);
+    tally.add(run_table(rt, "texts.txt", &Texts)?);
+    tally.add(run_table(rt, "merges.txt", &Merges)?);
     Ok(tally)
 }
 

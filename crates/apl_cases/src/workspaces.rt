@@ -15,8 +15,8 @@ pub struct Headers;
 #[derive(Clone, Copy, Debug)]
 pub struct Workspaces;
 
-// Between steps, and between answers.
-const STEP_END: &str = " · ";
+/// Between steps, and between answers.
+pub const STEP_END: &str = " · ";
 
 // Between the header of a function and its lines, and between these.
 const LINE_END: &str = "⋄";
@@ -272,8 +272,8 @@ fn step(alloc: Global, ws: &mut Workspace, text: &str) -> Result<Result<(), Fail
     }
 }
 
-// What the last refusal of the steps was, and at which step, from 1.
-fn run(alloc: Global, ws: &mut Workspace, steps: &str) -> Result<String> {
+/// What the last refusal of the steps was, and at which step, from 1.
+pub fn run(alloc: Global, ws: &mut Workspace, steps: &str) -> Result<String> {
     let mut refused = String::from_str(alloc, "-")?;
     for (at, text) in steps.split(STEP_END).enumerate() {
         match step(alloc, ws, text)? {
@@ -357,8 +357,8 @@ fn answer(alloc: Global, ws: &Workspace, question: &str) -> Result<String> {
     }
 }
 
-// The answers to the questions that are asked, each behind its question.
-fn answers(alloc: Global, ws: &Workspace, refused: &str, asked: &str) -> Result<String> {
+/// The answers to the questions that are asked, each behind its question.
+pub fn answers(alloc: Global, ws: &Workspace, refused: &str, asked: &str) -> Result<String> {
     let mut text = String::new(alloc);
     for (at, line) in asked.split(STEP_END).enumerate() {
         if at > 0 {
