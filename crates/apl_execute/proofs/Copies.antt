@@ -44,14 +44,14 @@ still_ascend globals [] s = s
 still_ascend globals (name ∷ names) s = still_ascend (without_name globals name) names (without_ascends globals name s)
 
 unshared_by : (globals : Names) (name other : List ℕ) (b : Bool) → is_name_of name other ≡ b → IsStrictlySortedBy name_order (keys_of globals) → is_shared_in globals other ≡ false → is_shared_in (without_name globals name) other ≡ false
-unshared_by globals name other true e s no =
+unshared_by globals name other true e s free =
     ap (λ (found : Option Meaning). is_shared_meaning (unwrap_or found Nothing)) (found_without globals name other s ∙ ap (λ (b : Bool). cond b None (meaning_in globals other)) e)
-unshared_by globals name other false e s no =
-    ap (λ (found : Option Meaning). is_shared_meaning (unwrap_or found Nothing)) (found_without globals name other s ∙ ap (λ (b : Bool). cond b None (meaning_in globals other)) e) ∙ no
+unshared_by globals name other false e s free =
+    ap (λ (found : Option Meaning). is_shared_meaning (unwrap_or found Nothing)) (found_without globals name other s ∙ ap (λ (b : Bool). cond b None (meaning_in globals other)) e) ∙ free
 
 pub unshared_on : (globals : Names) (name : List ℕ) (names : List (List ℕ)) → IsStrictlySortedBy name_order (keys_of globals) → AreUnshared globals names → AreUnshared (without_name globals name) names
-unshared_on globals name [] s no = tt
-unshared_on globals name (other ∷ names) s no = (unshared_by globals name other (is_name_of name other) refl s no.0, unshared_on globals name names s no.1)
+unshared_on globals name [] s free = tt
+unshared_on globals name (other ∷ names) s free = (unshared_by globals name other (is_name_of name other) refl s free.0, unshared_on globals name names s free.1)
 
 -- ---- names that come
 

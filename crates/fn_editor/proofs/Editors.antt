@@ -8,12 +8,14 @@ use Rattle.std.proofs.lemmas.Bool.Decides.{nat_tests}
 use Rattle.std.proofs.lemmas.List.{length-map}
 use Rattle.std.proofs.lemmas.Map.Views.{All-map-remove_entry, All-values-insert_entry}
 use Rattle.apl_workspace.specs.Function.{IsFunction, PlainFunction}
+use Rattle.apl_workspace.specs.Header.{PlainHeader, header_of}
 use Rattle.apl_workspace.specs.Meaning.{IsWhole}
 use Rattle.apl_workspace.specs.declared.meaning.Meaning.{Meaning}
 use Rattle.apl_workspace.specs.declared.meaning.Meaning.TheVariants.{Function}
 use Rattle.fn_editor.specs.Editing.{may_enter, moved}
 use Rattle.fn_editor.specs.Number.{whole}
-use Rattle.fn_editor.specs.Editor.{IsEditor, Lines, PlainEditor, function_of, has_line, with_line, without_line}
+use Rattle.fn_editor.specs.Editor.{IsEditor, Lines, PlainEditor, function_of, has_line, numbered, with_line, without_line}
+use Rattle.fn_editor.proofs.Numbered.{length_numbered, values_numbered}
 
 fewer_by : (test : ℕ → Bool) (line : ℕ × List ℕ) (lines : Lines) (b : Bool) → test line.0 ≡ b → length (remove_entry test lines) ≤ length lines → length (remove_entry test (line ∷ lines)) ≤ length (line ∷ lines)
 fewer_by test line lines true e h = rw e (omega arith)
@@ -76,3 +78,13 @@ entered_keeps editor number at text lines h may e size =
     let parts = and_parts (leb (length text) 1000 && leb (whole number) 999) (has_line editor.lines number || ltb (length editor.lines) 200) may in
     let first = and_parts (leb (length text) 1000) (leb (whole number) 999) parts.0 in
     entered_by editor number at text lines (has_line editor.lines number) h first.0 parts.1 e size
+
+-- a function that is opened
+pub opened_is_editor : (function : PlainFunction) (text : List ℕ) (header : PlainHeader) (lines : Lines) (number : ℕ) (closed : Bool) → IsFunction function → text ≡ function.text → header ≡ function.header → lines ≡ numbered 1 function.lines
+    → IsEditor (record { text = text; header = header; lines = lines; number = number; closed = closed })
+opened_is_editor function text header lines number closed h et eh el = record {
+  header = ap header_of et ∙ h.header ∙ ap (λ (x : PlainHeader). Some x) (sym eh);
+  text = let same : length text ≡ length function.text = ap length et in omega (arith, same, h.text);
+  count = let same : length lines ≡ length function.lines = ap length el ∙ length_numbered 1 function.lines in omega (arith, same, h.count);
+  lines = subst (λ (all : List (List ℕ)). All (λ (line : List ℕ). length line ≤ 1000) all) (sym (ap (λ (all : Lines). values_of all) el ∙ values_numbered 1 function.lines)) h.lines;
+}

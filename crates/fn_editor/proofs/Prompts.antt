@@ -1,5 +1,5 @@
 -- How long prompts are.
-use Rattle.std.proofs.Common.{◌≡◌, ℕ, ◌+◌, ◌≤◌, Bool, true, false, cond, eqb, [], ◌∷◌, length, decimal, lit<, refl, ap, arith}
+use Rattle.std.proofs.Common.{◌≡◌, ℕ, ◌+◌, ◌≤◌, ◌<◌, Bool, true, false, cond, eqb, List, [], ◌∷◌, ◌++◌, length, decimal, lit<, refl, ap, ◌∙◌, arith, length-append}
 use Rattle.std.proofs.lemmas.Bool.{eqb-false}
 use Rattle.std.proofs.lemmas.Fmt.{length-decimal-le}
 use Rattle.apl_arrays.specs.Glyph.{digit, period}
@@ -37,3 +37,20 @@ at_most_two t false e = let two : length (tenth_text t) ≡ 2 = tenth_length t f
 -- a tenth has at most two
 pub tenth_is_short : (t : ℕ) → length (tenth_text t) ≤ 2
 tenth_is_short t = at_most_two t (eqb t 0) refl
+
+-- what stands before the closing bracket of a prompt has at most six glyphs
+pub before_bracket : (number w t glyph : ℕ) (zero one two three : List ℕ) → zero ≡ [] → one ≡ zero ++ glyph ∷ [] → two ≡ one ++ decimal w → three ≡ two ++ tenth_text t → w ≡ whole number → t ≡ tenth number → number ≤ 10000 → length three ≤ 6
+before_bracket number w t glyph zero one two three e0 e1 e2 e3 ew et small =
+    let short = number_is_short number small in
+    let l0 : length zero ≡ 0 = ap length e0 in
+    let l1 : length one ≡ length zero + 1 = ap length e1 ∙ length-append zero (glyph ∷ []) in
+    let l2 : length two ≡ length one + length (decimal w) = ap length e2 ∙ length-append one (decimal w) in
+    let l3 : length three ≡ length two + length (tenth_text t) = ap length e3 ∙ length-append two (tenth_text t) in
+    let lw : length (decimal w) ≡ length (decimal (whole number)) = ap (λ (n : ℕ). length (decimal n)) ew in
+    let lt : length (tenth_text t) ≡ length (tenth_text (tenth number)) = ap (λ (n : ℕ). length (tenth_text n)) et in
+    omega (arith, short, l0, l1, l2, l3, lw, lt)
+
+pub after_bracket : (three four : List ℕ) (glyph : ℕ) → four ≡ three ++ glyph ∷ [] → length three ≤ 6 → length four < 8
+after_bracket three four glyph e short =
+    let l : length four ≡ length three + 1 = ap length e ∙ length-append three (glyph ∷ []) in
+    omega (arith, l, short)

@@ -74,6 +74,7 @@ fn place(number: LineNumber) -> Bracket
 }
 
 // The number at the front, n or n.d, and what follows.
+#[tactic(auto, using(line_scanner::proofs::Digits::digits_at_front))]
 fn number_in(text: &[Glyph]) -> Option<(LineNumber, &[Glyph])>
     ensures { option_map (λ found. (found.0, found.1.now)) result ≡ number_in text.now }
 {

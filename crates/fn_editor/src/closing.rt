@@ -1,4 +1,5 @@
-ghost use Rattle.std.specs.Prelude.{◌≡◌, option_copied};
+ghost use Rattle.std.specs.Prelude.{◌≡◌, ◌<◌, ◌+◌, true, false, drop, length, option_copied, slice_index};
+ghost use Rattle.apl_arrays.specs.Glyph.{is_blank};
 ghost use Rattle.fn_editor.specs.Closing.{before_close, behind, body, closes, is_blank_text, without_blanks};
 
 use apl_arrays::{Glyph, blank_count};
@@ -39,19 +40,31 @@ pub fn split_close(line: &[Glyph]) -> (&[Glyph], bool)
 }
 
 // What stands before the ∇ that closes.
-#[tactic(auto, using(crate::proofs::Closes::close_at, crate::proofs::Closes::no_close_at, crate::proofs::Closes::no_close, crate::proofs::Closes::blanks_more))]
+#[tactic(auto, using(crate::proofs::Closes::no_close, crate::proofs::Closes::blanks_more))]
 fn before_close(line: &[Glyph]) -> Option<&[Glyph]>
     ensures { option_copied result ≡ before_close line.now }
 {
     let mut end = line.len();
     while end > 0 {
         end -= 1;
-        if line[end] == Glyph::DEL {
-            return Some(&line[..end]);
-        }
         if !line[end].is_blank() {
-            return None;
+            return front_of(line, end);
         }
     }
     None
+}
+
+// What stands before the last glyph other than blanks, where that is ∇.
+#[tactic(auto, using(crate::proofs::Closes::close_at, crate::proofs::Closes::no_close_at))]
+fn front_of(line: &[Glyph], last: usize) -> Option<&[Glyph]>
+    requires within { last < length line.now }
+    requires glyph { is_blank (slice_index line.now last) ≡ false }
+    requires blanks { is_blank_text (drop (last + 1) line.now) ≡ true }
+    ensures { option_copied result ≡ before_close line.now }
+{
+    if line[last] == Glyph::DEL {
+        Some(&line[..last])
+    } else {
+        None
+    }
 }
