@@ -61,7 +61,10 @@ fn asked(
     ensures differ { IfOk result (λ list. Differ list.items) }
 {
     match names {
-        None => from.all_names(),
+        None => {
+            let _ = from.weight();
+            from.all_names()
+        }
         Some(names) => each_once(alloc, names.as_slice()),
     }
 }
@@ -169,6 +172,7 @@ fn with_names(
     ensures fits { OnOk result (workspace_weight (with_names into.now from.now names.now) ≤ most_weight) }
     ensures full { IfErr result (IsFull (with_names into.now from.now names.now)) }
 {
+    let _ = into.weight();
     let mut workspace = into.copy()?;
     erase_all(&mut workspace, names);
     put_all(alloc, &mut workspace, from, names)?;
