@@ -5,6 +5,8 @@
 mod arrays;
 mod characters;
 mod display;
+mod editor;
+mod execute;
 mod fields;
 mod flags;
 mod indexing;
@@ -19,11 +21,14 @@ mod shapes;
 mod structure;
 mod tokens;
 mod trees;
+mod workspaces;
 
 use anyhow::Result;
 use case_tables::{Tally, run_table};
 use characters::{BadGlyphs, Glyphs};
 use display::{Formats, Lines};
+use editor::Definitions;
+use execute::{Merges, Texts};
 use flags::{Compressions, Expansions};
 use indexing::{Assignments, Indexings};
 use items::{PlacedItems, Scalars};
@@ -37,6 +42,7 @@ use std::process::ExitCode;
 use structure::{Drops, Reshapes, Reversals, Rotations, Takes, Transposes};
 use tokens::Tokens;
 use trees::{LongTrees, Trees};
+use workspaces::{Headers, Workspaces};
 
 fn values(rt: &HostRuntime) -> Result<Tally> {
     let mut tally = run_table(rt, "glyphs.txt", &Glyphs)?;
@@ -95,12 +101,22 @@ fn texts(rt: &HostRuntime) -> Result<Tally> {
     Ok(tally)
 }
 
+fn scripts(rt: &HostRuntime) -> Result<Tally> {
+    let mut tally = run_table(rt, "headers.txt", &Headers)?;
+    tally.add(run_table(rt, "workspaces.txt", &Workspaces)?);
+    tally.add(run_table(rt, "editor.txt", &Definitions)?);
+    tally.add(run_table(rt, "texts.txt", &Texts)?);
+    tally.add(run_table(rt, "merges.txt", &Merges)?);
+    Ok(tally)
+}
+
 fn all_tables(rt: &HostRuntime) -> Result<Tally> {
     let mut tally = values(rt)?;
     tally.add(functions(rt)?);
     tally.add(structures(rt)?);
     tally.add(searches(rt)?);
     tally.add(texts(rt)?);
+    tally.add(scripts(rt)?);
     Ok(tally)
 }
 

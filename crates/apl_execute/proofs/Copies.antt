@@ -1,0 +1,112 @@
+-- Names that go, and come again one after another.
+use Rattle.std.proofs.Common.{◌≡◌, ℕ, suc, ◌+◌, ◌≤◌, ◌<◌, Bool, true, false, cond, not, ◌&&◌, List, [], ◌∷◌, ◌++◌, Option, Some, None, length, drop, get_or, refl, sym, ap, subst, ◌∙◌, arith, add-one}
+use Rattle.std.specs.Prelude.{filter, is_some, unwrap_or}
+use Rattle.std.specs.Option.{option_map}
+use Rattle.std.specs.List.Sorted.{IsStrictlySortedBy}
+use Rattle.std.specs.Map.{keys_of, values_of}
+use Rattle.std.proofs.Math.Seq.{drop-cons}
+use Rattle.std.proofs.lemmas.Bool.{and_parts, false≢true}
+use Rattle.std.proofs.lemmas.Cmp.{nat_list_cmp_total}
+use Rattle.std.proofs.lemmas.Map.Entries.{sum_by-insert_entry}
+use Rattle.apl_workspace.specs.Meaning.{Names, is_shared_in, is_shared_meaning, meaning_in, meaning_weight, table_weight, weight_in, with_meaning, without_name}
+use Rattle.apl_workspace.specs.Names.{is_name_of, name_order}
+use Rattle.apl_workspace.specs.Workspace.{IsFull, PlainWorkspace, workspace_weight}
+use Rattle.apl_arrays.specs.declared.report.Fail.{Fail}
+use Rattle.apl_arrays.specs.declared.report.Fail.TheVariants.{Report, WantOfMemory}
+use Rattle.apl_workspace.specs.declared.meaning.Meaning.{Meaning}
+use Rattle.apl_workspace.specs.declared.meaning.Meaning.TheVariants.{Nothing}
+use Rattle.apl_workspace.proofs.Ascending.{found_with, found_without, with_ascends, without_ascends}
+use Rattle.apl_workspace.proofs.NameLaw.{own_name}
+use Rattle.apl_execute.specs.Copying.{AreAbsent, AreOthers, AreUnshared, Differ, MayCome}
+use Rattle.apl_execute.specs.Merge.{copy_in, with_copies, with_copy, without_names}
+
+-- ---- names that go
+
+gone_stays_by : (globals : Names) (name other : List ℕ) (b : Bool) → is_name_of name other ≡ b → IsStrictlySortedBy name_order (keys_of globals) → meaning_in globals other ≡ None → meaning_in (without_name globals name) other ≡ None
+gone_stays_by globals name other true e s none = found_without globals name other s ∙ ap (λ (b : Bool). cond b None (meaning_in globals other)) e
+gone_stays_by globals name other false e s none = found_without globals name other s ∙ ap (λ (b : Bool). cond b None (meaning_in globals other)) e ∙ none
+
+gone_stays : (globals : Names) (names : List (List ℕ)) (other : List ℕ) → IsStrictlySortedBy name_order (keys_of globals) → meaning_in globals other ≡ None → meaning_in (without_names globals names) other ≡ None
+gone_stays globals [] other s none = none
+gone_stays globals (name ∷ names) other s none =
+    gone_stays (without_name globals name) names other (without_ascends globals name s) (gone_stays_by globals name other (is_name_of name other) refl s none)
+
+gone : (globals : Names) (name : List ℕ) → IsStrictlySortedBy name_order (keys_of globals) → meaning_in (without_name globals name) name ≡ None
+gone globals name s = found_without globals name name s ∙ ap (λ (b : Bool). cond b None (meaning_in globals name)) (own_name name)
+
+pub all_gone : (globals : Names) (names : List (List ℕ)) → IsStrictlySortedBy name_order (keys_of globals) → AreAbsent (without_names globals names) names
+all_gone globals [] s = tt
+all_gone globals (name ∷ names) s =
+    (gone_stays (without_name globals name) names name (without_ascends globals name s) (gone globals name s), all_gone (without_name globals name) names (without_ascends globals name s))
+
+pub still_ascend : (globals : Names) (names : List (List ℕ)) → IsStrictlySortedBy name_order (keys_of globals) → IsStrictlySortedBy name_order (keys_of (without_names globals names))
+still_ascend globals [] s = s
+still_ascend globals (name ∷ names) s = still_ascend (without_name globals name) names (without_ascends globals name s)
+
+unshared_by : (globals : Names) (name other : List ℕ) (b : Bool) → is_name_of name other ≡ b → IsStrictlySortedBy name_order (keys_of globals) → is_shared_in globals other ≡ false → is_shared_in (without_name globals name) other ≡ false
+unshared_by globals name other true e s free =
+    ap (λ (found : Option Meaning). is_shared_meaning (unwrap_or found Nothing)) (found_without globals name other s ∙ ap (λ (b : Bool). cond b None (meaning_in globals other)) e)
+unshared_by globals name other false e s free =
+    ap (λ (found : Option Meaning). is_shared_meaning (unwrap_or found Nothing)) (found_without globals name other s ∙ ap (λ (b : Bool). cond b None (meaning_in globals other)) e) ∙ free
+
+pub unshared_on : (globals : Names) (name : List ℕ) (names : List (List ℕ)) → IsStrictlySortedBy name_order (keys_of globals) → AreUnshared globals names → AreUnshared (without_name globals name) names
+unshared_on globals name [] s free = tt
+unshared_on globals name (other ∷ names) s free = (unshared_by globals name other (is_name_of name other) refl s free.0, unshared_on globals name names s free.1)
+
+-- ---- names that come
+
+absent_by : (globals : Names) (name other : List ℕ) (meaning : Meaning) → is_name_of name other ≡ false → meaning_in globals other ≡ None → meaning_in (with_meaning globals name meaning) other ≡ None
+absent_by globals name other meaning apart none = found_with globals name meaning other ∙ ap (λ (b : Bool). cond b (Some meaning) (meaning_in globals other)) apart ∙ none
+
+absent_on : (globals : Names) (name : List ℕ) (meaning : Meaning) (names : List (List ℕ)) → AreOthers name names → AreAbsent globals names → AreAbsent (with_meaning globals name meaning) names
+absent_on globals name meaning [] others absent = tt
+absent_on globals name meaning (other ∷ names) others absent = (absent_by globals name other meaning others.0 absent.0, absent_on globals name meaning names others.1 absent.1)
+
+comes_by : (globals : Names) (name : List ℕ) (names : List (List ℕ)) (copy : Option Meaning) → MayCome globals (name ∷ names) → MayCome (with_copy globals name copy) names
+comes_by globals name names None h = record { ascend = h.ascend; absent = h.absent.1; differ = h.differ.1 }
+comes_by globals name names (Some meaning) h = record {
+  ascend = with_ascends globals name meaning h.ascend;
+  absent = absent_on globals name meaning names h.differ.0 h.absent.1;
+  differ = h.differ.1;
+}
+
+pub comes_on : (from : PlainWorkspace) (globals : Names) (name : List ℕ) (names : List (List ℕ)) → MayCome globals (name ∷ names) → MayCome (with_copy globals name (copy_in from name)) names
+comes_on from globals name names h = comes_by globals name names (copy_in from name) h
+
+heavier_by : (globals : Names) (name : List ℕ) (copy : Option Meaning) → IsStrictlySortedBy name_order (keys_of globals) → meaning_in globals name ≡ None → table_weight globals ≤ table_weight (with_copy globals name copy)
+heavier_by globals name None s none = omega arith
+heavier_by globals name (Some meaning) s none =
+    let sums : table_weight (with_meaning globals name meaning) + weight_in globals name ≡ table_weight globals + meaning_weight meaning = sum_by-insert_entry meaning_weight nat_list_cmp_total globals name meaning s in
+    let nothing : weight_in globals name ≡ 0 = ap (λ (found : Option Meaning). unwrap_or (option_map meaning_weight found) 0) none in
+    omega (arith, sums, nothing)
+
+-- the weight only rises
+pub heavier : (from : PlainWorkspace) (globals : Names) (names : List (List ℕ)) → MayCome globals names → table_weight globals ≤ table_weight (with_copies from globals names)
+heavier from globals [] h = omega arith
+heavier from globals (name ∷ names) h =
+    let one = heavier_by globals name (copy_in from name) h.ascend h.absent.0 in
+    let more = heavier from (with_copy globals name (copy_in from name)) names (comes_on from globals name names h) in
+    omega (arith, one, more)
+
+-- ---- the names that are left at a place
+
+pub left_at : (names : List (List ℕ)) (i : ℕ) (name : List ℕ) → i < length names → name ≡ get_or names i name → drop i names ≡ name ∷ drop (i + 1) names
+left_at names i name within is =
+    drop-cons names i name within ∙ ap (λ (first : List ℕ). first ∷ drop (suc i) names) (sym is) ∙ ap (λ n. name ∷ drop n names) (sym (add-one i))
+
+-- only the globals were changed, again
+pub same_step : (start ws after : PlainWorkspace) (globals : Names) → ws ≡ record start { globals = ws.globals } → after ≡ record ws { globals = globals } → after ≡ record start { globals = after.globals }
+same_step start ws after globals same e =
+    e ∙ ap (λ (w : PlainWorkspace). record w { globals = globals }) same
+    ∙ ap (λ (g : Names). record start { globals = g }) (sym (ap (λ (w : PlainWorkspace). w.globals) e))
+
+-- what a workspace weighs with these globals
+weighs : (start ws : PlainWorkspace) (globals : Names) → ws ≡ record start { globals = ws.globals } → workspace_weight (record ws { globals = globals }) ≡ workspace_weight (record start { globals = globals })
+weighs start ws globals same = ap (λ (w : PlainWorkspace). workspace_weight (record w { globals = globals })) same
+
+-- where one name is refused, all are
+pub full_later : (start ws : PlainWorkspace) (some all : Names) (fail : Fail) → ws ≡ record start { globals = ws.globals } → table_weight some ≤ table_weight all → IsFull (record ws { globals = some }) fail → IsFull (record start { globals = all }) fail
+full_later start ws some all (Report report) same rises full =
+    let w : workspace_weight (record ws { globals = some }) ≡ workspace_weight (record start { globals = some }) = weighs start ws some same in
+    (full.0, omega (arith, full.1, w, rises))
+full_later start ws some all WantOfMemory same rises full = tt

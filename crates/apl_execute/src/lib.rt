@@ -1,0 +1,8 @@
+//! Values that are executed as text, and names that one workspace takes over from another.
+#![tactic(auto)]
+
+mod merging;
+mod text;
+
+pub use merging::{Merged, merge};
+pub use text::text_of;

@@ -1,0 +1,16 @@
+pub mod Ascending
+pub mod Comments
+pub mod Entering
+pub mod FrameLaw
+pub mod Giving
+pub mod HeaderLaw
+pub mod InOrder
+pub mod Innermost
+pub mod Labels
+pub mod Listed
+pub mod Locals
+pub mod NameLaw
+pub mod Places
+pub mod Symbols
+pub mod Tables
+pub mod Whole

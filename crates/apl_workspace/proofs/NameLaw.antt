@@ -1,0 +1,149 @@
+-- Names told apart, and names that differ.
+use Rattle.std.proofs.Common.{◌≡◌, ℕ, suc, ◌+◌, ◌<◌, Bool, true, false, cond, not, ◌&&◌, ◌||◌, List, [], ◌∷◌, ◌++◌, Ordering, length, take, drop, get_or, refl, sym, ap, ◌∙◌, subst, drop-cons}
+use Rattle.std.specs.List.{list_any}
+use Rattle.std.specs.Ordering.{nat_cmp, is_eq, eq_by_cmp}
+use Rattle.std.specs.declared.cmp.Ordering.TheVariants.{Less, Equal, Greater}
+use Rattle.std.specs.Cmp.{IsEquivalence}
+use Rattle.std.proofs.lemmas.Cmp.{nat_list_cmp_total, tied_itself, eq_by_cmp_equiv}
+use Rattle.std.proofs.lemmas.Map.Lookups.{exact_bytes}
+use Rattle.std.proofs.lemmas.Bool.{false≢true}
+use Rattle.std.proofs.lemmas.List.{take_more, take-append-drop}
+use Rattle.std.proofs.lemmas.List.Folds.{list_any-append}
+use Rattle.apl_workspace.specs.Names.{name_order, is_name_of, all_differ}
+
+tied : (o : Ordering) → is_eq o ≡ true → o ≡ Equal
+tied Less e = absurd (false≢true e)
+tied Equal e = refl
+tied Greater e = absurd (false≢true e)
+
+-- a name that passes the test is the one asked for
+pub same_name : (first second : List ℕ) → is_name_of first second ≡ true → first ≡ second
+same_name first second e = exact_bytes first second (tied (name_order first second) e)
+
+-- a name passes its own test
+pub own_name : (first : List ℕ) → is_name_of first first ≡ true
+own_name first = ap is_eq (tied_itself nat_list_cmp_total first)
+
+pub same_name_passes : (first second : List ℕ) → first ≡ second → is_name_of first second ≡ true
+same_name_passes first second e = subst (λ other. is_name_of first other ≡ true) e (own_name first)
+
+-- the test does not ask in which order
+pub name_flips : (first second : List ℕ) → is_name_of first second ≡ is_name_of second first
+name_flips first second = (eq_by_cmp_equiv nat_list_cmp_total).symm first second
+
+pub names_told_apart : (first second : List ℕ) → (is_name_of first second ≡ true → first ≡ second) × (first ≡ second → is_name_of first second ≡ true)
+names_told_apart first second = (same_name first second, same_name_passes first second)
+
+-- ---- names that differ
+
+negated : (b : Bool) → b ≡ false → not b ≡ true
+negated true e = absurd (false≢true (sym e))
+negated false e = refl
+
+or_false : (a b : Bool) → a || b ≡ false → (a ≡ false) × (b ≡ false)
+or_false true b e = absurd (false≢true (sym e))
+or_false false b e = (refl, e)
+
+not_both : (a b : Bool) → a ≡ true → not a && b ≡ false
+not_both true b e = refl
+not_both false b e = absurd (false≢true e)
+
+second_fails : (a b : Bool) → b ≡ false → a && b ≡ false
+second_fails true b e = e
+second_fails false b e = refl
+
+both_parts : (a b : Bool) → a && b ≡ true → (a ≡ true) × (b ≡ true)
+both_parts true b e = (refl, e)
+both_parts false b e = absurd (false≢true e)
+
+both_hold : (a b : Bool) → a ≡ true → b ≡ true → a && b ≡ true
+both_hold true b e f = f
+both_hold false b e f = absurd (false≢true e)
+
+or_right : (a b : Bool) → b ≡ true → a || b ≡ true
+or_right true b e = refl
+or_right false b e = e
+
+-- one name more is found among names or is the last
+any_push : (test : List ℕ → Bool) (names : List (List ℕ)) (last : List ℕ) → list_any test names ≡ false → test last ≡ false → list_any test (names ++ last ∷ []) ≡ false
+any_push test [] last e f = ap (λ b. b || false) f
+any_push test (name ∷ names) last e f =
+    let parts = or_false (test name) (list_any test names) e in
+    ap (λ b. b || list_any test (names ++ last ∷ [])) parts.0 ∙ any_push test names last parts.1 f
+
+any_behind : (test : List ℕ → Bool) (names : List (List ℕ)) (last : List ℕ) (more : List (List ℕ)) → test last ≡ true → list_any test (names ++ last ∷ more) ≡ true
+any_behind test [] last more f = ap (λ b. b || list_any test more) f
+any_behind test (name ∷ names) last more f = or_right (test name) (list_any test (names ++ last ∷ more)) (any_behind test names last more f)
+
+from_not : (b : Bool) → not b ≡ true → b ≡ false
+from_not true e = absurd (false≢true e)
+from_not false e = refl
+
+-- names that differ, and one that is none of them
+pub differ_push : (names : List (List ℕ)) (last : List ℕ) → all_differ names ≡ true → list_any (is_name_of last) names ≡ false → all_differ (names ++ last ∷ []) ≡ true
+unfolding all_differ
+differ_push [] last e f = refl
+differ_push (name ∷ names) last e f =
+    let parts = both_parts (not (list_any (is_name_of name) names)) (all_differ names) e in
+    let apart = or_false (is_name_of last name) (list_any (is_name_of last) names) f in
+    let was : list_any (is_name_of name) names ≡ false = from_not (list_any (is_name_of name) names) parts.0 in
+    both_hold (not (list_any (is_name_of name) (names ++ last ∷ []))) (all_differ (names ++ last ∷ []))
+    (negated (list_any (is_name_of name) (names ++ last ∷ [])) (any_push (is_name_of name) names last was (name_flips name last ∙ apart.0)))
+    (differ_push names last parts.1 apart.1)
+
+repeat_by : (b c : Bool) (name last : List ℕ) (names more : List (List ℕ)) → is_name_of last name ≡ b → b || c ≡ true → (c ≡ true → all_differ (names ++ last ∷ more) ≡ false)
+    → not (list_any (is_name_of name) (names ++ last ∷ more)) && all_differ (names ++ last ∷ more) ≡ false
+repeat_by true c name last names more is h later = not_both (list_any (is_name_of name) (names ++ last ∷ more)) (all_differ (names ++ last ∷ more)) (any_behind (is_name_of name) names last more (name_flips name last ∙ is))
+repeat_by false c name last names more is h later = second_fails (not (list_any (is_name_of name) (names ++ last ∷ more))) (all_differ (names ++ last ∷ more)) (later h)
+
+-- a name that stands before does not differ
+pub repeat_found : (names : List (List ℕ)) (last : List ℕ) (more : List (List ℕ)) → list_any (is_name_of last) names ≡ true → all_differ (names ++ last ∷ more) ≡ false
+unfolding all_differ
+repeat_found [] last more e = absurd (false≢true e)
+repeat_found (name ∷ names) last more e = repeat_by (is_name_of last name) (list_any (is_name_of last) names) name last names more refl e (λ h. repeat_found names last more h)
+
+-- ---- name after name
+
+here_too : (a b : Bool) → cond b true a ≡ (a || (b || false))
+here_too true true = refl
+here_too true false = refl
+here_too false true = refl
+here_too false false = refl
+
+next_take : (names : List (List ℕ)) (i : ℕ) (name : List ℕ) → i < length names → name ≡ get_or names i name → take (i + 1) names ≡ take i names ++ name ∷ []
+next_take names i name lt e = take_more names i name lt ∙ ap (λ last. take i names ++ last ∷ []) (sym e)
+
+split_at : (names : List (List ℕ)) (i : ℕ) (name : List ℕ) → i < length names → name ≡ get_or names i name → names ≡ take i names ++ name ∷ drop (suc i) names
+split_at names i name lt e = sym (take-append-drop i names) ∙ ap (λ back. take i names ++ back) (drop-cons names i name lt ∙ ap (λ first. first ∷ drop (suc i) names) (sym e))
+
+-- one name more, which is none of those before
+pub differ_more : (names : List (List ℕ)) (i : ℕ) (name : List ℕ) → i < length names → name ≡ get_or names i name → all_differ (take i names) ≡ true → list_any (is_name_of name) (take i names) ≡ false → all_differ (take (i + 1) names) ≡ true
+differ_more names i name lt e differ apart = ap all_differ (next_take names i name lt e) ∙ differ_push (take i names) name differ apart
+
+-- one name more, in a set that has those before
+pub has_more : (names : List (List ℕ)) (i : ℕ) (name asked : List ℕ) (had now : Bool) → i < length names → name ≡ get_or names i name → now ≡ cond (is_name_of name asked) true had → had ≡ list_any (is_name_of asked) (take i names)
+    → now ≡ list_any (is_name_of asked) (take (i + 1) names)
+has_more names i name asked had now lt e is was =
+    is ∙ here_too had (is_name_of name asked) ∙ ap (λ b. had || (b || false)) (name_flips name asked) ∙ ap (λ b. b || (is_name_of asked name || false)) was
+    ∙ sym (ap (list_any (is_name_of asked)) (next_take names i name lt e) ∙ list_any-append (is_name_of asked) (take i names) (name ∷ []))
+
+-- a name that is one of those before
+pub repeat_at : (names : List (List ℕ)) (i : ℕ) (name : List ℕ) → i < length names → name ≡ get_or names i name → list_any (is_name_of name) (take i names) ≡ true → false ≡ all_differ names
+repeat_at names i name lt e found = sym (ap all_differ (split_at names i name lt e) ∙ repeat_found (take i names) name (drop (suc i) names) found)
+
+none_differ : all_differ [] ≡ true
+unfolding all_differ
+none_differ = refl
+
+-- before the first name
+pub begins_differ : (keys : List (List ℕ)) → keys ≡ [] → (all_differ [] ≡ true) × ((name : List ℕ) → list_any (is_name_of name) keys ≡ false)
+begins_differ keys none = (none_differ, λ name. ap (list_any (is_name_of name)) none)
+
+-- what a set that was asked to take a name tells of it
+pub was_there : (added has among : Bool) → added ≡ not has → added ≡ false → has ≡ among → among ≡ true
+was_there added true among e f g = sym g
+was_there added false among e f g = absurd (false≢true (sym f ∙ e))
+
+pub was_new : (added has among : Bool) → added ≡ not has → added ≡ true → has ≡ among → among ≡ false
+was_new added true among e f g = absurd (false≢true (sym e ∙ f))
+was_new added false among e f g = sym g

@@ -1,0 +1,22 @@
+use Rattle.std.proofs.Common.{◌≡◌, ◌+◌, ◌∙◌, List, ap, arith, inr, refl, reverse, subst}
+use Rattle.apl_workspace.specs.Meaning.{Names, table_weight}
+use Rattle.apl_workspace.specs.Workspace.{IsFrameFor, PlainWorkspace, entered, look, workspace_weight}
+use Rattle.apl_workspace.proofs.Entering.{entered_weight}
+use Rattle.apl_workspace.proofs.Giving.{with_frames}
+use Rattle.apl_workspace.proofs.workspace.Workspace.push_frame.Goals as goal
+
+pub returns-then-weight-gt-WEIGHT_LIMIT-clause-full : goal.returns-then-weight-gt-WEIGHT_LIMIT-clause-full
+returns-then-weight-gt-WEIGHT_LIMIT-clause-full c =
+    let inside = with_frames c.self.inside.globals c.self.inside.offers.items c.self.inside.printed in
+    let same = ap (λ (l : List Names). inside (reverse l)) c.reserve_one.ensures.items ∙ c.self.view_is in
+    let h = subst (λ (x : PlainWorkspace). IsFrameFor (look x c.args.function.now) c.args.args c.in_ok-frame.frame) same c.in_ok-frame.ensures in
+    let weighs = entered_weight c.self.inside.globals c.self.inside.offers.items c.self.inside.printed c.self.inside.frames_weight c.self.inside.frames.items c.in_ok-frame.frame c.args.self.now (look c.args.self.now c.args.function.now) c.args.args c.self.view_is c.self.invariant.counted h in
+    (refl, inr (omega (arith, weighs, c.weight.ensures.value, c.weight-2.ensures.value, c.if-weight-gt-WEIGHT_LIMIT.true)))
+
+pub returns-clause-fits : goal.returns-clause-fits
+returns-clause-fits c =
+    let inside = with_frames c.self.inside.globals c.self.inside.offers.items c.self.inside.printed in
+    let same = ap (λ (l : List Names). inside (reverse l)) c.reserve_one.ensures.items ∙ c.self.view_is in
+    let h = subst (λ (x : PlainWorkspace). IsFrameFor (look x c.args.function.now) c.args.args c.in_ok-frame.frame) same c.in_ok-frame.ensures in
+    let weighs = entered_weight c.self.inside.globals c.self.inside.offers.items c.self.inside.printed c.self.inside.frames_weight c.self.inside.frames.items c.in_ok-frame.frame c.args.self.now (look c.args.self.now c.args.function.now) c.args.args c.self.view_is c.self.invariant.counted h in
+    omega (arith, weighs, c.weight.ensures.value, c.weight-2.ensures.value, c.if-weight-gt-WEIGHT_LIMIT.false)

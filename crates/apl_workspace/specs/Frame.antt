@@ -1,0 +1,59 @@
+-- Frames of functions under way.
+use Rattle.std.specs.Prelude.{◌≡◌, ◌+◌, ◌++◌, ℕ, List, [], ◌∷◌, Option, Some, None, fold, is_some, if◌then◌else◌}
+use Rattle.std.specs.Option.{option_or, option_to_list}
+use Rattle.apl_arrays.specs.Array.{PlainArray}
+use Rattle.apl_workspace.specs.Function.{PlainFunction}
+use Rattle.apl_workspace.specs.Header.{PlainHeader}
+use Rattle.apl_workspace.specs.Label.{label_of}
+use Rattle.apl_workspace.specs.Meaning.{Names, with_meaning}
+use Rattle.apl_workspace.specs.Names.{is_name_of}
+use Rattle.apl_workspace.specs.declared.args.Args.{Args}
+use Rattle.apl_workspace.specs.declared.meaning.Meaning.{Meaning}
+use Rattle.apl_workspace.specs.declared.meaning.Meaning.TheVariants.{Nothing, Value, Label}
+
+-- what stands for an argument that was handed in
+abbrev pub argument_meaning : Option PlainArray → Meaning
+argument_meaning None = Nothing
+argument_meaning (Some value) = Value value
+
+-- the names with an argument, where the header has it
+abbrev pub with_argument : Names → Option (List ℕ) → Option PlainArray → Names
+with_argument names None value = names
+with_argument names (Some name) value = with_meaning names name (argument_meaning value)
+
+-- the names with a local one, which has no value yet
+abbrev pub with_local_name : Names → List ℕ → Names
+with_local_name names name = with_meaning names name Nothing
+
+-- the names of a header but the function's own: both arguments with their values, the result and the local ones without
+abbrev pub header_names : PlainHeader → Args → Names
+header_names header args = fold with_local_name (with_argument (with_argument [] header.left args.left) header.right args.right) (option_to_list header.result ++ header.locals)
+
+-- the names with a label that stands for a line, where that line has one
+abbrev pub with_label : Option (List ℕ) → ℕ → Names → Names
+with_label None line names = names
+with_label (Some label) line names = with_meaning names label (Label line)
+
+-- the names with the labels of these lines, of which the first has this number; of equal labels the first counts
+abbrev pub with_labels : ℕ → List (List ℕ) → Names → Names
+with_labels number [] names = names
+with_labels number (line ∷ lines) names = with_label (label_of line) number (with_labels (number + 1) lines names)
+
+-- the frame of a function: the names of its header, and its labels, which hide those
+abbrev pub frame_of : PlainFunction → Args → Names
+frame_of function args = with_labels 1 function.lines (header_names function.header args)
+
+-- the arguments are those that the header asks for
+pub record AreArgumentsOf (header : PlainHeader) (args : Args) : Type 0 where
+  pub left : is_some args.left ≡ is_some header.left
+  pub right : is_some args.right ≡ is_some header.right
+
+-- the number of a line where it has this label, else that of a later one
+abbrev pub this_or_later : Option (List ℕ) → List ℕ → ℕ → Option ℕ → Option ℕ
+this_or_later None name number later = later
+this_or_later (Some label) name number later = if is_name_of label name then Some number else later
+
+-- the number of the first of these lines that has this label, where one has it; the first line has this number
+abbrev pub labelled_line : ℕ → List (List ℕ) → List ℕ → Option ℕ
+labelled_line number [] name = None
+labelled_line number (line ∷ lines) name = this_or_later (label_of line) name number (labelled_line (number + 1) lines name)

@@ -1,0 +1,12 @@
+pub mod Frame
+pub mod Function
+pub mod Grammar
+pub mod Header
+pub mod Label
+pub mod Limits
+pub mod Listing
+pub mod Meaning
+pub mod Names
+pub mod Seen
+pub mod Sorted
+pub mod Workspace

@@ -1,0 +1,31 @@
+-- Lists of global names.
+use Rattle.std.specs.Prelude.{ℕ, Bool, true, List, Option, Some, None, filter}
+use Rattle.std.specs.Map.{keys_of}
+use Rattle.apl_workspace.specs.Meaning.{Names, is_function_meaning, is_shared_meaning, is_variable_meaning}
+use Rattle.apl_workspace.specs.Workspace.{PlainWorkspace}
+use Rattle.apl_workspace.specs.declared.meaning.Meaning.{Meaning}
+use Rattle.apl_workspace.specs.declared.what.What.{What}
+use Rattle.apl_workspace.specs.declared.what.What.TheVariants.{Functions, Variables, Shares}
+
+-- what is asked for; shared names are variables too
+abbrev pub is_asked : What → Meaning → Bool
+is_asked Functions = is_function_meaning
+is_asked Variables = is_variable_meaning
+is_asked Shares = is_shared_meaning
+
+-- what is asked for, or anything where nothing is
+abbrev pub is_wanted : Option What → Meaning → Bool
+is_wanted None meaning = true
+is_wanted (Some what) meaning = is_asked what meaning
+
+-- the names of a table that stand for what is asked, ascending
+abbrev pub names_among : What → Names → List (List ℕ)
+names_among what names = keys_of (filter (λ entry. is_asked what entry.1) names)
+
+-- the global names of a workspace that stand for what is asked, ascending
+abbrev pub names_asked : What → PlainWorkspace → List (List ℕ)
+names_asked what w = names_among what w.globals
+
+-- all global names of a workspace, ascending
+abbrev pub all_names : PlainWorkspace → List (List ℕ)
+all_names w = keys_of w.globals

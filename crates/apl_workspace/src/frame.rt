@@ -1,0 +1,111 @@
+ghost use Rattle.std.specs.Prelude.{◌≡◌, ◌+◌, ◌++◌, ◌≤◌, ℕ, List as ListOf, OnOk, IfOk, fold, length, map};
+ghost use Rattle.std.specs.Option.{option_map, option_or, option_to_list};
+ghost use Rattle.apl_arrays.specs.List.{glyphs_in};
+ghost use Rattle.apl_workspace.specs.Frame.{frame_of, header_names, labelled_line, with_argument, with_label, with_labels, with_local_name};
+ghost use Rattle.apl_workspace.specs.Function.{PlainFunction};
+ghost use Rattle.apl_workspace.specs.Label.{label_of};
+ghost use Rattle.apl_workspace.specs.Limits.{most_function_lines};
+ghost use Rattle.apl_workspace.specs.Meaning.{meaning_in, table_weight};
+
+use crate::label::label_of;
+use crate::{Args, Function, Header, Meaning, Table};
+use apl_arrays::{Array, Line, Name, WantOfMemory};
+use std::alloc::Global;
+
+/// The frame of a function that is called with these arguments: the names of its header but its own, and its labels,
+/// which hide those. It takes memory for the names.
+pub fn frame_of(alloc: Global, function: &Function, args: Args) -> Result<Table, WantOfMemory>
+    requires { length function.now.lines ≤ most_function_lines }
+    ensures { IfOk result (λ frame. frame ≡ frame_of function.now args) }
+{
+    let mut frame = header_names(alloc, &function.header, args)?;
+    put_labels(&mut frame, function.lines.as_slice())?;
+    Ok(frame)
+}
+
+/// The names of a header but the function's own: the arguments with their values, the result and the local names without.
+#[tactic(auto, using(crate::proofs::Entering::result_and_locals))]
+fn header_names(alloc: Global, header: &Header, args: Args) -> Result<Table, WantOfMemory>
+    ensures { IfOk result (λ names. names ≡ header_names header.now args) }
+{
+    let mut names = Table::new(alloc);
+    put_argument(&mut names, header.left, args.left)?;
+    put_argument(&mut names, header.right, args.right)?;
+    put_result(&mut names, header.result)?;
+    put_locals(&mut names, header.locals.as_slice())?;
+    Ok(names)
+}
+
+/// Puts an argument in, where the header has it.
+fn put_argument(
+    names: &mut Table,
+    name: Option<Name>,
+    value: Option<Array>,
+) -> Result<(), WantOfMemory>
+    requires { table_weight names.old ≤ 16385 }
+    ensures ok { OnOk result (names.new ≡ with_argument names.old name value) }
+    ensures weight { OnOk result (table_weight names.new ≤ table_weight names.old + 16385) }
+{
+    let Some(name) = name else {
+        return Ok(());
+    };
+    match value {
+        None => names.put_weightless(name, Meaning::Nothing),
+        Some(value) => {
+            let _ = value.items();
+            names.put_light(name, Meaning::Value(value))
+        }
+    }
+}
+
+/// Puts the name of the result in, where the header has one; it has no value yet.
+fn put_result(names: &mut Table, name: Option<Name>) -> Result<(), WantOfMemory>
+    ensures { OnOk result (names.new ≡ fold with_local_name names.old (option_to_list name)) }
+{
+    match name {
+        None => Ok(()),
+        Some(name) => names.put_weightless(name, Meaning::Nothing),
+    }
+}
+
+/// Puts local names in that have no value yet.
+#[tactic(auto, using(crate::proofs::Entering::locals_on))]
+fn put_locals(names: &mut Table, locals: &[Name]) -> Result<(), WantOfMemory>
+    ensures { OnOk result (names.new ≡ fold with_local_name names.old locals.now) }
+{
+    for name in locals {
+        names.put_weightless(*name, Meaning::Nothing)?;
+    }
+    Ok(())
+}
+
+/// Puts the labels of lines in, of equal ones the first.
+#[tactic(auto, using(crate::proofs::Entering::labels_on, crate::proofs::Entering::no_labels))]
+fn put_labels(names: &mut Table, lines: &[Line]) -> Result<(), WantOfMemory>
+    requires { length lines.now ≤ most_function_lines }
+    ensures { OnOk result (names.new ≡ with_labels 1 (map glyphs_in lines.now) names.old) }
+{
+    let mut number = lines.len();
+    while number > 0 {
+        put_label(names, &lines[number - 1], number as u32)?;
+        number -= 1;
+    }
+    Ok(())
+}
+
+/// Puts the label of a line in, where the line has one.
+fn put_label(names: &mut Table, line: &Line, number: u32) -> Result<(), WantOfMemory>
+    ensures { OnOk result (names.new ≡ with_label (label_of line.now.items) number names.old) }
+{
+    match label_of(line.as_slice()) {
+        None => Ok(()),
+        Some(label) => names.put_weightless(label, Meaning::Label(number)),
+    }
+}
+
+/// A name of a frame stands for the first line that has it as its label; where none has, for what the header makes of it.
+/// The call does nothing. No memory.
+pub fn labels_hide_names()
+    ensures { (function : PlainFunction) (args : Args) (name : ListOf ℕ) → meaning_in (frame_of function args) name
+        ≡ option_or (option_map Meaning.Label (labelled_line 1 function.lines name)) (meaning_in (header_names function.header args) name) }
+{}

@@ -1,0 +1,103 @@
+ghost use Rattle.std.specs.Prelude.{◌≡◌, ◌+◌, IfOk, IfSome, map, min};
+ghost use Rattle.std.specs.List.{list_all};
+ghost use Rattle.apl_arrays.specs.List.{glyphs_in};
+ghost use Rattle.apl_workspace.specs.Function.{IsFunction, function_of, function_weight, is_short, keeps_limits, lines_weight};
+ghost use Rattle.apl_workspace.specs.Limits.{most_weight};
+
+use crate::Header;
+use crate::limits::{FUNCTION_LINE_LIMIT, LINE_GLYPH_LIMIT, WEIGHT_LIMIT};
+use apl_arrays::{Line, LineList, WantOfMemory};
+use std::alloc::Global;
+use std::marker::Model;
+
+/// A function: its header as it was entered, what that header is, and its lines. It is seen as plain data.
+#[derive(Debug, Drop)]
+pub struct Function {
+    pub text: Line,
+    pub header: Header,
+    pub lines: LineList,
+}
+
+impl Model for Function {
+    ghost use Rattle.apl_workspace.specs.Function.{PlainFunction};
+
+    ghost Value = { PlainFunction };
+
+    ghost view = { λ f. record { text = f.text.items; header = f.header; lines = f.lines.items } };
+}
+
+impl Function {
+    /// The function of a header as it is entered and of lines, or `None` where that is no header, or a limit is passed:
+    /// 200 lines, 1,000 glyphs of the header and of each line. It takes memory for the header's names.
+    #[tactic(auto, using(crate::proofs::Whole::is_function))]
+    pub fn of(alloc: Global, text: Line, lines: LineList) -> Result<Option<Function>, WantOfMemory>
+        ensures value { IfOk result (λ made. made ≡ function_of text.items lines.items) }
+        ensures whole { IfOk result (λ made. IfSome made IsFunction) }
+    {
+        if !keeps_limits(&text, &lines) {
+            discard(text, lines);
+            return Ok(None);
+        }
+        match Header::read(alloc, &text)? {
+            None => Ok(None),
+            Some(header) => Ok(Some(Function {
+                text,
+                header,
+                lines,
+            })),
+        }
+    }
+
+    /// An equal function. It takes memory for its texts and names.
+    pub fn copy(&self, alloc: Global) -> Result<Function, WantOfMemory>
+        ensures { IfOk result (λ function. function ≡ self.now) }
+    {
+        Ok(Function {
+            text: self.text.copy(alloc)?,
+            header: self.header.copy(alloc)?,
+            lines: self.lines.copy(alloc)?,
+        })
+    }
+
+    /// What it weighs, or one more than a workspace may weigh where that is less. No memory.
+    pub fn weight(&self) -> usize
+        ensures { result ≡ min (function_weight self.now) (most_weight + 1) }
+    {
+        let text = self.text.as_slice().len().min(WEIGHT_LIMIT);
+        (text + 1 + lines_weight(self.lines.as_slice())).min(WEIGHT_LIMIT + 1)
+    }
+}
+
+/// One for each line and each of its glyphs, or one more than a workspace may weigh where that is less.
+fn lines_weight(lines: &[Line]) -> usize
+    ensures { result ≡ min (lines_weight (map glyphs_in lines.now)) (most_weight + 1) }
+{
+    let mut weight = 0;
+    for line in lines {
+        let glyphs = line.as_slice().len().min(WEIGHT_LIMIT);
+        weight = (weight + glyphs + 1).min(WEIGHT_LIMIT + 1);
+    }
+    weight
+}
+
+/// Whether a header and lines are within their limits.
+fn keeps_limits(text: &Line, lines: &LineList) -> bool
+    ensures { result ≡ keeps_limits text.now.items lines.now.items }
+{
+    let lines = lines.as_slice();
+    is_short(text) && lines.len() <= FUNCTION_LINE_LIMIT && all_short(lines)
+}
+
+fn is_short(line: &Line) -> bool
+    ensures { result ≡ is_short line.now.items }
+{
+    line.as_slice().len() <= LINE_GLYPH_LIMIT
+}
+
+fn all_short(lines: &[Line]) -> bool
+    ensures { result ≡ list_all is_short (map glyphs_in lines.now) }
+{
+    lines.iter().all(|line| is_short(line))
+}
+
+fn discard(_text: Line, _lines: LineList) {}

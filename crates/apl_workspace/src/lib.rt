@@ -1,0 +1,37 @@
+//! Workspaces: names with what they stand for, the frames of functions under way, and the headers of functions.
+#![tactic(auto)]
+
+mod args;
+mod frame;
+mod frames;
+mod function;
+mod header;
+mod label;
+pub mod laws;
+mod limits;
+mod meaning;
+mod remake;
+mod room;
+mod seen;
+mod symbol;
+mod table;
+mod what;
+mod workspace;
+
+pub use args::Args;
+pub use frame::labels_hide_names;
+pub use function::Function;
+pub use header::Header;
+pub use label::{label_of, labels_stand_before_colons};
+pub use limits::{
+    DEPTH_LIMIT, FUNCTION_LINE_LIMIT, LINE_GLYPH_LIMIT, OFFER_LIMIT, PRINTED_LIMIT, WEIGHT_LIMIT,
+};
+pub use meaning::Meaning;
+pub use remake::{Remake, RemakeList};
+pub use seen::Seen;
+pub use table::Table;
+pub use what::What;
+pub use workspace::Workspace;
+
+#[cfg(test)]
+mod tests;

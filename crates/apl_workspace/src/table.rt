@@ -1,0 +1,360 @@
+ghost use Rattle.std.specs.Prelude.{◌≡◌, ◌==◌, ◌+◌, ◌<◌, ◌≤◌, ◌++◌, ◌∷◌, ℕ, List as ListOf, [], Some, filter, if◌then◌else◌, true, length, slice_get, unwrap_or, IsOk, IsSome, OnOk, OnErr, IfErr, IfOk, IfSome};
+ghost use Rattle.std.specs.Cmp.Lexicographic.{pointwise};
+ghost use Rattle.std.specs.List.{IsDistinct};
+ghost use Rattle.std.specs.List.Sorted.{IsStrictlySortedBy};
+ghost use Rattle.apl_workspace.specs.Names.{name_order};
+ghost use Rattle.std.specs.Map.{keys_of};
+ghost use Rattle.std.specs.Option.{option_copied};
+ghost use Rattle.apl_workspace.specs.Limits.{most_weight};
+ghost use Rattle.apl_workspace.specs.Listing.{is_wanted, names_among};
+ghost use Rattle.apl_workspace.specs.Meaning.{IsFullFor, IsWhole, copy_of, is_shared_in, meaning_in, meaning_weight, own_copy_in, table_weight, weight_in, with_meaning, with_value, without_name};
+ghost use Rattle.apl_workspace.specs.Sorted.{sorted};
+
+use crate::limits::WEIGHT_LIMIT;
+use crate::{Meaning, What};
+use apl_arrays::{Array, Fail, List, Name, NameList, Report, WantOfMemory};
+use indexmap::IndexMap;
+use std::alloc::Global;
+use std::marker::Model;
+
+/// Names, each with what it stands for. It is seen as the list of them that ascends by the names.
+#[derive(Drop)]
+pub struct Table {
+    names: IndexMap<Name, Meaning>,
+    weight: usize,
+}
+
+impl Model for Table {
+    ghost use Rattle.apl_workspace.specs.Meaning.{Names, IsTable};
+    ghost use Rattle.apl_workspace.specs.Sorted.{sorted};
+
+    ghost Value = { Names };
+
+    ghost view = { λ t. sorted t.names.entries };
+
+    ghost invariant = { λ t. IsTable t.weight (sorted t.names.entries) };
+}
+
+impl Table {
+    /// No names. No memory.
+    #[tactic(auto, using(crate::proofs::Tables::is_empty_table))]
+    pub fn new(alloc: Global) -> Table
+        ensures { result ≡ [] }
+    {
+        Table {
+            names: IndexMap::new(alloc),
+            weight: 0,
+        }
+    }
+
+    /// What a name stands for, or `None` where the table does not have it. No memory.
+    #[tactic(auto, using(crate::proofs::InOrder::looked_up))]
+    pub fn get(&self, name: &Name) -> Option<&Meaning>
+        ensures value { option_copied result ≡ meaning_in self.now name.now }
+        ensures whole { IfSome result (λ meaning. IsWhole name.now meaning.now) }
+    {
+        self.names.get(name)
+    }
+
+    /// What the names weigh. No memory.
+    pub fn weight(&self) -> usize
+        ensures value { result ≡ table_weight self.now }
+        ensures within { result ≤ most_weight }
+        ensures ascending { IsStrictlySortedBy name_order (keys_of self.now) }
+    {
+        self.weight
+    }
+
+    /// The name stands for this, and what it stood for is handed out. `WsFull` where the table would weigh more than
+    /// `most`; it leaves the table as it was, and so does `WantOfMemory`. It takes memory for a name that is not there
+    /// yet, and for no other.
+    fn exchange(
+        &mut self,
+        name: Name,
+        meaning: Meaning,
+        most: usize,
+    ) -> Result<Option<Meaning>, Fail>
+        requires limit { most ≤ most_weight }
+        requires whole { IsWhole name meaning }
+        ensures ok { OnOk result (self.new ≡ with_meaning self.old name meaning) }
+        ensures before { IfOk result (λ before. before ≡ meaning_in self.old name) }
+        ensures err { OnErr result (self.new ≡ self.old) }
+        ensures fits { OnOk result (table_weight (with_meaning self.old name meaning) ≤ most) }
+        ensures full { IfErr result (λ fail. IsFullFor most (with_meaning self.old name meaning) fail) }
+        ensures granted { IsSome (meaning_in self.old name) → table_weight (with_meaning self.old name meaning) ≤ most → IsOk result }
+    {
+        let before = self.weight_at(&name);
+        let weight = self.weight - before + meaning.weight();
+        if weight > most {
+            discard(meaning);
+            return Err(Fail::Report(Report::WsFull));
+        }
+        let before = put_in(&mut self.names, name, meaning)?;
+        self.weight = weight;
+        Ok(before)
+    }
+
+    /// The name stands for this, in place of what it stood for. `WsFull` where the table would weigh more than `most`;
+    /// it leaves the table as it was, and so does `WantOfMemory`. It takes memory for a name that is not there yet, and
+    /// for no other.
+    pub fn put(&mut self, name: Name, meaning: Meaning, most: usize) -> Result<(), Fail>
+        requires limit { most ≤ most_weight }
+        requires whole { IsWhole name meaning }
+        ensures ok { OnOk result (self.new ≡ with_meaning self.old name meaning) }
+        ensures err { OnErr result (self.new ≡ self.old) }
+        ensures fits { OnOk result (table_weight (with_meaning self.old name meaning) ≤ most) }
+        ensures full { IfErr result (λ fail. IsFullFor most (with_meaning self.old name meaning) fail) }
+        ensures granted { IsSome (meaning_in self.old name) → table_weight (with_meaning self.old name meaning) ≤ most → IsOk result }
+    {
+        match self.exchange(name, meaning, most) {
+            Ok(before) => {
+                discard_old(before);
+                Ok(())
+            }
+            Err(fail) => Err(fail),
+        }
+    }
+
+    /// The name stands for this, where there is weight left for it. It takes memory for a name that is not there yet, and
+    /// for no other; `WantOfMemory` leaves the table as it was.
+    #[tactic(auto, using(crate::proofs::Tables::at_most_heavier))]
+    pub fn put_light(&mut self, name: Name, meaning: Meaning) -> Result<(), WantOfMemory>
+        requires fits { table_weight self.old + meaning_weight meaning ≤ most_weight }
+        requires whole { IsWhole name meaning }
+        ensures ok { OnOk result (self.new ≡ with_meaning self.old name meaning) }
+        ensures err { OnErr result (self.new ≡ self.old) }
+        ensures weight { OnOk result (table_weight self.new ≤ table_weight self.old + meaning_weight meaning) }
+    {
+        match self.put(name, meaning, WEIGHT_LIMIT) {
+            Ok(()) => Ok(()),
+            Err(Fail::WantOfMemory) => Err(WantOfMemory),
+            Err(Fail::Report(_)) => unreachable!(),
+        }
+    }
+
+    /// The name stands for this, which weighs nothing. It takes memory for a name that is not there yet, and for no other;
+    /// `WantOfMemory` leaves the table as it was.
+    pub fn put_weightless(&mut self, name: Name, meaning: Meaning) -> Result<(), WantOfMemory>
+        requires weightless { meaning_weight meaning ≡ 0 }
+        requires whole { IsWhole name meaning }
+        ensures ok { OnOk result (self.new ≡ with_meaning self.old name meaning) }
+        ensures err { OnErr result (self.new ≡ self.old) }
+        ensures weight { OnOk result (table_weight self.new ≤ table_weight self.old) }
+    {
+        let _ = &self.names;
+        self.put_light(name, meaning)
+    }
+
+    /// Takes a name out, and hands out what it stood for. No memory.
+    #[tactic(auto, using(crate::proofs::InOrder::looked_up, crate::proofs::InOrder::taken_in_order))]
+    pub fn remove(&mut self, name: &Name) -> Option<Meaning>
+        ensures value { result ≡ meaning_in self.old name.now }
+        ensures others { self.new ≡ without_name self.old name.now }
+    {
+        let before = self.weight_at(name);
+        self.weight -= before;
+        self.names.swap_remove(name)
+    }
+
+    /// A shared name is shared no more, and has the value handed in, or is not there where none is. Where the table
+    /// would weigh more than `most` with that value, the name has its own copy, or is not there where it has none.
+    /// No memory.
+    #[tactic(auto, using(crate::proofs::Tables::erasing_is_lighter))]
+    pub fn unshare(&mut self, name: &Name, value: Option<Array>, most: usize)
+        requires shared { is_shared_in self.old name.now ≡ true }
+        requires limit { most ≤ most_weight }
+        requires within { table_weight self.old ≤ most }
+        ensures fits { table_weight (with_value self.old name.now value) ≤ most → self.new ≡ with_value self.old name.now value }
+        ensures heavy { most < table_weight (with_value self.old name.now value) → self.new ≡ with_value self.old name.now (own_copy_in self.old name.now) }
+        ensures weight { table_weight self.new ≤ most }
+    {
+        match value {
+            None => discard_old(self.remove(name)),
+            Some(value) => match self.put(*name, Meaning::Value(value), most) {
+                Ok(()) => {}
+                Err(_) => self.keep_copy(name),
+            },
+        }
+    }
+
+    /// A shared name has its own copy as its value, or is not there where it has none. No memory.
+    fn keep_copy(&mut self, name: &Name)
+        requires { is_shared_in self.old name.now ≡ true }
+        ensures value { self.new ≡ with_value self.old name.now (own_copy_in self.old name.now) }
+        ensures weight { table_weight self.new ≤ table_weight self.old }
+    {
+        let _ = &self.names;
+        match own_copy(self.swap(name, Meaning::Nothing)) {
+            None => discard_old(self.remove(name)),
+            Some(copy) => discard_old(self.swap(name, Meaning::Value(copy))),
+        }
+    }
+
+    /// A name that is there stands for this, and what it stood for is handed out. No memory.
+    fn swap(&mut self, name: &Name, meaning: Meaning) -> Option<Meaning>
+        requires there { IsSome (meaning_in self.old name.now) }
+        requires fits { table_weight (with_meaning self.old name.now meaning) ≤ most_weight }
+        requires whole { IsWhole name.now meaning }
+        ensures before { result ≡ meaning_in self.old name.now }
+        ensures value { self.new ≡ with_meaning self.old name.now meaning }
+    {
+        match self.exchange(*name, meaning, WEIGHT_LIMIT) {
+            Ok(before) => before,
+            Err(_) => unreachable!(),
+        }
+    }
+
+    /// The names that stand for what is asked, ascending. It takes memory for them.
+    #[tactic(auto, using(crate::proofs::Listed::gathered))]
+    pub fn names_among(&self, alloc: Global, what: What) -> Result<NameList, WantOfMemory>
+        ensures { IfOk result (λ names. names.items ≡ names_among what self.now) }
+    {
+        let mut names = collected(alloc, &self.names, Some(what))?;
+        names.sort()?;
+        Ok(List::from(names))
+    }
+
+    /// All names, ascending. It takes memory for them.
+    #[tactic(auto, using(crate::proofs::Listed::all_gathered))]
+    pub fn all_names(&self, alloc: Global) -> Result<NameList, WantOfMemory>
+        ensures { IfOk result (λ names. names.items ≡ keys_of self.now) }
+    {
+        let mut names = collected(alloc, &self.names, None)?;
+        names.sort()?;
+        Ok(List::from(names))
+    }
+
+    /// An equal table. It takes memory for all that it holds.
+    pub fn copy(&self, alloc: Global) -> Result<Table, WantOfMemory>
+        ensures { IfOk result (λ table. table ≡ self.now) }
+    {
+        Ok(Table {
+            names: copy_of(alloc, &self.names)?,
+            weight: self.weight,
+        })
+    }
+
+    #[tactic(auto, using(crate::proofs::InOrder::looked_up, crate::proofs::Tables::weight_without))]
+    fn weight_at(&self, name: &Name) -> usize
+        ensures value { result ≡ weight_in self.now name.now }
+        ensures within { result ≤ table_weight self.now }
+    {
+        match self.names.get(name) {
+            None => 0,
+            Some(meaning) => meaning.weight(),
+        }
+    }
+}
+
+/// The name stands for this, and what it stood for is handed out. `WantOfMemory` leaves the names as they were, and
+/// comes only for a new one.
+#[tactic(auto, using(crate::proofs::InOrder::put_in_order, crate::proofs::InOrder::there_by_glyphs, crate::proofs::InOrder::looked_up))]
+fn put_in(
+    names: &mut IndexMap<Name, Meaning>,
+    name: Name,
+    meaning: Meaning,
+) -> Result<Option<Meaning>, WantOfMemory>
+    ensures ok { OnOk result (sorted names.new.entries ≡ with_meaning (sorted names.old.entries) name meaning) }
+    ensures before { IfOk result (λ before. before ≡ meaning_in (sorted names.old.entries) name) }
+    ensures err { OnErr result (names.new.entries ≡ names.old.entries) }
+    ensures granted { IsSome (meaning_in (sorted names.old.entries) name) → IsOk result }
+{
+    Ok(names.insert(name, meaning)?)
+}
+
+fn discard(_meaning: Meaning) {}
+
+fn discard_old(_meaning: Option<Meaning>) {}
+
+/// The own copy of the value of a shared name.
+fn own_copy(meaning: Option<Meaning>) -> Option<Array>
+    ensures { result ≡ copy_of (unwrap_or meaning Meaning.Nothing) }
+{
+    match meaning {
+        Some(Meaning::Shared(copy)) => copy,
+        _ => None,
+    }
+}
+
+/// Equal names, each with an equal meaning.
+#[tactic(auto, using(crate::proofs::Places::copied_on))]
+fn copy_of(
+    alloc: Global,
+    names: &IndexMap<Name, Meaning>,
+) -> Result<IndexMap<Name, Meaning>, WantOfMemory>
+    ensures { IfOk result (λ copy. sorted copy.entries ≡ sorted names.now.entries) }
+{
+    let mut copy = IndexMap::new(alloc);
+    let mut at = names.len();
+    while at > 0 {
+        at -= 1;
+        copy_entry(alloc, names, at, &mut copy)?;
+    }
+    Ok(copy)
+}
+
+/// Puts a copy of the entry at a place in.
+fn copy_entry(
+    alloc: Global,
+    names: &IndexMap<Name, Meaning>,
+    at: usize,
+    copy: &mut IndexMap<Name, Meaning>,
+) -> Result<(), WantOfMemory>
+    requires { at < length names.now.entries }
+    ensures { OnOk result ((entry : ListOf ℕ × Meaning) → slice_get names.now.entries at ≡ Some entry → sorted copy.new.entries ≡ with_meaning (sorted copy.old.entries) entry.0 entry.1) }
+{
+    match names.get_index(at) {
+        None => unreachable!(),
+        Some((name, meaning)) => {
+            discard_old(put_in(copy, *name, meaning.copy(alloc)?)?);
+            Ok(())
+        }
+    }
+}
+
+/// The names that stand for what is asked, or all where nothing is, in no order.
+#[tactic(auto, using(crate::proofs::Places::collected_on))]
+fn collected(
+    alloc: Global,
+    names: &IndexMap<Name, Meaning>,
+    what: Option<What>,
+) -> Result<Vec<Name>, WantOfMemory>
+    ensures names { IfOk result (λ list. list.items ≡ keys_of (filter (λ entry. is_wanted what entry.1) names.now.entries)) }
+    ensures apart { IsDistinct (pointwise ◌==◌) (keys_of names.now.entries) }
+{
+    let mut list = Vec::new(alloc);
+    for at in 0..names.len() {
+        collect_name(names, at, what, &mut list)?;
+    }
+    Ok(list)
+}
+
+/// Adds the name at a place, where it stands for what is asked.
+fn collect_name(
+    names: &IndexMap<Name, Meaning>,
+    at: usize,
+    what: Option<What>,
+    list: &mut Vec<Name>,
+) -> Result<(), WantOfMemory>
+    requires { at < length names.now.entries }
+    ensures { OnOk result ((entry : ListOf ℕ × Meaning) → slice_get names.now.entries at ≡ Some entry → list.new.items ≡ (if is_wanted what entry.1 then list.old.items ++ entry.0 ∷ [] else list.old.items)) }
+{
+    match names.get_index(at) {
+        None => unreachable!(),
+        Some((name, meaning)) => {
+            if is_wanted(what, meaning) {
+                list.push(*name)?;
+            }
+            Ok(())
+        }
+    }
+}
+
+fn is_wanted(what: Option<What>, meaning: &Meaning) -> bool
+    ensures { result ≡ is_wanted what meaning.now }
+{
+    match what {
+        None => true,
+        Some(what) => what.is_asked(meaning),
+    }
+}

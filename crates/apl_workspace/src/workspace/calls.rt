@@ -1,0 +1,64 @@
+ghost use Rattle.std.specs.Prelude.{◌≡◌, ◌≢◌, ◌<◌, ◌≤◌, [], OnOk, OnErr, IfErr, IfOk, length};
+ghost use Rattle.apl_workspace.specs.Limits.{most_depth, most_weight};
+ghost use Rattle.apl_workspace.specs.Workspace.{AreArgumentsFor, IsFrameFor, IsNotEntered, entered, left, look, workspace_weight};
+
+use crate::frame::frame_of;
+use crate::limits::{DEPTH_LIMIT, WEIGHT_LIMIT};
+use crate::room::reserve_one;
+use crate::{Args, Seen, Table, Workspace};
+use apl_arrays::{Fail, Name, Report, WantOfMemory};
+
+impl Workspace {
+    /// Enters a function: a frame for it stands before the others, with its arguments, its result, its local names and
+    /// its labels. `WsFull` where 100 functions are under way, or the workspace would weigh more than it may; it leaves
+    /// the workspace as it was, and so does `WantOfMemory`.
+    pub fn push_frame(&mut self, function: &Name, args: Args) -> Result<(), Fail>
+        requires { AreArgumentsFor (look self.old function.now) args }
+        ensures ok { OnOk result (self.new ≡ entered self.old function.now args) }
+        ensures depth { OnOk result (length self.old.frames < most_depth) }
+        ensures fits { OnOk result (workspace_weight (entered self.old function.now args) ≤ most_weight) }
+        ensures err { OnErr result (self.new ≡ self.old) }
+        ensures full { IfErr result (IsNotEntered self.old (entered self.old function.now args)) }
+    {
+        if self.frames.len() >= DEPTH_LIMIT {
+            discard(args);
+            return Err(Fail::Report(Report::WsFull));
+        }
+        reserve_one(&mut self.frames)?;
+        let frame = self.frame_for(function, args)?;
+        let weight = self.frames_weight + frame.weight();
+        if self.globals.weight() + weight > WEIGHT_LIMIT {
+            discard_frame(frame);
+            return Err(Fail::Report(Report::WsFull));
+        }
+        self.frames.push_reserved(frame);
+        self.frames_weight = weight;
+        Ok(())
+    }
+
+    /// Leaves the innermost function: its frame is gone, with the values of its names. No memory.
+    pub fn pop_frame(&mut self)
+        requires { self.old.frames ≢ [] }
+        ensures { self.new ≡ left self.old }
+    {
+        if let Some(frame) = self.frames.pop() {
+            self.frames_weight -= frame.weight();
+            discard_frame(frame);
+        }
+    }
+
+    /// The frame of the function that a name stands for.
+    fn frame_for(&self, function: &Name, args: Args) -> Result<Table, WantOfMemory>
+        requires { AreArgumentsFor (look self.now function.now) args }
+        ensures { IfOk result (λ frame. IsFrameFor (look self.now function.now) args frame) }
+    {
+        match self.look(function) {
+            Seen::Function(function) => frame_of(self.alloc, function, args),
+            _ => unreachable!(),
+        }
+    }
+}
+
+fn discard(_args: Args) {}
+
+fn discard_frame(_frame: Table) {}

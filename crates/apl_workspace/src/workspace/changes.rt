@@ -1,0 +1,110 @@
+ghost use Rattle.std.specs.Prelude.{◌≡◌, ◌≤◌, true, false, Some, IsOk, IsSome, OnOk, OnErr, IfErr, is_some};
+ghost use Rattle.apl_workspace.specs.Function.{IsFunction};
+ghost use Rattle.apl_workspace.specs.Limits.{most_weight};
+ghost use Rattle.apl_workspace.specs.Meaning.{IsWhole, is_shared_meaning, is_variable_meaning, meaning_in};
+ghost use Rattle.apl_workspace.specs.Workspace.{IsFull, IsNotAssigned, assigned, given, global_in, is_assignable, is_shared, look, with_global, without_global, workspace_weight};
+
+use crate::frames::{innermost_place, put_innermost};
+use crate::limits::WEIGHT_LIMIT;
+use crate::{Function, Meaning, Seen, Workspace};
+use apl_arrays::{Array, Fail, Name, Report};
+
+impl Workspace {
+    /// Gives a name a value: in the innermost frame that has the name, else globally. `Syntax` where the name is a label
+    /// or a function, else `WsFull` where the workspace would weigh more than it may; a refusal leaves the workspace as
+    /// it was. It takes memory for a new global name.
+    pub fn assign(&mut self, name: &Name, value: Array) -> Result<(), Fail>
+        requires { is_shared_meaning (look self.old name.now) ≡ false }
+        ensures ok { OnOk result (self.new ≡ assigned self.old name.now value) }
+        ensures assignable { OnOk result (is_assignable (look self.old name.now) ≡ true) }
+        ensures fits { OnOk result (workspace_weight (assigned self.old name.now value) ≤ most_weight) }
+        ensures err { OnErr result (self.new ≡ self.old) }
+        ensures refused { IfErr result (IsNotAssigned (is_assignable (look self.old name.now)) (assigned self.old name.now value)) }
+    {
+        if !self.is_assignable(name) {
+            discard(value);
+            return Err(Fail::Report(Report::Syntax));
+        }
+        self.give(name, Meaning::Value(value))
+    }
+
+    /// Defines a function under its name, in place of one that is there. `WsFull` where the workspace would weigh more
+    /// than it may; it leaves the workspace as it was, and so does `WantOfMemory`.
+    pub fn define(&mut self, function: Function) -> Result<(), Fail>
+        requires whole { IsFunction function }
+        requires no_variable { is_variable_meaning (global_in self.old function.header.name) ≡ false }
+        ensures ok { OnOk result (self.new ≡ with_global self.old function.header.name (Meaning.Function function)) }
+        ensures fits { OnOk result (workspace_weight (with_global self.old function.header.name (Meaning.Function function)) ≤ most_weight) }
+        ensures err { OnErr result (self.new ≡ self.old) }
+        ensures full { IfErr result (IsFull (with_global self.old function.header.name (Meaning.Function function))) }
+    {
+        let name = name_of(&function);
+        self.put_global(name, Meaning::Function(function))
+    }
+
+    /// Takes a global name out, and tells whether it was there. No memory.
+    #[tactic(auto, using(crate::proofs::Tables::erasing_is_lighter))]
+    pub fn erase(&mut self, name: &Name) -> bool
+        requires { is_shared self.old name.now ≡ false }
+        ensures there { result ≡ is_some (meaning_in self.old.globals name.now) }
+        ensures others { self.new ≡ without_global self.old name.now }
+    {
+        self.globals.remove(name).is_some()
+    }
+
+    /// Whether a value may be assigned to what the name stands for. No memory.
+    fn is_assignable(&self, name: &Name) -> bool
+        ensures { result ≡ is_assignable (look self.now name.now) }
+    {
+        !matches!(self.look(name), Seen::Function(_) | Seen::Label(_))
+    }
+
+    /// The name stands for this: in the innermost frame that has it, else globally. `WsFull` where the workspace would
+    /// weigh more than it may; it leaves the workspace as it was, and so does `WantOfMemory`.
+    fn give(&mut self, name: &Name, meaning: Meaning) -> Result<(), Fail>
+        requires { IsWhole name.now meaning }
+        ensures ok { OnOk result (self.new ≡ given self.old name.now meaning) }
+        ensures fits { OnOk result (workspace_weight (given self.old name.now meaning) ≤ most_weight) }
+        ensures err { OnErr result (self.new ≡ self.old) }
+        ensures full { IfErr result (IsFull (given self.old name.now meaning)) }
+    {
+        match innermost_place(&self.frames, name) {
+            None => self.put_global(*name, meaning),
+            Some(at) => {
+                let most = WEIGHT_LIMIT - self.globals.weight();
+                let frames = &mut self.frames;
+                match put_innermost(frames, at, self.frames_weight, *name, meaning, most) {
+                    Ok(weight) => {
+                        self.frames_weight = weight;
+                        Ok(())
+                    }
+                    Err(fail) => Err(fail),
+                }
+            }
+        }
+    }
+
+    /// The global name stands for this. `WsFull` where the workspace would weigh more than it may; it leaves the
+    /// workspace as it was, and so does `WantOfMemory`.
+    pub(super) fn put_global(&mut self, name: Name, meaning: Meaning) -> Result<(), Fail>
+        requires { IsWhole name meaning }
+        ensures ok { OnOk result (self.new ≡ with_global self.old name meaning) }
+        ensures fits { OnOk result (workspace_weight (with_global self.old name meaning) ≤ most_weight) }
+        ensures err { OnErr result (self.new ≡ self.old) }
+        ensures full { IfErr result (IsFull (with_global self.old name meaning)) }
+        ensures granted { IsSome (meaning_in self.old.globals name) → workspace_weight (with_global self.old name meaning) ≤ most_weight → IsOk result }
+    {
+        let most = WEIGHT_LIMIT - self.frames_weight;
+        self.globals.put(name, meaning, most)
+    }
+}
+
+fn discard(_value: Array) {}
+
+/// The name of a function.
+fn name_of(function: &Function) -> Name
+    ensures { result ≡ function.now.header.name }
+{
+    let header = &function.header;
+    header.name
+}

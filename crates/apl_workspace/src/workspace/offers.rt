@@ -1,0 +1,77 @@
+ghost use Rattle.std.specs.Prelude.{◌≡◌, ◌≤◌, true, false, Some, IsOk, OnOk, OnErr, IfErr, filter, vec_len};
+ghost use Rattle.apl_workspace.specs.Limits.{most_weight};
+ghost use Rattle.apl_workspace.specs.Meaning.{is_function_meaning};
+ghost use Rattle.apl_workspace.specs.Workspace.{IsFull, global_in, is_addressee, is_of_another, is_shared, marked, unmarked, with_global, workspace_weight};
+
+use crate::limits::{OFFER_LIMIT, WEIGHT_LIMIT};
+use crate::room::reserve_one;
+use crate::{Meaning, Remake, Workspace};
+use apl_arrays::{Array, Fail, Name};
+
+impl Workspace {
+    /// Marks a global name as shared with its own copy of the value, and lists its offer last. Where the name is shared
+    /// already, or 64 offers are listed, the list stays as it is. `WsFull` where the workspace would weigh more than it
+    /// may; it leaves the workspace as it was, and so does `WantOfMemory`.
+    pub fn mark(
+        &mut self,
+        name: &Name,
+        value: Option<Array>,
+        surrogate: Name,
+        to: u32,
+    ) -> Result<(), Fail>
+        requires no_function { is_function_meaning (global_in self.old name.now) ≡ false }
+        requires addressee { is_addressee to ≡ true }
+        ensures ok { OnOk result (self.new ≡ marked self.old (record { local = name.now; surrogate = surrogate; to = to }) value) }
+        ensures fits { OnOk result (workspace_weight (with_global self.old name.now (Meaning.Shared value)) ≤ most_weight) }
+        ensures err { OnErr result (self.new ≡ self.old) }
+        ensures full { IfErr result (IsFull (with_global self.old name.now (Meaning.Shared value))) }
+    {
+        let local = *name;
+        let stays = self.is_shared(name) || self.offers.len() >= OFFER_LIMIT;
+        let most = WEIGHT_LIMIT - self.frames_weight;
+        if stays {
+            return self.globals.put(local, Meaning::Shared(value), most);
+        }
+        reserve_one(&mut self.offers)?;
+        self.globals.put(local, Meaning::Shared(value), most)?;
+        self.offers.push_reserved(Remake {
+            local,
+            surrogate,
+            to,
+        });
+        Ok(())
+    }
+
+    /// Takes the mark of a shared name away, and its offer out of the list. The name then has the value handed in, or is
+    /// not there where none is; where the workspace would weigh more than it may with that value, the name has its own
+    /// copy. No memory.
+    pub fn unmark(&mut self, name: &Name, value: Option<Array>)
+        requires { is_shared self.old name.now ≡ true }
+        ensures { self.new ≡ unmarked self.old name.now value }
+    {
+        let most = WEIGHT_LIMIT - self.frames_weight;
+        self.globals.unshare(name, value, most);
+        unlist(&mut self.offers, name);
+    }
+
+    /// The own copy of a shared variable is this value. `WsFull` where the workspace would weigh more than it may; it
+    /// leaves the workspace as it was. No memory.
+    pub fn renew(&mut self, name: &Name, value: Array) -> Result<(), Fail>
+        requires { is_shared self.old name.now ≡ true }
+        ensures ok { OnOk result (self.new ≡ with_global self.old name.now (Meaning.Shared (Some value))) }
+        ensures fits { OnOk result (workspace_weight (with_global self.old name.now (Meaning.Shared (Some value))) ≤ most_weight) }
+        ensures err { OnErr result (self.new ≡ self.old) }
+        ensures full { IfErr result (IsFull (with_global self.old name.now (Meaning.Shared (Some value)))) }
+        ensures granted { workspace_weight (with_global self.old name.now (Meaning.Shared (Some value))) ≤ most_weight → IsOk result }
+    {
+        self.put_global(*name, Meaning::Shared(Some(value)))
+    }
+}
+
+/// Takes the offers of a name out of a list. No memory.
+fn unlist(offers: &mut Vec<Remake>, name: &Name)
+    ensures items { offers.new.items ≡ filter (is_of_another name.now) offers.old.items }
+    ensures len { vec_len offers.new ≤ vec_len offers.old }
+{
+    offers.retain(|offer| offer.local != *name);
+}

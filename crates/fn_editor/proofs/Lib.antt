@@ -1,0 +1,6 @@
+pub mod Closes
+pub mod Digits
+pub mod Editors
+pub mod LastNumber
+pub mod Numbered
+pub mod Prompts

@@ -1,0 +1,8 @@
+pub mod Bracket
+pub mod Closing
+pub mod Editing
+pub mod Editor
+pub mod Number
+pub mod Opening
+pub mod Padded
+pub mod Prompt

@@ -1,0 +1,20 @@
+//! The editor of functions: a definition that is opened, changed line by line, shown, and closed.
+#![tactic(auto)]
+
+mod bracket;
+mod closing;
+mod content;
+mod editor;
+mod laws;
+mod number;
+mod opening;
+mod prompt;
+mod showing;
+
+pub use editor::{Editor, Fed};
+pub use laws::{lines_close_behind_a_del, numbers_go_on_in_tenths};
+pub use opening::Opened;
+pub use prompt::Prompt;
+
+#[cfg(test)]
+mod tests;

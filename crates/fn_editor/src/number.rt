@@ -1,0 +1,67 @@
+ghost use Rattle.std.specs.Prelude.{◌≡◌, ◌<◌, ◌≤◌};
+ghost use Rattle.fn_editor.specs.Number.{most_number, most_whole, next, number_of, tenth, whole};
+
+use std::marker::Model;
+
+/// The greatest whole part of the number of a line.
+pub const WHOLE_LIMIT: u16 = 999;
+
+/// The number of a line, n or n.d, at most 1000. It is seen as a count of tenths.
+#[derive(Clone, Copy, Debug, PartialEq, Eq, PartialOrd, Ord)]
+pub struct LineNumber {
+    tenths: u16,
+}
+
+impl Model for LineNumber {
+    ghost use Rattle.std.specs.Prelude.{◌≤◌, ℕ};
+    ghost use Rattle.fn_editor.specs.Number.{most_number};
+
+    ghost Value = { ℕ };
+
+    ghost view = { λ n. n.tenths };
+
+    ghost invariant = { λ n. n.tenths ≤ most_number };
+
+    ghost inverse = { λ tenths. record { tenths = tenths } };
+}
+
+impl LineNumber {
+    /// The number of a whole part and of the digit behind the point, 0 where there is none. No memory.
+    pub fn of(whole: u16, tenth: u8) -> LineNumber
+        requires whole { whole ≤ most_whole }
+        requires tenth { tenth < 10 }
+        ensures { result ≡ number_of whole tenth }
+    {
+        LineNumber {
+            tenths: 10 * whole + u16::from(tenth),
+        }
+    }
+
+    /// The whole part. No memory.
+    pub fn whole(self) -> u16
+        ensures value { result ≡ whole self }
+        ensures within { result ≤ 1000 }
+        ensures limit { self ≤ most_number }
+    {
+        self.tenths / 10
+    }
+
+    /// The digit behind the point, 0 where there is none. No memory.
+    pub fn tenth(self) -> u8
+        ensures value { result ≡ tenth self }
+        ensures digit { result < 10 }
+    {
+        (self.tenths % 10) as u8
+    }
+
+    /// The number that comes next: after n comes n+1, after n.d comes n.(d+1), after n.9 comes n+1. No memory.
+    pub fn next(self) -> LineNumber
+        requires { whole self ≤ most_whole }
+        ensures { result ≡ next self }
+    {
+        let step = if self.tenths % 10 == 0 { 10 } else { 1 };
+        LineNumber {
+            tenths: self.tenths + step,
+        }
+    }
+}
