@@ -1,30 +1,27 @@
 -- Two arrays joined along an axis.
-use Rattle.std.proofs.Common.{◌≡◌, ℕ, ℤ, pos, zero, suc, ◌+◌, ◌-◌, ◌*◌, ◌/◌, ◌%◌, ◌<◌, ◌≤◌, ◌==◌, ◌&&◌, ◌||◌, Bool, true, false, not, cond, max, nat_lt, nat_eq, List, [], ◌∷◌, ◌++◌, map, Option, Some, None, Ok, Err, is_some, length, take, drop, get_or, set, refl, sym, ap, subst, ◌∙◌, append_assoc, arith}
-use Rattle.std.specs.List.{range_with_len}
+use Rattle.std.proofs.Common.{◌≡◌, ℕ, ℤ, pos, zero, suc, ◌+◌, ◌-◌, ◌*◌, ◌/◌, ◌%◌, ◌<◌, ◌≤◌, ◌==◌, ◌&&◌, ◌||◌, Bool, true, false, not, cond, max, nat_lt, List, [], ◌∷◌, ◌++◌, map, Option, Some, None, Ok, Err, is_some, length, take, drop, get_or, set, refl, sym, ap, subst, ◌∙◌, append_assoc, arith}
 use Rattle.std.specs.Cmp.Lexicographic.{pointwise, same_text}
-use Rattle.std.proofs.Math.Nat.{mul_assoc, mul_comm}
+use Rattle.std.proofs.Math.Nat.{mul_assoc}
 use Rattle.std.proofs.lemmas.Bool.{and_parts}
 use Rattle.std.proofs.lemmas.Bool.Decides.{nat_tests}
 use Rattle.std.proofs.lemmas.List.{get_or-append-add, get_or-set_same, get_or_append_left, length-set, nil_from_length, take-append-drop}
 use Rattle.std.proofs.lemmas.List.FromFn.{map-range_with_len_more}
 use Rattle.std.proofs.lemmas.Nat.{div_below, div-add-mod', mod_below, row_fits}
-use Rattle.apl_arrays.specs.declared.report.Report.{Report}
 use Rattle.apl_arrays.specs.declared.report.Report.TheVariants.{WsFull}
 use Rattle.apl_arrays.specs.Array.{PlainArray, PlainItems, IsArray, numbers, chars, chars_in, element_count, is_chars, item_count, numbers_in}
 use Rattle.apl_arrays.specs.Glyph.{blank}
 use Rattle.apl_arrays.specs.Shape.{shape_fault}
 use Rattle.apl_items.specs.declared.shapes.Split.{Split}
 use Rattle.apl_items.specs.Along.{source_count}
-use Rattle.apl_items.specs.Answers.{first_report, unless}
+use Rattle.apl_items.specs.Answers.{first_report}
 use Rattle.apl_items.specs.Axis.{lacks_axis}
 use Rattle.apl_items.specs.Extension.{Reaches, place_in}
 use Rattle.apl_items.specs.Moves.{item_or, moved_items, moved_list}
 use Rattle.apl_items.specs.Places.{places}
-use Rattle.apl_items.specs.Shapes.{along_of, inner_of, outer_of, place_along, split_at, split_count}
+use Rattle.apl_items.specs.Shapes.{place_along, split_at}
 use Rattle.apl_items.proofs.ShapeLemmas.{along_of_place, element_count-append, inner_of_place, outer_of_place, split_count_lem}
-use Rattle.apl_structure.specs.Catenation.{agree_around, are_near, are_no_scalars, axes_behind, both_items, catenate_faults, catenate_of, greater_shape, joined, joined_axis, joined_place, joined_rank, joined_shape, kind_giver, kinds_clash, span_of}
+use Rattle.apl_structure.specs.Catenation.{agree_around, are_near, axes_behind, both_items, catenate_faults, catenate_of, greater_shape, joined, joined_axis, joined_place, joined_rank, joined_shape, kind_giver, kinds_clash, span_of}
 use Rattle.apl_structure.specs.Listing.{vector_shape}
-use Rattle.apl_structure.specs.Taking.{is_scalar}
 use Rattle.apl_structure.proofs.FaultLemmas.{answer_fits, answer_too_large, nothing_is_wrong}
 use Rattle.apl_structure.proofs.ListingLemmas.{source_of_relength}
 use Rattle.apl_structure.proofs.MoveLemmas.{array_of, count_of_made, map_more, same_map}

@@ -1,21 +1,19 @@
 -- Axes in other places.
-use Rattle.std.proofs.Common.{◌≡◌, ℕ, ℤ, pos, zero, suc, ◌+◌, ◌-◌, ◌*◌, ◌<◌, ◌≤◌, ◌==◌, ◌&&◌, ◌||◌, Bool, true, false, not, cond, max, min, List, [], ◌∷◌, ◌++◌, map, Option, Some, None, Ok, Err, is_some, length, get_or, drop, unsigned_abs, refl, sym, ap, subst, ◌∙◌, arith}
+use Rattle.std.proofs.Common.{◌≡◌, ℕ, ℤ, pos, zero, suc, ◌+◌, ◌*◌, ◌<◌, ◌≤◌, ◌==◌, ◌||◌, Bool, true, false, not, cond, min, List, [], ◌∷◌, map, Option, Some, None, Ok, Err, is_some, length, get_or, drop, refl, sym, ap, subst, ◌∙◌, arith}
 use Rattle.std.specs.List.{list_any}
 use Rattle.std.proofs.lemmas.Bool.Decides.{nat_tests}
-use Rattle.std.proofs.lemmas.List.{length-map}
-use Rattle.std.proofs.lemmas.List.FromFn.{get_or-map-range_with_len, length-map-range_with_len, map-range_with_len_more}
+use Rattle.std.proofs.lemmas.List.FromFn.{get_or-map-range_with_len, length-map-range_with_len}
 use Rattle.apl_arrays.specs.Array.{PlainArray, PlainItems, FitsLimits, IsArray, element_count, item_count, numbers_in, numbers, chars, is_chars}
 use Rattle.apl_arrays.specs.Glyph.{blank}
-use Rattle.apl_arrays.specs.declared.report.Report.{Report}
 use Rattle.apl_arrays.specs.declared.report.Report.TheVariants.{WsFull}
 use Rattle.apl_arrays.specs.Shape.{shape_fault}
-use Rattle.apl_items.specs.Answers.{first_report, unless}
+use Rattle.apl_items.specs.Answers.{first_report}
 use Rattle.apl_items.specs.Axis.{lacks_axis}
 use Rattle.apl_items.specs.Axes.{added, offset_at, source_by_axes}
-use Rattle.apl_items.specs.Moves.{item_or, moved, moved_items, moved_list}
+use Rattle.apl_items.specs.Moves.{item_or, moved, moved_items}
 use Rattle.apl_items.specs.Places.{places}
 use Rattle.apl_items.specs.Shapes.{AreWithin, coordinates_of, place_of, stride_of}
-use Rattle.apl_items.proofs.ShapeLemmas.{coordinates_are_within, coordinates_of_place, parts_fit, place_of_below}
+use Rattle.apl_items.proofs.ShapeLemmas.{coordinates_are_within, parts_fit, place_of_below}
 use Rattle.apl_structure.specs.Diagonals.{axes_by_faults, axes_named, axis_count, coordinates_by, diagonal_shape, least_length, leaves_gap, step_of, transpose_by_of, transposed_by}
 use Rattle.apl_structure.proofs.AxisLemmas.{as_many_within, each_within, same_offsets}
 use Rattle.apl_structure.proofs.FaultLemmas.{answer_fits, answer_too_large, count_of_numbers, nothing_is_wrong}

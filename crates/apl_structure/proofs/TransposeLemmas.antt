@@ -1,12 +1,12 @@
 -- What a transpose moves, by coordinates; a transpose of a transpose.
-use Rattle.std.proofs.Common.{◌≡◌, ℕ, zero, suc, ◌+◌, ◌-◌, ◌*◌, ◌<◌, ◌≤◌, List, [], ◌∷◌, ◌++◌, Option, Some, length, take, drop, reverse, get_or, refl, sym, ap, subst, ◌∙◌, arith}
-use Rattle.std.proofs.lemmas.List.{drop_all, drop_more, get_or-reverse, length-reverse, reverse-append, reverse-reverse, take_all, take_more, length-take-le}
+use Rattle.std.proofs.Common.{◌≡◌, ℕ, suc, ◌+◌, ◌-◌, ◌*◌, ◌<◌, List, [], ◌∷◌, ◌++◌, Option, Some, length, take, drop, reverse, get_or, sym, ap, ◌∙◌, arith}
+use Rattle.std.proofs.lemmas.List.{drop_all, get_or-reverse, length-reverse, reverse-append, reverse-reverse, take_all, take_more, length-take-le}
 use Rattle.std.proofs.Math.Nat.{mul_assoc}
-use Rattle.apl_arrays.specs.Array.{PlainArray, PlainItems, IsArray, element_count}
+use Rattle.apl_arrays.specs.Array.{PlainArray, IsArray, element_count}
 use Rattle.apl_items.specs.Axes.{added, offset_at, source_by_axes}
 use Rattle.apl_items.specs.Moves.{moved_items}
 use Rattle.apl_items.specs.Shapes.{AreWithin, coordinates_of, place_of, stride_of}
-use Rattle.apl_items.proofs.ShapeLemmas.{coordinates_are_within, coordinates_of_place, element_count-append, element_count-cons, place_of_below, place_of_coordinates}
+use Rattle.apl_items.proofs.ShapeLemmas.{coordinates_are_within, coordinates_of_place, element_count-append, place_of_below, place_of_coordinates}
 use Rattle.apl_structure.specs.Transposition.{opposite_offset, transposed}
 use Rattle.apl_structure.proofs.AxisLemmas.{as_many_within, count_from, each_within, element_count-reverse}
 use Rattle.apl_structure.proofs.LawLemmas.{IsBack, twice_items}

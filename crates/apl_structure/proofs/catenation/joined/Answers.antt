@@ -1,4 +1,4 @@
-use Rattle.std.proofs.Common.{◌≡◌, ◌<◌, ◌≤◌, ℕ, List, is_some, length, subst, sym, ap, ◌∙◌, arith}
+use Rattle.std.proofs.Common.{ℕ, List, is_some, subst, sym, ap, ◌∙◌, arith}
 use Rattle.apl_arrays.specs.Array.{item_count, plain_items}
 use Rattle.apl_arrays.specs.Shape.{shape_fault}
 use Rattle.apl_arrays.proofs.Shapes.{no_fault_fits}

@@ -1,10 +1,9 @@
-use Rattle.std.proofs.Common.{◌≡◌, ◌+◌, ◌<◌, ℕ, ℤ, List, length, refl, subst, sym, ap, ◌∙◌, arith}
-use Rattle.std.proofs.lemmas.Result.{IfOk-weaker}
-use Rattle.apl_arrays.specs.Array.{chars_in, element_count, item_count, numbers_in, plain_items}
+use Rattle.std.proofs.Common.{◌≡◌, ◌<◌, ℕ, ℤ, List, length, sym, ap, ◌∙◌, arith}
+use Rattle.apl_arrays.specs.Array.{item_count}
 use Rattle.apl_items.specs.Along.{source_count}
 use Rattle.apl_items.specs.Shapes.{split_at}
 use Rattle.apl_structure.specs.Catenation.{joined_rank, span_of}
-use Rattle.apl_structure.proofs.CatenateLemmas.{chars_of_both, joined_chars, joined_numbers, long_of_join, numbers_of_both, rank_of_join, reach_as, same_join}
+use Rattle.apl_structure.proofs.CatenateLemmas.{chars_of_both, long_of_join, numbers_of_both, rank_of_join, reach_as}
 use Rattle.apl_structure.proofs.catenation.joined_items.Goals as goal
 
 pub joined_list-requires-clause-long : goal.joined_list-requires-clause-long

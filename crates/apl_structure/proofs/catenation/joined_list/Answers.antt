@@ -1,5 +1,4 @@
-use Rattle.std.proofs.Common.{◌≡◌, ◌<◌, ◌++◌, ℕ, Option, Some, [], length, ap, ◌∙◌, arith}
-use Rattle.apl_arrays.specs.Array.{element_count}
+use Rattle.std.proofs.Common.{◌≡◌, ◌++◌, ℕ, Option, Some, [], length, ap, ◌∙◌, arith}
 use Rattle.apl_items.specs.Moves.{moved_list}
 use Rattle.apl_items.specs.Shapes.{split_at}
 use Rattle.apl_items.proofs.ShapeLemmas.{split_count_lem}

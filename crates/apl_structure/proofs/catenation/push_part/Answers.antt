@@ -1,4 +1,4 @@
-use Rattle.std.proofs.Common.{◌+◌, ◌*◌, ℕ, Option, Some, length, refl, ◌∙◌, arith}
+use Rattle.std.proofs.Common.{◌+◌, ◌*◌, ℕ, Option, Some, length, ◌∙◌, arith}
 use Rattle.apl_items.specs.Extension.{place_in}
 use Rattle.apl_structure.proofs.CatenateLemmas.{one_item_more, part_fits}
 use Rattle.apl_structure.proofs.catenation.push_part.Goals as goal

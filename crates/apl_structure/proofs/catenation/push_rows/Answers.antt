@@ -1,4 +1,4 @@
-use Rattle.std.proofs.Common.{◌+◌, ◌*◌, ◌∙◌, arith, vec_len, vec_capacity}
+use Rattle.std.proofs.Common.{◌∙◌, arith, vec_len, vec_capacity}
 use Rattle.apl_structure.proofs.CatenateLemmas.{one_join_more, parts_of_row, parts_small, room_for_parts}
 use Rattle.apl_structure.proofs.catenation.push_rows.Goals as goal
 

@@ -1,4 +1,4 @@
-use Rattle.std.proofs.Common.{◌≡◌, ◌<◌, ◌≤◌, ◌*◌, ◌-◌, unsigned_abs, ℕ, List, Option, Some, None, length, get_or, min, subst, sym, ap, ◌∙◌, arith}
+use Rattle.std.proofs.Common.{◌≡◌, ◌<◌, ◌-◌, unsigned_abs, ℕ, List, length, get_or, subst, sym, ap, ◌∙◌, arith}
 use Rattle.apl_arrays.specs.Array.{element_count, item_count, plain_items}
 use Rattle.apl_items.specs.Shapes.{stride_of}
 use Rattle.apl_structure.specs.Diagonals.{axes_named}

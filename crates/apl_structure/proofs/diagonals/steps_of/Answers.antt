@@ -1,4 +1,4 @@
-use Rattle.std.proofs.Common.{◌+◌, ℕ, ap, ◌∙◌, arith}
+use Rattle.std.proofs.Common.{◌+◌, ℕ, ap, ◌∙◌}
 use Rattle.apl_structure.specs.Diagonals.{axes_named, step_of}
 use Rattle.apl_structure.proofs.MoveLemmas.{one_place_more}
 use Rattle.apl_structure.proofs.diagonals.steps_of.Goals as goal
