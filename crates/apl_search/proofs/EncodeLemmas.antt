@@ -1,13 +1,11 @@
 -- Digits of numbers by bases: how many there are, and the reports on them.
-use Rattle.std.proofs.Common.{◌≡◌, ℕ, ℤ, ◌+◌, ◌*◌, ◌<◌, ◌≤◌, ◌++◌, ◌||◌, Bool, true, false, cond, List, length, is_some, nat_lt, Option, Some, None, refl, sym, ap, ◌∙◌, arith}
+use Rattle.std.proofs.Common.{◌≡◌, ℕ, ℤ, ◌*◌, ◌<◌, ◌≤◌, ◌++◌, ◌||◌, Bool, true, false, cond, List, length, is_some, nat_lt, Option, Some, None, refl, sym, ap, ◌∙◌, arith}
 use Rattle.std.specs.List.{All}
 use Rattle.std.proofs.lemmas.Bool.Decides.{nat_tests}
-use Rattle.std.proofs.lemmas.List.{length-append}
 use Rattle.std.proofs.lemmas.List.Elements.{All-append}
 use Rattle.apl_arrays.specs.declared.array.ShapeFault.{ShapeFault}
-use Rattle.apl_arrays.specs.declared.report.Report.{Report}
 use Rattle.apl_arrays.specs.declared.report.Report.TheVariants.{Domain, WsFull}
-use Rattle.apl_arrays.specs.Array.{numbers as numbers_of, PlainArray, PlainItems, FitsLimits, IsArray, element_count, is_chars, item_count, numbers_in}
+use Rattle.apl_arrays.specs.Array.{numbers as numbers_of, PlainArray, PlainItems, FitsLimits, IsArray, element_count, is_chars, numbers_in}
 use Rattle.apl_arrays.specs.Shape.{shape_fault}
 use Rattle.apl_arrays.proofs.Shapes.{too_large_by_size, what_fits_has_no_fault}
 use Rattle.apl_items.specs.Answers.{first_report, no_faults}

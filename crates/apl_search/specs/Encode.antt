@@ -1,4 +1,4 @@
-use Rattle.std.specs.Prelude.{◌≡◌, ◌+◌, ◌*◌, ◌/◌, ◌%◌, ◌<◌, ◌≤◌, ◌||◌, ◌++◌, ℕ, ℤ, pos, Bool, true, List, [], ◌∷◌, All, Option, length, drop, nat_lt, is_some, slice_index_or, if◌then◌else◌}
+use Rattle.std.specs.Prelude.{◌≡◌, ◌+◌, ◌*◌, ◌/◌, ◌%◌, ◌<◌, ◌≤◌, ◌||◌, ◌++◌, ℕ, ℤ, pos, true, List, [], ◌∷◌, All, Option, length, drop, nat_lt, is_some, slice_index_or, if◌then◌else◌}
 use Rattle.std.specs.Ordering.{int_eq}
 use Rattle.apl_arrays.specs.Array.{PlainArray, is_chars, element_count, numbers_in}
 use Rattle.apl_arrays.specs.Limits.{most_axes}

@@ -1,4 +1,4 @@
-use Rattle.std.proofs.Common.{◌≡◌, ℕ, length, subst, ap, ◌∙◌, arith}
+use Rattle.std.proofs.Common.{◌≡◌, ℕ, length, subst, ◌∙◌, arith}
 use Rattle.apl_search.specs.Encode.{AreBefore}
 use Rattle.apl_search.proofs.DigitLemmas.{columns_made}
 use Rattle.apl_search.proofs.encoding.digits.Goals as goal

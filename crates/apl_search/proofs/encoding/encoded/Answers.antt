@@ -1,6 +1,5 @@
-use Rattle.std.proofs.Common.{◌≡◌, ℕ, List, length, ◌++◌, sym, ap, ◌∙◌}
+use Rattle.std.proofs.Common.{sym, ap, ◌∙◌}
 use Rattle.apl_arrays.specs.Array.{element_count}
-use Rattle.apl_search.specs.Encode.{encode_shape}
 use Rattle.apl_search.proofs.EncodeLemmas.{count_of, digits_whole, fine_digits, joined_is}
 use Rattle.apl_search.proofs.encoding.encoded.Goals as goal
 

@@ -1,6 +1,6 @@
-use mir.Syntax.{w64, w128}
-use Rattle.std.proofs.Common.{◌≡◌, ◌+◌, ◌-◌, ◌<◌, ◌≤◌, ◌^◌, ℕ, ℤ, unsigned_abs, to_z, of_z, not, is_none, is_some, true, false, length, drop, refl, sym, ap, subst, ◌∙◌, arith}
-use Rattle.std.proofs.lemmas.Int.{ints, to_z-of_z}
+use mir.Syntax.{w64}
+use Rattle.std.proofs.Common.{◌≡◌, ◌+◌, ◌-◌, ◌≤◌, ◌^◌, ℕ, ℤ, unsigned_abs, not, is_none, true, false, length, drop, refl, sym, ap, subst, ◌∙◌, arith}
+use Rattle.std.proofs.lemmas.Int.{to_z-of_z}
 use Rattle.apl_items.proofs.RefusalLemmas.{list_any-places}
 use Rattle.apl_scalar.specs.Table.{item_where, least}
 use Rattle.apl_search.specs.Encode.{digit_at, rest_by_all}

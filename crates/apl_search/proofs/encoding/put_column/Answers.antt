@@ -1,7 +1,7 @@
 use mir.Syntax.{w64, w128}
-use Rattle.std.proofs.Common.{◌≡◌, ◌+◌, ◌-◌, ◌*◌, ◌<◌, ◌≤◌, ◌^◌, ℕ, ℤ, pos, unsigned_abs, FitsSigned, to_z, of_z, List, length, drop, set, get_or, refl, sym, ap, subst, ◌∙◌, arith, length-set}
+use Rattle.std.proofs.Common.{◌≡◌, ◌+◌, ◌-◌, ◌*◌, ◌<◌, ◌≤◌, ◌^◌, ℕ, ℤ, pos, unsigned_abs, FitsSigned, to_z, of_z, length, drop, set, get_or, refl, sym, subst, ◌∙◌, arith, length-set}
 use Rattle.std.proofs.lemmas.Int.{ints, to_z-of_z}
-use Rattle.apl_search.specs.Encode.{AreBefore, AreFrom, digit_at, rest_by_all}
+use Rattle.apl_search.specs.Encode.{AreFrom, rest_by_all}
 use Rattle.apl_search.proofs.DigitLemmas.{before_kept, column_done, column_more, digit_here_fits, digit_read, left_read, wide}
 use Rattle.apl_search.proofs.encoding.put_column.Goals as goal
 

@@ -1,4 +1,4 @@
-use Rattle.std.proofs.Common.{sym, ap, ◌∙◌}
+use Rattle.std.proofs.Common.{ap, ◌∙◌}
 use Rattle.std.proofs.Common.{length, nat_lt}
 use Rattle.apl_search.proofs.IndexLemmas.{place_tells}
 use Rattle.apl_search.proofs.index.has.Goals as goal
