@@ -94,7 +94,7 @@ fn assign(alloc: Global, ws: &mut Workspace, text: &str) -> Result<Result<(), Fa
 
 fn define(alloc: Global, ws: &mut Workspace, text: &str) -> Result<Result<(), Fail>> {
     let function = function_of(alloc, text)?;
-    let name = function.header.name;
+    let name = function.name();
     match ws.global(&name) {
         Seen::Value(_) | Seen::Shared(_) => bail!("a variable is not defined"),
         _ => Ok(ws.define(function)),

@@ -6,7 +6,7 @@ ghost use Rattle.apl_workspace.specs.Limits.{most_weight};
 
 use crate::Header;
 use crate::limits::{FUNCTION_LINE_LIMIT, LINE_GLYPH_LIMIT, WEIGHT_LIMIT};
-use apl_arrays::{Line, LineList, WantOfMemory};
+use apl_arrays::{Line, LineList, Name, WantOfMemory};
 use std::alloc::Global;
 use std::marker::Model;
 
@@ -46,6 +46,14 @@ impl Function {
                 lines,
             })),
         }
+    }
+
+    /// Its name. No memory.
+    pub fn name(&self) -> Name
+        ensures { result ≡ self.now.header.name }
+    {
+        let header = &self.header;
+        header.name
     }
 
     /// An equal function. It takes memory for its texts and names.

@@ -74,7 +74,7 @@ fn defined(rt: &impl Abort, alloc: Global, ws: &mut Workspace) -> Result<Name, W
     lines.push(line_of(alloc, "L: B")?)?;
     let function = Function::of(alloc, line_of(alloc, "R←F B;L2")?, lines)?;
     let function = function.expect(rt, "it is a function");
-    let name = function.header.name;
+    let name = function.name();
     let before = told(ws, &name);
     if matches!(ws.global(&name), Seen::Value(_) | Seen::Shared(_)) {
         return Ok(name);

@@ -38,7 +38,7 @@ impl Workspace {
         ensures err { OnErr result (self.new ≡ self.old) }
         ensures full { IfErr result (IsFull (with_global self.old function.header.name (Meaning.Function function))) }
     {
-        let name = name_of(&function);
+        let name = function.name();
         self.put_global(name, Meaning::Function(function))
     }
 
@@ -100,11 +100,3 @@ impl Workspace {
 }
 
 fn discard(_value: Array) {}
-
-/// The name of a function.
-fn name_of(function: &Function) -> Name
-    ensures { result ≡ function.now.header.name }
-{
-    let header = &function.header;
-    header.name
-}
