@@ -9,6 +9,7 @@ mod fields;
 mod items;
 mod names;
 mod numbers;
+mod operators;
 mod reports;
 mod scalar;
 mod shapes;
@@ -22,6 +23,7 @@ use characters::{BadGlyphs, Glyphs};
 use display::{Formats, Lines};
 use items::{PlacedItems, Scalars};
 use names::{FileNameOrder, FileNames, NameOrder, Names, Words};
+use operators::{OuterProducts, Reductions};
 use reports::{Refusals, Reports};
 use scalar::{Dyads, Monads};
 use shapes::{Equality, Shapes};
@@ -65,6 +67,12 @@ fn structures(rt: &HostRuntime) -> Result<Tally> {
     Ok(tally)
 }
 
+fn operations(rt: &HostRuntime) -> Result<Tally> {
+    let mut tally = run_table(rt, "reduce.txt", &Reductions)?;
+    tally.add(run_table(rt, "outer.txt", &OuterProducts)?);
+    Ok(tally)
+}
+
 fn texts(rt: &HostRuntime) -> Result<Tally> {
     let mut tally = run_table(rt, "tokens.txt", &Tokens)?;
     tally.add(run_table(rt, "trees.txt", &Trees)?);
@@ -76,6 +84,7 @@ fn all_tables(rt: &HostRuntime) -> Result<Tally> {
     let mut tally = values(rt)?;
     tally.add(functions(rt)?);
     tally.add(structures(rt)?);
+    tally.add(operations(rt)?);
     tally.add(texts(rt)?);
     Ok(tally)
 }
