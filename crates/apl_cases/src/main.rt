@@ -14,6 +14,7 @@ mod items;
 mod joins;
 mod names;
 mod numbers;
+mod operators;
 mod reports;
 mod scalar;
 mod search;
@@ -34,6 +35,7 @@ use indexing::{Assignments, Indexings};
 use items::{PlacedItems, Scalars};
 use joins::{Diagonals, Joins};
 use names::{FileNameOrder, FileNames, NameOrder, Names, Words};
+use operators::{OuterProducts, Reductions};
 use reports::{Refusals, Reports};
 use scalar::{Dyads, Monads};
 use search::{Grades, Searches};
@@ -94,6 +96,12 @@ fn searches(rt: &HostRuntime) -> Result<Tally> {
     Ok(tally)
 }
 
+fn operations(rt: &HostRuntime) -> Result<Tally> {
+    let mut tally = run_table(rt, "reduce.txt", &Reductions)?;
+    tally.add(run_table(rt, "outer.txt", &OuterProducts)?);
+    Ok(tally)
+}
+
 fn texts(rt: &HostRuntime) -> Result<Tally> {
     let mut tally = run_table(rt, "tokens.txt", &Tokens)?;
     tally.add(run_table(rt, "trees.txt", &Trees)?);
@@ -115,6 +123,7 @@ fn all_tables(rt: &HostRuntime) -> Result<Tally> {
     tally.add(functions(rt)?);
     tally.add(structures(rt)?);
     tally.add(searches(rt)?);
+    tally.add(operations(rt)?);
     tally.add(texts(rt)?);
     tally.add(scripts(rt)?);
     Ok(tally)

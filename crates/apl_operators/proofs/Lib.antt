@@ -1,0 +1,6 @@
+mod GatherLemmas
+mod LineLemmas
+mod NumberLemmas
+mod ReductionLemmas
+mod RowLemmas
+mod ShapeLemmas

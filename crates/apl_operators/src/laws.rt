@@ -1,0 +1,80 @@
+//! Worked examples of the definitions.
+
+ghost use Rattle.std.specs.Prelude.{◌≡◌, pos, negsuc, [], ◌∷◌, Some, None, Ok, Err};
+ghost use Rattle.apl_arrays.specs.Array.{chars, numbers, scalar};
+ghost use Rattle.apl_operators.specs.Inner.{inner_of};
+ghost use Rattle.apl_operators.specs.Outer.{outer_of};
+ghost use Rattle.apl_operators.specs.Reduce.{reduce_of};
+ghost use Rattle.apl_operators.specs.Scan.{scan_of};
+
+use apl_arrays::{Dyad, Report, Way};
+
+/// Reductions: `-/1 2 3` is 2, since it goes from the right; no items give the identity, numbers or characters, or
+/// DOMAIN where there is none; one item and a scalar are unchanged; a scalar has no axis. The call does nothing. No
+/// memory.
+pub fn reductions_go_from_the_right()
+    ensures minus { reduce_of Dyad.Minus (record { shape = 3 ∷ []; items = numbers (pos 1 ∷ pos 2 ∷ pos 3 ∷ []) }) Way.Last None ≡ Ok (scalar (pos 2)) }
+    ensures no_numbers { reduce_of Dyad.Plus (record { shape = 0 ∷ []; items = numbers [] }) Way.Last None ≡ Ok (scalar (pos 0)) }
+    ensures no_chars { reduce_of Dyad.Plus (record { shape = 0 ∷ []; items = chars [] }) Way.Last None ≡ Ok (scalar (pos 0)) }
+    ensures no_identity { reduce_of Dyad.Nand (record { shape = 0 ∷ []; items = numbers [] }) Way.Last None ≡ Err Report.Domain }
+    ensures one { reduce_of Dyad.Plus (record { shape = 1 ∷ []; items = chars (65 ∷ []) }) Way.Last None ≡ Ok (record { shape = []; items = chars (65 ∷ []) }) }
+    ensures scalar { reduce_of Dyad.Divide (scalar (pos 5)) Way.First None ≡ Ok (scalar (pos 5)) }
+    ensures no_axis { reduce_of Dyad.Plus (scalar (pos 5)) Way.Last (Some (pos 1)) ≡ Err Report.Index }
+    ensures chars { reduce_of Dyad.Equal (record { shape = 3 ∷ []; items = chars (65 ∷ 66 ∷ 66 ∷ []) }) Way.Last None ≡ Ok (scalar (pos 0)) }
+    ensures refused { reduce_of Dyad.Plus (record { shape = 2 ∷ []; items = chars (65 ∷ 66 ∷ []) }) Way.Last None ≡ Err Report.Domain }
+{}
+
+/// Reductions of a matrix of two rows and three columns: along its rows, along its columns, and along no axis of it; and
+/// of matrices that give no items, which are numbers. The call does nothing. No memory.
+pub fn reductions_go_along_an_axis()
+    ensures rows { reduce_of Dyad.Plus (record { shape = 2 ∷ 3 ∷ []; items = numbers (pos 1 ∷ pos 2 ∷ pos 3 ∷ pos 4 ∷ pos 5 ∷ pos 6 ∷ []) }) Way.Last None
+        ≡ Ok (record { shape = 2 ∷ []; items = numbers (pos 6 ∷ pos 15 ∷ []) }) }
+    ensures columns { reduce_of Dyad.Minus (record { shape = 2 ∷ 3 ∷ []; items = numbers (pos 1 ∷ pos 2 ∷ pos 3 ∷ pos 4 ∷ pos 5 ∷ pos 6 ∷ []) }) Way.First None
+        ≡ Ok (record { shape = 3 ∷ []; items = numbers (negsuc 2 ∷ negsuc 2 ∷ negsuc 2 ∷ []) }) }
+    ensures second { reduce_of Dyad.Maximum (record { shape = 2 ∷ 3 ∷ []; items = numbers (pos 1 ∷ pos 2 ∷ pos 3 ∷ pos 4 ∷ pos 5 ∷ pos 6 ∷ []) }) Way.First (Some (pos 2))
+        ≡ Ok (record { shape = 2 ∷ []; items = numbers (pos 3 ∷ pos 6 ∷ []) }) }
+    ensures third { reduce_of Dyad.Plus (record { shape = 2 ∷ 1 ∷ []; items = numbers (pos 1 ∷ pos 2 ∷ []) }) Way.Last (Some (pos 3)) ≡ Err Report.Index }
+    ensures none { reduce_of Dyad.Nand (record { shape = 0 ∷ 0 ∷ []; items = chars [] }) Way.Last None ≡ Ok (record { shape = 0 ∷ []; items = numbers [] }) }
+    ensures one { reduce_of Dyad.Plus (record { shape = 0 ∷ 1 ∷ []; items = chars [] }) Way.Last None ≡ Ok (record { shape = 0 ∷ []; items = numbers [] }) }
+{}
+
+/// Scans: `-\1 2 3` is `1 ¯1 2`, each item a reduction from the right; so a product may leave 64 bits although 0 stands
+/// before it. Items of both kinds are DOMAIN; no items keep their kind. The call does nothing. No memory.
+pub fn scans_are_reductions()
+    ensures minus { scan_of Dyad.Minus (record { shape = 3 ∷ []; items = numbers (pos 1 ∷ pos 2 ∷ pos 3 ∷ []) }) Way.Last None
+        ≡ Ok (record { shape = 3 ∷ []; items = numbers (pos 1 ∷ negsuc 0 ∷ pos 2 ∷ []) }) }
+    ensures columns { scan_of Dyad.Plus (record { shape = 2 ∷ 2 ∷ []; items = numbers (pos 1 ∷ pos 2 ∷ pos 3 ∷ pos 4 ∷ []) }) Way.First None
+        ≡ Ok (record { shape = 2 ∷ 2 ∷ []; items = numbers (pos 1 ∷ pos 2 ∷ pos 4 ∷ pos 6 ∷ []) }) }
+    ensures product { scan_of Dyad.Times (record { shape = 3 ∷ []; items = numbers (pos 0 ∷ pos 9223372036854775807 ∷ pos 2 ∷ []) }) Way.Last None ≡ Err Report.Domain }
+    ensures kinds { scan_of Dyad.Equal (record { shape = 2 ∷ []; items = chars (65 ∷ 66 ∷ []) }) Way.Last None ≡ Err Report.Domain }
+    ensures one { scan_of Dyad.Plus (record { shape = 1 ∷ []; items = chars (65 ∷ []) }) Way.Last None ≡ Ok (record { shape = 1 ∷ []; items = chars (65 ∷ []) }) }
+    ensures no_chars { scan_of Dyad.Plus (record { shape = 0 ∷ []; items = chars [] }) Way.Last None ≡ Ok (record { shape = 0 ∷ []; items = chars [] }) }
+    ensures no_axis { scan_of Dyad.Plus (scalar (pos 5)) Way.Last (Some (pos 1)) ≡ Err Report.Index }
+{}
+
+/// Outer products: `1 2∘.+1 2` is a matrix; no items are numbers, whatever is paired; a pair without a value is DOMAIN.
+/// The call does nothing. No memory.
+pub fn outer_products_pair_all()
+    ensures sums { outer_of Dyad.Plus (record { shape = 2 ∷ []; items = numbers (pos 1 ∷ pos 2 ∷ []) }) (record { shape = 2 ∷ []; items = numbers (pos 1 ∷ pos 2 ∷ []) })
+        ≡ Ok (record { shape = 2 ∷ 2 ∷ []; items = numbers (pos 2 ∷ pos 3 ∷ pos 3 ∷ pos 4 ∷ []) }) }
+    ensures order { outer_of Dyad.Minus (record { shape = 2 ∷ []; items = numbers (pos 1 ∷ pos 2 ∷ []) }) (record { shape = 3 ∷ []; items = numbers (pos 1 ∷ pos 2 ∷ pos 3 ∷ []) })
+        ≡ Ok (record { shape = 2 ∷ 3 ∷ []; items = numbers (pos 0 ∷ negsuc 0 ∷ negsuc 1 ∷ pos 1 ∷ pos 0 ∷ negsuc 0 ∷ []) }) }
+    ensures none { outer_of Dyad.Plus (record { shape = 0 ∷ []; items = chars [] }) (record { shape = 2 ∷ []; items = numbers (pos 1 ∷ pos 2 ∷ []) })
+        ≡ Ok (record { shape = 0 ∷ 2 ∷ []; items = numbers [] }) }
+    ensures refused { outer_of Dyad.Divide (record { shape = 1 ∷ []; items = numbers (pos 1 ∷ []) }) (record { shape = 2 ∷ []; items = numbers (pos 1 ∷ pos 2 ∷ []) }) ≡ Err Report.Domain }
+    ensures unlike { outer_of Dyad.NotEqual (scalar (pos 1)) (record { shape = 1 ∷ []; items = chars (65 ∷ []) }) ≡ Ok (record { shape = 1 ∷ []; items = numbers (pos 1 ∷ []) }) }
+    ensures axes { outer_of Dyad.Divide (record { shape = 1 ∷ 1 ∷ 1 ∷ 1 ∷ 1 ∷ []; items = numbers (pos 1 ∷ []) }) (record { shape = 1 ∷ 1 ∷ 1 ∷ 1 ∷ []; items = numbers (pos 2 ∷ []) }) ≡ Err Report.Rank }
+{}
+
+/// Inner products: `1 2+.×3 4` is 11; a matrix by a vector; one element extends, but an axis of length 1 does not; no
+/// pairs give the identity of the first function. The call does nothing. No memory.
+pub fn inner_products_reduce_pairs()
+    ensures sum { inner_of Dyad.Plus Dyad.Times (record { shape = 2 ∷ []; items = numbers (pos 1 ∷ pos 2 ∷ []) }) (record { shape = 2 ∷ []; items = numbers (pos 3 ∷ pos 4 ∷ []) }) ≡ Ok (scalar (pos 11)) }
+    ensures rows { inner_of Dyad.Minus Dyad.Times (record { shape = 2 ∷ 2 ∷ []; items = numbers (pos 1 ∷ pos 2 ∷ pos 3 ∷ pos 4 ∷ []) }) (record { shape = 2 ∷ 1 ∷ []; items = numbers (pos 5 ∷ pos 1 ∷ []) })
+        ≡ Ok (record { shape = 2 ∷ 1 ∷ []; items = numbers (pos 3 ∷ pos 11 ∷ []) }) }
+    ensures one { inner_of Dyad.Plus Dyad.Times (scalar (pos 2)) (record { shape = 2 ∷ []; items = numbers (pos 3 ∷ pos 4 ∷ []) }) ≡ Ok (scalar (pos 14)) }
+    ensures lengths { inner_of Dyad.Plus Dyad.Times (record { shape = 2 ∷ []; items = numbers (pos 1 ∷ pos 2 ∷ []) }) (record { shape = 1 ∷ 2 ∷ []; items = numbers (pos 3 ∷ pos 4 ∷ []) }) ≡ Err Report.Length }
+    ensures no_chars { inner_of Dyad.Plus Dyad.Times (record { shape = 0 ∷ []; items = chars [] }) (record { shape = 0 ∷ []; items = chars [] }) ≡ Ok (scalar (pos 0)) }
+    ensures first { inner_of Dyad.Times Dyad.Plus (record { shape = 0 ∷ []; items = numbers [] }) (record { shape = 0 ∷ []; items = numbers [] }) ≡ Ok (scalar (pos 1)) }
+    ensures no_identity { inner_of Dyad.Nor Dyad.Plus (record { shape = 0 ∷ []; items = numbers [] }) (record { shape = 0 ∷ []; items = numbers [] }) ≡ Err Report.Domain }
+{}

@@ -1,0 +1,16 @@
+//! The operators of APL: what reduction, scan, inner and outer product of an array are; reduction and outer product.
+#![tactic(auto)]
+
+mod identities;
+mod items;
+pub mod laws;
+mod lines;
+mod outer_product;
+mod reducing;
+mod reduction;
+mod rows;
+#[cfg(test)]
+mod tests;
+
+pub use outer_product::outer;
+pub use reducing::reduce;

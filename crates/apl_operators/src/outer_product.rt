@@ -1,0 +1,147 @@
+ghost use Rattle.std.specs.Prelude.{◌≡◌, ◌*◌, ◌<◌, ◌≤◌, ◌^◌, ◌==◌, ℤ, Option, pos, false, length, slice_index, slice_index_or};
+ghost use Rattle.apl_arrays.specs.Array.{chars, element_count, item_count, numbers, plain_items};
+ghost use Rattle.apl_arrays.specs.Limits.{most_axes};
+ghost use Rattle.apl_items.specs.Answers.{Answers};
+ghost use Rattle.apl_scalar.specs.Table.{dyadic_item, item_of_chars};
+ghost use Rattle.apl_operators.specs.Gathering.{numbers_answer};
+ghost use Rattle.apl_operators.specs.Outer.{outer_at, outer_of};
+ghost use Rattle.apl_operators.specs.Reduction.{Joins};
+
+use crate::rows::numbers_by_rows;
+use apl_arrays::{Array, Dyad, Fail, Glyph, Items, RANK_LIMIT, Report};
+use apl_items::joined_shape;
+use apl_scalar::{character_of, dyadic_table};
+use std::alloc::Global;
+
+macro_rules! all_pairs_of {
+    (($($argument:expr),*), $rule:expr, $identity:expr) => {
+        pairs_by($($argument,)* $rule)
+    };
+}
+
+/// A dyadic function of each item of an array with each of another, in the shape of the one and then of the other. RANK
+/// where that has over eight axes, else DOMAIN where a pair of items has no value of 64 bits, else WS FULL where it is too
+/// large. It takes memory for the shape and for the items. ISO 8485.
+#[tactic(auto, using(crate::proofs::ShapeLemmas::pair_count))]
+pub fn outer(alloc: Global, f: Dyad, a: &Array, b: &Array) -> Result<Array, Fail>
+    ensures { Answers result (outer_of f a.now b.now) }
+{
+    if a.shape().len() + b.shape().len() > RANK_LIMIT {
+        return Err(Fail::Report(Report::Rank));
+    }
+    let shape = joined_shape(alloc, a.shape(), b.shape())?;
+    all_pairs(alloc, f, &shape, a.items(), b.items())
+}
+
+/// All pairs of items. The kinds are looked at once.
+fn all_pairs(alloc: Global, f: Dyad, shape: &[u32], a: &Items, b: &Items) -> Result<Array, Fail>
+    requires rank { length shape.now ≤ most_axes }
+    requires count { item_count (plain_items a.now) * item_count (plain_items b.now) ≡ element_count shape.now }
+    requires fits { item_count (plain_items a.now) * item_count (plain_items b.now) < 2 ^ 64 }
+    ensures { Answers result (numbers_answer shape.now (outer_at f (plain_items a.now) (plain_items b.now))) }
+{
+    match (a, b) {
+        (Items::Numbers(a), Items::Numbers(b)) => {
+            number_pairs(alloc, f, shape, a.as_slice(), b.as_slice())
+        }
+        (Items::Chars(a), Items::Chars(b)) => {
+            glyph_pairs(alloc, f, shape, a.as_slice(), b.as_slice())
+        }
+        (Items::Numbers(a), Items::Chars(b)) => {
+            unlike_pairs(alloc, f, shape, a.as_slice().len(), b.as_slice().len())
+        }
+        (Items::Chars(a), Items::Numbers(b)) => {
+            unlike_pairs(alloc, f, shape, a.as_slice().len(), b.as_slice().len())
+        }
+    }
+}
+
+/// All pairs of numbers. The function is chosen once.
+fn number_pairs(alloc: Global, f: Dyad, shape: &[u32], a: &[i64], b: &[i64]) -> Result<Array, Fail>
+    requires rank { length shape.now ≤ most_axes }
+    requires count { length a.now * length b.now ≡ element_count shape.now }
+    requires fits { length a.now * length b.now < 2 ^ 64 }
+    ensures { Answers result (numbers_answer shape.now (outer_at f (numbers a.now) (numbers b.now))) }
+{
+    dyadic_table!(f, all_pairs_of(alloc, f, shape, a, b))
+}
+
+/// All pairs of numbers, by the rule of a function.
+fn pairs_by<F: Fn(i64, i64) -> Option<i64>>(
+    alloc: Global,
+    f: Dyad,
+    shape: &[u32],
+    a: &[i64],
+    b: &[i64],
+    rule: F,
+) -> Result<Array, Fail>
+    requires callable { F.IsAlwaysCallable rule }
+    requires rule { Joins (F.post rule) (dyadic_item f) }
+    requires rank { length shape.now ≤ most_axes }
+    requires count { length a.now * length b.now ≡ element_count shape.now }
+    requires fits { length a.now * length b.now < 2 ^ 64 }
+    ensures { Answers result (numbers_answer shape.now (outer_at f (numbers a.now) (numbers b.now))) }
+{
+    numbers_by_rows(
+        alloc,
+        shape,
+        a.len(),
+        b.len(),
+        &|row: usize, column: usize| -> Option<i64>
+            requires callable { F.IsAlwaysCallable rule }
+            requires row { row < length a.now }
+            requires column { column < length b.now }
+            ensures { F.post rule (slice_index_or a.entry.now row (pos 0)) (slice_index_or b.entry.now column (pos 0)) result }
+        { rule(a[row], b[column]) },
+    )
+}
+
+/// All pairs of characters.
+fn glyph_pairs(
+    alloc: Global,
+    f: Dyad,
+    shape: &[u32],
+    a: &[Glyph],
+    b: &[Glyph],
+) -> Result<Array, Fail>
+    requires rank { length shape.now ≤ most_axes }
+    requires count { length a.now * length b.now ≡ element_count shape.now }
+    requires fits { length a.now * length b.now < 2 ^ 64 }
+    ensures { Answers result (numbers_answer shape.now (outer_at f (chars a.now) (chars b.now))) }
+{
+    numbers_by_rows(
+        alloc,
+        shape,
+        a.len(),
+        b.len(),
+        &|row: usize, column: usize| -> Option<i64>
+            requires row { row < length a.now }
+            requires column { column < length b.now }
+            ensures { result ≡ item_of_chars f (slice_index a.entry.now row == slice_index b.entry.now column) }
+        { character_of(f, a[row].code() == b[column].code()) },
+    )
+}
+
+/// All pairs of a character and a number.
+fn unlike_pairs(
+    alloc: Global,
+    f: Dyad,
+    shape: &[u32],
+    rows: usize,
+    columns: usize,
+) -> Result<Array, Fail>
+    requires rank { length shape.now ≤ most_axes }
+    requires count { rows * columns ≡ element_count shape.now }
+    requires fits { rows * columns < 2 ^ 64 }
+    ensures { Answers result (numbers_answer shape.now (λ place. item_of_chars f false)) }
+{
+    numbers_by_rows(
+        alloc,
+        shape,
+        rows,
+        columns,
+        &|_row: usize, _column: usize| -> Option<i64>
+            ensures { result ≡ item_of_chars f false }
+        { character_of(f, false) },
+    )
+}

@@ -1,0 +1,214 @@
+ghost use Rattle.std.specs.Prelude.{◌≡◌, ◌*◌, ◌<◌, ◌≤◌, ◌-◌, ◌/◌, ◌%◌, ℤ, Option, Some, length, slice_index};
+ghost use Rattle.apl_arrays.specs.Array.{FitsLimits, chars, element_count, item_count, numbers, plain_items};
+ghost use Rattle.apl_items.specs.Answers.{Answers};
+ghost use Rattle.apl_items.specs.Shapes.{place_along, split_count};
+ghost use Rattle.apl_scalar.specs.Table.{dyadic_item};
+ghost use Rattle.apl_items.specs.Axis.{without};
+ghost use Rattle.apl_operators.specs.Gathering.{gathered, number_in, numbers_answer};
+ghost use Rattle.apl_operators.specs.Reduce.{reduce_of, reduced, reduced_line};
+ghost use Rattle.apl_operators.specs.Reduction.{Joins, front_of_line, item_in, joined_by, reduction};
+
+use crate::identities::identities;
+use crate::items::{joined_by, number_in};
+use crate::lines::{LineAt, front_of_line};
+use crate::reduction::reduced;
+use crate::rows::numbers_by_rows;
+use apl_arrays::{Array, Dyad, Fail, Glyph, Item, Items, List, Report, Way, count_of_elements};
+use apl_items::{Split, axis_of, joined_shape, lacks_axis};
+use apl_scalar::dyadic_table;
+use std::alloc::Global;
+
+macro_rules! all_lines_of {
+    (($($argument:expr),*), $rule:expr, $identity:expr) => {
+        lines_by($($argument,)* $rule)
+    };
+}
+
+/// The reduction of an array by a dyadic function, along an axis, the last or the first where none is named: of each line
+/// the first item, joined with the reduction of the others. No item gives the identity, and one item and a scalar are
+/// unchanged. DOMAIN where a pair has no value of 64 bits, or where there is no item and no identity, else INDEX where the
+/// axis is not from 1 to the rank, else WS FULL where the result is too large. It takes memory for the shape and for the
+/// items. ISO 8485.
+pub fn reduce(alloc: Global, f: Dyad, b: &Array, way: Way, axis: Option<i64>) -> Result<Array, Fail>
+    ensures { Answers result (reduce_of f b.now way axis) }
+{
+    let rank = b.shape().len();
+    if lacks_axis(rank, axis) {
+        Err(Fail::Report(Report::Index))
+    } else if rank == 0 {
+        Ok(b.copy(alloc)?)
+    } else {
+        reduced_along(alloc, f, b, axis_of(rank, way, axis))
+    }
+}
+
+/// The reduction along an axis, line by line.
+fn reduced_along(alloc: Global, f: Dyad, b: &Array, axis: usize) -> Result<Array, Fail>
+    requires { axis < length b.now.shape }
+    ensures { Answers result (reduced f b.now axis) }
+{
+    let axes = b.shape();
+    let shape = joined_shape(alloc, &axes[..axis], &axes[axis + 1..])?;
+    if axes[axis] == 0 {
+        identities(alloc, f, &shape)
+    } else {
+        reduced_lines(alloc, f, b, axis, &shape)
+    }
+}
+
+/// The reduction of lines that have items.
+fn reduced_lines(
+    alloc: Global,
+    f: Dyad,
+    b: &Array,
+    axis: usize,
+    shape: &[u32],
+) -> Result<Array, Fail>
+    requires axis { axis < length b.now.shape }
+    requires some { 0 < slice_index b.now.shape axis }
+    requires shape { shape.now ≡ without axis b.now.shape }
+    requires fits { FitsLimits shape.now }
+    ensures { Answers result (reduced f b.now axis) }
+{
+    if b.items().is_empty() {
+        return Ok(Array::shaped(shape, Items::Numbers(List::new(alloc))));
+    }
+    let split = Split::at(b.shape(), axis);
+    lines_of_items(alloc, f, shape, b.items(), split)
+}
+
+/// The reduction of lines that have items, in an array that has lines. The kind is looked at once.
+fn lines_of_items(
+    alloc: Global,
+    f: Dyad,
+    shape: &[u32],
+    items: &Items,
+    split: Split,
+) -> Result<Array, Fail>
+    requires fits { FitsLimits shape.now }
+    requires whole { split_count split ≡ item_count (plain_items items.now) }
+    requires lines { split.outer * split.inner ≡ element_count shape.now }
+    requires some { 0 < split_count split }
+    ensures { Answers result (gathered shape.now (reduced_line f (plain_items items.now) split)) }
+{
+    match items {
+        Items::Numbers(list) => number_lines(alloc, f, shape, list.as_slice(), split),
+        Items::Chars(list) => {
+            if split.along == 1 {
+                Ok(Array::shaped(shape, Items::Chars(list.copy(alloc)?)))
+            } else {
+                char_lines(alloc, f, shape, list.as_slice(), split)
+            }
+        }
+    }
+}
+
+/// The reductions of lines of numbers. The function is chosen once.
+fn number_lines(
+    alloc: Global,
+    f: Dyad,
+    shape: &[u32],
+    list: &[i64],
+    split: Split,
+) -> Result<Array, Fail>
+    requires fits { FitsLimits shape.now }
+    requires some { 0 < split.along }
+    requires whole { split_count split ≡ length list.now }
+    requires lines { split.outer * split.inner ≡ element_count shape.now }
+    ensures { Answers result (gathered shape.now (reduced_line f (numbers list.now) split)) }
+{
+    dyadic_table!(f, all_lines_of(alloc, f, shape, list, split))
+}
+
+/// The reductions of lines of numbers, by the rule of a function.
+fn lines_by<F: Fn(i64, i64) -> Option<i64>>(
+    alloc: Global,
+    f: Dyad,
+    shape: &[u32],
+    list: &[i64],
+    split: Split,
+    rule: F,
+) -> Result<Array, Fail>
+    requires callable { F.IsAlwaysCallable rule }
+    requires rule { Joins (F.post rule) (dyadic_item f) }
+    requires fits { FitsLimits shape.now }
+    requires some { 0 < split.along }
+    requires whole { split_count split ≡ length list.now }
+    requires lines { split.outer * split.inner ≡ element_count shape.now }
+    ensures { Answers result (gathered shape.now (reduced_line f (numbers list.now) split)) }
+{
+    numbers_by_rows(
+        alloc,
+        shape,
+        split.outer,
+        split.inner,
+        &|outer: usize, inner: usize| -> Option<i64>
+            requires callable { F.IsAlwaysCallable rule }
+            requires rule { Joins (F.post rule) (dyadic_item f) }
+            requires some { 0 < split.along }
+            requires whole { split_count split ≡ length list.now }
+            requires outer { outer < split.outer }
+            requires inner { inner < split.inner }
+            ensures { result ≡ front_of_line (dyadic_item f) list.entry.now split outer inner (split.along - 1) }
+        {
+            front_of_line(
+                f,
+                list,
+                split,
+                LineAt { outer, inner },
+                split.along - 1,
+                &rule,
+            )
+        },
+    )
+}
+
+/// The reductions of lines of two characters or more.
+fn char_lines(
+    alloc: Global,
+    f: Dyad,
+    shape: &[u32],
+    list: &[Glyph],
+    split: Split,
+) -> Result<Array, Fail>
+    requires fits { FitsLimits shape.now }
+    requires some { 1 < split.along }
+    requires whole { split_count split ≡ length list.now }
+    requires lines { split.outer * split.inner ≡ element_count shape.now }
+    ensures { Answers result (gathered shape.now (reduced_line f (chars list.now) split)) }
+{
+    numbers_by_rows(
+        alloc,
+        shape,
+        split.outer,
+        split.inner,
+        &|outer: usize, inner: usize| -> Option<i64>
+            requires some { 1 < split.along }
+            requires whole { split_count split ≡ length list.now }
+            requires outer { outer < split.outer }
+            requires inner { inner < split.inner }
+            ensures { result ≡ number_in (reduction (joined_by f) (λ along. Some (item_in (chars list.entry.now) (place_along split outer along inner))) 0 (split.along - 1)) }
+        { char_line(f, list, split, LineAt { outer, inner }) },
+    )
+}
+
+/// The reduction of a line of characters.
+fn char_line(f: Dyad, list: &[Glyph], split: Split, line: LineAt) -> Option<i64>
+    requires some { 0 < split.along }
+    requires whole { split_count split ≡ length list.now }
+    requires outer { line.outer < split.outer }
+    requires inner { line.inner < split.inner }
+    ensures { result ≡ number_in (reduction (joined_by f) (λ along. Some (item_in (chars list.now) (place_along split line.outer along line.inner))) 0 (split.along - 1)) }
+{
+    let glyph = |along: usize| -> Option<Item>
+        requires whole { split_count split ≡ length list.now }
+        requires outer { line.outer < split.outer }
+        requires inner { line.inner < split.inner }
+        requires along { along < split.along }
+        ensures { result ≡ Some (item_in (chars list.entry.now) (place_along split line.outer along line.inner)) }
+    { Some(Item::Char(list[split.place(line.outer, along, line.inner)])) };
+    let join = |x: Item, y: Item| -> Option<Item>
+        ensures { result ≡ joined_by f x y }
+    { joined_by(f, &x, &y) };
+    number_in(reduced(split.along - 1, &glyph, &join))
+}
