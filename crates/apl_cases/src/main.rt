@@ -23,7 +23,7 @@ use characters::{BadGlyphs, Glyphs};
 use display::{Formats, Lines};
 use items::{PlacedItems, Scalars};
 use names::{FileNameOrder, FileNames, NameOrder, Names, Words};
-use operators::{OuterProducts, Reductions};
+use operators::{InnerProducts, OuterProducts, Reductions};
 use reports::{Refusals, Reports};
 use scalar::{Dyads, Monads};
 use shapes::{Equality, Shapes};
@@ -69,6 +69,7 @@ fn structures(rt: &HostRuntime) -> Result<Tally> {
 
 fn operations(rt: &HostRuntime) -> Result<Tally> {
     let mut tally = run_table(rt, "reduce.txt", &Reductions)?;
+    tally.add(run_table(rt, "inner.txt", &InnerProducts)?);
     tally.add(run_table(rt, "outer.txt", &OuterProducts)?);
     Ok(tally)
 }
