@@ -35,7 +35,7 @@ use indexing::{Assignments, Indexings};
 use items::{PlacedItems, Scalars};
 use joins::{Diagonals, Joins};
 use names::{FileNameOrder, FileNames, NameOrder, Names, Words};
-use operators::{OuterProducts, Reductions};
+use operators::{InnerProducts, OuterProducts, Reductions};
 use reports::{Refusals, Reports};
 use scalar::{Dyads, Monads};
 use search::{Grades, Searches};
@@ -98,6 +98,7 @@ fn searches(rt: &HostRuntime) -> Result<Tally> {
 
 fn operations(rt: &HostRuntime) -> Result<Tally> {
     let mut tally = run_table(rt, "reduce.txt", &Reductions)?;
+    tally.add(run_table(rt, "inner.txt", &InnerProducts)?);
     tally.add(run_table(rt, "outer.txt", &OuterProducts)?);
     Ok(tally)
 }

@@ -3,13 +3,17 @@ use crate::fields::unless_wanted;
 use crate::scalar::dyad_of;
 use anyhow::{Context, Result, bail};
 use apl_arrays::Way;
-use apl_operators::{outer, reduce};
+use apl_operators::{inner, outer, reduce};
 use case_tables::Trial;
 use std::alloc::Global;
 
 /// Reductions: the function, `/` or `⌿`, the axis or `-`, the argument, and the result.
 #[derive(Clone, Copy, Debug)]
 pub struct Reductions;
+
+/// Inner products: the left argument, the two functions, the right argument, and the result.
+#[derive(Clone, Copy, Debug)]
+pub struct InnerProducts;
 
 /// Outer products: the left argument, the function, the right argument, and the result.
 #[derive(Clone, Copy, Debug)]
@@ -41,6 +45,19 @@ impl Trial for Reductions {
         let way = way_of(*sign).context("no operator")?;
         let axis = axis_of(alloc, *axis)?;
         let outcome = reduce(alloc, function, &array_of(alloc, *argument)?, way, axis);
+        unless_wanted(alloc, outcome_text(alloc, outcome)?, *wanted)
+    }
+}
+
+impl Trial for InnerProducts {
+    fn difference(&self, alloc: Global, fields: &[&str]) -> Result<Option<String>> {
+        let [left, first, second, right, wanted] = fields else {
+            bail!("an argument, two functions, an argument and a result are wanted");
+        };
+        let first = dyad_of(*first).context("no function")?;
+        let second = dyad_of(*second).context("no function")?;
+        let (left, right) = (array_of(alloc, *left)?, array_of(alloc, *right)?);
+        let outcome = inner(alloc, first, second, &left, &right);
         unless_wanted(alloc, outcome_text(alloc, outcome)?, *wanted)
     }
 }

@@ -5,3 +5,4 @@ pub mod Reduction
 pub mod Reduce
 pub mod Scan
 pub mod Rows
+pub mod Products

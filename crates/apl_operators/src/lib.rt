@@ -1,7 +1,8 @@
-//! The operators of APL: what reduction, scan, inner and outer product of an array are; reduction and outer product.
+//! The operators of APL: what reduction, scan, inner and outer product of an array are; reduction, inner and outer product.
 #![tactic(auto)]
 
 mod identities;
+mod inner_product;
 mod items;
 pub mod laws;
 mod lines;
@@ -12,5 +13,6 @@ mod rows;
 #[cfg(test)]
 mod tests;
 
+pub use inner_product::inner;
 pub use outer_product::outer;
 pub use reducing::reduce;

@@ -1,4 +1,4 @@
-use crate::{outer, reduce};
+use crate::{inner, outer, reduce};
 use apl_arrays::{Array, Dyad, Fail, Items, List, Report, WantOfMemory, Way};
 use std::alloc::Global;
 use std::process::Abort;
@@ -18,6 +18,8 @@ fn calls(rt: &impl Abort, alloc: Global) -> Result<(), WantOfMemory> {
     let rows = array(rt, alloc, &[2], &[2, 5])?;
     assert!(rt; given(reduce(alloc, Dyad::Minus, &b, Way::Last, None))? == Ok(rows));
     let weights = array(rt, alloc, &[3], &[1, 10, 100])?;
+    let products = array(rt, alloc, &[2], &[321, 654])?;
+    assert!(rt; given(inner(alloc, Dyad::Plus, Dyad::Times, &b, &weights))? == Ok(products));
     let pair = array(rt, alloc, &[2], &[1, 2])?;
     let pairs = array(rt, alloc, &[2, 3], &[1, 10, 100, 2, 20, 200])?;
     assert!(rt; given(outer(alloc, Dyad::Times, &pair, &weights))? == Ok(pairs));

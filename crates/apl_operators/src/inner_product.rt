@@ -1,0 +1,360 @@
+ghost use Rattle.std.specs.Prelude.{◌≡◌, ◌+◌, ◌*◌, ◌/◌, ◌%◌, ◌-◌, ◌<◌, ◌≤◌, ◌^◌, ◌==◌, ◌++◌, ℕ, ℤ, Option, false, drop, length};
+ghost use Rattle.apl_arrays.specs.Array.{IsArray, chars, element_count, item_count, numbers, plain_items};
+ghost use Rattle.apl_arrays.specs.Limits.{most_axes};
+ghost use Rattle.apl_items.specs.Answers.{Answers};
+ghost use Rattle.apl_items.specs.Extension.{Reaches, char_at, number_at, place_in};
+ghost use Rattle.apl_scalar.specs.Table.{dyadic_item, item_of_chars};
+ghost use Rattle.apl_operators.specs.Gathering.{numbers_answer};
+ghost use Rattle.apl_operators.specs.Inner.{ends_differ, first_length, front, inner_at, inner_of, last_length, paired};
+ghost use Rattle.apl_operators.specs.Products.{FollowsPairs, IsExtent, product_of, products_at};
+ghost use Rattle.apl_operators.specs.Reduction.{Joins};
+
+use crate::identities::identities;
+use crate::reduction::reduced;
+use crate::rows::numbers_by_rows;
+use apl_arrays::{Array, Dyad, Fail, Glyph, Items, RANK_LIMIT, Report, count_of_elements};
+use apl_items::{glyph_at, is_single, joined_shape, number_at};
+use apl_scalar::{character_of, dyadic_table};
+use std::alloc::Global;
+
+macro_rules! pairs_of {
+    (($($argument:expr),*), $rule:expr, $identity:expr) => {
+        products_by_pairs($($argument,)* $rule)
+    };
+}
+
+macro_rules! reductions_of {
+    (($($argument:expr),*), $rule:expr, $identity:expr) => {
+        products_by($($argument,)* $rule)
+    };
+}
+
+/// How many rows the first argument has, how many items are paired in each product, and how many columns the second has.
+#[derive(Clone, Copy)]
+struct Extent {
+    rows: usize,
+    paired: usize,
+    columns: usize,
+}
+
+/// The inner product of two arrays: each row of the first with each column of the second, paired by one function and
+/// reduced by another; the shape is that of the first without its last axis, then that of the second without its first. An
+/// array of one element takes the length of the other. RANK where that has over eight axes, else LENGTH where the last axis
+/// of the first and the first of the second differ, else DOMAIN where two items have no value of 64 bits, or where none are
+/// paired and there is no identity, else WS FULL where the result is too large. It takes memory for the shape and for the
+/// items. ISO 8485.
+pub fn inner(alloc: Global, f: Dyad, g: Dyad, a: &Array, b: &Array) -> Result<Array, Fail>
+    ensures { Answers result (inner_of f g a.now b.now) }
+{
+    let (front, back) = (without_last(a.shape()), without_first(b.shape()));
+    if front.len() + back.len() > RANK_LIMIT {
+        return Err(Fail::Report(Report::Rank));
+    }
+    if ends_differ(a, b) {
+        return Err(Fail::Report(Report::Length));
+    }
+    let shape = joined_shape(alloc, front, back)?;
+    products(alloc, f, g, a, b, &shape)
+}
+
+/// A shape without its last axis.
+fn without_last(shape: &[u32]) -> &[u32]
+    ensures { result.now ≡ front shape.now }
+{
+    &shape[..shape.len().saturating_sub(1)]
+}
+
+/// A shape without its first axis.
+fn without_first(shape: &[u32]) -> &[u32]
+    ensures { result.now ≡ drop 1 shape.now }
+{
+    match shape.split_first() {
+        Some((_, rest)) => rest,
+        None => shape,
+    }
+}
+
+/// The length of the last axis, 1 where there is none.
+fn last_length(shape: &[u32]) -> usize
+    ensures { result ≡ last_length shape.now }
+{
+    match shape.last() {
+        Some(length) => *length as usize,
+        None => 1,
+    }
+}
+
+/// The length of the first axis, 1 where there is none.
+fn first_length(shape: &[u32]) -> usize
+    ensures { result ≡ first_length shape.now }
+{
+    match shape.first() {
+        Some(length) => *length as usize,
+        None => 1,
+    }
+}
+
+/// Whether the last axis of one and the first of the other differ where neither extends.
+fn ends_differ(a: &Array, b: &Array) -> bool
+    ensures { result ≡ ends_differ a.now b.now }
+{
+    !is_single(a) && !is_single(b) && last_length(a.shape()) != first_length(b.shape())
+}
+
+/// How many items are paired: an array of one element takes the length of the other.
+fn paired(a: &Array, b: &Array) -> usize
+    ensures { result ≡ paired a.now b.now }
+{
+    if is_single(a) {
+        first_length(b.shape())
+    } else {
+        last_length(a.shape())
+    }
+}
+
+/// The products of rows and columns that fit.
+fn products(
+    alloc: Global,
+    f: Dyad,
+    g: Dyad,
+    a: &Array,
+    b: &Array,
+    shape: &[u32],
+) -> Result<Array, Fail>
+    requires a { IsArray a.now }
+    requires b { IsArray b.now }
+    requires rank { length shape.now ≤ most_axes }
+    requires shape { shape.now ≡ front a.now.shape ++ drop 1 b.now.shape }
+    requires fit { ends_differ a.now b.now ≡ false }
+    ensures { Answers result (inner_of f g a.now b.now) }
+{
+    let paired = paired(a, b);
+    if paired == 0 {
+        return identities(alloc, f, shape);
+    }
+    let extent = Extent {
+        rows: count_of_elements(without_last(a.shape())),
+        paired,
+        columns: count_of_elements(without_first(b.shape())),
+    };
+    products_of_items(alloc, f, g, shape, a.items(), b.items(), extent)
+}
+
+/// The products of rows and columns that have items. The kinds are looked at once.
+fn products_of_items(
+    alloc: Global,
+    f: Dyad,
+    g: Dyad,
+    shape: &[u32],
+    a: &Items,
+    b: &Items,
+    extent: Extent,
+) -> Result<Array, Fail>
+    requires rank { length shape.now ≤ most_axes }
+    requires count { extent.rows * extent.columns ≡ element_count shape.now }
+    requires extent { IsExtent extent }
+    requires in_a { Reaches (item_count (plain_items a.now)) (extent.rows * extent.paired) }
+    requires in_b { Reaches (item_count (plain_items b.now)) (extent.paired * extent.columns) }
+    ensures { Answers result (numbers_answer shape.now (inner_at f g (plain_items a.now) (plain_items b.now) extent.paired extent.columns)) }
+{
+    match (a, b) {
+        (Items::Numbers(a), Items::Numbers(b)) => {
+            number_products(alloc, f, g, shape, a.as_slice(), b.as_slice(), extent)
+        }
+        (Items::Chars(a), Items::Chars(b)) => {
+            glyph_products(alloc, f, g, shape, a.as_slice(), b.as_slice(), extent)
+        }
+        (Items::Numbers(_), Items::Chars(_)) => unlike_products(alloc, f, g, shape, extent),
+        (Items::Chars(_), Items::Numbers(_)) => unlike_products(alloc, f, g, shape, extent),
+    }
+}
+
+/// The products of numbers. The function that pairs them is chosen once.
+fn number_products(
+    alloc: Global,
+    f: Dyad,
+    g: Dyad,
+    shape: &[u32],
+    a: &[i64],
+    b: &[i64],
+    extent: Extent,
+) -> Result<Array, Fail>
+    requires rank { length shape.now ≤ most_axes }
+    requires count { extent.rows * extent.columns ≡ element_count shape.now }
+    requires extent { IsExtent extent }
+    requires in_a { Reaches (length a.now) (extent.rows * extent.paired) }
+    requires in_b { Reaches (length b.now) (extent.paired * extent.columns) }
+    ensures { Answers result (numbers_answer shape.now (inner_at f g (numbers a.now) (numbers b.now) extent.paired extent.columns)) }
+{
+    dyadic_table!(g, pairs_of(alloc, f, g, shape, a, b, extent))
+}
+
+/// The products of numbers, paired by the rule of a function.
+fn products_by_pairs<G: Fn(i64, i64) -> Option<i64>>(
+    alloc: Global,
+    f: Dyad,
+    g: Dyad,
+    shape: &[u32],
+    a: &[i64],
+    b: &[i64],
+    extent: Extent,
+    rule: G,
+) -> Result<Array, Fail>
+    requires callable { G.IsAlwaysCallable rule }
+    requires rule { Joins (G.post rule) (dyadic_item g) }
+    requires rank { length shape.now ≤ most_axes }
+    requires count { extent.rows * extent.columns ≡ element_count shape.now }
+    requires extent { IsExtent extent }
+    requires in_a { Reaches (length a.now) (extent.rows * extent.paired) }
+    requires in_b { Reaches (length b.now) (extent.paired * extent.columns) }
+    ensures { Answers result (numbers_answer shape.now (inner_at f g (numbers a.now) (numbers b.now) extent.paired extent.columns)) }
+{
+    all_products(
+        alloc,
+        f,
+        shape,
+        extent,
+        &|x: usize, y: usize| -> Option<i64>
+            requires callable { G.IsAlwaysCallable rule }
+            requires in_a { place_in (length a.now) x < length a.now }
+            requires in_b { place_in (length b.now) y < length b.now }
+            ensures { G.post rule (number_at a.entry.now x) (number_at b.entry.now y) result }
+        { rule(number_at(a, x), number_at(b, y)) },
+    )
+}
+
+/// The products of characters.
+fn glyph_products(
+    alloc: Global,
+    f: Dyad,
+    g: Dyad,
+    shape: &[u32],
+    a: &[Glyph],
+    b: &[Glyph],
+    extent: Extent,
+) -> Result<Array, Fail>
+    requires rank { length shape.now ≤ most_axes }
+    requires count { extent.rows * extent.columns ≡ element_count shape.now }
+    requires extent { IsExtent extent }
+    requires in_a { Reaches (length a.now) (extent.rows * extent.paired) }
+    requires in_b { Reaches (length b.now) (extent.paired * extent.columns) }
+    ensures { Answers result (numbers_answer shape.now (inner_at f g (chars a.now) (chars b.now) extent.paired extent.columns)) }
+{
+    all_products(
+        alloc,
+        f,
+        shape,
+        extent,
+        &|x: usize, y: usize| -> Option<i64>
+            requires in_a { place_in (length a.now) x < length a.now }
+            requires in_b { place_in (length b.now) y < length b.now }
+            ensures { result ≡ item_of_chars g (char_at a.entry.now x == char_at b.entry.now y) }
+        { character_of(g, glyph_at(a, x).code() == glyph_at(b, y).code()) },
+    )
+}
+
+/// The products of characters with numbers.
+fn unlike_products(
+    alloc: Global,
+    f: Dyad,
+    g: Dyad,
+    shape: &[u32],
+    extent: Extent,
+) -> Result<Array, Fail>
+    requires rank { length shape.now ≤ most_axes }
+    requires count { extent.rows * extent.columns ≡ element_count shape.now }
+    requires extent { IsExtent extent }
+    ensures { Answers result (numbers_answer shape.now (products_at f (λ x y. item_of_chars g false) extent.paired extent.columns)) }
+{
+    all_products(
+        alloc,
+        f,
+        shape,
+        extent,
+        &|_x: usize, _y: usize| -> Option<i64>
+            ensures { result ≡ item_of_chars g false }
+        { character_of(g, false) },
+    )
+}
+
+/// All products, by a rule for the pair of two places. The function that reduces them is chosen once.
+fn all_products<P: Fn(usize, usize) -> Option<i64>>(
+    alloc: Global,
+    f: Dyad,
+    shape: &[u32],
+    extent: Extent,
+    pair: &P,
+) -> Result<Array, Fail>
+    requires rank { length shape.now ≤ most_axes }
+    requires count { extent.rows * extent.columns ≡ element_count shape.now }
+    requires extent { IsExtent extent }
+    requires callable { (x y : ℕ) → x < extent.rows * extent.paired → y < extent.paired * extent.columns → P.pre pair.now x y }
+    ensures { (item : ℕ → ℕ → Option ℤ) → FollowsPairs (P.post pair.now) (extent.rows * extent.paired) (extent.paired * extent.columns) item → Answers result (numbers_answer shape.now (products_at f item extent.paired extent.columns)) }
+{
+    dyadic_table!(f, reductions_of(alloc, f, shape, extent, pair))
+}
+
+/// All products, reduced by the rule of a function.
+fn products_by<P: Fn(usize, usize) -> Option<i64>, F: Fn(i64, i64) -> Option<i64>>(
+    alloc: Global,
+    f: Dyad,
+    shape: &[u32],
+    extent: Extent,
+    pair: &P,
+    rule: F,
+) -> Result<Array, Fail>
+    requires able { F.IsAlwaysCallable rule }
+    requires rule { Joins (F.post rule) (dyadic_item f) }
+    requires rank { length shape.now ≤ most_axes }
+    requires count { extent.rows * extent.columns ≡ element_count shape.now }
+    requires extent { IsExtent extent }
+    requires callable { (x y : ℕ) → x < extent.rows * extent.paired → y < extent.paired * extent.columns → P.pre pair.now x y }
+    ensures { (item : ℕ → ℕ → Option ℤ) → FollowsPairs (P.post pair.now) (extent.rows * extent.paired) (extent.paired * extent.columns) item → Answers result (numbers_answer shape.now (products_at f item extent.paired extent.columns)) }
+{
+    numbers_by_rows(
+        alloc,
+        shape,
+        extent.rows,
+        extent.columns,
+        &|row: usize, column: usize| -> Option<i64>
+            requires able { F.IsAlwaysCallable rule }
+            requires rule { Joins (F.post rule) (dyadic_item f) }
+            requires extent { IsExtent extent }
+            requires row { row < extent.rows }
+            requires column { column < extent.columns }
+            requires callable { (x y : ℕ) → x < extent.rows * extent.paired → y < extent.paired * extent.columns → P.pre pair.now x y }
+            ensures { (item : ℕ → ℕ → Option ℤ) → FollowsPairs (P.post pair.entry.now) (extent.rows * extent.paired) (extent.paired * extent.columns) item → result ≡ product_of f item extent.paired extent.columns row column }
+        { product(f, extent, row, column, pair, &rule) },
+    )
+}
+
+/// The product of a row and a column.
+fn product<P: Fn(usize, usize) -> Option<i64>, F: Fn(i64, i64) -> Option<i64>>(
+    f: Dyad,
+    extent: Extent,
+    row: usize,
+    column: usize,
+    pair: &P,
+    rule: &F,
+) -> Option<i64>
+    requires able { F.IsAlwaysCallable rule.now }
+    requires rule { Joins (F.post rule.now) (dyadic_item f) }
+    requires extent { IsExtent extent }
+    requires row { row < extent.rows }
+    requires column { column < extent.columns }
+    requires callable { (x y : ℕ) → x < extent.rows * extent.paired → y < extent.paired * extent.columns → P.pre pair.now x y }
+    ensures { (item : ℕ → ℕ → Option ℤ) → FollowsPairs (P.post pair.now) (extent.rows * extent.paired) (extent.paired * extent.columns) item → result ≡ product_of f item extent.paired extent.columns row column }
+{
+    let Extent {
+        paired,
+        columns,
+        ..
+    } = extent;
+    let item = |along: usize| -> Option<i64>
+        requires callable { P.pre pair.now (row * paired + along) (along * columns + column) }
+        requires in_a { row * paired + along < 2 ^ 64 }
+        requires in_b { along * columns + column < 2 ^ 64 }
+        ensures { P.post pair.entry.now (row * paired + along) (along * columns + column) result }
+    { pair(row * paired + along, along * columns + column) };
+    reduced(paired - 1, &item, rule)
+}
