@@ -32,6 +32,3 @@ pub use seen::Seen;
 pub use table::Table;
 pub use what::What;
 pub use workspace::Workspace;
-
-#[cfg(test)]
-mod tests;
