@@ -10,6 +10,8 @@ mod outer_product;
 mod reducing;
 mod reduction;
 mod rows;
+#[cfg(test)]
+mod tests;
 
 pub use inner_product::inner;
 pub use outer_product::outer;

@@ -26,8 +26,8 @@ macro_rules! all_lines_of {
 
 /// The reduction of an array by a dyadic function, along an axis, the last or the first where none is named: of each line
 /// the first item, joined with the reduction of the others. No item gives the identity, and one item and a scalar are
-/// unchanged. INDEX where the axis is not from 1 to the rank, else DOMAIN where a pair has no value of 64 bits, or where
-/// there is no item and no identity, else WS FULL where the result is too large. It takes memory for the shape and for the
+/// unchanged. DOMAIN where a pair has no value of 64 bits, or where there is no item and no identity, else INDEX where the
+/// axis is not from 1 to the rank, else WS FULL where the result is too large. It takes memory for the shape and for the
 /// items. ISO 8485.
 pub fn reduce(alloc: Global, f: Dyad, b: &Array, way: Way, axis: Option<i64>) -> Result<Array, Fail>
     ensures { Answers result (reduce_of f b.now way axis) }

@@ -32,3 +32,6 @@ pub use seen::Seen;
 pub use table::Table;
 pub use what::What;
 pub use workspace::Workspace;
+
+#[cfg(test)]
+mod tests;

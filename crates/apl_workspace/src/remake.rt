@@ -8,5 +8,5 @@ pub struct Remake {
     pub to: u32,
 }
 
-/// Offers, the oldest first.
+/// Offers in the order in which they were made.
 pub type RemakeList = List<Remake>;

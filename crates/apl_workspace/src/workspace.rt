@@ -102,7 +102,7 @@ impl Workspace {
         self.printed += glyphs;
     }
 
-    /// The offers that are listed, the oldest first. It takes memory for them.
+    /// The offers that are listed, in the order in which they were made. It takes memory for them.
     pub fn remakes(&self) -> Result<RemakeList, WantOfMemory>
         ensures { IfOk result (λ offers. offers.items ≡ self.now.offers) }
     {

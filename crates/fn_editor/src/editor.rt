@@ -60,8 +60,7 @@ pub struct Fed {
 }
 
 impl Editor {
-    /// The prompt of the current number: the number in brackets, filled with one blank at least until it has six glyphs.
-    /// No memory.
+    /// The prompt of the current number: `[`, the number, `]`, and blanks up to six glyphs, at least one. No memory.
     pub fn prompt(&self) -> Prompt
         ensures { result ≡ prompt_text self.now.number }
     {

@@ -1,10 +1,10 @@
-//! What holds of the definitions: laws of numbers and of closing.
+//! What holds of the definitions: laws of numbers, of closing, and of brackets.
 
 ghost use Rattle.std.specs.Prelude.{◌≡◌, ◌↔◌, ◌<◌, ◌+◌, ℕ, List, Some};
 ghost use Rattle.fn_editor.specs.Closing.{IsBeforeClose, before_close};
 ghost use Rattle.fn_editor.specs.Number.{next, number_of};
 
-/// Whole numbers go on by one, tenths by a tenth, and the ninth tenth by the next whole number. The call does nothing. No memory.
+/// After n comes n+1, after n.d comes n.(d+1), and after n.9 comes n+1. The call does nothing. No memory.
 pub fn numbers_go_on_in_tenths()
     ensures whole { (n : ℕ) → next (number_of n 0) ≡ number_of (n + 1) 0 }
     ensures tenth { (n d : ℕ) → 0 < d → d < 9 → next (number_of n d) ≡ number_of n (d + 1) }

@@ -15,3 +15,6 @@ pub use editor::{Editor, Fed};
 pub use laws::{lines_close_behind_a_del, numbers_go_on_in_tenths};
 pub use opening::Opened;
 pub use prompt::Prompt;
+
+#[cfg(test)]
+mod tests;

@@ -54,8 +54,7 @@ impl LineNumber {
         (self.tenths % 10) as u8
     }
 
-    /// The number that comes next: one more, or behind a point a tenth more, and behind the ninth tenth the next whole
-    /// number. No memory.
+    /// The number that comes next: after n comes n+1, after n.d comes n.(d+1), after n.9 comes n+1. No memory.
     pub fn next(self) -> LineNumber
         requires { whole self ≤ most_whole }
         ensures { result ≡ next self }

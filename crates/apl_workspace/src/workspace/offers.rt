@@ -9,8 +9,8 @@ use crate::{Meaning, Remake, Workspace};
 use apl_arrays::{Array, Fail, Name};
 
 impl Workspace {
-    /// Marks a global name as shared with its own copy of the value, and lists its offer last. A name that was shared
-    /// before keeps the offer that it has, and a list of 64 offers takes no more. `WsFull` where the workspace would weigh more than it
+    /// Marks a global name as shared with its own copy of the value, and lists its offer last. Where the name is shared
+    /// already, or 64 offers are listed, the list stays as it is. `WsFull` where the workspace would weigh more than it
     /// may; it leaves the workspace as it was, and so does `WantOfMemory`.
     pub fn mark(
         &mut self,
