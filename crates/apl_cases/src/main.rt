@@ -5,46 +5,30 @@
 mod arrays;
 mod characters;
 mod display;
-mod editor;
-mod execute;
 mod fields;
-mod flags;
-mod indexing;
 mod items;
-mod joins;
 mod names;
 mod numbers;
-mod operators;
 mod reports;
 mod scalar;
-mod search;
 mod shapes;
 mod structure;
 mod tokens;
 mod trees;
-mod workspaces;
 
 use anyhow::Result;
 use case_tables::{Tally, run_table};
 use characters::{BadGlyphs, Glyphs};
 use display::{Formats, Lines};
-use editor::Definitions;
-use execute::{Merges, Texts};
-use flags::{Compressions, Expansions};
-use indexing::{Assignments, Indexings};
 use items::{PlacedItems, Scalars};
-use joins::{Diagonals, Joins};
 use names::{FileNameOrder, FileNames, NameOrder, Names, Words};
-use operators::{InnerProducts, OuterProducts, Reductions};
 use reports::{Refusals, Reports};
 use scalar::{Dyads, Monads};
-use search::{Grades, Searches};
 use shapes::{Equality, Shapes};
 use std::process::ExitCode;
 use structure::{Drops, Reshapes, Reversals, Rotations, Takes, Transposes};
 use tokens::Tokens;
 use trees::{LongTrees, Trees};
-use workspaces::{Headers, Workspaces};
 
 fn values(rt: &HostRuntime) -> Result<Tally> {
     let mut tally = run_table(rt, "glyphs.txt", &Glyphs)?;
@@ -78,28 +62,6 @@ fn structures(rt: &HostRuntime) -> Result<Tally> {
     tally.add(run_table(rt, "drop.txt", &Drops)?);
     tally.add(run_table(rt, "reshape.txt", &Reshapes)?);
     tally.add(run_table(rt, "rotate.txt", &Rotations)?);
-    tally.add(run_table(rt, "index.txt", &Indexings)?);
-    tally.add(run_table(rt, "index_assign.txt", &Assignments)?);
-    tally.add(run_table(rt, "compress.txt", &Compressions)?);
-    tally.add(run_table(rt, "expand.txt", &Expansions)?);
-    tally.add(run_table(rt, "catenate.txt", &Joins)?);
-    tally.add(run_table(rt, "transpose_by.txt", &Diagonals)?);
-    Ok(tally)
-}
-
-fn searches(rt: &HostRuntime) -> Result<Tally> {
-    let mut tally = run_table(rt, "index_of.txt", &Searches::Places)?;
-    tally.add(run_table(rt, "member.txt", &Searches::Members)?);
-    tally.add(run_table(rt, "grade.txt", &Grades)?);
-    tally.add(run_table(rt, "encode.txt", &Searches::Digits)?);
-    tally.add(run_table(rt, "decode.txt", &Searches::Values)?);
-    Ok(tally)
-}
-
-fn operations(rt: &HostRuntime) -> Result<Tally> {
-    let mut tally = run_table(rt, "reduce.txt", &Reductions)?;
-    tally.add(run_table(rt, "inner.txt", &InnerProducts)?);
-    tally.add(run_table(rt, "outer.txt", &OuterProducts)?);
     Ok(tally)
 }
 
@@ -110,23 +72,11 @@ fn texts(rt: &HostRuntime) -> Result<Tally> {
     Ok(tally)
 }
 
-fn scripts(rt: &HostRuntime) -> Result<Tally> {
-    let mut tally = run_table(rt, "headers.txt", &Headers)?;
-    tally.add(run_table(rt, "workspaces.txt", &Workspaces)?);
-    tally.add(run_table(rt, "editor.txt", &Definitions)?);
-    tally.add(run_table(rt, "texts.txt", &Texts)?);
-    tally.add(run_table(rt, "merges.txt", &Merges)?);
-    Ok(tally)
-}
-
 fn all_tables(rt: &HostRuntime) -> Result<Tally> {
     let mut tally = values(rt)?;
     tally.add(functions(rt)?);
     tally.add(structures(rt)?);
-    tally.add(searches(rt)?);
-    tally.add(operations(rt)?);
     tally.add(texts(rt)?);
-    tally.add(scripts(rt)?);
     Ok(tally)
 }
 

@@ -29,7 +29,7 @@ fn monad_of(sign: &str) -> Option<Monad> {
     }
 }
 
-pub fn dyad_of(sign: &str) -> Option<Dyad> {
+fn dyad_of(sign: &str) -> Option<Dyad> {
     match sign {
         "+" => Some(Dyad::Plus),
         "-" => Some(Dyad::Minus),

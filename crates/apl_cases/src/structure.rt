@@ -39,7 +39,7 @@ fn way_of(sign: &str) -> Option<Way> {
 }
 
 // The number that a field names as an axis, or none where it is `-`.
-pub fn axis_of(alloc: Global, field: &str) -> Result<Option<i64>> {
+fn axis_of(alloc: Global, field: &str) -> Result<Option<i64>> {
     if field == "-" {
         return Ok(None);
     }
