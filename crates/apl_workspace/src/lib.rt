@@ -23,9 +23,7 @@ pub use frame::labels_hide_names;
 pub use function::Function;
 pub use header::Header;
 pub use label::{label_of, labels_stand_before_colons};
-pub use limits::{
-    DEPTH_LIMIT, FUNCTION_LINE_LIMIT, LINE_GLYPH_LIMIT, OFFER_LIMIT, PRINTED_LIMIT, WEIGHT_LIMIT,
-};
+pub use limits::{DEPTH_LIMIT, FUNCTION_LINE_LIMIT, OFFER_LIMIT, PRINTED_LIMIT, WEIGHT_LIMIT};
 pub use meaning::Meaning;
 pub use remake::{Remake, RemakeList};
 pub use seen::Seen;

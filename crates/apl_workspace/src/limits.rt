@@ -7,9 +7,6 @@ pub const DEPTH_LIMIT: usize = 100;
 /// The most lines of a function.
 pub const FUNCTION_LINE_LIMIT: usize = 200;
 
-/// The most glyphs of a header and of a line of a function.
-pub const LINE_GLYPH_LIMIT: usize = 1_000;
-
 /// The most glyphs of the counted lines that are printed.
 pub const PRINTED_LIMIT: u64 = 4_194_304;
 

@@ -10,8 +10,8 @@ ghost use Rattle.fn_editor.specs.Opening.{is_bare, name_with_bracket, opened, op
 use crate::Editor;
 use crate::closing::{behind, split_close, without_blanks};
 use crate::content::line_of;
-use apl_arrays::{Fail, Glyph, Line, LineList, Name, Report};
-use apl_workspace::{Header, LINE_GLYPH_LIMIT, Seen, Workspace};
+use apl_arrays::{Fail, Glyph, LINE_GLYPH_LIMIT, Line, LineList, Name, Report};
+use apl_workspace::{Header, Seen, Workspace};
 use std::alloc::Global;
 
 /// What a line opened: the definition, the lines that are shown, and whether the line closed it.

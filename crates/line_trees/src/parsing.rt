@@ -34,9 +34,9 @@ fn built_from(
     Ok(builder)
 }
 
-/// The tree of the tokens of a line, by the classes of its names. `SyntaxError` has the place of the first token with
-/// which no line of the grammar goes on, or the length of the line where it ends too early. It takes memory for the
-/// nodes, and while it works for each token.
+/// The tree that the grammar gives to a line's tokens, where the names have these classes. `SyntaxError` tells the first
+/// token that cannot stand where it does, by its place, or the line's length where the line stops short. It takes memory
+/// for the nodes, and for each token while it works.
 #[tactic(auto, using(crate::proofs::Loops::same_length))]
 pub fn parse(alloc: Global, tokens: &Tokens, names: &Classes) -> Result<Tree, ParseRefused>
     ensures tree { IfOk result (λ tree. parsed names.now tokens.now.tokens.items tokens.now.length ≡ Ok (plain_tree tree)) }

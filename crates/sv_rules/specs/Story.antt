@@ -42,7 +42,7 @@ handed_in (Set name new) = None
 handed_in (Use name) = None
 handed_in Leave = None
 
--- the known value of an offer: the last value that its party set or got on it since, else the one in its entry
+-- what the party of an offer knows of the variable: its newest set or get there, or else what its entry handed in
 abbrev pub known : Entries → Standing → Option PlainArray
 known [] offer = None
 known (e ∷ journal) offer =

@@ -1,6 +1,6 @@
 use Rattle.std.proofs.Common.{◌/◌, ◌%◌, arith}
 use Rattle.bundle_text.proofs.Headings.{digits_are, has_number}
-use Rattle.bundle_text.proofs.line.number_of.Goals as goal
+use Rattle.bundle_text.proofs.line.user_number.Goals as goal
 
 pub returns-in_default : goal.returns-in_default
 returns-in_default c = λ n range e. let d = digits_are _ n range e in omega arith

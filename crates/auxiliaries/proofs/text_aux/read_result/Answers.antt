@@ -1,7 +1,7 @@
 use Rattle.std.proofs.Common.{map}
 use Rattle.apl_arrays.specs.List.{glyphs_in}
 use Rattle.auxiliaries.proofs.Lines.{short_lines}
-use Rattle.auxiliaries.proofs.text_aux.after_read.Goals as goal
+use Rattle.auxiliaries.proofs.text_aux.read_result.Goals as goal
 
 pub returns-in-Some-clause-short : goal.returns-in-Some-clause-short
 returns-in-Some-clause-short c =
