@@ -21,7 +21,7 @@ pub enum TokenKind {
     Sign(Glyph),
 }
 
-/// What a token is, and from which glyph of its line up to which it stands; the glyph at `end` is no more of it.
+/// What a token is, and from which glyph of its line up to which it stands; the one at `after` is no more of it.
 #[derive(Debug, Drop)]
 pub struct Token {
     pub kind: TokenKind,
