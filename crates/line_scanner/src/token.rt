@@ -29,7 +29,7 @@ pub struct Token {
     pub after: u64,
 }
 
-/// The tokens of a line, in order, and the length of the line.
+/// What a scan gives: the tokens from left to right, and how long the line is.
 #[derive(Debug, Drop)]
 pub struct Tokens {
     pub tokens: TokenList,

@@ -13,7 +13,7 @@ pub struct Class {
     pub arguments: u8,
 }
 
-/// The classes of names, seen as a list: one for each name that is a function, the names ascending. Any other name is a
+/// The names that stand for functions, ascending, each with its class. A name that is not among them is that of a
 /// value.
 #[derive(Debug, Drop)]
 pub struct Classes {

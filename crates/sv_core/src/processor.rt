@@ -327,7 +327,7 @@ impl Core {
     }
 
     /// The party leaves: its offers cease together, and those that this reopens are coupled again, by place, each
-    /// with its open match of the lowest place. No memory.
+    /// with the oldest of its open matches. No memory.
     pub fn leave(&mut self, party: u32)
         requires user { IsTrue (is_user self.old.users party) }
         requires present { IsTrue (not (has_left self.old.journal party)) }

@@ -14,7 +14,7 @@ pub fn name_not_offered_is_not_shared()
     ensures no_value { ¬ IsLegal two_users (not_offered not_shared no_value) }
 {}
 
-/// An offer whose partner has left gives the last value that its party set or got.
+/// Where the partner has left, a use gives what the party itself set or got at last.
 pub fn open_offer_keeps_what_it_knew()
     ensures legal { IsLegal two_users (keeps_what_it_knew (number 3)) }
     ensures partners { ¬ IsLegal two_users (keeps_what_it_knew (number 5)) }

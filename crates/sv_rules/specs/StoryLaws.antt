@@ -35,7 +35,7 @@ HasNoAccess offer entries = All (λ e. (access : GrantedAccess) → ¬ IsAccessO
 abbrev pub AccessesAreSetsAndUses : Type 0
 AccessesAreSetsAndUses = (offer : Standing) (e : PlainEntry) (access : GrantedAccess) → (access_on offer e ≡ Some access) ↔ IsAccessOn offer e access
 
--- the known value of an offer is the value of the last access on it that follows its entry
+-- the newest access on an offer since its entry tells what its party knows
 abbrev pub KnownIsTheLastAccess : Type 0
 KnownIsTheLastAccess =
     (offer : Standing) (before : Entries) (offered : PlainEntry) (between : Entries) (e : PlainEntry) (later : Entries) (access : GrantedAccess) →
@@ -70,6 +70,6 @@ StoryIsOpeningAndAccesses =
     story (later ++ before) coupling ≡
     flat_map (accesses_of coupling) later ++ opening_story (known before coupling.a) (known before coupling.b)
 
--- a journal is full where it has 200,000 entries other than leaves, or 4,194,304 elements
+-- what makes a journal full: 200,000 entries that are no leaves, or 4,194,304 elements, and nothing else
 abbrev pub FullIsByEntriesOrElements : Type 0
 FullIsByEntriesOrElements = (journal : Entries) → IsTrue (is_full journal) ↔ ((most_entries ≤ counted_entries journal) ⊎ (most_journal_elements ≤ held_elements journal))
