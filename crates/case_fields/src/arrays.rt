@@ -1,7 +1,6 @@
-use crate::fields::{push_glyphs, quoted, text_of};
-use crate::numbers::{numbers_of, push_numbers};
+use crate::{number_of, numbers_of, push_numbers, push_quoted, quoted, text_of};
 use anyhow::{Context, Result, bail};
-use apl_arrays::{Array, Fail, Glyph, Items, glyphs_of};
+use apl_arrays::{Array, Fail, Items, Way, glyphs_of};
 use std::alloc::{AllocError, Global};
 
 /// The axes that a text names, with blanks between.
@@ -13,10 +12,18 @@ pub fn shape_of(alloc: Global, text: &str) -> Result<Vec<u32>> {
     Ok(shape)
 }
 
-// A quote among the characters is written twice.
-fn chars_of(alloc: Global, text: &str) -> Result<Items> {
+/// The characters between quotes, where a quote among them is written twice.
+pub(crate) fn chars_of(alloc: Global, text: &str) -> Result<Items> {
     let plain = quoted(text)?.replace(alloc, "''", "'")?;
     Ok(Items::Chars(glyphs_of(alloc, plain.as_bytes())?))
+}
+
+fn items_of(alloc: Global, kind: &str, text: &str) -> Result<Items> {
+    match kind {
+        "N" => Ok(Items::Numbers(numbers_of(alloc, text)?)),
+        "C" => chars_of(alloc, text),
+        _ => bail!("no kind: {kind}"),
+    }
 }
 
 /// The array that a field says: its kind, N or C, its shape in parentheses, and its items. It may have escapes.
@@ -24,11 +31,7 @@ pub fn array_of(alloc: Global, field: &str) -> Result<Array> {
     let text = text_of(alloc, field)?;
     let (kind, rest) = text.split_once("(").context("no shape")?;
     let (axes, items) = rest.split_once(")").context("no end of a shape")?;
-    let items = match kind {
-        "N" => Items::Numbers(numbers_of(alloc, items)?),
-        "C" => chars_of(alloc, items)?,
-        _ => bail!("no kind: {kind}"),
-    };
+    let items = items_of(alloc, kind, items)?;
     Ok(Array::try_new(&shape_of(alloc, axes)?, items)?)
 }
 
@@ -39,16 +42,6 @@ fn push_shape(text: &mut String, shape: &[u32]) -> Result<(), AllocError> {
         }
         write!(text, "{axis}")?;
     }
-    Ok(())
-}
-
-/// Adds characters to a text, in quotes, with each quote among them twice.
-pub fn push_quoted(alloc: Global, text: &mut String, glyphs: &[Glyph]) -> Result<()> {
-    let mut plain = String::new(alloc);
-    push_glyphs(alloc, &mut plain, glyphs)?;
-    text.push('\'')?;
-    text.push_str(plain.replace(alloc, "'", "''")?.as_str())?;
-    text.push('\'')?;
     Ok(())
 }
 
@@ -77,4 +70,21 @@ pub fn outcome_text(alloc: Global, outcome: Result<Array, Fail>) -> Result<Strin
         Err(Fail::Report(report)) => Ok(String::from_str(alloc, report.text())?),
         Err(Fail::WantOfMemory) => bail!("out of memory"),
     }
+}
+
+/// Which axis the sign of a function or of an operator takes where none is named: the last, or the first.
+pub fn way_of(sign: &str) -> Result<Way> {
+    match sign {
+        "⌽" | "/" | "\\" => Ok(Way::Last),
+        "⊖" | "⌿" | "⍀" => Ok(Way::First),
+        _ => bail!("no function along an axis: {sign}"),
+    }
+}
+
+/// The number that a field names as an axis, or none where it is `-`.
+pub fn axis_of(alloc: Global, field: &str) -> Result<Option<i64>> {
+    if field == "-" {
+        return Ok(None);
+    }
+    Ok(Some(number_of(alloc, field)?))
 }

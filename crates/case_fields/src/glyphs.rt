@@ -35,21 +35,33 @@ pub fn push_glyphs(alloc: Global, text: &mut String, glyphs: &[Glyph]) -> Result
     Ok(())
 }
 
-/// That something else was found than the text that is wanted, which may have escapes.
-pub fn unless_wanted(alloc: Global, found: String, wanted: &str) -> Result<Option<String>> {
-    let wanted = text_of(alloc, wanted)?;
-    Ok(if found.as_str() == wanted.as_str() {
-        None
-    } else {
-        Some(format!(in alloc; "it gives {found}")?)
-    })
+/// Adds characters to a text, in quotes, with each quote among them twice.
+pub fn push_quoted(alloc: Global, text: &mut String, glyphs: &[Glyph]) -> Result<()> {
+    let mut plain = String::new(alloc);
+    push_glyphs(alloc, &mut plain, glyphs)?;
+    text.push('\'')?;
+    text.push_str(plain.replace(alloc, "'", "''")?.as_str())?;
+    text.push('\'')?;
+    Ok(())
 }
 
-/// The text, where something is not so.
-pub fn unless(alloc: Global, is_so: bool, text: &str) -> Result<Option<String>> {
-    Ok(if is_so {
-        None
-    } else {
-        Some(String::from_str(alloc, text)?)
-    })
+/// Adds names to a text, with a blank before each.
+pub fn push_names(alloc: Global, text: &mut String, names: &[Name]) -> Result<()> {
+    for name in names {
+        text.push(' ')?;
+        push_glyphs(alloc, text, name.glyphs())?;
+    }
+    Ok(())
+}
+
+/// The text of names, with blanks between.
+pub fn names_text(alloc: Global, names: &[Name]) -> Result<String> {
+    let mut text = String::new(alloc);
+    for (at, name) in names.iter().enumerate() {
+        if at > 0 {
+            text.push(' ')?;
+        }
+        push_glyphs(alloc, &mut text, name.glyphs())?;
+    }
+    Ok(text)
 }
