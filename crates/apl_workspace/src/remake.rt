@@ -8,5 +8,5 @@ pub struct Remake {
     pub to: u32,
 }
 
-/// Offers in the order in which they were made.
+/// Offers, the oldest first.
 pub type RemakeList = List<Remake>;

@@ -1,4 +1,4 @@
--- Where a line closes a definition, and what stands behind blanks.
+-- Where a line closes a definition.
 use Rattle.std.specs.Prelude.{◌≡◌, ◌&&◌, ◌++◌, ◌==◌, ℕ, Bool, true, List, [], ◌∷◌, Option, Some, None, drop, is_some, unwrap_or, if◌then◌else◌}
 use Rattle.std.specs.List.{list_all, prefix_len}
 use Rattle.apl_arrays.specs.Glyph.{del, is_blank}
@@ -6,10 +6,6 @@ use Rattle.apl_arrays.specs.Glyph.{del, is_blank}
 -- nothing but blanks
 abbrev pub is_blank_text : List ℕ → Bool
 is_blank_text text = list_all is_blank text
-
--- a line without the blanks at its front
-abbrev pub without_blanks : List ℕ → List ℕ
-without_blanks line = drop (prefix_len is_blank line) line
 
 -- what follows a glyph that stands at the front
 abbrev pub behind : ℕ → List ℕ → Option (List ℕ)
