@@ -2,7 +2,7 @@ use mir.Syntax.{w128}
 use Rattle.std.proofs.Common.{◌≡◌, ◌≤◌, ◌^◌, ℤ, ◌*ℤ◌, unsigned_abs, to_z, of_z, arith}
 use Rattle.std.proofs.Math.Nat.{mul-le-mul}
 use Rattle.std.proofs.lemmas.Int.{to_z-of_z, fits_signed_mul, unsigned_abs-mul}
-use Rattle.apl_search.proofs.encoding.product.Goals as goal
+use Rattle.apl_search.proofs.encoding.wide_product.Goals as goal
 
 product_is : (a b x y : ℤ) → unsigned_abs a ≤ 2 ^ 63 → unsigned_abs b ≤ 2 ^ 63 → x ≡ a → y ≡ b → to_z w128 (of_z w128 (x *ℤ y)) ≡ a *ℤ b
 product_is a b x y p q is_x is_y = rw (is_x, is_y) (to_z-of_z w128 (a *ℤ b) (fits_signed_mul w128 a b (2 ^ 63) (2 ^ 63) p q (omega arith)))
