@@ -7,9 +7,9 @@ ghost use Rattle.apl_structure.specs.Lengths.{capped};
 ghost use Rattle.apl_structure.specs.Reshaping.{reshape_faults, reshape_of, reshaped};
 
 use crate::lengths::{are_hollow, capped, pass_limits};
-use crate::picks::filled;
 use apl_arrays::{Array, Fail, RANK_LIMIT, Report, WantOfMemory, count_of_elements};
 use apl_items::{Walk, moved};
+use apl_selection::filled;
 use std::alloc::Global;
 
 /// The items of B over and over, in the shape A. RANK where A is of rank over 1 or has over eight numbers, else DOMAIN
