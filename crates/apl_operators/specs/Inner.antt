@@ -19,7 +19,7 @@ last_length shape = slice_index_or shape (length shape - 1) 1
 abbrev pub first_length : List ℕ → ℕ
 first_length shape = slice_index_or shape 0 1
 
--- the last axis of A and the first of B differ where neither extends
+-- neither array extends, and the two axes whose items would be paired are not equally long
 abbrev pub ends_differ : PlainArray → PlainArray → Bool
 ends_differ a b = are_whole a b && not (last_length a.shape == first_length b.shape)
 

@@ -82,7 +82,7 @@ catenated a b axis =
 abbrev pub are_no_scalars : PlainArray → PlainArray → Bool
 are_no_scalars a b = not (is_scalar a) && not (is_scalar b)
 
--- the ranks are equal or differ by 1
+-- one rank is the other or next to it
 abbrev pub are_near : ℕ → ℕ → Bool
 are_near a b = a == b || a + 1 == b || a == b + 1
 
@@ -103,7 +103,7 @@ catenate_faults a b axis =
       bad_index = lacks;
     }
 
--- A and B joined along the last axis or K
+-- B behind A along an axis: the one of K, or the last
 abbrev pub catenate_of : PlainArray → PlainArray → Option ℤ → Answer
 catenate_of a b axis =
     let along = catenated_axis a b axis in

@@ -11,12 +11,12 @@ sub_on subs axis = slice_index_or subs axis None
 
 -- ---- what is selected
 
--- the axes that a subscript gives to the selection: those of its array; an omitted one is the whole axis
+-- the axes that a subscript gives to the selection: its array's, or where it is omitted the one axis as it is
 abbrev pub axes_by : ℕ → Option PlainArray → List ℕ
 axes_by length None = length ∷ []
 axes_by length (Some sub) = sub.shape
 
--- the shape of the selection: the shapes of the subscripts, one after another
+-- the shape of the selection: what each subscript gives to it, the first one's axes first
 abbrev pub selection_shape : List ℕ → List (Option PlainArray) → List ℕ
 selection_shape shape subs = flat_map (λ axis. axes_by (slice_index shape axis) (sub_on subs axis)) (places (length shape))
 

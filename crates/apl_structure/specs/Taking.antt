@@ -15,7 +15,8 @@ use Rattle.apl_selection.specs.Listing.{is_scalar}
 abbrev pub axes_for : ℕ → PlainArray → List ℕ
 axes_for count b = if is_scalar b then replicate count 1 else b.shape
 
--- what is wrong with A: it has one number for each axis of B, and a scalar B has the rank that A asks for
+-- what is wrong with A: its numbers are not as many as B's axes, where B has any; a scalar B takes as many axes as A
+-- has numbers
 abbrev pub axes_faults : PlainArray → PlainArray → Faults
 axes_faults a b =
     let count = item_count a.items in record no_faults {

@@ -13,9 +13,9 @@ use apl_items::{Axes, lacks_axis, moved_by_axes, room_for};
 use apl_selection::{filled, length_of, strides_of};
 use std::alloc::Global;
 
-/// B with axis i as axis A[i] of the result; where several become one axis, their diagonal, of the least length. RANK where A
-/// is of rank over 1, else LENGTH where it has not one number for each axis of B, else DOMAIN where these are not exactly 1 to
-/// some number. It takes memory for a shape, for strides and for the items.
+/// B with its axes where A puts them, the i-th at A[i]; axes that come to one place run on together up to the shortest.
+/// RANK where A is of rank over 1, else LENGTH where it has not one number for each axis of B, else DOMAIN where these
+/// are not exactly 1 to some number. It takes memory for a shape, for strides and for the items.
 pub fn transpose_by(alloc: Global, a: &Array, b: &Array) -> Result<Array, Fail>
     ensures { Answers result (transpose_by_of a.now b.now) }
 {

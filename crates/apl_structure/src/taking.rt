@@ -9,10 +9,10 @@ use apl_arrays::{Array, Fail, Items, RANK_LIMIT, Report, WantOfMemory};
 use apl_selection::{Picks, length_of, picked};
 use std::alloc::Global;
 
-/// Per axis of B the first items, as many as A says, or the last where A is negative, filled. RANK where A is of rank
-/// over 1 or asks a scalar for over eight axes, else LENGTH where A has not one number for each axis, else DOMAIN where
-/// A is of characters, else WS FULL where the result is too large. It takes memory for the items, and for a shape and
-/// strides.
+/// Along each axis of B as many items as A says, from its end where that is negative, and the fill beyond them. RANK
+/// where A is of rank over 1 or asks a scalar for over eight axes, else LENGTH where A has not one number for each
+/// axis, else DOMAIN where A is of characters, else WS FULL where the result is too large. It takes memory for the
+/// items, and for a shape and strides.
 pub fn take(alloc: Global, a: &Array, b: &Array) -> Result<Array, Fail>
     ensures { Answers result (take_of a.now b.now) }
 {

@@ -1,5 +1,5 @@
 -- The tokens of a header leave no room for a comment, and are told by their symbols.
-use Rattle.std.proofs.Common.{◌≡◌, ℕ, Bool, true, false, cond, eqb, ◌&&◌, ◌||◌, List, [], ◌∷◌, ◌++◌, Option, Some, None, refl, sym, ap, ◌∙◌, map}
+use Rattle.std.proofs.Common.{◌≡◌, ℕ, Bool, true, false, cond, eqb, ◌||◌, List, [], ◌∷◌, ◌++◌, Option, Some, None, refl, sym, ap, ◌∙◌, map}
 use Rattle.std.specs.List.{list_any, list_all}
 use Rattle.std.proofs.lemmas.Bool.{and_parts, false≢true, eqb-true, or_parts}
 use Rattle.std.proofs.lemmas.List.Folds.{list_any-append}
@@ -12,7 +12,7 @@ use Rattle.apl_workspace.specs.declared.symbol.Symbol.{Symbol}
 use Rattle.apl_workspace.specs.declared.symbol.Symbol.TheVariants.{Word, Arrow, Semicolon, Other}
 use Rattle.apl_workspace.specs.Header.{PlainHeader, symbol_of, symbols_of, is_lamp}
 use Rattle.apl_workspace.specs.Grammar.{header_kinds}
-use Rattle.apl_workspace.proofs.Symbols.{result_symbols, name_symbols, local_symbols, symbols_with, header_symbols, kind_of, header_kinds_symbols}
+use Rattle.apl_workspace.proofs.Symbols.{result_symbols, name_symbols, local_symbols, header_symbols, kind_of, header_kinds_symbols}
 
 -- a symbol that no header has
 abbrev pub is_other : Symbol → Bool

@@ -1,12 +1,12 @@
 -- The label of a line, as it is computed and as it stands in the line.
-use Rattle.std.proofs.Common.{◌≡◌, ◌==◌, ℕ, ◌+◌, Bool, true, false, cond, not, ◌&&◌, ◌||◌, List, [], ◌∷◌, ◌++◌, Option, Some, None, length, take, drop, refl, sym, ap, ◌∙◌, subst, append_assoc}
+use Rattle.std.proofs.Common.{◌≡◌, ℕ, Bool, true, false, cond, ◌&&◌, List, [], ◌∷◌, ◌++◌, Option, Some, None, length, take, drop, refl, sym, ap, ◌∙◌}
 use Rattle.std.specs.List.{list_all, prefix_len}
 use Rattle.std.proofs.Math.Seq.{drop-append_seam}
 use Rattle.std.proofs.lemmas.Bool.{false≢true, and_parts}
 use Rattle.std.proofs.lemmas.Bool.Decides.{Decides-eqb}
 use Rattle.std.proofs.lemmas.Option.{same_Some}
 use Rattle.apl_arrays.specs.Glyph.{blank, colon, is_blank, is_letter}
-use Rattle.apl_arrays.specs.Name.{IsLongestName, IsName, goes_on, is_name, longest_name}
+use Rattle.apl_arrays.specs.Name.{IsName, goes_on, longest_name}
 use Rattle.apl_arrays.specs.Run.{begins}
 use Rattle.apl_arrays.proofs.Names.{longest_is_found, found_is_longest}
 use Rattle.apl_arrays.proofs.Runs.{drop_run, run_passes, run_splits}

@@ -1,5 +1,5 @@
 -- What names stand for after each call.
-use Rattle.std.proofs.Common.{◌≡◌, ℕ, ◌<◌, ◌≤◌, Bool, true, false, cond, not, ◌&&◌, ◌||◌, All, List, [], ◌∷◌, ◌++◌, Option, Some, None, map, append-nil, refl, sym, ap, ◌∙◌, subst, arith}
+use Rattle.std.proofs.Common.{◌≡◌, ℕ, ◌<◌, ◌≤◌, Bool, true, false, cond, not, ◌&&◌, ◌||◌, All, List, [], ◌∷◌, ◌++◌, Option, Some, None, append-nil, refl, sym, ap, ◌∙◌, subst, arith}
 use Rattle.std.specs.Prelude.{IfSome, filter, fold, is_some, nat_le, unwrap_or}
 use Rattle.std.specs.List.{list_any}
 use Rattle.std.specs.Option.{option_or, option_to_list}
@@ -12,12 +12,12 @@ use Rattle.apl_workspace.specs.Frame.{argument_or, frame_of, header_meaning, hea
 use Rattle.apl_workspace.specs.Function.{PlainFunction}
 use Rattle.apl_workspace.specs.Header.{PlainHeader}
 use Rattle.apl_workspace.specs.Limits.{most_weight}
-use Rattle.apl_workspace.specs.Meaning.{IsLocal, Names, meaning_in, meaning_of, own_copy_in, with_meaning, with_value}
+use Rattle.apl_workspace.specs.Meaning.{IsLocal, Names, meaning_in, meaning_of, own_copy_in, with_meaning}
 use Rattle.apl_workspace.specs.Names.{is_name_of}
 use Rattle.apl_workspace.specs.Workspace.{IsWorkspace, PlainWorkspace, assigned, entered, entered_by, global_in, in_innermost, innermost, is_local, is_of_another, is_unhidden, left, look, marked, names_offered, seen_by, takes_offer, unmarked, unshared, with_global, without_global, workspace_weight}
 use Rattle.apl_workspace.specs.declared.args.Args.{Args}
 use Rattle.apl_workspace.specs.declared.meaning.Meaning.{Meaning}
-use Rattle.apl_workspace.specs.declared.meaning.Meaning.TheVariants.{Nothing, Value, Function, Label, Shared}
+use Rattle.apl_workspace.specs.declared.meaning.Meaning.TheVariants.{Nothing, Value, Function}
 use Rattle.apl_workspace.specs.declared.remake.Remake.{Remake}
 use Rattle.apl_workspace.proofs.Ascending.{found_with, found_without}
 use Rattle.apl_workspace.proofs.Innermost.{none_from}

@@ -1,5 +1,5 @@
 -- What holds of every workspace still holds after each change.
-use Rattle.std.proofs.Common.{◌≡◌, ℕ, suc, ◌+◌, ◌<◌, ◌≤◌, Bool, true, false, cond, not, ◌&&◌, ◌||◌, All, List, [], ◌∷◌, ◌++◌, Option, Some, None, length, map, refl, sym, ap, ◌∙◌, subst, sum_by, length-append, arith}
+use Rattle.std.proofs.Common.{◌≡◌, ℕ, suc, ◌+◌, ◌<◌, ◌≤◌, Bool, true, false, cond, not, ◌||◌, All, List, [], ◌∷◌, ◌++◌, Option, Some, None, length, refl, sym, ap, ◌∙◌, subst, sum_by, length-append, arith}
 use Rattle.std.specs.Prelude.{IfSome, filter, fold, is_some, unwrap_or}
 use Rattle.std.specs.List.{list_any}
 use Rattle.std.specs.List.Sorted.{IsStrictlySortedBy}
@@ -15,7 +15,7 @@ use Rattle.apl_workspace.specs.Frame.{frame_of, header_names, with_argument, wit
 use Rattle.apl_workspace.specs.Function.{PlainFunction}
 use Rattle.apl_workspace.specs.Label.{label_of}
 use Rattle.apl_workspace.specs.Limits.{most_depth, most_weight}
-use Rattle.apl_workspace.specs.Meaning.{IsGlobal, IsLocal, Names, is_shared_in, is_shared_meaning, meaning_in, table_weight, with_meaning, with_value, without_name, without_names}
+use Rattle.apl_workspace.specs.Meaning.{IsGlobal, IsLocal, Names, is_shared_in, is_shared_meaning, meaning_in, table_weight, with_meaning, with_value, without_name}
 use Rattle.apl_workspace.specs.Names.{all_differ, is_name_of, name_order}
 use Rattle.apl_workspace.specs.Workspace.{IsFrameFor, IsWorkspace, PlainWorkspace, empty_workspace, in_innermost, is_addressee, is_of_another, is_shared, names_offered, unshared, with_global, without_global, without_globals, workspace_weight}
 use Rattle.apl_workspace.specs.declared.args.Args.{Args}

@@ -1,13 +1,12 @@
 -- Tables and entries without some names.
 use Rattle.std.proofs.Common.{◌≡◌, ℕ, ◌+◌, ◌-◌, ◌<◌, ◌≤◌, Bool, true, false, cond, not, ◌||◌, List, [], ◌∷◌, Option, Some, None, length, drop, take, get_or, refl, sym, ap, ◌∙◌, subst, arith}
-use Rattle.std.specs.Prelude.{filter, fold, slice_get, unwrap_or, if◌then◌else◌}
+use Rattle.std.specs.Prelude.{filter, slice_get, unwrap_or, if◌then◌else◌}
 use Rattle.std.specs.List.{list_any}
 use Rattle.std.specs.Map.{keys_of}
 use Rattle.std.specs.Option.{option_map}
 use Rattle.std.proofs.lemmas.List.Elements.{filter_agree}
 use Rattle.std.proofs.lemmas.List.Sums.{fold_more}
 use Rattle.std.proofs.lemmas.Map.Entries.{lookup-filter-keys}
-use Rattle.apl_workspace.specs.Limits.{most_weight}
 use Rattle.apl_workspace.specs.Meaning.{IsTable, Names, meaning_in, meaning_weight, table_weight, weight_in, with_meaning, without_name, without_names}
 use Rattle.apl_workspace.specs.Names.{is_name_of}
 use Rattle.apl_workspace.specs.Sorted.{sorted}

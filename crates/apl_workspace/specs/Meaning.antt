@@ -1,5 +1,5 @@
 -- What names stand for, tables of names, and what they weigh.
-use Rattle.std.specs.Prelude.{◌≡◌, ◌<◌, ◌≤◌, ◌+◌, ℕ, Bool, true, false, List, [], ◌∷◌, Option, Some, None, IfSome, fold, sum_by, unwrap_or}
+use Rattle.std.specs.Prelude.{◌≡◌, ◌<◌, ◌≤◌, ◌+◌, ℕ, Bool, true, false, List, Option, Some, None, IfSome, fold, sum_by, unwrap_or}
 use Rattle.std.specs.Option.{option_map}
 use Rattle.std.specs.Map.{keys_of, lookup, remove_entry, values_of}
 use Rattle.std.specs.List.Sorted.{IsStrictlySortedBy}
@@ -8,7 +8,7 @@ use Rattle.apl_arrays.specs.Array.{PlainArray, item_count}
 use Rattle.apl_arrays.specs.declared.report.Fail.{Fail}
 use Rattle.apl_arrays.specs.declared.report.Fail.TheVariants.{Report, WantOfMemory}
 use Rattle.apl_arrays.specs.declared.report.Report.TheVariants.{WsFull}
-use Rattle.apl_workspace.specs.Function.{IsFunction, PlainFunction, function_weight}
+use Rattle.apl_workspace.specs.Function.{IsFunction, function_weight}
 use Rattle.apl_workspace.specs.Limits.{most_weight}
 use Rattle.apl_workspace.specs.Names.{name_order, is_name_of}
 use Rattle.apl_workspace.specs.declared.meaning.Meaning.{Meaning}

@@ -1,5 +1,5 @@
 -- Workspaces as plain data, what their names stand for, and what each call leaves.
-use Rattle.std.specs.Prelude.{◌≡◌, ◌≤◌, ◌<◌, ◌+◌, ◌++◌, ◌==◌, ◌&&◌, ◌||◌, ◌⊎◌, ℕ, Bool, true, false, not, List, [], ◌∷◌, Option, Some, None, All, IfSome, IsTrue, length, filter, drop, is_some, map, nat_le, nat_lt, reverse, sum_by, unwrap_or, if◌then◌else◌}
+use Rattle.std.specs.Prelude.{◌≡◌, ◌≤◌, ◌<◌, ◌+◌, ◌++◌, ◌==◌, ◌&&◌, ◌||◌, ◌⊎◌, ℕ, Bool, true, false, not, List, [], ◌∷◌, Option, Some, None, All, IfSome, length, filter, drop, is_some, map, nat_le, nat_lt, reverse, sum_by, unwrap_or, if◌then◌else◌}
 use Rattle.std.specs.Bool.{MatchBool}
 use Rattle.std.specs.List.Sorted.{IsStrictlySortedBy}
 use Rattle.std.specs.Map.{keys_of, values_of}
@@ -100,7 +100,7 @@ abbrev pub in_innermost : List Names → List ℕ → Meaning → List Names
 in_innermost [] name meaning = []
 in_innermost (table ∷ tables) name meaning = if is_some (meaning_in table name) then with_meaning table name meaning ∷ tables else table ∷ in_innermost tables name meaning
 
--- a name stands for this: in the innermost frame that has the name, else globally
+-- a name stands for this where a look-up finds the name: in a frame, or as a global
 abbrev pub given : PlainWorkspace → List ℕ → Meaning → PlainWorkspace
 given w name meaning =
     if is_local w name then record w { frames = in_innermost w.frames name meaning }

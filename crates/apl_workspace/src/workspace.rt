@@ -67,7 +67,7 @@ impl Workspace {
         }
     }
 
-    /// Whether some frame has the name, with or without a value. No memory.
+    /// Whether the name is one of a frame's, be there a value or none. No memory.
     pub fn is_local(&self, name: &Name) -> bool
         ensures { result ≡ is_local self.now name.now }
     {

@@ -17,7 +17,7 @@ abbrev pub before_close_at : ℕ → List ℕ → Option (List ℕ) → Option (
 before_close_at first rest (Some front) = Some (first ∷ front)
 before_close_at first rest None = if (first == del) && is_blank_text rest then Some [] else None
 
--- what stands before the ∇ that closes: the last glyph other than blanks
+-- what stands before the ∇ that closes, behind which only blanks come
 abbrev pub before_close : List ℕ → Option (List ℕ)
 before_close [] = None
 before_close (first ∷ rest) = before_close_at first rest (before_close rest)

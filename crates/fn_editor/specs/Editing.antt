@@ -32,7 +32,7 @@ may_enter editor text =
     nat_le (length text) most_line_glyphs && nat_le (whole editor.number) most_whole
     && (has_line editor.lines editor.number || nat_lt (length editor.lines) most_function_lines)
 
--- text becomes the line at the number, in place of one that is there, and the number moves on
+-- text is put in at the number, over a line that stands there, and the next number is current
 abbrev pub entered : PlainEditor → List ℕ → PlainEditor
 entered editor text = record editor { lines = with_line editor.lines editor.number text; number = next editor.number }
 

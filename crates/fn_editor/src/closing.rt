@@ -21,7 +21,7 @@ pub fn behind(line: &[Glyph], glyph: Glyph) -> Option<&[Glyph]>
     }
 }
 
-/// What is done of a line, and whether the line closes the definition: its last glyph other than blanks is ∇. No memory.
+/// What is done of a line, and whether the line closes the definition: it ends with ∇, blanks aside. No memory.
 pub fn split_close(line: &[Glyph]) -> (&[Glyph], bool)
     ensures body { result.0.now ≡ body line.now }
     ensures closes { result.1 ≡ closes line.now }

@@ -17,8 +17,8 @@ pub fn numbers_go_on_in_tenths()
     ensures ninth { (n : ℕ) → next (number_of n 9) ≡ number_of (n + 1) 0 }
 {}
 
-/// A line closes exactly where its last glyph other than blanks is ∇, and all before that is done. The call does
-/// nothing. No memory.
+/// A line closes exactly where it ends with ∇, blanks aside, and all before that is done. The call does nothing. No
+/// memory.
 pub fn lines_close_behind_a_del()
     ensures { (line front : List ℕ) → (before_close line ≡ Some front) ↔ IsBeforeClose line front }
 {}

@@ -10,9 +10,9 @@ use crate::{Function, Meaning, Seen, Workspace};
 use apl_arrays::{Array, Fail, Name, Report};
 
 impl Workspace {
-    /// Gives a name a value: in the innermost frame that has the name, else globally. `Syntax` where the name is a label
-    /// or a function, else `WsFull` where the workspace would weigh more than it may; a refusal leaves the workspace as
-    /// it was. It takes memory for a new global name.
+    /// Gives a name a value where a look-up finds the name: in a frame, or as a global. `Syntax` where the name is a
+    /// label or a function, else `WsFull` where the workspace would weigh more than it may; a refusal leaves the
+    /// workspace as it was. It takes memory for a new global name.
     pub fn assign(&mut self, name: &Name, value: Array) -> Result<(), Fail>
         requires { is_shared_meaning (look self.old name.now) ≡ false }
         ensures ok { OnOk result (self.new ≡ assigned self.old name.now value) }

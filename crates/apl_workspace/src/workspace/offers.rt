@@ -60,7 +60,7 @@ impl Workspace {
         unlist(&mut self.offers, name);
     }
 
-    /// The own copy of a shared variable is this value. `WsFull` where the workspace would weigh more than it may; it
+    /// A shared variable keeps this value as its copy. `WsFull` where the workspace would weigh more than it may; it
     /// leaves the workspace as it was. No memory.
     pub fn renew(&mut self, name: &Name, value: Array) -> Result<(), Fail>
         requires { is_shared self.old name.now ≡ true }

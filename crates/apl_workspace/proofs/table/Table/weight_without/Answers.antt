@@ -1,4 +1,4 @@
-use Rattle.std.proofs.Common.{refl, subst, sym, take, true, false}
+use Rattle.std.proofs.Common.{refl, subst, take, true, false}
 use Rattle.std.specs.List.Sorted.{IsStrictlySortedBy}
 use Rattle.std.specs.Map.{keys_of}
 use Rattle.apl_workspace.specs.Meaning.{Names, weight_in}

@@ -1,5 +1,4 @@
 use Rattle.std.proofs.Common.{◌≡◌, ◌∙◌, ℕ, All, List, ap, false, reverse, subst, sym}
-use Rattle.apl_workspace.specs.Meaning.{Names}
 use Rattle.apl_workspace.specs.Workspace.{PlainWorkspace, is_shared}
 use Rattle.apl_workspace.proofs.Giving.{with_frames}
 use Rattle.apl_workspace.proofs.Inside.{copied_inside}

@@ -1,9 +1,9 @@
-use Rattle.std.proofs.Common.{◌≡◌, ◌+◌, ◌<◌, ◌++◌, ◌∷◌, ◌∙◌, [], List, ap, arith, inr, length, refl, reverse, subst}
+use Rattle.std.proofs.Common.{◌<◌, ◌++◌, ◌∷◌, ◌∙◌, [], List, ap, arith, inr, length, refl, reverse, subst}
 use Rattle.std.proofs.lemmas.Grind.{common_steps}
 use Rattle.std.proofs.lemmas.List.{length-reverse, reverse-append}
 use Rattle.apl_workspace.specs.Limits.{most_depth}
-use Rattle.apl_workspace.specs.Meaning.{Names, table_weight}
-use Rattle.apl_workspace.specs.Workspace.{IsFrameFor, PlainWorkspace, entered, look, workspace_weight}
+use Rattle.apl_workspace.specs.Meaning.{Names}
+use Rattle.apl_workspace.specs.Workspace.{IsFrameFor, PlainWorkspace, look}
 use Rattle.apl_workspace.proofs.Entering.{entered_weight}
 use Rattle.apl_workspace.proofs.Giving.{with_frames}
 use Rattle.apl_workspace.proofs.Inside.{entered_inside}
