@@ -1,5 +1,5 @@
 -- What holds of every open definition after each change.
-use Rattle.std.proofs.Common.{◌≡◌, ℕ, ◌≤◌, ◌<◌, ◌+◌, Bool, true, false, cond, leb, ltb, ◌&&◌, ◌||◌, List, [], ◌∷◌, Some, length, refl, sym, ap, subst, ◌∙◌, arith, All, map}
+use Rattle.std.proofs.Common.{◌≡◌, ℕ, ◌≤◌, ◌<◌, ◌+◌, Bool, true, false, cond, leb, ltb, ◌&&◌, ◌||◌, List, [], ◌∷◌, Some, length, refl, sym, ap, subst, ◌∙◌, arith, All}
 use Rattle.std.specs.BTreeMap.{is_at}
 use Rattle.std.specs.Map.{remove_entry, values_of}
 use Rattle.std.specs.Ordering.{nat_cmp}

@@ -10,7 +10,6 @@ use Rattle.apl_workspace.specs.Function.{PlainFunction}
 use Rattle.apl_workspace.specs.Header.{PlainHeader, header_of}
 use Rattle.apl_workspace.specs.Meaning.{IsWhole, is_variable_meaning}
 use Rattle.apl_workspace.specs.Workspace.{PlainWorkspace, global_in}
-use Rattle.apl_workspace.specs.declared.meaning.Meaning.{Meaning}
 use Rattle.apl_workspace.specs.declared.meaning.Meaning.TheVariants.{Function}
 use Rattle.apl_workspace.proofs.InOrder.{same_test}
 use Rattle.apl_workspace.proofs.NameLaw as names

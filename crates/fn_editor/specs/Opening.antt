@@ -1,5 +1,5 @@
 -- How a definition is opened.
-use Rattle.std.specs.Prelude.{◌+◌, ◌&&◌, ℕ, Bool, false, not, List, [], Option, Some, None, length, drop, is_some, nat_le, if◌then◌else◌}
+use Rattle.std.specs.Prelude.{◌&&◌, ℕ, Bool, false, not, List, [], Option, Some, None, length, drop, is_some, nat_le, if◌then◌else◌}
 use Rattle.std.specs.Option.{option_map}
 use Rattle.apl_arrays.specs.Glyph.{del, left_bracket}
 use Rattle.apl_arrays.specs.Limits.{most_line_glyphs}
