@@ -25,7 +25,12 @@ fn scalar_functions(rt: &HostRuntime) -> Result<Tally> {
 }
 
 fn structures(rt: &HostRuntime) -> Result<Tally> {
-    let of_one = [("transpose.txt", OfOne::Transpose)];
+    let of_one = [
+        ("shape_of.txt", OfOne::ShapeOf),
+        ("ravel.txt", OfOne::Ravel),
+        ("iota.txt", OfOne::Iota),
+        ("transpose.txt", OfOne::Transpose),
+    ];
     let of_two = [
         ("take.txt", OfTwo::Take),
         ("drop.txt", OfTwo::Drop),
