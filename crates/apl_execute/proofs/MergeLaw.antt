@@ -1,12 +1,12 @@
 -- What stands under each name after a merge.
 use Rattle.std.proofs.Common.{◌≡◌, ℕ, Bool, true, false, cond, not, ◌&&◌, ◌||◌, List, [], ◌∷◌, ◌++◌, Option, Some, None, refl, sym, ap, subst, ◌∙◌}
-use Rattle.std.specs.Prelude.{filter, fold, is_some, unwrap_or}
+use Rattle.std.specs.Prelude.{fold, is_some, unwrap_or}
 use Rattle.std.specs.List.{list_any}
 use Rattle.std.proofs.Math.Bool.{or-false}
 use Rattle.std.proofs.lemmas.Bool.{and_parts, false≢true}
 use Rattle.std.proofs.lemmas.List.Folds.{list_any-append}
 use Rattle.std.proofs.lemmas.Map.Views.{any-filter_same}
-use Rattle.apl_workspace.specs.Meaning.{Names, is_shared_in, is_shared_meaning, meaning_in, with_meaning, without_names}
+use Rattle.apl_workspace.specs.Meaning.{Names, is_shared_in, is_shared_meaning, meaning_in, without_names}
 use Rattle.apl_workspace.specs.Names.{all_differ, is_name_of}
 use Rattle.apl_workspace.specs.Workspace.{IsWorkspace, PlainWorkspace, global_in, is_shared}
 use Rattle.apl_workspace.specs.declared.meaning.Meaning.{Meaning}
