@@ -1,13 +1,16 @@
 use crate::signs::dyad_of;
 use anyhow::{Result, bail};
-use apl_operators::{inner, outer, reduce};
+use apl_operators::{inner, outer, reduce, scan};
 use case_fields::{array_of, axis_of, outcome_text, way_of};
 use case_tables::Trial;
 use std::alloc::Global;
 
-/// Reductions: the function, `/` or `⌿`, the axis or `-`, and the argument; the result.
+/// Reductions and scans: the function, `/` or `⌿`, or `\` or `⍀`, the axis or `-`, and the argument; the result.
 #[derive(Clone, Copy, Debug)]
-pub struct Reductions;
+pub enum AlongLines {
+    Reduce,
+    Scan,
+}
 
 /// Inner products: the left argument, the two functions, and the right argument; the result.
 #[derive(Clone, Copy, Debug)]
@@ -17,7 +20,7 @@ pub struct InnerProducts;
 #[derive(Clone, Copy, Debug)]
 pub struct OuterProducts;
 
-impl Trial for Reductions {
+impl Trial for AlongLines {
     fn given(&self) -> usize {
         4
     }
@@ -29,7 +32,11 @@ impl Trial for Reductions {
         let function = dyad_of(*function)?;
         let (way, axis) = (way_of(*sign)?, axis_of(alloc, *axis)?);
         let argument = array_of(alloc, *argument)?;
-        outcome_text(alloc, reduce(alloc, function, &argument, way, axis))
+        let outcome = match self {
+            AlongLines::Reduce => reduce(alloc, function, &argument, way, axis),
+            AlongLines::Scan => scan(alloc, function, &argument, way, axis),
+        };
+        outcome_text(alloc, outcome)
     }
 }
 
