@@ -1,3 +1,4 @@
+use crate::conditions::is_variable;
 use crate::notation::{LINE_END, STEP_END};
 use crate::questions::answers;
 use crate::steps::workspace_of;
@@ -59,9 +60,8 @@ fn push_defined(alloc: Global, text: &mut String, ws: &Workspace, name: &Name) -
 // Closes a definition, and adds what is defined then.
 fn close(alloc: Global, ws: &mut Workspace, text: &mut String, editor: Editor) -> Result<()> {
     let name = editor.name();
-    match ws.global(&name) {
-        Seen::Value(_) | Seen::Shared(_) => bail!("a variable is not defined"),
-        _ => {}
+    if !editor.is_closed() || is_variable(ws, &name) {
+        bail!("the definition is open, or its name is a variable");
     }
     match editor.close(ws) {
         Ok(()) => push_defined(alloc, text, ws, &name),
@@ -199,6 +199,22 @@ fn told(alloc: Global, ws: &mut Workspace, script: &str) -> Result<String> {
     Ok(text)
 }
 
+// What the workspace tells, or `-` where nothing is asked.
+fn told_after(alloc: Global, ws: &Workspace, asked: &str) -> Result<String> {
+    if asked == "-" {
+        return Ok(String::from_str(alloc, "-")?);
+    }
+    answers(alloc, ws, None, asked)
+}
+
+// What each line does, and what the workspace tells after them.
+fn outcome(alloc: Global, ws: &mut Workspace, script: &str, asked: &str) -> Result<String> {
+    let mut text = told(alloc, ws, script)?;
+    text.push_str(" ¦ ")?;
+    text.push_str(told_after(alloc, ws, asked)?.as_str())?;
+    Ok(text)
+}
+
 impl Trial for Definitions {
     fn given(&self) -> usize {
         2
@@ -208,12 +224,8 @@ impl Trial for Definitions {
         let [steps, script, _, asked, ..] = fields else {
             bail!("steps, lines, what they do and answers are wanted");
         };
+        let script = text_of(alloc, *script)?;
         let mut ws = workspace_of(alloc, text_of(alloc, *steps)?.as_str())?;
-        let told = told(alloc, &mut ws, text_of(alloc, *script)?.as_str())?;
-        if *asked == "-" {
-            return Ok(format!(in alloc; "{told} ¦ -")?);
-        }
-        let answered = answers(alloc, &ws, None, *asked)?;
-        Ok(format!(in alloc; "{told} ¦ {answered}")?)
+        outcome(alloc, &mut ws, script.as_str(), *asked)
     }
 }

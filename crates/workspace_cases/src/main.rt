@@ -2,6 +2,7 @@
 // and prints how each came out.
 #![tactic(auto)]
 
+mod conditions;
 mod definitions;
 mod filling;
 mod headers;

@@ -24,18 +24,6 @@ fn names_of(alloc: Global, text: &str) -> Result<Option<NameList>> {
     Ok(Some(names))
 }
 
-fn merged(
-    alloc: Global,
-    into: &Workspace,
-    from: &Workspace,
-    names: Option<&NameList>,
-) -> Result<Result<Merged, Fail>> {
-    if into.depth() > 0 || from.depth() > 0 {
-        bail!("a function is under way");
-    }
-    Ok(merge(alloc, into, from, names))
-}
-
 fn merged_text(alloc: Global, merged: &Merged, asked: &str) -> Result<String> {
     let mut text = String::from_str(alloc, "missing")?;
     push_names(alloc, &mut text, merged.missing.as_slice())?;
@@ -44,6 +32,54 @@ fn merged_text(alloc: Global, merged: &Merged, asked: &str) -> Result<String> {
     text.push_str(" ¦ ")?;
     text.push_str(answers(alloc, &merged.workspace, None, asked)?.as_str())?;
     Ok(text)
+}
+
+fn refused_text(alloc: Global, into: &Workspace, fail: Fail, asked: &str) -> Result<String> {
+    let Fail::Report(report) = fail else {
+        bail!("out of memory");
+    };
+    let told = answers(alloc, into, None, asked)?;
+    let report = report.text();
+    Ok(format!(in alloc; "{report} ¦ {told}")?)
+}
+
+// What comes of a merge, and what the workspace tells then; where it is refused, the one that was to take names over.
+fn outcome(
+    alloc: Global,
+    into: &Workspace,
+    from: &Workspace,
+    names: Option<&NameList>,
+    asked: &str,
+) -> Result<String> {
+    if into.depth() > 0 || from.depth() > 0 {
+        bail!("a function is under way");
+    }
+    match merge(alloc, into, from, names) {
+        Ok(merged) => merged_text(alloc, &merged, asked),
+        Err(fail) => refused_text(alloc, into, fail, asked),
+    }
+}
+
+fn by_names(
+    alloc: Global,
+    into: &Workspace,
+    from: &Workspace,
+    names: &str,
+    asked: &str,
+) -> Result<String> {
+    let names = names_of(alloc, names)?;
+    outcome(alloc, into, from, names.as_ref(), asked)
+}
+
+fn by_steps(
+    alloc: Global,
+    into: &Workspace,
+    from: &str,
+    names: &str,
+    asked: &str,
+) -> Result<String> {
+    let from = workspace_of(alloc, text_of(alloc, from)?.as_str())?;
+    by_names(alloc, into, &from, names, asked)
 }
 
 impl Trial for Merges {
@@ -56,16 +92,6 @@ impl Trial for Merges {
             bail!("two workspaces, names, what comes of them and answers are wanted");
         };
         let into = workspace_of(alloc, text_of(alloc, *into)?.as_str())?;
-        let from = workspace_of(alloc, text_of(alloc, *from)?.as_str())?;
-        let names = names_of(alloc, *names)?;
-        match merged(alloc, &into, &from, names.as_ref())? {
-            Ok(merged) => merged_text(alloc, &merged, *asked),
-            Err(Fail::WantOfMemory) => bail!("out of memory"),
-            Err(Fail::Report(report)) => {
-                let told = answers(alloc, &into, None, *asked)?;
-                let report = report.text();
-                Ok(format!(in alloc; "{report} ¦ {told}")?)
-            }
-        }
+        by_steps(alloc, &into, *from, *names, *asked)
     }
 }

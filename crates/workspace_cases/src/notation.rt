@@ -1,3 +1,6 @@
+ghost use Rattle.std.specs.Prelude.{IfOk};
+ghost use Rattle.apl_workspace.specs.Function.{IsFunction};
+
 use anyhow::{Context, Result, bail};
 use apl_arrays::{Array, Fail, LineList, Report};
 use apl_workspace::Function;
@@ -19,14 +22,19 @@ pub fn optional_of(alloc: Global, text: &str) -> Result<Option<Array>> {
 }
 
 /// The function of a header and of lines, each behind `⋄`.
-pub fn function_of(alloc: Global, text: &str) -> Result<Function> {
+pub fn function_of(alloc: Global, text: &str) -> Result<Function>
+    ensures { IfOk result IsFunction }
+{
     let mut parts = text.split(LINE_END);
     let header = line_of(alloc, parts.next().context("no header")?)?;
     let mut lines = LineList::new(alloc);
     for line in parts {
         lines.push(line_of(alloc, line)?)?;
     }
-    Function::of(alloc, header, lines)?.context("no function")
+    match Function::of(alloc, header, lines)? {
+        None => bail!("no function"),
+        Some(function) => Ok(function),
+    }
 }
 
 /// The report with which a call was refused.

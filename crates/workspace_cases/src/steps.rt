@@ -1,3 +1,4 @@
+use crate::conditions::{is_function, is_variable, may_be_asked};
 use crate::filling::fill;
 use crate::notation::{STEP_END, function_of, optional_of, report_of};
 use anyhow::{Context, Result, bail};
@@ -18,11 +19,10 @@ fn assign(alloc: Global, ws: &mut Workspace, text: &str) -> Result<Option<Report
 
 fn define(alloc: Global, ws: &mut Workspace, text: &str) -> Result<Option<Report>> {
     let function = function_of(alloc, text)?;
-    let name = function.name();
-    match ws.global(&name) {
-        Seen::Value(_) | Seen::Shared(_) => bail!("a variable is not defined"),
-        _ => report_of(ws.define(function)),
+    if is_variable(ws, &function.name()) {
+        bail!("a variable is not defined");
     }
+    report_of(ws.define(function))
 }
 
 fn erase(alloc: Global, ws: &mut Workspace, text: &str) -> Result<()> {
@@ -36,10 +36,6 @@ fn erase(alloc: Global, ws: &mut Workspace, text: &str) -> Result<()> {
     Ok(())
 }
 
-fn is_addressee(party: u32) -> bool {
-    party == 0 || party == 10 || party == 20 || (party >= 1001 && party <= 1999)
-}
-
 fn mark(alloc: Global, ws: &mut Workspace, text: &str) -> Result<Option<Report>> {
     let (front, to) = text.rsplit_once(" ").context("no addressee")?;
     let (front, surrogate) = front.rsplit_once(" ").context("no surrogate")?;
@@ -47,10 +43,10 @@ fn mark(alloc: Global, ws: &mut Workspace, text: &str) -> Result<Option<Report>>
     let (name, surrogate) = (name_of(alloc, name)?, name_of(alloc, surrogate)?);
     let value = optional_of(alloc, value)?;
     let to: u32 = to.parse().context("no party")?;
-    if !is_addressee(to) {
+    if !may_be_asked(to) {
         bail!("no party that an offer is made to");
     }
-    if let Seen::Function(_) = ws.global(&name) {
+    if is_function(ws, &name) {
         bail!("a function is not shared");
     }
     report_of(ws.mark(&name, value, surrogate, to))
