@@ -1,6 +1,6 @@
 use anyhow::{Context, Result, bail};
 use apl_arrays::{FileName, Glyph, Name, next_word};
-use case_fields::{line_of, name_of, push_glyphs, quoted, text_of};
+use case_fields::{line_of, name_of, push_glyphs, quoted, unescaped};
 use case_tables::Trial;
 use std::alloc::Global;
 use std::cmp::Ordering;
@@ -58,7 +58,7 @@ impl Trial for Names {
 }
 
 fn file_name_of(alloc: Global, field: &str) -> Result<Option<FileName>> {
-    Ok(FileName::of(text_of(alloc, quoted(field)?)?.as_str()))
+    Ok(FileName::of(unescaped(alloc, quoted(field)?)?.as_str()))
 }
 
 impl Trial for FileNames {

@@ -2,7 +2,7 @@ use anyhow::{Context, Result, bail};
 use apl_arrays::{
     Array, ArrayRefused, Glyph, Items, Line, NumberList, ShapeFault, count_of_elements, shape_fault,
 };
-use case_fields::{array_of, array_text, shape_of};
+use case_fields::{array_of, array_text, axes_of};
 use case_tables::Trial;
 use std::alloc::Global;
 
@@ -74,7 +74,7 @@ impl Trial for Shapes {
         let axes = shape
             .strip_prefix("(")
             .and_then(|rest| rest.strip_suffix(")"));
-        let shape = shape_of(alloc, axes.context("no shape")?)?;
+        let shape = axes_of(alloc, axes.context("no shape")?)?;
         let both = both_text(alloc, &shape, count.parse()?)?;
         let alone = alone_text(&shape);
         Ok(format!(in alloc; "{both} ¦ {alone}")?)

@@ -1,10 +1,10 @@
-use crate::{number_of, numbers_of, push_numbers, push_quoted, quoted, text_of};
+use crate::{number_of, numbers_of, push_numbers, push_quoted, quoted, unescaped};
 use anyhow::{Context, Result, bail};
 use apl_arrays::{Array, Fail, Items, Way, glyphs_of};
 use std::alloc::{AllocError, Global};
 
 /// The axes that a text names, with blanks between.
-pub fn shape_of(alloc: Global, text: &str) -> Result<Vec<u32>> {
+pub fn axes_of(alloc: Global, text: &str) -> Result<Vec<u32>> {
     let mut shape = Vec::new(alloc);
     for word in text.split_whitespace() {
         shape.push(word.parse::<u32>().context("no axis")?)?;
@@ -28,11 +28,11 @@ fn items_of(alloc: Global, kind: &str, text: &str) -> Result<Items> {
 
 /// The array that a field says: its kind, N or C, its shape in parentheses, and its items. It may have escapes.
 pub fn array_of(alloc: Global, field: &str) -> Result<Array> {
-    let text = text_of(alloc, field)?;
+    let text = unescaped(alloc, field)?;
     let (kind, rest) = text.split_once("(").context("no shape")?;
     let (axes, items) = rest.split_once(")").context("no end of a shape")?;
     let items = items_of(alloc, kind, items)?;
-    Ok(Array::try_new(&shape_of(alloc, axes)?, items)?)
+    Ok(Array::try_new(&axes_of(alloc, axes)?, items)?)
 }
 
 fn push_shape(text: &mut String, shape: &[u32]) -> Result<(), AllocError> {

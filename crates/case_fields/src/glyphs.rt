@@ -5,7 +5,7 @@ use std::alloc::Global;
 use std::str;
 
 /// The text that a field says, with its escapes.
-pub fn text_of(alloc: Global, field: &str) -> Result<String> {
+pub fn unescaped(alloc: Global, field: &str) -> Result<String> {
     Ok(String::from_str(alloc, str::from_utf8(&bytes_of(alloc, field)?)?)?)
 }
 

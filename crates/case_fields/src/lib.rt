@@ -6,9 +6,9 @@ mod glyphs;
 mod numbers;
 mod values;
 
-pub use arrays::{array_of, array_text, axis_of, outcome_text, shape_of, way_of};
+pub use arrays::{array_of, array_text, axes_of, axis_of, outcome_text, way_of};
 pub use glyphs::{
-    line_of, name_of, names_text, push_glyphs, push_names, push_quoted, quoted, text_of,
+    line_of, name_of, names_text, push_glyphs, push_names, push_quoted, quoted, unescaped,
 };
 pub use numbers::{number_of, numbers_of, push_numbers};
 pub use values::{value_of, value_text};

@@ -1,11 +1,11 @@
 use crate::arrays::chars_of;
-use crate::{array_of, array_text, number_of, text_of};
+use crate::{array_of, array_text, number_of, unescaped};
 use anyhow::{Context, Result};
 use apl_arrays::{Array, Items};
 use std::alloc::Global;
 
 fn vector_of(alloc: Global, field: &str) -> Result<Array> {
-    let items = chars_of(alloc, text_of(alloc, field)?.as_str())?;
+    let items = chars_of(alloc, unescaped(alloc, field)?.as_str())?;
     let length = u32::try_from(items.len()).ok();
     Ok(Array::try_new(&[length.context("fewer characters are wanted")?], items)?)
 }

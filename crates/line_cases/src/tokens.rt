@@ -1,7 +1,7 @@
 use crate::system_names::system_text;
 use anyhow::{Context, Result, bail};
 use apl_arrays::Glyph;
-use case_fields::{line_of, push_glyphs, push_numbers, text_of};
+use case_fields::{line_of, push_glyphs, push_numbers, unescaped};
 use case_tables::Trial;
 use line_scanner::{ScanRefused, TokenKind, scan};
 use std::alloc::Global;
@@ -59,7 +59,7 @@ impl Trial for Tokens {
 
     fn found(&self, alloc: Global, fields: &[&str]) -> Result<String> {
         let field = *fields.first().context("a line is wanted")?;
-        let line = line_of(alloc, text_of(alloc, field)?.as_str())?;
+        let line = line_of(alloc, unescaped(alloc, field)?.as_str())?;
         match scan(alloc, &line) {
             Ok(tokens) => tokens_text(alloc, &tokens),
             Err(ScanRefused::CharacterError(at)) => Ok(format!(in alloc; "character {at}")?),

@@ -1,6 +1,6 @@
 use crate::nodes::push_node;
 use anyhow::{Context, Result, bail};
-use case_fields::{line_of, name_of, push_glyphs, text_of};
+use case_fields::{line_of, name_of, push_glyphs, unescaped};
 use case_tables::Trial;
 use line_scanner::scan;
 use line_trees::{Class, Classes, Form, ParseRefused, Tree, parse};
@@ -75,7 +75,7 @@ fn last_text(alloc: Global, tree: &Tree) -> Result<String> {
 
 // The tree of a line, or the place of its error.
 fn parsed(alloc: Global, classes: &Classes, field: &str) -> Result<Result<Tree, u64>> {
-    let line = line_of(alloc, text_of(alloc, field)?.as_str())?;
+    let line = line_of(alloc, unescaped(alloc, field)?.as_str())?;
     let tokens = scan(alloc, &line)?;
     match parse(alloc, &tokens, classes) {
         Ok(tree) => Ok(Ok(tree)),
@@ -85,7 +85,7 @@ fn parsed(alloc: Global, classes: &Classes, field: &str) -> Result<Result<Tree, 
 }
 
 impl Trees {
-    fn text_of(self, alloc: Global, tree: &Tree) -> Result<String> {
+    fn text(self, alloc: Global, tree: &Tree) -> Result<String> {
         match self {
             Trees::Whole => whole_text(alloc, tree),
             Trees::Last => last_text(alloc, tree),
@@ -103,7 +103,7 @@ impl Trial for Trees {
             bail!("classes and a line are wanted");
         };
         match parsed(alloc, &classes_of(alloc, *classes)?, *line)? {
-            Ok(tree) => self.text_of(alloc, &tree),
+            Ok(tree) => self.text(alloc, &tree),
             Err(at) => Ok(format!(in alloc; "syntax {at}")?),
         }
     }

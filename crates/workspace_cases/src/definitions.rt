@@ -5,7 +5,7 @@ use crate::steps::workspace_of;
 use anyhow::{Result, bail};
 use apl_arrays::{Fail, Line, LineList, Name};
 use apl_workspace::{Function, Seen, Workspace};
-use case_fields::{line_of, push_glyphs, text_of};
+use case_fields::{line_of, push_glyphs, unescaped};
 use case_tables::Trial;
 use fn_editor::{Editor, Fed, Opened};
 use std::alloc::Global;
@@ -224,8 +224,8 @@ impl Trial for Definitions {
         let [steps, script, _, asked, ..] = fields else {
             bail!("steps, lines, what they do and answers are wanted");
         };
-        let script = text_of(alloc, *script)?;
-        let mut ws = workspace_of(alloc, text_of(alloc, *steps)?.as_str())?;
+        let script = unescaped(alloc, *script)?;
+        let mut ws = workspace_of(alloc, unescaped(alloc, *steps)?.as_str())?;
         outcome(alloc, &mut ws, script.as_str(), *asked)
     }
 }

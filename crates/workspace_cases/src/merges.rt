@@ -4,7 +4,7 @@ use anyhow::{Result, bail};
 use apl_arrays::{Fail, NameList};
 use apl_execute::{Merged, merge};
 use apl_workspace::Workspace;
-use case_fields::{name_of, push_names, text_of};
+use case_fields::{name_of, push_names, unescaped};
 use case_tables::Trial;
 use std::alloc::Global;
 
@@ -78,7 +78,7 @@ fn by_steps(
     names: &str,
     asked: &str,
 ) -> Result<String> {
-    let from = workspace_of(alloc, text_of(alloc, from)?.as_str())?;
+    let from = workspace_of(alloc, unescaped(alloc, from)?.as_str())?;
     by_names(alloc, into, &from, names, asked)
 }
 
@@ -91,7 +91,7 @@ impl Trial for Merges {
         let [into, from, names, _, asked, ..] = fields else {
             bail!("two workspaces, names, what comes of them and answers are wanted");
         };
-        let into = workspace_of(alloc, text_of(alloc, *into)?.as_str())?;
+        let into = workspace_of(alloc, unescaped(alloc, *into)?.as_str())?;
         by_steps(alloc, &into, *from, *names, *asked)
     }
 }

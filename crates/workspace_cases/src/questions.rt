@@ -7,7 +7,7 @@ use case_fields::{array_text, name_of, names_text, push_glyphs};
 use std::alloc::Global;
 
 // A word, and the value behind it.
-fn value_text(alloc: Global, word: &str, value: &Array) -> Result<String> {
+fn behind_word(alloc: Global, word: &str, value: &Array) -> Result<String> {
     let text = array_text(alloc, value)?;
     Ok(format!(in alloc; "{word} {text}")?)
 }
@@ -21,11 +21,11 @@ fn function_text(alloc: Global, function: &Function) -> Result<String> {
 fn seen_text(alloc: Global, seen: Seen<'_>) -> Result<String> {
     match seen {
         Seen::Nothing => Ok(String::from_str(alloc, "nothing")?),
-        Seen::Value(value) => value_text(alloc, "value", value),
+        Seen::Value(value) => behind_word(alloc, "value", value),
         Seen::Function(function) => function_text(alloc, function),
         Seen::Label(line) => Ok(format!(in alloc; "label {line}")?),
         Seen::Shared(None) => Ok(String::from_str(alloc, "shared -")?),
-        Seen::Shared(Some(value)) => value_text(alloc, "shared", value),
+        Seen::Shared(Some(value)) => behind_word(alloc, "shared", value),
     }
 }
 

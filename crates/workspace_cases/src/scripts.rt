@@ -2,7 +2,7 @@ use crate::questions::answers;
 use crate::steps::run;
 use anyhow::{Result, bail};
 use apl_workspace::Workspace;
-use case_fields::text_of;
+use case_fields::unescaped;
 use case_tables::Trial;
 use std::alloc::Global;
 
@@ -20,7 +20,7 @@ impl Trial for Scripts {
             bail!("steps and answers are wanted");
         };
         let mut ws = Workspace::new(alloc);
-        let refused = run(alloc, &mut ws, text_of(alloc, *steps)?.as_str())?;
+        let refused = run(alloc, &mut ws, unescaped(alloc, *steps)?.as_str())?;
         answers(alloc, &ws, refused, *asked)
     }
 }
