@@ -1,20 +1,19 @@
 -- An inner product of two vectors is the reduction of their pairs.
-use Rattle.std.proofs.Common.{◌≡◌, ℕ, ℤ, zero, suc, pos, ◌+◌, ◌*◌, ◌/◌, ◌%◌, ◌<◌, ◌≤◌, ◌==◌, ◌&&◌, Bool, true, false, not, cond, List, [], ◌∷◌, Option, Some, None, Ok, length, option_map, refl, sym, ap, subst, ◌∙◌, arith}
+use Rattle.std.proofs.Common.{◌≡◌, ℕ, ℤ, zero, suc, pos, ◌+◌, ◌*◌, ◌/◌, ◌%◌, ◌<◌, ◌≤◌, ◌==◌, ◌&&◌, Bool, true, false, not, cond, List, [], ◌∷◌, Option, Some, None, length, option_map, refl, sym, ap, ◌∙◌, arith}
 use Rattle.std.specs.Prelude.{slice_index_or}
 use Rattle.std.proofs.lemmas.Bool.Decides.{nat_tests}
-use Rattle.apl_arrays.specs.declared.array.Item.{Item}
 use Rattle.apl_arrays.specs.declared.array.Item.TheVariants.{Number}
 use Rattle.apl_arrays.specs.declared.verb.Dyad.{Dyad}
 use Rattle.apl_arrays.specs.declared.verb.Way.TheVariants.{Last}
-use Rattle.apl_arrays.specs.Array.{PlainArray, number_array, numbers}
-use Rattle.apl_items.specs.Answers.{Answer, answer_of}
-use Rattle.apl_items.specs.Extension.{number_at, place_in}
+use Rattle.apl_arrays.specs.Array.{number_array, numbers}
+use Rattle.apl_items.specs.Answers.{answer_of}
+use Rattle.apl_items.specs.Extension.{number_at}
 use Rattle.apl_items.specs.Places.{number_faults, numbers_by}
 use Rattle.apl_scalar.specs.Table.{dyadic_item, row_of}
-use Rattle.apl_operators.specs.Gathering.{gathered, numbers_answer}
+use Rattle.apl_operators.specs.Gathering.{numbers_answer}
 use Rattle.apl_operators.specs.Inner.{ends_differ, inner_at, inner_product_of, pair_at, paired}
-use Rattle.apl_operators.specs.Reduce.{item_on_line, reduce_of, reduced_line}
-use Rattle.apl_operators.specs.Reduction.{identity_item, joined_by, number_on, reduction_of}
+use Rattle.apl_operators.specs.Reduce.{reduce_of, reduced_line}
+use Rattle.apl_operators.specs.Reduction.{number_on, reduction_of}
 use Rattle.apl_operators.proofs.LineLemmas.{reduced_numbers}
 use Rattle.apl_operators.proofs.NumberLemmas.{gathered_as_numbers}
 use Rattle.apl_operators.proofs.RunLemmas.{lone, reduction_alike}

@@ -1,5 +1,5 @@
 -- Each item of a scan of a vector is a reduction of its first items.
-use Rattle.std.proofs.Common.{◌≡◌, ◌||◌, ℕ, ℤ, zero, suc, pos, ◌+◌, ◌-◌, ◌*◌, ◌/◌, ◌%◌, ◌<◌, ◌≤◌, Bool, true, false, List, [], ◌∷◌, Option, Some, None, Ok, is_none, length, take, get_or, slice_get, get_or-take, refl, sym, ap, subst, ◌∙◌, arith}
+use Rattle.std.proofs.Common.{◌≡◌, ◌||◌, ℕ, ℤ, zero, suc, pos, ◌+◌, ◌-◌, ◌*◌, ◌/◌, ◌%◌, ◌<◌, ◌≤◌, Bool, true, false, List, [], ◌∷◌, Option, Some, None, Ok, is_none, length, take, get_or, slice_get, get_or-take, refl, sym, ap, ◌∙◌, arith}
 use Rattle.std.specs.Prelude.{slice_index_or}
 use Rattle.std.specs.List.{filter_map, list_any, range_with_len}
 use Rattle.std.proofs.lemmas.Bool.{false≢true}
@@ -7,17 +7,17 @@ use Rattle.apl_arrays.specs.declared.array.ShapeFault.{ShapeFault}
 use Rattle.apl_arrays.specs.declared.array.ShapeFault.TheVariants as fault
 use Rattle.apl_arrays.specs.declared.verb.Dyad.{Dyad}
 use Rattle.apl_arrays.specs.declared.verb.Way.TheVariants.{Last}
-use Rattle.apl_arrays.specs.Array.{PlainArray, PlainItems, element_count, number_array, numbers, numbers_in, scalar}
+use Rattle.apl_arrays.specs.Array.{PlainArray, element_count, number_array, numbers, numbers_in, scalar}
 use Rattle.apl_arrays.specs.Shape.{shape_fault}
 use Rattle.apl_items.specs.Answers.{answer_of, faults_of_fault}
-use Rattle.apl_items.specs.Places.{IsByPlace, items_by, lacks_item, numbers_by}
+use Rattle.apl_items.specs.Places.{items_by, lacks_item, numbers_by}
 use Rattle.apl_items.proofs.ShapeLemmas.{element_count-cons}
 use Rattle.apl_scalar.specs.Table.{dyadic_item}
 use Rattle.apl_operators.specs.Gathering.{numbers_answer}
 use Rattle.apl_operators.specs.Reduce.{reduce_of, reduced_line}
 use Rattle.apl_operators.specs.Reduction.{front_of_line, number_on}
 use Rattle.apl_operators.specs.Running.{front_at}
-use Rattle.apl_operators.specs.Scan.{scan_of, scanned}
+use Rattle.apl_operators.specs.Scan.{scan_of}
 use Rattle.apl_operators.proofs.LineLemmas.{not_zero, number_line_is}
 use Rattle.apl_operators.proofs.NumberLemmas.{gathered_as_numbers, numbers_made}
 use Rattle.apl_operators.proofs.RunLemmas.{front_on, lone, reduction_alike}

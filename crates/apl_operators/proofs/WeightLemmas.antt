@@ -1,10 +1,8 @@
 -- Sums and products that stay within 64 bits, by the weights of their numbers.
-use Rattle.std.proofs.Common.{◌≡◌, ℕ, ℤ, zero, suc, ◌+◌, ◌-◌, ◌*◌, ◌^◌, ◌/◌, ◌%◌, ◌<◌, ◌≤◌, max, Bool, true, false, not, length, get_or, List, Option, Some, None, pos, negsuc, unsigned_abs, nat_lt, refl, sym, ap, subst, ◌∙◌, add-one, arith}
+use Rattle.std.proofs.Common.{◌≡◌, ℕ, ℤ, zero, suc, ◌+◌, ◌-◌, ◌*◌, ◌^◌, ◌/◌, ◌%◌, ◌<◌, ◌≤◌, max, Bool, true, not, length, List, Option, Some, None, pos, negsuc, unsigned_abs, refl, sym, ap, subst, ◌∙◌, add-one, arith}
 use Rattle.std.specs.Prelude.{◌+ℤ◌, ◌*ℤ◌, slice_index_or}
 use borrow.Author.Differences.{down, product_is, same_in, up}
 use Rattle.std.proofs.Math.Nat.{le_refl, mul_comm, le-mul_of_pos_right}
-use mir.Syntax.{w64}
-use mir.Val.{SFits}
 use Rattle.std.proofs.lemmas.Bool.{false≢true}
 use Rattle.std.proofs.lemmas.Bool.Decides.{nat_tests}
 use Rattle.std.proofs.lemmas.Int.{ints, unsigned_abs-mul}

@@ -12,7 +12,7 @@ mod structure;
 use anyhow::Result;
 use case_tables::{Tally, conclude, run_table, run_tables};
 use indexing::{Assignments, Indexings};
-use operators::{Folds, InnerProducts, OuterProducts};
+use operators::{AlongLines, InnerProducts, OuterProducts};
 use scalar::{Dyads, Monads};
 use search::{Grades, Searches};
 use std::process::ExitCode;
@@ -69,8 +69,11 @@ fn searches(rt: &HostRuntime) -> Result<Tally> {
 }
 
 fn by_operators(rt: &HostRuntime) -> Result<Tally> {
-    let folds = [("reduce.txt", Folds::Reduce), ("scan.txt", Folds::Scan)];
-    let mut tally = run_tables(rt, &folds)?;
+    let along_lines = [
+        ("reduce.txt", AlongLines::Reduce),
+        ("scan.txt", AlongLines::Scan),
+    ];
+    let mut tally = run_tables(rt, &along_lines)?;
     tally.add(run_table(rt, "inner.txt", &InnerProducts)?);
     tally.add(run_table(rt, "outer.txt", &OuterProducts)?);
     Ok(tally)

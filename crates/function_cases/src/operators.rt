@@ -1,14 +1,13 @@
 use crate::signs::dyad_of;
 use anyhow::{Result, bail};
-use apl_arrays::{Array, Dyad, Fail, Way};
 use apl_operators::{inner, outer, reduce, scan};
 use case_fields::{array_of, axis_of, outcome_text, way_of};
 use case_tables::Trial;
 use std::alloc::Global;
 
-/// Reductions and scans: the function, the sign of the operator, the axis or `-`, and the argument; the result.
+/// Reductions and scans: the function, `/` or `⌿`, or `\` or `⍀`, the axis or `-`, and the argument; the result.
 #[derive(Clone, Copy, Debug)]
-pub enum Folds {
+pub enum AlongLines {
     Reduce,
     Scan,
 }
@@ -21,23 +20,7 @@ pub struct InnerProducts;
 #[derive(Clone, Copy, Debug)]
 pub struct OuterProducts;
 
-impl Folds {
-    fn outcome(
-        self,
-        alloc: Global,
-        function: Dyad,
-        argument: &Array,
-        way: Way,
-        axis: Option<i64>,
-    ) -> Result<Array, Fail> {
-        match self {
-            Folds::Reduce => reduce(alloc, function, argument, way, axis),
-            Folds::Scan => scan(alloc, function, argument, way, axis),
-        }
-    }
-}
-
-impl Trial for Folds {
+impl Trial for AlongLines {
     fn given(&self) -> usize {
         4
     }
@@ -49,7 +32,11 @@ impl Trial for Folds {
         let function = dyad_of(*function)?;
         let (way, axis) = (way_of(*sign)?, axis_of(alloc, *axis)?);
         let argument = array_of(alloc, *argument)?;
-        outcome_text(alloc, self.outcome(alloc, function, &argument, way, axis))
+        let outcome = match self {
+            AlongLines::Reduce => reduce(alloc, function, &argument, way, axis),
+            AlongLines::Scan => scan(alloc, function, &argument, way, axis),
+        };
+        outcome_text(alloc, outcome)
     }
 }
 

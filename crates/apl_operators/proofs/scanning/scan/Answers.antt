@@ -1,5 +1,5 @@
-use Rattle.std.proofs.Common.{◌≡◌, ◌<◌, ◌∙◌, List, ℕ, Bool, true, false, length, sym, ap, arith}
-use Rattle.apl_arrays.specs.Array.{element_count, item_count}
+use Rattle.std.proofs.Common.{◌≡◌, ◌<◌, ◌∙◌, List, ℕ, false, length, sym, ap, arith}
+use Rattle.apl_arrays.specs.Array.{element_count}
 use Rattle.apl_items.specs.Axis.{axis_of, lacks_axis}
 use Rattle.apl_operators.proofs.ScanLemmas.{no_count, some_items, scan_along_an_axis}
 use Rattle.apl_operators.proofs.scanning.scan.Goals as goal
