@@ -22,7 +22,7 @@ fn built_from(
     tokens: &[Token],
 ) -> Result<Builder, WantOfMemory>
     requires { length marks.now ≡ length tokens.now }
-    ensures { IfOk result (λ b. plain_builder b ≡ built_from classes.now marks.now (map plain_token tokens.now)) }
+    ensures { IfOk result (λ b. plain_builder b ≡ built_from classes.now.items marks.now (map plain_token tokens.now)) }
 {
     let mut builder = Builder::new(alloc);
     let mut at = tokens.len();
@@ -39,8 +39,8 @@ fn built_from(
 /// for the nodes, and for each token while it works.
 #[tactic(auto, using(crate::proofs::Loops::same_length))]
 pub fn parse(alloc: Global, tokens: &Tokens, names: &Classes) -> Result<Tree, ParseRefused>
-    ensures tree { IfOk result (λ tree. parsed names.now tokens.now.tokens.items tokens.now.length ≡ Ok (plain_tree tree)) }
-    ensures refused { IfErr result (λ refused. IsRefusal refused (parsed names.now tokens.now.tokens.items tokens.now.length)) }
+    ensures tree { IfOk result (λ tree. parsed names.now.items tokens.now.tokens.items tokens.now.length ≡ Ok (plain_tree tree)) }
+    ensures refused { IfErr result (λ refused. IsRefusal refused (parsed names.now.items tokens.now.tokens.items tokens.now.length)) }
 {
     let marks = marks_of(alloc, tokens, names)?;
     let builder = built_from(alloc, names, marks.as_slice(), tokens.tokens.as_slice())?;
