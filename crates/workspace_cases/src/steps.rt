@@ -25,13 +25,14 @@ fn define(alloc: Global, ws: &mut Workspace, text: &str) -> Result<Option<Report
     report_of(ws.define(function))
 }
 
-fn erase(alloc: Global, ws: &mut Workspace, text: &str) -> Result<()> {
+// Erases a name, which is there or is not.
+fn erase(alloc: Global, ws: &mut Workspace, text: &str, is_there: bool) -> Result<()> {
     let name = name_of(alloc, text)?;
     if ws.is_shared(&name) {
         bail!("a shared name is not erased");
     }
-    if !ws.erase(&name) {
-        bail!("nothing to be erased");
+    if ws.erase(&name) != is_there {
+        bail!("another answer to an erasure");
     }
     Ok(())
 }
@@ -146,7 +147,8 @@ fn copy(ws: &mut Workspace) -> Result<()> {
 // A step that is never refused.
 fn granted(alloc: Global, ws: &mut Workspace, word: &str, rest: &str) -> Result<()> {
     match word {
-        "erase" => erase(alloc, ws, rest),
+        "erase" => erase(alloc, ws, rest, true),
+        "miss" => erase(alloc, ws, rest, false),
         "unmark" => unmark(alloc, ws, rest),
         "leave" => leave(ws),
         "count" => count(ws, rest),
