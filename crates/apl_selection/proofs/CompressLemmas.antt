@@ -1,5 +1,5 @@
 -- Places whose flag is 1.
-use Rattle.std.proofs.Common.{◌≡◌, ℕ, ℤ, zero, suc, ◌+◌, ◌<◌, ◌≤◌, ◌==◌, ◌&&◌, Bool, true, false, not, cond, List, [], ◌∷◌, ◌++◌, map, Option, Some, None, length, get_or, refl, sym, ap, subst, ◌∙◌, arith}
+use Rattle.std.proofs.Common.{◌≡◌, ℕ, ℤ, zero, suc, ◌+◌, ◌<◌, ◌≤◌, ◌==◌, ◌&&◌, ◌||◌, Bool, true, false, not, cond, List, [], ◌∷◌, ◌++◌, map, Option, Some, None, length, get_or, refl, sym, ap, subst, ◌∙◌, arith}
 use Rattle.std.specs.List.{filter, list_any, range_with_len}
 use Rattle.std.proofs.lemmas.Bool.Decides.{nat_tests}
 use Rattle.std.proofs.lemmas.List.{append-nil, length-map, map-append}
@@ -12,10 +12,11 @@ use Rattle.apl_items.specs.Answers.{first_report}
 use Rattle.apl_items.specs.Extension.{number_at, place_in}
 use Rattle.apl_items.specs.Places.{places}
 use Rattle.apl_items.specs.Axis.{lacks_axis}
-use Rattle.apl_selection.specs.Compression.{compress_faults, compress_of, flagged_length, kept, kept_of}
+use Rattle.apl_selection.specs.Compression.{compress_faults, compress_of, flagged_length, flags_meet, kept, kept_of}
 use Rattle.apl_selection.specs.Flags.{is_no_flag, is_one}
 use Rattle.apl_selection.specs.Listing.{listed_of, meant_axis, meant_length, vector_shape}
 use Rattle.apl_selection.proofs.FaultLemmas.{count_of_numbers, nothing_is_wrong, or_first}
+use Rattle.apl_selection.proofs.PickLemmas.{some_same}
 
 places_more : (first n : ℕ) → range_with_len first (n + 1) ≡ range_with_len first n ++ (first + n) ∷ []
 places_more first zero = let e : first ≡ first + zero = omega arith in ap (λ (k : ℕ). k ∷ []) e
@@ -24,7 +25,7 @@ places_more first (suc n) =
     let e : (first + 1) + n ≡ first + suc n = omega arith in
     ap (range_with_len first) one ∙ ap (λ (xs : List ℕ). first ∷ xs) (places_more (first + 1) n ∙ ap (λ (k : ℕ). range_with_len (first + 1) n ++ k ∷ []) e)
 
-kept_more : (flags : List ℤ) (long n : ℕ) (one : Bool) → is_one (number_at flags n) ≡ one
+pub kept_more : (flags : List ℤ) (long n : ℕ) (one : Bool) → is_one (number_at flags n) ≡ one
     → kept_of flags long (n + 1) ≡ kept_of flags long n ++ map (λ place. Some (place_in long place)) (cond one (n ∷ []) [])
 kept_more flags long n one e =
     let test : ℕ → Bool = λ place. is_one (number_at flags place) in
@@ -45,9 +46,6 @@ pub kept_no : (flags : List ℤ) (long n : ℕ) (before : List (Option ℕ)) (on
 kept_no flags long n before one so_far test e = so_far ∙ sym (append-nil (kept_of flags long n)) ∙ sym (kept_more flags long n false (sym test ∙ e))
 
 -- ---- what is kept is on the axis
-
-some_same : (m n : ℕ) → Some m ≡ Some n → m ≡ n
-some_same m n e = cc
 
 -- where what is left of a list is on the axis, so is the list with one entry more, if that is
 inside_more : (test : Bool) (long first : ℕ) (rest : List ℕ) → place_in long first < long
@@ -83,14 +81,14 @@ kept_inside flags long meets along place e =
     (λ k h. let same : k ≡ 0 + k = omega arith in
     subst (λ (m : ℕ). place_in long m < long) same (on_by (long == 1) (length flags == 1) (length flags == long) (length flags) long k refl refl refl meets.same h)) along place e
 
-meet_by : (lacks one lone same : Bool) → lacks ≡ false → (not lacks && not one && not lone && not same) ≡ false → one ≡ false → lone ≡ false → same ≡ true
+meet_by : (lacks one lone same : Bool) → lacks ≡ false → (not lacks && not (one || lone || same)) ≡ false → one ≡ false → lone ≡ false → same ≡ true
 meet_by true one lone same p q r s = absurd (cc)
 meet_by false true lone same p q r s = absurd (cc)
 meet_by false false true same p q r s = absurd (cc)
 meet_by false false false true p q r s = refl
 meet_by false false false false p q r s = absurd (cc)
 
-pub meet_from : (lacks : Bool) (flags long count : ℕ) → count ≡ flags → lacks ≡ false → (not lacks && not (count == 1) && not (long == 1) && not (count == long)) ≡ false → Meets flags long
+pub meet_from : (lacks : Bool) (flags long count : ℕ) → count ≡ flags → lacks ≡ false → (not lacks && not (flags_meet count long)) ≡ false → Meets flags long
 meet_from lacks flags long count e p q = record {
   same = subst (λ (n : ℕ). (n == 1) ≡ false → (long == 1) ≡ false → (n == long) ≡ true) e (meet_by lacks (count == 1) (long == 1) (count == long) p q);
 }

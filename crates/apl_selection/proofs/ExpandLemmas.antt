@@ -1,5 +1,5 @@
 -- Places spread over flags.
-use Rattle.std.proofs.Common.{◌≡◌, ℕ, ℤ, pos, ◌+◌, ◌<◌, ◌≤◌, ◌==◌, ◌&&◌, Bool, true, false, not, cond, nat_lt, List, [], ◌∷◌, ◌++◌, map, Option, Some, None, length, take, get_or, refl, sym, ap, subst, ◌∙◌, arith}
+use Rattle.std.proofs.Common.{◌≡◌, ℕ, ℤ, pos, ◌+◌, ◌<◌, ◌≤◌, ◌==◌, ◌&&◌, ◌||◌, Bool, true, false, not, cond, nat_lt, List, [], ◌∷◌, ◌++◌, map, Option, Some, None, length, take, get_or, refl, sym, ap, subst, ◌∙◌, arith}
 use Rattle.std.proofs.lemmas.Bool.Decides.{nat_tests}
 use Rattle.std.proofs.lemmas.List.{get_or_past}
 use Rattle.std.proofs.lemmas.List.FromFn.{get_or-map-range_with_len, length-map-range_with_len, map-range_with_len_more}
@@ -10,10 +10,11 @@ use Rattle.apl_items.specs.Answers.{first_report}
 use Rattle.apl_items.specs.Extension.{place_in}
 use Rattle.apl_items.specs.Places.{places}
 use Rattle.apl_items.specs.Axis.{lacks_axis}
-use Rattle.apl_selection.specs.Expansion.{expand_faults, expand_of, ones, spread, spread_at}
+use Rattle.apl_selection.specs.Expansion.{expand_faults, expand_of, ones, ones_meet, spread, spread_at}
 use Rattle.apl_selection.specs.Flags.{is_one}
 use Rattle.apl_selection.specs.Listing.{listed_of, meant_axis, meant_length, vector_shape}
 use Rattle.apl_selection.proofs.FaultLemmas.{nothing_is_wrong, same_number}
+use Rattle.apl_selection.proofs.PickLemmas.{some_same}
 
 -- the entry of a flag that is 1
 pub entry_yes : (flags : List ℤ) (long n count place : ℕ) (one : Bool) → one ≡ is_one (get_or flags n (pos 0)) → one ≡ true → count ≡ ones (take n flags) → place ≡ place_in long count
@@ -41,15 +42,12 @@ ones_no flags n one count h test e is = is ∙ sym (count_by_more_no is_one flag
 
 -- ---- the places are on the axis
 
-some_same : (m n : ℕ) → Some m ≡ Some n → m ≡ n
-some_same m n e = cc
-
 by_flag : (one lone : Bool) (count long place : ℕ) → (long == 1) ≡ lone → cond one (Some (cond lone 0 count)) None ≡ Some place → (one ≡ true → lone ≡ false → count < long) → place < long
 by_flag true true count long place p e low = let is = some_same 0 place e in grind (arith, nat_tests)
 by_flag true false count long place p e low = let is = some_same count place e in let small = low refl refl in omega arith
 by_flag false lone count long place p e low = absurd (cc)
 
-meet_by : (lacks lone same : Bool) → lacks ≡ false → (not lacks && not lone && not same) ≡ false → lone ≡ false → same ≡ true
+meet_by : (lacks lone same : Bool) → lacks ≡ false → (not lacks && not (lone || same)) ≡ false → lone ≡ false → same ≡ true
 meet_by true lone same p q r = absurd (cc)
 meet_by false true same p q r = absurd (cc)
 meet_by false false true p q r = refl
@@ -59,7 +57,7 @@ meet_by false false false p q r = absurd (cc)
 pub record Fills (flags : List ℤ) (long : ℕ) : Type 0 where
   pub same : (long == 1) ≡ false → ones flags ≡ long
 
-pub fill_from : (lacks : Bool) (flags : List ℤ) (long : ℕ) → lacks ≡ false → (not lacks && not (long == 1) && not (ones flags == long)) ≡ false → Fills flags long
+pub fill_from : (lacks : Bool) (flags : List ℤ) (long : ℕ) → lacks ≡ false → (not lacks && not (ones_meet flags long)) ≡ false → Fills flags long
 fill_from lacks flags long p q = record { same = λ lone. same_number (ones flags) long (meet_by lacks (long == 1) (ones flags == long) p q lone) }
 
 fewer_before : (flags : List ℤ) (n : ℕ) → n < length flags → is_one (get_or flags n (pos 0)) ≡ true → ones (take n flags) < ones flags

@@ -1,11 +1,12 @@
 -- Calls on which nothing is reported, and what tests of numbers say.
-use Rattle.std.proofs.Common.{◌≡◌, ◌≤◌, ◌==◌, ◌||◌, ℕ, Bool, true, false, nat_lt, Option, Some, None, Ok, Err, is_some, length, refl, sym, ap, arith}
+use Rattle.std.proofs.Common.{◌≡◌, ◌<◌, ◌≤◌, ◌==◌, ◌||◌, ℕ, Bool, true, false, nat_lt, Option, Some, None, Ok, Err, is_some, length, refl, sym, ap, arith}
 use Rattle.std.proofs.lemmas.Bool.Decides.{nat_tests}
 use Rattle.apl_arrays.specs.declared.array.ShapeFault.{ShapeFault}
 use Rattle.apl_arrays.specs.Array.{PlainArray, PlainItems, IsArray, numbers, chars, is_chars, item_count, numbers_in}
 use Rattle.apl_arrays.specs.declared.report.Report.{Report}
 use Rattle.apl_arrays.specs.declared.report.Report.TheVariants.{WsFull}
 use Rattle.apl_items.specs.Answers.{Faults, answer_of, first_report, unless}
+use Rattle.apl_items.specs.Extension.{place_in}
 
 -- no kind of fault
 pub record IsSound (faults : Faults) : Type 0 where
@@ -88,3 +89,11 @@ same_number m n e = grind (arith, nat_tests)
 -- no more axes than there may be
 pub few_axes : (n : ℕ) → n ≤ 8 → nat_lt 8 n ≡ false
 few_axes n h = grind (arith, nat_tests)
+
+lone_by : (count place : ℕ) (b : Bool) → (count == 1) ≡ b → place < count → place_in count place ≡ place
+lone_by count place true e below = let one = same_number count 1 e in rw e (omega arith)
+lone_by count place false e below = rw e refl
+
+-- a place below a count, where it would be 0 for a lone item
+pub lone_place : (count place : ℕ) → place < count → place_in count place ≡ place
+lone_place count place below = lone_by count place (count == 1) refl below

@@ -1,5 +1,5 @@
 -- What was put over the items that subscripts select is what they select afterwards.
-use Rattle.std.proofs.Common.{◌≡◌, ℕ, zero, suc, ◌+◌, ◌*◌, ◌<◌, ◌==◌, ◌||◌, Bool, true, false, nat_lt, pos, List, [], ◌∷◌, Option, Some, None, Ok, is_some, length, map, drop, slice_get, get_or, refl, sym, ap, subst, ◌∙◌, arith}
+use Rattle.std.proofs.Common.{◌≡◌, ℕ, zero, suc, ◌+◌, ◌*◌, ◌<◌, ◌||◌, Bool, true, false, nat_lt, pos, List, [], ◌∷◌, Option, Some, None, Ok, is_some, length, map, drop, slice_get, get_or, refl, sym, ap, subst, ◌∙◌, arith}
 use Rattle.std.specs.Bool.{beq}
 use Rattle.std.specs.List.{flat_map, list_any, range_with_len, zip}
 use Rattle.std.proofs.lemmas.List.{drop_more, get_or-map, get_or_default}
@@ -11,7 +11,6 @@ use Rattle.apl_arrays.specs.Glyph.{blank}
 use Rattle.apl_arrays.specs.Shape.{shape_fault}
 use Rattle.apl_arrays.proofs.Shapes.{what_fits_has_no_fault}
 use Rattle.apl_items.specs.Answers.{first_report, no_faults, unless}
-use Rattle.apl_items.specs.Extension.{place_in}
 use Rattle.apl_items.specs.Moves.{item_or, moved_items, moved_list}
 use Rattle.apl_items.specs.Places.{places}
 use Rattle.apl_items.specs.Shapes.{AreWithin, coordinates_of, place_of}
@@ -22,7 +21,7 @@ use Rattle.apl_selection.specs.Subscripts.{axes_by, is_miscounted, is_of_chars, 
 use Rattle.apl_selection.specs.SelectionLaws.{AreArrays, NamesOnce}
 use Rattle.apl_selection.proofs.PickLemmas.{as_many_within}
 use Rattle.apl_selection.proofs.IndexLemmas.{counts_at, counts_length, inside_each, named_inside}
-use Rattle.apl_selection.proofs.FaultLemmas.{few_axes, same_number}
+use Rattle.apl_selection.proofs.FaultLemmas.{few_axes, lone_place}
 use Rattle.apl_selection.proofs.MoveLemmas.{array_of}
 use Rattle.apl_selection.proofs.NamingLemmas.{assign_is_right, counted}
 use Rattle.apl_selection.proofs.OrderLemmas.{Leads, led_by, led_within, naming_below, naming_names, named_is_taken}
@@ -41,13 +40,6 @@ over_at {T} fill old new source place below =
     get_or-map (λ (pair : T × ℕ). put_over pair.0 new (source pair.1)) pairs place (fill, 0) fill inside
     ∙ ap (λ (pair : T × ℕ). put_over pair.0 new (source pair.1)) (get_or-zip old (places (length old)) place (fill, 0) below (let low : place < length (places (length old)) = omega arith in low))
     ∙ ap (λ (n : ℕ). put_over (get_or old place fill) new (source n)) at_place
-
-lone_by : (count place : ℕ) (b : Bool) → (count == 1) ≡ b → place < count → place_in count place ≡ place
-lone_by count place true e below = let one = same_number count 1 e in rw e (omega arith)
-lone_by count place false e below = rw e refl
-
-lone_place : (count place : ℕ) → place < count → place_in count place ≡ place
-lone_place count place below = lone_by count place (count == 1) refl below
 
 -- each place of the selection names a place, and is the one that is taken for it
 pub record IsTaken (shape : List ℕ) (subs : List (Option PlainArray)) (at : ℕ) : Type 0 where

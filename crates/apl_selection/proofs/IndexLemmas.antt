@@ -20,15 +20,13 @@ use Rattle.apl_selection.specs.Picks.{PicksWithin, strided}
 use Rattle.apl_selection.specs.Subscripts.{is_miscounted, is_of_chars, is_outside, named_by, named_counts, named_on, point_outside, points_outside, selection_shape, sub_on}
 use Rattle.apl_selection.proofs.FaultLemmas.{none_from}
 use Rattle.apl_selection.proofs.MoveLemmas.{array_of}
+use Rattle.apl_selection.proofs.PickLemmas.{some_same}
 
 -- ---- what is named stands on its axis
 
-some_place : (m n : ℕ) → Some m ≡ Some n → m ≡ n
-some_place m n e = cc
-
 of_places : (long first along place : ℕ) → slice_get (range_with_len first long) along ≡ Some place → place < first + long
 of_places zero first along place e = absurd (cc)
-of_places (suc long) first zero place e = let is = some_place first place e in omega arith
+of_places (suc long) first zero place e = let is = some_same first place e in omega arith
 of_places (suc long) first (suc along) place e = let rest = of_places long (first + 1) along place e in omega arith
 
 pub number_inside : (negative none over : Bool) (size long place : ℕ) → (negative || none || over) ≡ false → (size == 0) ≡ none → nat_lt long size ≡ over → size - 1 ≡ place → place < long
@@ -46,7 +44,7 @@ of_numbers : (long : ℕ) (numbers : List ℤ) (along place : ℕ) → list_any 
 of_numbers long [] along place none e = absurd (cc)
 of_numbers long (x ∷ xs) zero place none e =
     number_inside (is_negative x) (unsigned_abs x == 0) (nat_lt long (unsigned_abs x)) (unsigned_abs x) long place (none_first (is_outside long x) (list_any (is_outside long) xs) none).0 refl refl
-    (some_place (unsigned_abs x - 1) place e)
+    (some_same (unsigned_abs x - 1) place e)
 of_numbers long (x ∷ xs) (suc along) place none e = of_numbers long xs along place (none_first (is_outside long x) (list_any (is_outside long) xs) none).1 e
 
 pub named_inside : (long : ℕ) (sub : Option PlainArray) (along place : ℕ) → points_outside long sub ≡ false → slice_get (named_by long sub) along ≡ Some place → place < long

@@ -45,7 +45,7 @@ in_second o a i inners a_count b_count a_span b_span start rest e is =
     rw (test, left, is) refl
 
 -- a place on A's part of a row
-in_a : (split : Split) (a_count b_count a_span b_span outer place : ℕ) → split.along ≡ a_span + b_span → place < a_span * split.inner
+pub in_a : (split : Split) (a_count b_count a_span b_span outer place : ℕ) → split.along ≡ a_span + b_span → place < a_span * split.inner
     → catenated_place split a_count b_count a_span b_span (outer * (split.along * split.inner) + place) ≡ place_in a_count (outer * (a_span * split.inner) + place)
 in_a split a_count b_count a_span b_span outer place long low =
     let inner = split.inner in
@@ -60,7 +60,7 @@ second_group : (o n i s q r place : ℕ) → q * i + r ≡ place → o * (n * i)
 second_group o n i s q r place e = omega arith
 
 -- and one on B's
-in_b : (split : Split) (a_count b_count a_span b_span outer place : ℕ) → split.along ≡ a_span + b_span → place < b_span * split.inner
+pub in_b : (split : Split) (a_count b_count a_span b_span outer place : ℕ) → split.along ≡ a_span + b_span → place < b_span * split.inner
     → catenated_place split a_count b_count a_span b_span (outer * (split.along * split.inner) + (a_span * split.inner + place)) ≡ a_count + place_in b_count (outer * (b_span * split.inner) + place)
 in_b split a_count b_count a_span b_span outer place long low =
     let inner = split.inner in

@@ -1,10 +1,13 @@
 pub mod AssignLemmas
+pub mod BackLemmas
 pub mod CompressLemmas
 pub mod ExpandLemmas
 pub mod FaultLemmas
+pub mod FlagLaws
 pub mod GivenBackLemmas
 pub mod IndexLemmas
 pub mod JoinKindLemmas
+pub mod JoinLaws
 pub mod JoinLemmas
 pub mod JoinRowLemmas
 pub mod JoinShapeLemmas

@@ -13,7 +13,7 @@ use Rattle.apl_selection.specs.Indexing.{named_place}
 use Rattle.apl_selection.specs.Picks.{strided}
 use Rattle.apl_selection.specs.Subscripts.{named_counts, named_on, point_outside, sub_on}
 use Rattle.apl_selection.proofs.AssignLemmas.{alike, last_below}
-use Rattle.apl_selection.proofs.PickLemmas.{as_many_within}
+use Rattle.apl_selection.proofs.PickLemmas.{as_many_within, some_same}
 use Rattle.apl_selection.proofs.IndexLemmas.{counts_at, counts_length, inside_each, named_inside}
 use Rattle.apl_selection.proofs.FaultLemmas.{same_number}
 
@@ -24,23 +24,20 @@ Leads from axis [] (c ∷ cs) = ⊥
 Leads from axis (k ∷ ks) [] = ⊥
 Leads from axis (k ∷ ks) (c ∷ cs) = (from axis k ≡ Some c) × Leads from (axis + 1) ks cs
 
-same_some : (m n : ℕ) → Some m ≡ Some n → m ≡ n
-same_some m n e = cc
-
 both_some : (here after : Option ℕ) (total : ℕ) → added here after ≡ Some total → (a : ℕ) × (b : ℕ) × (here ≡ Some a) × (after ≡ Some b) × (a + b ≡ total)
 both_some None after total e = absurd (cc)
 both_some (Some a) None total e = absurd (cc)
-both_some (Some a) (Some b) total e = (a, b, refl, refl, same_some (a + b) total e)
+both_some (Some a) (Some b) total e = (a, b, refl, refl, some_same (a + b) total e)
 
 unscaled : (place : Option ℕ) (stride at : ℕ) → option_map (λ p. p * stride) place ≡ Some at → (p : ℕ) × (place ≡ Some p) × (p * stride ≡ at)
 unscaled None stride at e = absurd (cc)
-unscaled (Some p) stride at e = (p, refl, same_some (p * stride) at e)
+unscaled (Some p) stride at e = (p, refl, some_same (p * stride) at e)
 
 -- an offset leads to coordinates, and its place is theirs
 pub led : (source : List ℕ) (from : ℕ → ℕ → Option ℕ) (axis : ℕ) (ks : List ℕ) (at : ℕ) → length ks + axis ≡ length source → offset_at (strided source from) axis ks ≡ Some at
     → (cs : List ℕ) × Leads from axis ks cs × (place_of (drop axis source) cs ≡ at)
 led source from axis [] at many e =
-    ([], tt, ap (λ (xs : List ℕ). place_of xs []) (drop_all axis source (omega arith)) ∙ same_some 0 at e)
+    ([], tt, ap (λ (xs : List ℕ). place_of xs []) (drop_all axis source (omega arith)) ∙ some_same 0 at e)
 led source from axis (k ∷ ks) at many e =
     let parts = both_some (strided source from axis k) (offset_at (strided source from) (axis + 1) ks) at e in
     let first = unscaled (from axis k) (stride_of source axis) parts.0 parts.2 in
@@ -86,10 +83,10 @@ last_is_there number (y ∷ ys) k e = by_rest (last_place number ys) (y == numbe
     by_rest : (rest : Option ℕ) (here : Bool) → (y == number) ≡ here → ((later : ℕ) → rest ≡ Some later → slice_get ys later ≡ Some number)
         → option_or (option_map (λ place. place + 1) rest) (cond here (Some 0) None) ≡ Some k → slice_get (y ∷ ys) k ≡ Some number
     by_rest None true t there e =
-        let is = same_some 0 k e in subst (λ (n : ℕ). slice_get (y ∷ ys) n ≡ Some number) is (ap (λ (n : ℕ). Some n) (same_number y number t))
+        let is = some_same 0 k e in subst (λ (n : ℕ). slice_get (y ∷ ys) n ≡ Some number) is (ap (λ (n : ℕ). Some n) (same_number y number t))
     by_rest None false t there e = absurd (cc)
     by_rest (Some later) here t there e =
-        let is = same_some (later + 1) k e in let next : suc later ≡ k = omega arith in subst (λ (n : ℕ). slice_get (y ∷ ys) n ≡ Some number) next (there later refl)
+        let is = some_same (later + 1) k e in let next : suc later ≡ k = omega arith in subst (λ (n : ℕ). slice_get (y ∷ ys) n ≡ Some number) next (there later refl)
 
 pub none_is_after : (number : ℕ) (xs : List ℕ) (j : ℕ) → slice_get xs j ≡ Some number → (k : ℕ) × (last_place number xs ≡ Some k) × (j ≤ k)
 none_is_after number [] j e = absurd (cc)
@@ -99,7 +96,7 @@ none_is_after number (y ∷ ys) zero e = by_rest (last_place number ys) refl
     by_rest None is = (
       0,
       ap (λ (o : Option ℕ). option_or (option_map (λ place. place + 1) o) (cond (y == number) (Some 0) None)) is
-          ∙ ap (λ (b : Bool). option_or (option_map (λ place. place + 1) None) (cond b (Some 0) None)) (alike y number (same_some y number e)),
+          ∙ ap (λ (b : Bool). option_or (option_map (λ place. place + 1) None) (cond b (Some 0) None)) (alike y number (some_same y number e)),
       omega arith,
     )
     by_rest (Some later) is = (later + 1, ap (λ (o : Option ℕ). option_or (option_map (λ place. place + 1) o) (cond (y == number) (Some 0) None)) is, omega arith)

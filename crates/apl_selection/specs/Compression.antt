@@ -1,11 +1,10 @@
-use Rattle.std.specs.Prelude.{◌&&◌, ◌==◌, ℕ, ℤ, not, List, Option, Some, length, map, filter, nat_lt, if◌then◌else◌}
+use Rattle.std.specs.Prelude.{◌||◌, ◌==◌, ℕ, ℤ, Bool, List, Option, Some, length, map, filter, if◌then◌else◌}
 use Rattle.apl_arrays.specs.declared.verb.Way.{Way}
 use Rattle.apl_arrays.specs.Array.{PlainArray, item_count, numbers_in}
-use Rattle.apl_items.specs.Answers.{Answer, Faults, no_faults}
+use Rattle.apl_items.specs.Answers.{Answer, Faults}
 use Rattle.apl_items.specs.Extension.{number_at, place_in}
 use Rattle.apl_items.specs.Places.{places}
-use Rattle.apl_items.specs.Axis.{lacks_axis}
-use Rattle.apl_selection.specs.Flags.{is_one, lacks_flags}
+use Rattle.apl_selection.specs.Flags.{flag_faults, is_one}
 use Rattle.apl_selection.specs.Listing.{listed_of, meant_axis, meant_length}
 
 -- how many places flags and an axis have together: a lone flag is for each place of the axis, a lone place for each flag
@@ -20,17 +19,13 @@ kept_of flags long count = map (λ place. Some (place_in long place)) (filter (�
 abbrev pub kept : List ℤ → ℕ → List (Option ℕ)
 kept flags long = kept_of flags long (flagged_length (length flags) long)
 
--- what is wrong with a compression: a vector or a scalar of flags, with one flag or as many as the axis, which may have one place
+-- there is one flag, or the axis has one place, or there are as many of both
+abbrev pub flags_meet : ℕ → ℕ → Bool
+flags_meet flags long = flags == 1 || long == 1 || flags == long
+
+-- what is wrong with a compression
 abbrev pub compress_faults : PlainArray → PlainArray → Way → Option ℤ → Faults
-compress_faults a b way axis =
-    let count = item_count a.items in
-    let long = meant_length b way axis in
-    let lacks = lacks_axis (length b.shape) axis in record no_faults {
-      bad_rank = nat_lt 1 (length a.shape);
-      bad_length = not lacks && not (count == 1) && not (long == 1) && not (count == long);
-      bad_domain = lacks_flags a;
-      bad_index = lacks;
-    }
+compress_faults a b way axis = flag_faults a b axis (flags_meet (item_count a.items) (meant_length b way axis))
 
 -- the items of B along the last axis, the first or K, where A has 1
 abbrev pub compress_of : PlainArray → PlainArray → Way → Option ℤ → Answer

@@ -9,3 +9,4 @@ pub mod Naming
 pub mod Picks
 pub mod SelectionLaws
 pub mod Subscripts
+pub mod Vectors

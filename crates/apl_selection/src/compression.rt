@@ -1,12 +1,12 @@
 ghost use Rattle.std.specs.Prelude.{◌≡◌, ◌≤◌, None, IfOk, length, vec_len, vec_capacity};
-ghost use Rattle.apl_arrays.specs.Array.{IsArray};
+ghost use Rattle.apl_arrays.specs.Array.{IsArray, item_count};
 ghost use Rattle.apl_items.specs.Answers.{Answers, first_report};
-ghost use Rattle.apl_selection.specs.Compression.{compress_faults, compress_of, flagged_length, kept};
+ghost use Rattle.apl_selection.specs.Compression.{compress_faults, compress_of, flagged_length, flags_meet, kept};
 
-use crate::flags::{is_one, lacks_flags};
-use crate::listing::{listed_of, meant_axis, meant_length, place_on};
-use apl_arrays::{Array, Fail, Report, WantOfMemory, Way};
-use apl_items::{lacks_axis, number_at, room_for};
+use crate::flags::{flags_report, is_one};
+use crate::listing::{listed_of, meant_axis, meant_length, place_in};
+use apl_arrays::{Array, Fail, WantOfMemory, Way};
+use apl_items::{number_at, room_for};
 use std::alloc::Global;
 
 /// The items of B along an axis, the last or the first where none is named, where A has 1. A lone flag is for each place of
@@ -22,31 +22,19 @@ pub fn compress(
 ) -> Result<Array, Fail>
     ensures { Answers result (compress_of a.now b.now way axis) }
 {
-    match compress_report(a, b, way, axis) {
+    let fit = flags_meet(a, meant_length(b, way, axis) as usize);
+    match flags_report(a, b, axis, fit) {
         Some(report) => Err(Fail::Report(report)),
         None => compressed(alloc, a, b, way, axis),
     }
 }
 
-/// The report on the flags of a compression, if there is one.
-fn compress_report(a: &Array, b: &Array, way: Way, axis: Option<i64>) -> Option<Report>
-    ensures value { result ≡ first_report (compress_faults a.now b.now way axis) }
-    ensures array { IsArray a.now }
+/// Whether there is one flag, or an axis has one place, or there are as many of both.
+fn flags_meet(a: &Array, long: usize) -> bool
+    ensures { result ≡ flags_meet (item_count a.now.items) long }
 {
-    let lacks = lacks_axis(b.shape().len(), axis);
-    let count = a.items().len();
-    let length = meant_length(b, way, axis);
-    if a.shape().len() > 1 {
-        Some(Report::Rank)
-    } else if !lacks && count != 1 && length != 1 && count != length as usize {
-        Some(Report::Length)
-    } else if lacks_flags(a) {
-        Some(Report::Domain)
-    } else if lacks {
-        Some(Report::Index)
-    } else {
-        None
-    }
+    let flags = a.items().len();
+    flags == 1 || long == 1 || flags == long
 }
 
 /// The items along an axis where A has 1.
@@ -75,7 +63,7 @@ fn kept(alloc: Global, flags: &[i64], long: u32) -> Result<Vec<Option<u16>>, Wan
     let mut list = room_for(alloc, count)?;
     for place in 0..count {
         if is_one(number_at(flags, place)) {
-            list.push_reserved(Some(place_on(long, place)));
+            list.push_reserved(Some(place_in(long, place)));
         }
     }
     Ok(list)

@@ -1,12 +1,12 @@
 ghost use Rattle.std.specs.Prelude.{◌≡◌, ◌≤◌, None, IfOk, length, vec_len, vec_capacity};
 ghost use Rattle.apl_arrays.specs.Array.{IsArray};
 ghost use Rattle.apl_items.specs.Answers.{Answers, first_report};
-ghost use Rattle.apl_selection.specs.Expansion.{expand_faults, expand_of, ones, spread};
+ghost use Rattle.apl_selection.specs.Expansion.{expand_faults, expand_of, ones, ones_meet, spread};
 
-use crate::flags::{is_one, lacks_flags};
-use crate::listing::{listed_of, meant_axis, meant_length, place_on};
-use apl_arrays::{Array, Fail, Report, WantOfMemory, Way};
-use apl_items::{lacks_axis, room_for};
+use crate::flags::{flags_report, is_one};
+use crate::listing::{listed_of, meant_axis, meant_length, place_in};
+use apl_arrays::{Array, Fail, WantOfMemory, Way};
+use apl_items::room_for;
 use std::alloc::Global;
 
 /// The items of B along an axis, the last or the first where none is named, where A has 1, and the fill where it has 0. A lone
@@ -22,30 +22,18 @@ pub fn expand(
 ) -> Result<Array, Fail>
     ensures { Answers result (expand_of a.now b.now way axis) }
 {
-    match expand_report(a, b, way, axis) {
+    let fit = ones_meet(a.numbers(), meant_length(b, way, axis) as usize);
+    match flags_report(a, b, axis, fit) {
         Some(report) => Err(Fail::Report(report)),
         None => expanded(alloc, a, b, way, axis),
     }
 }
 
-/// The report on the flags of an expansion, if there is one.
-fn expand_report(a: &Array, b: &Array, way: Way, axis: Option<i64>) -> Option<Report>
-    ensures value { result ≡ first_report (expand_faults a.now b.now way axis) }
-    ensures array { IsArray a.now }
+/// Whether an axis has one place, or as many as there are ones.
+fn ones_meet(flags: &[i64], long: usize) -> bool
+    ensures { result ≡ ones_meet flags.now long }
 {
-    let lacks = lacks_axis(b.shape().len(), axis);
-    let length = meant_length(b, way, axis);
-    if a.shape().len() > 1 {
-        Some(Report::Rank)
-    } else if !lacks && length != 1 && ones(a.numbers()) != length as usize {
-        Some(Report::Length)
-    } else if lacks_flags(a) {
-        Some(Report::Domain)
-    } else if lacks {
-        Some(Report::Index)
-    } else {
-        None
-    }
+    long == 1 || ones(flags) == long
 }
 
 /// How many flags are 1.
@@ -74,7 +62,7 @@ fn spread(alloc: Global, flags: &[i64], long: u32) -> Result<Vec<Option<u16>>, W
     let mut place = 0;
     for flag in flags {
         if is_one(*flag) {
-            list.push_reserved(Some(place_on(long, place)));
+            list.push_reserved(Some(place_in(long, place)));
             place += 1;
         } else {
             list.push_reserved(None);

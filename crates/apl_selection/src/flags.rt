@@ -1,9 +1,30 @@
 ghost use Rattle.std.specs.Prelude.{◌≡◌};
 ghost use Rattle.std.specs.List.{list_any};
-ghost use Rattle.apl_arrays.specs.Array.{numbers_in};
-ghost use Rattle.apl_selection.specs.Flags.{is_no_flag, is_one, lacks_flags};
+ghost use Rattle.apl_arrays.specs.Array.{IsArray, numbers_in};
+ghost use Rattle.apl_items.specs.Answers.{first_report};
+ghost use Rattle.apl_selection.specs.Flags.{flag_faults, is_no_flag, is_one, lacks_flags};
 
-use apl_arrays::Array;
+use apl_arrays::{Array, Report};
+use apl_items::lacks_axis;
+
+/// The report on flags for an axis of B, which are as many as it wants or not, if there is one.
+pub(crate) fn flags_report(a: &Array, b: &Array, axis: Option<i64>, fit: bool) -> Option<Report>
+    ensures value { result ≡ first_report (flag_faults a.now b.now axis fit) }
+    ensures array { IsArray a.now }
+{
+    let lacks = lacks_axis(b.shape().len(), axis);
+    if a.shape().len() > 1 {
+        Some(Report::Rank)
+    } else if !lacks && !fit {
+        Some(Report::Length)
+    } else if lacks_flags(a) {
+        Some(Report::Domain)
+    } else if lacks {
+        Some(Report::Index)
+    } else {
+        None
+    }
+}
 
 /// Whether an array holds something else than 0 and 1.
 pub(crate) fn lacks_flags(a: &Array) -> bool

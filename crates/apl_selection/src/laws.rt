@@ -1,15 +1,20 @@
 //! What holds of items that subscripts or flags select, of items that are put over others and of joins: laws and worked
 //! examples.
 
-ghost use Rattle.std.specs.Prelude.{◌≡◌, ◌<◌, ◌≤◌, ℕ, false, pos, List, [], ◌∷◌, Option, Some, None, Ok, length};
-ghost use Rattle.apl_arrays.specs.Array.{PlainArray, IsArray, char_array, element_count, number_array, scalar};
+ghost use Rattle.std.specs.Prelude.{◌≡◌, ◌+◌, ◌<◌, ◌≤◌, ◌++◌, ℕ, ℤ, false, pos, List, [], ◌∷◌, Option, Some, None, Ok, length, replicate, slice_set};
+ghost use Rattle.apl_arrays.specs.declared.verb.Way.{Way as PlainWay};
+ghost use Rattle.apl_arrays.specs.Array.{PlainArray, IsArray, char_array, chars, element_count, item_count, number_array, numbers, numbers_in, scalar};
+ghost use Rattle.apl_arrays.specs.Limits.{most_elements};
+ghost use Rattle.apl_items.specs.Axis.{lacks_axis};
 ghost use Rattle.apl_selection.specs.Assignment.{assign_of, naming};
 ghost use Rattle.apl_selection.specs.Catenation.{catenate_of};
 ghost use Rattle.apl_selection.specs.Compression.{compress_of};
-ghost use Rattle.apl_selection.specs.Expansion.{expand_of};
+ghost use Rattle.apl_selection.specs.Expansion.{expand_of, ones};
 ghost use Rattle.apl_selection.specs.Indexing.{selection_of, named_place};
+ghost use Rattle.apl_selection.specs.Listing.{meant_axis, meant_length, vector_shape};
 ghost use Rattle.apl_selection.specs.SelectionLaws.{AreArrays, NamesOnce};
 ghost use Rattle.apl_selection.specs.Subscripts.{named_counts, point_outside, selection_shape};
+ghost use Rattle.apl_selection.specs.Vectors.{as_vector};
 
 use apl_arrays::Way;
 
@@ -46,6 +51,35 @@ pub fn the_last_place_that_names_is_taken()
 pub fn what_was_put_is_selected()
     ensures { (a v after : PlainArray) (subs : List (Option PlainArray)) → IsArray a → IsArray v → AreArrays subs → v.shape ≡ selection_shape a.shape subs
         → NamesOnce a.shape subs → assign_of a subs v ≡ Ok after → selection_of after subs ≡ Ok v }
+{}
+
+/// Where each flag is 1, as in `1 1 1/B`, all is kept, along any axis. The call does nothing. No memory.
+#[tactic(auto, using(crate::proofs::FlagLaws::ones_keep_all))]
+pub fn flags_of_one_keep_all()
+    ensures { (b : PlainArray) (way : PlainWay) (axis : Option ℤ) → IsArray b → 0 < length b.shape → lacks_axis (length b.shape) axis ≡ false
+        → compress_of (as_vector (numbers (replicate (meant_length b way axis) (pos 1)))) b way axis ≡ Ok b }
+{}
+
+/// What is kept by a flag for each place is as long along the axis as flags are 1, and as long as B along the others. The
+/// call does nothing. No memory.
+pub fn as_much_is_kept_as_there_are_ones()
+    ensures { (a b kept : PlainArray) (way : PlainWay) (axis : Option ℤ) → item_count a.items ≡ meant_length b way axis → compress_of a b way axis ≡ Ok kept
+        → kept.shape ≡ slice_set (vector_shape b.shape) (meant_axis b way axis) (ones (numbers_in a.items)) }
+{}
+
+/// What flags spread they keep: `A/A\B` is B, where A has as many ones as the axis has places. The call does nothing. No
+/// memory.
+#[tactic(auto, using(crate::proofs::FlagLaws::spread_is_kept))]
+pub fn what_is_spread_is_kept()
+    ensures { (a b spread : PlainArray) (way : PlainWay) (axis : Option ℤ) → IsArray b → 0 < length b.shape → ones (numbers_in a.items) ≡ meant_length b way axis
+        → expand_of a b way axis ≡ Ok spread → compress_of a spread way axis ≡ Ok b }
+{}
+
+/// The join of two vectors has the items of the one and then those of the other. The call does nothing. No memory.
+#[tactic(auto, using(crate::proofs::JoinLaws::numbers_joined, crate::proofs::JoinLaws::chars_joined))]
+pub fn vectors_are_joined_end_to_end()
+    ensures numbers { (a b : List ℤ) → length a + length b ≤ most_elements → catenate_of (as_vector (numbers a)) (as_vector (numbers b)) None ≡ Ok (as_vector (numbers (a ++ b))) }
+    ensures chars { (a b : List ℕ) → length a + length b ≤ most_elements → catenate_of (as_vector (chars a)) (as_vector (chars b)) None ≡ Ok (as_vector (chars (a ++ b))) }
 {}
 
 /// Flags: `1 0 1/5 6 7` is 5 7, `1 0 1\5 7` is 5 0 7, and blanks fill characters; of a matrix the columns, and with the

@@ -34,7 +34,7 @@ pub(crate) fn meant_length(b: &Array, way: Way, axis: Option<i64>) -> u32
 }
 
 /// A place along an axis so long, where a lone place stands for all.
-pub(crate) fn place_on(length: u32, place: usize) -> u16
+pub(crate) fn place_in(length: u32, place: usize) -> u16
     requires { place < 16384 }
     ensures { result ≡ place_in length place }
 {

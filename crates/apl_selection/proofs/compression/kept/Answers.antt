@@ -12,7 +12,7 @@ loop-place-preserved c =
     elim c.if-is_one.branch [
       | then-is_one w ↦ rw w.list-is (record {
         items = w.push_reserved.ensures.items
-            ∙ kept_yes c.args.flags.now c.args.long c.loop-place.place c.loop-place.list.items w.place_on.result c.is_one.result c.loop-place.invariant.items w.place_on.ensures test w.if-is_one.true;
+            ∙ kept_yes c.args.flags.now c.args.long c.loop-place.place c.loop-place.list.items w.place_in.result c.is_one.result c.loop-place.invariant.items w.place_in.ensures test w.if-is_one.true;
         few = omega arith;
         room = w.push_reserved.ensures.capacity ∙ c.loop-place.invariant.room;
       })

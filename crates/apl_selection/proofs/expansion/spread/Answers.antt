@@ -13,7 +13,7 @@ loop-flag-preserved c =
     elim c.if-is_one.branch [
       | then-is_one w ↦ rw (w.list-is, w.place-is) (record {
         items = w.push_reserved.ensures.items
-            ∙ spread_more flags long at c.loop-flag.list.items _ so_far.items (entry_yes flags long at c.loop-flag.place w.place_on.result c.is_one.result test w.if-is_one.true so_far.ones w.place_on.ensures);
+            ∙ spread_more flags long at c.loop-flag.list.items _ so_far.items (entry_yes flags long at c.loop-flag.place w.place_in.result c.is_one.result test w.if-is_one.true so_far.ones w.place_in.ensures);
         whole = w.push_reserved.ensures.len ∙ ap (λ (n : ℕ). n + 1) so_far.whole;
         room = w.push_reserved.ensures.capacity ∙ so_far.room;
         ones = ones_yes flags at c.is_one.result c.loop-flag.place c.loop-flag-test.true test w.if-is_one.true so_far.ones;
