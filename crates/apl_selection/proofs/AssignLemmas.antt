@@ -18,6 +18,7 @@ use Rattle.apl_selection.specs.Naming.{AreSmall, AreSmallTogether, scaled_place}
 use Rattle.apl_selection.specs.Subscripts.{is_outside, named_by}
 use Rattle.apl_selection.proofs.IndexLemmas.{none_first, number_inside}
 use Rattle.apl_selection.proofs.FaultLemmas.{same_number}
+use Rattle.apl_selection.proofs.PickLemmas.{some_same}
 
 -- ---- lists by place
 
@@ -49,18 +50,15 @@ last_of_more number (y ∷ ys) x =
     by_test true = let same : length ys + 1 ≡ length (y ∷ ys) = omega arith in ap (λ (n : ℕ). Some n) same
     by_test false = refl
 
-same_some : (m n : ℕ) → Some m ≡ Some n → m ≡ n
-same_some m n e = cc
-
 pub last_below : (number : ℕ) (xs : List ℕ) (at : ℕ) → last_place number xs ≡ Some at → at < length xs
 last_below number [] at e = absurd (cc)
 last_below number (y ∷ ys) at e = by_rest (last_place number ys) (y == number) (last_below number ys) e
   where
     by_rest : (rest : Option ℕ) (here : Bool) → ((later : ℕ) → rest ≡ Some later → later < length ys)
         → option_or (option_map (λ place. place + 1) rest) (cond here (Some 0) None) ≡ Some at → at < length (y ∷ ys)
-    by_rest None true below e = let is = same_some 0 at e in omega arith
+    by_rest None true below e = let is = some_same 0 at e in omega arith
     by_rest None false below e = absurd (cc)
-    by_rest (Some later) here below e = let is = same_some (later + 1) at e in let low = below later refl in omega arith
+    by_rest (Some later) here below e = let is = some_same (later + 1) at e in let low = below later refl in omega arith
 
 unlike : (m n : ℕ) → m ≢ n → (m == n) ≡ false
 unlike m n h = grind (arith, nat_tests)

@@ -19,7 +19,7 @@ use Rattle.apl_selection.specs.Naming.{AreSmall, AreStridesFor, naming_by, scale
 use Rattle.apl_selection.specs.Picks.{strided}
 use Rattle.apl_selection.specs.Subscripts.{is_miscounted, is_of_chars, named_by, named_counts, named_on, point_outside, selection_shape, sub_on}
 use Rattle.apl_selection.proofs.AssignLemmas.{last_below, no_more_from}
-use Rattle.apl_selection.proofs.PickLemmas.{as_many_within, same_offsets, strided_within}
+use Rattle.apl_selection.proofs.PickLemmas.{as_many_within, same_offsets, some_same, strided_within}
 use Rattle.apl_selection.proofs.IndexLemmas.{counts_at, counts_length}
 use Rattle.apl_selection.proofs.MoveLemmas.{array_of}
 use Rattle.apl_selection.proofs.FaultLemmas.{same_number}
@@ -31,22 +31,19 @@ zero_at zero k zeros e = ap (λ (xs : List ℕ). get_or xs k 0) e
 zero_at (suc count) zero zeros e = ap (λ (xs : List ℕ). get_or xs 0 0) e
 zero_at (suc count) (suc k) zeros e = ap (λ (xs : List ℕ). get_or xs (suc k) 0) e ∙ zero_at count k (replicate count 0) refl
 
-same_some : (m n : ℕ) → Some m ≡ Some n → m ≡ n
-same_some m n e = cc
-
 scaled_zero : (place : Option ℕ) (stride from : ℕ) → stride ≡ 0 → scaled_place stride place ≡ Some from → from ≡ 0
 scaled_zero None stride from none e = absurd (cc)
 scaled_zero (Some place) stride from none e =
-    let is = same_some (place * stride) from e in let zero_times : place * stride ≡ 0 = rw none (omega arith) in omega arith
+    let is = some_same (place * stride) from e in let zero_times : place * stride ≡ 0 = rw none (omega arith) in omega arith
 
 zeros_added : (here after : Option ℕ) (from : ℕ) → ((v : ℕ) → here ≡ Some v → v ≡ 0) → ((v : ℕ) → after ≡ Some v → v ≡ 0) → added here after ≡ Some from → from ≡ 0
 zeros_added None after from p q e = absurd (cc)
 zeros_added (Some a) None from p q e = absurd (cc)
-zeros_added (Some a) (Some b) from p q e = let is = same_some (a + b) from e in let x = p a refl in let y = q b refl in omega arith
+zeros_added (Some a) (Some b) from p q e = let is = some_same (a + b) from e in let x = p a refl in let y = q b refl in omega arith
 
 zero_offsets : (offset : ℕ → ℕ → Option ℕ) → ((axis along v : ℕ) → offset axis along ≡ Some v → v ≡ 0) → (axis : ℕ) (coordinates : List ℕ) (from : ℕ)
     → offset_at offset axis coordinates ≡ Some from → from ≡ 0
-zero_offsets offset zeros axis [] from e = sym (same_some 0 from e)
+zero_offsets offset zeros axis [] from e = sym (some_same 0 from e)
 zero_offsets offset zeros axis (first ∷ rest) from e =
     zeros_added (offset axis first) (offset_at offset (axis + 1) rest) from (zeros axis first) (zero_offsets offset zeros (axis + 1) rest) e
 

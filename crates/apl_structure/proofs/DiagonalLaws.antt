@@ -22,7 +22,8 @@ moved_to {T} fill list count place from source item low is there =
     let told : at place ≡ item = ap (item_or fill list) is ∙ get_or_from_slice_get list from item fill there in
     slice_get_read (moved_list fill list count source) count place item (sym (length-map-range_with_len at 0 count)) low (sym (here ∙ told))
 
-moved_item : (items : PlainItems) (item : Item) (count place from : ℕ) (source : ℕ → Option ℕ) → place < count → source place ≡ Some from → IsItemOf items from item → IsItemOf (moved_items items count source) place item
+-- the item at a source place stands at its place
+pub moved_item : (items : PlainItems) (item : Item) (count place from : ℕ) (source : ℕ → Option ℕ) → place < count → source place ≡ Some from → IsItemOf items from item → IsItemOf (moved_items items count source) place item
 moved_item (numbers list) (Number n) count place from source low is there = moved_to (pos 0) list count place from source n low is there
 moved_item (numbers list) (Char n) count place from source low is there = absurd there
 moved_item (chars list) (Number n) count place from source low is there = absurd there

@@ -15,7 +15,7 @@ use Rattle.apl_items.specs.Places.{places}
 use Rattle.apl_items.specs.Shapes.{AreWithin, coordinates_of, place_of, stride_of}
 use Rattle.apl_items.proofs.ShapeLemmas.{coordinates_are_within, parts_fit, place_of_below}
 use Rattle.apl_structure.specs.Diagonals.{axes_by_faults, axes_named, axis_count, coordinates_by, diagonal_shape, least_length, leaves_gap, step_of, transpose_by_of, transposed_by}
-use Rattle.apl_selection.proofs.PickLemmas.{as_many_within, each_within, same_offsets}
+use Rattle.apl_selection.proofs.PickLemmas.{as_many_within, each_within, same_offsets, some_same}
 use Rattle.apl_selection.proofs.FaultLemmas.{answer_fits, answer_too_large, count_of_numbers, nothing_is_wrong, same_number}
 use Rattle.apl_selection.proofs.MoveLemmas.{array_of, same_map, same_moved}
 
@@ -166,9 +166,6 @@ steps_same axes source shape strides steps e fits some whole each is place below
     let least : min (get_or steps (0 + k) 0) 262143 ≡ step_of axes strides (0 + k) = omega (arith, fits.rank) in
     ap (λ (n : ℕ). Some (get_or coordinates k 0 * n)) least)
     ∙ offset_total (step_of axes strides) 0 coordinates ∙ ap (λ (n : ℕ). Some n) (steps_total axes source strides coordinates e whole each)
-
-some_same : (m n : ℕ) → Some m ≡ Some n → m ≡ n
-some_same m n e = cc
 
 -- and that place is one of B's
 pub diagonal_within : (axes source shape : List ℕ) (place at : ℕ) → shape ≡ diagonal_shape axes source → length axes ≡ length source → place < element_count shape

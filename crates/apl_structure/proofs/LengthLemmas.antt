@@ -1,5 +1,5 @@
 -- Lengths that are capped pass the limits exactly where the numbers do.
-use Rattle.std.proofs.Common.{◌≡◌, ℕ, ℤ, ◌≤◌, ◌==◌, ◌&&◌, ◌||◌, Bool, true, false, cond, nat_lt, List, [], ◌∷◌, Some, None, is_some, length, min, unsigned_abs, refl, sym, ap, subst, ◌∙◌, arith}
+use Rattle.std.proofs.Common.{◌≡◌, ℕ, ℤ, ◌≤◌, ◌&&◌, Bool, true, false, cond, nat_lt, List, [], ◌∷◌, Some, None, is_some, length, min, unsigned_abs, refl, sym, ap, subst, ◌∙◌, arith}
 use Rattle.std.specs.List.{All, list_all}
 use Rattle.std.proofs.lemmas.Bool.{and_parts}
 use Rattle.std.proofs.lemmas.Bool.Decides.{nat_tests}
@@ -9,24 +9,16 @@ use Rattle.apl_arrays.specs.declared.array.ShapeFault.TheVariants.{Rank, Size}
 use Rattle.apl_arrays.specs.Array.{FitsLimits, element_count}
 use Rattle.apl_arrays.specs.Shape.{is_small, shape_fault}
 use Rattle.apl_arrays.proofs.Shapes.{no_fault_fits}
-use Rattle.apl_structure.specs.Lengths.{capped, is_hollow, lengths}
+use Rattle.apl_structure.specs.Lengths.{capped, lengths}
 use Rattle.apl_selection.proofs.FaultLemmas.{none_from}
 
 small_when_capped : (n : ℕ) → is_small (min n 16385) ≡ is_small n
 small_when_capped n = grind (arith, nat_tests)
 
-zero_when_capped : (n : ℕ) → (min n 16385 == 0) ≡ (n == 0)
-zero_when_capped n = grind (arith, nat_tests)
-
 all_small : (numbers : List ℤ) → list_all is_small (capped numbers) ≡ list_all is_small (lengths numbers)
 all_small [] = refl
 all_small (x ∷ xs) =
     ap (λ (b : Bool). b && list_all is_small (capped xs)) (small_when_capped (unsigned_abs x)) ∙ ap (λ (b : Bool). is_small (unsigned_abs x) && b) (all_small xs)
-
-pub hollow_when_capped : (numbers : List ℤ) → is_hollow (capped numbers) ≡ is_hollow (lengths numbers)
-hollow_when_capped [] = refl
-hollow_when_capped (x ∷ xs) =
-    ap (λ (b : Bool). b || is_hollow (capped xs)) (zero_when_capped (unsigned_abs x)) ∙ ap (λ (b : Bool). (unsigned_abs x == 0) || b) (hollow_when_capped xs)
 
 small_itself : (n : ℕ) → is_small n ≡ true → min n 16385 ≡ n
 small_itself n e = grind (arith, nat_tests)

@@ -5,6 +5,9 @@ pub mod LengthLemmas
 pub mod OppositeLemmas
 pub mod OwnPlacesLemmas
 pub mod ReshapeLemmas
+pub mod RotateLaws
 pub mod RotateLemmas
+pub mod TakeLaws
 pub mod TakeLemmas
 pub mod TransposeLemmas
+pub mod VectorLaws

@@ -18,7 +18,8 @@ use Rattle.apl_structure.specs.Plain.{shape_of}
 use Rattle.apl_selection.specs.Subscripts.{is_outside, point_outside}
 use Rattle.apl_selection.proofs.GivenBackLemmas.{fine}
 use Rattle.apl_selection.proofs.IndexLemmas.{place_of_axis}
-use Rattle.apl_structure.proofs.LawLemmas.{items_stay, not_negative}
+use Rattle.apl_selection.proofs.BackLemmas.{items_stay}
+use Rattle.apl_structure.proofs.LawLemmas.{not_negative}
 use Rattle.apl_selection.proofs.MoveLemmas.{array_of, same_moved}
 use Rattle.apl_selection.proofs.SubscriptLemmas.{whole_axis}
 

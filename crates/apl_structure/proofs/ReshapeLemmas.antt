@@ -1,25 +1,19 @@
 -- Items over and over.
-use Rattle.std.proofs.Common.{◌≡◌, ℕ, ◌+◌, ◌*◌, ◌%◌, ◌==◌, ◌&&◌, ◌||◌, Bool, true, false, not, List, [], ◌∷◌, Option, Some, None, Ok, is_some, length, nat_lt, refl, sym, ap, ◌∙◌, arith}
-use Rattle.std.proofs.lemmas.Bool.Decides.{nat_tests}
+use Rattle.std.proofs.Common.{◌≡◌, ℕ, ℤ, pos, ◌+◌, ◌*◌, ◌%◌, ◌==◌, ◌&&◌, ◌||◌, Bool, true, false, not, List, [], ◌∷◌, Option, Some, None, Ok, Err, is_some, unsigned_abs, refl, sym, ap, ◌∙◌, arith}
+use Rattle.std.proofs.lemmas.Bool.Decides.{Decides-int_eq, nat_tests}
 use Rattle.std.specs.Int.{is_negative}
 use Rattle.std.specs.List.{list_any}
-use Rattle.apl_arrays.specs.declared.report.Report.{Report}
-use Rattle.apl_arrays.specs.Array.{PlainArray, PlainItems, FitsLimits, element_count, is_chars, item_count, numbers_in}
+use Rattle.std.specs.Ordering.{int_eq}
+use Rattle.apl_arrays.specs.declared.report.Report.TheVariants.{WsFull}
+use Rattle.apl_arrays.specs.Array.{PlainArray, PlainItems, element_count, is_chars, item_count, numbers_in}
 use Rattle.apl_arrays.specs.Shape.{shape_fault}
-use Rattle.apl_items.specs.Answers.{first_report, no_faults, unless}
+use Rattle.apl_items.specs.Answers.{first_report}
 use Rattle.apl_items.specs.Moves.{moved_items}
 use Rattle.apl_items.proofs.ShapeLemmas.{element_count-cons}
-use Rattle.apl_structure.specs.Lengths.{capped, is_hollow, lengths}
-use Rattle.apl_structure.specs.Reshaping.{reshape_faults, reshape_of, reshaped}
-use Rattle.apl_structure.proofs.LengthLemmas.{lengths_that_fit}
+use Rattle.apl_structure.specs.Lengths.{lengths}
+use Rattle.apl_structure.specs.Reshaping.{is_hollow, reshape_faults, reshape_of, reshaped}
 use Rattle.apl_selection.proofs.MoveLemmas.{array_of, same_moved}
-use Rattle.apl_selection.proofs.FaultLemmas.{same_number}
-
-nothing_wrong : (rank domain large : Bool) → None ≡ first_report (record no_faults { bad_rank = rank; bad_domain = domain; too_large = large }) → (domain ≡ false) × (large ≡ false)
-nothing_wrong true domain large e = absurd (cc)
-nothing_wrong false true large e = absurd (cc)
-nothing_wrong false false true e = absurd (cc)
-nothing_wrong false false false e = (refl, refl)
+use Rattle.apl_selection.proofs.FaultLemmas.{answer_fits, answer_too_large, nothing_is_wrong}
 
 no_items_asked : (kind negative empty hollow : Bool) → (kind || negative || empty && not hollow) ≡ false → empty ≡ true → hollow ≡ true
 no_items_asked true negative empty hollow e is = absurd (cc)
@@ -28,36 +22,42 @@ no_items_asked false false empty true e is = refl
 no_items_asked false false true false e is = absurd (cc)
 no_items_asked false false false false e is = absurd (cc)
 
-hollow_by : (x count : ℕ) (zero_first rest : Bool) → (x == 0) ≡ zero_first → (rest ≡ true → count ≡ 0) → (zero_first || rest) ≡ true → x * count ≡ 0
-hollow_by x count true rest e none is = let zero_x = same_number x 0 e in rw zero_x (omega arith)
-hollow_by x count false rest e none is = let zero_count = none is in rw zero_count (omega arith)
+zero_number : (number : ℤ) → int_eq number (pos 0) ≡ true → unsigned_abs number ≡ 0
+zero_number number e = ap unsigned_abs ((Decides-int_eq number (pos 0)).0 e)
 
-hollow_count : (shape : List ℕ) → is_hollow shape ≡ true → element_count shape ≡ 0
+hollow_by : (number : ℤ) (count : ℕ) (zero_first rest : Bool) → int_eq number (pos 0) ≡ zero_first → (rest ≡ true → count ≡ 0) → (zero_first || rest) ≡ true → unsigned_abs number * count ≡ 0
+hollow_by number count true rest e none is = let zero_x = zero_number number e in rw zero_x (omega arith)
+hollow_by number count false rest e none is = let zero_count = none is in rw zero_count (omega arith)
+
+hollow_count : (numbers : List ℤ) → is_hollow numbers ≡ true → element_count (lengths numbers) ≡ 0
 hollow_count [] e = absurd (cc)
-hollow_count (x ∷ xs) e = element_count-cons x xs ∙ hollow_by x (element_count xs) (x == 0) (is_hollow xs) refl (hollow_count xs) e
+hollow_count (x ∷ xs) e =
+    element_count-cons (unsigned_abs x) (lengths xs) ∙ hollow_by x (element_count (lengths xs)) (int_eq x (pos 0)) (is_hollow xs) refl (hollow_count xs) e
 
 is_zero : (n : ℕ) → n ≡ 0 → (n == 0) ≡ true
 is_zero n e = grind (arith, nat_tests)
 
--- a shape on which nothing is reported
-pub shape_is_right : (a b : PlainArray) (shape : List ℕ) → None ≡ first_report (reshape_faults a b) → shape ≡ capped (numbers_in a.items)
-    → (shape ≡ lengths (numbers_in a.items)) × FitsLimits shape × (item_count b.items ≡ 0 → element_count shape ≡ 0)
-shape_is_right a b shape none e =
-    let numbers = numbers_in a.items in
-    let tests = nothing_wrong (nat_lt 1 (length a.shape) || nat_lt 8 (item_count a.items)) (is_chars a.items || list_any is_negative numbers || item_count b.items == 0 && not (is_hollow (lengths numbers)))
-    (is_some (shape_fault (lengths numbers))) none in
-    let fit = lengths_that_fit numbers shape e tests.1 in (
-      fit.0,
-      fit.1,
-      λ empty. ap element_count fit.0
-          ∙ hollow_count (lengths numbers) (no_items_asked (is_chars a.items) (list_any is_negative numbers) (item_count b.items == 0) (is_hollow (lengths numbers)) tests.0 (is_zero (item_count b.items) empty)),
-    )
+-- where nothing is wrong with a shape it asks for items only where there are some
+pub none_asked : (a b : PlainArray) (numbers : List ℤ) (shape : List ℕ) → None ≡ first_report (reshape_faults a b) → numbers ≡ numbers_in a.items → shape ≡ lengths numbers
+    → item_count b.items ≡ 0 → element_count shape ≡ 0
+none_asked a b numbers shape none n e empty =
+    let sound = nothing_is_wrong (reshape_faults a b) none in
+    ap element_count (e ∙ ap lengths n)
+    ∙ hollow_count (numbers_in a.items)
+    (no_items_asked (is_chars a.items) (list_any is_negative (numbers_in a.items)) (item_count b.items == 0) (is_hollow (numbers_in a.items)) sound.domain (is_zero (item_count b.items) empty))
 
-pub reshape_is : (a b array : PlainArray) (shape : List ℕ) → None ≡ first_report (reshape_faults a b) → shape ≡ capped (numbers_in a.items) → array ≡ reshaped shape b → reshape_of a b ≡ Ok array
-reshape_is a b array shape none e is =
-    let all = reshaped (lengths (numbers_in a.items)) b in
-    ap (λ (report : Option Report). unless report all) (sym none)
-    ∙ ap (λ (x : PlainArray). Ok x) (sym (is ∙ ap (λ (xs : List ℕ). reshaped xs b) (shape_is_right a b shape none e).0))
+pub reshape_too_large : (a b : PlainArray) (numbers : List ℤ) (large : Bool) → None ≡ first_report (reshape_faults a b) → numbers ≡ numbers_in a.items
+    → large ≡ is_some (shape_fault (lengths numbers)) → large ≡ true → reshape_of a b ≡ Err WsFull
+reshape_too_large a b numbers large none n is e =
+    answer_too_large (reshape_faults a b) (reshaped (lengths (numbers_in a.items)) b) (is_some (shape_fault (lengths (numbers_in a.items)))) none
+    (ap (λ (xs : List ℤ). is_some (shape_fault (lengths xs))) (sym n) ∙ sym is ∙ e)
+
+pub reshape_fits : (a b array : PlainArray) (numbers : List ℤ) (shape : List ℕ) (large : Bool) → None ≡ first_report (reshape_faults a b) → numbers ≡ numbers_in a.items
+    → large ≡ is_some (shape_fault (lengths numbers)) → large ≡ false → shape ≡ lengths numbers → array ≡ reshaped shape b → reshape_of a b ≡ Ok array
+reshape_fits a b array numbers shape large none n is e s same =
+    answer_fits (reshape_faults a b) (reshaped (lengths (numbers_in a.items)) b) (is_some (shape_fault (lengths (numbers_in a.items)))) none
+    (ap (λ (xs : List ℤ). is_some (shape_fault (lengths xs))) (sym n) ∙ sym is ∙ e)
+    ∙ ap (λ (x : PlainArray). Ok x) (sym (same ∙ ap (λ (xs : List ℕ). reshaped xs b) (s ∙ ap lengths n)))
 
 -- the items that a walk over and over gives
 pub reshaped_is : (b : PlainArray) (shape : List ℕ) (items made : PlainItems) (count long : ℕ) → items ≡ b.items → count ≡ element_count shape → long ≡ item_count items

@@ -1,5 +1,5 @@
 -- The axes of a take and of a drop.
-use Rattle.std.proofs.Common.{◌≡◌, ℕ, ℤ, zero, suc, pos, ◌+◌, ◌-◌, ◌<◌, ◌≤◌, ◌==◌, ◌&&◌, ◌||◌, Bool, true, false, not, cond, nat_le, nat_lt, List, [], ◌∷◌, Option, Some, None, Ok, Err, is_some, length, map, replicate, slice_index, slice_index_or, unsigned_abs, get_or, refl, sym, ap, ◌∙◌, arith}
+use Rattle.std.proofs.Common.{◌≡◌, ℕ, ℤ, zero, suc, pos, ◌+◌, ◌-◌, ◌<◌, ◌≤◌, ◌==◌, ◌&&◌, ◌||◌, Bool, true, false, not, cond, nat_le, nat_lt, List, [], ◌∷◌, Some, None, Ok, Err, is_some, length, map, replicate, slice_index, slice_index_or, unsigned_abs, get_or, refl, sym, ap, ◌∙◌, arith}
 use Rattle.std.specs.Int.{is_negative}
 use Rattle.std.proofs.lemmas.Bool.Decides.{nat_tests}
 use Rattle.std.proofs.lemmas.List.{get_or-map, length-map, length-replicate, nil_from_length}
@@ -8,17 +8,16 @@ use Rattle.std.proofs.lemmas.List.FromFn.{get_or-map-range_with_len, length-map-
 use Rattle.std.proofs.lemmas.Nat.{mul-le}
 use Rattle.apl_arrays.specs.declared.report.Report.TheVariants.{WsFull}
 use Rattle.apl_arrays.specs.Array.{PlainArray, PlainItems, FitsLimits, IsArray, element_count, is_chars, item_count, numbers_in}
-use Rattle.apl_arrays.specs.declared.report.Report.{Report}
 use Rattle.apl_arrays.specs.Shape.{shape_fault}
-use Rattle.apl_items.specs.Answers.{first_report, no_faults, unless}
+use Rattle.apl_items.specs.Answers.{first_report, no_faults}
 use Rattle.apl_items.specs.Places.{places}
 use Rattle.apl_items.proofs.ShapeLemmas.{element_count-cons}
 use Rattle.apl_structure.specs.Lengths.{lengths}
 use Rattle.apl_selection.specs.Picks.{picked}
 use Rattle.apl_structure.specs.Taking.{axes_faults, axes_for, left, left_from, take_of, taken, taken_from, taken_shape}
 use Rattle.apl_selection.specs.Listing.{is_scalar}
-use Rattle.apl_selection.proofs.PickLemmas.{axes_small}
-use Rattle.apl_selection.proofs.FaultLemmas.{same_number}
+use Rattle.apl_selection.proofs.PickLemmas.{axes_small, some_same}
+use Rattle.apl_selection.proofs.FaultLemmas.{answer_fits, answer_too_large, same_number}
 
 -- ---- the axes of the source
 
@@ -65,27 +64,12 @@ source_of a b count source is e = e ∙ ap (λ (n : ℕ). axes_for n b) is
 
 -- ---- take
 
-with_size : (rank long domain index size large : Bool) → None ≡ first_report (record { bad_rank = rank; bad_length = long; bad_domain = domain; bad_index = index; too_large = size })
-    → first_report (record { bad_rank = rank; bad_length = long; bad_domain = domain; bad_index = index; too_large = large }) ≡ cond large (Some WsFull) None
-with_size true long domain index size large e = absurd (cc)
-with_size false true domain index size large e = absurd (cc)
-with_size false false true index size large e = absurd (cc)
-with_size false false false true size large e = absurd (cc)
-with_size false false false false size true e = refl
-with_size false false false false size false e = refl
-
-take_by_size : (a b : PlainArray) (large : Bool) → None ≡ first_report (axes_faults a b) → first_report (record (axes_faults a b) { too_large = large }) ≡ cond large (Some WsFull) None
-take_by_size a b large none =
-    let faults = axes_faults a b in with_size faults.bad_rank faults.bad_length faults.bad_domain faults.bad_index faults.too_large large none
-
 pub take_too_large : (a b : PlainArray) (large : Bool) → None ≡ first_report (axes_faults a b) → large ≡ is_some (shape_fault (taken_shape a)) → large ≡ true → take_of a b ≡ Err WsFull
-take_too_large a b large none is e =
-    ap (λ (report : Option Report). unless report (taken a b)) (ap (λ (size : Bool). first_report (record (axes_faults a b) { too_large = size })) (sym is ∙ e) ∙ take_by_size a b true none)
+take_too_large a b large none is e = answer_too_large (axes_faults a b) (taken a b) (is_some (shape_fault (taken_shape a))) none (sym is ∙ e)
 
 pub take_fits : (a b array : PlainArray) (large : Bool) → None ≡ first_report (axes_faults a b) → large ≡ is_some (shape_fault (taken_shape a)) → large ≡ false → array ≡ taken a b → take_of a b ≡ Ok array
 take_fits a b array large none is e same =
-    ap (λ (report : Option Report). unless report (taken a b)) (ap (λ (size : Bool). first_report (record (axes_faults a b) { too_large = size })) (sym is ∙ e) ∙ take_by_size a b false none)
-    ∙ ap (λ (x : PlainArray). Ok x) (sym same)
+    answer_fits (axes_faults a b) (taken a b) (is_some (shape_fault (taken_shape a))) none (sym is ∙ e) ∙ ap (λ (x : PlainArray). Ok x) (sym same)
 
 pub taken_is : (a b : PlainArray) (numbers : List ℤ) (source shape : List ℕ) (items : PlainItems) → numbers ≡ numbers_in a.items → source ≡ axes_for (item_count a.items) b
     → shape ≡ taken_shape a → items ≡ b.items
@@ -130,16 +114,13 @@ below_from_test m n e = grind (arith, nat_tests)
 upto_from_test : (m n : ℕ) → nat_le m n ≡ true → m ≤ n
 upto_from_test m n e = grind (arith, nat_tests)
 
-some_number : (m n : ℕ) → Some m ≡ Some n → m ≡ n
-some_number m n e = cc
-
 taken_by_sign : (negative enough inside : Bool) (count along long place : ℕ) → along < count → nat_le count (along + long) ≡ enough → nat_lt along long ≡ inside
     → cond negative (cond enough (Some (along + long - count)) None) (cond inside (Some along) None) ≡ Some place → place < long
 taken_by_sign true true inside count along long place low p q e =
-    let bound = upto_from_test count (along + long) p in let is = some_number (along + long - count) place e in omega arith
+    let bound = upto_from_test count (along + long) p in let is = some_same (along + long - count) place e in omega arith
 taken_by_sign true false inside count along long place low p q e = absurd (cc)
 taken_by_sign false enough true count along long place low p q e =
-    let bound = below_from_test along long q in let is = some_number along place e in omega arith
+    let bound = below_from_test along long q in let is = some_same along place e in omega arith
 taken_by_sign false enough false count along long place low p q e = absurd (cc)
 
 -- the places of a take are on the axes of the source

@@ -10,7 +10,7 @@ use Rattle.apl_items.proofs.ShapeLemmas.{coordinates_are_within, coordinates_of_
 use Rattle.apl_structure.specs.Transposition.{opposite_offset, transposed}
 use Rattle.apl_selection.proofs.PickLemmas.{as_many_within, count_from, each_within}
 use Rattle.apl_structure.proofs.OppositeLemmas.{element_count-reverse}
-use Rattle.apl_structure.proofs.LawLemmas.{IsBack, twice_items}
+use Rattle.apl_selection.proofs.BackLemmas.{IsBack, back_items}
 use Rattle.apl_selection.proofs.MoveLemmas.{array_of}
 
 regrouped : (b e n p x : ℕ) → b * (e * n) + (p * n + x) ≡ (b * e + p) * n + x
@@ -63,7 +63,7 @@ transposed_from shape coordinates e =
     times_one : (n : ℕ) → n * 1 ≡ n
     times_one n = omega arith
 
-within_from_each : (shape coordinates : List ℕ) → length coordinates ≡ length shape → ((k : ℕ) → k < length shape → get_or coordinates k 0 < get_or shape k 0) → AreWithin shape coordinates
+pub within_from_each : (shape coordinates : List ℕ) → length coordinates ≡ length shape → ((k : ℕ) → k < length shape → get_or coordinates k 0 < get_or shape k 0) → AreWithin shape coordinates
 within_from_each [] [] e each = tt
 within_from_each [] (c ∷ coordinates) e each = absurd (omega arith)
 within_from_each (a ∷ shape) [] e each = absurd (omega arith)
@@ -108,4 +108,4 @@ transposed_twice b array =
     let second : ℕ → Option ℕ = source_by_axes b.shape (opposite_offset turned) in
     ap (λ (axes : List ℕ). array_of axes (moved_items (moved_items b.items (element_count turned) first) (element_count axes) (source_by_axes axes (opposite_offset turned)))) (reverse-reverse b.shape)
     ∙ ap (λ (n : ℕ). array_of b.shape (moved_items (moved_items b.items n first) (element_count b.shape) second)) (element_count-reverse b.shape)
-    ∙ ap (array_of b.shape) (twice_items b.items (element_count b.shape) first second (sym array.whole) (transposed_back b.shape))
+    ∙ ap (array_of b.shape) (back_items b.items (element_count b.shape) (element_count b.shape) first second (sym array.whole) (transposed_back b.shape))

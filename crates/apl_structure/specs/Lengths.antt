@@ -1,14 +1,9 @@
-use Rattle.std.specs.Prelude.{◌==◌, ℕ, ℤ, Bool, List, map, min, unsigned_abs}
-use Rattle.std.specs.List.{list_any}
+use Rattle.std.specs.Prelude.{ℕ, ℤ, List, map, min, unsigned_abs}
 
 -- numbers as the lengths of axes
 abbrev pub lengths : List ℤ → List ℕ
 lengths numbers = map unsigned_abs numbers
 
--- the same, each one more than an axis may have at the most
+-- the same, but of the lengths that no axis may have the least
 abbrev pub capped : List ℤ → List ℕ
 capped numbers = map (λ number. min (unsigned_abs number) 16385) numbers
-
--- an array of this shape has no items, since an axis is 0
-abbrev pub is_hollow : List ℕ → Bool
-is_hollow shape = list_any (λ axis. axis == 0) shape

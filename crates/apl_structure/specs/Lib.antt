@@ -6,5 +6,6 @@ pub mod Plain
 pub mod Reshaping
 pub mod Reversal
 pub mod Rotation
+pub mod StructureLaws
 pub mod Taking
 pub mod Transposition

@@ -1,6 +1,7 @@
 use Rattle.std.specs.Prelude.{pos, [], ◌∷◌, Ok, length, map}
-use Rattle.apl_arrays.specs.Array.{PlainArray, numbers, item_count}
+use Rattle.apl_arrays.specs.Array.{PlainArray, numbers}
 use Rattle.apl_items.specs.Answers.{Answer}
+use Rattle.apl_selection.specs.Vectors.{as_vector}
 
 -- the shape of an array, as a vector
 abbrev pub shape_of : PlainArray → Answer
@@ -8,4 +9,4 @@ shape_of b = Ok (record { shape = length b.shape ∷ []; items = numbers (map (�
 
 -- all items of an array, as a vector
 abbrev pub ravel_of : PlainArray → Answer
-ravel_of b = Ok (record { shape = item_count b.items ∷ []; items = b.items })
+ravel_of b = Ok (as_vector b.items)

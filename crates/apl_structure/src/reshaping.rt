@@ -1,12 +1,11 @@
-ghost use Rattle.std.specs.Prelude.{◌≡◌, ◌+◌, ◌%◌, ◌<◌, IfOk};
+ghost use Rattle.std.specs.Prelude.{◌≡◌, ◌+◌, ◌%◌, ◌<◌, None, IfOk};
 ghost use Rattle.std.specs.Int.{is_negative};
 ghost use Rattle.std.specs.List.{list_any};
-ghost use Rattle.apl_arrays.specs.Array.{FitsLimits, element_count, item_count, numbers_in};
+ghost use Rattle.apl_arrays.specs.Array.{FitsLimits, element_count, item_count};
 ghost use Rattle.apl_items.specs.Answers.{Answers, first_report};
-ghost use Rattle.apl_structure.specs.Lengths.{capped};
-ghost use Rattle.apl_structure.specs.Reshaping.{reshape_faults, reshape_of, reshaped};
+ghost use Rattle.apl_structure.specs.Reshaping.{is_hollow, reshape_faults, reshape_of, reshaped};
 
-use crate::lengths::{are_hollow, capped, pass_limits};
+use crate::lengths::{capped, pass_limits};
 use apl_arrays::{Array, Fail, RANK_LIMIT, Report, WantOfMemory, count_of_elements};
 use apl_items::{Walk, moved};
 use apl_selection::filled;
@@ -18,28 +17,21 @@ use std::alloc::Global;
 pub fn reshape(alloc: Global, a: &Array, b: &Array) -> Result<Array, Fail>
     ensures { Answers result (reshape_of a.now b.now) }
 {
-    let shape = capped(alloc, a.numbers())?;
-    match reshape_report(a, b, shape.as_slice()) {
+    match reshape_report(a, b) {
         Some(report) => Err(Fail::Report(report)),
-        None => Ok(reshaped(alloc, b, shape.as_slice())?),
+        None => shaped_by(alloc, a, b),
     }
 }
 
-/// The report on a shape for B, told from the capped one, if there is one.
-fn reshape_report(a: &Array, b: &Array, shape: &[u32]) -> Option<Report>
-    requires { shape.now ≡ capped (numbers_in a.now.items) }
+/// The report on a shape for B of something else than its size, if there is one.
+fn reshape_report(a: &Array, b: &Array) -> Option<Report>
     ensures { result ≡ first_report (reshape_faults a.now b.now) }
 {
     let numbers = a.numbers();
     if a.shape().len() > 1 || a.items().len() > RANK_LIMIT {
         Some(Report::Rank)
-    } else if a.is_chars()
-        || has_negative(numbers)
-        || b.items().len() == 0 && !are_hollow(numbers, shape)
-    {
+    } else if a.is_chars() || has_negative(numbers) || b.items().len() == 0 && !is_hollow(numbers) {
         Some(Report::Domain)
-    } else if pass_limits(numbers, shape) {
-        Some(Report::WsFull)
     } else {
         None
     }
@@ -50,6 +42,27 @@ fn has_negative(numbers: &[i64]) -> bool
     ensures { result ≡ list_any is_negative numbers.now }
 {
     numbers.iter().any(|number| *number < 0)
+}
+
+/// Whether an array of these lengths has no items, since one of them is 0.
+fn is_hollow(numbers: &[i64]) -> bool
+    ensures { result ≡ is_hollow numbers.now }
+{
+    numbers.iter().any(|number| *number == 0)
+}
+
+/// B's items in the shape A, or WS FULL where that is too large.
+fn shaped_by(alloc: Global, a: &Array, b: &Array) -> Result<Array, Fail>
+    requires { None ≡ first_report (reshape_faults a.now b.now) }
+    ensures { Answers result (reshape_of a.now b.now) }
+{
+    let numbers = a.numbers();
+    let lengths = capped(alloc, numbers)?;
+    let shape = lengths.as_slice();
+    if pass_limits(numbers, shape) {
+        return Err(Fail::Report(Report::WsFull));
+    }
+    Ok(reshaped(alloc, b, shape)?)
 }
 
 /// B's items, from the first again where they end.
