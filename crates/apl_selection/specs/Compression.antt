@@ -5,7 +5,8 @@ use Rattle.apl_items.specs.Answers.{Answer, Faults, no_faults}
 use Rattle.apl_items.specs.Extension.{number_at, place_in}
 use Rattle.apl_items.specs.Places.{places}
 use Rattle.apl_items.specs.Axis.{lacks_axis}
-use Rattle.apl_selection.specs.Flags.{is_one, lacks_flags}
+use Rattle.apl_arrays.specs.Number.{is_one}
+use Rattle.apl_selection.specs.Flags.{lacks_flags}
 use Rattle.apl_selection.specs.Listing.{listed_of, meant_axis, meant_length}
 
 -- how many places flags and an axis have together: a lone flag is for each place of the axis, a lone place for each flag

@@ -2,10 +2,7 @@ use Rattle.std.specs.Prelude.{◌&&◌, ◌||◌, ℤ, pos, Bool, not}
 use Rattle.std.specs.List.{list_any}
 use Rattle.std.specs.Ordering.{int_eq}
 use Rattle.apl_arrays.specs.Array.{PlainArray, is_chars, numbers_in}
-
--- the number is 1
-abbrev pub is_one : ℤ → Bool
-is_one flag = int_eq flag (pos 1)
+use Rattle.apl_arrays.specs.Number.{is_one}
 
 -- the number is neither 0 nor 1
 abbrev pub is_no_flag : ℤ → Bool

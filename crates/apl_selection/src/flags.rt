@@ -1,7 +1,8 @@
 ghost use Rattle.std.specs.Prelude.{◌≡◌};
 ghost use Rattle.std.specs.List.{list_any};
 ghost use Rattle.apl_arrays.specs.Array.{numbers_in};
-ghost use Rattle.apl_selection.specs.Flags.{is_no_flag, is_one, lacks_flags};
+ghost use Rattle.apl_arrays.specs.Number.{is_one};
+ghost use Rattle.apl_selection.specs.Flags.{is_no_flag, lacks_flags};
 
 use apl_arrays::Array;
 
