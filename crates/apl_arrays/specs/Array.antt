@@ -1,4 +1,4 @@
-use Rattle.std.specs.Prelude.{◌≡◌, ◌≤◌, ◌*◌, ◌==◌, ℕ, ℤ, Bool, true, false, List, [], ◌∷◌, All, Some, length, fold, slice_get}
+use Rattle.std.specs.Prelude.{◌≡◌, ◌≤◌, ◌==◌, ℕ, ℤ, Bool, true, false, List, [], ◌∷◌, All, Some, length, slice_get}
 use Rattle.std.specs.Bool.{beq}
 use Rattle.std.specs.Ordering.{on, eq_of_both, int_eq}
 use Rattle.std.specs.Cmp.Lexicographic.{pointwise}
@@ -7,6 +7,7 @@ use Rattle.apl_arrays.specs.declared.array.Items.TheVariants.{Numbers, Chars}
 use Rattle.apl_arrays.specs.declared.array.Item.{Item}
 use Rattle.apl_arrays.specs.declared.array.Item.TheVariants.{Number, Char}
 use Rattle.apl_arrays.specs.Limits.{most_axes, most_elements}
+use Rattle.apl_arrays.specs.Number.{product}
 
 -- the items of an array without the room of their list: numbers or characters
 pub data PlainItems : Type 0 where
@@ -49,7 +50,7 @@ item_count (chars list) = length list
 
 -- how many elements an array of this shape has
 abbrev pub element_count : List ℕ → ℕ
-element_count shape = fold ◌*◌ 1 shape
+element_count shape = product shape
 
 -- a shape within the limits: eight axes at the most, and no axis and no product over 16,384
 pub record FitsLimits (shape : List ℕ) : Type 0 where

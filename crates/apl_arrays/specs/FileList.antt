@@ -1,6 +1,6 @@
 use Rattle.std.specs.Prelude.{ℕ, List, [], ◌∷◌, IsTrue}
-use Rattle.std.specs.Ordering.{nat_cmp, is_lt}
-use Rattle.std.specs.Cmp.Lexicographic.{slice_cmp}
+use Rattle.std.specs.Ordering.{is_lt}
+use Rattle.apl_arrays.specs.Name.{name_order}
 use Rattle.apl_arrays.specs.declared.file_list.File.{File}
 
 -- a file as plain data: its name and its bytes
@@ -16,4 +16,4 @@ plain_file file = record { name = file.name; bytes = file.bytes.items }
 abbrev pub IsAscending : List PlainFile → Type 0
 IsAscending [] = Unit {0}
 IsAscending (file ∷ []) = Unit {0}
-IsAscending (file ∷ next ∷ files) = IsTrue (is_lt (slice_cmp nat_cmp file.name next.name)) × IsAscending (next ∷ files)
+IsAscending (file ∷ next ∷ files) = IsTrue (is_lt (name_order file.name next.name)) × IsAscending (next ∷ files)

@@ -6,10 +6,12 @@ pub mod Glyph
 pub mod Limits
 pub mod List
 pub mod Name
+pub mod Number
 pub mod Padded
 pub mod Parties
 pub mod Report
 pub mod Run
 pub mod Shape
+pub mod System
 pub mod Text
 pub mod Word

@@ -1,5 +1,8 @@
 use Rattle.std.specs.Prelude.{◌≡◌, ◌-◌, ◌++◌, ◌&&◌, ◌||◌, ◌==◌, ℕ, Bool, false, List, [], ◌∷◌, Option, Some, None, IsTrue, nat_le, length, take_while, if◌then◌else◌}
 use Rattle.std.specs.List.{list_all}
+use Rattle.std.specs.declared.cmp.Ordering.{Ordering}
+use Rattle.std.specs.Ordering.{nat_cmp}
+use Rattle.std.specs.Cmp.Lexicographic.{pointwise, slice_cmp}
 use Rattle.apl_arrays.specs.Glyph.{is_letter, is_digit, underscore}
 use Rattle.apl_arrays.specs.Limits.{most_name_glyphs}
 use Rattle.apl_arrays.specs.Run.{begins}
@@ -16,6 +19,14 @@ is_name (first ∷ rest) = is_letter first && nat_le (length rest) (most_name_gl
 -- these glyphs are a name
 abbrev pub IsName : List ℕ → Type 0
 IsName glyphs = IsTrue (is_name glyphs)
+
+-- two names are the same
+abbrev pub same_name : List ℕ → List ℕ → Bool
+same_name = pointwise ◌==◌
+
+-- of two names, of values or of files, the one is first whose code is less where they first differ, or which ends there
+abbrev pub name_order : List ℕ → List ℕ → Ordering
+name_order = slice_cmp nat_cmp
 
 -- a run of glyphs that is a name, and how many it has
 abbrev pub name_of_run : List ℕ → Option (List ℕ × ℕ)

@@ -21,15 +21,16 @@ pub struct FileName {
 impl Model for FileName {
     ghost use Rattle.std.specs.Prelude.{ℕ, List, length, take};
     ghost use Rattle.apl_arrays.specs.File.{IsFileName};
+    ghost use Rattle.apl_arrays.specs.Limits.{most_file_name_bytes};
     ghost use Rattle.apl_arrays.specs.Padded.{IsPadded, padded, counted_length, padded_again, same_parts};
 
     ghost Value = { List ℕ };
 
     ghost view = { λ n. take n.len n.bytes };
 
-    ghost invariant = { λ n. IsPadded 0 n.bytes n.len × IsFileName (take n.len n.bytes) };
+    ghost invariant = { λ n. IsPadded most_file_name_bytes 0 n.bytes n.len × IsFileName (take n.len n.bytes) };
 
-    ghost inverse = { λ text. record { bytes = padded 0 text; len = length text } };
+    ghost inverse = { λ text. record { bytes = padded most_file_name_bytes 0 text; len = length text } };
 
     ghost inverse_ok = { λ n h. same_parts (λ bytes len. record { bytes = bytes; len = len }) (padded_again h.0) (counted_length h.0) };
 }

@@ -1,14 +1,16 @@
 ghost use Rattle.std.specs.Prelude.{◌≡◌, ◌∷◌, []};
 ghost use Rattle.apl_arrays.specs.Glyph as glyph;
-ghost use Rattle.apl_arrays.specs.Limits.{most_axes, most_elements, most_line_glyphs, most_name_glyphs, most_file_name_bytes};
+ghost use Rattle.apl_arrays.specs.Limits.{most_axes, most_elements, most_line_glyphs, most_name_glyphs, most_file_name_bytes, most_offers, most_users};
 ghost use Rattle.apl_arrays.specs.Parties.{first_user, last_user};
+ghost use Rattle.apl_arrays.specs.System.{system_names};
 
 use crate::array::{ELEMENT_LIMIT, RANK_LIMIT};
 use crate::file::FILE_NAME_LIMIT;
 use crate::glyph::{Glyph, SCALARS};
 use crate::line_list::LINE_GLYPH_LIMIT;
 use crate::name::NAME_LIMIT;
-use crate::party::{FIRST_USER, LAST_USER};
+use crate::party::{FIRST_USER, LAST_USER, OFFER_LIMIT, USER_LIMIT};
+use crate::system::SystemName;
 
 /// The glyphs of ASCII that have a name, in the order of their codes. No memory.
 pub fn named_glyphs_of_ascii() -> [Glyph; 22]
@@ -91,7 +93,7 @@ pub fn named_glyphs_of_apl() -> [Glyph; 35]
     ]
 }
 
-/// The table and the limits of the code are those of the definitions. The call does nothing. No memory.
+/// The tables and the limits of the code are those of the definitions. The call does nothing. No memory.
 pub fn numbers_are_as_defined()
     ensures scalars { SCALARS ≡ glyph.scalars }
     ensures axes { RANK_LIMIT ≡ most_axes }
@@ -101,4 +103,7 @@ pub fn numbers_are_as_defined()
     ensures line { LINE_GLYPH_LIMIT ≡ most_line_glyphs }
     ensures least_user { FIRST_USER ≡ first_user }
     ensures greatest_user { LAST_USER ≡ last_user }
+    ensures users { USER_LIMIT ≡ most_users }
+    ensures offers { OFFER_LIMIT ≡ most_offers }
+    ensures system_names { SystemName.ALL ≡ system_names }
 {}

@@ -21,6 +21,7 @@ pub struct Name {
 
 impl Model for Name {
     ghost use Rattle.std.specs.Prelude.{ℕ, List, length, take};
+    ghost use Rattle.apl_arrays.specs.Glyph.{blank};
     ghost use Rattle.apl_arrays.specs.Limits.{most_name_glyphs};
     ghost use Rattle.apl_arrays.specs.Name.{IsName};
     ghost use Rattle.apl_arrays.specs.Padded.{IsPadded, padded, counted_length, padded_again, same_parts};
@@ -29,9 +30,9 @@ impl Model for Name {
 
     ghost view = { λ n. take n.len n.glyphs };
 
-    ghost invariant = { λ n. IsPadded 32 n.glyphs n.len × IsName (take n.len n.glyphs) };
+    ghost invariant = { λ n. IsPadded most_name_glyphs blank n.glyphs n.len × IsName (take n.len n.glyphs) };
 
-    ghost inverse = { λ glyphs. record { glyphs = padded 32 glyphs; len = length glyphs } };
+    ghost inverse = { λ glyphs. record { glyphs = padded most_name_glyphs blank glyphs; len = length glyphs } };
 
     ghost inverse_ok = { λ n h. same_parts (λ glyphs len. record { glyphs = glyphs; len = len }) (padded_again h.0) (counted_length h.0) };
 }

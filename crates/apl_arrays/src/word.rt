@@ -1,6 +1,6 @@
 ghost use Rattle.std.specs.Prelude.{◌≡◌, ◌↔◌, ◌≤◌, ℕ, List, Some, None, IsTrue, MatchOption, length};
 ghost use Rattle.std.specs.List.{list_all, prefix_len};
-ghost use Rattle.apl_arrays.specs.Glyph.{is_blank};
+ghost use Rattle.apl_arrays.specs.Glyph.{is_blank, is_digit};
 ghost use Rattle.apl_arrays.specs.Word.{IsNextWord, is_no_blank, next_word};
 
 use crate::Glyph;
@@ -12,6 +12,15 @@ pub fn blank_count(line: &[Glyph]) -> usize
     ensures within { result ≤ length line.now }
 {
     line.iter().take_while(|glyph| glyph.is_blank()).count()
+}
+
+/// How many digits stand at the front. No memory.
+#[tactic(auto, using(crate::proofs::Runs::run_fits))]
+pub fn digit_count(line: &[Glyph]) -> usize
+    ensures value { result ≡ prefix_len is_digit line.now }
+    ensures within { result ≤ length line.now }
+{
+    line.iter().take_while(|glyph| glyph.is_digit()).count()
 }
 
 #[tactic(auto, using(crate::proofs::Runs::run_fits))]

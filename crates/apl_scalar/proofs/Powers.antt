@@ -4,7 +4,8 @@ use Rattle.std.proofs.Math.Nat.{mod-lt, pow-zero, pow-suc, pow-le-pow_left, pow-
 use Rattle.std.proofs.lemmas.Int.{ints, to_z-of_z}
 use Rattle.std.proofs.lemmas.Bool.Decides.{nat_tests}
 use Rattle.std.specs.Int.RustNames.{int_rem}
-use Rattle.apl_scalar.specs.Table.{fits, power, is_power}
+use Rattle.apl_arrays.specs.Number.{fits}
+use Rattle.apl_scalar.specs.Table.{power, is_power}
 
 one_pow : (n : ℕ) → 1 ^ n ≡ 1
 one_pow zero = pow-zero 1

@@ -1,4 +1,4 @@
-use Rattle.std.specs.Prelude.{◌-◌, ◌^◌, ◌&&◌, ◌||◌, ◌==◌, ℤ, pos, negsuc, ◌+ℤ◌, ◌-ℤ◌, ◌*ℤ◌, neg_ℤ, unsigned_abs, int_lt, int_le, int_div, int_rem, Bool, true, false, not, Option, Some, None, nat_lt, if◌then◌else◌}
+use Rattle.std.specs.Prelude.{◌-◌, ◌^◌, ◌&&◌, ◌||◌, ◌==◌, ℤ, pos, negsuc, ◌+ℤ◌, ◌-ℤ◌, ◌*ℤ◌, neg_ℤ, unsigned_abs, int_lt, int_le, int_div, int_rem, Bool, true, false, not, Option, Some, None, if◌then◌else◌}
 use Rattle.std.specs.Int.{int_min, int_max, int_pow, int_signum, is_negative}
 use Rattle.std.specs.Ordering.{int_eq}
 use Rattle.apl_arrays.specs.declared.verb.Monad.{Monad}
@@ -7,12 +7,8 @@ use Rattle.apl_arrays.specs.declared.verb.Dyad.{Dyad}
 use Rattle.apl_arrays.specs.declared.verb.Dyad.TheVariants.{Plus, Minus, Times, Divide, Maximum, Minimum, Residue, Power, Binomial, And, Or, Nand, Nor, Less, NotGreater, Equal, NotLess, Greater, NotEqual}
 use Rattle.apl_arrays.specs.declared.array.Item.{Item}
 use Rattle.apl_arrays.specs.declared.array.Item.TheVariants.{Number, Char}
+use Rattle.apl_arrays.specs.Number.{fits, is_one}
 use Rattle.apl_scalar.specs.Counting.{factorial, ways, residue}
-
--- the number fits 64 bits with a sign
-abbrev pub fits : ℤ → Bool
-fits (pos n) = nat_lt n (2 ^ 63)
-fits (negsuc n) = nat_lt n (2 ^ 63)
 
 -- the least of these numbers
 abbrev pub least : ℤ
@@ -25,10 +21,6 @@ greatest = pos (2 ^ 63 - 1)
 -- 1 for true, 0 for false
 abbrev pub truth : Bool → ℤ
 truth b = if b then pos 1 else pos 0
-
--- the number is 1
-abbrev pub is_one : ℤ → Bool
-is_one z = int_eq z (pos 1)
 
 -- the number is 0 or 1
 abbrev pub is_truth : ℤ → Bool

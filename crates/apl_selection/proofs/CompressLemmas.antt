@@ -13,7 +13,8 @@ use Rattle.apl_items.specs.Extension.{number_at, place_in}
 use Rattle.apl_items.specs.Places.{places}
 use Rattle.apl_items.specs.Axis.{lacks_axis}
 use Rattle.apl_selection.specs.Compression.{compress_faults, compress_of, flagged_length, flags_meet, kept, kept_of}
-use Rattle.apl_selection.specs.Flags.{is_no_flag, is_one}
+use Rattle.apl_arrays.specs.Number.{is_one}
+use Rattle.apl_selection.specs.Flags.{is_no_flag}
 use Rattle.apl_selection.specs.Listing.{listed_of, meant_axis, meant_length, vector_shape}
 use Rattle.apl_selection.proofs.FaultLemmas.{count_of_numbers, nothing_is_wrong, or_first}
 use Rattle.apl_selection.proofs.PickLemmas.{some_same}

@@ -11,7 +11,7 @@ use Rattle.apl_items.specs.Extension.{place_in}
 use Rattle.apl_items.specs.Places.{places}
 use Rattle.apl_items.specs.Axis.{lacks_axis}
 use Rattle.apl_selection.specs.Expansion.{expand_faults, expand_of, ones, ones_meet, spread, spread_at}
-use Rattle.apl_selection.specs.Flags.{is_one}
+use Rattle.apl_arrays.specs.Number.{is_one}
 use Rattle.apl_selection.specs.Listing.{listed_of, meant_axis, meant_length, vector_shape}
 use Rattle.apl_selection.proofs.FaultLemmas.{nothing_is_wrong, same_number}
 use Rattle.apl_selection.proofs.PickLemmas.{some_same}

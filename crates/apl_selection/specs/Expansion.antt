@@ -4,7 +4,8 @@ use Rattle.apl_arrays.specs.Array.{PlainArray, numbers_in}
 use Rattle.apl_items.specs.Answers.{Answer, Faults}
 use Rattle.apl_items.specs.Extension.{place_in}
 use Rattle.apl_items.specs.Places.{places}
-use Rattle.apl_selection.specs.Flags.{flag_faults, is_one}
+use Rattle.apl_arrays.specs.Number.{is_one}
+use Rattle.apl_selection.specs.Flags.{flag_faults}
 use Rattle.apl_selection.specs.Listing.{listed_of, meant_axis, meant_length}
 
 -- how many flags are 1

@@ -2,12 +2,9 @@ use Rattle.std.specs.Prelude.{◌&&◌, ◌||◌, ℤ, pos, Bool, not, Option, l
 use Rattle.std.specs.List.{list_any}
 use Rattle.std.specs.Ordering.{int_eq}
 use Rattle.apl_arrays.specs.Array.{PlainArray, is_chars, numbers_in}
+use Rattle.apl_arrays.specs.Number.{is_one}
 use Rattle.apl_items.specs.Answers.{Faults, no_faults}
 use Rattle.apl_items.specs.Axis.{lacks_axis}
-
--- the number is 1
-abbrev pub is_one : ℤ → Bool
-is_one flag = int_eq flag (pos 1)
 
 -- the number is neither 0 nor 1
 abbrev pub is_no_flag : ℤ → Bool

@@ -1,11 +1,11 @@
 -- What is known of digits and the number that they spell.
-use Rattle.std.proofs.Common.{◌≡◌, ℕ, zero, suc, ◌+◌, ◌*◌, ◌≤◌, ◌<◌, Bool, List, [], ◌∷◌, length, take, get_or, sym, ap, ◌∙◌, refl, arith, All}
+use Rattle.std.proofs.Common.{◌≡◌, ℕ, zero, suc, ◌+◌, ◌*◌, ◌≤◌, ◌<◌, List, [], ◌∷◌, length, take, get_or, sym, ap, ◌∙◌, refl, arith, All}
 use Rattle.std.specs.Prelude.{IsTrue}
 use Rattle.std.specs.List.{prefix_len}
 use Rattle.std.specs.Char.{digit_value}
 use Rattle.std.specs.Str.Parse.{digits_value, digits_value_after}
 use Rattle.std.proofs.lemmas.Int.Digits.{digits_value_more}
-use Rattle.std.proofs.lemmas.List.Sums.{prefix_len-le-length, prefix_len_passes}
+use Rattle.std.proofs.lemmas.List.Sums.{prefix_len_passes}
 use Rattle.std.proofs.lemmas.List.{get_or-take, length-take}
 use Rattle.std.proofs.lemmas.Grind.{get_or_default_zero}
 use Rattle.apl_arrays.specs.Glyph.{is_digit}
@@ -23,10 +23,6 @@ after_take_le n (c ∷ cs) (suc i) = after_take_le (n * 10 + digit_value c) cs i
 -- the first digits spell no greater number than all
 pub digits_value_take_le : (ds : List ℕ) (i : ℕ) → digits_value 10 (take i ds) ≤ digits_value 10 ds
 digits_value_take_le ds i = after_take_le 0 ds i
-
--- what passes at the front is no longer than the list
-pub front_fits : (p : ℕ → Bool) (xs : List ℕ) → prefix_len p xs ≤ length xs
-front_fits p xs = prefix_len-le-length p xs
 
 -- the digits at the front are digits
 pub digits_at_front : (xs : List ℕ) → All (λ digit. IsTrue (is_digit digit)) (take (prefix_len is_digit xs) xs)

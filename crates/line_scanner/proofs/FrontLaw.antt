@@ -9,14 +9,15 @@ use Rattle.apl_arrays.specs.Name.{goes_on, is_name, IsName, longest_name, name_o
 use Rattle.apl_arrays.proofs.Names.{name_parts, longest_is_found}
 use Rattle.line_scanner.specs.declared.role.Role.{Role}
 use Rattle.line_scanner.specs.declared.role.Role.TheVariants.{Blank, Letter, Digit, Overbar, Quote, Quad, Lamp, Sign, Unused}
-use Rattle.line_scanner.specs.declared.token.SystemName.{SystemName}
-use Rattle.line_scanner.specs.declared.token.SystemName.TheVariants.{Svo, Svc, Svr, Svq, Svs}
+use Rattle.apl_arrays.specs.declared.system.SystemName.{SystemName}
+use Rattle.apl_arrays.specs.declared.system.SystemName.TheVariants.{Svo, Svc, Svr, Svq, Svs}
 use Rattle.line_scanner.specs.Token.{PlainKind, numbers, chars, name, system, sign}
 use Rattle.line_scanner.specs.Role.{role_of, is_quote}
 use Rattle.line_scanner.specs.Number.{behind, number, constant_then, constant}
 use Rattle.line_scanner.specs.Scanning.{PlainFront, nothing, blank, token, unused, malformed, chars_from, system_name, name_front, constant_front, chars_front, system_front, front_by, front_of}
 use Rattle.apl_arrays.specs.Run.{begins}
-use Rattle.line_scanner.specs.Grammar.{AreDigits, overbar, IsText, EndsBefore, quoted, doubled, system_text, EndsLine, at_end, at_comment, IsUnused, IsMalformed, no_digit, out_of_range, open_quote, long_name, no_system_name, IsConstant}
+use Rattle.apl_arrays.specs.System.{system_text}
+use Rattle.line_scanner.specs.Grammar.{AreDigits, overbar, IsText, EndsBefore, quoted, doubled, EndsLine, at_end, at_comment, IsUnused, IsMalformed, no_digit, out_of_range, open_quote, long_name, no_system_name, IsConstant}
 use Rattle.line_scanner.proofs.Roles.{letter_role, digit_role, from_letter, from_digit, from_blank, from_overbar, from_quote, from_quad, from_lamp}
 use Rattle.apl_arrays.proofs.Runs.{run_passes, run_stops, run_splits, take_run}
 use Rattle.line_scanner.proofs.NumberLaw.{overbar_malformed, digit_malformed, no_digit_no_number, out_of_range_no_number}
@@ -87,10 +88,10 @@ four Svr = refl
 four Svq = refl
 four Svs = refl
 
-system_by_found : (rest : List ℕ) (found : Option SystemName) → system_name rest ≡ found → IsFront (named.quad ∷ rest) (system_front found)
-system_by_found rest None e = no_system_name rest refl (system_none rest e)
+system_by_found : (rest : List ℕ) (found : Option SystemName) → system_name (named.quad ∷ rest) ≡ found → IsFront (named.quad ∷ rest) (system_front found)
+system_by_found rest None e = no_system_name rest refl (system_none (named.quad ∷ rest) e)
 system_by_found rest (Some which) e =
-    let h = system_sound rest which e in
+    let h = system_sound (named.quad ∷ rest) which e in
     record { text = system_text which; rest = h.0; whole = h.1; is_text = refl; ends = tt; len = four which; some = omega arith }
 
 at_first : (first code : ℕ) (rest : List ℕ) (front : PlainFront) → first ≡ code → IsFront (code ∷ rest) front → IsFront (first ∷ rest) front
@@ -102,7 +103,7 @@ by_role Letter first rest e = name_sound first rest (from_letter first e)
 by_role Digit first rest e = constant_fronts (first ∷ rest) (number (first ∷ rest)) refl (digit_malformed first rest (from_digit first e))
 by_role Overbar first rest e = subst (λ (g : ℕ). IsFront (g ∷ rest) (constant_front (constant (g ∷ rest)))) (sym (from_overbar first e)) (constant_fronts (named.overbar ∷ rest) (number (named.overbar ∷ rest)) refl (overbar_malformed rest))
 by_role Quote first rest e = at_first first named.quote rest (chars_front (behind 1 (chars_from false rest))) (from_quote first e) (chars_by_found rest (chars_from false rest) refl)
-by_role Quad first rest e = at_first first named.quad rest (system_front (system_name rest)) (from_quad first e) (system_by_found rest (system_name rest) refl)
+by_role Quad first rest e = subst (λ (g : ℕ). IsFront (g ∷ rest) (system_front (system_name (g ∷ rest)))) (sym (from_quad first e)) (system_by_found rest (system_name (named.quad ∷ rest)) refl)
 by_role Lamp first rest e = at_comment rest (ap (λ (g : ℕ). g ∷ rest) (from_lamp first e))
 by_role Sign first rest e = record { text = first ∷ []; rest = rest; whole = refl; is_text = (refl, e); ends = tt; len = refl; some = omega arith }
 by_role Unused first rest e = record { glyph = first; more = rest; whole = refl; unused = e }
@@ -168,7 +169,7 @@ system_as_quad Svq rest = refl
 system_as_quad Svs rest = refl
 
 system_is_text : (which : SystemName) (rest : List ℕ) → front_of (system_text which ++ rest) ≡ token (system which) (length (system_text which))
-system_is_text which rest = ap front_of (sym (system_as_quad which rest)) ∙ front_of_role named.quad (drop 1 (system_text which ++ rest)) Quad quad_role ∙ ap system_front (system_complete which rest) ∙ ap (token (system which)) (four which)
+system_is_text which rest = ap front_of (sym (system_as_quad which rest)) ∙ front_of_role named.quad (drop 1 (system_text which ++ rest)) Quad quad_role ∙ ap (λ (xs : List ℕ). system_front (system_name xs)) (system_as_quad which rest) ∙ ap system_front (system_complete which rest) ∙ ap (token (system which)) (four which)
 
 -- a token of the grammar at the front is computed
 pub token_complete : (kind : PlainKind) (text rest : List ℕ) → IsText kind text → EndsBefore kind rest → front_of (text ++ rest) ≡ token kind (length text)
@@ -215,4 +216,4 @@ malformed_complete rest (long_name first others more e letter all ends long) =
     let run : take_while goes_on (first ∷ (others ++ more)) ≡ first ∷ others = run_of_letter first (others ++ more) letter ∙ ap (λ (xs : List ℕ). first ∷ xs) (take_run goes_on others more all ends) in
     ap front_of e ∙ front_of_role first (others ++ more) Letter (letter_role first letter) ∙ ap (λ (xs : List ℕ). name_front (name_of_run xs)) run ∙ ap (λ (b : Bool). name_front (cond {A = Option (List ℕ × ℕ)} b (Some (first ∷ others, length (first ∷ others))) None)) (too_long first others long)
 malformed_complete rest (no_system_name more e absent) =
-    ap front_of e ∙ front_of_role named.quad more Quad quad_role ∙ ap system_front (no_system more (λ which others same. absent which others (e ∙ same)))
+    ap front_of e ∙ front_of_role named.quad more Quad quad_role ∙ ap system_front (no_system (named.quad ∷ more) (λ which others same. absent which others (e ∙ same)))

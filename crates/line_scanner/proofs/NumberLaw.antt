@@ -8,8 +8,9 @@ use Rattle.std.proofs.lemmas.Bool.Decides.{nat_tests}
 use Rattle.std.proofs.lemmas.List.{length-append, nil_from_length}
 use Rattle.apl_arrays.specs.Glyph as named
 use Rattle.apl_arrays.specs.Glyph.{is_digit}
+use Rattle.apl_arrays.specs.Number.{fits}
 use Rattle.line_scanner.specs.Role.{is_overbar}
-use Rattle.line_scanner.specs.Number.{signed, fits_64, of_glyphs, behind, number_of, number}
+use Rattle.line_scanner.specs.Number.{signed, of_glyphs, behind, number_of, number}
 use Rattle.apl_arrays.specs.Run.{begins}
 use Rattle.line_scanner.specs.Grammar.{AreDigits, overbar, IsNumber, NumberFirst, IsMalformed, no_digit, out_of_range}
 use Rattle.std.proofs.lemmas.Option.{same_Some}
@@ -17,11 +18,11 @@ use Rattle.line_scanner.proofs.Found.{behind_some, behind_none}
 use Rattle.apl_arrays.proofs.Runs.{run_passes, run_stops, run_splits, take_run}
 
 -- a number that passes the test fits, and the other way round
-pub fits_from_test : (z : ℤ) → fits_64 z ≡ true → FitsSigned w64 z
+pub fits_from_test : (z : ℤ) → fits z ≡ true → FitsSigned w64 z
 fits_from_test (pos n) e = record { sfits = ltb-true n (2 ^ 63) e }
 fits_from_test (negsuc n) e = record { sfits = ltb-true n (2 ^ 63) e }
 
-pub test_from_fits : (z : ℤ) → FitsSigned w64 z → fits_64 z ≡ true
+pub test_from_fits : (z : ℤ) → FitsSigned w64 z → fits z ≡ true
 test_from_fits (pos n) f = lt-ltb n (2 ^ 63) f.sfits
 test_from_fits (negsuc n) f = lt-ltb n (2 ^ 63) f.sfits
 
@@ -35,8 +36,8 @@ pub record NumberTaken (line : List ℕ) (value : ℤ) (taken : ℕ) : Type 0 wh
   pub len : taken ≡ length number
   pub some : 0 < taken
 
-of_by : (len : ℕ) (z : ℤ) (found : ℤ × ℕ) (empty fits : Bool) → cond empty None (of_glyphs len (cond fits (Some z) None)) ≡ Some found → (empty ≡ false) × (fits ≡ true) × (z ≡ found.0) × (len ≡ found.1)
-of_by len z found true fits e = absurd cc
+of_by : (len : ℕ) (z : ℤ) (found : ℤ × ℕ) (empty small : Bool) → cond empty None (of_glyphs len (cond small (Some z) None)) ≡ Some found → (empty ≡ false) × (small ≡ true) × (z ≡ found.0) × (len ≡ found.1)
+of_by len z found true small e = absurd cc
 of_by len z found false false e = absurd cc
 of_by len z found false true e = (refl, refl, ap (λ (x : ℤ × ℕ). x.0) (same_Some (z, len) found e), ap (λ (x : ℤ × ℕ). x.1) (same_Some (z, len) found e))
 
@@ -45,7 +46,7 @@ taken_of : (negative : Bool) (xs : List ℕ) (found : ℤ × ℕ) → number_of 
 taken_of negative xs found e =
     let digits = take (prefix_len is_digit xs) xs in
     let value = signed negative (digits_value 10 digits) in
-    let p = of_by (length digits) value found (eqb (length digits) 0) (fits_64 value) e in
+    let p = of_by (length digits) value found (eqb (length digits) 0) (fits value) e in
     let some : length digits ≡ 0 → ⊥ = eqb-false (length digits) 0 p.0 in
     record {
       number = overbar negative ++ digits;
@@ -84,10 +85,10 @@ number_sound [] found e = absurd cc
 number_sound (first ∷ rest) found e = number_by first rest found (is_overbar first) refl e
 
 -- the number of some digits, where it fits
-number_of_is : (negative : Bool) (digits : List ℕ) → 0 < length digits → fits_64 (signed negative (digits_value 10 digits)) ≡ true → number_of negative digits ≡ Some (signed negative (digits_value 10 digits), length digits)
-number_of_is negative digits some fits =
+number_of_is : (negative : Bool) (digits : List ℕ) → 0 < length digits → fits (signed negative (digits_value 10 digits)) ≡ true → number_of negative digits ≡ Some (signed negative (digits_value 10 digits), length digits)
+number_of_is negative digits some small =
     let nonempty : eqb (length digits) 0 ≡ false = ne_eqb (length digits) 0 (λ e. omega arith) in
-    rw (nonempty, fits) refl
+    rw (nonempty, small) refl
 
 digit_not_overbar : (g : ℕ) → is_digit g ≡ true → is_overbar g ≡ false
 digit_not_overbar g e = grind (arith, nat_tests)
@@ -111,15 +112,15 @@ number_complete line value others h =
     let n = h.is_number in
     let digits = n.digits in
     let split : line ≡ overbar n.negative ++ (digits ++ others) = h.whole ∙ ap (λ (xs : List ℕ). xs ++ others) n.spelled ∙ append_assoc (overbar n.negative) digits others in
-    let fits : fits_64 (signed n.negative (digits_value 10 digits)) ≡ true = test_from_fits _ (subst (λ (z : ℤ). FitsSigned w64 z) n.is n.fits) in
+    let small : fits (signed n.negative (digits_value 10 digits)) ≡ true = test_from_fits _ (subst (λ (z : ℤ). FitsSigned w64 z) n.is n.fits) in
     let len : length (overbar n.negative) + length digits ≡ length h.number = omega (arith, ap length n.spelled, length-append (overbar n.negative) digits) in
-    ap number split ∙ number_at n.negative digits others n.are_digits h.ends ∙ ap (behind (length (overbar n.negative))) (number_of_is n.negative digits n.are_digits.some fits)
+    ap number split ∙ number_at n.negative digits others n.are_digits h.ends ∙ ap (behind (length (overbar n.negative))) (number_of_is n.negative digits n.are_digits.some small)
     ∙ ap (λ (z : ℤ). Some (z, length (overbar n.negative) + length digits)) (sym n.is) ∙ ap (λ (k : ℕ). Some (value, k)) len
 
 -- ---- where no number is
 
-too_large : (len : ℕ) (z : ℤ) (empty fits : Bool) → empty ≡ false → cond empty None (of_glyphs len (cond fits (Some z) None)) ≡ None → fits ≡ false
-too_large len z true fits some e = absurd cc
+too_large : (len : ℕ) (z : ℤ) (empty small : Bool) → empty ≡ false → cond empty None (of_glyphs len (cond small (Some z) None)) ≡ None → small ≡ false
+too_large len z true small some e = absurd cc
 too_large len z false true some e = absurd cc
 too_large len z false false some e = refl
 
@@ -129,9 +130,9 @@ out_by negative xs some e =
     let digits = take_while is_digit xs in
     let value = signed negative (digits_value 10 digits) in
     let nonempty : eqb (length digits) 0 ≡ false = ne_eqb (length digits) 0 (λ z. omega arith) in
-    let wide : fits_64 value ≡ false = too_large (length digits) value (eqb (length digits) 0) (fits_64 value) nonempty e in
+    let wide : fits value ≡ false = too_large (length digits) value (eqb (length digits) 0) (fits value) nonempty e in
     out_of_range negative digits (drop (prefix_len is_digit xs) xs) (ap (λ (ys : List ℕ). overbar negative ++ ys) (run_splits is_digit xs)) (record { some = some; all = run_passes is_digit xs }) (run_stops is_digit xs)
-    (λ fits. both_ways (fits_64 value) wide (test_from_fits value fits))
+    (λ small. both_ways (fits value) wide (test_from_fits value small))
 
 no_run : (xs : List ℕ) → eqb (length (take_while is_digit xs)) 0 ≡ true → begins is_digit xs ≡ false
 no_run xs e =
@@ -169,6 +170,6 @@ pub out_of_range_no_number : (negative : Bool) (digits more : List ℕ) → AreD
 out_of_range_no_number negative digits more are ends wide =
     let value = signed negative (digits_value 10 digits) in
     let nonempty : eqb (length digits) 0 ≡ false = ne_eqb (length digits) 0 (λ z. omega (arith, are.some)) in
-    let fails : fits_64 value ≡ false = false_from_ne_true (fits_64 value) (λ e. wide (fits_from_test value e)) in
+    let fails : fits value ≡ false = false_from_ne_true (fits value) (λ e. wide (fits_from_test value e)) in
     let none : number_of negative digits ≡ None = rw (nonempty, fails) refl in
     number_at negative digits more are ends ∙ ap (behind (length (overbar negative))) none

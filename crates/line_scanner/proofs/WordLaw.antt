@@ -1,18 +1,19 @@
 -- A name and a system name are computed exactly where the grammar has them.
-use Rattle.std.proofs.Common.{◌≡◌, ℕ, ◌<◌, Bool, true, false, cond, eqb, leb, ◌&&◌, List, [], ◌∷◌, ◌++◌, Option, Some, None, length, drop, refl, sym, ap, ◌∙◌, ◌⊎◌, inl, inr}
-use Rattle.std.specs.Prelude.{codes, slice_index}
-use Rattle.std.specs.List.{list_all, take_while}
-use Rattle.std.proofs.lemmas.Bool.{and_parts, and_from, eqb-true, leb-false, lt-leb, both_ways}
+use Rattle.std.proofs.Common.{◌≡◌, ℕ, ◌<◌, Bool, true, false, cond, eqb, leb, ◌&&◌, List, [], ◌∷◌, ◌++◌, Option, Some, None, length, drop, refl, sym, ap, ◌∙◌}
+use Rattle.std.specs.Prelude.{find}
+use Rattle.std.specs.List.{list_all, starts_with, take_while}
+use Rattle.std.proofs.lemmas.Bool.{and_from, leb-false, lt-leb, both_ways}
 use Rattle.std.proofs.lemmas.List.Sums.{take_while-cons}
-use Rattle.apl_arrays.specs.Glyph as named
-use Rattle.apl_arrays.specs.Glyph.{is_letter, is_digit}
+use Rattle.apl_arrays.specs.Glyph.{is_letter}
 use Rattle.apl_arrays.specs.Name.{goes_on, is_name}
 use Rattle.apl_arrays.proofs.Names.{letter_goes_on}
-use Rattle.line_scanner.specs.declared.token.SystemName.{SystemName}
-use Rattle.line_scanner.specs.declared.token.SystemName.TheVariants.{Svo, Svc, Svr, Svq, Svs}
-use Rattle.line_scanner.specs.Scanning.{shared_variable_name, system_name}
+use Rattle.apl_arrays.specs.declared.system.SystemName.{SystemName}
+use Rattle.apl_arrays.specs.declared.system.SystemName.TheVariants.{Svo, Svc, Svr, Svq, Svs}
+use Rattle.line_scanner.specs.Scanning.{system_name}
 use Rattle.std.proofs.lemmas.Option.{same_Some, none-some}
-use Rattle.line_scanner.specs.Grammar.{system_text}
+use Rattle.apl_arrays.specs.System.{system_names, system_text}
+use Rattle.std.proofs.lemmas.Bool.Decides.{Decides-eqb}
+use Rattle.std.proofs.lemmas.Slice.Eq.{starts_is}
 
 -- ---- names
 
@@ -39,83 +40,35 @@ too_long first others long = long_by (is_letter first) (leb (length others) 31) 
 
 -- ---- system names
 
-abbrev pub letter_s : ℕ
-letter_s = slice_index (codes "S") 0
+found_by : (test : SystemName → Bool) (name which : SystemName) (others : Option SystemName) (b : Bool) → test name ≡ b → (others ≡ Some which → test which ≡ true) → cond b (Some name) others ≡ Some which → test which ≡ true
+found_by test name which others true passes later e = ap test (sym (same_Some name which e)) ∙ passes
+found_by test name which others false fails later e = later e
 
-abbrev pub letter_v : ℕ
-letter_v = slice_index (codes "V") 0
-
--- the last glyph of a system name
-abbrev pub last_glyph : SystemName → ℕ
-last_glyph Svo = slice_index (codes "O") 0
-last_glyph Svc = slice_index (codes "C") 0
-last_glyph Svr = slice_index (codes "R") 0
-last_glyph Svq = slice_index (codes "Q") 0
-last_glyph Svs = slice_index (codes "S") 0
-
-pub system_text_is : (which : SystemName) → named.quad ∷ letter_s ∷ letter_v ∷ last_glyph which ∷ [] ≡ system_text which
-system_text_is Svo = refl
-system_text_is Svc = refl
-system_text_is Svr = refl
-system_text_is Svq = refl
-system_text_is Svs = refl
-
-pick : (b : Bool) (this which : SystemName) (others : Option SystemName) → cond b (Some this) others ≡ Some which → ((b ≡ true) × (this ≡ which)) ⊎ (others ≡ Some which)
-pick true this which others e = inl (refl, same_Some this which e)
-pick false this which others e = inr e
-
-is_last : (glyph code : ℕ) (this which : SystemName) → (eqb glyph code ≡ true) × (this ≡ which) → last_glyph this ≡ code → glyph ≡ last_glyph which
-is_last glyph code this which p e = eqb-true glyph code p.0 ∙ sym e ∙ ap last_glyph p.1
-
-last_by : (glyph : ℕ) (which : SystemName) → shared_variable_name glyph ≡ Some which → glyph ≡ last_glyph which
-last_by glyph which e =
-    elim (pick (eqb glyph (last_glyph Svo)) Svo which _ e) [
-      | inl p ↦ is_last glyph (last_glyph Svo) Svo which p refl
-      | inr e ↦ elim (pick (eqb glyph (last_glyph Svc)) Svc which _ e) [
-        | inl p ↦ is_last glyph (last_glyph Svc) Svc which p refl
-        | inr e ↦ elim (pick (eqb glyph (last_glyph Svr)) Svr which _ e) [
-          | inl p ↦ is_last glyph (last_glyph Svr) Svr which p refl
-          | inr e ↦ elim (pick (eqb glyph (last_glyph Svq)) Svq which _ e) [
-            | inl p ↦ is_last glyph (last_glyph Svq) Svq which p refl
-            | inr e ↦ elim (pick (eqb glyph (last_glyph Svs)) Svs which _ e) [
-              | inl p ↦ is_last glyph (last_glyph Svs) Svs which p refl
-              | inr e ↦ absurd (none-some which e)
-            ]
-          ]
-        ]
-      ]
-    ]
-
-system_by : (first second third : ℕ) (rest : List ℕ) (which : SystemName) (both : Bool) → (eqb first letter_s && eqb second letter_v) ≡ both → cond both (shared_variable_name third) None ≡ Some which
-    → named.quad ∷ first ∷ second ∷ third ∷ rest ≡ system_text which ++ rest
-system_by first second third rest which false is e = absurd (none-some which e)
-system_by first second third rest which true is e =
-    let p = and_parts (eqb first letter_s) (eqb second letter_v) is in
-    ap (λ (g : ℕ). named.quad ∷ g ∷ second ∷ third ∷ rest) (eqb-true first letter_s p.0) ∙ ap (λ (g : ℕ). named.quad ∷ letter_s ∷ g ∷ third ∷ rest) (eqb-true second letter_v p.1) ∙ ap (λ (g : ℕ). named.quad ∷ letter_s ∷ letter_v ∷ g ∷ rest) (last_by third which e)
-    ∙ ap (λ (xs : List ℕ). xs ++ rest) (system_text_is which)
+found_passes : (test : SystemName → Bool) (names : List SystemName) (which : SystemName) → find test names ≡ Some which → test which ≡ true
+found_passes test [] which e = absurd (none-some which e)
+found_passes test (name ∷ names) which e = found_by test name which (find test names) (test name) refl (found_passes test names which) e
 
 -- what is computed is a system name
-pub system_sound : (rest : List ℕ) (which : SystemName) → system_name rest ≡ Some which → (more : List ℕ) × (named.quad ∷ rest ≡ system_text which ++ more)
-system_sound [] which e = absurd (none-some which e)
-system_sound (first ∷ []) which e = absurd (none-some which e)
-system_sound (first ∷ second ∷ []) which e = absurd (none-some which e)
-system_sound (first ∷ second ∷ third ∷ more) which e = (more, system_by first second third more which (eqb first letter_s && eqb second letter_v) refl e)
+pub system_sound : (line : List ℕ) (which : SystemName) → system_name line ≡ Some which → (more : List ℕ) × (line ≡ system_text which ++ more)
+system_sound line which e =
+    let starts : SystemName → Bool = λ name. starts_with eqb line (system_text name) in
+    (drop (length (system_text which)) line, (starts_is Decides-eqb line (system_text which) (starts which) refl).0 (found_passes starts system_names which e))
 
 -- and each system name is computed
-pub system_complete : (which : SystemName) (more : List ℕ) → system_name (drop 1 (system_text which ++ more)) ≡ Some which
+pub system_complete : (which : SystemName) (more : List ℕ) → system_name (system_text which ++ more) ≡ Some which
 system_complete Svo more = refl
 system_complete Svc more = refl
 system_complete Svr more = refl
 system_complete Svq more = refl
 system_complete Svs more = refl
 
-pub system_none : (rest : List ℕ) → system_name rest ≡ None → (which : SystemName) (others : List ℕ) → named.quad ∷ rest ≡ system_text which ++ others → ⊥
-system_none rest e which others same = none-some which (sym e ∙ ap (λ (xs : List ℕ). system_name (drop 1 xs)) same ∙ system_complete which others)
+pub system_none : (line : List ℕ) → system_name line ≡ None → (which : SystemName) (others : List ℕ) → line ≡ system_text which ++ others → ⊥
+system_none line e which others same = none-some which (sym e ∙ ap system_name same ∙ system_complete which others)
 
-absent_by : (rest : List ℕ) (found : Option SystemName) → system_name rest ≡ found → ((which : SystemName) (others : List ℕ) → named.quad ∷ rest ≡ system_text which ++ others → ⊥) → found ≡ None
-absent_by rest None e absent = refl
-absent_by rest (Some which) e absent = let h = system_sound rest which e in absurd (absent which h.0 h.1)
+absent_by : (line : List ℕ) (found : Option SystemName) → system_name line ≡ found → ((which : SystemName) (others : List ℕ) → line ≡ system_text which ++ others → ⊥) → found ≡ None
+absent_by line None e absent = refl
+absent_by line (Some which) e absent = let h = system_sound line which e in absurd (absent which h.0 h.1)
 
 -- where the grammar has no system name none is computed
-pub no_system : (rest : List ℕ) → ((which : SystemName) (others : List ℕ) → named.quad ∷ rest ≡ system_text which ++ others → ⊥) → system_name rest ≡ None
-no_system rest absent = absent_by rest (system_name rest) refl absent
+pub no_system : (line : List ℕ) → ((which : SystemName) (others : List ℕ) → line ≡ system_text which ++ others → ⊥) → system_name line ≡ None
+no_system line absent = absent_by line (system_name line) refl absent

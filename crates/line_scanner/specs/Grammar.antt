@@ -1,5 +1,5 @@
 -- The grammar of a line: which glyphs make which token, and what is an error.
-use Rattle.std.specs.Prelude.{◌≡◌, ◌<◌, ◌≤◌, ◌+◌, ◌-◌, ◌++◌, ◌∷◌, [], ℕ, ℤ, Bool, true, false, List, Ok, Err, IsTrue, FitsSigned, length, slice_range, codes, if◌then◌else◌}
+use Rattle.std.specs.Prelude.{◌≡◌, ◌<◌, ◌≤◌, ◌+◌, ◌-◌, ◌++◌, ◌∷◌, [], ℕ, ℤ, Bool, true, false, List, Ok, Err, IsTrue, FitsSigned, length, slice_range, if◌then◌else◌}
 use Rattle.std.specs.Int.{w64}
 use Rattle.std.specs.List.{list_all, flat_map}
 use Rattle.std.specs.Str.Parse.{digits_value}
@@ -8,9 +8,9 @@ use Rattle.apl_arrays.specs.Glyph.{is_blank, is_digit, is_letter}
 use Rattle.apl_arrays.specs.Limits.{most_name_glyphs}
 use Rattle.apl_arrays.specs.Name.{IsName, goes_on}
 use Rattle.apl_arrays.specs.Run.{begins}
+use Rattle.apl_arrays.specs.System.{system_text}
 use Rattle.line_scanner.specs.declared.role.Role.TheVariants.{Sign, Unused}
-use Rattle.line_scanner.specs.declared.token.SystemName.{SystemName}
-use Rattle.line_scanner.specs.declared.token.SystemName.TheVariants.{Svo, Svc, Svr, Svq, Svs}
+use Rattle.apl_arrays.specs.declared.system.SystemName.{SystemName}
 use Rattle.line_scanner.specs.Token.{PlainKind, numbers, chars, name, system, sign, PlainToken}
 use Rattle.line_scanner.specs.Role.{role_of, is_quote}
 use Rattle.line_scanner.specs.Number.{signed}
@@ -71,14 +71,6 @@ doubled char = if is_quote char then char ∷ char ∷ [] else char ∷ []
 -- a constant of characters
 abbrev pub quoted : List ℕ → List ℕ
 quoted list = named.quote ∷ flat_map doubled list ++ named.quote ∷ []
-
--- a system name
-abbrev pub system_text : SystemName → List ℕ
-system_text Svo = named.quad ∷ codes "SVO"
-system_text Svc = named.quad ∷ codes "SVC"
-system_text Svr = named.quad ∷ codes "SVR"
-system_text Svq = named.quad ∷ codes "SVQ"
-system_text Svs = named.quad ∷ codes "SVS"
 
 -- these glyphs are this token
 abbrev pub IsText : PlainKind → List ℕ → Type 0

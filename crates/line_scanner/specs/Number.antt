@@ -1,8 +1,9 @@
 -- Numbers at the front of a line, computed.
-use Rattle.std.specs.Prelude.{◌+◌, ◌-◌, ◌^◌, ◌==◌, ℕ, zero, suc, ℤ, pos, negsuc, neg_ℤ, Bool, true, false, List, [], ◌∷◌, Option, Some, None, length, drop, take_while, nat_lt, if◌then◌else◌}
+use Rattle.std.specs.Prelude.{◌+◌, ◌-◌, ◌==◌, ℕ, zero, suc, ℤ, pos, neg_ℤ, Bool, true, false, List, [], ◌∷◌, Option, Some, None, length, drop, take_while, if◌then◌else◌}
 use Rattle.std.specs.List.{prefix_len}
 use Rattle.std.specs.Str.Parse.{digits_value}
 use Rattle.apl_arrays.specs.Glyph.{is_blank, is_digit}
+use Rattle.apl_arrays.specs.Number.{fits}
 use Rattle.line_scanner.specs.Role.{is_overbar}
 
 -- a magnitude with its sign
@@ -10,14 +11,9 @@ abbrev pub signed : Bool → ℕ → ℤ
 signed true magnitude = neg_ℤ (pos magnitude)
 signed false magnitude = pos magnitude
 
--- whether a number fits 64 bits
-abbrev pub fits_64 : ℤ → Bool
-fits_64 (pos n) = nat_lt n (2 ^ 63)
-fits_64 (negsuc n) = nat_lt n (2 ^ 63)
-
 -- the number, where it fits 64 bits
 abbrev pub in_64 : ℤ → Option ℤ
-in_64 n = if fits_64 n then Some n else None
+in_64 n = if fits n then Some n else None
 
 -- what was found, and so many glyphs before it
 abbrev pub behind : {A : Type 0} → ℕ → Option (A × ℕ) → Option (A × ℕ)

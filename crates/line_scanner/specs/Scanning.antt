@@ -1,12 +1,13 @@
 -- The tokens of a line, or its first error, computed.
-use Rattle.std.specs.Prelude.{◌≡◌, ◌+◌, ◌-◌, ◌==◌, ◌&&◌, ℕ, zero, suc, ℤ, Bool, true, false, List, [], ◌∷◌, Option, Some, None, Result, Ok, Err, slice_index, codes, if◌then◌else◌}
+use Rattle.std.specs.Prelude.{◌≡◌, ◌+◌, ◌-◌, ◌==◌, ℕ, zero, suc, ℤ, Bool, true, false, List, [], ◌∷◌, Option, Some, None, Result, Ok, Err, find, if◌then◌else◌}
+use Rattle.std.specs.List.{starts_with}
 use Rattle.apl_arrays.specs.Name.{longest_name}
+use Rattle.apl_arrays.specs.System.{system_names, system_text}
 use Rattle.line_scanner.specs.declared.role.Role.{Role}
 use Rattle.line_scanner.specs.declared.role.Role.TheVariants.{Blank, Letter, Digit, Overbar, Quote, Quad, Lamp, Sign, Unused}
 use Rattle.line_scanner.specs.declared.refused.ScanRefused.{ScanRefused}
 use Rattle.line_scanner.specs.declared.refused.ScanRefused.TheVariants.{CharacterError, SyntaxError, WantOfMemory}
-use Rattle.line_scanner.specs.declared.token.SystemName.{SystemName}
-use Rattle.line_scanner.specs.declared.token.SystemName.TheVariants.{Svo, Svc, Svr, Svq, Svs}
+use Rattle.apl_arrays.specs.declared.system.SystemName.{SystemName}
 use Rattle.line_scanner.specs.Token.{PlainKind, numbers, chars, name, system, sign, PlainToken}
 use Rattle.line_scanner.specs.Role.{role_of, is_quote}
 use Rattle.line_scanner.specs.Number.{behind, constant}
@@ -41,26 +42,9 @@ unfoldable pub chars_from : Bool → List ℕ → Option (List ℕ × ℕ)
 chars_from closing [] = if closing then Some ([], 0) else None
 chars_from closing (glyph ∷ rest) = chars_by closing (is_quote glyph) glyph (λ next. chars_from next rest)
 
--- the glyph is the one of this text
-abbrev pub is_letter_of : List ℕ → ℕ → Bool
-is_letter_of text glyph = glyph == slice_index text 0
-
--- the system name that ⎕SV and this glyph make
-abbrev pub shared_variable_name : ℕ → Option SystemName
-shared_variable_name glyph =
-    if is_letter_of (codes "O") glyph then Some Svo
-    else if is_letter_of (codes "C") glyph then Some Svc
-    else if is_letter_of (codes "R") glyph then Some Svr
-    else if is_letter_of (codes "Q") glyph then Some Svq
-    else if is_letter_of (codes "S") glyph then Some Svs
-    else None
-
--- the system name behind ⎕
+-- the system name at the front
 abbrev pub system_name : List ℕ → Option SystemName
-system_name [] = None
-system_name (first ∷ []) = None
-system_name (first ∷ second ∷ []) = None
-system_name (first ∷ second ∷ third ∷ rest) = if is_letter_of (codes "S") first && is_letter_of (codes "V") second then shared_variable_name third else None
+system_name line = find (λ which. starts_with ◌==◌ line (system_text which)) system_names
 
 -- a name, where there is one
 abbrev pub name_front : Option (List ℕ × ℕ) → PlainFront
@@ -89,7 +73,7 @@ front_by Letter first rest = name_front (longest_name (first ∷ rest))
 front_by Digit first rest = constant_front (constant (first ∷ rest))
 front_by Overbar first rest = constant_front (constant (first ∷ rest))
 front_by Quote first rest = chars_front (behind 1 (chars_from false rest))
-front_by Quad first rest = system_front (system_name rest)
+front_by Quad first rest = system_front (system_name (first ∷ rest))
 front_by Lamp first rest = nothing
 front_by Sign first rest = token (sign first) 1
 front_by Unused first rest = unused

@@ -1,7 +1,7 @@
 -- Tokens as plain data.
 use Rattle.std.specs.Prelude.{ℕ, ℤ, List, Option, Some, None}
 use Rattle.apl_arrays.specs.List.{Listed}
-use Rattle.line_scanner.specs.declared.token.SystemName.{SystemName}
+use Rattle.apl_arrays.specs.declared.system.SystemName.{SystemName}
 use Rattle.line_scanner.specs.declared.token.TokenKind.{TokenKind}
 use Rattle.line_scanner.specs.declared.token.TokenKind.TheVariants.{Numbers, Chars, Name, System, Sign}
 use Rattle.line_scanner.specs.declared.token.Token.{Token}

@@ -2,14 +2,14 @@ ghost use Rattle.std.specs.Prelude.{◌≡◌, ◌≤◌, false, IfOk, length};
 ghost use Rattle.apl_arrays.specs.Name.{longest_name};
 ghost use Rattle.line_scanner.specs.Number.{constant, behind};
 ghost use Rattle.line_scanner.specs.Front.{plain_front, FitsIn};
-ghost use Rattle.line_scanner.specs.Scanning.{front_of, name_front, constant_front, chars_front, chars_from, system_name, shared_variable_name};
+ghost use Rattle.line_scanner.specs.Scanning.{front_of, name_front, constant_front, chars_front, chars_from, system_name};
 
+use crate::TokenKind;
 use crate::constant::numbers_from;
 use crate::number::number;
 use crate::quoted::chars_until_quote;
 use crate::role::{Role, role_of};
-use crate::{SystemName, TokenKind};
-use apl_arrays::{Glyph, Name, WantOfMemory};
+use apl_arrays::{Glyph, Name, SystemName, WantOfMemory};
 use std::alloc::Global;
 
 /// What stands at the front of some glyphs.
@@ -59,30 +59,14 @@ fn chars_front(alloc: Global, glyphs: &[Glyph]) -> Result<Front, WantOfMemory>
     }
 }
 
-/// The system name that `⎕SV` and this glyph make.
-fn shared_variable_name(glyph: Glyph) -> Option<SystemName>
-    ensures { result ≡ shared_variable_name glyph }
-{
-    match glyph.code() {
-        b'O' => Some(SystemName::Svo),
-        b'C' => Some(SystemName::Svc),
-        b'R' => Some(SystemName::Svr),
-        b'Q' => Some(SystemName::Svq),
-        b'S' => Some(SystemName::Svs),
-        _ => None,
-    }
-}
-
-/// The system name whose `⎕` stands before these glyphs.
+/// The system name at the front.
 fn system_name(glyphs: &[Glyph]) -> Option<SystemName>
     ensures { result ≡ system_name glyphs.now }
 {
-    match glyphs {
-        [first, second, third, ..] if first.code() == b'S' && second.code() == b'V' => {
-            shared_variable_name(*third)
-        }
-        _ => None,
-    }
+    SystemName::ALL
+        .iter()
+        .find(|name| glyphs.starts_with(&name.glyphs()))
+        .copied()
 }
 
 /// What stands at the front.
@@ -99,7 +83,7 @@ pub fn front_of(alloc: Global, glyphs: &[Glyph]) -> Result<Front, WantOfMemory>
         Role::Letter => Ok(name_front(glyphs)),
         Role::Digit | Role::Overbar => constant_front(alloc, glyphs),
         Role::Quote => chars_front(alloc, rest),
-        Role::Quad => Ok(match system_name(rest) {
+        Role::Quad => Ok(match system_name(glyphs) {
             None => Front::Malformed,
             Some(name) => Front::Token(TokenKind::System(name), 4),
         }),

@@ -7,8 +7,8 @@ ghost use Rattle.line_scanner.specs.Token.{numbers, chars, name, system, sign};
 ghost use Rattle.line_scanner.specs.Scanning.{Scanned, scan_of, character_at, syntax_at};
 ghost use Rattle.line_scanner.specs.Grammar.{IsReading};
 
-use crate::SystemName;
 use crate::role::Role;
+use apl_arrays::SystemName;
 
 /// A line has no two lists of tokens, nor tokens and an error, nor two errors. The call does nothing.
 #[tactic(auto, using(crate::proofs::ScanLaw::one_reading))]

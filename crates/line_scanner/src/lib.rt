@@ -14,7 +14,7 @@ mod token_list;
 
 pub use refused::ScanRefused;
 pub use scanning::scan;
-pub use token::{SystemName, Token, TokenKind, Tokens};
+pub use token::{Token, TokenKind, Tokens};
 pub use token_list::TokenList;
 
 #[cfg(test)]

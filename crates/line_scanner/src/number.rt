@@ -1,24 +1,16 @@
 ghost use Rattle.std.specs.Prelude.{◌≡◌, ◌+◌, ◌*◌, ◌<◌, ◌≤◌, ◌^◌, All, IsTrue, IfSome, SomeIff, length, take_while};
-ghost use Rattle.std.specs.List.{prefix_len};
 ghost use Rattle.std.specs.Char.{digit_value};
 ghost use Rattle.std.specs.Str.Parse.{digits_value};
 ghost use Rattle.apl_arrays.specs.Glyph.{is_digit};
 ghost use Rattle.line_scanner.specs.Role.{is_overbar};
 ghost use Rattle.line_scanner.specs.Number.{signed, in_64, number_of, number, next_number};
 
-use apl_arrays::{Glyph, blank_count};
+use apl_arrays::{Glyph, blank_count, digit_count};
 
 fn is_overbar(glyph: Glyph) -> bool
     ensures { result ≡ is_overbar glyph }
 {
     glyph == Glyph::OVERBAR
-}
-
-/// How many digits stand at the front.
-fn digit_count(glyphs: &[Glyph]) -> usize
-    ensures { result ≡ prefix_len is_digit glyphs.now }
-{
-    glyphs.iter().take_while(|glyph| glyph.is_digit()).count()
 }
 
 /// The number with a digit more, or `None` where it passes 64 bits.
@@ -88,7 +80,7 @@ pub fn number(glyphs: &[Glyph]) -> Option<(i64, usize)>
 }
 
 /// The number that comes next behind blanks, and how many glyphs these and it take.
-#[tactic(auto, using(crate::proofs::Digits::front_fits), unfolding(crate::specs::Number::next_number))]
+#[tactic(auto, using(apl_arrays::proofs::Runs::run_fits), unfolding(crate::specs::Number::next_number))]
 pub fn next_number(glyphs: &[Glyph]) -> Option<(i64, usize)>
     ensures value { result ≡ next_number glyphs.now }
     ensures within { IfSome result (λ found. (0 < found.1) × (found.1 ≤ length glyphs.now)) }

@@ -2,7 +2,7 @@
 //! above.
 
 use super::*;
-use apl_arrays::{Glyph, Line, WantOfMemory, glyphs_of};
+use apl_arrays::{Glyph, Line, SystemName, WantOfMemory, glyphs_of};
 use std::alloc::Global;
 use std::process::Abort;
 

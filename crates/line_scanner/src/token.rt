@@ -1,15 +1,5 @@
 use crate::TokenList;
-use apl_arrays::{Glyph, Line, Name, NumberList};
-
-/// The name of a system function.
-#[derive(Clone, Copy, Debug, PartialEq, Eq, Hash)]
-pub enum SystemName {
-    Svo,
-    Svc,
-    Svr,
-    Svq,
-    Svs,
-}
+use apl_arrays::{Glyph, Line, Name, NumberList, SystemName};
 
 /// What a token is: a constant of numbers or of characters, a name, a system name, or a sign.
 #[derive(Debug, Drop)]

@@ -1,6 +1,6 @@
 use Rattle.std.proofs.Common.{ap, w64, ◌∙◌, arith, rules}
 use Rattle.std.proofs.lemmas.Int.{to_z-of_z}
-use Rattle.apl_selection.specs.Flags.{is_one}
+use Rattle.apl_arrays.specs.Number.{is_one}
 use Rattle.apl_selection.proofs.CompressLemmas.{kept_no, kept_yes}
 use Rattle.apl_selection.proofs.compression.kept.Goals as goal
 use Rattle.apl_selection.proofs.compression.kept.Goals.{then-is_one, else-is_one}

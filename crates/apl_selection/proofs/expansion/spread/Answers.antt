@@ -1,6 +1,6 @@
 use Rattle.std.proofs.Common.{ℕ, ◌+◌, None, pos, get_or, ap, w64, ◌∙◌, arith, rules}
 use Rattle.std.proofs.lemmas.Int.{to_z-of_z}
-use Rattle.apl_selection.specs.Flags.{is_one}
+use Rattle.apl_arrays.specs.Number.{is_one}
 use Rattle.apl_selection.proofs.ExpandLemmas.{entry_no, entry_yes, ones_no, ones_yes, spread_more}
 use Rattle.apl_selection.proofs.expansion.spread.Goals as goal
 use Rattle.apl_selection.proofs.expansion.spread.Goals.{then-is_one, else-is_one}

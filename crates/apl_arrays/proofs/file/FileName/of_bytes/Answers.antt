@@ -5,4 +5,4 @@ use Rattle.apl_arrays.proofs.file.FileName.of_bytes.Goals as goal
 
 pub invariant_of-result : goal.invariant_of-result
 invariant_of-result c =
-    rw c.copy_from_slice.ensures.after (filled 0 c.args.text.now (c.is_file_name.ensures.short c.if-not-is_file_name.false), rw take-append_seam (sym c.is_file_name.ensures.value ∙ c.if-not-is_file_name.false))
+    rw c.copy_from_slice.ensures.after (filled 32 0 c.args.text.now (c.is_file_name.ensures.short c.if-not-is_file_name.false), rw take-append_seam (sym c.is_file_name.ensures.value ∙ c.if-not-is_file_name.false))
