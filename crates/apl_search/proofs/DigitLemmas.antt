@@ -16,7 +16,8 @@ use Rattle.apl_items.specs.Places.{items_by, lacks_item, places}
 use Rattle.apl_items.proofs.PlaceLemmas.{made}
 use Rattle.apl_items.proofs.RefusalLemmas.{list_any-places}
 use Rattle.apl_scalar.specs.Counting.{floor_by, floor_quotient, residue}
-use Rattle.apl_scalar.specs.Table.{fits, item_where, least}
+use Rattle.apl_arrays.specs.Number.{fits}
+use Rattle.apl_scalar.specs.Table.{item_where, least}
 use Rattle.apl_scalar.proofs.Quotients.{residue_from_0, residue_below, residue_to_0, residue_above}
 use Rattle.apl_search.specs.Encode.{AreBefore, AreFrom, AreSmall, digit_at, digit_for, rest_by, rest_by_all}
 

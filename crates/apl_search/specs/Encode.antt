@@ -6,7 +6,8 @@ use Rattle.apl_arrays.specs.Shape.{shape_fault}
 use Rattle.apl_items.specs.Answers.{Answer, Faults, no_faults, answer_of}
 use Rattle.apl_items.specs.Places.{lacks_item, numbers_by}
 use Rattle.apl_scalar.specs.Counting.{floor_quotient, residue}
-use Rattle.apl_scalar.specs.Table.{fits, item_where}
+use Rattle.apl_arrays.specs.Number.{fits}
+use Rattle.apl_scalar.specs.Table.{item_where}
 
 -- ---- digits
 

@@ -1,4 +1,4 @@
-use Rattle.std.specs.Prelude.{◌≡◌, ◌*◌, ◌<◌, ◌≤◌, ◌^◌, ℕ, pos, List, [], ◌∷◌, All, Ok, fold, length, map}
+use Rattle.std.specs.Prelude.{◌≡◌, ◌<◌, ◌≤◌, ◌^◌, ℕ, pos, List, [], ◌∷◌, All, Ok, length, map}
 use Rattle.apl_arrays.specs.Array.{PlainArray, number_array}
 use Rattle.apl_search.specs.Decode.{decode_of}
 use Rattle.apl_search.specs.Encode.{encode_of}
@@ -7,10 +7,6 @@ use Rattle.apl_search.specs.Encode.{encode_of}
 pub record AreBases (bases : List ℕ) : Type 0 where
   pub few : length bases ≤ 16384
   pub each : All (λ base. (0 < base) × (base < 2 ^ 63)) bases
-
--- the product of bases
-abbrev pub base_product : List ℕ → ℕ
-base_product bases = fold ◌*◌ 1 bases
 
 -- the vector of bases
 abbrev pub vector_of : List ℕ → PlainArray

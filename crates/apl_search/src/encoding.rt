@@ -2,7 +2,8 @@ ghost use Rattle.std.specs.Prelude.{◌≡◌, ◌≢◌, ◌*ℤ◌, ◌+◌, �
 ghost use Rattle.apl_items.specs.Answers.{Answers, first_report};
 ghost use Rattle.apl_items.specs.Places.{items_by, lacks_item};
 ghost use Rattle.apl_scalar.specs.Counting.{floor_quotient, residue};
-ghost use Rattle.apl_scalar.specs.Table.{fits, item_where, least};
+ghost use Rattle.apl_arrays.specs.Number.{fits};
+ghost use Rattle.apl_scalar.specs.Table.{item_where, least};
 ghost use Rattle.apl_search.specs.Encode.{AreBefore, AreSmall, digit_at, digit_for, digits_of, encode_faults, encode_of, encode_misfit, rest_by, rest_by_all};
 
 use crate::numbers::small;

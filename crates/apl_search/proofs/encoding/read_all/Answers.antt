@@ -2,7 +2,7 @@ use mir.Syntax.{w64}
 use Rattle.std.proofs.Common.{◌≡◌, ◌+◌, ◌<◌, ◌≤◌, ℕ, ℤ, pos, Bool, true, false, List, length, nat_lt, get_or, FitsSigned, refl, sym, ap, subst, ◌∙◌, arith}
 use Rattle.std.proofs.lemmas.Bool.Decides.{nat_tests}
 use Rattle.std.proofs.lemmas.List.{get_or_default}
-use Rattle.apl_scalar.specs.Table.{fits}
+use Rattle.apl_arrays.specs.Number.{fits}
 use Rattle.apl_search.proofs.DigitLemmas.{fits_signed}
 use Rattle.apl_search.proofs.encoding.read_all.Goals as goal
 

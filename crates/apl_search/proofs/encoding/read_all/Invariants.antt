@@ -1,5 +1,5 @@
 use Rattle.std.proofs.Common.{◌≡◌, ◌<◌, ℕ, ℤ, true, get_or}
-use Rattle.apl_scalar.specs.Table.{fits}
+use Rattle.apl_arrays.specs.Number.{fits}
 use Rattle.apl_search.proofs.encoding.read_all.Given as goal
 
 -- each number so far is in 64 bits
