@@ -21,7 +21,8 @@ use Rattle.apl_items.specs.Shapes.{along_of, inner_of, outer_of, split_at, strid
 use Rattle.apl_items.proofs.ShapeLemmas.{place_along_parts, split_count_lem}
 use Rattle.apl_selection.specs.Compression.{compress_faults, compress_of, flagged_length, flags_meet, kept, kept_of}
 use Rattle.apl_selection.specs.Expansion.{expand_faults, expand_of, ones, spread, spread_at}
-use Rattle.apl_selection.specs.Flags.{is_no_flag, is_one, lacks_flags}
+use Rattle.apl_arrays.specs.Number.{is_one}
+use Rattle.apl_selection.specs.Flags.{is_no_flag, lacks_flags}
 use Rattle.apl_selection.specs.Listing.{listed, listed_shape, meant_axis, meant_length, vector_shape}
 use Rattle.apl_selection.specs.Vectors.{as_vector}
 use Rattle.apl_selection.proofs.BackLemmas.{LeadsBack, back_along, back_items, items_stay, parts_within, split_of}
