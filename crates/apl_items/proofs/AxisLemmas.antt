@@ -1,5 +1,5 @@
 -- Items made row by row are the items made place by place.
-use Rattle.std.proofs.Common.{◌≡◌, ℕ, zero, suc, ◌+◌, ◌*◌, ◌<◌, ◌≤◌, List, ◌∷◌, ◌++◌, map, Option, Some, None, refl, sym, ap, subst, append_assoc, get_or, IfSome, ◌∙◌, arith}
+use Rattle.std.proofs.Common.{◌≡◌, ℕ, zero, suc, ◌+◌, ◌*◌, ◌/◌, ◌<◌, ◌≤◌, List, [], ◌∷◌, ◌++◌, length, map, Option, Some, None, refl, sym, ap, subst, append_assoc, get_or, IfSome, ◌∙◌, arith}
 use Rattle.std.proofs.lemmas.Nat.{mul-add-lt, div-mul-add, mod-mul-add, row_fits}
 use Rattle.std.proofs.Math.Nat.{mul_comm}
 use Rattle.std.specs.List.{range_with_len}
@@ -124,3 +124,43 @@ first_no_longer shape first rest axis along lengths e lower below =
     let same : axis + 0 ≡ axis = omega arith in
     let at : first ≤ lengths axis = subst (λ (n : ℕ). first ≤ lengths n) same here in
     omega arith
+
+-- ---- the last axis
+
+nothing_added : (a : Option ℕ) → added a (Some 0) ≡ a
+nothing_added None = refl
+nothing_added (Some a) = let e : a + 0 ≡ a = omega arith in ap (λ (n : ℕ). Some n) e
+
+no_axes_left : (rest : List ℕ) → length rest ≡ 0 → rest ≡ []
+no_axes_left [] e = refl
+no_axes_left (first ∷ rest) e = absurd (omega arith)
+
+-- a shape of one axis has as many elements as that is long
+pub last_count : (shape : List ℕ) (first : ℕ) (rest : List ℕ) → shape ≡ first ∷ rest → length rest ≡ 0 → element_count shape ≡ first
+last_count shape first rest e none =
+    let one : 1 * first ≡ first = omega arith in
+    ap element_count (e ∙ ap (λ (xs : List ℕ). first ∷ xs) (no_axes_left rest none)) ∙ one
+
+-- and its source places are those of that axis
+last_source : (offset : ℕ → ℕ → Option ℕ) (axis : ℕ) (base : Option ℕ) (shape : List ℕ) (first : ℕ) (rest : List ℕ) (place : ℕ) → shape ≡ first ∷ rest → length rest ≡ 0
+    → added base (offset_at offset axis (coordinates_of shape place)) ≡ added base (offset axis place)
+last_source offset axis base shape first rest place e none =
+    let one : place / 1 ≡ place = omega arith in
+    ap (λ (xs : List ℕ). added base (offset_at offset axis (coordinates_of xs place))) (e ∙ ap (λ (xs : List ℕ). first ∷ xs) (no_axes_left rest none))
+    ∙ ap (added base) (nothing_added (offset axis (place / 1)) ∙ ap (offset axis) one)
+
+pub last_within : (offset : ℕ → ℕ → Option ℕ) (axis : ℕ) (base : Option ℕ) (shape : List ℕ) (first : ℕ) (rest : List ℕ) (size : ℕ) → shape ≡ first ∷ rest → length rest ≡ 0
+    → IsWithin (λ place. added base (offset_at offset axis (coordinates_of shape place))) (element_count shape) size
+    → IsWithin (λ along. added base (offset axis along)) first size
+last_within offset axis base shape first rest size e none within along from below at =
+    let count = last_count shape first rest e none in
+    within along from (omega arith) (last_source offset axis base shape first rest along e none ∙ at)
+
+pub items_of_last : {T : Type 0} (fill : T) (list : List T) (offset : ℕ → ℕ → Option ℕ) (axis : ℕ) (base : Option ℕ) (shape : List ℕ) (first : ℕ) (rest : List ℕ) (before made : List T)
+    → shape ≡ first ∷ rest → length rest ≡ 0 → made ≡ before ++ moved_list fill list first (λ along. added base (offset axis along))
+    → made ≡ before ++ moved_list fill list (element_count shape) (λ place. added base (offset_at offset axis (coordinates_of shape place)))
+items_of_last {T} fill list offset axis base shape first rest before made e none is =
+    let source : ℕ → Option ℕ = λ place. added base (offset_at offset axis (coordinates_of shape place)) in
+    let same = map_range-same (λ (along : ℕ). item_or fill list (added base (offset axis along))) (λ (place : ℕ). item_or fill list (source place)) 0 0 first
+    (λ k h. ap (item_or fill list) (sym (last_source offset axis base shape first rest (0 + k) e none))) in
+    is ∙ ap (λ (xs : List T). before ++ xs) same ∙ ap (λ (n : ℕ). before ++ moved_list fill list n source) (sym (last_count shape first rest e none))

@@ -3,4 +3,5 @@ pub mod AxisLemmas
 pub mod MoveLemmas
 pub mod PlaceLemmas
 pub mod RefusalLemmas
+pub mod RowLemmas
 pub mod ShapeLemmas

@@ -1,4 +1,4 @@
-use Rattle.std.specs.Prelude.{◌≡◌, ◌<◌, ⊤, ℕ, ℤ, Bool, List, Option, None, Result, Ok, Err, length, slice_get, is_none}
+use Rattle.std.specs.Prelude.{◌≡◌, ◌/◌, ◌%◌, ◌<◌, ⊤, ℕ, ℤ, Bool, List, Option, Some, None, Result, Ok, Err, length, slice_get, is_none}
 use Rattle.std.specs.List.{range_with_len, list_any, filter_map}
 use Rattle.apl_arrays.specs.declared.report.Fail.{Fail}
 use Rattle.apl_arrays.specs.declared.report.Fail.TheVariants as fail
@@ -36,17 +36,35 @@ pub record IsByPlace {T : Type 0} (count : ℕ) (rule : ℕ → Option T) (items
 abbrev pub LacksItem : {T : Type 0} → ℕ → (ℕ → Option T) → Type 0
 LacksItem count rule = (place : ℕ) × (place < count) × (rule place ≡ None)
 
+-- the rule gives an item at each of so many places
+abbrev pub HasItems : {T : Type 0} → ℕ → (ℕ → Option T) → Type 0
+HasItems {T} count rule = (place : ℕ) → place < count → (item : T) × (rule place ≡ Some item)
+
+-- what a call by row and column answers at a place, where a row has so many places
+abbrev pub AtPlace : {A : Type 0} → (ℕ → ℕ → A → Type 0) → ℕ → ℕ → A → Type 0
+AtPlace answers columns place answer = answers (place / columns) (place % columns) answer
+
+-- a call answers with an item at each of so many places
+abbrev pub GivesEach : {T : Type 0} → ℕ → (ℕ → Option T → Type 0) → Type 0
+GivesEach {T} count answers = (place : ℕ) → place < count → (item : T) × answers place (Some item)
+
 -- the one report that a call gives is DOMAIN, and where it does, a fact holds
 abbrev pub OnDomain : {T : Type 0} → Result T Fail → Type 0 → Type 0
 OnDomain (Ok value) fact = ⊤
 OnDomain (Err (fail.Report report)) fact = (report ≡ Domain) × fact
 OnDomain (Err fail.WantOfMemory) fact = ⊤
 
--- the items by place, or DOMAIN where the rule gives none
+-- where a call ran out of memory, a fact holds
+abbrev pub OnWantOfMemory : {T : Type 0} → Result T Fail → Type 0 → Type 0
+OnWantOfMemory (Ok value) fact = ⊤
+OnWantOfMemory (Err (fail.Report report)) fact = ⊤
+OnWantOfMemory (Err fail.WantOfMemory) fact = fact
+
+-- the items by place, or DOMAIN where the rule gives none; memory ran out only where it gives one at each place
 abbrev pub MakesItems : {T : Type 0} → Result (Listed T) Fail → ℕ → (ℕ → Option T) → Type 0
 MakesItems (Ok list) count rule = IsByPlace count rule list.items
 MakesItems (Err (fail.Report report)) count rule = (report ≡ Domain) × LacksItem count rule
-MakesItems (Err fail.WantOfMemory) count rule = ⊤
+MakesItems (Err fail.WantOfMemory) count rule = HasItems count rule
 
 -- whatever a call answers at one of so many places is what a definition gives there
 abbrev pub Follows : {A : Type 0} → (ℕ → A → Type 0) → ℕ → (ℕ → A) → Type 0

@@ -68,7 +68,8 @@ fn list_by_axes<T: Copy + Drop, X: Axes>(
     Ok(List::from(made))
 }
 
-/// Adds the items of the axes from one on, each from its offset beyond a base, or the fill.
+/// Adds the items of the axes from one on, each from its offset beyond a base, or the fill: of the last axis in a loop, and
+/// of another by a call for each of its places.
 fn push_axes<T: Copy + Drop, X: Axes>(
     made: &mut Vec<T>,
     list: &[T],
@@ -90,11 +91,39 @@ fn push_axes<T: Copy + Drop, X: Axes>(
     match shape.split_first() {
         None => made.push_reserved(item_at_source(list, base, fill)),
         Some((first, rest)) => {
+            if rest.is_empty() {
+                push_last(made, list, fill, *first as usize, axis, base, axes);
+                return;
+            }
             for along in 0..*first as usize {
                 let beyond = together(base, axes.offset(axis, along));
                 push_axes(made, list, fill, rest, axis + 1, beyond, axes);
             }
         }
+    }
+}
+
+/// Adds so many items of the last axis, each from its offset beyond a base, or the fill.
+fn push_last<T: Copy + Drop, X: Axes>(
+    made: &mut Vec<T>,
+    list: &[T],
+    fill: T,
+    count: usize,
+    axis: usize,
+    base: Option<usize>,
+    axes: &X,
+)
+    requires room { vec_len made.old + count ≤ vec_capacity made.old }
+    requires length { count ≤ X.length_of axes.now axis }
+    requires bound { (from : ℕ) → base ≡ Some from → from + 2 ^ 32 < 2 ^ 64 }
+    requires within { IsWithin (λ along. added base (X.offset axes.now axis along)) count (length list.now) }
+    ensures items { made.new.items ≡ made.old.items ++ moved_list fill list.now count (λ along. added base (X.offset axes.now axis along)) }
+    ensures len { vec_len made.new ≡ vec_len made.old + count }
+    ensures room { vec_capacity made.new ≡ vec_capacity made.old }
+{
+    for along in 0..count {
+        let source = together(base, axes.offset(axis, along));
+        made.push_reserved(item_at_source(list, source, fill));
     }
 }
 

@@ -10,6 +10,7 @@ pub mod laws;
 mod loops;
 mod moves;
 mod refusals;
+mod rows;
 mod shapes;
 #[cfg(test)]
 mod tests;
@@ -21,4 +22,5 @@ pub use extension::{glyph_at, is_single, leader, number_at, ranks_differ, shapes
 pub use loops::{by_place, each, glyph_pairs, pairs, room_for};
 pub use moves::{Walk, item_at_source, moved};
 pub use refusals::{Refusal, by_rule, first_refusal, lacks_one};
+pub use rows::{by_rows, lacks_by_rows};
 pub use shapes::{Split, joined_shape, shape_report};

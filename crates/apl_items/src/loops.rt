@@ -1,12 +1,14 @@
 ghost use Rattle.std.specs.Prelude.{◌≡◌, ◌<◌, ◌==◌, ℕ, [], length, slice_get, IfOk, vec_len, vec_capacity};
 ghost use Rattle.apl_items.specs.Extension.{Reaches, place_in, number_at, char_at};
-ghost use Rattle.apl_items.specs.Places.{OnDomain};
+ghost use Rattle.apl_items.specs.Places.{GivesEach, OnDomain, OnWantOfMemory};
 
 use crate::extension::{glyph_at, number_at};
-use apl_arrays::{Fail, Glyph, List, NumberList, Report, WantOfMemory};
+use crate::rows::by_rows;
+use apl_arrays::{Fail, Glyph, List, NumberList, WantOfMemory};
 use std::alloc::Global;
 
-/// The items that a rule gives at each place, or DOMAIN where it gives none. It asks once for memory.
+/// The items that a rule gives at each place, or DOMAIN where it gives none, also where there is no memory. It asks once for
+/// memory, for the items.
 pub fn by_place<T: Drop, F: Fn(usize) -> Option<T>>(
     alloc: Global,
     count: usize,
@@ -16,15 +18,17 @@ pub fn by_place<T: Drop, F: Fn(usize) -> Option<T>>(
     ensures whole { IfOk result (λ list. length list.items ≡ count) }
     ensures items { IfOk result (λ list. (place : ℕ) → place < count → F.post rule place (slice_get list.items place)) }
     ensures domain { OnDomain result ((place : ℕ) × (place < count) × F.post rule place None) }
+    ensures memory { OnWantOfMemory result (GivesEach count (F.post rule)) }
 {
-    let mut items = room_for(alloc, count)?;
-    for place in 0..count {
-        match rule(place) {
-            Some(item) => items.push_reserved(item),
-            None => return Err(Fail::Report(Report::Domain)),
-        }
-    }
-    Ok(List::from(items))
+    by_rows(
+        alloc,
+        1,
+        count,
+        &|_row: usize, place: usize| -> Option<T>
+            requires { F.pre rule place }
+            ensures { F.post rule place result }
+        { rule(place) },
+    )
 }
 
 /// The items that a rule gives to the numbers for each place. It takes memory for the items.
@@ -39,6 +43,7 @@ pub fn each<F: Fn(i64) -> Option<i64>>(
     ensures whole { IfOk result (λ list. length list.items ≡ count) }
     ensures items { IfOk result (λ list. (place : ℕ) → place < count → F.post rule (number_at b.now place) (slice_get list.items place)) }
     ensures domain { OnDomain result ((place : ℕ) × (place < count) × F.post rule (number_at b.now place) None) }
+    ensures memory { OnWantOfMemory result (GivesEach count (λ place. F.post rule (number_at b.now place))) }
 {
     by_place(
         alloc,
@@ -65,6 +70,7 @@ pub fn pairs<F: Fn(i64, i64) -> Option<i64>>(
     ensures whole { IfOk result (λ list. length list.items ≡ count) }
     ensures items { IfOk result (λ list. (place : ℕ) → place < count → F.post rule (number_at a.now place) (number_at b.now place) (slice_get list.items place)) }
     ensures domain { OnDomain result ((place : ℕ) × (place < count) × F.post rule (number_at a.now place) (number_at b.now place) None) }
+    ensures memory { OnWantOfMemory result (GivesEach count (λ place. F.post rule (number_at a.now place) (number_at b.now place))) }
 {
     by_place(
         alloc,
@@ -93,6 +99,7 @@ pub fn glyph_pairs<F: Fn(bool) -> Option<i64>>(
     ensures whole { IfOk result (λ list. length list.items ≡ count) }
     ensures items { IfOk result (λ list. (place : ℕ) → place < count → F.post rule (char_at a.now place == char_at b.now place) (slice_get list.items place)) }
     ensures domain { OnDomain result ((place : ℕ) × (place < count) × F.post rule (char_at a.now place == char_at b.now place) None) }
+    ensures memory { OnWantOfMemory result (GivesEach count (λ place. F.post rule (char_at a.now place == char_at b.now place))) }
 {
     by_place(
         alloc,

@@ -1,7 +1,7 @@
 use Rattle.std.proofs.Common.{◌≡◌, ◌<◌, length, ap, ◌∙◌, arith}
 use Rattle.apl_items.specs.Axes.{added, offset_at}
 use Rattle.apl_items.specs.Shapes.{coordinates_of}
-use Rattle.apl_items.proofs.AxisLemmas.{items_of_row, items_of_all_rows, count_of_all_rows, row_within, row_has_room, row_is_bound, rest_no_longer, first_no_longer}
+use Rattle.apl_items.proofs.AxisLemmas.{items_of_last, last_count, last_within, items_of_row, items_of_all_rows, count_of_all_rows, row_within, row_has_room, row_is_bound, rest_no_longer, first_no_longer}
 use Rattle.apl_items.proofs.axes.+push_axes.Goals as goal
 
 pub push_axes-requires : goal.push_axes-requires
@@ -55,3 +55,24 @@ returns-after-loop-along-clause-items g t c =
 pub returns-after-loop-along-clause-len : goal.returns-after-loop-along-clause-len
 returns-after-loop-along-clause-len g t c =
     count_of_all_rows c.args.shape.now c.in-Some.first.now c.in-Some.rest.now c.loop-along.along _ _ c.in-Some.ensures.cases.0 (omega arith) c.loop-along.invariant.whole
+
+pub push_last-requires-clause-room : goal.push_last-requires-clause-room
+push_last-requires-clause-room g t c =
+    let none : length c.in-Some.rest.now ≡ 0 = grind (arith, c.if-is_empty.ensures) in
+    let count = last_count c.args.shape.now c.in-Some.first.now c.in-Some.rest.now c.in-Some.ensures.cases.0 none in omega (arith, count, c.requires.room)
+
+pub push_last-requires-clause-within : goal.push_last-requires-clause-within
+push_last-requires-clause-within g t c =
+    let none : length c.in-Some.rest.now ≡ 0 = grind (arith, c.if-is_empty.ensures) in
+    last_within (g.X.Axes.offset c.args.axes.now) c.args.axis c.args.base c.args.shape.now c.in-Some.first.now c.in-Some.rest.now (length c.args.list.now) c.in-Some.ensures.cases.0 none c.requires.within
+
+pub returns-then-is_empty-clause-items : goal.returns-then-is_empty-clause-items
+returns-then-is_empty-clause-items g t c =
+    let none : length c.in-Some.rest.now ≡ 0 = grind (arith, c.if-is_empty.ensures) in
+    items_of_last c.args.fill c.args.list.now (g.X.Axes.offset c.args.axes.now) c.args.axis c.args.base c.args.shape.now c.in-Some.first.now c.in-Some.rest.now c.args.made.now.items c.push_last.new.made.items
+    c.in-Some.ensures.cases.0 none c.push_last.ensures.items
+
+pub returns-then-is_empty-clause-len : goal.returns-then-is_empty-clause-len
+returns-then-is_empty-clause-len g t c =
+    let none : length c.in-Some.rest.now ≡ 0 = grind (arith, c.if-is_empty.ensures) in
+    let count = last_count c.args.shape.now c.in-Some.first.now c.in-Some.rest.now c.in-Some.ensures.cases.0 none in omega (arith, count, c.push_last.ensures.len)
