@@ -2,6 +2,5 @@ pub mod AlongLemmas
 pub mod AxisLemmas
 pub mod MoveLemmas
 pub mod PlaceLemmas
-pub mod RefusalLemmas
 pub mod RowLemmas
 pub mod ShapeLemmas

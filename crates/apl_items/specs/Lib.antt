@@ -5,5 +5,4 @@ pub mod Axis
 pub mod Extension
 pub mod Moves
 pub mod Places
-pub mod Refusals
 pub mod Shapes

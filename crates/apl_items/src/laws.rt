@@ -1,6 +1,6 @@
 //! What holds of the definitions: laws of places and shapes, and worked examples.
 
-ghost use Rattle.std.specs.Prelude.{◌≡◌, ◌+◌, ◌*◌, ◌<◌, ◌-◌, ℕ, Bool, true, false, List, [], ◌∷◌, Option, Some, None, Ok, Err, pos, map, length, nat_lt, if◌then◌else◌};
+ghost use Rattle.std.specs.Prelude.{◌≡◌, ◌+◌, ◌*◌, ◌<◌, ◌-◌, ℕ, Bool, true, false, List, [], ◌∷◌, Option, Some, None, pos, map, length, nat_lt, if◌then◌else◌};
 ghost use Rattle.apl_arrays.specs.Array.{element_count, numbers, chars};
 ghost use Rattle.apl_arrays.specs.Glyph.{blank};
 ghost use Rattle.apl_items.specs.Along.{source_along};
@@ -8,10 +8,9 @@ ghost use Rattle.apl_items.specs.Answers.{first_report, no_faults};
 ghost use Rattle.apl_items.specs.Axes.{offset_at, source_by_axes};
 ghost use Rattle.apl_items.specs.Moves.{moved};
 ghost use Rattle.apl_items.specs.Places.{places};
-ghost use Rattle.apl_items.specs.Refusals.{item_faults};
 ghost use Rattle.apl_items.specs.Shapes.{AreWithin, along_of, coordinates_of, inner_of, outer_of, place_along, place_of, split_at, split_count};
 
-use crate::{Refusal, Split};
+use crate::Split;
 use apl_arrays::Report;
 
 /// Of several faults the first of RANK, LENGTH, DOMAIN, INDEX, WS FULL is reported, and none where nothing is wrong. The
@@ -23,11 +22,6 @@ pub fn reports_stand_in_order()
     ensures index { (large : Bool) → first_report (record { bad_rank = false; bad_length = false; bad_domain = false; bad_index = true; too_large = large }) ≡ Some Report.Index }
     ensures large { first_report (record no_faults { too_large = true }) ≡ Some Report.WsFull }
     ensures none { first_report no_faults ≡ None }
-{}
-
-/// DOMAIN at any place is reported before INDEX at an earlier one. The call does nothing. No memory.
-pub fn domain_goes_before_index()
-    ensures { first_report (item_faults 3 (λ place. if nat_lt place 1 then Err Refusal.Index else (if nat_lt place 2 then Ok place else Err Refusal.Domain))) ≡ Some Report.Domain }
 {}
 
 /// Places and coordinates name each other, in row-major order. The call does nothing. No memory.

@@ -9,7 +9,6 @@ mod extension;
 pub mod laws;
 mod loops;
 mod moves;
-mod refusals;
 mod rows;
 mod shapes;
 #[cfg(test)]
@@ -21,6 +20,5 @@ pub use axis::{axis_of, lacks_axis};
 pub use extension::{glyph_at, is_single, leader, number_at, ranks_differ, shapes_differ};
 pub use loops::{by_place, each, glyph_pairs, pairs, room_for};
 pub use moves::{Walk, item_at_source, moved};
-pub use refusals::{Refusal, by_rule, first_refusal, lacks_one};
 pub use rows::{by_rows, lacks_by_rows};
 pub use shapes::{Split, joined_shape, shape_report};

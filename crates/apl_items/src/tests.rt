@@ -1,8 +1,6 @@
-ghost use Rattle.std.specs.Prelude.{◌≡◌, IfOk};
+ghost use Rattle.std.specs.Prelude.{◌≡◌, ◌*◌, ◌<◌, ◌^◌, IfOk};
 
-use crate::{
-    Axes, Refusal, Walk, by_place, by_rule, first_refusal, lacks_one, moved, moved_by_axes,
-};
+use crate::{Axes, Walk, by_place, by_rows, lacks_by_rows, moved, moved_by_axes};
 use apl_arrays::{Fail, Glyph, Items, List, NumberList, Report, WantOfMemory};
 use std::alloc::Global;
 use std::process::Abort;
@@ -25,15 +23,14 @@ fn items_move(rt: HostRuntime) {
 
 #[test]
 fn refusals_are_found_without_items(rt: HostRuntime) {
-    look(&rt, 300_000_000, Some(Refusal::Domain), true);
-    look(&rt, 8, Some(Refusal::Index), false);
-    look(&rt, 5, None, false);
-}
-
-/// Looks at so many places for the first refusal, and for a place without an item.
-fn look(rt: &impl Abort, count: usize, refusal: Option<Refusal>, lacks: bool) {
-    assert!(rt; first_refusal(count, &tenfold) == refusal);
-    assert!(rt; lacks_one(count, &small) == lacks);
+    assert!(rt;
+        matches!(
+            by_place(rt.alloc(), 10, small),
+            Err(Fail::Report(Report::Domain))
+        )
+    );
+    assert!(rt; lacks_by_rows(30_000, 10_000, &small_in_row));
+    assert!(rt; !lacks_by_rows(3, 3, &small_in_row));
 }
 
 /// Items place by place, and the report where a place has none.
@@ -41,10 +38,9 @@ fn by_places(rt: &impl Abort, alloc: Global) -> Result<(), WantOfMemory> {
     let four = list_of(alloc, &[0, 1, 2, 3])?;
     assert!(rt; made_small(alloc, 4)? == Ok(four));
     assert!(rt; made_small(alloc, 10)? == Err(Report::Domain));
-    let tens = list_of(alloc, &[0, 10, 20])?;
-    assert!(rt; made_tenfold(alloc, 3)? == Ok(tens));
-    assert!(rt; made_tenfold(alloc, 8)? == Err(Report::Index));
-    assert!(rt; made_tenfold(alloc, 9)? == Err(Report::Domain));
+    let six = list_of(alloc, &[0, 1, 2, 10, 11, 12])?;
+    assert!(rt; made_by_rows(alloc, 2, 3)? == Ok(six));
+    assert!(rt; made_by_rows(alloc, 2, 4)? == Err(Report::Domain));
     Ok(())
 }
 
@@ -53,9 +49,15 @@ fn made_small(alloc: Global, count: usize) -> Result<Result<NumberList, Report>,
     given(by_place(alloc, count, small))
 }
 
-/// So many items, each ten times its place.
-fn made_tenfold(alloc: Global, count: usize) -> Result<Result<NumberList, Report>, WantOfMemory> {
-    given(by_rule(alloc, count, &tenfold))
+/// So many rows of items, each ten times its row and its place there.
+fn made_by_rows(
+    alloc: Global,
+    rows: usize,
+    columns: usize,
+) -> Result<Result<NumberList, Report>, WantOfMemory>
+    requires { rows * columns < 2 ^ 64 }
+{
+    given(by_rows(alloc, rows, columns, &small_in_row))
 }
 
 /// The place as an item, where it is below 9.
@@ -63,14 +65,12 @@ fn small(place: usize) -> Option<i64> {
     if place < 9 { Some(place as i64) } else { None }
 }
 
-/// Ten times the place where it is below 5; else INDEX, and DOMAIN at place 8.
-fn tenfold(place: usize) -> Result<i64, Refusal> {
-    if place < 5 {
-        Ok(place as i64 * 10)
-    } else if place == 8 {
-        Err(Refusal::Domain)
+/// Ten times the row and the place there, where both are below 3.
+fn small_in_row(row: usize, place: usize) -> Option<i64> {
+    if row < 3 && place < 3 {
+        Some(row as i64 * 10 + place as i64)
     } else {
-        Err(Refusal::Index)
+        None
     }
 }
 

@@ -13,8 +13,7 @@ use Rattle.std.proofs.lemmas.List.{get_or_default, drop_all}
 use Rattle.std.proofs.lemmas.Option.{slice_get-get_or}
 use Rattle.std.proofs.lemmas.Nat.{mul-add-lt, div-mul-add, mod-mul-add, div-add-mod', div_below, mod_below}
 use Rattle.apl_items.specs.Places.{items_by, lacks_item, places}
-use Rattle.apl_items.proofs.PlaceLemmas.{made}
-use Rattle.apl_items.proofs.RefusalLemmas.{list_any-places}
+use Rattle.apl_items.proofs.PlaceLemmas.{list_any-places, made}
 use Rattle.apl_scalar.specs.Counting.{floor_by, floor_quotient, residue}
 use Rattle.apl_arrays.specs.Number.{fits}
 use Rattle.apl_scalar.specs.Table.{item_where, least}

@@ -12,7 +12,7 @@ use Rattle.apl_items.specs.Axes.{added, offset_at}
 use Rattle.apl_items.specs.Places.{places}
 use Rattle.apl_items.specs.Shapes.{AreWithin, coordinates_of}
 use Rattle.apl_items.proofs.ShapeLemmas.{coordinates_are_within, coordinates_of_row, element_count-cons}
-use Rattle.apl_items.proofs.RefusalLemmas.{places_more}
+use Rattle.apl_items.proofs.PlaceLemmas.{places_more}
 use Rattle.apl_selection.specs.Assignment.{last_place, put_over}
 use Rattle.apl_selection.specs.Naming.{AreSmall, AreSmallTogether, scaled_place}
 use Rattle.apl_selection.specs.Subscripts.{is_outside, named_by}

@@ -13,7 +13,7 @@ use Rattle.apl_items.specs.Axes.{source_by_axes}
 use Rattle.apl_items.specs.Moves.{moved, moved_items}
 use Rattle.apl_items.specs.Places.{places}
 use Rattle.apl_items.proofs.ShapeLemmas.{element_count-cons}
-use Rattle.apl_items.proofs.RefusalLemmas.{list_any-places}
+use Rattle.apl_items.proofs.PlaceLemmas.{list_any-places}
 use Rattle.apl_selection.specs.Indexing.{index_faults, indexed}
 use Rattle.apl_arrays.proofs.Shapes.{no_fault_fits}
 use Rattle.apl_selection.specs.Picks.{PicksWithin, strided}

@@ -7,7 +7,7 @@ use Rattle.std.proofs.lemmas.List.Folds.{list_any_at}
 use Rattle.std.proofs.lemmas.List.FromFn.{length-range_with_len, map-range_with_len_more}
 use Rattle.apl_arrays.specs.Array.{PlainArray, PlainItems, IsArray, numbers, chars, element_count, is_chars, item_count, numbers_in}
 use Rattle.apl_items.specs.Places.{places}
-use Rattle.apl_items.proofs.RefusalLemmas.{list_any-places, list_any-places_more, places_more}
+use Rattle.apl_items.proofs.PlaceLemmas.{list_any-places, list_any-places_more, places_more}
 use Rattle.apl_items.proofs.ShapeLemmas.{element_count-append, element_count-cons}
 use Rattle.apl_selection.specs.Subscripts.{axes_by, is_of_chars, named_by, named_on, point_outside, points_outside, sub_on}
 

@@ -1,7 +1,7 @@
 use mir.Syntax.{w64}
 use Rattle.std.proofs.Common.{◌≡◌, ◌+◌, ◌-◌, ◌≤◌, ◌^◌, ℕ, ℤ, unsigned_abs, not, is_none, true, false, length, drop, refl, sym, ap, subst, ◌∙◌, arith}
 use Rattle.std.proofs.lemmas.Int.{to_z-of_z}
-use Rattle.apl_items.proofs.RefusalLemmas.{list_any-places}
+use Rattle.apl_items.proofs.PlaceLemmas.{list_any-places}
 use Rattle.apl_scalar.specs.Table.{item_where, least}
 use Rattle.apl_search.specs.Encode.{digit_at, rest_by_all}
 use Rattle.apl_search.proofs.DigitLemmas.{digit_read, left_read, none_lacks, none_of, one_more_fails, some_of, wide}
