@@ -10,7 +10,7 @@ use Rattle.line_trees.specs.declared.machine.Before.TheVariants as before
 use Rattle.line_trees.specs.declared.machine.Operand.TheVariants as operand
 use Rattle.line_trees.specs.declared.machine.Mode.TheVariants.{Begins, Ends}
 use Rattle.line_trees.specs.declared.machine.Bracket.TheVariants as bracket
-use Rattle.line_trees.specs.Stacks.{first_of}
+use Rattle.apl_arrays.specs.List.{first_of}
 use Rattle.line_trees.specs.Marks.{step, goes}
 use Rattle.line_trees.specs.Building.{Built, built_by}
 use Rattle.line_trees.specs.Trees.{Expr, constant, value, niladic, paren, indexed, monadic, monadic_along, dyadic, dyadic_along, assign, assign_at, Subscripts, no_more, omitted, given, Placed, PlacedList, placed, placed_subscripts}

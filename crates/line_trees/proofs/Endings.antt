@@ -8,7 +8,7 @@ use Rattle.apl_arrays.specs.declared.verb.Monad.TheVariants as monad
 use Rattle.apl_arrays.specs.declared.verb.Dyad.{Dyad}
 use Rattle.apl_arrays.specs.declared.verb.Dyad.TheVariants as dyad
 use Rattle.apl_arrays.specs.declared.verb.Way.TheVariants.{Last}
-use Rattle.line_scanner.specs.declared.token.SystemName.TheVariants.{Svo, Svc, Svr, Svq, Svs}
+use Rattle.apl_arrays.specs.declared.system.SystemName.TheVariants.{Svo, Svc, Svr, Svq, Svs}
 use Rattle.line_scanner.specs.Token.{PlainKind, numbers, chars, name, system, sign, PlainToken}
 use Rattle.line_trees.specs.declared.class.Class.{Class}
 use Rattle.apl_arrays.specs.declared.verb.Verb.TheVariants as verb
@@ -27,7 +27,7 @@ use Rattle.line_trees.specs.declared.machine.Mode.TheVariants.{Begins, Ends, Jot
 use Rattle.line_trees.specs.declared.machine.Bracket.{Bracket}
 use Rattle.line_trees.specs.declared.machine.Bracket.TheVariants as bracket
 use Rattle.line_trees.specs.declared.machine.Move.{Move}
-use Rattle.line_trees.specs.Stacks.{first_of}
+use Rattle.apl_arrays.specs.List.{first_of}
 use Rattle.line_trees.specs.Signs.{monad_of, dyad_of, mix1_of, mix2_of, fold_of}
 use Rattle.line_trees.specs.Symbols.{symbol_of, name_symbol, arguments_of, sign_symbol, other_sign, slash_or_other}
 use Rattle.line_trees.specs.Marks.{marks_from, marked_by, with_mark, step, may_end, changed, takes_axis, begin, begin_statement, begin_line, begin_subscript, begin_axis, begin_product, begin_lead, go_on, jot_dot, factor, close_bracket, close_parenthesis, next_subscript}

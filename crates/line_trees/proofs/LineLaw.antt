@@ -16,7 +16,7 @@ use Rattle.line_trees.specs.declared.machine.Mode.TheVariants.{Begins, Ends}
 use Rattle.line_trees.specs.declared.machine.Bracket.{Bracket}
 use Rattle.line_trees.specs.declared.machine.Change.TheVariants.{Keep}
 use Rattle.line_trees.specs.declared.machine.Move.{Move}
-use Rattle.line_trees.specs.Stacks.{first_of}
+use Rattle.apl_arrays.specs.List.{first_of}
 use Rattle.line_trees.specs.Symbols.{symbol_of}
 use Rattle.line_trees.specs.Marks.{Marked, marks_from, marked_by, with_mark, step, may_end, changed}
 use Rattle.line_trees.specs.Building.{Built, nothing_built, built_by}

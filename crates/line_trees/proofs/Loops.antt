@@ -12,7 +12,7 @@ use Rattle.line_trees.specs.declared.symbol.Symbol.{Symbol}
 use Rattle.line_trees.specs.declared.machine.Mode.{Mode}
 use Rattle.line_trees.specs.declared.machine.Bracket.{Bracket}
 use Rattle.line_trees.specs.declared.machine.Move.{Move}
-use Rattle.line_trees.specs.Stacks.{first_of, others_of}
+use Rattle.apl_arrays.specs.List.{first_of, others_of}
 use Rattle.line_trees.specs.Nodes.{PlainNode, indexed}
 use Rattle.line_trees.specs.Symbols.{symbol_of}
 use Rattle.line_trees.specs.Marks.{Marked, marks_from, marked_by, with_mark, step, may_end, changed}

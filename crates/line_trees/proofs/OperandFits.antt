@@ -16,7 +16,7 @@ use Rattle.line_trees.specs.declared.machine.Operand.{Operand}
 use Rattle.line_trees.specs.declared.machine.Operand.TheVariants as operand
 use Rattle.line_trees.specs.declared.machine.Bracket.{Bracket}
 use Rattle.line_trees.specs.declared.machine.Bracket.TheVariants as bracket
-use Rattle.line_trees.specs.Stacks.{first_of}
+use Rattle.apl_arrays.specs.List.{first_of}
 use Rattle.line_trees.specs.Signs.{between}
 use Rattle.line_trees.specs.Symbols.{symbol_of}
 use Rattle.line_trees.specs.Marks.{takes_axis, go_on, close_bracket, close_parenthesis, next_subscript, factor}

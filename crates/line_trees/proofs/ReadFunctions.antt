@@ -20,7 +20,7 @@ use Rattle.line_trees.specs.declared.machine.Mode.TheVariants.{Begins, Ends, Jot
 use Rattle.line_trees.specs.declared.machine.Bracket.{Bracket}
 use Rattle.line_trees.specs.declared.machine.Bracket.TheVariants as bracket
 use Rattle.line_trees.specs.declared.machine.Change.TheVariants.{Open, Close}
-use Rattle.line_trees.specs.Stacks.{first_of}
+use Rattle.apl_arrays.specs.List.{first_of}
 use Rattle.line_trees.specs.Signs.{folded, between}
 use Rattle.line_trees.specs.Marks.{step, takes_axis, after_function}
 use Rattle.line_trees.specs.Nodes as node

@@ -17,7 +17,7 @@ use Rattle.line_trees.specs.declared.machine.Bracket.{Bracket}
 use Rattle.line_trees.specs.declared.machine.Bracket.TheVariants as bracket
 use Rattle.line_trees.specs.declared.machine.Change.TheVariants.{Keep, Open, Close}
 use Rattle.line_trees.specs.declared.machine.Move.{Move}
-use Rattle.line_trees.specs.Stacks.{first_of, others_of}
+use Rattle.apl_arrays.specs.List.{first_of, others_of}
 use Rattle.line_trees.specs.Marks.{step, goes, opens, closes, close_bracket, next_subscript, is_name}
 use Rattle.line_trees.specs.Nodes as node
 use Rattle.line_trees.specs.Building.{Built, whole, with_waiting, attached, operand_built, built_by, target_or_operand, subscripts_built}

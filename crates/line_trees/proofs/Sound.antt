@@ -17,7 +17,7 @@ use Rattle.line_trees.specs.declared.machine.Mode.TheVariants.{Begins, Ends, Jot
 use Rattle.line_trees.specs.declared.machine.Bracket.{Bracket}
 use Rattle.line_trees.specs.declared.machine.Bracket.TheVariants as bracket
 use Rattle.line_trees.specs.declared.machine.Move.{Move}
-use Rattle.line_trees.specs.Stacks.{first_of}
+use Rattle.apl_arrays.specs.List.{first_of}
 use Rattle.line_trees.specs.Symbols.{symbol_of}
 use Rattle.line_trees.specs.Marks.{Marked, marks_from, marked_by, with_mark, step, may_end, changed, begin_statement, begin_line, begin_subscript, begin_axis, begin_product, begin_lead, jot_dot, factor, none_open}
 use Rattle.line_trees.specs.Trees.{Expr, Subscripts, no_more, omitted, given, Statement, nothing, branch, whole, execute, LineTree}

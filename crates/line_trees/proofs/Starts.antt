@@ -12,7 +12,7 @@ use Rattle.line_trees.specs.declared.machine.Before.TheVariants as before
 use Rattle.line_trees.specs.declared.machine.Mode.{Mode}
 use Rattle.line_trees.specs.declared.machine.Mode.TheVariants.{Begins}
 use Rattle.line_trees.specs.declared.machine.Bracket.{Bracket}
-use Rattle.line_trees.specs.Stacks.{first_of}
+use Rattle.apl_arrays.specs.List.{first_of}
 use Rattle.line_trees.specs.Symbols.{symbol_of}
 use Rattle.line_trees.specs.Marks.{step, takes_axis, after_function}
 use Rattle.line_trees.specs.Building.{Built}

@@ -2,7 +2,7 @@
 use Rattle.std.proofs.Common.{◌≡◌, ℕ, List, [], ◌∷◌, ◌++◌, Option, None, refl, ap, ◌∙◌, length}
 use Rattle.line_trees.specs.declared.tree.Pending.{Pending}
 use Rattle.line_trees.specs.declared.tree.Pending.TheVariants as pending
-use Rattle.line_trees.specs.Stacks.{first_of, others_of}
+use Rattle.apl_arrays.specs.List.{first_of, others_of}
 use Rattle.line_trees.specs.Nodes.{PlainNode}
 use Rattle.line_trees.specs.Nodes as node
 use Rattle.line_trees.specs.Building.{Numbers, Built, whole, attached, name_built, subscript_built, subscripts, behind_subscripts, target_or_operand, subscripts_built}

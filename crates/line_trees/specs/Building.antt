@@ -18,7 +18,7 @@ use Rattle.line_trees.specs.declared.symbol.Symbol.TheVariants as symbol
 use Rattle.line_trees.specs.declared.class.Class.{Class}
 use Rattle.line_trees.specs.Signs.{folded, between}
 use Rattle.line_trees.specs.Symbols.{symbol_of}
-use Rattle.line_trees.specs.Stacks.{first_of, others_of}
+use Rattle.apl_arrays.specs.List.{first_of, others_of}
 use Rattle.line_trees.specs.Nodes.{PlainNode, constant, value, niladic, paren, indexed, apply, assign, assign_at}
 
 -- the numbers of the subscripts of one list, with none for one that is omitted

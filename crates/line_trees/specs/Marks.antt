@@ -24,7 +24,7 @@ use Rattle.line_trees.specs.declared.machine.Move.{Move}
 use Rattle.line_trees.specs.declared.refused.ParseRefused.{ParseRefused}
 use Rattle.line_trees.specs.declared.refused.ParseRefused.TheVariants.{SyntaxError, WantOfMemory}
 use Rattle.line_trees.specs.Signs.{verb_takes_axis}
-use Rattle.line_trees.specs.Stacks.{first_of}
+use Rattle.apl_arrays.specs.List.{first_of}
 use Rattle.line_trees.specs.Symbols.{symbol_of}
 
 -- an axis may stand behind the function

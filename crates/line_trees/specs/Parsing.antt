@@ -11,7 +11,7 @@ use Rattle.line_trees.specs.declared.machine.Before.TheVariants as before
 use Rattle.line_trees.specs.declared.machine.Mode.TheVariants.{Begins}
 use Rattle.line_trees.specs.declared.tree.Pending.{Pending}
 use Rattle.line_trees.specs.declared.tree.Pending.TheVariants as pending
-use Rattle.line_trees.specs.Stacks.{first_of}
+use Rattle.apl_arrays.specs.List.{first_of}
 use Rattle.line_trees.specs.Nodes.{PlainNode}
 use Rattle.line_trees.specs.Marks.{Marked, marks_from}
 use Rattle.line_trees.specs.Building.{Built, built_from}

@@ -3,8 +3,8 @@ use Rattle.std.specs.Prelude.{◌==◌, ◌||◌, ℕ, Option, Some, None, optio
 use Rattle.std.specs.Cmp.Lexicographic.{pointwise}
 use Rattle.apl_arrays.specs.Glyph as glyph
 use Rattle.apl_arrays.specs.declared.verb.Verb.TheVariants as verb
-use Rattle.line_scanner.specs.declared.token.SystemName.{SystemName}
-use Rattle.line_scanner.specs.declared.token.SystemName.TheVariants.{Svo, Svc, Svr, Svq, Svs}
+use Rattle.apl_arrays.specs.declared.system.SystemName.{SystemName}
+use Rattle.apl_arrays.specs.declared.system.SystemName.TheVariants.{Svo, Svc, Svr, Svq, Svs}
 use Rattle.line_scanner.specs.Token.{PlainKind, numbers, chars, name, system, sign}
 use Rattle.line_trees.specs.declared.class.Class.{Class}
 use Rattle.line_trees.specs.declared.tree.Fun.TheVariants as fun

@@ -1,7 +1,7 @@
 //! What a part of a line does to what waits to its right.
 
 ghost use Rattle.std.specs.Prelude.{◌≡◌, ◌++◌, OnOk, IfOk};
-ghost use Rattle.line_trees.specs.Stacks.{first_of, others_of};
+ghost use Rattle.apl_arrays.specs.List.{first_of, others_of};
 ghost use Rattle.line_trees.specs.Building.{subscript_built, subscripts, behind_subscripts, axis_built, slash_built, dyadic_built, scalar_built, jot_built, factor_built, gets_built, branch_built, execute_built};
 
 use crate::stack::Stack;

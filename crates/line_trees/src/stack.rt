@@ -1,5 +1,5 @@
 ghost use Rattle.std.specs.Prelude.{◌≡◌, ◌∷◌, [], OnOk, List, Option, Some, None};
-ghost use Rattle.line_trees.specs.Stacks.{first_of, others_of};
+ghost use Rattle.apl_arrays.specs.List.{first_of, others_of};
 
 use apl_arrays::WantOfMemory;
 use std::alloc::Global;

@@ -5,8 +5,8 @@ ghost use Rattle.line_trees.specs.Symbols.{name_symbol, system_symbol, other_sig
 
 use crate::signs::{dyad_of, fold_of, mix1_of, mix2_of, monad_of};
 use crate::{Classes, Fun};
-use apl_arrays::{Dyad, Glyph, Monad, Name, Verb, Way};
-use line_scanner::{SystemName, TokenKind};
+use apl_arrays::{Dyad, Glyph, Monad, Name, SystemName, Verb, Way};
+use line_scanner::TokenKind;
 
 /// The operator that a slash is behind a scalar function.
 #[derive(Clone, Copy, Debug, PartialEq, Eq)]

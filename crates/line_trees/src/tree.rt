@@ -1,7 +1,6 @@
 use crate::NodeList;
 use crate::symbol::Fold;
-use apl_arrays::{Dyad, Items, List, Name, Verb};
-use line_scanner::SystemName;
+use apl_arrays::{Dyad, Items, List, Name, SystemName, Verb};
 
 /// A function: a primitive one, one that a name stands for, or a system function.
 #[derive(Clone, Copy, Debug, PartialEq, Eq)]
