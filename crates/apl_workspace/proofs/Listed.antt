@@ -13,7 +13,8 @@ use Rattle.std.proofs.lemmas.List.Sorted.{list_any-IsPermutation}
 use Rattle.std.proofs.lemmas.Map.Entries.{lookup-filter-values, option_filter}
 use Rattle.std.proofs.lemmas.Map.Keys.{IsDistinct-IsPermutation, IsDistinct-from_sorted, IsDistinct-head, IsDistinct-tail, IsDistinct-cons, apart_from_distinct, sorted_from_all_adjacent, sorted_head, sorted_tail}
 use Rattle.std.proofs.lemmas.Map.Made.{is_some-lookup}
-use Rattle.apl_workspace.specs.Names.{name_order, is_name_of}
+use Rattle.apl_arrays.specs.Name.{name_order}
+use Rattle.apl_workspace.specs.Names.{is_name_of}
 use Rattle.apl_workspace.specs.Sorted.{sorted}
 use Rattle.apl_workspace.specs.declared.meaning.Meaning.{Meaning}
 use Rattle.apl_workspace.proofs.Ascending.{Ascend, ascend_cons, found, told_by_look_ups}

@@ -11,7 +11,8 @@ use Rattle.std.proofs.lemmas.Map.Lookups.{exact_bytes}
 use Rattle.std.proofs.lemmas.Bool.{and_parts, false≢true, or_parts}
 use Rattle.std.proofs.lemmas.List.{take_more, take-append-drop}
 use Rattle.std.proofs.lemmas.List.Folds.{list_any-append}
-use Rattle.apl_workspace.specs.Names.{name_order, is_name_of, all_differ}
+use Rattle.apl_arrays.specs.Name.{name_order}
+use Rattle.apl_workspace.specs.Names.{is_name_of, all_differ}
 
 tied : (o : Ordering) → is_eq o ≡ true → o ≡ Equal
 tied Less e = absurd (false≢true e)

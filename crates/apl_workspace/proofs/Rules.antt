@@ -16,7 +16,8 @@ use Rattle.apl_workspace.specs.Function.{PlainFunction}
 use Rattle.apl_workspace.specs.Label.{label_of}
 use Rattle.apl_workspace.specs.Limits.{most_depth, most_weight}
 use Rattle.apl_workspace.specs.Meaning.{IsGlobal, IsLocal, Names, is_shared_in, is_shared_meaning, meaning_in, table_weight, with_meaning, with_value, without_name}
-use Rattle.apl_workspace.specs.Names.{all_differ, is_name_of, name_order}
+use Rattle.apl_arrays.specs.Name.{name_order}
+use Rattle.apl_workspace.specs.Names.{all_differ, is_name_of}
 use Rattle.apl_workspace.specs.Workspace.{IsFrameFor, IsWorkspace, PlainWorkspace, empty_workspace, in_innermost, is_addressee, is_of_another, is_shared, names_offered, unshared, with_global, without_global, without_globals, workspace_weight}
 use Rattle.apl_workspace.specs.declared.args.Args.{Args}
 use Rattle.apl_workspace.specs.declared.meaning.Meaning.{Meaning}

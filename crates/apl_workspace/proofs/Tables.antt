@@ -13,7 +13,8 @@ use Rattle.apl_arrays.specs.Array.{PlainArray}
 use Rattle.apl_workspace.specs.declared.meaning.Meaning.{Meaning}
 use Rattle.apl_workspace.specs.declared.meaning.Meaning.TheVariants.{Nothing, Value, Function, Label, Shared}
 use Rattle.apl_workspace.specs.Sorted.{sorted}
-use Rattle.apl_workspace.specs.Names.{name_order, is_name_of}
+use Rattle.apl_arrays.specs.Name.{name_order}
+use Rattle.apl_workspace.specs.Names.{is_name_of}
 use Rattle.apl_workspace.specs.Limits.{most_weight}
 use Rattle.apl_workspace.specs.Meaning.{Names, IsTable, IsWhole, copy_of, meaning_in, meaning_weight, own_copy_in, table_weight, value_weight, weight_in, with_meaning, without_name}
 use Rattle.apl_workspace.proofs.Ascending.{found_with, found_without, none_ascend, told_by_look_ups, with_ascends, without_ascends}

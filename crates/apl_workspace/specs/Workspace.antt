@@ -13,7 +13,8 @@ use Rattle.apl_arrays.specs.declared.report.Report.TheVariants.{Syntax, WsFull}
 use Rattle.apl_workspace.specs.Frame.{AreArgumentsOf, frame_of}
 use Rattle.apl_workspace.specs.Limits.{most_weight, most_depth, most_printed}
 use Rattle.apl_workspace.specs.Meaning.{IsGlobal, IsLocal, Names, is_shared_in, meaning_in, own_copy_in, table_weight, with_meaning, with_value, without_name, without_names}
-use Rattle.apl_workspace.specs.Names.{all_differ, is_name_of, name_order}
+use Rattle.apl_arrays.specs.Name.{name_order}
+use Rattle.apl_workspace.specs.Names.{all_differ, is_name_of}
 use Rattle.apl_workspace.specs.declared.args.Args.{Args}
 use Rattle.apl_workspace.specs.declared.meaning.Meaning.{Meaning}
 use Rattle.apl_workspace.specs.declared.meaning.Meaning.TheVariants.{Nothing, Value, Function, Label, Shared}

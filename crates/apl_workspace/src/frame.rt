@@ -1,5 +1,6 @@
 ghost use Rattle.std.specs.Prelude.{◌≡◌, ◌+◌, ◌++◌, ◌≤◌, ℕ, List as ListOf, OnOk, IfOk, fold, length, map};
 ghost use Rattle.std.specs.Option.{option_map, option_or, option_to_list};
+ghost use Rattle.apl_arrays.specs.Limits.{most_elements};
 ghost use Rattle.apl_arrays.specs.List.{glyphs_in};
 ghost use Rattle.apl_workspace.specs.Frame.{frame_of, header_names, labelled_line, with_argument, with_label, with_labels, with_local_name};
 ghost use Rattle.apl_workspace.specs.Function.{PlainFunction};
@@ -42,9 +43,9 @@ fn put_argument(
     name: Option<Name>,
     value: Option<Array>,
 ) -> Result<(), WantOfMemory>
-    requires { table_weight names.old ≤ 16385 }
+    requires { table_weight names.old ≤ most_elements + 1 }
     ensures ok { OnOk result (names.new ≡ with_argument names.old name value) }
-    ensures weight { OnOk result (table_weight names.new ≤ table_weight names.old + 16385) }
+    ensures weight { OnOk result (table_weight names.new ≤ table_weight names.old + (most_elements + 1)) }
 {
     let Some(name) = name else {
         return Ok(());

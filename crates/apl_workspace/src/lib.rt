@@ -27,8 +27,7 @@ pub use function::Function;
 pub use header::Header;
 pub use label::{label_of, labels_stand_before_colons};
 pub use limits::{
-    DEPTH_LIMIT, FUNCTION_LINE_LIMIT, OFFER_LIMIT, PRINTED_LIMIT, WEIGHT_LIMIT,
-    limits_are_as_defined,
+    DEPTH_LIMIT, FUNCTION_LINE_LIMIT, PRINTED_LIMIT, WEIGHT_LIMIT, limits_are_as_defined,
 };
 pub use meaning::Meaning;
 pub use remake::{Remake, RemakeList};

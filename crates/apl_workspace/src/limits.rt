@@ -1,5 +1,4 @@
 ghost use Rattle.std.specs.Prelude.{◌≡◌};
-ghost use Rattle.apl_arrays.specs.Limits.{most_offers};
 ghost use Rattle.apl_workspace.specs.Limits.{most_depth, most_function_lines, most_printed, most_weight};
 
 /// The most that a workspace weighs.
@@ -14,14 +13,10 @@ pub const FUNCTION_LINE_LIMIT: usize = 200;
 /// The most glyphs of the counted lines that are printed.
 pub const PRINTED_LIMIT: u64 = 4_194_304;
 
-/// The most offers that are listed.
-pub const OFFER_LIMIT: usize = 64;
-
 /// The limits are those of the definitions. The call does nothing. No memory.
 pub fn limits_are_as_defined()
     ensures weight { WEIGHT_LIMIT ≡ most_weight }
     ensures depth { DEPTH_LIMIT ≡ most_depth }
     ensures function_lines { FUNCTION_LINE_LIMIT ≡ most_function_lines }
     ensures printed { PRINTED_LIMIT ≡ most_printed }
-    ensures offers { OFFER_LIMIT ≡ most_offers }
 {}

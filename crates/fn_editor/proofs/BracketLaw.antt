@@ -1,12 +1,12 @@
 -- Brackets as they are computed and as they are written.
 use Rattle.std.proofs.Common.{◌≡◌, ℕ, zero, suc, ◌-◌, ◌<◌, ◌≤◌, Bool, true, false, cond, eqb, ◌&&◌, List, [], ◌∷◌, ◌++◌, Option, Some, None, length, take, drop, refl, sym, ap, subst, ◌∙◌, append_assoc, arith}
-use Rattle.std.specs.Prelude.{nat_le, take_while}
+use Rattle.std.specs.Prelude.{nat_le, not, take_while}
 use Rattle.std.specs.List.{list_all, prefix_len}
 use Rattle.std.specs.Str.Parse.{digits_value}
-use Rattle.std.proofs.lemmas.Bool.{and_parts, eqb-false, eqb-true, false≢true}
+use Rattle.std.proofs.lemmas.Bool.{and_from, and_parts, eqb-false, eqb-true, false≢true}
 use Rattle.std.proofs.lemmas.Bool.Decides.{nat_tests}
 use Rattle.std.proofs.lemmas.Option.{same_Some}
-use Rattle.apl_arrays.specs.Glyph.{delta, digit, is_between, is_digit, period, quad, right_bracket}
+use Rattle.apl_arrays.specs.Glyph.{delta, digit, is_digit, period, quad, right_bracket}
 use Rattle.apl_arrays.specs.Run.{begins}
 use Rattle.apl_arrays.proofs.Runs.{drop_run, run_passes, run_splits, take_run}
 use Rattle.fn_editor.specs.Bracket.{bracket_in, closed_here, number_in, place, tenth_in, whole_of, with_number, with_tenth}
@@ -28,6 +28,10 @@ not_same a b apart = by (eqb a b) refl
     by true e = absurd (false≢true (apart (eqb-true a b e)))
     by false e = refl
 
+is_not : (b : Bool) → not b ≡ true → b ≡ false
+is_not true e = absurd cc
+is_not false e = refl
+
 -- ---- what is computed is written
 
 closed_by : (bracket made : Bracket) (first : ℕ) (behind rest : List ℕ) (b : Bool) → eqb first right_bracket ≡ b → cond {A = Option (Bracket × List ℕ)} b (Some (made, behind)) None ≡ Some (bracket, rest) → (made ≡ bracket) × (first ∷ behind ≡ right_bracket ∷ rest)
@@ -46,11 +50,14 @@ record IsSplit (text : List ℕ) (tenth : ℕ) (rest : List ℕ) : Type 0 where
   whole : text ≡ tenth_text tenth ++ rest
   one_digit : tenth ≤ 9
 
-split_by : (first second : ℕ) (rest : List ℕ) (b : Bool) → (eqb first period && is_between 49 57 second) ≡ b → IsSplit (first ∷ second ∷ rest) (cond {A = ℕ × List ℕ} b (second - 48, rest) (0, first ∷ second ∷ rest)).0 (cond {A = ℕ × List ℕ} b (second - 48, rest) (0, first ∷ second ∷ rest)).1
+split_by : (first second : ℕ) (rest : List ℕ) (b : Bool) → (eqb first period && is_digit second && not (eqb second 48)) ≡ b → IsSplit (first ∷ second ∷ rest) (cond {A = ℕ × List ℕ} b (second - 48, rest) (0, first ∷ second ∷ rest)).0 (cond {A = ℕ × List ℕ} b (second - 48, rest) (0, first ∷ second ∷ rest)).1
 split_by first second rest true e =
-    let parts = and_parts (eqb first period) (is_between 49 57 second) e in
-    let range = and_parts (nat_le 49 second) (nat_le second 57) parts.1 in
-    let low = at_most 49 second range.0 in
+    let tests = and_parts (eqb first period && is_digit second) (not (eqb second 48)) e in
+    let parts = and_parts (eqb first period) (is_digit second) tests.0 in
+    let range = and_parts (nat_le 48 second) (nat_le second 57) parts.1 in
+    let above : second ≡ 48 → ⊥ = eqb-false second 48 (is_not (eqb second 48) tests.1) in
+    let least = at_most 48 second range.0 in
+    let low : 49 ≤ second = omega (arith, least, above) in
     let high = at_most second 57 range.1 in
     let here : first ≡ period = eqb-true first period parts.0 in
     let same : second ≡ digit (second - 48) = omega (arith, low) in
@@ -64,7 +71,7 @@ split_by first second rest false e = record { whole = refl; one_digit = omega ar
 split : (text : List ℕ) → IsSplit text (tenth_in text).0 (tenth_in text).1
 split [] = record { whole = refl; one_digit = omega arith }
 split (first ∷ []) = record { whole = refl; one_digit = omega arith }
-split (first ∷ second ∷ rest) = split_by first second rest (eqb first period && is_between 49 57 second) refl
+split (first ∷ second ∷ rest) = split_by first second rest (eqb first period && is_digit second && not (eqb second 48)) refl
 
 -- digits that spell a whole number
 record IsWhole (digits : List ℕ) (number : ℕ) : Type 0 where
@@ -163,9 +170,10 @@ tenth_found zero (next ∷ rest) h = (refl, refl)
 tenth_found (suc n) rest h =
     let some : eqb (suc n) 0 ≡ false = not_same (suc n) 0 (λ none. absurd (omega (arith, none))) in
     let text : behind_digits (suc n) rest ≡ period ∷ digit (suc n) ∷ right_bracket ∷ rest = ap (λ (b : Bool). cond b [] (period ∷ digit (suc n) ∷ []) ++ right_bracket ∷ rest) some in
-    let low : nat_le 49 (digit (suc n)) ≡ true = is_at_most 49 (digit (suc n)) (omega arith) in
+    let low : nat_le 48 (digit (suc n)) ≡ true = is_at_most 48 (digit (suc n)) (omega arith) in
     let high : nat_le (digit (suc n)) 57 ≡ true = is_at_most (digit (suc n)) 57 (omega (arith, h)) in
-    let between : is_between 49 57 (digit (suc n)) ≡ true = ap (λ (b : Bool). b && nat_le (digit (suc n)) 57) low ∙ high in
+    let above : eqb (digit (suc n)) 48 ≡ false = not_same (digit (suc n)) 48 (λ same. absurd (omega (arith, same))) in
+    let between : (is_digit (digit (suc n)) && not (eqb (digit (suc n)) 48)) ≡ true = and_from (is_digit (digit (suc n))) (not (eqb (digit (suc n)) 48)) (and_from (nat_le 48 (digit (suc n))) (nat_le (digit (suc n)) 57) low high) (ap not above) in
     let value : digit (suc n) - 48 ≡ suc n = omega arith in
     (ap tenth_in text ∙ ap (λ (b : Bool). cond {A = ℕ × List ℕ} b (digit (suc n) - 48, right_bracket ∷ rest) (0, period ∷ digit (suc n) ∷ right_bracket ∷ rest)) between ∙ ap (λ (m : ℕ). (m, right_bracket ∷ rest)) value, ap (begins is_digit) text)
 

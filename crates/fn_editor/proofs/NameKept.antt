@@ -15,7 +15,8 @@ use Rattle.apl_workspace.proofs.InOrder.{same_test}
 use Rattle.apl_workspace.proofs.NameLaw as names
 use Rattle.fn_editor.specs.Bracket.{bracket_in}
 use Rattle.fn_editor.specs.Closing.{behind, is_blank_text}
-use Rattle.fn_editor.specs.Editing.{Edited, by_bracket, commanded, deleted, edited, edited_by, entered, is_in_reach, may_enter, moved, quietly, same_name, with_header, with_text}
+use Rattle.apl_arrays.specs.Name.{same_name}
+use Rattle.fn_editor.specs.Editing.{Edited, by_bracket, commanded, deleted, edited, edited_by, entered, is_in_reach, may_enter, moved, quietly, with_header, with_text}
 use Rattle.fn_editor.specs.Editor.{PlainEditor, has_line, shown}
 use Rattle.fn_editor.specs.declared.bracket.Bracket.{Bracket}
 use Rattle.fn_editor.specs.declared.bracket.Bracket.TheVariants.{Show, Delete, Header, At}

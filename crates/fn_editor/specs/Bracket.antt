@@ -1,8 +1,8 @@
 -- What a bracket at the start of a line asks.
-use Rattle.std.specs.Prelude.{◌-◌, ◌&&◌, ◌==◌, ℕ, List, [], ◌∷◌, Option, Some, None, length, nat_le, drop, take_while, if◌then◌else◌}
+use Rattle.std.specs.Prelude.{◌-◌, ◌&&◌, ◌==◌, ℕ, List, [], ◌∷◌, Option, Some, None, length, not, nat_le, drop, take_while, if◌then◌else◌}
 use Rattle.std.specs.List.{prefix_len}
 use Rattle.std.specs.Str.Parse.{digits_value}
-use Rattle.apl_arrays.specs.Glyph.{delta, is_between, is_digit, period, quad, right_bracket}
+use Rattle.apl_arrays.specs.Glyph.{delta, digit, is_digit, period, quad, right_bracket}
 use Rattle.fn_editor.specs.Number.{most_whole, number_of}
 use Rattle.fn_editor.specs.declared.bracket.Bracket.{Bracket}
 use Rattle.fn_editor.specs.declared.bracket.Bracket.TheVariants.{Show, Delete, Header, At}
@@ -13,7 +13,7 @@ whole_of digits = if length digits == 0 then None else if nat_le (digits_value 1
 
 -- the tenth at the front, a point and a digit from 1 to 9, or 0 where none stands there; and what follows
 abbrev pub tenth_in : List ℕ → ℕ × List ℕ
-tenth_in (first ∷ second ∷ rest) = if (first == period) && is_between 49 57 second then (second - 48, rest) else (0, first ∷ second ∷ rest)
+tenth_in (first ∷ second ∷ rest) = if first == period && is_digit second && not (second == digit 0) then (second - digit 0, rest) else (0, first ∷ second ∷ rest)
 tenth_in text = (0, text)
 
 -- a whole number and the tenth behind it, and what follows

@@ -1,9 +1,9 @@
 -- What a line does to an open definition.
-use Rattle.std.specs.Prelude.{◌≡◌, ◌+◌, ◌&&◌, ◌||◌, ◌==◌, ℕ, Bool, List, [], Option, Some, None, length, nat_le, nat_lt, if◌then◌else◌}
-use Rattle.std.specs.Cmp.Lexicographic.{pointwise}
+use Rattle.std.specs.Prelude.{◌≡◌, ◌+◌, ◌&&◌, ◌||◌, ℕ, Bool, List, [], Option, Some, None, length, nat_le, nat_lt, if◌then◌else◌}
 use Rattle.std.specs.Option.{option_map}
 use Rattle.apl_arrays.specs.Glyph.{left_bracket}
 use Rattle.apl_arrays.specs.Limits.{most_line_glyphs}
+use Rattle.apl_arrays.specs.Name.{same_name}
 use Rattle.apl_arrays.specs.declared.report.Fail.{Fail}
 use Rattle.apl_arrays.specs.declared.report.Fail.TheVariants.{Report, WantOfMemory}
 use Rattle.apl_arrays.specs.declared.report.Report.TheVariants.{Defn}
@@ -43,10 +43,6 @@ with_text editor text = if is_blank_text text then Some editor else if may_enter
 -- the definition without the line at a number, to which it moves
 abbrev pub deleted : PlainEditor → ℕ → PlainEditor
 deleted editor number = record editor { lines = without_line editor.lines number; number = number }
-
--- one name is the other
-abbrev pub same_name : List ℕ → List ℕ → Bool
-same_name = pointwise ◌==◌
 
 -- the definition with another header, where there is one of the same name and its text has at most 1,000 glyphs
 abbrev pub with_header : PlainEditor → List ℕ → Option PlainHeader → Option PlainEditor

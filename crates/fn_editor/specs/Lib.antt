@@ -5,5 +5,4 @@ pub mod Editor
 pub mod Grammar
 pub mod Number
 pub mod Opening
-pub mod Padded
 pub mod Prompt

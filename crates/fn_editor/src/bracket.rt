@@ -1,5 +1,4 @@
 ghost use Rattle.std.specs.Prelude.{◌≡◌, ◌<◌, ◌≤◌, ◌+◌, ◌*◌, All, IsTrue, IfSome, length, min, take_while};
-ghost use Rattle.std.specs.List.{prefix_len};
 ghost use Rattle.std.specs.Option.{option_map};
 ghost use Rattle.std.specs.Char.{digit_value};
 ghost use Rattle.std.specs.Str.Parse.{digits_value};
@@ -9,7 +8,7 @@ ghost use Rattle.fn_editor.specs.Bracket.{bracket_in, closed_here, number_in, pl
 
 use crate::closing::behind;
 use crate::number::{LineNumber, WHOLE_LIMIT};
-use apl_arrays::Glyph;
+use apl_arrays::{Glyph, digit_count};
 
 /// What a bracket at the start of a line asks: to show the definition, to delete a line, to enter a header, or to go to
 /// a number.
@@ -82,14 +81,6 @@ fn number_in(text: &[Glyph]) -> Option<(LineNumber, &[Glyph])>
     let whole = whole_of(&text[..count])?;
     let (tenth, rest) = tenth_in(&text[count..]);
     Some((LineNumber::of(whole, tenth), rest))
-}
-
-// How many digits stand at the front.
-fn digit_count(text: &[Glyph]) -> usize
-    ensures value { result ≡ prefix_len is_digit text.now }
-    ensures within { result ≤ length text.now }
-{
-    text.iter().take_while(|glyph| glyph.is_digit()).count()
 }
 
 // The whole number of the digits, where there are some and it is within its limit.

@@ -22,16 +22,16 @@ pub struct Prompt {
 
 impl Model for Prompt {
     ghost use Rattle.std.specs.Prelude.{ℕ, List, length, take};
-    ghost use Rattle.fn_editor.specs.Padded.{IsPadded, counted_length, padded, padded_again};
-    ghost use Rattle.apl_arrays.specs.Padded.{same_parts};
+    ghost use Rattle.apl_arrays.specs.Glyph.{blank};
+    ghost use Rattle.apl_arrays.specs.Padded.{IsPadded, counted_length, padded, padded_again, same_parts};
 
     ghost Value = { List ℕ };
 
     ghost view = { λ p. take p.len p.glyphs };
 
-    ghost invariant = { λ p. IsPadded p.glyphs p.len };
+    ghost invariant = { λ p. IsPadded 8 blank p.glyphs p.len };
 
-    ghost inverse = { λ glyphs. record { glyphs = padded glyphs; len = length glyphs } };
+    ghost inverse = { λ glyphs. record { glyphs = padded 8 blank glyphs; len = length glyphs } };
 
     ghost inverse_ok = { λ p h. same_parts (λ glyphs len. record { glyphs = glyphs; len = len }) (padded_again h) (counted_length h) };
 }

@@ -2,7 +2,8 @@ ghost use Rattle.std.specs.Prelude.{◌≡◌, ◌<◌, ℕ, List as ListOf, Som
 ghost use Rattle.std.specs.BTreeSet as set;
 ghost use Rattle.std.specs.List.{list_any};
 ghost use Rattle.apl_workspace.specs.Meaning.{table_weight, with_meaning, without_names};
-ghost use Rattle.apl_workspace.specs.Names.{is_name_of, name_order};
+ghost use Rattle.apl_arrays.specs.Name.{name_order};
+ghost use Rattle.apl_workspace.specs.Names.{is_name_of};
 ghost use Rattle.apl_workspace.specs.Sorted.{sorted};
 
 use super::{Table, discard_old, put_in};

@@ -3,10 +3,10 @@ ghost use Rattle.apl_workspace.specs.Limits.{most_weight};
 ghost use Rattle.apl_workspace.specs.Meaning.{is_function_meaning};
 ghost use Rattle.apl_workspace.specs.Workspace.{IsFull, global_in, is_addressee, is_of_another, is_shared, marked, takes_offer, unmarked, with_global, workspace_weight};
 
-use crate::limits::{OFFER_LIMIT, WEIGHT_LIMIT};
+use crate::limits::WEIGHT_LIMIT;
 use crate::room::reserve_one;
 use crate::{Meaning, Remake, Workspace};
-use apl_arrays::{Array, Fail, Name};
+use apl_arrays::{Array, Fail, Name, OFFER_LIMIT};
 
 impl Workspace {
     /// Marks a global name as shared with its own copy of the value, and lists its offer last. A name that was shared

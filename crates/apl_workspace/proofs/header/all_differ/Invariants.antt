@@ -1,7 +1,8 @@
 use Rattle.std.proofs.Common.{◌≡◌, ℕ, List, true, take}
 use Rattle.std.specs.List.{list_any}
 use Rattle.std.specs.BTreeSet as set
-use Rattle.apl_workspace.specs.Names.{name_order, is_name_of, all_differ}
+use Rattle.apl_arrays.specs.Name.{name_order}
+use Rattle.apl_workspace.specs.Names.{is_name_of, all_differ}
 use Rattle.apl_workspace.proofs.header.all_differ.Given as goal
 
 -- the names so far differ, and the set has them and no others

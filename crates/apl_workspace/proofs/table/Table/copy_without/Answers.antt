@@ -1,7 +1,7 @@
 use Rattle.std.proofs.Common.{◌≡◌, ◌∙◌, ℕ, ap, subst, sym}
 use Rattle.std.specs.BTreeSet as set
 use Rattle.apl_workspace.specs.Meaning.{IsTable, Names, table_weight, without_names}
-use Rattle.apl_workspace.specs.Names.{name_order}
+use Rattle.apl_arrays.specs.Name.{name_order}
 use Rattle.apl_workspace.specs.Sorted.{sorted}
 use Rattle.apl_workspace.proofs.Without.{is_table_without_all, kept_in_order}
 use Rattle.apl_workspace.proofs.table.Table.copy_without.Goals as goal

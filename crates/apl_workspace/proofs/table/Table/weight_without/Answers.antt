@@ -2,7 +2,7 @@ use Rattle.std.proofs.Common.{refl, subst, take, true, false}
 use Rattle.std.specs.List.Sorted.{IsStrictlySortedBy}
 use Rattle.std.specs.Map.{keys_of}
 use Rattle.apl_workspace.specs.Meaning.{Names, weight_in}
-use Rattle.apl_workspace.specs.Names.{name_order}
+use Rattle.apl_arrays.specs.Name.{name_order}
 use Rattle.apl_workspace.proofs.NameLaw.{has_more, was_new, was_there}
 use Rattle.apl_workspace.proofs.Without.{weighs_within, weight_left}
 use Rattle.apl_workspace.proofs.table.Table.weight_without.Goals as goal

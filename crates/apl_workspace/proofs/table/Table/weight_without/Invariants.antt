@@ -2,7 +2,8 @@ use Rattle.std.proofs.Common.{◌≡◌, ℕ, List, take}
 use Rattle.std.specs.BTreeSet as set
 use Rattle.std.specs.List.{list_any}
 use Rattle.apl_workspace.specs.Meaning.{table_weight, without_names}
-use Rattle.apl_workspace.specs.Names.{is_name_of, name_order}
+use Rattle.apl_arrays.specs.Name.{name_order}
+use Rattle.apl_workspace.specs.Names.{is_name_of}
 use Rattle.apl_workspace.proofs.table.Table.weight_without.Given as goal
 
 -- the set has the names so far, and the weight is what is left without them

@@ -1,6 +1,6 @@
 use Rattle.std.proofs.Common.{◌-◌, arith}
 use Rattle.std.specs.BTreeSet as set
-use Rattle.apl_workspace.specs.Names.{name_order}
+use Rattle.apl_arrays.specs.Name.{name_order}
 use Rattle.apl_workspace.proofs.Without.{copied_on}
 use Rattle.apl_workspace.proofs.table.copying.copy_of_others.Goals as goal
 
