@@ -60,11 +60,11 @@ OnWantOfMemory (Ok value) fact = ⊤
 OnWantOfMemory (Err (fail.Report report)) fact = ⊤
 OnWantOfMemory (Err fail.WantOfMemory) fact = fact
 
--- the items by place, or DOMAIN where the rule gives none; memory ran out only where it gives one at each place
+-- the items by place, or DOMAIN where the rule gives none
 abbrev pub MakesItems : {T : Type 0} → Result (Listed T) Fail → ℕ → (ℕ → Option T) → Type 0
 MakesItems (Ok list) count rule = IsByPlace count rule list.items
 MakesItems (Err (fail.Report report)) count rule = (report ≡ Domain) × LacksItem count rule
-MakesItems (Err fail.WantOfMemory) count rule = HasItems count rule
+MakesItems (Err fail.WantOfMemory) count rule = ⊤
 
 -- whatever a call answers at one of so many places is what a definition gives there
 abbrev pub Follows : {A : Type 0} → (ℕ → A → Type 0) → ℕ → (ℕ → A) → Type 0

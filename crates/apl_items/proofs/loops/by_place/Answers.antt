@@ -1,4 +1,4 @@
-use Rattle.std.proofs.Common.{◌*◌, ◌%◌, ◌<◌, ℕ, Some, arith}
+use Rattle.std.proofs.Common.{◌*◌, ◌%◌, Some, arith}
 use Rattle.apl_items.specs.Places.{GivesEach}
 use Rattle.apl_items.proofs.RowLemmas.{in_one_row, weaker_want}
 use Rattle.apl_items.proofs.loops.by_place.Goals as goal

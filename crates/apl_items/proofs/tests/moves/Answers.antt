@@ -1,7 +1,6 @@
-use Rattle.std.proofs.Common.{◌≡◌, ℕ, ◌+◌, ◌*◌, ◌/◌, ◌%◌, ◌<◌, nat_lt, cond, Bool, true, false, Option, Some, None, length, ap, ◌∙◌, sym, arith}
+use Rattle.std.proofs.Common.{◌≡◌, ℕ, ◌+◌, ◌*◌, ◌/◌, ◌%◌, ◌<◌, nat_lt, cond, Some, None, length, ap, arith}
 use Rattle.std.proofs.lemmas.Bool.Decides.{nat_tests}
 use Rattle.std.proofs.lemmas.Nat.{div_below, mod_below}
-use Rattle.apl_items.specs.Axes.{source_by_axes}
 use Rattle.apl_items.proofs.tests.moves.Goals as goal
 
 onward_within : (place from size : ℕ) → size ≡ 3 → cond (nat_lt (0 + place) 2) (Some ((0 + place) + 1)) None ≡ Some from → from < size
