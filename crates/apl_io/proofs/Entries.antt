@@ -17,7 +17,8 @@ use Rattle.std.proofs.lemmas.Map.Text.{is_eq-slice_cmp, btree_map_updates_text}
 use Rattle.apl_arrays.specs.List.{Listed}
 use Rattle.apl_arrays.specs.FileList.{PlainFile, plain_file}
 use Rattle.apl_arrays.specs.declared.file_list.File.{File}
-use Rattle.apl_io.specs.Content.{by_name, by_user_and_name, MayRead, MayRemove}
+use Rattle.apl_arrays.specs.Name.{name_order}
+use Rattle.apl_io.specs.Content.{by_user_and_name, MayRead, MayRemove}
 use Rattle.apl_io.specs.Kept.{file_entry, text_entry, shelf_entry}
 use Rattle.apl_io.specs.Replies.{plain_bytes}
 
@@ -27,26 +28,26 @@ choice f true v r = refl
 choice f false v r = refl
 
 -- the entry of a name, among what was written
-pub text_lookup : (name : List ℕ) (entries : List (String Global × Option (Listed ℕ))) → lookup (is_at (by_name name)) (map text_entry entries) ≡ option_map plain_bytes (lookup (is_at (λ key. slice_cmp nat_cmp name (string_bytes key))) entries)
+pub text_lookup : (name : List ℕ) (entries : List (String Global × Option (Listed ℕ))) → lookup (is_at (name_order name)) (map text_entry entries) ≡ option_map plain_bytes (lookup (is_at (λ key. slice_cmp nat_cmp name (string_bytes key))) entries)
 text_lookup name [] = refl
 text_lookup name (entry ∷ entries) =
-    ap (λ r. cond (is_at (by_name name) (string_bytes entry.0)) (Some (plain_bytes entry.1)) r) (text_lookup name entries)
-    ∙ sym (choice plain_bytes (is_at (by_name name) (string_bytes entry.0)) (Some entry.1) (lookup (is_at (λ key. slice_cmp nat_cmp name (string_bytes key))) entries))
+    ap (λ r. cond (is_at (name_order name) (string_bytes entry.0)) (Some (plain_bytes entry.1)) r) (text_lookup name entries)
+    ∙ sym (choice plain_bytes (is_at (name_order name) (string_bytes entry.0)) (Some entry.1) (lookup (is_at (λ key. slice_cmp nat_cmp name (string_bytes key))) entries))
 
 -- the entry of a name, after one more was written
 pub text_put : (name : List ℕ) (key : String Global) (m n : BTreeMap (String Global) (Option (Listed ℕ))) (kept : Option (Listed ℕ)) → string_bytes key ≡ name → tree.UpdatesBy string_cmp (string_cmp key) m n (Some kept)
-    → (other : List ℕ) → lookup (is_at (by_name other)) (map text_entry n.entries) ≡ cond (is_at (by_name name) other) (Some (plain_bytes kept)) (lookup (is_at (by_name other)) (map text_entry m.entries))
+    → (other : List ℕ) → lookup (is_at (name_order other)) (map text_entry n.entries) ≡ cond (is_at (name_order name) other) (Some (plain_bytes kept)) (lookup (is_at (name_order other)) (map text_entry m.entries))
 text_put name key m n kept same updates other =
     text_lookup other n.entries ∙ ap (λ r. option_map plain_bytes r) (btree_map_updates_text (string_bytes key) m n (Some kept) updates other)
     ∙ choice plain_bytes (bytes_eq (string_bytes key) other) (Some kept) (tree.get_by_text m other)
     ∙ ap (λ b. cond b (Some (plain_bytes kept)) (option_map plain_bytes (tree.get_by_text m other))) (ap (λ bytes. bytes_eq bytes other) same ∙ sym (is_eq-slice_cmp name other))
-    ∙ ap (λ r. cond (is_at (by_name name) other) (Some (plain_bytes kept)) r) (sym (text_lookup other m.entries))
+    ∙ ap (λ r. cond (is_at (name_order name) other) (Some (plain_bytes kept)) r) (sym (text_lookup other m.entries))
 
 -- the entry of a file that was given
-pub file_lookup : (name : List ℕ) (files : List File) → lookup (is_at (by_name name)) (map file_entry (map plain_file files)) ≡ option_map (λ file. Some file.bytes.items) (find (λ file. bytes_eq name file.name) files)
+pub file_lookup : (name : List ℕ) (files : List File) → lookup (is_at (name_order name)) (map file_entry (map plain_file files)) ≡ option_map (λ file. Some file.bytes.items) (find (λ file. bytes_eq name file.name) files)
 file_lookup name [] = refl
 file_lookup name (file ∷ files) =
-    ap (λ r. cond (is_at (by_name name) file.name) (Some (Some file.bytes.items)) r) (file_lookup name files)
+    ap (λ r. cond (is_at (name_order name) file.name) (Some (Some file.bytes.items)) r) (file_lookup name files)
     ∙ ap (λ b. cond b (Some (Some file.bytes.items)) (option_map (λ f. Some f.bytes.items) (find (λ f. bytes_eq name f.name) files))) (is_eq-slice_cmp name file.name)
     ∙ sym (choice (λ f. Some f.bytes.items) (bytes_eq name file.name) (Some file) (find (λ f. bytes_eq name f.name) files))
 
@@ -98,20 +99,20 @@ shelf_read key entries kept answer is may = rw (shelf_lookup key entries, ← is
 
 -- what may be read of the files that were given
 pub given_read : (name : List ℕ) (files : List File) (plain : List PlainFile) (found : Option File) (answer : Option (List ℕ)) → map plain_file files ≡ plain → found ≡ find (λ file. bytes_eq name file.name) files
-    → answer ≡ option_map (λ file. file.bytes.items) found → MayRead (lookup (is_at (by_name name)) (map file_entry plain)) answer
+    → answer ≡ option_map (λ file. file.bytes.items) found → MayRead (lookup (is_at (name_order name)) (map file_entry plain)) answer
 given_read name files plain None answer same is copied = rw (← same, file_lookup name files, ← is) copied
 given_read name files plain (Some file) answer same is copied = rw (← same, file_lookup name files, ← is) copied
 
 -- what was written counts first
 pub written_first : (name : List ℕ) (entries : List (String Global × Option (Listed ℕ))) (rest : List (List ℕ × Option (List ℕ))) (kept : Option (Bor (Option (Listed ℕ)))) → option_copied kept ≡ lookup (is_at (λ key. slice_cmp nat_cmp name (string_bytes key))) entries → is_some kept ≡ true
-    → lookup (is_at (by_name name)) (map text_entry entries ++ rest) ≡ option_map plain_bytes (option_copied kept)
+    → lookup (is_at (name_order name)) (map text_entry entries ++ rest) ≡ option_map plain_bytes (option_copied kept)
 written_first name entries rest None is some = absurd (false≢true some)
 written_first name entries rest (Some kept) is some =
-    lookup_append (is_at (by_name name)) (map text_entry entries) rest ∙ ap (λ r. option_or r (lookup (is_at (by_name name)) rest)) (text_lookup name entries ∙ ap (λ r. option_map plain_bytes r) (sym is))
+    lookup_append (is_at (name_order name)) (map text_entry entries) rest ∙ ap (λ r. option_or r (lookup (is_at (name_order name)) rest)) (text_lookup name entries ∙ ap (λ r. option_map plain_bytes r) (sym is))
 
 -- where nothing was written, the files that were given count
 pub unwritten : (name : List ℕ) (entries : List (String Global × Option (Listed ℕ))) (rest : List (List ℕ × Option (List ℕ))) (kept : Option (Bor (Option (Listed ℕ)))) → option_copied kept ≡ lookup (is_at (λ key. slice_cmp nat_cmp name (string_bytes key))) entries → is_some kept ≡ false
-    → lookup (is_at (by_name name)) (map text_entry entries ++ rest) ≡ lookup (is_at (by_name name)) rest
+    → lookup (is_at (name_order name)) (map text_entry entries ++ rest) ≡ lookup (is_at (name_order name)) rest
 unwritten name entries rest (Some kept) is none = absurd (false≢true (sym none))
 unwritten name entries rest None is none =
-    lookup_append (is_at (by_name name)) (map text_entry entries) rest ∙ ap (λ r. option_or r (lookup (is_at (by_name name)) rest)) (text_lookup name entries ∙ ap (λ r. option_map plain_bytes r) (sym is))
+    lookup_append (is_at (name_order name)) (map text_entry entries) rest ∙ ap (λ r. option_or r (lookup (is_at (name_order name)) rest)) (text_lookup name entries ∙ ap (λ r. option_map plain_bytes r) (sym is))

@@ -15,7 +15,8 @@ use Rattle.std.proofs.lemmas.Map.Text.{is_eq-slice_cmp}
 use Rattle.std.proofs.lemmas.Bool.{false≢true}
 use Rattle.std.proofs.lemmas.Bool.Decides.{nat_tests}
 use Rattle.apl_arrays.specs.List.{Listed}
-use Rattle.apl_io.specs.Content.{by_name, by_user_and_name, has_name}
+use Rattle.apl_arrays.specs.Name.{name_order}
+use Rattle.apl_io.specs.Content.{by_user_and_name, has_name}
 use Rattle.apl_io.specs.Kept.{shelf_entry, names_in}
 use Rattle.apl_io.specs.Replies.{plain_bytes}
 
@@ -66,7 +67,7 @@ listed user (entry ∷ entries) name =
     rw (same_key user entry.0.0 name entry.0.1, names_of_choice) (one_more_entry (eqb user entry.0.0) (bytes_eq name entry.0.1) entry.1 (lookup (is_at (by_user_and_name (user, name))) (map shelf_entry entries)) entry.0.1 name (names_in user entries) refl (listed user entries name))
 
 -- of one user the names alone are compared
-one_user : (user other : ℕ) (a b : List ℕ) → eqb user other ≡ true → by_user_and_name (user, a) (other, b) ≡ Less → by_name a b ≡ Less
+one_user : (user other : ℕ) (a b : List ℕ) → eqb user other ≡ true → by_user_and_name (user, a) (other, b) ≡ Less → name_order a b ≡ Less
 one_user user other a b same below =
     let equal : nat_cmp user other ≡ Equal = sym (nat_cmp_is user other Equal (eqb-true user other same)) in
     ap (λ o. ordering_then o (slice_cmp nat_cmp a b)) (sym equal) ∙ below
@@ -78,26 +79,26 @@ all_of_choice P true false first names holds all = all
 all_of_choice P true true first names holds all = (holds refl, all)
 
 -- a name below all keys is below the names
-below_names : (user : ℕ) (name : List ℕ) (entries : List ((ℕ × List ℕ) × Option (Listed ℕ))) → AllByRecursion (λ key. by_user_and_name (user, name) key ≡ Less) (keys_of entries) → AllByRecursion (λ other. by_name name other ≡ Less) (names_in user entries)
+below_names : (user : ℕ) (name : List ℕ) (entries : List ((ℕ × List ℕ) × Option (Listed ℕ))) → AllByRecursion (λ key. by_user_and_name (user, name) key ≡ Less) (keys_of entries) → AllByRecursion (λ other. name_order name other ≡ Less) (names_in user entries)
 below_names user name [] all = tt
 below_names user name (entry ∷ entries) all =
-    rw names_of_choice (all_of_choice (λ other. by_name name other ≡ Less) (eqb user entry.0.0) (is_some entry.1) entry.0.1 (names_in user entries) (λ same. one_user user entry.0.0 name entry.0.1 same all.0) (below_names user name entries all.1))
+    rw names_of_choice (all_of_choice (λ other. name_order name other ≡ Less) (eqb user entry.0.0) (is_some entry.1) entry.0.1 (names_in user entries) (λ same. one_user user entry.0.0 name entry.0.1 same all.0) (below_names user name entries all.1))
 
 -- one more name before others, where it counts
-sorted_choice : (same some : Bool) (first : List ℕ) (names : List (List ℕ)) → (same ≡ true → AllByRecursion (λ other. by_name first other ≡ Less) names) → IsStrictlySortedBy by_name names → IsStrictlySortedBy by_name (cond (same && some) (first ∷ names) names)
+sorted_choice : (same some : Bool) (first : List ℕ) (names : List (List ℕ)) → (same ≡ true → AllByRecursion (λ other. name_order first other ≡ Less) names) → IsStrictlySortedBy name_order names → IsStrictlySortedBy name_order (cond (same && some) (first ∷ names) names)
 unfolding IsStrictlySortedBy
 sorted_choice false some first names below sorted = sorted
 sorted_choice true false first names below sorted = sorted
 sorted_choice true true first names below sorted = (below refl, sorted)
 
 -- the first key is below the names of its user
-below_own : (user other : ℕ) (name : List ℕ) (entries : List ((ℕ × List ℕ) × Option (Listed ℕ))) → AllByRecursion (λ key. by_user_and_name (other, name) key ≡ Less) (keys_of entries) → eqb user other ≡ true → AllByRecursion (λ next. by_name name next ≡ Less) (names_in user entries)
+below_own : (user other : ℕ) (name : List ℕ) (entries : List ((ℕ × List ℕ) × Option (Listed ℕ))) → AllByRecursion (λ key. by_user_and_name (other, name) key ≡ Less) (keys_of entries) → eqb user other ≡ true → AllByRecursion (λ next. name_order name next ≡ Less) (names_in user entries)
 below_own user other name entries all same =
     let P : ℕ → Type 0 = λ u. AllByRecursion (λ key. by_user_and_name (u, name) key ≡ Less) (keys_of entries) in
     below_names user name entries (subst P (sym (eqb-true user other same)) all)
 
 -- the names of a user ascend where the keys do
-pub ascending : (user : ℕ) (entries : List ((ℕ × List ℕ) × Option (Listed ℕ))) → IsStrictlySortedBy by_user_and_name (keys_of entries) → IsStrictlySortedBy by_name (names_in user entries)
+pub ascending : (user : ℕ) (entries : List ((ℕ × List ℕ) × Option (Listed ℕ))) → IsStrictlySortedBy by_user_and_name (keys_of entries) → IsStrictlySortedBy name_order (names_in user entries)
 unfolding IsStrictlySortedBy
 ascending user [] sorted = tt
 ascending user (entry ∷ entries) sorted =

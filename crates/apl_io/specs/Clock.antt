@@ -1,5 +1,6 @@
 -- What a clock tells, and what a reading does to it.
-use Rattle.std.specs.Prelude.{◌≡◌, ℕ, ℤ, List, [], ◌∷◌, Option, None, Some, IfSome, if◌then◌else◌}
+use Rattle.std.specs.Prelude.{◌≡◌, ℕ, ℤ, List, Option, None, Some, IfSome, if◌then◌else◌}
+use Rattle.apl_arrays.specs.List.{first_of, others_of}
 use Rattle.apl_io.specs.Content.{fails_after}
 use Rattle.apl_io.specs.Faults.{one_more}
 
@@ -8,16 +9,6 @@ pub record Ticks : Type 0 where
   pub left : List ℤ
   pub calls : ℕ
   pub fails : List ℕ
-
--- the first of the readings left, and the others
-abbrev pub first_of : List ℤ → Option ℤ
-first_of [] = None
-first_of (number ∷ rest) = Some number
-
--- and those that come after it
-abbrev pub others_of : List ℤ → List ℤ
-others_of [] = []
-others_of (number ∷ rest) = rest
 
 -- the next reading, or none where the call fails: its number is one of those that are to fail, or no reading is left
 abbrev pub next_reading : Ticks → Option ℤ

@@ -3,10 +3,10 @@ use Rattle.std.specs.Prelude.{◌≡◌, ◌==◌, ℕ, Bool, true, false, List,
 use Rattle.std.specs.List.{list_any}
 use Rattle.std.specs.Ordering.{nat_cmp, ordering_then}
 use Rattle.std.specs.declared.cmp.Ordering.{Ordering}
-use Rattle.std.specs.Cmp.Lexicographic.{slice_cmp}
 use Rattle.std.specs.BTreeMap.{is_at}
 use Rattle.std.specs.Map.{lookup}
 use Rattle.std.specs.Str.{bytes_eq}
+use Rattle.apl_arrays.specs.Name.{name_order}
 use Rattle.apl_io.specs.Faults.{one_more}
 use Rattle.apl_io.specs.declared.store_error.StoreError.{StoreError}
 use Rattle.apl_io.specs.declared.store_error.StoreError.TheVariants.{Failed, WantOfMemory}
@@ -18,13 +18,9 @@ pub record Told (K : Type 0) : Type 0 where
   pub calls : ℕ
   pub fails : List ℕ
 
--- names of files are ordered by their bytes
-abbrev pub by_name : List ℕ → List ℕ → Ordering
-by_name = slice_cmp nat_cmp
-
 -- users come first, then names
 abbrev pub by_user_and_name : ℕ × List ℕ → ℕ × List ℕ → Ordering
-by_user_and_name a b = ordering_then (nat_cmp a.0 b.0) (slice_cmp nat_cmp a.1 b.1)
+by_user_and_name a b = ordering_then (nat_cmp a.0 b.0) (name_order a.1 b.1)
 
 -- what is told of a key: nothing is kept there, or its bytes, or an entry whose bytes are told no more
 abbrev pub entry_of : {K : Type 0} → (K → K → Ordering) → Told K → K → Option (Option (List ℕ))

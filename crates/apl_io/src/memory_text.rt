@@ -3,7 +3,8 @@ ghost use Rattle.std.specs.List.{find};
 ghost use Rattle.std.specs.Str.{bytes_eq};
 ghost use Rattle.std.specs.BTreeMap.{is_at};
 ghost use Rattle.std.specs.Map.{lookup};
-ghost use Rattle.apl_io.specs.Content.{by_name, MayRead};
+ghost use Rattle.apl_arrays.specs.Name.{name_order};
+ghost use Rattle.apl_io.specs.Content.{MayRead};
 ghost use Rattle.apl_io.specs.Kept.{file_entry, text_entry};
 ghost use Rattle.apl_io.specs.Replies.{plain_bytes};
 
@@ -95,7 +96,7 @@ fn copy_of(
     given: &FileList,
     name: &str,
 ) -> Result<Option<Bytes>, WantOfMemory>
-    ensures { IfOk result (λ copy. MayRead (lookup (is_at (by_name name.now)) (map text_entry written.now.entries ++ map file_entry given.now.items)) (plain_bytes copy)) }
+    ensures { IfOk result (λ copy. MayRead (lookup (is_at (name_order name.now)) (map text_entry written.now.entries ++ map file_entry given.now.items)) (plain_bytes copy)) }
 {
     let kept = written.get(name);
     if kept.is_some() {
@@ -107,7 +108,7 @@ fn copy_of(
 
 // The bytes of the file of this name again, or `None` where there is none.
 fn copy_given(alloc: Global, files: &FileList, name: &str) -> Result<Option<Bytes>, WantOfMemory>
-    ensures { IfOk result (λ copy. MayRead (lookup (is_at (by_name name.now)) (map file_entry files.now.items)) (plain_bytes copy)) }
+    ensures { IfOk result (λ copy. MayRead (lookup (is_at (name_order name.now)) (map file_entry files.now.items)) (plain_bytes copy)) }
 {
     match file_of(files.as_slice(), name) {
         Some(file) => Ok(Some(file.bytes.copy(alloc)?)),
@@ -131,8 +132,8 @@ fn put(
     name: &str,
     kept: Option<Bytes>,
 ) -> Result<(), WantOfMemory>
-    ensures ok { OnOk result ((other : List ℕ) → lookup (is_at (by_name other)) (map text_entry written.new.entries)
-        ≡ (if is_at (by_name name.now) other then Some (plain_bytes kept) else lookup (is_at (by_name other)) (map text_entry written.old.entries))) }
+    ensures ok { OnOk result ((other : List ℕ) → lookup (is_at (name_order other)) (map text_entry written.new.entries)
+        ≡ (if is_at (name_order name.now) other then Some (plain_bytes kept) else lookup (is_at (name_order other)) (map text_entry written.old.entries))) }
     ensures err { OnErr result (written.new.entries ≡ written.old.entries) }
 {
     let key = String::from_str(alloc, name)?;

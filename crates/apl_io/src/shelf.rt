@@ -1,7 +1,8 @@
 ghost use Rattle.std.specs.Prelude.{◌≡◌, ◌≤◌, ℕ, List, IsErrOf, IfOk};
 ghost use Rattle.std.specs.declared.option.Option.{Option};
 ghost use Rattle.std.specs.List.Sorted.{IsStrictlySortedBy};
-ghost use Rattle.apl_io.specs.Content.{Told, by_name, by_user_and_name, Reads, Writes, Removes, Lists};
+ghost use Rattle.apl_arrays.specs.Name.{name_order};
+ghost use Rattle.apl_io.specs.Content.{Told, by_user_and_name, Reads, Writes, Removes, Lists};
 ghost use Rattle.apl_io.specs.Faults.{Rose};
 ghost use Rattle.apl_io.specs.Replies.{plain_read, plain_names};
 
@@ -48,7 +49,7 @@ pub trait Shelf {
     /// The names under which a user has something, ascending.
     fn names(&mut self, user: u32) -> Result<NameList, StoreError>
         ensures lists { Lists (told self.old) user (plain_names result) (told self.new) }
-        ensures ascending { IfOk result (λ names. IsStrictlySortedBy by_name names.items) }
+        ensures ascending { IfOk result (λ names. IsStrictlySortedBy name_order names.items) }
         ensures counted { faults self.old ≤ faults self.new }
         ensures cause { IsErrOf result StoreError.Failed → Rose (faults self.old) (faults self.new) };
 }

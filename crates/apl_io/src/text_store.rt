@@ -1,6 +1,7 @@
 ghost use Rattle.std.specs.Prelude.{◌≡◌, ◌≤◌, ℕ, List, IsErrOf};
 ghost use Rattle.std.specs.declared.option.Option.{Option};
-ghost use Rattle.apl_io.specs.Content.{Told, by_name, Reads, Writes};
+ghost use Rattle.apl_arrays.specs.Name.{name_order};
+ghost use Rattle.apl_io.specs.Content.{Told, Reads, Writes};
 ghost use Rattle.apl_io.specs.Faults.{Rose};
 ghost use Rattle.apl_io.specs.Replies.{plain_read};
 
@@ -25,13 +26,13 @@ pub trait TextStore {
 
     /// The bytes of a file, or `None` where there is no such file.
     fn read(&mut self, name: &str) -> Result<Option<Bytes>, StoreError>
-        ensures reads { Reads by_name (told self.old) name.now (plain_read result) (told self.new) }
+        ensures reads { Reads name_order (told self.old) name.now (plain_read result) (told self.new) }
         ensures counted { faults self.old ≤ faults self.new }
         ensures cause { IsErrOf result StoreError.Failed → Rose (faults self.old) (faults self.new) };
 
     /// Puts these bytes in the place of a file's, or makes the file. A call that fails may leave anything there.
     fn replace(&mut self, name: &str, bytes: &[u8]) -> Result<(), StoreError>
-        ensures writes { Writes by_name (told self.old) name.now bytes.now result (told self.new) }
+        ensures writes { Writes name_order (told self.old) name.now bytes.now result (told self.new) }
         ensures counted { faults self.old ≤ faults self.new }
         ensures cause { IsErrOf result StoreError.Failed → Rose (faults self.old) (faults self.new) };
 }

@@ -1,5 +1,5 @@
 -- The lines of a file, one after another.
-use Rattle.std.proofs.Common.{◌≡◌, ◌≢◌, ◌∙◌, ⊎_elim, ◌+◌, ◌<◌, ◌≤◌, ℕ, suc, List, [], ◌∷◌, ◌++◌, Bool, true, false, cond, not, eqb, length, take, drop, refl, sym, ap, subst, map, arith, append-nil, ◌-◌, zero, Some, None, ltb, All, get_or, take_all, length-drop}
+use Rattle.std.proofs.Common.{◌≡◌, ◌≢◌, ◌∙◌, ⊎_elim, ◌<◌, ◌≤◌, ℕ, suc, List, [], ◌∷◌, ◌++◌, cond, length, refl, sym, ap, subst, map, arith, append-nil, zero, All, get_or}
 use Rattle.std.specs.List.{AllZip}
 use Rattle.std.proofs.lemmas.Bool.Decides.{eqb_tells}
 use Rattle.std.proofs.lemmas.List.Elements.{All-head, All-tail}

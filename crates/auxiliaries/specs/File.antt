@@ -1,5 +1,5 @@
 -- Text files: their lines, each ended by a line feed, which the last may lack.
-use Rattle.std.specs.Prelude.{◌==◌, ◌≤◌, ℕ, List, [], ◌∷◌, ◌++◌, length, if◌then◌else◌}
+use Rattle.std.specs.Prelude.{◌==◌, ◌≤◌, ℕ, List, [], ◌∷◌, length, if◌then◌else◌}
 use Rattle.std.specs.List.{AllZip}
 use Rattle.apl_arrays.specs.Glyph.{Spells}
 use Rattle.line_text.specs.Lines.{line_feed}

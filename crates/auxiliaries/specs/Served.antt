@@ -1,7 +1,8 @@
 -- The text auxiliary over a store: the protocol, and what it does to the store.
 use Rattle.std.specs.Prelude.{◌≡◌, ◌≤◌, ◌⊎◌, ℕ, List, Option, Result, IfSome, IsSomeAnd, IsErrOf}
 use Rattle.apl_arrays.specs.Array.{PlainArray}
-use Rattle.apl_io.specs.Content.{Told, by_name, entry_of, Reads, Writes}
+use Rattle.apl_arrays.specs.Name.{name_order}
+use Rattle.apl_io.specs.Content.{Told, entry_of, Reads, Writes}
 use Rattle.apl_io.specs.Faults.{Rose, one_more}
 use Rattle.apl_io.specs.declared.store_error.StoreError.{StoreError}
 use Rattle.apl_io.specs.declared.store_error.StoreError.TheVariants.{Failed}
@@ -22,14 +23,14 @@ module _ {T : Type 0} (told : T → Option (Told (List ℕ))) (faults : T → �
   -- one call of the store for a file, and what follows from its answer
   pub record IsReadStep (old : Served T) (name : List ℕ) (answer : PlainArray) (new : Served T) : Type 0 where
     pub reply : Result (Option (List ℕ)) StoreError
-    pub told_reply : Reads by_name (told old.store) name reply (told new.store)
+    pub told_reply : Reads name_order (told old.store) name reply (told new.store)
     pub fault : CountsFaults (faults old.store) (faults new.store) reply
     pub after : AfterRead reply answer new.state
 
   -- one call of the store to replace a file, and what follows from its answer
   pub record IsReplaceStep (old : Served T) (name bytes : List ℕ) (answer : PlainArray) (new : Served T) : Type 0 where
     pub reply : Result (Unit {0}) StoreError
-    pub told_reply : Writes by_name (told old.store) name bytes reply (told new.store)
+    pub told_reply : Writes name_order (told old.store) name bytes reply (told new.store)
     pub fault : CountsFaults (faults old.store) (faults new.store) reply
     pub after : AfterReplace reply old.state answer new.state
 
@@ -49,4 +50,4 @@ forgotten served = record { store = served.store; state = idle }
 
 -- what a store tells is kept, though it may have had one call more
 abbrev pub KeepsFiles : Option (Told (List ℕ)) → Option (Told (List ℕ)) → Type 0
-KeepsFiles before now = IfSome before (λ old. IsSomeAnd now (λ new. (new.fails ≡ old.fails) × ((new.calls ≡ old.calls) ⊎ (new.calls ≡ one_more old.calls)) × ((name : List ℕ) → entry_of by_name new name ≡ entry_of by_name old name)))
+KeepsFiles before now = IfSome before (λ old. IsSomeAnd now (λ new. (new.fails ≡ old.fails) × ((new.calls ≡ old.calls) ⊎ (new.calls ≡ one_more old.calls)) × ((name : List ℕ) → entry_of name_order new name ≡ entry_of name_order old name)))

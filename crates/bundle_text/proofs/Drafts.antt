@@ -7,11 +7,12 @@ use Rattle.std.proofs.lemmas.Bool.{ltb-true}
 use Rattle.std.proofs.lemmas.List.Elements.{All-nil, All-push, All-pop}
 use Rattle.apl_arrays.specs.Glyph.{IsGlyph}
 use Rattle.apl_arrays.specs.Limits.{most_line_glyphs, most_user_lines}
-use Rattle.bundle_text.specs.User.{PlainUser, IsAscending}
+use Rattle.apl_arrays.specs.Ascending.{AscendBy}
+use Rattle.bundle_text.specs.User.{PlainUser}
 use Rattle.bundle_text.specs.Bundle.{most_read_users, IsUserNumber, IsUser, IsLine}
 use Rattle.bundle_text.specs.Draft.{IsDraft}
 
-ascending_push : (users : List PlainUser) (last next : PlainUser) → IsAscending (users ++ last ∷ []) → last.number < next.number → IsAscending ((users ++ last ∷ []) ++ next ∷ [])
+ascending_push : (users : List PlainUser) (last next : PlainUser) → AscendBy (λ user. user.number) (users ++ last ∷ []) → last.number < next.number → AscendBy (λ user. user.number) ((users ++ last ∷ []) ++ next ∷ [])
 ascending_push [] last next a below = (below, tt)
 ascending_push (one ∷ []) last next a below = (a.0, (below, tt))
 ascending_push (one ∷ other ∷ users) last next a below = (a.0, ascending_push (other ∷ users) last next a.1 below)
@@ -20,8 +21,8 @@ ascending_push (one ∷ other ∷ users) last next a below = (a.0, ascending_pus
 abbrev all_of : List PlainUser → Option PlainUser → List PlainUser
 all_of users current = users ++ option_to_list current
 
-ascending_begun : (users : List PlainUser) (current : Option PlainUser) (next : PlainUser) → (current ≡ None → users ≡ []) → IsAscending (all_of users current) → option_map_or (λ last. nat_lt last.number next.number) current true ≡ true
-    → IsAscending (all_of users current ++ next ∷ [])
+ascending_begun : (users : List PlainUser) (current : Option PlainUser) (next : PlainUser) → (current ≡ None → users ≡ []) → AscendBy (λ user. user.number) (all_of users current) → option_map_or (λ last. nat_lt last.number next.number) current true ≡ true
+    → AscendBy (λ user. user.number) (all_of users current ++ next ∷ [])
 ascending_begun users None next first a below = rw (first refl) tt
 ascending_begun users (Some last) next first a below = ascending_push users last next a (ltb-true last.number next.number below)
 
@@ -33,13 +34,13 @@ pub begun : (users : List PlainUser) (current : Option PlainUser) (number : ℕ)
     → IsDraft (record { users = all; current = Some (record { number = number; lines = lines }) })
 begun users current number all lines draft range below whole room none =
     let next : PlainUser = record { number = number; lines = [] } in
-    let ascending : IsAscending (all ++ next ∷ []) = rw whole (ascending_begun users current next draft.first draft.ascending below) in
+    let ascending : AscendBy (λ user. user.number) (all ++ next ∷ []) = rw whole (ascending_begun users current next draft.first draft.ascending below) in
     let each : All IsUser (all ++ next ∷ []) = rw whole (All-push IsUser (all_of users current) next draft.each (new_user number range)) in
     rw none (record { first = λ e. absurd cc; few = omega (arith, length-append all (next ∷ [])); ascending = ascending; each = each })
 
 -- one line more
 
-ascending_changed : (users : List PlainUser) (last next : PlainUser) → IsAscending (users ++ last ∷ []) → last.number ≡ next.number → IsAscending (users ++ next ∷ [])
+ascending_changed : (users : List PlainUser) (last next : PlainUser) → AscendBy (λ user. user.number) (users ++ last ∷ []) → last.number ≡ next.number → AscendBy (λ user. user.number) (users ++ next ∷ [])
 ascending_changed [] last next a same = tt
 ascending_changed (one ∷ []) last next a same = (omega (arith, a.0), tt)
 ascending_changed (one ∷ other ∷ users) last next a same = (a.0, ascending_changed (other ∷ users) last next a.1 same)

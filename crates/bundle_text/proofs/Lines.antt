@@ -9,7 +9,8 @@ use Rattle.std.proofs.lemmas.Option.{cond_some}
 use Rattle.std.proofs.lemmas.List.Elements.{All-head, All-tail}
 use Rattle.std.proofs.lemmas.List.Concat.{flat_map-append}
 use Rattle.apl_arrays.specs.Limits.{most_line_glyphs, most_user_lines}
-use Rattle.bundle_text.specs.User.{PlainUser, IsAscending}
+use Rattle.apl_arrays.specs.Ascending.{AscendBy}
+use Rattle.bundle_text.specs.User.{PlainUser}
 use Rattle.bundle_text.specs.Bundle.{most_read_users, PlainBundle, IsUser, IsLine, IsBundle}
 use Rattle.bundle_text.specs.BundleLine.{PlainLine, user, input}
 use Rattle.bundle_text.specs.Draft.{PlainDraft, nothing_read, users_of, after_input, draft_after, bundle_of}
@@ -69,7 +70,7 @@ user_read users current one rest below room rules =
 
 -- users
 
-users_read : (users : List PlainUser) (last : PlainUser) (more : List PlainUser) → IsAscending (last ∷ more) → length users + 1 + length more ≤ most_read_users → All IsUser more
+users_read : (users : List PlainUser) (last : PlainUser) (more : List PlainUser) → AscendBy (λ user. user.number) (last ∷ more) → length users + 1 + length more ≤ most_read_users → All IsUser more
     → bundle_from (record { users = users; current = Some last }) (read_of more) ≡ Some (record { users = users ++ last ∷ more })
 users_read users last [] a few each = refl
 users_read users last (one ∷ more) a few each =

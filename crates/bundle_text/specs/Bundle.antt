@@ -5,7 +5,8 @@ use Rattle.apl_arrays.specs.Glyph.{IsGlyph}
 use Rattle.apl_arrays.specs.Limits.{most_line_glyphs, most_user_lines}
 use Rattle.apl_arrays.specs.Parties.{first_user, last_user}
 use Rattle.line_text.specs.Lines.{line_feed, user_lines, end_line, lines_text}
-use Rattle.bundle_text.specs.User.{PlainUser, IsAscending}
+use Rattle.apl_arrays.specs.Ascending.{AscendBy}
+use Rattle.bundle_text.specs.User.{PlainUser}
 
 -- the most users that this reader takes
 abbrev pub most_read_users : ℕ
@@ -33,7 +34,7 @@ pub record IsUser (user : PlainUser) : Type 0 where
 -- what the rules ask of a bundle
 pub record IsBundle (bundle : PlainBundle) : Type 0 where
   pub few : length bundle.users ≤ most_read_users
-  pub ascending : IsAscending bundle.users
+  pub ascending : AscendBy (λ user. user.number) bundle.users
   pub each : All IsUser bundle.users
 
 -- a user's heading and lines

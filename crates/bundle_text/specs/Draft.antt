@@ -2,7 +2,8 @@
 use Rattle.std.specs.Prelude.{◌≡◌, ℕ, ◌≤◌, true, ◌&&◌, nat_lt, nat_le, List, [], ◌∷◌, ◌++◌, length, All, Option, Some, None, option_to_list, if◌then◌else◌}
 use Rattle.std.specs.Option.{option_map_or}
 use Rattle.apl_arrays.specs.Limits.{most_line_glyphs, most_user_lines}
-use Rattle.bundle_text.specs.User.{PlainUser, IsAscending}
+use Rattle.apl_arrays.specs.Ascending.{AscendBy}
+use Rattle.bundle_text.specs.User.{PlainUser}
 use Rattle.bundle_text.specs.Bundle.{most_read_users, PlainBundle, IsUser}
 use Rattle.bundle_text.specs.BundleLine.{PlainLine, user, input, IsTextOf}
 
@@ -47,7 +48,7 @@ bundle_of draft = record { users = users_of draft }
 pub record IsDraft (draft : PlainDraft) : Type 0 where
   pub first : draft.current ≡ None → draft.users ≡ []
   pub few : length (users_of draft) ≤ most_read_users
-  pub ascending : IsAscending (users_of draft)
+  pub ascending : AscendBy (λ user. user.number) (users_of draft)
   pub each : All IsUser (users_of draft)
 
 -- the bytes are a line that leads from one draft to the next

@@ -1,5 +1,4 @@
-use Rattle.std.specs.Prelude.{ℕ, List, map}
-use Rattle.apl_arrays.specs.Ascending.{Ascend}
+use Rattle.std.specs.Prelude.{ℕ, List}
 use Rattle.bundle_text.specs.declared.user.BundleUser.{BundleUser}
 
 -- a user as plain data: its number, and its lines of glyphs
@@ -10,7 +9,3 @@ pub record PlainUser : Type 0 where
 -- a user, whatever room is left for its lines
 abbrev pub plain_user : BundleUser → PlainUser
 plain_user user = record { number = user.number; lines = user.lines.items }
-
--- the numbers ascend, each once
-abbrev pub IsAscending : List PlainUser → Type 0
-IsAscending users = Ascend (map (λ user. user.number) users)

@@ -1,6 +1,7 @@
 ghost use Rattle.std.specs.Prelude.{◌≡◌, ◌++◌, IfOk, MatchResult, Some, None, true, nat_lt, option_to_list};
 ghost use Rattle.std.specs.Option.{option_map, option_map_or};
-ghost use Rattle.bundle_text.specs.User.{plain_user, IsAscending};
+ghost use Rattle.apl_arrays.specs.Ascending.{AscendBy};
+ghost use Rattle.bundle_text.specs.User.{plain_user};
 ghost use Rattle.bundle_text.specs.Refused.{IsReason};
 
 use crate::bundle::Bundle;
@@ -43,7 +44,7 @@ fn comes_next(current: &Option<BundleUser>, number: u32) -> bool
 
 // All users: the whole ones, and the one whose lines were read.
 fn joined(mut users: UserList, current: Option<BundleUser>) -> Result<UserList, WantOfMemory>
-    requires { IsAscending (users.items ++ option_to_list (option_map plain_user current)) }
+    requires { AscendBy (λ user. user.number) (users.items ++ option_to_list (option_map plain_user current)) }
     ensures { IfOk result (λ all. all.items ≡ users.items ++ option_to_list (option_map plain_user current)) }
 {
     match current {

@@ -1,5 +1,6 @@
 ghost use Rattle.std.specs.Prelude.{◌≡◌, ◌+◌, ◌<◌, ◌≤◌, ◌∷◌, [], ◌++◌, IsOk, OnOk, OnErr, map};
-ghost use Rattle.bundle_text.specs.User.{plain_user, IsAscending};
+ghost use Rattle.apl_arrays.specs.Ascending.{AscendBy};
+ghost use Rattle.bundle_text.specs.User.{plain_user};
 
 use apl_arrays::{LineList, List, WantOfMemory};
 use std::alloc::Global;
@@ -21,13 +22,14 @@ pub struct UserList {
 impl Model for UserList {
     ghost use Rattle.std.specs.Prelude.{map};
     ghost use Rattle.apl_arrays.specs.List.{Listed};
-    ghost use Rattle.bundle_text.specs.User.{PlainUser, plain_user, IsAscending};
+    ghost use Rattle.apl_arrays.specs.Ascending.{AscendBy};
+    ghost use Rattle.bundle_text.specs.User.{PlainUser, plain_user};
 
     ghost Value = { Listed PlainUser };
 
     ghost view = { λ l. record { items = map plain_user l.users.items; room = l.users.room } };
 
-    ghost invariant = { λ l. IsAscending (map plain_user l.users.items) };
+    ghost invariant = { λ l. AscendBy (λ user. user.number) (map plain_user l.users.items) };
 }
 
 impl UserList {
@@ -43,7 +45,7 @@ impl UserList {
     /// The users, their numbers ascending. It takes no memory.
     pub fn as_slice(&self) -> &[BundleUser]
         ensures value { map plain_user result.now ≡ self.now.items }
-        ensures ascending { IsAscending self.now.items }
+        ensures ascending { AscendBy (λ user. user.number) self.now.items }
     {
         self.users.as_slice()
     }
@@ -51,7 +53,7 @@ impl UserList {
     /// The users as a `Vec`. It takes no memory.
     pub fn into_vec(self) -> Vec<BundleUser>
         ensures value { map plain_user result.items ≡ self.items }
-        ensures ascending { IsAscending self.items }
+        ensures ascending { AscendBy (λ user. user.number) self.items }
     {
         self.users.into_vec()
     }
@@ -70,7 +72,7 @@ impl UserList {
     /// Adds a user at the end, whose number has to be above the others. Where there is room it is granted and takes no
     /// memory, else it takes memory for more. `WantOfMemory` leaves the list as it was.
     pub fn push(&mut self, user: BundleUser) -> Result<(), WantOfMemory>
-        requires { IsAscending (self.old.items ++ plain_user user ∷ []) }
+        requires { AscendBy (λ user. user.number) (self.old.items ++ plain_user user ∷ []) }
         ensures ok { OnOk result (self.new.items ≡ self.old.items ++ plain_user user ∷ []) }
         ensures err { OnErr result (self.new ≡ self.old) }
         ensures granted { 0 < self.old.room → IsOk result }

@@ -20,7 +20,8 @@ use Rattle.sv_events.specs.declared.event.Act.{Act}
 use Rattle.sv_events.specs.declared.event.Act.TheVariants.{Offer, Set, Use, Leave}
 use Rattle.sv_rules.specs.declared.standing.Standing.{Standing}
 use Rattle.sv_rules.specs.declared.coupling.Coupling.{Coupling}
-use Rattle.sv_rules.specs.Entries.{Entries, next_place, same_name, is_granted, value_got, counted_entries, held_elements, is_full}
+use Rattle.apl_arrays.specs.Name.{same_name}
+use Rattle.sv_rules.specs.Entries.{Entries, next_place, is_granted, value_got, counted_entries, held_elements, is_full}
 use Rattle.sv_rules.specs.Story.{GrantedAccess, access_to, access_on, known, handed_in, story_part, opening_story, story}
 use Rattle.sv_rules.specs.StoryLaws.{IsAccessTo, IsAccessOn, HasNoAccess, offer_on, accesses_of}
 use Rattle.sv_rules.proofs.Members.{Contains-head, Contains-cons_cases}

@@ -6,7 +6,7 @@ use Rattle.std.proofs.lemmas.Bool.{cases_lt, eqb-true, eq-eqb, and_parts, or_cas
 use Rattle.std.proofs.lemmas.Cmp.{nat_eq_equiv, nat_list_eq_equiv}
 use Rattle.sv_rules.specs.declared.standing.Standing.{Standing}
 use Rattle.sv_rules.specs.declared.coupling.Made.{Made}
-use Rattle.sv_rules.specs.Entries.{same_name}
+use Rattle.apl_arrays.specs.Name.{same_name}
 use Rattle.sv_rules.specs.Standing.{is_match}
 use Rattle.sv_rules.specs.Coupling.{has_place, is_coupled, is_open_match, open_match, pair_of}
 use Rattle.sv_rules.proofs.Members.{find_passed}

@@ -1,7 +1,6 @@
 use Rattle.std.specs.Prelude.{ℕ, ◌+◌, Bool, true, false, ◌||◌, ◌&&◌, ◌==◌, not, nat_le, List, length, count_by, sum_by, Option, Some, None}
 use Rattle.std.specs.List.{list_any}
 use Rattle.std.specs.Option.{option_map_or}
-use Rattle.std.specs.Cmp.Lexicographic.{pointwise}
 use Rattle.apl_arrays.specs.Array.{PlainArray, item_count}
 use Rattle.apl_arrays.specs.Limits.{most_entries, most_journal_elements}
 use Rattle.sv_events.specs.Answer.{PlainAnswer, degree, granted, value, no_value, not_shared, offer_limit, full, done}
@@ -16,10 +15,6 @@ Entries = List PlainEntry
 -- the place of the entry that comes next
 abbrev pub next_place : Entries → ℕ
 next_place journal = length journal + 1
-
--- two names have the same glyphs
-abbrev pub same_name : List ℕ → List ℕ → Bool
-same_name = pointwise ◌==◌
 
 -- the act is a leave
 abbrev pub is_leave : Act → Bool

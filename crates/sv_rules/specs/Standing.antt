@@ -3,7 +3,8 @@ use Rattle.sv_events.specs.Answer.{PlainAnswer}
 use Rattle.sv_events.specs.declared.event.Act.{Act}
 use Rattle.sv_events.specs.declared.event.Act.TheVariants.{Offer, Set, Use, Leave}
 use Rattle.sv_rules.specs.declared.standing.Standing.{Standing}
-use Rattle.sv_rules.specs.Entries.{Entries, next_place, same_name, is_degree}
+use Rattle.apl_arrays.specs.Name.{same_name}
+use Rattle.sv_rules.specs.Entries.{Entries, next_place, is_degree}
 
 -- the offer is the party's, of this local name
 abbrev pub is_own : ℕ → List ℕ → Standing → Bool

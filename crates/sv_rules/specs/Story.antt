@@ -10,7 +10,8 @@ use Rattle.sv_events.specs.Answer.{PlainAnswer}
 use Rattle.sv_events.specs.Entry.{PlainEntry}
 use Rattle.sv_events.specs.declared.event.Act.{Act}
 use Rattle.sv_events.specs.declared.event.Act.TheVariants.{Offer, Set, Use, Leave}
-use Rattle.sv_rules.specs.Entries.{Entries, next_place, same_name, is_granted, value_got}
+use Rattle.apl_arrays.specs.Name.{same_name}
+use Rattle.sv_rules.specs.Entries.{Entries, next_place, is_granted, value_got}
 use Rattle.sv_rules.specs.declared.standing.Standing.{Standing}
 use Rattle.sv_rules.specs.declared.coupling.Coupling.{Coupling}
 

@@ -1,8 +1,7 @@
 ghost use Rattle.std.specs.Prelude.{◌≡◌};
 ghost use Rattle.apl_arrays.specs.Limits.{most_offers, most_entries, most_journal_elements};
 
-/// The most standing offers of a party.
-pub const OFFER_LIMIT: usize = 64;
+use apl_arrays::OFFER_LIMIT;
 
 /// The most entries of a journal other than leaves.
 pub const ENTRY_LIMIT: usize = 200_000;
