@@ -1,11 +1,13 @@
 -- The three forms of a line: a name, ← and a number; a user's number and an offer of a name; a name.
-use Rattle.std.specs.Prelude.{ℕ, ◌+◌, ◌-◌, ◌*◌, ◌^◌, ◌==◌, nat_eq, nat_lt, nat_le, ℤ, pos, neg_ℤ, List, [], ◌∷◌, length, take, drop, fold, Option, Some, None, option_and_then, codes, if◌then◌else◌}
+use Rattle.std.specs.Prelude.{ℕ, ◌+◌, ◌-◌, ◌*◌, ◌^◌, ◌==◌, nat_eq, nat_lt, nat_le, ℤ, pos, neg_ℤ, List, [], ◌∷◌, length, take, drop, fold, ◌++◌, Option, Some, None, option_and_then, if◌then◌else◌}
 use Rattle.std.specs.List.{list_all, position, ends_with}
 use Rattle.std.specs.Cmp.Lexicographic.{pointwise}
 use Rattle.std.specs.Option.{option_map, unwrap_or}
-use Rattle.apl_arrays.specs.Glyph.{is_digit, digit_value, blank, quote, left_arrow, quad, overbar}
+use Rattle.apl_arrays.specs.Glyph.{is_digit, digit_value, blank, quote, left_arrow, overbar}
 use Rattle.apl_arrays.specs.Name.{is_name}
 use Rattle.apl_arrays.specs.Parties.{is_user_number}
+use Rattle.apl_arrays.specs.System.{system_text}
+use Rattle.apl_arrays.specs.declared.system.SystemName.TheVariants.{Svo}
 use Rattle.apl_session.specs.declared.statement.Statement.{Statement}
 use Rattle.apl_session.specs.declared.statement.Statement.TheVariants.{Assign, Offer, Reference}
 
@@ -49,7 +51,7 @@ closed_name_in glyphs = if ends_with nat_eq glyphs (quote ∷ []) then name_in (
 
 -- ⎕SVO, a blank and a quote
 abbrev pub offering : List ℕ
-offering = quad ∷ codes "SVO '"
+offering = system_text Svo ++ blank ∷ quote ∷ []
 
 -- ⎕SVO, a blank, and a name in quotes
 abbrev pub offered_in : List ℕ → Option (List ℕ)

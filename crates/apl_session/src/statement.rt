@@ -4,7 +4,7 @@ ghost use Rattle.std.specs.Option.{option_map};
 ghost use Rattle.apl_arrays.specs.Glyph.{is_digit};
 ghost use Rattle.apl_session.specs.Statement.{name_in, digits_value, magnitude_in, positive, negative, integer_in, assignment_in, user_number_in, closed_name_in, offering, offered_in, offer_in, reference_in, parts_at, statement_by, statement_in};
 
-use apl_arrays::{FIRST_USER, Glyph, LAST_USER, Name};
+use apl_arrays::{FIRST_USER, Glyph, LAST_USER, Name, SystemName};
 
 /// What a line asks for.
 #[derive(Clone, Copy, Debug, PartialEq, Eq)]
@@ -107,14 +107,8 @@ fn user_number(glyphs: &[Glyph]) -> Option<u32>
 fn offering() -> [Glyph; 6]
     ensures { result ≡ offering }
 {
-    [
-        Glyph::QUAD,
-        Glyph::with_code(b'S'),
-        Glyph::with_code(b'V'),
-        Glyph::with_code(b'O'),
-        Glyph::BLANK,
-        Glyph::QUOTE,
-    ]
+    let [quad, first, second, third] = SystemName::Svo.glyphs();
+    [quad, first, second, third, Glyph::BLANK, Glyph::QUOTE]
 }
 
 fn closed_name(glyphs: &[Glyph]) -> Option<Name>

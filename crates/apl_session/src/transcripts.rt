@@ -1,5 +1,6 @@
 ghost use Rattle.std.specs.Prelude.{◌≡◌, ◌+◌, ◌<◌, ◌≤◌, ◌∷◌, [], ◌++◌, IsOk, OnOk, OnErr, map};
-ghost use Rattle.apl_session.specs.Transcripts.{plain_transcript, IsAscending};
+ghost use Rattle.apl_arrays.specs.Ascending.{AscendBy};
+ghost use Rattle.apl_session.specs.Transcripts.{plain_transcript};
 
 use apl_arrays::{LineList, List, WantOfMemory};
 use std::alloc::Global;
@@ -21,14 +22,15 @@ pub struct Transcripts {
 impl Model for Transcripts {
     ghost use Rattle.std.specs.Prelude.{map};
     ghost use Rattle.apl_arrays.specs.List.{Listed};
-    ghost use Rattle.apl_session.specs.Transcripts.{plain_transcript, IsAscending};
+    ghost use Rattle.apl_arrays.specs.Ascending.{AscendBy};
+    ghost use Rattle.apl_session.specs.Transcripts.{plain_transcript};
     ghost use Rattle.sv_journal.specs.Output.{PlainTranscript};
 
     ghost Value = { Listed PlainTranscript };
 
     ghost view = { λ t. record { items = map plain_transcript t.transcripts.items; room = t.transcripts.room } };
 
-    ghost invariant = { λ t. IsAscending (map plain_transcript t.transcripts.items) };
+    ghost invariant = { λ t. AscendBy (λ transcript. transcript.user) (map plain_transcript t.transcripts.items) };
 }
 
 impl Transcripts {
@@ -44,7 +46,7 @@ impl Transcripts {
     /// The transcripts, their users ascending. It takes no memory.
     pub fn as_slice(&self) -> &[Transcript]
         ensures value { map plain_transcript result.now ≡ self.now.items }
-        ensures ascending { IsAscending self.now.items }
+        ensures ascending { AscendBy (λ transcript. transcript.user) self.now.items }
     {
         self.transcripts.as_slice()
     }
@@ -52,7 +54,7 @@ impl Transcripts {
     /// The transcripts as a `Vec`. It takes no memory.
     pub fn into_vec(self) -> Vec<Transcript>
         ensures value { map plain_transcript result.items ≡ self.items }
-        ensures ascending { IsAscending self.items }
+        ensures ascending { AscendBy (λ transcript. transcript.user) self.items }
     {
         self.transcripts.into_vec()
     }
@@ -71,7 +73,7 @@ impl Transcripts {
     /// Adds a transcript at the end, whose user has to come after the others. Where there is room it is granted and
     /// takes no memory, else it takes memory for more. `WantOfMemory` leaves the list as it was.
     pub fn push(&mut self, transcript: Transcript) -> Result<(), WantOfMemory>
-        requires { IsAscending (self.old.items ++ plain_transcript transcript ∷ []) }
+        requires { AscendBy (λ transcript. transcript.user) (self.old.items ++ plain_transcript transcript ∷ []) }
         ensures ok { OnOk result (self.new.items ≡ self.old.items ++ plain_transcript transcript ∷ []) }
         ensures err { OnErr result (self.new ≡ self.old) }
         ensures granted { 0 < self.old.room → IsOk result }
