@@ -18,25 +18,25 @@ use Rattle.apl_selection.proofs.JoinShapeLemmas.{is_less, is_not_less}
 -- ---- the items of a row
 
 -- the place of a join for a row, a place along the axis and an item there
-told : (outer along inner inners a_count b_count a_span b_span : ℕ) → ℕ
+pub told : (outer along inner inners a_count b_count a_span b_span : ℕ) → ℕ
 told outer along inner inners a_count b_count a_span b_span =
     cond (nat_lt along a_span) (place_in a_count ((outer * a_span + along) * inners + inner)) (a_count + place_in b_count ((outer * b_span + (along - a_span)) * inners + inner))
 
 told_same : (o a i x y z inners a_count b_count a_span b_span : ℕ) → o ≡ x → a ≡ y → i ≡ z → told o a i inners a_count b_count a_span b_span ≡ told x y z inners a_count b_count a_span b_span
 told_same o a i x y z inners a_count b_count a_span b_span p q r = rw (p, q, r) refl
 
-catenated_at : (split : Split) (a_count b_count a_span b_span outer along inner place : ℕ) → along < split.along → inner < split.inner → place ≡ place_along split outer along inner
+pub catenated_at : (split : Split) (a_count b_count a_span b_span outer along inner place : ℕ) → along < split.along → inner < split.inner → place ≡ place_along split outer along inner
     → catenated_place split a_count b_count a_span b_span place ≡ told outer along inner split.inner a_count b_count a_span b_span
 unfolding told
 catenated_at split a_count b_count a_span b_span outer along inner place p q is =
     ap (catenated_place split a_count b_count a_span b_span) is
     ∙ told_same _ _ _ outer along inner split.inner a_count b_count a_span b_span (outer_of_place split outer along inner p q) (along_of_place split outer along inner p q) (inner_of_place split outer along inner q)
 
-in_first : (o a i inners a_count b_count a_span b_span start : ℕ) → a < a_span → start ≡ (o * a_span + a) * inners + i → told o a i inners a_count b_count a_span b_span ≡ place_in a_count start
+pub in_first : (o a i inners a_count b_count a_span b_span start : ℕ) → a < a_span → start ≡ (o * a_span + a) * inners + i → told o a i inners a_count b_count a_span b_span ≡ place_in a_count start
 unfolding told
 in_first o a i inners a_count b_count a_span b_span start low is = let test = is_less a a_span low in rw (test, is) refl
 
-in_second : (o a i inners a_count b_count a_span b_span start rest : ℕ) → a ≡ a_span + rest → start ≡ (o * b_span + rest) * inners + i
+pub in_second : (o a i inners a_count b_count a_span b_span start rest : ℕ) → a ≡ a_span + rest → start ≡ (o * b_span + rest) * inners + i
     → told o a i inners a_count b_count a_span b_span ≡ a_count + place_in b_count start
 unfolding told
 in_second o a i inners a_count b_count a_span b_span start rest e is =

@@ -1,5 +1,5 @@
 -- The shape of a join, and the places that its parts have in it.
-use Rattle.std.proofs.Common.{◌≡◌, ℕ, ℤ, ◌+◌, ◌*◌, ◌<◌, ◌≤◌, ◌==◌, ◌&&◌, ◌||◌, Bool, true, false, not, cond, max, nat_lt, List, [], ◌∷◌, Option, None, is_some, length, take, drop, get_or, set, refl, sym, ap, subst, ◌∙◌, arith}
+use Rattle.std.proofs.Common.{◌⊎◌, inl, inr, ◌≡◌, ℕ, ℤ, ◌+◌, ◌*◌, ◌<◌, ◌≤◌, ◌==◌, ◌&&◌, ◌||◌, Bool, true, false, not, cond, max, nat_lt, List, [], ◌∷◌, Option, None, is_some, length, take, drop, get_or, set, refl, sym, ap, subst, ◌∙◌, arith}
 use Rattle.std.specs.Cmp.Lexicographic.{pointwise, same_text}
 use Rattle.std.proofs.lemmas.Bool.{and_parts}
 use Rattle.std.proofs.lemmas.Bool.Decides.{nat_tests}
@@ -54,7 +54,7 @@ long_of_join a b axis shape is inside =
 
 -- ---- the items of a part
 
-part_by : (s whole : List ℕ) (rank axis : ℕ) (full : Bool) → (length s == rank) ≡ full → (full ≡ false → length s + 1 ≡ rank) → axis < rank → take axis whole ≡ take axis s
+pub part_by : (s whole : List ℕ) (rank axis : ℕ) (full : Bool) → (length s == rank) ≡ full → (full ≡ false → length s + 1 ≡ rank) → axis < rank → take axis whole ≡ take axis s
     → drop (axis + 1) whole ≡ cond full (drop (axis + 1) s) (drop axis s) → element_count s ≡ element_count (take axis whole) * cond full (get_or s axis 0) 1 * element_count (drop (axis + 1) whole)
 part_by s whole rank axis true e near inside front back =
     let same = same_number (length s) rank e in
@@ -155,30 +155,30 @@ a_alone a b rank axis sa sb r =
     let len : length a ≡ rank = omega arith in
     part_of a a (vector_shape (greater_shape a b)) rank axis (whole_a a b (is_not_less (length a) (length b) (omega arith)) sa) len (λ other. absurd (let full = is_full (length a) rank len in cc)) refl refl
 
+-- a scalar, or a part that has the axes of the join
+abbrev pub IsScalarOrPart : List ℕ → List ℕ → ℕ → ℕ → Type 0
+IsScalarOrPart s whole rank axis = ((length s == 0) ≡ true) ⊎ IsPart s whole rank axis
+
+parts_by : (a b : List ℕ) (rank axis : ℕ) (sa sb : Bool) → (length a == 0) ≡ sa → (length b == 0) ≡ sb → rank ≡ max 1 (max (length a) (length b))
+    → (sa ≡ false → sb ≡ false → are_near (length a) (length b) ≡ true) → (sa ≡ false → sb ≡ false → agree_around a b rank axis ≡ true)
+    → IsScalarOrPart a (vector_shape (greater_shape a b)) rank axis × IsScalarOrPart b (vector_shape (greater_shape a b)) rank axis
+parts_by a b rank axis true true p q r near agree = (inl p, inl q)
+parts_by a b rank axis true false p q r near agree = (inl p, inr (b_alone a b rank axis p q r))
+parts_by a b rank axis false true p q r near agree = (inr (a_alone a b rank axis p q r), inl q)
+parts_by a b rank axis false false p q r near agree =
+    let same = and_parts (pointwise ◌==◌ (take axis a) (take axis b)) (pointwise ◌==◌ (axes_behind a rank axis) (axes_behind b rank axis)) (agree refl refl) in
+    let parts = agree_by a b rank axis (nat_lt (length a) (length b)) refl p q r (near refl refl) (same_text _ _ (sym same.0)) (same_text _ _ (sym same.1)) in
+    (inr parts.0, inr parts.1)
+
 -- each of two arrays has an item for each of its places in the join
 pub record ReachBoth (a b : PlainArray) (axis : ℕ) : Type 0 where
   pub left : Reaches (item_count a.items) (source_count (split_at (catenated_shape a b axis) axis) (span_of a.shape (catenated_rank a b) axis))
   pub right : Reaches (item_count b.items) (source_count (split_at (catenated_shape a b axis) axis) (span_of b.shape (catenated_rank a b) axis))
 
-reach_by : (a b : PlainArray) (axis : ℕ) (sa sb : Bool) → (length a.shape == 0) ≡ sa → (length b.shape == 0) ≡ sb → IsArray a → IsArray b → axis < catenated_rank a b
-    → (sa ≡ false → sb ≡ false → are_near (length a.shape) (length b.shape) ≡ true)
-    → (sa ≡ false → sb ≡ false → agree_around a.shape b.shape (catenated_rank a b) axis ≡ true) → ReachBoth a b axis
-reach_by a b axis true true p q x y inside near agree = record { left = scalar_reaches a _ x p; right = scalar_reaches b _ y q }
-reach_by a b axis true false p q x y inside near agree = record {
-  left = scalar_reaches a _ x p;
-  right = part_reaches b (vector_shape (greater_shape a.shape b.shape)) (catenated_rank a b) axis (span_of a.shape (catenated_rank a b) axis + span_of b.shape (catenated_rank a b) axis) y inside (b_alone a.shape b.shape (catenated_rank a b) axis p q refl);
-}
-reach_by a b axis false true p q x y inside near agree = record {
-  left = part_reaches a (vector_shape (greater_shape a.shape b.shape)) (catenated_rank a b) axis (span_of a.shape (catenated_rank a b) axis + span_of b.shape (catenated_rank a b) axis) x inside (a_alone a.shape b.shape (catenated_rank a b) axis p q refl);
-  right = scalar_reaches b _ y q;
-}
-reach_by a b axis false false p q x y inside near agree =
-    let rank = catenated_rank a b in
-    let same = and_parts (pointwise ◌==◌ (take axis a.shape) (take axis b.shape)) (pointwise ◌==◌ (axes_behind a.shape rank axis) (axes_behind b.shape rank axis)) (agree refl refl) in
-    let parts = agree_by a.shape b.shape rank axis (nat_lt (length a.shape) (length b.shape)) refl p q refl (near refl refl) (same_text _ _ (sym same.0)) (same_text _ _ (sym same.1)) in record {
-      left = part_reaches a (vector_shape (greater_shape a.shape b.shape)) rank axis (span_of a.shape (catenated_rank a b) axis + span_of b.shape (catenated_rank a b) axis) x inside parts.0;
-      right = part_reaches b (vector_shape (greater_shape a.shape b.shape)) rank axis (span_of a.shape (catenated_rank a b) axis + span_of b.shape (catenated_rank a b) axis) y inside parts.1;
-    }
+reach_by : (b : PlainArray) (whole : List ℕ) (rank axis n : ℕ) → IsArray b → axis < rank → IsScalarOrPart b.shape whole rank axis
+    → Reaches (item_count b.items) (source_count (split_at (set whole axis n) axis) (span_of b.shape rank axis))
+reach_by b whole rank axis n array inside (inl scalar) = scalar_reaches b _ array scalar
+reach_by b whole rank axis n array inside (inr part) = part_reaches b whole rank axis n array inside part
 
 ranks_by : (sa sb named near : Bool) → (sa && sb && named || (not sa && not sb) && not near) ≡ false → sa ≡ false → sb ≡ false → near ≡ true
 ranks_by true sb named near e p q = absurd (cc)
@@ -193,13 +193,24 @@ axes_by false false true agree l e p q = absurd (cc)
 axes_by false false false true l e p q = refl
 axes_by false false false false l e p q = absurd (cc)
 
-pub parts_reach : (a b : PlainArray) (name : Option ℤ) (axis : ℕ) → IsArray a → IsArray b → None ≡ first_report (catenate_faults a b name) → axis ≡ catenated_axis a b name → axis < catenated_rank a b → ReachBoth a b axis
-parts_reach a b name axis x y none is inside =
+-- the parts of a join on which nothing is reported
+pub parts_of : (a b : PlainArray) (name : Option ℤ) (axis : ℕ) → None ≡ first_report (catenate_faults a b name) → axis ≡ catenated_axis a b name
+    → IsScalarOrPart a.shape (vector_shape (greater_shape a.shape b.shape)) (catenated_rank a b) axis × IsScalarOrPart b.shape (vector_shape (greater_shape a.shape b.shape)) (catenated_rank a b) axis
+parts_of a b name axis none is =
     let sound = nothing_is_wrong (catenate_faults a b name) none in
-    reach_by a b axis (length a.shape == 0) (length b.shape == 0) refl refl x y inside
+    parts_by a.shape b.shape (catenated_rank a b) axis (length a.shape == 0) (length b.shape == 0) refl refl refl
     (ranks_by (length a.shape == 0) (length b.shape == 0) (is_some name) (are_near (length a.shape) (length b.shape)) sound.rank)
     (subst (λ (n : ℕ). (length a.shape == 0) ≡ false → (length b.shape == 0) ≡ false → agree_around a.shape b.shape (catenated_rank a b) n ≡ true) (sym is)
     (axes_by (lacks_axis (catenated_rank a b) name) (length a.shape == 0) (length b.shape == 0) (agree_around a.shape b.shape (catenated_rank a b) (catenated_axis a b name)) sound.index sound.long))
+
+pub parts_reach : (a b : PlainArray) (name : Option ℤ) (axis : ℕ) → IsArray a → IsArray b → None ≡ first_report (catenate_faults a b name) → axis ≡ catenated_axis a b name → axis < catenated_rank a b → ReachBoth a b axis
+parts_reach a b name axis x y none is inside =
+    let parts = parts_of a b name axis none is in
+    let rank = catenated_rank a b in
+    let long = span_of a.shape rank axis + span_of b.shape rank axis in record {
+      left = reach_by a (vector_shape (greater_shape a.shape b.shape)) rank axis long x inside parts.0;
+      right = reach_by b (vector_shape (greater_shape a.shape b.shape)) rank axis long y inside parts.1;
+    }
 
 -- places that are reached, by other names
 pub reach_as : (m n p q : ℕ) → m ≡ n → p ≡ q → Reaches m p → Reaches n q

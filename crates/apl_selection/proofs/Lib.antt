@@ -9,6 +9,7 @@ pub mod IndexLemmas
 pub mod JoinKindLemmas
 pub mod JoinLaws
 pub mod JoinLemmas
+pub mod JoinPlaceLaws
 pub mod JoinRowLemmas
 pub mod JoinShapeLemmas
 pub mod ListingLemmas

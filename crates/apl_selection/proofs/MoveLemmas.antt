@@ -1,8 +1,11 @@
 -- Arrays whose items moved.
-use Rattle.std.proofs.Common.{◌≡◌, ℕ, ◌+◌, ◌<◌, pos, List, [], ◌∷◌, map, ◌++◌, Option, length, get_or, refl, sym, ap, ◌∙◌, arith}
-use Rattle.std.proofs.lemmas.List.FromFn.{map-range_with_len_more}
-use Rattle.std.specs.List.{range_with_len}
-use Rattle.apl_arrays.specs.Array.{PlainArray, PlainItems, IsArray, numbers, chars, item_count}
+use Rattle.std.proofs.Common.{◌≡◌, ℕ, ◌+◌, ◌<◌, pos, List, [], ◌∷◌, map, ◌++◌, Option, Some, length, get_or, refl, sym, ap, ◌∙◌, arith}
+use Rattle.std.proofs.lemmas.List.FromFn.{get_or-map-range_with_len, length-map-range_with_len, map-range_with_len_more}
+use Rattle.std.proofs.lemmas.Option.{get_or_from_slice_get, slice_get_read}
+use Rattle.std.specs.List.{range_with_len, slice_get}
+use Rattle.apl_arrays.specs.declared.array.Item.{Item}
+use Rattle.apl_arrays.specs.declared.array.Item.TheVariants.{Number, Char}
+use Rattle.apl_arrays.specs.Array.{PlainArray, PlainItems, IsArray, IsItemOf, numbers, chars, item_count}
 use Rattle.apl_arrays.specs.Glyph.{blank}
 use Rattle.apl_items.specs.Moves.{item_or, moved_items, moved_list}
 use Rattle.apl_items.specs.Along.{source_count}
@@ -61,3 +64,18 @@ none_moved (numbers []) count source none zero_count = rw zero_count refl
 none_moved (numbers (x ∷ xs)) count source none zero_count = absurd (omega arith)
 none_moved (chars []) count source none zero_count = rw zero_count refl
 none_moved (chars (x ∷ xs)) count source none zero_count = absurd (omega arith)
+
+moved_to : {T : Type 0} (fill : T) (list : List T) (count place from : ℕ) (source : ℕ → Option ℕ) (item : T) → place < count → source place ≡ Some from → slice_get list from ≡ Some item
+    → slice_get (moved_list fill list count source) place ≡ Some item
+moved_to {T} fill list count place from source item low is there =
+    let at : ℕ → T = λ p. item_or fill list (source p) in
+    let here = get_or-map-range_with_len at 0 count place place item low (omega arith) in
+    let told : at place ≡ item = ap (item_or fill list) is ∙ get_or_from_slice_get list from item fill there in
+    slice_get_read (moved_list fill list count source) count place item (sym (length-map-range_with_len at 0 count)) low (sym (here ∙ told))
+
+-- the item at a source place stands at its place
+pub moved_item : (items : PlainItems) (item : Item) (count place from : ℕ) (source : ℕ → Option ℕ) → place < count → source place ≡ Some from → IsItemOf items from item → IsItemOf (moved_items items count source) place item
+moved_item (numbers list) (Number n) count place from source low is there = moved_to (pos 0) list count place from source n low is there
+moved_item (numbers list) (Char n) count place from source low is there = absurd there
+moved_item (chars list) (Number n) count place from source low is there = absurd there
+moved_item (chars list) (Char n) count place from source low is there = moved_to blank list count place from source n low is there

@@ -1,18 +1,20 @@
 //! What holds of items that subscripts or flags select, of items that are put over others and of joins: laws and worked
 //! examples.
 
-ghost use Rattle.std.specs.Prelude.{◌≡◌, ◌+◌, ◌<◌, ◌≤◌, ◌++◌, ℕ, ℤ, false, pos, List, [], ◌∷◌, Option, Some, None, Ok, length, replicate, slice_set};
+ghost use Rattle.std.specs.Prelude.{◌≡◌, ◌+◌, ◌<◌, ◌≤◌, ◌++◌, ℕ, ℤ, false, pos, List, [], ◌∷◌, Option, Some, None, Ok, length, replicate, slice_index, slice_set};
 ghost use Rattle.apl_arrays.specs.declared.verb.Way.{Way as PlainWay};
-ghost use Rattle.apl_arrays.specs.Array.{PlainArray, IsArray, char_array, chars, element_count, item_count, number_array, numbers, numbers_in, scalar};
+ghost use Rattle.apl_arrays.specs.declared.array.Item.{Item};
+ghost use Rattle.apl_arrays.specs.Array.{PlainArray, IsArray, IsItemOf, char_array, chars, element_count, item_count, number_array, numbers, numbers_in, scalar};
 ghost use Rattle.apl_arrays.specs.Limits.{most_elements};
 ghost use Rattle.apl_items.specs.Axis.{lacks_axis};
+ghost use Rattle.apl_items.specs.Shapes.{AreWithin, place_of};
 ghost use Rattle.apl_selection.specs.Assignment.{assign_of, naming};
-ghost use Rattle.apl_selection.specs.Catenation.{catenate_of};
+ghost use Rattle.apl_selection.specs.Catenation.{catenate_of, catenated_axis, catenated_rank, catenated_shape, span_of};
 ghost use Rattle.apl_selection.specs.Compression.{compress_of};
 ghost use Rattle.apl_selection.specs.Expansion.{expand_of, ones};
 ghost use Rattle.apl_selection.specs.Indexing.{selection_of, named_place};
 ghost use Rattle.apl_selection.specs.Listing.{meant_axis, meant_length, vector_shape};
-ghost use Rattle.apl_selection.specs.SelectionLaws.{AreArrays, NamesOnce};
+ghost use Rattle.apl_selection.specs.SelectionLaws.{AreArrays, IsItemOfPart, NamesOnce, places_back};
 ghost use Rattle.apl_selection.specs.Subscripts.{named_counts, point_outside, selection_shape};
 ghost use Rattle.apl_selection.specs.Vectors.{as_vector};
 
@@ -80,6 +82,20 @@ pub fn what_is_spread_is_kept()
 pub fn vectors_are_joined_end_to_end()
     ensures numbers { (a b : List ℤ) → length a + length b ≤ most_elements → catenate_of (as_vector (numbers a)) (as_vector (numbers b)) None ≡ Ok (as_vector (numbers (a ++ b))) }
     ensures chars { (a b : List ℕ) → length a + length b ≤ most_elements → catenate_of (as_vector (chars a)) (as_vector (chars b)) None ≡ Ok (as_vector (chars (a ++ b))) }
+{}
+
+/// A join has the shape of the array of greater rank, and along the axis is as long as both. Of its places along the axis the
+/// first are A's, and those behind are B's; an array that lacks the axis has one, and a scalar's item stands at each of its
+/// places. The call does nothing. No memory.
+pub fn parts_of_a_join_stay_in_place()
+    ensures shape { (a b r : PlainArray) (axis : Option ℤ) → catenate_of a b axis ≡ Ok r → r.shape ≡ catenated_shape a b (catenated_axis a b axis) }
+    ensures first { (a b r : PlainArray) (axis : Option ℤ) (at : List ℕ) (item : Item) → IsArray a → catenate_of a b axis ≡ Ok r → AreWithin r.shape at
+        → slice_index at (catenated_axis a b axis) < span_of a.shape (catenated_rank a b) (catenated_axis a b axis)
+        → IsItemOfPart a (catenated_rank a b) (catenated_axis a b axis) at item → IsItemOf r.items (place_of r.shape at) item }
+    ensures second { (a b r : PlainArray) (axis : Option ℤ) (at : List ℕ) (item : Item) → IsArray b → catenate_of a b axis ≡ Ok r → AreWithin r.shape at
+        → span_of a.shape (catenated_rank a b) (catenated_axis a b axis) ≤ slice_index at (catenated_axis a b axis)
+        → IsItemOfPart b (catenated_rank a b) (catenated_axis a b axis) (places_back (catenated_axis a b axis) (span_of a.shape (catenated_rank a b) (catenated_axis a b axis)) at) item
+        → IsItemOf r.items (place_of r.shape at) item }
 {}
 
 /// Flags: `1 0 1/5 6 7` is 5 7, `1 0 1\5 7` is 5 0 7, and blanks fill characters; of a matrix the columns, and with the

@@ -12,22 +12,8 @@ use Rattle.apl_items.specs.Answers.{unless}
 use Rattle.apl_items.specs.Moves.{item_or, moved_items, moved_list}
 use Rattle.apl_items.specs.Shapes.{AreWithin, coordinates_of, place_of}
 use Rattle.apl_items.proofs.ShapeLemmas.{coordinates_of_place, place_of_below}
+use Rattle.apl_selection.proofs.MoveLemmas.{moved_item}
 use Rattle.apl_structure.specs.Diagonals.{axes_named, coordinates_by, diagonal_shape, transpose_by_of, transposed_by}
-
-moved_to : {T : Type 0} (fill : T) (list : List T) (count place from : ℕ) (source : ℕ → Option ℕ) (item : T) → place < count → source place ≡ Some from → slice_get list from ≡ Some item
-    → slice_get (moved_list fill list count source) place ≡ Some item
-moved_to {T} fill list count place from source item low is there =
-    let at : ℕ → T = λ p. item_or fill list (source p) in
-    let here = get_or-map-range_with_len at 0 count place place item low (omega arith) in
-    let told : at place ≡ item = ap (item_or fill list) is ∙ get_or_from_slice_get list from item fill there in
-    slice_get_read (moved_list fill list count source) count place item (sym (length-map-range_with_len at 0 count)) low (sym (here ∙ told))
-
--- the item at a source place stands at its place
-pub moved_item : (items : PlainItems) (item : Item) (count place from : ℕ) (source : ℕ → Option ℕ) → place < count → source place ≡ Some from → IsItemOf items from item → IsItemOf (moved_items items count source) place item
-moved_item (numbers list) (Number n) count place from source low is there = moved_to (pos 0) list count place from source n low is there
-moved_item (numbers list) (Char n) count place from source low is there = absurd there
-moved_item (chars list) (Number n) count place from source low is there = absurd there
-moved_item (chars list) (Char n) count place from source low is there = moved_to blank list count place from source n low is there
 
 stands : (axes : List ℕ) (b : PlainArray) (at : List ℕ) (item : Item) → AreWithin (diagonal_shape axes b.shape) at → IsItemOf b.items (place_of b.shape (coordinates_by axes at)) item
     → IsItemOf (transposed_by axes b).items (place_of (diagonal_shape axes b.shape) at) item

@@ -18,11 +18,11 @@ use Rattle.apl_items.proofs.ShapeLemmas.{coordinates_of_place, place_of_below}
 use Rattle.apl_selection.specs.Picks.{picked, strided}
 use Rattle.apl_selection.proofs.FaultLemmas.{count_of_numbers, nothing_is_wrong}
 use Rattle.apl_selection.proofs.GivenBackLemmas.{no_report}
+use Rattle.apl_selection.proofs.MoveLemmas.{moved_item}
 use Rattle.apl_selection.proofs.OrderLemmas.{Leads, led, led_by}
 use Rattle.apl_selection.proofs.PickLemmas.{as_many_within, each_within, some_same}
 use Rattle.apl_structure.specs.StructureLaws.{AreLeftAt, AreTakenTo, IsLeftAt, IsTakenTo, fill_of}
 use Rattle.apl_structure.specs.Taking.{axes_faults, axes_for, drop_of, left, left_from, left_shape, number_for, take_of, taken, taken_from, taken_shape}
-use Rattle.apl_structure.proofs.DiagonalLaws.{moved_item}
 use Rattle.apl_structure.proofs.TakeLemmas.{source_fits}
 use Rattle.apl_structure.proofs.TransposeLemmas.{within_from_each}
 
