@@ -1,15 +1,9 @@
 -- Each item of a transpose by axes stands where the axes say.
-use Rattle.std.proofs.Common.{◌≡◌, ℕ, ◌<◌, pos, List, Option, Some, None, Ok, sym, ap, subst, ◌∙◌, arith}
-use Rattle.std.specs.List.{slice_get}
-use Rattle.std.proofs.lemmas.List.FromFn.{get_or-map-range_with_len, length-map-range_with_len}
-use Rattle.std.proofs.lemmas.Option.{get_or_from_slice_get, slice_get_read}
+use Rattle.std.proofs.Common.{◌≡◌, ℕ, List, Option, Some, None, Ok, ap, subst}
 use Rattle.apl_arrays.specs.declared.array.Item.{Item}
-use Rattle.apl_arrays.specs.declared.array.Item.TheVariants.{Number, Char}
 use Rattle.apl_arrays.specs.declared.report.Report.{Report}
-use Rattle.apl_arrays.specs.Array.{PlainArray, PlainItems, IsItemOf, numbers, chars, element_count, numbers_in}
-use Rattle.apl_arrays.specs.Glyph.{blank}
+use Rattle.apl_arrays.specs.Array.{PlainArray, IsItemOf, element_count, numbers_in}
 use Rattle.apl_items.specs.Answers.{unless}
-use Rattle.apl_items.specs.Moves.{item_or, moved_items, moved_list}
 use Rattle.apl_items.specs.Shapes.{AreWithin, coordinates_of, place_of}
 use Rattle.apl_items.proofs.ShapeLemmas.{coordinates_of_place, place_of_below}
 use Rattle.apl_selection.proofs.MoveLemmas.{moved_item}

@@ -1,12 +1,10 @@
 -- Axes in other places.
-use Rattle.std.proofs.Common.{◌≡◌, ℕ, ℤ, pos, zero, suc, ◌+◌, ◌*◌, ◌<◌, ◌≤◌, ◌==◌, ◌||◌, Bool, true, false, not, cond, min, List, [], ◌∷◌, map, Option, Some, None, Ok, Err, is_some, length, get_or, drop, refl, sym, ap, subst, ◌∙◌, arith}
+use Rattle.std.proofs.Common.{◌≡◌, ℕ, ℤ, pos, zero, suc, ◌+◌, ◌*◌, ◌<◌, ◌≤◌, ◌==◌, ◌||◌, Bool, true, false, not, cond, min, List, [], ◌∷◌, map, Option, Some, None, length, get_or, drop, refl, sym, ap, subst, ◌∙◌, arith}
 use Rattle.std.specs.List.{list_any}
 use Rattle.std.proofs.lemmas.Bool.Decides.{nat_tests}
 use Rattle.std.proofs.lemmas.List.FromFn.{get_or-map-range_with_len, length-map-range_with_len}
 use Rattle.apl_arrays.specs.Array.{PlainArray, PlainItems, FitsLimits, IsArray, element_count, item_count, numbers_in, numbers, chars, is_chars}
 use Rattle.apl_arrays.specs.Glyph.{blank}
-use Rattle.apl_arrays.specs.declared.report.Report.TheVariants.{WsFull}
-use Rattle.apl_arrays.specs.Shape.{shape_fault}
 use Rattle.apl_items.specs.Answers.{first_report}
 use Rattle.apl_items.specs.Axis.{lacks_axis}
 use Rattle.apl_items.specs.Axes.{added, offset_at, source_by_axes}
@@ -14,9 +12,9 @@ use Rattle.apl_items.specs.Moves.{item_or, moved, moved_items}
 use Rattle.apl_items.specs.Places.{places}
 use Rattle.apl_items.specs.Shapes.{AreWithin, coordinates_of, place_of, stride_of}
 use Rattle.apl_items.proofs.ShapeLemmas.{coordinates_are_within, parts_fit, place_of_below}
-use Rattle.apl_structure.specs.Diagonals.{axes_by_faults, axes_named, axis_count, coordinates_by, diagonal_shape, least_length, leaves_gap, step_of, transpose_by_of, transposed_by}
+use Rattle.apl_structure.specs.Diagonals.{axes_by_faults, axes_named, axis_count, coordinates_by, diagonal_shape, least_length, leaves_gap, step_of, transposed_by}
 use Rattle.apl_selection.proofs.PickLemmas.{as_many_within, each_within, same_offsets, some_same}
-use Rattle.apl_selection.proofs.FaultLemmas.{answer_fits, answer_too_large, count_of_numbers, nothing_is_wrong, same_number}
+use Rattle.apl_selection.proofs.FaultLemmas.{count_of_numbers, nothing_is_wrong, same_number}
 use Rattle.apl_selection.proofs.MoveLemmas.{array_of, same_map, same_moved}
 
 -- ---- offsets that grow evenly along each axis
@@ -211,32 +209,27 @@ nothing_is axes b shape items made count s none i n is =
 
 -- ---- a transpose on which nothing is reported
 
-first_of_three : (x y z : Bool) → (x || y || z) ≡ false → x ≡ false
-first_of_three true y z e = absurd (cc)
-first_of_three false y z e = refl
+none_of_three : (x y z : Bool) → (x || y || z) ≡ false → (x ≡ false) × (y ≡ false) × (z ≡ false)
+none_of_three true y z e = absurd (cc)
+none_of_three false true z e = absurd (cc)
+none_of_three false false true e = absurd (cc)
+none_of_three false false false e = (refl, refl, refl)
 
--- A has a number for each axis
-pub as_many_axes : (a b : PlainArray) (listed : List ℤ) → None ≡ first_report (axes_by_faults a b) → listed ≡ numbers_in a.items → length listed ≡ length b.shape
-as_many_axes a b listed none e =
+-- what is known of A: a number for each axis, from 1 to the rank, and no gap between them
+pub record AreAxes (numbers : List ℤ) (rank : ℕ) : Type 0 where
+  pub many : length numbers ≡ rank
+  pub each : list_any (λ number. lacks_axis rank (Some number)) numbers ≡ false
+  pub whole : leaves_gap (axes_named numbers) ≡ false
+
+pub are_axes : (a b : PlainArray) → None ≡ first_report (axes_by_faults a b) → AreAxes (numbers_in a.items) (length b.shape)
+are_axes a b none =
     let sound = nothing_is_wrong (axes_by_faults a b) none in
-    let kind = first_of_three (is_chars a.items) (list_any (λ number. lacks_axis (length b.shape) (Some number)) (numbers_in a.items)) (leaves_gap (axes_named (numbers_in a.items))) sound.domain in
-    ap (λ (xs : List ℤ). length xs) e ∙ sym (count_of_numbers a.items kind) ∙ same_number (item_count a.items) (length b.shape) (not_false (item_count a.items == length b.shape) sound.long)
+    let parts = none_of_three (is_chars a.items) (list_any (λ number. lacks_axis (length b.shape) (Some number)) (numbers_in a.items)) (leaves_gap (axes_named (numbers_in a.items))) sound.domain in record {
+      many = sym (count_of_numbers a.items parts.0) ∙ same_number (item_count a.items) (length b.shape) (not_false (item_count a.items == length b.shape) sound.long);
+      each = parts.1;
+      whole = parts.2;
+    }
   where
     not_false : (x : Bool) → not x ≡ false → x ≡ true
     not_false true e = refl
     not_false false e = absurd (cc)
-
--- the result is too large
-pub transpose_too_large : (a b : PlainArray) (shape : List ℕ) → None ≡ first_report (axes_by_faults a b) → shape ≡ diagonal_shape (axes_named (numbers_in a.items)) b.shape → is_some (shape_fault shape) ≡ true
-    → transpose_by_of a b ≡ Err WsFull
-transpose_too_large a b shape none s large =
-    let axes : List ℕ = axes_named (numbers_in a.items) in
-    answer_too_large (axes_by_faults a b) (transposed_by axes b) (is_some (shape_fault (diagonal_shape axes b.shape))) none (ap (λ (xs : List ℕ). is_some (shape_fault xs)) (sym s) ∙ large)
-
--- or it is not, and is the answer
-pub transpose_fits : (a b : PlainArray) (shape : List ℕ) (array : PlainArray) → None ≡ first_report (axes_by_faults a b) → shape ≡ diagonal_shape (axes_named (numbers_in a.items)) b.shape
-    → is_some (shape_fault shape) ≡ false → array ≡ transposed_by (axes_named (numbers_in a.items)) b → transpose_by_of a b ≡ Ok array
-transpose_fits a b shape array none s small same =
-    let axes : List ℕ = axes_named (numbers_in a.items) in
-    answer_fits (axes_by_faults a b) (transposed_by axes b) (is_some (shape_fault (diagonal_shape axes b.shape))) none (ap (λ (xs : List ℕ). is_some (shape_fault xs)) (sym s) ∙ small)
-    ∙ ap (λ (x : PlainArray). Ok x) (sym same)

@@ -1,5 +1,6 @@
 pub mod DiagonalLaws
 pub mod DiagonalLemmas
+pub mod DiagonalSizes
 pub mod LawLemmas
 pub mod LengthLemmas
 pub mod OppositeLemmas

@@ -84,7 +84,7 @@ pub left_is : (a b : PlainArray) (numbers : List ℤ) (source shape : List ℕ) 
 left_is a b numbers source shape items n s e i = rw (e, n, s, i) refl
 
 -- as many axes, none longer, have no more elements
-no_more_elements : (xs ys : List ℕ) → length xs ≡ length ys → ((k : ℕ) → k < length xs → get_or xs k 0 ≤ get_or ys k 0) → element_count xs ≤ element_count ys
+pub no_more_elements : (xs ys : List ℕ) → length xs ≡ length ys → ((k : ℕ) → k < length xs → get_or xs k 0 ≤ get_or ys k 0) → element_count xs ≤ element_count ys
 no_more_elements [] [] e each = omega arith
 no_more_elements [] (y ∷ ys) e each = absurd (omega arith)
 no_more_elements (x ∷ xs) [] e each = absurd (omega arith)

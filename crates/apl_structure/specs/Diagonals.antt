@@ -1,8 +1,7 @@
-use Rattle.std.specs.Prelude.{◌+◌, ◌-◌, ◌||◌, ◌==◌, ℕ, ℤ, Bool, not, List, [], ◌∷◌, Some, length, map, max, min, slice_index, is_some, nat_lt, unsigned_abs, if◌then◌else◌}
+use Rattle.std.specs.Prelude.{◌+◌, ◌-◌, ◌||◌, ◌==◌, ℕ, ℤ, Bool, not, List, [], ◌∷◌, Some, length, map, max, min, slice_index, nat_lt, unsigned_abs, if◌then◌else◌}
 use Rattle.std.specs.List.{list_any}
 use Rattle.apl_arrays.specs.Array.{PlainArray, is_chars, item_count, numbers_in}
 use Rattle.apl_arrays.specs.Limits.{most_elements}
-use Rattle.apl_arrays.specs.Shape.{shape_fault}
 use Rattle.apl_items.specs.Answers.{Answer, Faults, no_faults, answer_of}
 use Rattle.apl_items.specs.Moves.{moved}
 use Rattle.apl_items.specs.Places.{places}
@@ -59,8 +58,6 @@ axes_by_faults a b =
       bad_domain = is_chars a.items || list_any (λ number. lacks_axis (length b.shape) (Some number)) numbers || leaves_gap (axes_named numbers);
     }
 
--- B with axis i as axis A[i] of the result
+-- B with axis i as axis A[i] of the result, which has no more elements than B
 abbrev pub transpose_by_of : PlainArray → PlainArray → Answer
-transpose_by_of a b =
-    let axes = axes_named (numbers_in a.items) in
-    answer_of (record (axes_by_faults a b) { too_large = is_some (shape_fault (diagonal_shape axes b.shape)) }) (transposed_by axes b)
+transpose_by_of a b = answer_of (axes_by_faults a b) (transposed_by (axes_named (numbers_in a.items)) b)

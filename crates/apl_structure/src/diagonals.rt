@@ -1,14 +1,12 @@
 ghost use Rattle.std.specs.Prelude.{◌≡◌, ◌+◌, ◌*◌, ◌-◌, ◌<◌, ◌≤◌, ◌==◌, None, IfOk, Some, length, map, slice_index, unsigned_abs};
 ghost use Rattle.std.specs.List.{list_any};
-ghost use Rattle.apl_arrays.specs.Array.{FitsLimits};
+ghost use Rattle.apl_arrays.specs.Array.{FitsLimits, numbers_in};
 ghost use Rattle.apl_items.specs.Answers.{Answers, first_report};
 ghost use Rattle.apl_items.specs.Axis.{lacks_axis};
 ghost use Rattle.apl_items.specs.Places.{places};
 ghost use Rattle.apl_structure.specs.Diagonals.{axes_by_faults, axes_named, axis_count, diagonal_shape, least_length, leaves_gap, step_of, transpose_by_of, transposed_by};
 
-use apl_arrays::{
-    Array, ELEMENT_LIMIT, Fail, Report, WantOfMemory, count_of_elements, shape_fault,
-};
+use apl_arrays::{Array, ELEMENT_LIMIT, Fail, Report, WantOfMemory, count_of_elements};
 use apl_items::{Axes, lacks_axis, moved_by_axes, room_for};
 use apl_selection::{filled, length_of, strides_of};
 use std::alloc::Global;
@@ -21,7 +19,7 @@ pub fn transpose_by(alloc: Global, a: &Array, b: &Array) -> Result<Array, Fail>
 {
     match axes_by_report(a, b) {
         Some(report) => Err(Fail::Report(report)),
-        None => transposed_by(alloc, a, b),
+        None => Ok(transposed_by(alloc, a, b)?),
     }
 }
 
@@ -82,18 +80,14 @@ fn axis_count(numbers: &[i64]) -> usize
     }
 }
 
-/// B with its axes in other places.
-fn transposed_by(alloc: Global, a: &Array, b: &Array) -> Result<Array, Fail>
+/// B with its axes in other places. The result has no more elements than B.
+fn transposed_by(alloc: Global, a: &Array, b: &Array) -> Result<Array, WantOfMemory>
     requires { None ≡ first_report (axes_by_faults a.now b.now) }
-    ensures { Answers result (transpose_by_of a.now b.now) }
+    ensures { IfOk result (λ array. array ≡ transposed_by (axes_named (numbers_in a.now.items)) b.now) }
 {
     let numbers = a.numbers();
     let axes = diagonal_shape(alloc, numbers, b.shape())?;
-    let shape = axes.as_slice();
-    if shape_fault(shape).is_some() {
-        return Err(Fail::Report(Report::WsFull));
-    }
-    Ok(moved_by(alloc, numbers, b, shape)?)
+    moved_by(alloc, numbers, b, axes.as_slice())
 }
 
 /// The shape of the result.

@@ -110,11 +110,11 @@ fn left_length(numbers: &[i64], source: &[u32], axis: usize) -> u32
     ensures { result ≡ slice_index source.now axis - unsigned_abs (slice_index_or numbers.now axis (pos 0)) }
 {
     let length = u64::from(length_of(source, axis));
-    length.saturating_sub(number_on(numbers, axis).unsigned_abs()) as u32
+    length.saturating_sub(number_for(numbers, axis).unsigned_abs()) as u32
 }
 
 /// The number for an axis, 0 past the last.
-pub(crate) fn number_on(numbers: &[i64], axis: usize) -> i64
+fn number_for(numbers: &[i64], axis: usize) -> i64
     ensures { result ≡ slice_index_or numbers.now axis (pos 0) }
 {
     match numbers.get(axis) {
@@ -138,7 +138,7 @@ impl Picks for TakePlaces<'_> {
 
     fn from(&self, axis: usize, along: usize) -> Option<usize> {
         taken_from(
-            number_on(self.numbers, axis),
+            number_for(self.numbers, axis),
             length_of(self.source, axis),
             along,
         )
@@ -178,7 +178,7 @@ impl Picks for DropPlaces<'_> {
 
     fn from(&self, axis: usize, along: usize) -> Option<usize> {
         left_from(
-            number_on(self.numbers, axis),
+            number_for(self.numbers, axis),
             length_of(self.source, axis),
             along,
         )
