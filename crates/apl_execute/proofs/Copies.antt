@@ -10,7 +10,8 @@ use Rattle.std.proofs.lemmas.Bool.{or_parts}
 use Rattle.std.proofs.lemmas.Cmp.{nat_list_cmp_total}
 use Rattle.std.proofs.lemmas.Map.Entries.{sum_by-insert_entry}
 use Rattle.apl_workspace.specs.Meaning.{Names, meaning_in, meaning_weight, table_weight, weight_in, with_meaning, without_name, without_names}
-use Rattle.apl_workspace.specs.Names.{all_differ, is_name_of, name_order}
+use Rattle.apl_arrays.specs.Name.{name_order}
+use Rattle.apl_workspace.specs.Names.{all_differ, is_name_of}
 use Rattle.apl_workspace.specs.Workspace.{IsFull, IsWorkspace, PlainWorkspace, without_globals, workspace_weight}
 use Rattle.apl_arrays.specs.declared.report.Fail.{Fail}
 use Rattle.apl_arrays.specs.declared.report.Fail.TheVariants.{Report, WantOfMemory}

@@ -3,7 +3,8 @@ use Rattle.std.specs.Prelude.{◌≡◌, ℕ, true, List, [], ◌∷◌, None}
 use Rattle.std.specs.List.Sorted.{IsStrictlySortedBy}
 use Rattle.std.specs.Map.{keys_of}
 use Rattle.apl_workspace.specs.Meaning.{Names, meaning_in}
-use Rattle.apl_workspace.specs.Names.{all_differ, name_order}
+use Rattle.apl_arrays.specs.Name.{name_order}
+use Rattle.apl_workspace.specs.Names.{all_differ}
 
 -- none of the names is there
 abbrev pub AreAbsent : Names → List (List ℕ) → Type 0

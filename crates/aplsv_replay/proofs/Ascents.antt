@@ -6,16 +6,8 @@ use Rattle.std.proofs.lemmas.List.{map_push, take-map, get_or-map, length-map}
 use Rattle.apl_session.specs.PlainSession.{PlainSession}
 use Rattle.aplsv_replay.specs.Participants.{participant_of}
 use Rattle.aplsv_replay.specs.TurnLaws.{IsDone, transcript_of}
-use Rattle.apl_arrays.specs.Ascending.{Ascend}
-use Rattle.apl_session.specs.Transcripts.{IsAscending as TranscriptsAscend}
+use Rattle.apl_arrays.specs.Ascending.{Ascend, AscendBy}
 use Rattle.sv_journal.specs.Output.{PlainTranscript}
-use Rattle.bundle_text.specs.User.{PlainUser, IsAscending}
-
--- users that ascend have numbers that ascend
-pub ascend_by_users : (users : List PlainUser) → IsAscending users → Ascend (map (λ user. user.number) users)
-ascend_by_users [] h = tt
-ascend_by_users (user ∷ []) h = tt
-ascend_by_users (user ∷ next ∷ users) h = (h.0, ascend_by_users (next ∷ users) h.1)
 
 -- the first of ascending numbers ascend
 pub Ascend-take : (n : ℕ) (numbers : List ℕ) → Ascend numbers → Ascend (take n numbers)
@@ -26,17 +18,11 @@ Ascend-take (suc (suc n)) (number ∷ []) h = tt
 Ascend-take (suc zero) (number ∷ next ∷ numbers) h = tt
 Ascend-take (suc (suc n)) (number ∷ next ∷ numbers) h = (h.0, Ascend-take (suc n) (next ∷ numbers) h.1)
 
--- transcripts whose users' numbers ascend do
-pub transcripts_ascend : (transcripts : List PlainTranscript) → Ascend (map (λ t. t.user) transcripts) → TranscriptsAscend transcripts
-transcripts_ascend [] h = tt
-transcripts_ascend (transcript ∷ []) h = tt
-transcripts_ascend (transcript ∷ next ∷ transcripts) h = (h.0, transcripts_ascend (next ∷ transcripts) h.1)
-
 -- a transcript for the next number comes after the others
-pub next_ascends : (transcripts : List PlainTranscript) (transcript : PlainTranscript) (numbers : List ℕ) (at : ℕ) → at < length numbers → Ascend numbers → map (λ t. t.user) transcripts ≡ take at numbers → transcript.user ≡ get_or numbers at 0 → TranscriptsAscend (transcripts ++ transcript ∷ [])
+pub next_ascends : (transcripts : List PlainTranscript) (transcript : PlainTranscript) (numbers : List ℕ) (at : ℕ) → at < length numbers → Ascend numbers → map (λ t. t.user) transcripts ≡ take at numbers → transcript.user ≡ get_or numbers at 0 → AscendBy (λ t. t.user) (transcripts ++ transcript ∷ [])
 next_ascends transcripts transcript numbers at less ascend before next =
     let users = map_push (λ t. t.user) transcripts transcript ∙ ap (λ ns. ns ++ transcript.user ∷ []) before ∙ ap (λ n. take at numbers ++ n ∷ []) next ∙ sym (take-suc numbers at 0 less) in
-    transcripts_ascend _ (subst Ascend (sym users) (Ascend-take (suc at) numbers ascend))
+    subst Ascend (sym users) (Ascend-take (suc at) numbers ascend)
 
 -- transcripts are of the sessions' users
 transcripts_users : (sessions : List PlainSession) → map (λ t. t.user) (map transcript_of (map participant_of sessions)) ≡ map (λ s. s.user) (map (λ s. s) sessions)
@@ -45,7 +31,7 @@ transcripts_users (session ∷ sessions) = ap (λ users. session.user ∷ users)
 
 -- the transcript of the next session comes after the others
 pub next_session_ascends : (all done : List PlainSession) (session : PlainSession) (transcripts : List PlainTranscript) (transcript : PlainTranscript) → length done < length all → session ≡ get_or all (length done) session → map (λ s. s) done ≡ take (length done) all
-    → transcripts ≡ map transcript_of (map participant_of done) → transcript ≡ transcript_of (participant_of session) → Ascend (map (λ s. s.user) all) → TranscriptsAscend (transcripts ++ transcript ∷ [])
+    → transcripts ≡ map transcript_of (map participant_of done) → transcript ≡ transcript_of (participant_of session) → Ascend (map (λ s. s.user) all) → AscendBy (λ t. t.user) (transcripts ++ transcript ∷ [])
 next_session_ascends all done session transcripts transcript less next before same user ascend =
     let users : List PlainSession → List ℕ = λ sessions. map (λ s. s.user) sessions in
     let within : length done < length (users all) = omega (arith, less, length-map all (λ s. s.user)) in

@@ -8,9 +8,9 @@ use Rattle.std.proofs.lemmas.List.Elements.{All-nil, All-cons, All-head, All-tai
 use Rattle.std.specs.Prelude.{◌==◌}
 use Rattle.sv_rules.specs.Entries.{Entries, has_left}
 use Rattle.sv_rules.specs.Legal.{IsLegal, is_user}
-use Rattle.apl_arrays.specs.Ascending.{Ascend}
+use Rattle.apl_arrays.specs.Ascending.{Ascend, AscendBy}
 use Rattle.bundle_text.specs.Bundle.{PlainBundle}
-use Rattle.bundle_text.specs.User.{PlainUser, plain_user, IsAscending}
+use Rattle.bundle_text.specs.User.{PlainUser, plain_user}
 use Rattle.bundle_text.specs.declared.user.BundleUser.{BundleUser}
 use Rattle.apl_session.specs.PlainSession.{PlainSession}
 use Rattle.apl_session.specs.Run.{IsRun, AreParts, user_numbers}
@@ -18,7 +18,6 @@ use Rattle.sv_journal.specs.Output.{PlainTranscript}
 use Rattle.aplsv_replay.specs.Participants.{participant_of, participants_of}
 use Rattle.aplsv_replay.specs.TurnLaws.{IsDone, IsOver, RoundsEnd, transcript_of}
 use Rattle.aplsv_replay.specs.Turns.{Participant, Replay, turn, round, rounds, newcomer, beginning, IsJournalOfTurns}
-use Rattle.aplsv_replay.proofs.Ascents.{ascend_by_users}
 use Rattle.aplsv_replay.proofs.Rounds.{IsOf}
 
 -- the numbers of users as they are kept
@@ -27,7 +26,7 @@ plain_numbers [] users is = ap (λ list. map (λ user. user.number) list) is
 plain_numbers (user ∷ kept) users is = ap (λ list. user.number ∷ list) (plain_numbers kept (map plain_user kept) refl) ∙ ap (λ list. map (λ user. user.number) list) is
 
 -- after so many rounds a replay is over
-pub is_over : (bundle : PlainBundle) (kept : List BundleUser) (needed count : ℕ) → RoundsEnd → IsAscending bundle.users → map plain_user kept ≡ bundle.users → All (λ user. length user.lines.items < needed) kept → needed ≤ count → IsOver bundle (rounds count (beginning bundle))
+pub is_over : (bundle : PlainBundle) (kept : List BundleUser) (needed count : ℕ) → RoundsEnd → AscendBy (λ user. user.number) bundle.users → map plain_user kept ≡ bundle.users → All (λ user. length user.lines.items < needed) kept → needed ≤ count → IsOver bundle (rounds count (beginning bundle))
 is_over bundle kept needed count law ascending is each enough =
     let below : All (λ user. length user.lines.items < count) kept = λ k d within. omega (arith, each k d within, enough) in
     law bundle count ascending (subst (All (λ user. length user.lines < count)) is (All-map (λ (user : PlainUser). length user.lines < count) plain_user kept below))
@@ -91,9 +90,9 @@ session_numbers : (sessions : List PlainSession) → map (λ session. session.us
 session_numbers [] = refl
 session_numbers (session ∷ sessions) = ap (λ numbers. session.user ∷ numbers) (session_numbers sessions)
 
-pub all_ascend : (bundle : PlainBundle) (count : ℕ) (journal : Entries) (sessions : List PlainSession) → record { journal = journal; participants = participants_of sessions } ≡ rounds count (beginning bundle) → IsOver bundle (rounds count (beginning bundle)) → IsAscending bundle.users → Ascend (map (λ session. session.user) sessions)
+pub all_ascend : (bundle : PlainBundle) (count : ℕ) (journal : Entries) (sessions : List PlainSession) → record { journal = journal; participants = participants_of sessions } ≡ rounds count (beginning bundle) → IsOver bundle (rounds count (beginning bundle)) → AscendBy (λ user. user.number) bundle.users → Ascend (map (λ session. session.user) sessions)
 all_ascend bundle count journal sessions turns over ascending =
-    subst Ascend (sym (session_numbers sessions ∙ (ap (λ replay. map (λ participant. participant.number) replay.participants) turns ∙ over.users))) (ascend_by_users bundle.users ascending)
+    subst Ascend (sym (session_numbers sessions ∙ (ap (λ replay. map (λ participant. participant.number) replay.participants) turns ∙ over.users))) ascending
 
 module _ (bundle : PlainBundle) (journal kept : Entries) (participants : List Participant) (count : ℕ) (turns : record { journal = kept; participants = participants } ≡ rounds count (beginning bundle)) (over : IsOver bundle (rounds count (beginning bundle))) (same : journal ≡ kept) where
   last : (rounds count (beginning bundle)).journal ≡ journal

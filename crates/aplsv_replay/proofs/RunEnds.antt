@@ -5,7 +5,8 @@ use Rattle.std.proofs.lemmas.List.Elements.{All-from_recursion, recursion_from_A
 use Rattle.sv_events.specs.declared.event.Act.{Act}
 use Rattle.sv_rules.specs.Entries.{Entries, has_left}
 use Rattle.bundle_text.specs.Bundle.{PlainBundle}
-use Rattle.bundle_text.specs.User.{PlainUser, IsAscending}
+use Rattle.apl_arrays.specs.Ascending.{AscendBy}
+use Rattle.bundle_text.specs.User.{PlainUser}
 use Rattle.apl_session.specs.Session.{Evaluated, evaluated}
 use Rattle.aplsv_replay.specs.Turns.{Participant}
 use Rattle.aplsv_replay.specs.Turns.{Replay, turn, round, rounds, newcomer, beginning}
@@ -25,12 +26,12 @@ AreApart [] = Unit {0}
 AreApart (user ∷ users) = IsNoneOf user.number users × AreApart users
 
 -- users above a number do not have it
-above : (number : ℕ) (user : PlainUser) (users : List PlainUser) → number < user.number → IsAscending (user ∷ users) → IsNoneOf number (user ∷ users)
+above : (number : ℕ) (user : PlainUser) (users : List PlainUser) → number < user.number → AscendBy (λ user. user.number) (user ∷ users) → IsNoneOf number (user ∷ users)
 above number user [] less h = ((λ same. absurd (omega (arith, less, same))), tt)
 above number user (next ∷ users) less h = ((λ same. absurd (omega (arith, less, same))), above number next users (lt_trans less h.0) h.1)
 
 -- ascending users are apart
-apart : (users : List PlainUser) → IsAscending users → AreApart users
+apart : (users : List PlainUser) → AscendBy (λ user. user.number) users → AreApart users
 apart [] h = tt
 apart (user ∷ []) h = (tt, tt)
 apart (user ∷ next ∷ users) h = (above user.number next users h.0 h.1, apart (next ∷ users) h.1)
@@ -153,7 +154,7 @@ over bundle replay owners h = record {
 }
 
 -- a replay is over after more rounds than any user has lines
-pub over_after_rounds : (bundle : PlainBundle) (count : ℕ) → IsAscending bundle.users → All (λ user. length user.lines < count) bundle.users → IsOver bundle (rounds count (beginning bundle))
+pub over_after_rounds : (bundle : PlainBundle) (count : ℕ) → AscendBy (λ user. user.number) bundle.users → All (λ user. length user.lines < count) bundle.users → IsOver bundle (rounds count (beginning bundle))
 over_after_rounds bundle count ascending less =
     let replay : Replay = rounds count (beginning bundle) in
     let h : AreAfter bundle.users count replay = rounds_go_on bundle count (apart bundle.users ascending) in

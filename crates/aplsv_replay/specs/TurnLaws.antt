@@ -1,8 +1,8 @@
 -- What holds of turns.
-use Rattle.std.specs.Prelude.{◌≡◌, ◌<◌, ℕ, List, map, length, All, None, IsTrue}
+use Rattle.std.specs.Prelude.{◌≡◌, ◌<◌, ℕ, map, length, All, None, IsTrue}
 use Rattle.sv_rules.specs.Entries.{Entries, has_left}
 use Rattle.bundle_text.specs.Bundle.{PlainBundle}
-use Rattle.bundle_text.specs.User.{PlainUser, IsAscending}
+use Rattle.apl_arrays.specs.Ascending.{AscendBy}
 use Rattle.apl_session.specs.Session.{evaluated}
 use Rattle.apl_session.specs.Run.{AreParts}
 use Rattle.sv_journal.specs.Output.{PlainTranscript}
@@ -26,7 +26,7 @@ pub record IsOver (bundle : PlainBundle) (replay : Replay) : Type 0 where
 -- a replay is over after more rounds than any user has lines
 abbrev pub RoundsEnd : Type 0
 RoundsEnd =
-    (bundle : PlainBundle) (count : ℕ) → IsAscending bundle.users → All (λ user. length user.lines < count) bundle.users →
+    (bundle : PlainBundle) (count : ℕ) → AscendBy (λ user. user.number) bundle.users → All (λ user. length user.lines < count) bundle.users →
     IsOver bundle (rounds count (beginning bundle))
 
 -- the journal of a bundle's turns is one

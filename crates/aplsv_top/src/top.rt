@@ -1,5 +1,5 @@
 ghost use Rattle.std.specs.Prelude.{◌≡◌, ◌≢◌, ◌≤◌, ◌↔◌, [], Some, IsTrue, codes, length, map, string_bytes, vec_len};
-ghost use Rattle.apl_arrays.specs.Limits.{most_input_bytes};
+ghost use Rattle.apl_arrays.specs.Limits.{most_input_bytes, most_users};
 ghost use Rattle.apl_io.specs.Faults.{Rose};
 ghost use Rattle.apl_io.specs.Whole.{AreAtMost};
 ghost use Rattle.aplsv_top.specs.Causes.{HasCause};
@@ -30,7 +30,7 @@ pub fn aplsv_replay_words<S: Source, W: Sink, T, C, K>(
     clock: C,
     shelves: Vec<K>,
 ) -> Finish<T, C, K>
-    requires shelves { vec_len shelves ≡ 32 }
+    requires shelves { vec_len shelves ≡ most_users }
 
     // The headline, and the cause of each other answer.
     ensures causes { HasCause result.status

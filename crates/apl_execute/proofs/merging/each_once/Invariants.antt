@@ -1,7 +1,8 @@
 use Rattle.std.proofs.Common.{◌≡◌, ℕ, List, take}
 use Rattle.std.specs.List.{list_any}
 use Rattle.std.specs.BTreeSet as set
-use Rattle.apl_workspace.specs.Names.{name_order, is_name_of}
+use Rattle.apl_arrays.specs.Name.{name_order}
+use Rattle.apl_workspace.specs.Names.{is_name_of}
 use Rattle.apl_execute.specs.Merge.{each_once}
 use Rattle.apl_execute.proofs.merging.each_once.Given as goal
 
