@@ -12,7 +12,7 @@ use Rattle.apl_items.specs.Shapes.{along_of, inner_of, place_along, split_count}
 use Rattle.apl_items.proofs.AlongLemmas.{positive, regrouped}
 use Rattle.apl_items.proofs.ShapeLemmas.{along_of_place, inner_of_place, outer_of_place, place_along_below}
 use Rattle.apl_operators.specs.Reduction.{Joins, front_of_line, joined, number_on, reduction}
-use Rattle.apl_scalar.specs.Table.{fits}
+use Rattle.apl_arrays.specs.Number.{fits}
 use Rattle.apl_operators.specs.Running.{GivesBack, PassUpTo, Runs, front_at, row_count}
 use Rattle.apl_operators.proofs.FrontLemmas.{Fits, Groups, one_more}
 use Rattle.apl_operators.proofs.RowLemmas.{each_more, place_below}

@@ -10,7 +10,8 @@ use Rattle.std.proofs.lemmas.Nat.{div-mul-add, mod-mul-add, mul-le}
 use Rattle.std.proofs.lemmas.Option.{none-some}
 use Rattle.apl_arrays.specs.declared.verb.Dyad.{Dyad}
 use Rattle.apl_arrays.specs.declared.verb.Dyad.TheVariants.{And, Maximum, Minimum, Or, Plus, Times}
-use Rattle.apl_scalar.specs.Table.{dyadic_item, fits, item_where}
+use Rattle.apl_arrays.specs.Number.{fits}
+use Rattle.apl_scalar.specs.Table.{dyadic_item, item_where}
 use Rattle.apl_items.specs.declared.shapes.Split.{Split}
 use Rattle.apl_items.specs.Places.{lacks_item}
 use Rattle.apl_items.specs.Shapes.{place_along, split_count}

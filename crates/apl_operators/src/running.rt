@@ -1,7 +1,8 @@
 ghost use Rattle.std.specs.Prelude.{◌≡◌, ◌*◌, ◌/◌, ◌%◌, ◌-◌, ◌<◌, ◌≤◌, ℕ, ℤ, Option, Bool, true, false, not, length, pos, slice_get, slice_index_or, if◌then◌else◌};
 ghost use Rattle.apl_items.specs.Places.{MakesItems, lacks_item};
 ghost use Rattle.apl_items.specs.Shapes.{place_along, split_count};
-ghost use Rattle.apl_scalar.specs.Table.{dyadic_item, fits};
+ghost use Rattle.apl_arrays.specs.Number.{fits};
+ghost use Rattle.apl_scalar.specs.Table.{dyadic_item};
 ghost use Rattle.apl_operators.specs.Reduction.{Joins, joined};
 ghost use Rattle.apl_operators.specs.Running.{GivesBack, Runs, Weighs, factor_weight, front_at, is_grouped, term_weight, weight_on};
 

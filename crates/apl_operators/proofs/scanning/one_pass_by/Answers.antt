@@ -1,4 +1,5 @@
-use Rattle.apl_scalar.specs.Table.{dyadic_item, fits}
+use Rattle.apl_arrays.specs.Number.{fits}
+use Rattle.apl_scalar.specs.Table.{dyadic_item}
 use Rattle.apl_operators.specs.Running.{front_at}
 use Rattle.apl_operators.proofs.scanning.one_pass_by.Goals as goal
 
