@@ -28,7 +28,8 @@ impl Model for Function {
 
 impl Function {
     /// The function of a header as it is entered and of lines, or `None` where that is no header, or a limit is passed:
-    /// 200 lines, 1,000 glyphs of the header and of each line. It takes memory for the header's names.
+    /// 200 lines, 1,000 glyphs of the header and of each line. It takes memory for the tokens of the header and its
+    /// names.
     #[tactic(auto, using(crate::proofs::Whole::is_function))]
     pub fn of(alloc: Global, text: Line, lines: LineList) -> Result<Option<Function>, WantOfMemory>
         ensures value { IfOk result (λ made. made ≡ function_of text.items lines.items) }

@@ -17,6 +17,8 @@ mod room;
 mod seen;
 mod symbol;
 mod table;
+#[cfg(test)]
+mod tests;
 mod what;
 mod workspace;
 

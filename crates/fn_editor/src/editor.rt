@@ -86,8 +86,8 @@ impl Editor {
 
     /// Does what a line asks: a bracket at its start, or text that enters at the current number; then a closing `∇`
     /// closes the definition. The answer tells what is shown; the name stays. `Defn` where the rules have nothing for the
-    /// line; it leaves the definition as it was, and so does `WantOfMemory`. It takes memory for a text that enters and for
-    /// lines that are shown.
+    /// line; it leaves the definition as it was, and so does `WantOfMemory`. It takes memory for a text or a header that
+    /// enters, and for lines that are shown.
     pub fn feed(&mut self, line: &Line) -> Result<Fed, Fail>
         requires { self.old.closed ≡ false }
         ensures ok { IfOk result (λ done. fed self.old line.now.items ≡ Some (record { editor = self.new; shown = done.shown.items })) }

@@ -10,6 +10,8 @@ mod number;
 mod opening;
 mod prompt;
 mod showing;
+#[cfg(test)]
+mod tests;
 
 pub use editor::{Editor, Fed};
 pub use laws::{

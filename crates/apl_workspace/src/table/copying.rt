@@ -14,13 +14,6 @@ use std::alloc::Global;
 use std::collections::BTreeSet;
 
 impl Table {
-    /// An equal table. It takes memory for all that it holds.
-    pub fn copy(&self, alloc: Global) -> Result<Table, WantOfMemory>
-        ensures { IfOk result (λ table. table ≡ self.now) }
-    {
-        self.copy_without(alloc, &[])
-    }
-
     /// A table that is equal but for these names, which it lacks. It takes memory for them and for all that stays.
     #[tactic(auto, using(crate::proofs::Without::kept_in_order))]
     pub fn copy_without(&self, alloc: Global, names: &[Name]) -> Result<Table, WantOfMemory>

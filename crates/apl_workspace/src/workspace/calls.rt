@@ -11,7 +11,7 @@ use apl_arrays::{Fail, Name, Report, WantOfMemory};
 impl Workspace {
     /// Enters a function: a frame for it stands before the others, with its arguments, its result, its local names and
     /// its labels. `WsFull` where 100 functions are under way, or the workspace would weigh more than it may; it leaves
-    /// the workspace as it was, and so does `WantOfMemory`.
+    /// the workspace as it was, and so does `WantOfMemory`. It takes memory for the frame.
     pub fn push_frame(&mut self, function: &Name, args: Args) -> Result<(), Fail>
         requires { AreArgumentsFor (look self.old function.now) args }
         ensures ok { OnOk result (self.new ≡ entered self.old function.now args) }

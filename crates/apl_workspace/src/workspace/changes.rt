@@ -29,7 +29,8 @@ impl Workspace {
     }
 
     /// Defines a function under its name, in place of one that is there. `WsFull` where the workspace would weigh more
-    /// than it may; it leaves the workspace as it was, and so does `WantOfMemory`.
+    /// than it may; it leaves the workspace as it was, and so does `WantOfMemory`. It takes memory for a name that is not
+    /// there yet.
     pub fn define(&mut self, function: Function) -> Result<(), Fail>
         requires whole { IsFunction function }
         requires no_variable { is_variable_meaning (global_in self.old function.header.name) ≡ false }

@@ -11,7 +11,8 @@ use apl_arrays::{Array, Fail, Name, OFFER_LIMIT};
 impl Workspace {
     /// Marks a global name as shared with its own copy of the value, and lists its offer last. A name that was shared
     /// before keeps the offer that it has, and a list of 64 offers takes no more. `WsFull` where the workspace would
-    /// weigh more than it may; it leaves the workspace as it was, and so does `WantOfMemory`.
+    /// weigh more than it may; it leaves the workspace as it was, and so does `WantOfMemory`. It takes memory for a name
+    /// that is not there yet, and for an offer that is listed.
     pub fn mark(
         &mut self,
         name: &Name,
