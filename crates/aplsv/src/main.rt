@@ -3,6 +3,7 @@
 
 mod devices;
 
+use apl_arrays::USER_LIMIT;
 use aplsv_top::{Status, aplsv_replay_words};
 use devices::{StdSink, StdSource};
 use std::process::ExitCode;
@@ -21,7 +22,7 @@ fn run(rt: &HostRuntime, words: &[String]) -> Status {
     let mut input = StdSource::new(rt.stdin());
     let mut output = StdSink::new(rt.stdout());
     // No file is read or written yet, so nothing stands behind the text, the clock and the shelves.
-    match Vec::from_slice(rt.alloc(), &[(); 32]) {
+    match Vec::from_slice(rt.alloc(), &[(); USER_LIMIT]) {
         Ok(shelves) => aplsv_replay_words(
             rt.alloc(),
             words,

@@ -1,6 +1,6 @@
 use crate::case::Case;
 use anyhow::Result;
-use apl_arrays::{Bytes, WantOfMemory};
+use apl_arrays::{Bytes, USER_LIMIT, WantOfMemory};
 use apl_io::{CallNumbers, MemorySink, MemorySource};
 use aplsv_top::{Status, aplsv_replay_words};
 use std::alloc::Global;
@@ -35,7 +35,7 @@ fn run_once(alloc: Global, case: &Case<'_>) -> Result<Ended, WantOfMemory> {
     let (from, to) = (case.source, case.sink);
     let mut source = MemorySource::new(input, from.piece.max(1), numbers(alloc, from.fails)?);
     let mut sink = MemorySink::new(alloc, case.room, to.piece.max(1), numbers(alloc, to.fails)?)?;
-    let shelves = Vec::from_slice(alloc, &[(); 32])?;
+    let shelves = Vec::from_slice(alloc, &[(); USER_LIMIT])?;
     let finish = aplsv_replay_words(alloc, &words, &mut source, &mut sink, (), (), shelves);
     if finish.status == Status::WantOfMemory {
         return Err(WantOfMemory);

@@ -1,4 +1,4 @@
-use line_scanner::SystemName;
+use apl_arrays::SystemName;
 
 /// The text of a system name, without its quad.
 pub fn system_text(name: SystemName) -> &'static str {
