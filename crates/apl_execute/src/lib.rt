@@ -3,6 +3,8 @@
 
 pub mod laws;
 mod merging;
+#[cfg(test)]
+mod tests;
 mod text;
 
 pub use merging::{Merged, merge};
