@@ -1,9 +1,10 @@
 -- Items made row by row are the items made place by place.
-use Rattle.std.proofs.Common.{◌≡◌, ℕ, zero, suc, ◌+◌, ◌*◌, ◌/◌, ◌%◌, ◌<◌, ◌≤◌, List, [], ◌∷◌, ◌++◌, Option, Some, length, slice_get, ◌⊎◌, inl, inr, refl, sym, subst, arith}
+use Rattle.std.proofs.Common.{◌≡◌, ℕ, zero, suc, ◌+◌, ◌*◌, ◌/◌, ◌%◌, ◌<◌, ◌≤◌, ◌||◌, Bool, true, false, not, List, [], ◌∷◌, ◌++◌, Option, Some, None, is_none, is_some, length, slice_get, ◌⊎◌, inl, inr, refl, sym, ap, ◌∙◌, subst, arith}
 use Rattle.std.proofs.lemmas.Bool.{cases_lt}
 use Rattle.std.proofs.lemmas.Nat.{div-mul-add, mod-mul-add, mul-add-lt}
 use Rattle.std.proofs.Math.Nat.{mul_comm}
-use Rattle.apl_items.proofs.RefusalLemmas.{NoneLacks}
+use Rattle.apl_items.specs.Places.{Follows, lacks_item}
+use Rattle.apl_items.proofs.PlaceLemmas.{list_any-places, list_any-places_more}
 use Rattle.apl_operators.specs.Rows.{AtPlace}
 
 -- a place of a row is a place of all rows
@@ -15,6 +16,25 @@ at_place answers columns row column answer inside told =
 
 pub place_below : (rows columns row column : ℕ) → row < rows → column < columns → row * columns + column < rows * columns
 place_below rows columns row column p q = let turned = mul_comm rows columns in omega (arith, mul-add-lt row columns column rows p q)
+
+-- no place so far is without an item
+abbrev pub NoneLacks : {T : Type 0} → (ℕ → Option T → Type 0) → ℕ → ℕ → Type 0
+NoneLacks {T} answers count so_far = (item : ℕ → Option T) → Follows answers count item → lacks_item so_far item ≡ false
+
+none_of : {T : Type 0} (answer : Option T) (b : Bool) → is_some answer ≡ b → is_none answer ≡ not b
+none_of (Some x) b e = ap not e
+none_of None b e = ap not e
+
+pub none_lacks_more : {T : Type 0} (answers : ℕ → Option T → Type 0) (count place : ℕ) (answer : Option T)
+    → NoneLacks answers count place → place < count → answers place answer → is_some answer ≡ true → NoneLacks answers count (place + 1)
+none_lacks_more answers count place answer so_far below told is item follows =
+    list_any-places_more (λ p. is_none (item p)) place false (ap is_none (sym (follows place answer below told)) ∙ none_of answer true is)
+    ∙ ap (λ (b : Bool). b || false) (so_far item follows)
+
+pub one_lacks : {T : Type 0} (answers : ℕ → Option T → Type 0) (count place : ℕ) (answer : Option T)
+    → place < count → answers place answer → is_some answer ≡ false → (item : ℕ → Option T) → Follows answers count item → true ≡ lacks_item count item
+one_lacks answers count place answer below told is item follows =
+    sym (list_any-places (λ p. is_none (item p)) count place below (ap is_none (sym (follows place answer below told)) ∙ none_of answer false is))
 
 pub none_lacks_as : {T : Type 0} (answers : ℕ → Option T → Type 0) (count from to : ℕ) → from ≡ to → NoneLacks answers count from → NoneLacks answers count to
 none_lacks_as answers count from to same none = subst (λ (n : ℕ). NoneLacks answers count n) same none

@@ -11,7 +11,7 @@ use Rattle.std.proofs.lemmas.Nat.{mul-le}
 use Rattle.apl_arrays.specs.Array.{FitsLimits, element_count}
 use Rattle.apl_items.specs.Axis.{lacks_axis}
 use Rattle.apl_items.specs.Places.{places}
-use Rattle.apl_items.proofs.RefusalLemmas.{list_any-places}
+use Rattle.apl_items.proofs.PlaceLemmas.{list_any-places}
 use Rattle.apl_items.proofs.ShapeLemmas.{element_count-cons}
 use Rattle.apl_selection.proofs.IndexLemmas.{none_first, number_inside}
 use Rattle.apl_selection.proofs.MoveLemmas.{same_map}

@@ -1,7 +1,6 @@
 use Rattle.std.proofs.Common.{◌+◌, ◌*◌, arith}
-use Rattle.apl_items.proofs.RefusalLemmas.{none_lacks_more, one_lacks}
 use Rattle.apl_operators.specs.Rows.{AtPlace}
-use Rattle.apl_operators.proofs.RowLemmas.{at_place, none_lacks_as, place_below}
+use Rattle.apl_operators.proofs.RowLemmas.{at_place, none_lacks_as, none_lacks_more, one_lacks, place_below}
 use Rattle.apl_operators.proofs.rows.lacks_by_rows.Goals as goal
 use Rattle.apl_operators.proofs.rows.lacks_by_rows.Given as given
 

@@ -1,6 +1,6 @@
 use Rattle.std.proofs.Common.{◌+◌, ◌*◌}
-use Rattle.apl_items.proofs.RefusalLemmas.{NoneLacks}
 use Rattle.apl_operators.specs.Rows.{AtPlace}
+use Rattle.apl_operators.proofs.RowLemmas.{NoneLacks}
 use Rattle.apl_operators.proofs.rows.lacks_by_rows.Given as goal
 
 abbrev pub invariant-loop-row : goal.invariant-loop-row
