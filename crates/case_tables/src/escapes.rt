@@ -34,8 +34,9 @@ impl fmt::Display for EscapeRefused {
 
 impl Error for EscapeRefused {}
 
-/// The bytes of a text: `\n` is a line feed, `\xHH` the byte of two hexadecimal digits, and `\{N:TEXT}` the bytes of
-/// TEXT, N times over. All else is its UTF-8. Memory for the bytes.
+/// The bytes of a text: `\n` is a line feed, `\xHH` the byte of two hexadecimal digits, `\{N:TEXT}` the bytes of TEXT, N
+/// times over, and `\{A..B}` the numbers from A to B, up or down, with a blank between. All else is its UTF-8. Memory for
+/// the bytes.
 pub fn bytes_of(alloc: Global, text: &str) -> Result<Vec<u8>, EscapeRefused> {
     let mut bytes = Vec::new(alloc);
     match text.split_once("\\{") {
@@ -43,24 +44,57 @@ pub fn bytes_of(alloc: Global, text: &str) -> Result<Vec<u8>, EscapeRefused> {
         Some((front, rest)) => {
             push_text(&mut bytes, front)?;
             for part in rest.split("\\{") {
-                push_repeated(alloc, &mut bytes, part)?;
+                push_braced(alloc, &mut bytes, part)?;
             }
         }
     }
     Ok(bytes)
 }
 
-// What stands behind `\{`: how often, the text, and more text behind the brace.
-fn push_repeated(alloc: Global, bytes: &mut Vec<u8>, part: &str) -> Result<(), EscapeRefused> {
-    let (times, rest) = part.split_once(":").ok_or(EscapeRefused::NoEscape)?;
-    let (text, after) = rest.split_once("}").ok_or(EscapeRefused::NoEscape)?;
+// What stands behind `\{`: what the brace closes, and more text.
+fn push_braced(alloc: Global, bytes: &mut Vec<u8>, part: &str) -> Result<(), EscapeRefused> {
+    let (inside, after) = part.split_once("}").ok_or(EscapeRefused::NoEscape)?;
+    match inside.split_once(":") {
+        Some((times, text)) => push_repeated(alloc, bytes, times, text)?,
+        None => bytes.extend_from_slice(run_of(alloc, inside)?.as_bytes())?,
+    }
+    push_text(bytes, after)
+}
+
+// A text, so many times over.
+fn push_repeated(
+    alloc: Global,
+    bytes: &mut Vec<u8>,
+    times: &str,
+    text: &str,
+) -> Result<(), EscapeRefused> {
     let times: usize = times.parse().map_err(|_| EscapeRefused::NoEscape)?;
     let mut repeated = Vec::new(alloc);
     push_text(&mut repeated, text)?;
     for _ in 0..times {
         bytes.extend_from_slice(&repeated)?;
     }
-    push_text(bytes, after)
+    Ok(())
+}
+
+// The numbers of `A..B`, with a blank between.
+fn run_of(alloc: Global, ends: &str) -> Result<String, EscapeRefused> {
+    let (first, last) = ends.split_once("..").ok_or(EscapeRefused::NoEscape)?;
+    let first: u32 = first.parse().map_err(|_| EscapeRefused::NoEscape)?;
+    let last: u32 = last.parse().map_err(|_| EscapeRefused::NoEscape)?;
+    let mut run = String::new(alloc);
+    for step in 0..=first.abs_diff(last) {
+        if step > 0 {
+            run.push(' ')?;
+        }
+        let number = if first < last {
+            first.saturating_add(step)
+        } else {
+            first.saturating_sub(step)
+        };
+        write!(run, "{number}")?;
+    }
+    Ok(run)
 }
 
 // A text in which nothing is repeated.

@@ -2,21 +2,23 @@
 // came out.
 #![tactic(auto)]
 
+mod grades;
 mod indexing;
+mod of_two;
 mod operators;
 mod scalar;
-mod search;
 mod signs;
 mod structure;
 
 use anyhow::Result;
 use case_tables::{Tally, conclude, run_table, run_tables};
+use grades::Grades;
 use indexing::{Assignments, Indexings};
+use of_two::OfTwo;
 use operators::{AlongLines, InnerProducts, OuterProducts};
 use scalar::{Dyads, Monads};
-use search::{Grades, Searches};
 use std::process::ExitCode;
-use structure::{AlongAxis, Joins, OfOne, OfTwo, Reversals};
+use structure::{AlongAxis, Joins, OfOne, Reversals};
 
 fn scalar_functions(rt: &HostRuntime) -> Result<Tally> {
     let mut tally = run_table(rt, "monads.txt", &Monads)?;
@@ -58,10 +60,10 @@ fn selections(rt: &HostRuntime) -> Result<Tally> {
 
 fn searches(rt: &HostRuntime) -> Result<Tally> {
     let of_two = [
-        ("index_of.txt", Searches::IndexOf),
-        ("member.txt", Searches::Member),
-        ("encode.txt", Searches::Encode),
-        ("decode.txt", Searches::Decode),
+        ("index_of.txt", OfTwo::IndexOf),
+        ("member.txt", OfTwo::Member),
+        ("encode.txt", OfTwo::Encode),
+        ("decode.txt", OfTwo::Decode),
     ];
     let mut tally = run_tables(rt, &of_two)?;
     tally.add(run_table(rt, "grade.txt", &Grades)?);

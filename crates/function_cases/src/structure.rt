@@ -1,8 +1,7 @@
 use anyhow::{Context, Result, bail};
 use apl_arrays::{Array, Fail, Way};
 use apl_structure::{
-    catenate, compress, drop_items, expand, iota, ravel, reshape, reverse, rotate, shape_of, take,
-    transpose, transpose_by,
+    catenate, compress, expand, iota, ravel, reverse, rotate, shape_of, transpose,
 };
 use case_fields::{array_of, axis_of, outcome_text, way_of};
 use case_tables::Trial;
@@ -15,15 +14,6 @@ pub enum OfOne {
     Ravel,
     Iota,
     Transpose,
-}
-
-/// Functions of two arguments: the arguments; the result.
-#[derive(Clone, Copy, Debug)]
-pub enum OfTwo {
-    Take,
-    Drop,
-    Reshape,
-    TransposeBy,
 }
 
 /// Functions of two arguments along an axis: the left argument, the function, the axis or `-`, and the right argument;
@@ -62,31 +52,6 @@ impl Trial for OfOne {
     fn found(&self, alloc: Global, fields: &[&str]) -> Result<String> {
         let argument = array_of(alloc, *fields.first().context("an argument is wanted")?)?;
         outcome_text(alloc, self.outcome(alloc, &argument))
-    }
-}
-
-impl OfTwo {
-    fn outcome(self, alloc: Global, left: &Array, right: &Array) -> Result<Array, Fail> {
-        match self {
-            OfTwo::Take => take(alloc, left, right),
-            OfTwo::Drop => drop_items(alloc, left, right),
-            OfTwo::Reshape => reshape(alloc, left, right),
-            OfTwo::TransposeBy => transpose_by(alloc, left, right),
-        }
-    }
-}
-
-impl Trial for OfTwo {
-    fn given(&self) -> usize {
-        2
-    }
-
-    fn found(&self, alloc: Global, fields: &[&str]) -> Result<String> {
-        let [left, right, ..] = fields else {
-            bail!("two arguments are wanted");
-        };
-        let (left, right) = (array_of(alloc, *left)?, array_of(alloc, *right)?);
-        outcome_text(alloc, self.outcome(alloc, &left, &right))
     }
 }
 
