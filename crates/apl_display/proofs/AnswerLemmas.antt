@@ -8,7 +8,7 @@ use Rattle.apl_arrays.specs.Array.{PlainArray, PlainItems, numbers, chars, FitsL
 use Rattle.apl_arrays.proofs.Shapes.{what_fits_has_no_fault, too_large_by_size}
 use Rattle.apl_items.specs.Answers.{Answers, answer_of, faults_of_fault}
 use Rattle.apl_display.specs.Display.{display_lines}
-use Rattle.apl_display.specs.Format.{format_of, formatted, number_format, width_of, IsReasonToRefuse}
+use Rattle.apl_display.specs.Format.{format_of, formatted, number_format, width_of, IsFormatRefusal}
 
 -- the array as characters has no more axes than an array may have
 rank_of_numbers : (shape : List ℕ) (width : ℕ) → length shape ≤ 8 → length (take (length shape - 1) shape ++ width ∷ []) ≤ 8
@@ -22,7 +22,7 @@ rank_of_formatted b rank = by_kind b.shape b.items rank
     by_kind shape (chars list) small = small
 
 pub format_answers : (result : Result PlainArray Fail) (b : PlainArray) → length b.shape ≤ 8 → IfOk result (λ array. array ≡ formatted b)
-    → OnOk result (FitsLimits (formatted b).shape) → IfErr result (IsReasonToRefuse (formatted b).shape) → Answers result (format_of b)
+    → OnOk result (FitsLimits (formatted b).shape) → IfErr result (IsFormatRefusal (formatted b).shape) → Answers result (format_of b)
 format_answers (Ok array) b rank value fits refused =
     let none = what_fits_has_no_fault (formatted b).shape fits in
     rw none (ap (λ (a : PlainArray). Ok a) (sym value))

@@ -6,7 +6,7 @@ use Rattle.std.proofs.lemmas.List.Concat.{flat_map-append}
 use Rattle.std.proofs.lemmas.Nat.{row_fits}
 use Rattle.std.proofs.lemmas.Slice.Zip.{length-zip, get_or-zip}
 use Rattle.std.specs.List.{flat_map, zip}
-use Rattle.apl_display.specs.Joined.{joined}
+use Rattle.apl_display.specs.Joined.{separated_by}
 use Rattle.apl_arrays.specs.Glyph.{blank}
 use Rattle.line_text.specs.Spaced.{spaced}
 use Rattle.apl_display.specs.Matrices.{cell, aligned}
@@ -19,7 +19,7 @@ pub gap_later : {A : Type 0} (between : List A) (n : ℕ) → gap between (suc n
 gap_later between n = grind (arith, nat_tests)
 
 -- one piece more
-pub joined_push : {A : Type 0} (between : List A) (pieces : List (List A)) (piece : List A) → joined between (pieces ++ piece ∷ []) ≡ joined between pieces ++ (gap between (length pieces) ++ piece)
+pub joined_push : {A : Type 0} (between : List A) (pieces : List (List A)) (piece : List A) → separated_by between (pieces ++ piece ∷ []) ≡ separated_by between pieces ++ (gap between (length pieces) ++ piece)
 joined_push between [] piece = append-nil piece
 joined_push between (first ∷ others) piece =
     ap (λ end. first ++ end) (flat_map-append (λ p. between ++ p) others (piece ∷ []) ∙ ap (λ end. flat_map (λ p. between ++ p) others ++ end) (append-nil (between ++ piece)))
@@ -27,14 +27,14 @@ joined_push between (first ∷ others) piece =
     ∙ ap (λ stop. first ++ flat_map (λ p. between ++ p) others ++ (stop ++ piece)) (sym (gap_later between (length others))))
 
 -- one piece more of a list of pieces
-pub joined_more : {A X : Type 0} (between : List A) (f : X → List A) (xs : List X) (i : ℕ) (d : X) → i < length xs → joined between (map f (take (i + 1) xs)) ≡ joined between (map f (take i xs)) ++ (gap between i ++ f (get_or xs i d))
+pub joined_more : {A X : Type 0} (between : List A) (f : X → List A) (xs : List X) (i : ℕ) (d : X) → i < length xs → separated_by between (map f (take (i + 1) xs)) ≡ separated_by between (map f (take i xs)) ++ (gap between i ++ f (get_or xs i d))
 joined_more between f xs i d within =
     let count : length (map f (take i xs)) ≡ i = length-map (take i xs) f ∙ length-take-le i xs (omega arith) in
-    ap (joined between) (map_more f xs i d within)
-    ∙ (joined_push between (map f (take i xs)) (f (get_or xs i d)) ∙ ap (λ n. joined between (map f (take i xs)) ++ (gap between n ++ f (get_or xs i d))) count)
+    ap (separated_by between) (map_more f xs i d within)
+    ∙ (joined_push between (map f (take i xs)) (f (get_or xs i d)) ∙ ap (λ n. separated_by between (map f (take i xs)) ++ (gap between n ++ f (get_or xs i d))) count)
 
 -- texts with one blank between each two are joined by the blank
-pub spaced_joined : (texts : List (List ℕ)) → spaced texts ≡ joined (blank ∷ []) texts
+pub spaced_joined : (texts : List (List ℕ)) → spaced texts ≡ separated_by (blank ∷ []) texts
 spaced_joined [] = refl
 spaced_joined (text ∷ []) = sym (append-nil text)
 spaced_joined (text ∷ next ∷ texts) = ap (λ rest. text ++ blank ∷ rest) (spaced_joined (next ∷ texts))
@@ -42,7 +42,7 @@ spaced_joined (text ∷ next ∷ texts) = ap (λ rest. text ++ blank ∷ rest) (
 -- one text more of a line
 pub one_text_more : {X : Type 0} (f : X → List ℕ) (xs : List X) (i : ℕ) (d : X) (line before gapped after : List ℕ) → i < length xs → before ≡ line ++ spaced (map f (take i xs)) → gapped ≡ before ++ gap (blank ∷ []) i → after ≡ gapped ++ f (get_or xs i d) → after ≡ line ++ spaced (map f (take (i + 1) xs))
 one_text_more f xs i d line before gapped after within so_far stands text =
-    let texts : List ℕ = joined (blank ∷ []) (map f (take i xs)) in
+    let texts : List ℕ = separated_by (blank ∷ []) (map f (take i xs)) in
     let last : List ℕ = f (get_or xs i d) in
     let joined_so_far : before ≡ line ++ texts = so_far ∙ ap (λ end. line ++ end) (spaced_joined (map f (take i xs))) in
     text

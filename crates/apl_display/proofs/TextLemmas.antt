@@ -7,7 +7,7 @@ use Rattle.std.proofs.lemmas.Slice.Zip.{length-zip}
 use Rattle.std.specs.List.{concat, flat_map, range_with_len, sum_by, zip}
 use Rattle.apl_display.proofs.GroupLemmas.{joined_more_at}
 use Rattle.apl_display.proofs.RowLemmas.{gap, gap_later, spaced_joined}
-use Rattle.apl_display.specs.Joined.{joined, with_empty_lines}
+use Rattle.apl_display.specs.Joined.{separated_by, with_empty_lines}
 use Rattle.apl_arrays.specs.Glyph.{blank}
 use Rattle.line_text.specs.Spaced.{spaced}
 use Rattle.apl_display.specs.Matrices.{cell, aligned, right_aligned}
@@ -30,7 +30,7 @@ length_further (text ∷ texts) =
     let lengths : length (text ++ flat_map (λ t. (blank ∷ []) ++ t) texts) ≡ length text + length (flat_map (λ t. (blank ∷ []) ++ t) texts) = length-append text (flat_map (λ t. (blank ∷ []) ++ t) texts) in
     omega (arith, lengths, length_further texts, sum_by-cons length text texts)
 
-length_joined : (texts : List (List ℕ)) → length (joined (blank ∷ []) texts) ≡ length texts - 1 + sum_by length texts
+length_joined : (texts : List (List ℕ)) → length (separated_by (blank ∷ []) texts) ≡ length texts - 1 + sum_by length texts
 length_joined [] = refl
 length_joined (text ∷ texts) =
     omega (arith, length-append text (flat_map (λ t. (blank ∷ []) ++ t) texts), length_further texts, sum_by-cons length text texts)

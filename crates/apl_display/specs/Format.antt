@@ -23,9 +23,9 @@ abbrev pub formatted : PlainArray → PlainArray
 formatted array = if is_chars array.items then array else number_format array
 
 -- a true reason to make no array of a shape: it passes the limits; memory may run out at any shape
-abbrev pub IsReasonToRefuse : List ℕ → Fail → Type 0
-IsReasonToRefuse shape (Report report) = (report ≡ WsFull) × ¬ FitsLimits shape
-IsReasonToRefuse shape WantOfMemory = Unit {0}
+abbrev pub IsFormatRefusal : List ℕ → Fail → Type 0
+IsFormatRefusal shape (Report report) = (report ≡ WsFull) × ¬ FitsLimits shape
+IsFormatRefusal shape WantOfMemory = Unit {0}
 
 -- what format gives: the array as characters, or the report of its shape
 abbrev pub format_of : PlainArray → Answer

@@ -1,7 +1,7 @@
 ghost use Rattle.std.specs.Prelude.{◌≡◌, ◌+◌, ◌-◌, ◌*◌, ◌^◌, ◌<◌, ◌≤◌, ◌++◌, ◌∷◌, [], ℕ, min, IfOk, IfErr, OnOk, length, map, sum};
 ghost use Rattle.std.specs.List.{concat, range_with_len};
 ghost use Rattle.apl_arrays.specs.Array.{numbers, chars, element_count, item_count, FitsLimits, IsArray};
-ghost use Rattle.apl_display.specs.Format.{format_of, formatted, number_format, IsReasonToRefuse};
+ghost use Rattle.apl_display.specs.Format.{format_of, formatted, number_format, IsFormatRefusal};
 ghost use Rattle.apl_items.specs.Answers.{Answers};
 ghost use Rattle.line_text.specs.Spaced.{spaced};
 ghost use Rattle.apl_display.specs.Matrices.{aligned, row_of};
@@ -75,7 +75,7 @@ fn vector_format(alloc: Global, b: &Array, list: &[i64]) -> Result<Array, Fail>
     requires kind { b.now.items ≡ numbers list.now }
     ensures value { IfOk result (λ array. array ≡ number_format b.now) }
     ensures fits { OnOk result (FitsLimits (number_format b.now).shape) }
-    ensures refused { IfErr result (IsReasonToRefuse (number_format b.now).shape) }
+    ensures refused { IfErr result (IsFormatRefusal (number_format b.now).shape) }
 {
     let width = vector_width(list);
     if width > ELEMENT_LIMIT {
@@ -103,7 +103,7 @@ fn table_format(alloc: Global, b: &Array, list: &[i64]) -> Result<Array, Fail>
     requires some { 0 < length list.now }
     ensures value { IfOk result (λ array. array ≡ number_format b.now) }
     ensures fits { OnOk result (FitsLimits (number_format b.now).shape) }
-    ensures refused { IfErr result (IsReasonToRefuse (number_format b.now).shape) }
+    ensures refused { IfErr result (IsFormatRefusal (number_format b.now).shape) }
 {
     let shape = b.shape();
     let extent = extent_of(shape, list.len());
@@ -122,7 +122,7 @@ fn format_numbers(alloc: Global, b: &Array, list: &[i64]) -> Result<Array, Fail>
     requires kind { b.now.items ≡ numbers list.now }
     ensures value { IfOk result (λ array. array ≡ number_format b.now) }
     ensures fits { OnOk result (FitsLimits (number_format b.now).shape) }
-    ensures refused { IfErr result (IsReasonToRefuse (number_format b.now).shape) }
+    ensures refused { IfErr result (IsFormatRefusal (number_format b.now).shape) }
 {
     if b.shape().len() < 2 {
         return vector_format(alloc, b, list);
@@ -137,7 +137,7 @@ fn format_numbers(alloc: Global, b: &Array, list: &[i64]) -> Result<Array, Fail>
 fn as_characters(alloc: Global, b: &Array) -> Result<Array, Fail>
     ensures value { IfOk result (λ array. array ≡ formatted b.now) }
     ensures fits { OnOk result (FitsLimits (formatted b.now).shape) }
-    ensures refused { IfErr result (IsReasonToRefuse (formatted b.now).shape) }
+    ensures refused { IfErr result (IsFormatRefusal (formatted b.now).shape) }
     ensures array { IsArray b.now }
 {
     match b.items() {

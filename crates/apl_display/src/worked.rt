@@ -4,18 +4,18 @@ ghost use Rattle.std.specs.Prelude.{◌≡◌, ◌∷◌, [], ◌++◌, pos, cod
 ghost use Rattle.apl_arrays.specs.Array.{number_array, char_array};
 ghost use Rattle.apl_display.specs.Display.{display_lines};
 ghost use Rattle.apl_display.specs.Format.{formatted};
-ghost use Rattle.apl_display.specs.Worked.{minus, signed};
+ghost use Rattle.apl_display.specs.Worked.{below_zero, with_overbar};
 
 /// Numbers stand at the right of their columns, each as wide as its widest number, signs counted. The call does
 /// nothing.
 pub fn numbers_stand_at_the_right()
-    ensures two_rows { display_lines (number_array (2 ∷ 2 ∷ []) (pos 1 ∷ minus 10 ∷ pos 2 ∷ pos 3 ∷ [])) ≡
-        (codes "1 " ++ signed (codes "10")) ∷ codes "2   3" ∷ [] }
-    ensures one_column { display_lines (number_array (3 ∷ 1 ∷ []) (pos 1 ∷ minus 22 ∷ pos 3 ∷ [])) ≡
-        codes "  1" ∷ signed (codes "22") ∷ codes "  3" ∷ [] }
-    ensures vector { display_lines (number_array (3 ∷ []) (pos 100 ∷ minus 2 ∷ pos 3 ∷ [])) ≡
-        (codes "100 " ++ signed (codes "2 3")) ∷ [] }
-    ensures scalar { display_lines (number_array [] (minus 5 ∷ [])) ≡ signed (codes "5") ∷ [] }
+    ensures two_rows { display_lines (number_array (2 ∷ 2 ∷ []) (pos 1 ∷ below_zero 10 ∷ pos 2 ∷ pos 3 ∷ [])) ≡
+        (codes "1 " ++ with_overbar (codes "10")) ∷ codes "2   3" ∷ [] }
+    ensures one_column { display_lines (number_array (3 ∷ 1 ∷ []) (pos 1 ∷ below_zero 22 ∷ pos 3 ∷ [])) ≡
+        codes "  1" ∷ with_overbar (codes "22") ∷ codes "  3" ∷ [] }
+    ensures vector { display_lines (number_array (3 ∷ []) (pos 100 ∷ below_zero 2 ∷ pos 3 ∷ [])) ≡
+        (codes "100 " ++ with_overbar (codes "2 3")) ∷ [] }
+    ensures scalar { display_lines (number_array [] (below_zero 5 ∷ [])) ≡ with_overbar (codes "5") ∷ [] }
 {}
 
 /// Widths are those of all matrices, and one empty line stands between two. The call does nothing.
@@ -42,8 +42,8 @@ pub fn nothing_is_shown()
 pub fn numbers_become_characters()
     ensures scalar { formatted (number_array [] (pos 5 ∷ [])) ≡ char_array (1 ∷ []) (codes "5") }
     ensures vector { formatted (number_array (2 ∷ []) (pos 1 ∷ pos 23 ∷ [])) ≡ char_array (4 ∷ []) (codes "1 23") }
-    ensures matrix { formatted (number_array (2 ∷ 2 ∷ []) (pos 1 ∷ minus 10 ∷ pos 2 ∷ pos 3 ∷ [])) ≡
-        char_array (2 ∷ 5 ∷ []) (codes "1 " ++ signed (codes "102   3")) }
+    ensures matrix { formatted (number_array (2 ∷ 2 ∷ []) (pos 1 ∷ below_zero 10 ∷ pos 2 ∷ pos 3 ∷ [])) ≡
+        char_array (2 ∷ 5 ∷ []) (codes "1 " ++ with_overbar (codes "102   3")) }
     ensures matrices { formatted (number_array (2 ∷ 1 ∷ 1 ∷ []) (pos 1 ∷ pos 20 ∷ [])) ≡
         char_array (2 ∷ 1 ∷ 2 ∷ []) (codes " 120") }
     ensures no_rows { formatted (number_array (0 ∷ 3 ∷ []) []) ≡ char_array (0 ∷ 0 ∷ []) [] }

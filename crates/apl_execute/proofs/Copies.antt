@@ -9,7 +9,7 @@ use Rattle.std.proofs.Math.Seq.{drop-cons}
 use Rattle.std.proofs.lemmas.Bool.{or_parts}
 use Rattle.std.proofs.lemmas.Cmp.{nat_list_cmp_total}
 use Rattle.std.proofs.lemmas.Map.Entries.{sum_by-insert_entry}
-use Rattle.apl_workspace.specs.Meaning.{Names, meaning_in, meaning_weight, table_weight, weight_in, with_meaning, without_name, without_names}
+use Rattle.apl_workspace.specs.Meaning.{NameTable, meaning_in, meaning_weight, table_weight, weight_in, with_meaning, without_name, without_names}
 use Rattle.apl_arrays.specs.Name.{name_order}
 use Rattle.apl_workspace.specs.Names.{all_differ, is_name_of}
 use Rattle.apl_workspace.specs.Workspace.{IsFull, IsWorkspace, PlainWorkspace, without_globals, workspace_weight}
@@ -24,7 +24,7 @@ use Rattle.apl_execute.specs.Merge.{copy_in, with_copies, with_copy}
 
 -- ---- names that go
 
-all_gone : (globals : Names) (names : List (List ℕ)) → IsStrictlySortedBy name_order (keys_of globals) → AreAbsent (without_names globals names) names
+all_gone : (globals : NameTable) (names : List (List ℕ)) → IsStrictlySortedBy name_order (keys_of globals) → AreAbsent (without_names globals names) names
 all_gone globals [] s = tt
 all_gone globals (name ∷ names) s =
     (found_without_all globals (name ∷ names) name s ∙ ap (λ (b : Bool). cond (b || list_any (is_name_of name) names) None (meaning_in globals name)) (own_name name), all_gone (without_name globals name) names (without_ascends globals name s))
@@ -37,16 +37,16 @@ may_come into w names h is differ =
 
 -- ---- names that come
 
-absent_by : (globals : Names) (name other : List ℕ) (meaning : Meaning) → is_name_of name other ≡ false → meaning_in globals other ≡ None → meaning_in (with_meaning globals name meaning) other ≡ None
+absent_by : (globals : NameTable) (name other : List ℕ) (meaning : Meaning) → is_name_of name other ≡ false → meaning_in globals other ≡ None → meaning_in (with_meaning globals name meaning) other ≡ None
 absent_by globals name other meaning apart none = found_with globals name meaning other ∙ ap (λ (b : Bool). cond b (Some meaning) (meaning_in globals other)) apart ∙ none
 
-absent_on : (globals : Names) (name : List ℕ) (meaning : Meaning) (names : List (List ℕ)) → list_any (is_name_of name) names ≡ false → AreAbsent globals names → AreAbsent (with_meaning globals name meaning) names
+absent_on : (globals : NameTable) (name : List ℕ) (meaning : Meaning) (names : List (List ℕ)) → list_any (is_name_of name) names ≡ false → AreAbsent globals names → AreAbsent (with_meaning globals name meaning) names
 absent_on globals name meaning [] others absent = tt
 absent_on globals name meaning (other ∷ names) others absent =
     let parts = or_parts (is_name_of name other) (list_any (is_name_of name) names) others in
     (absent_by globals name other meaning parts.0 absent.0, absent_on globals name meaning names parts.1 absent.1)
 
-comes_by : (globals : Names) (name : List ℕ) (names : List (List ℕ)) (copy : Option Meaning) → MayCome globals (name ∷ names) → MayCome (with_copy globals name copy) names
+comes_by : (globals : NameTable) (name : List ℕ) (names : List (List ℕ)) (copy : Option Meaning) → MayCome globals (name ∷ names) → MayCome (with_copy globals name copy) names
 comes_by globals name names None h = record { ascend = h.ascend; absent = h.absent.1; differ = (first_differs name names h.differ).1 }
 comes_by globals name names (Some meaning) h = record {
   ascend = with_ascends globals name meaning h.ascend;
@@ -54,10 +54,10 @@ comes_by globals name names (Some meaning) h = record {
   differ = (first_differs name names h.differ).1;
 }
 
-pub comes_on : (from : PlainWorkspace) (globals : Names) (name : List ℕ) (names : List (List ℕ)) → MayCome globals (name ∷ names) → MayCome (with_copy globals name (copy_in from name)) names
+pub comes_on : (from : PlainWorkspace) (globals : NameTable) (name : List ℕ) (names : List (List ℕ)) → MayCome globals (name ∷ names) → MayCome (with_copy globals name (copy_in from name)) names
 comes_on from globals name names h = comes_by globals name names (copy_in from name) h
 
-heavier_by : (globals : Names) (name : List ℕ) (copy : Option Meaning) → IsStrictlySortedBy name_order (keys_of globals) → meaning_in globals name ≡ None → table_weight globals ≤ table_weight (with_copy globals name copy)
+heavier_by : (globals : NameTable) (name : List ℕ) (copy : Option Meaning) → IsStrictlySortedBy name_order (keys_of globals) → meaning_in globals name ≡ None → table_weight globals ≤ table_weight (with_copy globals name copy)
 heavier_by globals name None s none = omega arith
 heavier_by globals name (Some meaning) s none =
     let sums : table_weight (with_meaning globals name meaning) + weight_in globals name ≡ table_weight globals + meaning_weight meaning = sum_by-insert_entry meaning_weight nat_list_cmp_total globals name meaning s in
@@ -65,7 +65,7 @@ heavier_by globals name (Some meaning) s none =
     omega (arith, sums, nothing)
 
 -- the weight only rises
-pub heavier : (from : PlainWorkspace) (globals : Names) (names : List (List ℕ)) → MayCome globals names → table_weight globals ≤ table_weight (with_copies from globals names)
+pub heavier : (from : PlainWorkspace) (globals : NameTable) (names : List (List ℕ)) → MayCome globals names → table_weight globals ≤ table_weight (with_copies from globals names)
 heavier from globals [] h = omega arith
 heavier from globals (name ∷ names) h =
     let one = heavier_by globals name (copy_in from name) h.ascend h.absent.0 in
@@ -79,17 +79,17 @@ left_at names i name within is =
     drop-cons names i name within ∙ ap (λ (first : List ℕ). first ∷ drop (suc i) names) (sym is) ∙ ap (λ n. name ∷ drop n names) (sym (add-one i))
 
 -- only the globals were changed, again
-pub same_step : (start ws after : PlainWorkspace) (globals : Names) → ws ≡ record start { globals = ws.globals } → after ≡ record ws { globals = globals } → after ≡ record start { globals = after.globals }
+pub same_step : (start ws after : PlainWorkspace) (globals : NameTable) → ws ≡ record start { globals = ws.globals } → after ≡ record ws { globals = globals } → after ≡ record start { globals = after.globals }
 same_step start ws after globals same e =
     e ∙ ap (λ (w : PlainWorkspace). record w { globals = globals }) same
-    ∙ ap (λ (g : Names). record start { globals = g }) (sym (ap (λ (w : PlainWorkspace). w.globals) e))
+    ∙ ap (λ (g : NameTable). record start { globals = g }) (sym (ap (λ (w : PlainWorkspace). w.globals) e))
 
 -- what a workspace weighs with these globals
-weighs : (start ws : PlainWorkspace) (globals : Names) → ws ≡ record start { globals = ws.globals } → workspace_weight (record ws { globals = globals }) ≡ workspace_weight (record start { globals = globals })
+weighs : (start ws : PlainWorkspace) (globals : NameTable) → ws ≡ record start { globals = ws.globals } → workspace_weight (record ws { globals = globals }) ≡ workspace_weight (record start { globals = globals })
 weighs start ws globals same = ap (λ (w : PlainWorkspace). workspace_weight (record w { globals = globals })) same
 
 -- where one name is refused, all are
-pub full_later : (start ws : PlainWorkspace) (some all : Names) (fail : Fail) → ws ≡ record start { globals = ws.globals } → table_weight some ≤ table_weight all → IsFull (record ws { globals = some }) fail → IsFull (record start { globals = all }) fail
+pub full_later : (start ws : PlainWorkspace) (some all : NameTable) (fail : Fail) → ws ≡ record start { globals = ws.globals } → table_weight some ≤ table_weight all → IsFull (record ws { globals = some }) fail → IsFull (record start { globals = all }) fail
 full_later start ws some all (Report report) same rises full =
     let w : workspace_weight (record ws { globals = some }) ≡ workspace_weight (record start { globals = some }) = weighs start ws some same in
     (full.0, omega (arith, full.1, w, rises))

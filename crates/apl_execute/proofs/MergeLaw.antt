@@ -6,7 +6,7 @@ use Rattle.std.proofs.Math.Bool.{or-false}
 use Rattle.std.proofs.lemmas.Bool.{and_parts, false≢true}
 use Rattle.std.proofs.lemmas.List.Folds.{list_any-append}
 use Rattle.std.proofs.lemmas.Map.Views.{any-filter_same}
-use Rattle.apl_workspace.specs.Meaning.{Names, is_shared_in, is_shared_meaning, meaning_in, without_names}
+use Rattle.apl_workspace.specs.Meaning.{NameTable, is_shared_in, is_shared_meaning, meaning_in, without_names}
 use Rattle.apl_workspace.specs.Names.{all_differ, is_name_of}
 use Rattle.apl_workspace.specs.Workspace.{IsWorkspace, PlainWorkspace, global_in, is_shared}
 use Rattle.apl_workspace.specs.declared.meaning.Meaning.{Meaning}
@@ -18,15 +18,15 @@ use Rattle.apl_execute.specs.Merge.{asked, copied_as, copied_names, copy_in, eac
 
 -- ---- names that are put in
 
-own_copy_found : (globals : Names) (name : List ℕ) (copy : Option Meaning) → meaning_in (with_copy globals name copy) name ≡ cond (is_some copy) copy (meaning_in globals name)
+own_copy_found : (globals : NameTable) (name : List ℕ) (copy : Option Meaning) → meaning_in (with_copy globals name copy) name ≡ cond (is_some copy) copy (meaning_in globals name)
 own_copy_found globals name None = refl
 own_copy_found globals name (Some meaning) = found_with globals name meaning name ∙ ap (λ (b : Bool). cond b (Some meaning) (meaning_in globals name)) (own_name name)
 
-other_copy_found : (globals : Names) (name other : List ℕ) (copy : Option Meaning) → is_name_of name other ≡ false → meaning_in (with_copy globals name copy) other ≡ meaning_in globals other
+other_copy_found : (globals : NameTable) (name other : List ℕ) (copy : Option Meaning) → is_name_of name other ≡ false → meaning_in (with_copy globals name copy) other ≡ meaning_in globals other
 other_copy_found globals name other None apart = refl
 other_copy_found globals name other (Some meaning) apart = found_with globals name meaning other ∙ ap (λ (b : Bool). cond b (Some meaning) (meaning_in globals other)) apart
 
-copy_found : (from : PlainWorkspace) (globals : Names) (name other : List ℕ) (b : Bool) → is_name_of other name ≡ b → meaning_in (with_copy globals name (copy_in from name)) other ≡ cond (b && is_some (copy_in from other)) (copy_in from other) (meaning_in globals other)
+copy_found : (from : PlainWorkspace) (globals : NameTable) (name other : List ℕ) (b : Bool) → is_name_of other name ≡ b → meaning_in (with_copy globals name (copy_in from name)) other ≡ cond (b && is_some (copy_in from other)) (copy_in from other) (meaning_in globals other)
 copy_found from globals name other true e =
     let same : other ≡ name = same_name other name e in
     subst (λ (n : List ℕ). meaning_in (with_copy globals n (copy_in from n)) other ≡ cond (is_some (copy_in from other)) (copy_in from other) (meaning_in globals other)) same (own_copy_found globals other (copy_in from other))
@@ -42,7 +42,7 @@ either false true false copy was = refl
 either false false true copy was = refl
 either false false false copy was = refl
 
-copies_found : (from : PlainWorkspace) (globals : Names) (names : List (List ℕ)) (other : List ℕ) → meaning_in (with_copies from globals names) other ≡ cond (list_any (is_name_of other) names && is_some (copy_in from other)) (copy_in from other) (meaning_in globals other)
+copies_found : (from : PlainWorkspace) (globals : NameTable) (names : List (List ℕ)) (other : List ℕ) → meaning_in (with_copies from globals names) other ≡ cond (list_any (is_name_of other) names && is_some (copy_in from other)) (copy_in from other) (meaning_in globals other)
 copies_found from globals [] other = refl
 copies_found from globals (name ∷ names) other =
     copies_found from (with_copy globals name (copy_in from name)) names other

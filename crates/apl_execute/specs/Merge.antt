@@ -2,7 +2,7 @@
 use Rattle.std.specs.Prelude.{◌&&◌, ◌++◌, ℕ, Bool, not, List, [], ◌∷◌, Option, Some, None, filter, fold, is_some, if◌then◌else◌}
 use Rattle.std.specs.List.{list_any}
 use Rattle.apl_workspace.specs.Listing.{all_names}
-use Rattle.apl_workspace.specs.Meaning.{Names, with_meaning, without_names}
+use Rattle.apl_workspace.specs.Meaning.{NameTable, with_meaning, without_names}
 use Rattle.apl_workspace.specs.Names.{is_name_of}
 use Rattle.apl_workspace.specs.Workspace.{PlainWorkspace, global_in, is_shared}
 use Rattle.apl_workspace.specs.declared.meaning.Meaning.{Meaning}
@@ -47,12 +47,12 @@ abbrev pub is_copied : PlainWorkspace → PlainWorkspace → List ℕ → Bool
 is_copied into from name = is_some (copy_in from name) && not (is_shared into name)
 
 -- the names with one that stands for this, where there is something
-abbrev pub with_copy : Names → List ℕ → Option Meaning → Names
+abbrev pub with_copy : NameTable → List ℕ → Option Meaning → NameTable
 with_copy globals name None = globals
 with_copy globals name (Some meaning) = with_meaning globals name meaning
 
 -- the names with these as another workspace has them
-abbrev pub with_copies : PlainWorkspace → Names → List (List ℕ) → Names
+abbrev pub with_copies : PlainWorkspace → NameTable → List (List ℕ) → NameTable
 with_copies from globals [] = globals
 with_copies from globals (name ∷ names) = with_copies from (with_copy globals name (copy_in from name)) names
 

@@ -17,6 +17,6 @@ abbrev pub text_of : PlainArray → Result (List ℕ) Report
 text_of value = if nat_le (length value.shape) 1 then text_of_items value.items else Err Rank
 
 -- why a value gave no text: its report, or memory ran out
-abbrev pub IsNoText : Result (List ℕ) Report → Fail → Type 0
-IsNoText text (fail.Report report) = text ≡ Err report
-IsNoText text fail.WantOfMemory = Unit {0}
+abbrev pub GivesNoText : Result (List ℕ) Report → Fail → Type 0
+GivesNoText text (fail.Report report) = text ≡ Err report
+GivesNoText text fail.WantOfMemory = Unit {0}

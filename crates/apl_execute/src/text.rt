@@ -1,6 +1,6 @@
 ghost use Rattle.std.specs.Prelude.{◌≡◌, Ok, IfErr, IfOk};
 ghost use Rattle.apl_arrays.specs.Array.{chars};
-ghost use Rattle.apl_execute.specs.Text.{IsNoText, text_of, text_of_items};
+ghost use Rattle.apl_execute.specs.Text.{GivesNoText, text_of, text_of_items};
 
 use apl_arrays::{Array, Fail, Items, LINE_GLYPH_LIMIT, Line, Report};
 use std::alloc::Global;
@@ -9,21 +9,21 @@ use std::alloc::Global;
 /// also none, else `Length` where it has over 1,000 glyphs. It takes memory for the text.
 pub fn text_of(alloc: Global, value: &Array) -> Result<Line, Fail>
     ensures ok { IfOk result (λ line. text_of value.now ≡ Ok line.items) }
-    ensures refused { IfErr result (λ fail. IsNoText (text_of value.now) fail) }
+    ensures refused { IfErr result (λ fail. GivesNoText (text_of value.now) fail) }
 {
     if value.shape().len() > 1 {
         return Err(Fail::Report(Report::Rank));
     }
     match value.items() {
         Items::Numbers(_) => Err(Fail::Report(Report::Domain)),
-        Items::Chars(line) => copy_of(alloc, line),
+        Items::Chars(line) => text_copy(alloc, line),
     }
 }
 
 // A copy of characters that are not too many.
-fn copy_of(alloc: Global, line: &Line) -> Result<Line, Fail>
+fn text_copy(alloc: Global, line: &Line) -> Result<Line, Fail>
     ensures ok { IfOk result (λ text. text_of_items (chars line.now.items) ≡ Ok text.items) }
-    ensures refused { IfErr result (λ fail. IsNoText (text_of_items (chars line.now.items)) fail) }
+    ensures refused { IfErr result (λ fail. GivesNoText (text_of_items (chars line.now.items)) fail) }
 {
     if line.as_slice().len() > LINE_GLYPH_LIMIT {
         return Err(Fail::Report(Report::Length));

@@ -75,7 +75,7 @@ impl TextStore for MemoryText {
             self.faults = self.faults.saturating_add(1);
             return Err(StoreError::Failed);
         }
-        Ok(copy_of(self.alloc, &self.written, &self.given, name)?)
+        Ok(copy_latest(self.alloc, &self.written, &self.given, name)?)
     }
 
     fn replace(&mut self, name: &str, bytes: &[u8]) -> Result<(), StoreError> {
@@ -90,7 +90,7 @@ impl TextStore for MemoryText {
 }
 
 // The bytes of this name again: those that were written last, or else those of the file that was given.
-fn copy_of(
+fn copy_latest(
     alloc: Global,
     written: &BTreeMap<String, Option<Bytes>>,
     given: &FileList,

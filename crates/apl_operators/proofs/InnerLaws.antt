@@ -9,7 +9,7 @@ use Rattle.apl_arrays.specs.Array.{number_array, numbers}
 use Rattle.apl_items.specs.Answers.{answer_of}
 use Rattle.apl_items.specs.Extension.{number_at}
 use Rattle.apl_items.specs.Places.{number_faults, numbers_by}
-use Rattle.apl_scalar.specs.Table.{dyadic_item, row_of}
+use Rattle.apl_scalar.specs.Table.{dyadic_item, row_of_dyad}
 use Rattle.apl_operators.specs.Gathering.{numbers_answer}
 use Rattle.apl_operators.specs.Inner.{ends_differ, inner_at, inner_product_of, pair_at, paired}
 use Rattle.apl_operators.specs.Reduce.{reduce_of, reduced_line}
@@ -23,13 +23,13 @@ lone_answer : (one other : ℕ → Option ℤ) → one 0 ≡ other 0 → numbers
 lone_answer one other e = rw e refl
 
 reduced_as_number : (f : Dyad) (list : List ℤ) (n line : ℕ)
-    → reduced_line f (numbers list) (lone n) line ≡ option_map Number (reduction_of (dyadic_item f) (row_of f).identity (number_on list (lone n) (line / 1) (line % 1)) n)
+    → reduced_line f (numbers list) (lone n) line ≡ option_map Number (reduction_of (dyadic_item f) (row_of_dyad f).identity (number_on list (lone n) (line / 1) (line % 1)) n)
 reduced_as_number f list zero line = refl
 reduced_as_number f list (suc n) line = reduced_numbers f (number_on list (lone (suc n)) (line / 1) (line % 1)) 0 n
 
 -- a reduction of a vector, by the numbers that it joins
 vector_reduced : (f : Dyad) (list : List ℤ) (n : ℕ)
-    → reduce_of f (number_array (n ∷ []) list) Last None ≡ numbers_answer [] (λ line. reduction_of (dyadic_item f) (row_of f).identity (number_on list (lone n) (line / 1) (line % 1)) n)
+    → reduce_of f (number_array (n ∷ []) list) Last None ≡ numbers_answer [] (λ line. reduction_of (dyadic_item f) (row_of_dyad f).identity (number_on list (lone n) (line / 1) (line % 1)) n)
 vector_reduced f list n = gathered_as_numbers [] (reduced_line f (numbers list) (lone n)) _ (λ line. reduced_as_number f list n line)
 
 place_below_count : (count place : ℕ) (one : Bool) → (count == 1) ≡ one → place < count → cond one 0 place ≡ place
@@ -62,7 +62,7 @@ pub record ArePairs (g : Dyad) (xs ys zs : List ℤ) (n : ℕ) : Type 0 where
   pub pair : (k : ℕ) → k < n → dyadic_item g (slice_index_or xs k (pos 0)) (slice_index_or ys k (pos 0)) ≡ Some (slice_index_or zs k (pos 0))
 
 pairs_alike : (f g : Dyad) (xs ys zs : List ℤ) (n : ℕ) → ArePairs g xs ys zs n
-    → reduction_of (dyadic_item f) (row_of f).identity (pair_at g (numbers xs) (numbers ys) n 1 0) n ≡ reduction_of (dyadic_item f) (row_of f).identity (number_on zs (lone n) 0 0) n
+    → reduction_of (dyadic_item f) (row_of_dyad f).identity (pair_at g (numbers xs) (numbers ys) n 1 0) n ≡ reduction_of (dyadic_item f) (row_of_dyad f).identity (number_on zs (lone n) 0 0) n
 pairs_alike f g xs ys zs zero pairs = refl
 pairs_alike f g xs ys zs (suc m) pairs = reduction_alike (dyadic_item f) (pair_at g (numbers xs) (numbers ys) (suc m) 1 0) (number_on zs (lone (suc m)) 0 0) 0 m same
   where
@@ -86,5 +86,5 @@ products_of_vectors f g xs ys zs n left right pair =
     let long : paired a b ≡ n = either_way (length xs == 1) n in
     ap (λ (t : Bool). answer_of (record (number_faults [] (rule (paired a b))) { bad_length = t }) (numbers_by [] (rule (paired a b)))) (ends_meet n xs ys)
     ∙ ap (λ (count : ℕ). numbers_answer [] (rule count)) long
-    ∙ lone_answer (rule n) (λ line. reduction_of (dyadic_item f) (row_of f).identity (number_on zs (lone n) (line / 1) (line % 1)) n) (pairs_alike f g xs ys zs n (record { left = left; right = right; pair = pair }))
+    ∙ lone_answer (rule n) (λ line. reduction_of (dyadic_item f) (row_of_dyad f).identity (number_on zs (lone n) (line / 1) (line % 1)) n) (pairs_alike f g xs ys zs n (record { left = left; right = right; pair = pair }))
     ∙ sym (vector_reduced f zs n)

@@ -19,7 +19,7 @@ use Rattle.apl_items.specs.Answers.{Answer, Answers}
 use Rattle.apl_items.specs.declared.shapes.Split.{Split}
 use Rattle.apl_items.specs.Shapes.{place_along, split_at, split_count}
 use Rattle.apl_items.proofs.ShapeLemmas.{element_count-append, split_count_lem}
-use Rattle.apl_scalar.specs.Table.{dyadic_item, pair_item, row_of}
+use Rattle.apl_scalar.specs.Table.{dyadic_item, pair_item, row_of_dyad}
 use Rattle.apl_items.specs.Axis.{axis_of, lacks_axis, without}
 use Rattle.apl_operators.specs.Gathering.{gathered, number_in, numbers_answer}
 use Rattle.apl_operators.specs.Reduce.{item_on_line, reduce_of, reduced, reduced_line}
@@ -182,11 +182,11 @@ lines_made f b axis shape items split result is is_items is_split answers =
 
 -- lines without items give the identity
 pub without_items : (f : Dyad) (b : PlainArray) (axis : ℕ) (shape : List ℕ) (result : Result PlainArray Fail) → get_or b.shape axis 0 ≡ 0 → shape ≡ without axis b.shape
-    → Answers result (numbers_answer shape (λ line. (row_of f).identity)) → Answers result (reduced f b axis)
+    → Answers result (numbers_answer shape (λ line. (row_of_dyad f).identity)) → Answers result (reduced f b axis)
 without_items f b axis shape result none is answers =
     let by_count = ap (λ (n : ℕ). gathered (without axis b.shape) (λ line. reduction_of (joined_by f) (identity_item f) (item_on_line b.items (split_at b.shape axis) line) n)) none in
-    let as_numbers = gathered_as_numbers (without axis b.shape) (λ line. identity_item f) (λ line. (row_of f).identity) (λ line. refl) in
-    subst (Answers result) (ap (λ (s : List ℕ). numbers_answer s (λ line. (row_of f).identity)) is ∙ sym as_numbers ∙ sym by_count) answers
+    let as_numbers = gathered_as_numbers (without axis b.shape) (λ line. identity_item f) (λ line. (row_of_dyad f).identity) (λ line. refl) in
+    subst (Answers result) (ap (λ (s : List ℕ). numbers_answer s (λ line. (row_of_dyad f).identity)) is ∙ sym as_numbers ∙ sym by_count) answers
 
 -- ---- the kinds of items
 

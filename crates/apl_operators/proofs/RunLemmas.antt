@@ -13,7 +13,7 @@ use Rattle.apl_items.proofs.AlongLemmas.{positive, regrouped}
 use Rattle.apl_items.proofs.ShapeLemmas.{along_of_place, inner_of_place, outer_of_place, place_along_below}
 use Rattle.apl_operators.specs.Reduction.{Joins, front_of_line, joined, number_on, reduction}
 use Rattle.apl_arrays.specs.Number.{fits}
-use Rattle.apl_operators.specs.Running.{GivesBack, PassUpTo, Runs, front_at, row_count}
+use Rattle.apl_operators.specs.Running.{GivesSameItem, PassUpTo, Runs, front_at, row_length}
 use Rattle.apl_operators.proofs.FrontLemmas.{Fits, Groups, one_more}
 use Rattle.apl_operators.proofs.RowLemmas.{each_more, place_below}
 
@@ -46,8 +46,8 @@ pub runs_by_steps : (by : ℤ → ℤ → Option ℤ) (list : List ℤ) (split :
 runs_by_steps by list split whole some steps = record {
   first = λ outer at p below.
       let zero_rows : 0 * split.inner + at ≡ at = omega arith in
-      let is : outer * row_count split + at ≡ place_along split outer 0 at = regrouped outer split.along split.inner 0 at at zero_rows in
-      front_on by list split (outer * row_count split + at) outer 0 at is some below ∙ read (outer * row_count split + at) outer 0 at p is some below;
+      let is : outer * row_length split + at ≡ place_along split outer 0 at = regrouped outer split.along split.inner 0 at at zero_rows in
+      front_on by list split (outer * row_length split + at) outer 0 at is some below ∙ read (outer * row_length split + at) outer 0 at p is some below;
   next = λ outer at p past below fit.
       let inner_some : 0 < split.inner = positive split.along split.inner at below in
       let parts : at / split.inner * split.inner + at % split.inner ≡ at = div-add-mod' at split.inner in
@@ -64,18 +64,18 @@ runs_by_steps by list split whole some steps = record {
         sym (ap (slice_get list) is ∙ slice_get-get_or list (place_along split outer along inner) (pos 0) (omega (arith, below, whole)))
 
     after : (outer before along inner at : ℕ) → outer < split.outer → before + 1 ≡ along → along < split.along → inner < split.inner → along * split.inner + inner ≡ at
-        → PassUpTo fits list (outer * row_count split + at) → front_at by list split (outer * row_count split + at)
-        ≡ joined by (front_at by list split (outer * row_count split + at - split.inner)) (slice_get list (outer * row_count split + at))
+        → PassUpTo fits list (outer * row_length split + at) → front_at by list split (outer * row_length split + at)
+        ≡ joined by (front_at by list split (outer * row_length split + at - split.inner)) (slice_get list (outer * row_length split + at))
     after outer before along inner at p next rows inside parts fit =
-        let is : outer * row_count split + at ≡ place_along split outer along inner = regrouped outer split.along split.inner along inner at parts in
-        let is_next : outer * row_count split + at ≡ place_along split outer (before + 1) inner = is ∙ ap (λ (k : ℕ). place_along split outer k inner) (sym next) in
-        let was : outer * row_count split + at - split.inner ≡ place_along split outer before inner = ap (λ (k : ℕ). k - split.inner) is_next ∙ one_before outer split.along split.inner before inner in
+        let is : outer * row_length split + at ≡ place_along split outer along inner = regrouped outer split.along split.inner along inner at parts in
+        let is_next : outer * row_length split + at ≡ place_along split outer (before + 1) inner = is ∙ ap (λ (k : ℕ). place_along split outer k inner) (sym next) in
+        let was : outer * row_length split + at - split.inner ≡ place_along split outer before inner = ap (λ (k : ℕ). k - split.inner) is_next ∙ one_before outer split.along split.inner before inner in
         let before_inside : before < split.along = omega arith in
         let next_inside : before + 1 < split.along = omega arith in
-        front_on by list split (outer * row_count split + at) outer (before + 1) inner is_next next_inside inside
+        front_on by list split (outer * row_length split + at) outer (before + 1) inner is_next next_inside inside
         ∙ steps.step outer inner before p inside next_inside (subst (λ (n : ℕ). PassUpTo fits list n) is_next fit)
-        ∙ ap (λ (o : Option ℤ). joined by o (number_on list split outer inner (before + 1))) (sym (front_on by list split (outer * row_count split + at - split.inner) outer before inner was before_inside inside))
-        ∙ ap (λ (o : Option ℤ). joined by (front_at by list split (outer * row_count split + at - split.inner)) o) (read (outer * row_count split + at) outer (before + 1) inner p is_next next_inside inside)
+        ∙ ap (λ (o : Option ℤ). joined by o (number_on list split outer inner (before + 1))) (sym (front_on by list split (outer * row_length split + at - split.inner) outer before inner was before_inside inside))
+        ∙ ap (λ (o : Option ℤ). joined by (front_at by list split (outer * row_length split + at - split.inner)) o) (read (outer * row_length split + at) outer (before + 1) inner p is_next next_inside inside)
 
 -- a reduction looks at the items from its first to its last
 pub reduction_alike : (by : ℤ → ℤ → Option ℤ) (one other : ℕ → Option ℤ) (from more : ℕ) → ((k : ℕ) → k ≤ from + more → one k ≡ other k) → reduction by one from more ≡ reduction by other from more
@@ -117,7 +117,7 @@ steps_by_groups by list split count groups = record {
 -- the items so far are those of a definition, wherever it joins as the calls do and runs on
 abbrev pub RunsTo : {T : Type 0} → (T → T → Type 0) → (T → T → Option T → Type 0) → List T → Split → ℕ → List T → Type 0
 RunsTo {T} gives joins list split count made =
-    (test : T → Bool) (by : T → T → Option T) (item : ℕ → Option T) → GivesBack gives test → Joins joins by → Runs test by list split item
+    (test : T → Bool) (by : T → T → Option T) (item : ℕ → Option T) → GivesSameItem gives test → Joins joins by → Runs test by list split item
     → ((k : ℕ) → k < count → slice_get made k ≡ item k) × ((k : ℕ) (x : T) → k < count → slice_get list k ≡ Some x → test x ≡ true)
 
 pub first_is : {T : Type 0} (item : ℕ → Option T) (place : ℕ) (x : T) (first : Bool) (other : Option T) → first ≡ true → item place ≡ (if first then Some x else other) → Some x ≡ item place
@@ -134,16 +134,16 @@ next_is {T} joins by item made place before a b value first joining so_far is wh
 
 -- the item at a place of a row, as a definition that runs on has it, where the list has this item there
 pub run_item : {T : Type 0} (test : T → Bool) (by : T → T → Option T) (list : List T) (split : Split) (item : ℕ → Option T) (outer at : ℕ) (x : T) → Runs test by list split item
-    → outer < split.outer → at < row_count split → PassUpTo test list (outer * row_count split + at) → slice_get list (outer * row_count split + at) ≡ Some x
-    → item (outer * row_count split + at) ≡ (if nat_lt at split.inner then Some x else joined by (item (outer * row_count split + at - split.inner)) (Some x))
+    → outer < split.outer → at < row_length split → PassUpTo test list (outer * row_length split + at) → slice_get list (outer * row_length split + at) ≡ Some x
+    → item (outer * row_length split + at) ≡ (if nat_lt at split.inner then Some x else joined by (item (outer * row_length split + at - split.inner)) (Some x))
 run_item {T} test by list split item outer at x runs p q fit is = by_test (cases_lt at split.inner)
   where
-    by_test : (at < split.inner) ⊎ (split.inner ≤ at) → item (outer * row_count split + at)
-        ≡ (if nat_lt at split.inner then Some x else joined by (item (outer * row_count split + at - split.inner)) (Some x))
+    by_test : (at < split.inner) ⊎ (split.inner ≤ at) → item (outer * row_length split + at)
+        ≡ (if nat_lt at split.inner then Some x else joined by (item (outer * row_length split + at - split.inner)) (Some x))
     by_test (inl h) = let e : nat_lt at split.inner ≡ true = grind (arith, nat_tests) in rw e (runs.first outer at p h ∙ is)
     by_test (inr h) =
         let e : nat_lt at split.inner ≡ false = grind (arith, nat_tests) in
-        rw e (runs.next outer at p h q fit ∙ ap (λ (o : Option T). joined by (item (outer * row_count split + at - split.inner)) o) is)
+        rw e (runs.next outer at p h q fit ∙ ap (λ (o : Option T). joined by (item (outer * row_length split + at - split.inner)) o) is)
 
 -- what holds before a place and at it holds up to it
 pub hold_up_to : {T : Type 0} (test : T → Bool) (list : List T) (place : ℕ) (here : T) → ((k : ℕ) (x : T) → k < place → slice_get list k ≡ Some x → test x ≡ true)
@@ -165,7 +165,7 @@ given_back {T} list place x y below read same = slice_get_read list (length list
 -- one item more
 pub runs_more : {T : Type 0} (gives : T → T → Type 0) (joins : T → T → Option T → Type 0) (list : List T) (split : Split) (count next : ℕ) (made more : List T) (item x y : T)
     → RunsTo gives joins list split count made → length made ≡ count → next ≡ count + 1 → more ≡ made ++ item ∷ [] → count < length list → x ≡ get_or list count x → gives x y
-    → ((test : T → Bool) (by : T → T → Option T) (given : ℕ → Option T) → GivesBack gives test → Joins joins by → Runs test by list split given → Some item ≡ given count)
+    → ((test : T → Bool) (by : T → T → Option T) (given : ℕ → Option T) → GivesSameItem gives test → Joins joins by → Runs test by list split given → Some item ≡ given count)
     → RunsTo gives joins list split next more
 runs_more {T} gives joins list split count next made more item x y so_far long is_next is below read told now test by given back joining runs =
     let before = so_far test by given back joining runs in
@@ -179,20 +179,20 @@ runs_more {T} gives joins list split count next made more item x y so_far long i
 -- all items, or none at a place
 pub runs_to_all : {T : Type 0} (gives : T → T → Type 0) (joins : T → T → Option T → Type 0) (list : List T) (split : Split) (count : ℕ) (made : List T) → RunsTo gives joins list split count made
     → length made ≡ count → count ≡ length list
-    → (test : T → Bool) (by : T → T → Option T) (item : ℕ → Option T) → GivesBack gives test → Joins joins by → Runs test by list split item → IsByPlace (length list) item made
+    → (test : T → Bool) (by : T → T → Option T) (item : ℕ → Option T) → GivesSameItem gives test → Joins joins by → Runs test by list split item → IsByPlace (length list) item made
 runs_to_all gives joins list split count made so_far long all test by item back joining runs = record {
   whole = long ∙ all;
   each = λ place below. (so_far test by item back joining runs).0 place (omega (arith, all));
 }
 
 -- the places of all rows
-pub row_place : (split : Split) (size outer at : ℕ) → split_count split ≡ size → outer < split.outer → at < row_count split → outer * row_count split + at < size
+pub row_place : (split : Split) (size outer at : ℕ) → split_count split ≡ size → outer < split.outer → at < row_length split → outer * row_length split + at < size
 row_place split size outer at whole p q =
     let same : split.outer * (split.along * split.inner) ≡ split_count split = sym (mul_assoc split.outer split.along split.inner) in
-    omega (arith, place_below split.outer (row_count split) outer at p q, same, whole)
+    omega (arith, place_below split.outer (row_length split) outer at p q, same, whole)
 
-pub row_fits : (split : Split) (size : ℕ) → split_count split ≡ size → 0 < split_count split → row_count split ≤ size
-row_fits split size whole some = least split.outer (row_count split) size (sym (mul_assoc split.outer split.along split.inner) ∙ whole) (omega (arith, some, whole))
+pub row_fits : (split : Split) (size : ℕ) → split_count split ≡ size → 0 < split_count split → row_length split ≤ size
+row_fits split size whole some = least split.outer (row_length split) size (sym (mul_assoc split.outer split.along split.inner) ∙ whole) (omega (arith, some, whole))
   where
     least : (o r n : ℕ) → o * r ≡ n → 0 < n → r ≤ n
     least zero r n e h = absurd (let none : zero * r ≡ 0 = omega arith in omega (arith, none, e))

@@ -4,7 +4,7 @@ use Rattle.apl_arrays.specs.Array.{PlainArray, PlainItems, element_count}
 use Rattle.apl_items.specs.Answers.{Answer, answer_of}
 use Rattle.apl_items.specs.Extension.{are_whole, is_single, item_at}
 use Rattle.apl_items.specs.Places.{number_faults, numbers_by}
-use Rattle.apl_scalar.specs.Table.{dyadic_item, pair_item, row_of}
+use Rattle.apl_scalar.specs.Table.{dyadic_item, pair_item, row_of_dyad}
 use Rattle.apl_operators.specs.Reduction.{reduction_of}
 
 -- a shape without its last axis
@@ -34,7 +34,7 @@ pair_at g a b count columns place along =
 
 -- the item at a place: the reduction by f of all pairs of its row and its column
 abbrev pub inner_at : Dyad → Dyad → PlainItems → PlainItems → ℕ → ℕ → ℕ → Option ℤ
-inner_at f g a b count columns place = reduction_of (dyadic_item f) (row_of f).identity (pair_at g a b count columns place) count
+inner_at f g a b count columns place = reduction_of (dyadic_item f) (row_of_dyad f).identity (pair_at g a b count columns place) count
 
 -- each row of A with each column of B; the shape is that of A without its last axis, then that of B without its first
 abbrev pub inner_product_of : Dyad → Dyad → PlainArray → PlainArray → Answer

@@ -1,7 +1,7 @@
 use Rattle.std.specs.Prelude.{◌≡◌, ◌+◌, ◌*◌, ◌/◌, ◌%◌, ◌<◌, ◌≤◌, ℕ, ℤ, Option}
 use Rattle.apl_operators.specs.declared.inner_product.Extent.{Extent}
 use Rattle.apl_arrays.specs.declared.verb.Dyad.{Dyad}
-use Rattle.apl_scalar.specs.Table.{dyadic_item, row_of}
+use Rattle.apl_scalar.specs.Table.{dyadic_item, row_of_dyad}
 use Rattle.apl_operators.specs.Reduction.{reduction_of}
 
 -- there are pairs, and no side is longer than an array may be
@@ -13,7 +13,7 @@ pub record IsExtent (extent : Extent) : Type 0 where
 
 -- the product of a row and a column: the reduction of their pairs, by the places of a pair in the two arrays
 abbrev pub product_of : Dyad → (ℕ → ℕ → Option ℤ) → ℕ → ℕ → ℕ → ℕ → Option ℤ
-product_of f pair paired columns row column = reduction_of (dyadic_item f) (row_of f).identity (λ along. pair (row * paired + along) (along * columns + column)) paired
+product_of f pair paired columns row column = reduction_of (dyadic_item f) (row_of_dyad f).identity (λ along. pair (row * paired + along) (along * columns + column)) paired
 
 -- the product at a place of all rows and columns
 abbrev pub products_at : Dyad → (ℕ → ℕ → Option ℤ) → ℕ → ℕ → ℕ → Option ℤ

@@ -5,7 +5,7 @@ use Rattle.apl_arrays.specs.declared.verb.Dyad.{Dyad}
 use Rattle.apl_arrays.specs.Array.{PlainItems, numbers, chars}
 use Rattle.apl_items.specs.declared.shapes.Split.{Split}
 use Rattle.apl_items.specs.Shapes.{place_along}
-use Rattle.apl_scalar.specs.Table.{pair_item, row_of}
+use Rattle.apl_scalar.specs.Table.{pair_item, row_of_dyad}
 
 -- ---- of items of any type
 
@@ -33,7 +33,7 @@ joined_by f a b = option_map Number (pair_item f a b)
 
 -- the identity as an item, if there is one
 abbrev pub identity_item : Dyad → Option Item
-identity_item f = option_map Number (row_of f).identity
+identity_item f = option_map Number (row_of_dyad f).identity
 
 -- the item at a place
 abbrev pub item_in : PlainItems → ℕ → Item

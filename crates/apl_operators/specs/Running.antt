@@ -11,8 +11,8 @@ abbrev pub front_at : (ℤ → ℤ → Option ℤ) → List ℤ → Split → �
 front_at join list split place = front_of_line join list split (outer_of split place) (inner_of split place) (along_of split place)
 
 -- how many places a row has
-abbrev pub row_count : Split → ℕ
-row_count split = split.along * split.inner
+abbrev pub row_length : Split → ℕ
+row_length split = split.along * split.inner
 
 -- the items of a list up to a place pass a test
 abbrev pub PassUpTo : {T : Type 0} → (T → Bool) → List T → ℕ → Type 0
@@ -21,13 +21,13 @@ PassUpTo {T} test list place = (k : ℕ) (x : T) → k ≤ place → slice_get l
 -- each item follows from the one before it on its line, where the items of the list up to it pass a test: the first is that of
 -- the list, and each other is joined with that of the list
 pub record Runs {T : Type 0} (test : T → Bool) (join : T → T → Option T) (list : List T) (split : Split) (item : ℕ → Option T) : Type 0 where
-  pub first : (outer at : ℕ) → outer < split.outer → at < split.inner → item (outer * row_count split + at) ≡ slice_get list (outer * row_count split + at)
-  pub next : (outer at : ℕ) → outer < split.outer → split.inner ≤ at → at < row_count split → PassUpTo test list (outer * row_count split + at)
-      → item (outer * row_count split + at) ≡ joined join (item (outer * row_count split + at - split.inner)) (slice_get list (outer * row_count split + at))
+  pub first : (outer at : ℕ) → outer < split.outer → at < split.inner → item (outer * row_length split + at) ≡ slice_get list (outer * row_length split + at)
+  pub next : (outer at : ℕ) → outer < split.outer → split.inner ≤ at → at < row_length split → PassUpTo test list (outer * row_length split + at)
+      → item (outer * row_length split + at) ≡ joined join (item (outer * row_length split + at - split.inner)) (slice_get list (outer * row_length split + at))
 
 -- a call gives its item back, which passes a test
-abbrev pub GivesBack : {T : Type 0} → (T → T → Type 0) → (T → Bool) → Type 0
-GivesBack {T} answers test = (x y : T) → answers x y → (y ≡ x) × (test x ≡ true)
+abbrev pub GivesSameItem : {T : Type 0} → (T → T → Type 0) → (T → Bool) → Type 0
+GivesSameItem {T} answers test = (x y : T) → answers x y → (y ≡ x) × (test x ≡ true)
 
 -- a function of which any grouping gives the same item, or none
 abbrev pub is_grouped : Dyad → Bool

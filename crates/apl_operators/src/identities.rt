@@ -1,7 +1,7 @@
 ghost use Rattle.std.specs.Prelude.{◌≡◌, ◌≤◌, All, length, option_map, unwrap_or};
 ghost use Rattle.apl_arrays.specs.Limits.{most_axes, most_elements};
 ghost use Rattle.apl_items.specs.Answers.{Answers};
-ghost use Rattle.apl_scalar.specs.Table.{row_of};
+ghost use Rattle.apl_scalar.specs.Table.{row_of_dyad};
 ghost use Rattle.apl_operators.specs.Gathering.{numbers_answer};
 
 use apl_arrays::{Array, Dyad, Fail, Items, Report, count_of_elements, shape_fault};
@@ -14,7 +14,7 @@ use std::alloc::Global;
 pub(crate) fn identities(alloc: Global, f: Dyad, shape: &[u32]) -> Result<Array, Fail>
     requires rank { length shape.now ≤ most_axes }
     requires axes { All (λ axis. axis ≤ most_elements) shape.now }
-    ensures { Answers result (numbers_answer shape.now (λ place. (row_of f).identity)) }
+    ensures { Answers result (numbers_answer shape.now (λ place. (row_of_dyad f).identity)) }
 {
     if shape_fault(shape).is_some() {
         return Err(Fail::Report(report_of_many(f)));
@@ -27,7 +27,7 @@ pub(crate) fn identities(alloc: Global, f: Dyad, shape: &[u32]) -> Result<Array,
         alloc,
         count,
         |_place: usize| -> Option<i64>
-            ensures { result ≡ (row_of f).identity }
+            ensures { result ≡ (row_of_dyad f).identity }
         { identity_of(f) },
     )?;
     Ok(Array::shaped(shape, Items::Numbers(items)))
@@ -35,7 +35,7 @@ pub(crate) fn identities(alloc: Global, f: Dyad, shape: &[u32]) -> Result<Array,
 
 /// The report of identities that are too many to be made: DOMAIN where there is none.
 fn report_of_many(f: Dyad) -> Report
-    ensures { result ≡ unwrap_or (option_map (λ identity. Report.WsFull) (row_of f).identity) Report.Domain }
+    ensures { result ≡ unwrap_or (option_map (λ identity. Report.WsFull) (row_of_dyad f).identity) Report.Domain }
 {
     match identity_of(f) {
         Some(_) => Report::WsFull,

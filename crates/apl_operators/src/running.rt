@@ -4,7 +4,7 @@ ghost use Rattle.apl_items.specs.Shapes.{place_along, split_count};
 ghost use Rattle.apl_arrays.specs.Number.{fits};
 ghost use Rattle.apl_scalar.specs.Table.{dyadic_item};
 ghost use Rattle.apl_operators.specs.Reduction.{Joins, joined};
-ghost use Rattle.apl_operators.specs.Running.{GivesBack, Runs, Weighs, factor_weight, front_at, is_grouped, term_weight, weight_on};
+ghost use Rattle.apl_operators.specs.Running.{GivesSameItem, Runs, Weighs, factor_weight, front_at, is_grouped, term_weight, weight_on};
 
 use crate::reduction::reduced;
 use crate::rows::lacks_by_rows;
@@ -121,7 +121,7 @@ pub(crate) fn running<T: Copy + Drop, F: Fn(T, T) -> Option<T>, K: Fn(T) -> T>(
     requires able { K.IsAlwaysCallable known.now }
     requires whole { split_count split ≡ length list.now }
     requires some { 0 < split_count split }
-    ensures { (test : T → Bool) (by : T → T → Option T) (item : ℕ → Option T) → GivesBack (K.post known.now) test → Joins (F.post rule.now) by → Runs test by list.now split item → MakesItems result (length list.now) item }
+    ensures { (test : T → Bool) (by : T → T → Option T) (item : ℕ → Option T) → GivesSameItem (K.post known.now) test → Joins (F.post rule.now) by → Runs test by list.now split item → MakesItems result (length list.now) item }
 {
     let count = list.len();
     let row = split.along * split.inner;

@@ -114,30 +114,30 @@ abbrev pub comparison : (ℤ → ℤ → Bool) → ℤ → ℤ → ℤ
 comparison test a b = truth (test a b)
 
 -- the table of the dyadic functions
-abbrev pub row_of : Dyad → DyadRow
-row_of Plus = dyad_row ◌+ℤ◌ everywhere (Some (pos 0))
-row_of Minus = dyad_row ◌-ℤ◌ everywhere (Some (pos 0))
-row_of Times = dyad_row ◌*ℤ◌ everywhere (Some (pos 1))
-row_of Divide = dyad_row quotient is_exact (Some (pos 1))
-row_of Maximum = dyad_row int_max everywhere (Some least)
-row_of Minimum = dyad_row int_min everywhere (Some greatest)
-row_of Residue = dyad_row residue everywhere (Some (pos 0))
-row_of Power = dyad_row power is_power (Some (pos 1))
-row_of Binomial = dyad_row binomial are_counts (Some (pos 1))
-row_of And = dyad_row (logical (λ a b. a && b)) are_truths (Some (pos 1))
-row_of Or = dyad_row (logical (λ a b. a || b)) are_truths (Some (pos 0))
-row_of Nand = dyad_row (logical (λ a b. not (a && b))) are_truths None
-row_of Nor = dyad_row (logical (λ a b. not (a || b))) are_truths None
-row_of Less = dyad_row (comparison int_lt) everywhere (Some (pos 0))
-row_of NotGreater = dyad_row (comparison int_le) everywhere (Some (pos 1))
-row_of Equal = dyad_row (comparison int_eq) everywhere (Some (pos 1))
-row_of NotLess = dyad_row (comparison (λ a b. int_le b a)) everywhere (Some (pos 1))
-row_of Greater = dyad_row (comparison (λ a b. int_lt b a)) everywhere (Some (pos 0))
-row_of NotEqual = dyad_row (comparison (λ a b. not (int_eq a b))) everywhere (Some (pos 0))
+abbrev pub row_of_dyad : Dyad → DyadRow
+row_of_dyad Plus = dyad_row ◌+ℤ◌ everywhere (Some (pos 0))
+row_of_dyad Minus = dyad_row ◌-ℤ◌ everywhere (Some (pos 0))
+row_of_dyad Times = dyad_row ◌*ℤ◌ everywhere (Some (pos 1))
+row_of_dyad Divide = dyad_row quotient is_exact (Some (pos 1))
+row_of_dyad Maximum = dyad_row int_max everywhere (Some least)
+row_of_dyad Minimum = dyad_row int_min everywhere (Some greatest)
+row_of_dyad Residue = dyad_row residue everywhere (Some (pos 0))
+row_of_dyad Power = dyad_row power is_power (Some (pos 1))
+row_of_dyad Binomial = dyad_row binomial are_counts (Some (pos 1))
+row_of_dyad And = dyad_row (logical (λ a b. a && b)) are_truths (Some (pos 1))
+row_of_dyad Or = dyad_row (logical (λ a b. a || b)) are_truths (Some (pos 0))
+row_of_dyad Nand = dyad_row (logical (λ a b. not (a && b))) are_truths None
+row_of_dyad Nor = dyad_row (logical (λ a b. not (a || b))) are_truths None
+row_of_dyad Less = dyad_row (comparison int_lt) everywhere (Some (pos 0))
+row_of_dyad NotGreater = dyad_row (comparison int_le) everywhere (Some (pos 1))
+row_of_dyad Equal = dyad_row (comparison int_eq) everywhere (Some (pos 1))
+row_of_dyad NotLess = dyad_row (comparison (λ a b. int_le b a)) everywhere (Some (pos 1))
+row_of_dyad Greater = dyad_row (comparison (λ a b. int_lt b a)) everywhere (Some (pos 0))
+row_of_dyad NotEqual = dyad_row (comparison (λ a b. not (int_eq a b))) everywhere (Some (pos 0))
 
 -- the item of a dyadic function at two numbers, or none, which is DOMAIN
 abbrev pub dyadic_item : Dyad → ℤ → ℤ → Option ℤ
-dyadic_item f a b = item_where ((row_of f).defined a b) ((row_of f).value a b)
+dyadic_item f a b = item_where ((row_of_dyad f).defined a b) ((row_of_dyad f).value a b)
 
 -- the item at a character and another item, which are the same or not: only = and ≠ have one
 abbrev pub item_of_chars : Dyad → Bool → Option ℤ

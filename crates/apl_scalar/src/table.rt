@@ -1,7 +1,7 @@
 ghost use Rattle.std.specs.Prelude.{◌≡◌, length};
 ghost use Rattle.apl_items.specs.Extension.{Reaches, number_at};
 ghost use Rattle.apl_items.specs.Places.{MakesItems};
-ghost use Rattle.apl_scalar.specs.Table.{monadic_item, dyadic_item, pair_item, item_of_chars, row_of};
+ghost use Rattle.apl_scalar.specs.Table.{monadic_item, dyadic_item, pair_item, item_of_chars, row_of_dyad};
 
 use crate::{counting, monad_rules, rules};
 use apl_arrays::{Dyad, Fail, Item, Monad, NumberList};
@@ -111,7 +111,7 @@ pub fn item_of_numbers(f: Dyad, a: i64, b: i64) -> Option<i64>
 
 /// The identity of a dyadic function, if it has one. No memory.
 pub fn identity_of(f: Dyad) -> Option<i64>
-    ensures { result ≡ (row_of f).identity }
+    ensures { result ≡ (row_of_dyad f).identity }
 {
     dyadic_table!(f, identity_of())
 }

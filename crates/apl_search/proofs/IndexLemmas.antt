@@ -11,9 +11,9 @@ use Rattle.std.proofs.lemmas.List.Folds.{Any-from_list_any, list_any_at}
 use Rattle.std.proofs.lemmas.List.Sums.{fails_before_first, passes_at_first, position_or_len_is}
 use Rattle.std.proofs.lemmas.List.{get_or_default}
 use Rattle.std.proofs.lemmas.Bool.Decides.{nat_tests}
-use Rattle.apl_search.specs.Grade.{by_item, placed}
+use Rattle.apl_search.specs.Grade.{by_item, with_places}
 use Rattle.apl_search.specs.Lookup.{StandsInOrder}
-use Rattle.apl_search.proofs.PlacedLemmas.{IsBeside, are_beside, by_item_total, is_weak, length-placed, stands_beside}
+use Rattle.apl_search.proofs.PlacedLemmas.{IsBeside, are_beside, by_item_total, is_weak, length-with_places, stands_beside}
 
 -- ---- orders
 
@@ -57,10 +57,10 @@ partitioned R o list pairs stands item i j d le below passes =
     ap is_lt (less_before R o (get_or pairs i d).0 (get_or pairs j d).0 item kept (less_is _ passes))
 
 pub as_many : {T : Type 0} (R : T → T → Ordering) (list : List T) (pairs : List (T × ℕ)) → StandsInOrder R list pairs → length pairs ≡ length list
-as_many R list pairs stands = length_permutation (placed list) pairs stands.moved ∙ length-placed list
+as_many R list pairs stands = length_permutation (with_places list) pairs stands.moved ∙ length-with_places list
 
 beside : {T : Type 0} (R : T → T → Ordering) (list : List T) (pairs : List (T × ℕ)) → StandsInOrder R list pairs → All (IsBeside list) pairs
-beside R list pairs stands = All-permutation (IsBeside list) (placed list) pairs stands.moved (are_beside list)
+beside R list pairs stands = All-permutation (IsBeside list) (with_places list) pairs stands.moved (are_beside list)
 
 pub stands_inside : {T : Type 0} (R : T → T → Ordering) (list : List T) (pairs : List (T × ℕ)) → StandsInOrder R list pairs
     → (at : ℕ) (d : T × ℕ) → at < length pairs → (get_or pairs at d).1 < length list
@@ -99,7 +99,7 @@ nowhere {T} R eq o ties list pairs item at stands splits fails =
   where
     clash : (k : ℕ) → k < length list → R item (get_or list k item) ≡ Equal → ⊥
     clash k below tie =
-        let found = Contains-permutation (placed list) pairs (get_or list k item, k) stands.moved (stands_beside list k item below) in
+        let found = Contains-permutation (with_places list) pairs (get_or list k item, k) stands.moved (stands_beside list k item below) in
         let from = stands_from R o item pairs at splits found.0 (get_or list k item, k) found.2 tie in
         let same = at_point R o list pairs item at stands splits found.0 (get_or list k item, k) found.1 found.2 tie in
         let within : at < length pairs = let inside = found.1 in omega arith in
@@ -123,7 +123,7 @@ first_place {T} R eq o ties list pairs item at stands splits within pair is same
 
     clash : (k : ℕ) → k < pair.1 → k < length list → R item (get_or list k item) ≡ Equal → ⊥
     clash k below inside tie =
-        let found = Contains-permutation (placed list) pairs (get_or list k item, k) stands.moved (stands_beside list k item inside) in
+        let found = Contains-permutation (with_places list) pairs (get_or list k item, k) stands.moved (stands_beside list k item inside) in
         let from = stands_from R o item pairs at splits found.0 (get_or list k item, k) found.2 tie in
         let here : R item pair.0 ≡ Equal = (Equal-is (R item pair.0)).0 (sym (ties item pair.0) ∙ same) in
         let even : R (get_or list k item) pair.0 ≡ Equal = sym (o.congr item (get_or list k item) pair.0 tie) ∙ here in

@@ -58,8 +58,8 @@ encode_of a b = answer_of (encode_faults a b) (digits_of a b)
 -- ---- digits that are put in column by column
 
 -- each number is in 64 bits
-abbrev pub AreSmall : List ℤ → Type 0
-AreSmall list = All (λ number. fits number ≡ true) list
+abbrev pub AllFit : List ℤ → Type 0
+AllFit list = All (λ number. fits number ≡ true) list
 
 -- the digits at all bases stand in the columns before one
 abbrev pub AreBefore : List ℤ → List ℤ → List ℤ → ℕ → Type 0

@@ -6,7 +6,7 @@ use Rattle.std.specs.Ordering.{int_eq}
 use Rattle.apl_arrays.specs.Array.{PlainArray, PlainItems, numbers, chars, number_array}
 use Rattle.apl_items.specs.Answers.{Answer, no_faults, answer_of}
 use Rattle.apl_scalar.specs.Table.{truth}
-use Rattle.apl_search.specs.Grade.{by_item, placed}
+use Rattle.apl_search.specs.Grade.{by_item, with_places}
 
 -- ---- the first place
 
@@ -55,7 +55,7 @@ member_of a b = answer_of no_faults (number_array a.shape (memberships a.items b
 
 -- pairs are a list's items with their places, in order: by the item, and of equal items by the place
 pub record StandsInOrder {T : Type 0} (order : T → T → Ordering) (list : List T) (pairs : List (T × ℕ)) : Type 0 where
-  pub moved : IsPermutation (placed list) pairs
+  pub moved : IsPermutation (with_places list) pairs
   pub rises : IsSorted (by_item order) pairs
 
 -- pairs are a list's items with their places in order, or none, where the list itself is walked

@@ -4,7 +4,7 @@ ghost use Rattle.apl_items.specs.Places.{items_by, lacks_item};
 ghost use Rattle.apl_scalar.specs.Counting.{floor_quotient, residue};
 ghost use Rattle.apl_arrays.specs.Number.{fits};
 ghost use Rattle.apl_scalar.specs.Table.{item_where, least};
-ghost use Rattle.apl_search.specs.Encode.{AreBefore, AreSmall, digit_at, digit_for, digits_of, encode_faults, encode_of, encode_misfit, rest_by, rest_by_all};
+ghost use Rattle.apl_search.specs.Encode.{AreBefore, AllFit, digit_at, digit_for, digits_of, encode_faults, encode_of, encode_misfit, rest_by, rest_by_all};
 
 use crate::numbers::small;
 use apl_arrays::{
@@ -77,7 +77,7 @@ fn lacks_digit(bases: &[i64], numbers: &[i64]) -> bool
 
 /// Each number of a list is in 64 bits, as it is read. The call does nothing else.
 fn read_all(list: &[i64])
-    ensures { AreSmall list.now }
+    ensures { AllFit list.now }
 {
     for place in 0..list.len() {
         let _number = item_at(list, place);

@@ -4,7 +4,7 @@ ghost use Rattle.std.specs.List.Sorted.{IsPartitionPoint};
 ghost use Rattle.std.specs.Ordering.{is_lt};
 ghost use Rattle.apl_search.specs.Lookup.{IsIndexOf, StandsInOrder};
 
-use crate::places::placed;
+use crate::places::with_places;
 use apl_arrays::WantOfMemory;
 use std::alloc::Global;
 
@@ -24,7 +24,7 @@ pub fn index_for<T: Ord + Copy + Drop>(
     if list.len() <= FEW || asked <= FEW {
         return Ok(Vec::new(alloc));
     }
-    let mut pairs = placed(alloc, list)?;
+    let mut pairs = with_places(alloc, list)?;
     pairs.sort()?;
     Ok(pairs)
 }

@@ -7,7 +7,7 @@ ghost use Rattle.apl_arrays.specs.Array.{chars, numbers, scalar};
 ghost use Rattle.apl_items.specs.Places.{places};
 ghost use Rattle.apl_search.specs.Decode.{value_after};
 ghost use Rattle.apl_search.specs.Encode.{digit_at};
-ghost use Rattle.apl_search.specs.Grade.{by_item, falling, grade, in_order, placed, rising};
+ghost use Rattle.apl_search.specs.Grade.{by_item, falling, grade, in_order, rising, with_places};
 ghost use Rattle.apl_search.specs.Lookup.{first_places, memberships};
 ghost use Rattle.apl_arrays.specs.Number.{product};
 ghost use Rattle.apl_search.specs.RoundTrip.{AreBases, GivesBack, vector_of};
@@ -16,9 +16,9 @@ ghost use Rattle.apl_search.specs.RoundTrip.{AreBases, GivesBack, vector_of};
 /// place. The call does nothing. No memory.
 #[tactic(auto, using(crate::proofs::GradeLemmas::grades_sort))]
 pub fn grades_put_numbers_in_order()
-    ensures once { (order : ℤ → ℤ → Ordering) (list : List ℤ) → IsPermutation (placed list) (in_order (by_item order) (placed list)) }
-    ensures up { (list : List ℤ) → IsSorted (by_item rising) (in_order (by_item rising) (placed list)) }
-    ensures down { (list : List ℤ) → IsSorted (by_item falling) (in_order (by_item falling) (placed list)) }
+    ensures once { (order : ℤ → ℤ → Ordering) (list : List ℤ) → IsPermutation (with_places list) (in_order (by_item order) (with_places list)) }
+    ensures up { (list : List ℤ) → IsSorted (by_item rising) (in_order (by_item rising) (with_places list)) }
+    ensures down { (list : List ℤ) → IsSorted (by_item falling) (in_order (by_item falling) (with_places list)) }
 {}
 
 /// The places of 3 1 4 1 5 in order, both ways. The call does nothing. No memory.

@@ -34,12 +34,12 @@ fn first_places(alloc: Global, a: &Items, b: &Items) -> Result<NumberList, WantO
         (Items::Numbers(a), Items::Chars(b)) => all_same(
             alloc,
             b.as_slice(),
-            number_of(a.as_slice().len()),
+            place_number(a.as_slice().len()),
         ),
         (Items::Chars(a), Items::Numbers(b)) => all_same(
             alloc,
             b.as_slice(),
-            number_of(a.as_slice().len()),
+            place_number(a.as_slice().len()),
         ),
     }
 }
@@ -57,13 +57,13 @@ fn places_of<T: Ord + Copy + Drop>(
     let mut places = List::new(alloc);
     places.reserve(b.len())?;
     for item in b {
-        places.push_reserved(number_of(first_place(a, &index, item)));
+        places.push_reserved(place_number(first_place(a, &index, item)));
     }
     Ok(places)
 }
 
 /// The number of a place, counted from 1.
-fn number_of(place: usize) -> i64
+fn place_number(place: usize) -> i64
     requires { place ≤ 16384 }
     ensures { result ≡ pos (place + 1) }
 {

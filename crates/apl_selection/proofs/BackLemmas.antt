@@ -4,7 +4,7 @@ use Rattle.std.proofs.lemmas.Nat.{div_below, mod_below}
 use Rattle.std.proofs.lemmas.List.FromFn.{fill_by_all, get_or-map-range_with_len}
 use Rattle.apl_arrays.specs.Array.{PlainItems, numbers, chars, item_count}
 use Rattle.apl_arrays.specs.Glyph.{blank}
-use Rattle.apl_items.specs.Along.{line_of, source_along, source_at, source_in_row}
+use Rattle.apl_items.specs.Along.{line_place, source_along, source_at, source_in_row}
 use Rattle.apl_items.specs.Moves.{item_or, moved_items, moved_list}
 use Rattle.apl_items.specs.declared.shapes.Split.{Split}
 use Rattle.apl_items.specs.Shapes.{along_of, inner_of, outer_of, place_along, split_count}
@@ -79,7 +79,7 @@ back_along rows inners wide long first again leads place below =
     let o : ℕ = outer_of here place in
     let a : ℕ = along_of here place in
     let i : ℕ = inner_of here place in
-    let way = leads (line_of here o i) a parts.1 in
+    let way = leads (line_place here o i) a parts.1 in
     let x : ℕ = way.at in record {
       at = place_along away o x i;
       below = place_along_below away o x i parts.0 way.below parts.2;

@@ -15,7 +15,7 @@ use Rattle.apl_items.specs.Moves.{item_or, moved_items, moved_list}
 use Rattle.apl_items.specs.Places.{places}
 use Rattle.apl_items.specs.Shapes.{AreWithin, coordinates_of, place_of}
 use Rattle.apl_items.proofs.ShapeLemmas.{coordinates_are_within, element_count-append, element_count-cons, place_of_below}
-use Rattle.apl_selection.specs.Assignment.{assign_faults, assign_of, assigned, naming, overlaid, overlaid_list, put_over}
+use Rattle.apl_selection.specs.Assignment.{assign_faults, assign_of, naming, overlaid, overlaid_array, overlaid_list, put_over}
 use Rattle.apl_selection.specs.Indexing.{selection_of, indexed, named_place}
 use Rattle.apl_selection.specs.Subscripts.{axes_by, is_miscounted, is_of_chars, named_by, named_counts, named_on, point_outside, selection_shape, sub_on}
 use Rattle.apl_selection.specs.SelectionLaws.{AreArrays, NamesOnce}
@@ -150,7 +150,7 @@ pub given_back : (a v after : PlainArray) (subs : List (Option PlainArray)) → 
     → NamesOnce a.shape subs → assign_of a subs v ≡ Ok after → selection_of after subs ≡ Ok v
 given_back a v after subs array v_array arrays shape once e =
     let selection = selection_shape a.shape subs in
-    let done = no_report (first_report (assign_faults a subs v)) (assigned a subs v) after e in
+    let done = no_report (first_report (assign_faults a subs v)) (overlaid_array a subs v) after e in
     let right = assign_is_right a v subs (sym done.0) in
     let is_fine = fine (is_miscounted a.shape subs) (nat_lt 8 (length selection)) (list_any is_of_chars subs) (point_outside a.shape subs) (is_some (shape_fault selection)) right.counted
     (few_axes (length selection) (let few = v_array.fits.rank in let same = ap (λ (xs : List ℕ). length xs) shape in omega arith)) right.numeric right.inside
@@ -159,7 +159,7 @@ given_back a v after subs array v_array arrays shape once e =
     let whole = whole_selection a.shape subs arrays (counted a.shape a.shape subs refl right.counted) right.numeric in
     let items = given_items a.items v.items a.shape subs right.kinds array.whole (λ at below. is_taken a.shape subs at (omega arith) right.inside once) in
     ap (λ (x : PlainArray). selection_of x subs) (sym done.1)
-    ∙ ap (λ (report : Option Report). unless report (indexed (assigned a subs v) subs)) is_fine
+    ∙ ap (λ (report : Option Report). unless report (indexed (overlaid_array a subs v) subs)) is_fine
     ∙ ap (λ (x : PlainArray). Ok x)
     (ap (λ (n : ℕ). array_of selection (moved_items (overlaid a.items v.items (naming a.shape subs)) n (named_place a.shape subs))) count
     ∙ ap (array_of selection) items ∙ ap (λ (xs : List ℕ). array_of xs v.items) (sym shape))

@@ -14,7 +14,7 @@ use Rattle.apl_items.specs.Extension.{is_single}
 use Rattle.apl_items.specs.Places.{places}
 use Rattle.apl_items.specs.Shapes.{coordinates_of, stride_of}
 use Rattle.apl_items.proofs.ShapeLemmas.{coordinates_are_within}
-use Rattle.apl_selection.specs.Assignment.{assign_faults, assigned, has_other_rank, has_other_shape, last_place, naming, overlaid, overlaid_list, put_over}
+use Rattle.apl_selection.specs.Assignment.{assign_faults, has_other_rank, has_other_shape, last_place, naming, overlaid, overlaid_array, overlaid_list, put_over}
 use Rattle.apl_selection.specs.Naming.{AreSmall, AreStridesFor, naming_by, scaled_place}
 use Rattle.apl_selection.specs.Picks.{strided}
 use Rattle.apl_selection.specs.Subscripts.{is_miscounted, is_of_chars, named_by, named_counts, named_on, point_outside, selection_shape, sub_on}
@@ -270,7 +270,7 @@ small_for a v subs shape strides are v_array some s =
 pub assigned_is : (a v : PlainArray) (subs : List (Option PlainArray)) (shape last strides : List ℕ) (sources : List (Option ℕ)) (old new made : PlainItems) → IsArray a → AreStridesFor a subs v strides
     → shape ≡ a.shape → last ≡ a.shape → old ≡ a.items → new ≡ v.items
     → sources ≡ map (source_by_axes shape (naming_by shape subs strides)) (places (element_count shape)) → made ≡ overlaid old new (λ place. slice_index_or sources place None)
-    → array_of last made ≡ assigned a subs v
+    → array_of last made ≡ overlaid_array a subs v
 assigned_is a v subs shape last strides sources old new made array are s l o n told is =
     let listed : ℕ → Option ℕ = λ place. slice_index_or sources place None in
     ap (λ (xs : List ℕ). array_of xs made) l
@@ -293,7 +293,7 @@ assigned_is a v subs shape last strides sources old new made array are s l o n t
 -- ---- where there is nothing to do
 
 pub idle_is : (a v array : PlainArray) (subs : List (Option PlainArray)) (old new : PlainItems) (idle : Bool) → old ≡ a.items → new ≡ v.items → idle ≡ (item_count old == 0 || item_count new == 0)
-    → idle ≡ true → array ≡ a → array ≡ assigned a subs v
+    → idle ≡ true → array ≡ a → array ≡ overlaid_array a subs v
 idle_is a v array subs old new idle o n is e same =
     same ∙ ap (array_of a.shape) (sym (by_tests (item_count old == 0) (item_count new == 0) refl refl (sym is ∙ e)))
   where

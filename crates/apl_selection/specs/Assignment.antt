@@ -40,8 +40,8 @@ overlaid (numbers old) (chars new) source = numbers old
 overlaid (chars old) (numbers new) source = chars old
 
 -- A with the items of V in the places that the subscripts name
-abbrev pub assigned : PlainArray → List (Option PlainArray) → PlainArray → PlainArray
-assigned a subs v = record { shape = a.shape; items = overlaid a.items v.items (naming a.shape subs) }
+abbrev pub overlaid_array : PlainArray → List (Option PlainArray) → PlainArray → PlainArray
+overlaid_array a subs v = record { shape = a.shape; items = overlaid a.items v.items (naming a.shape subs) }
 
 -- ---- what is wrong
 
@@ -65,4 +65,4 @@ assign_faults a subs v =
 
 -- A[I;J]←V: the array that A is afterwards
 abbrev pub assign_of : PlainArray → List (Option PlainArray) → PlainArray → Answer
-assign_of a subs v = answer_of (assign_faults a subs v) (assigned a subs v)
+assign_of a subs v = answer_of (assign_faults a subs v) (overlaid_array a subs v)

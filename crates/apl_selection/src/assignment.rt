@@ -4,7 +4,7 @@ ghost use Rattle.apl_arrays.specs.Array.{FitsLimits, IsArray, element_count, ite
 ghost use Rattle.apl_items.specs.Answers.{Answers, first_report};
 ghost use Rattle.apl_items.specs.Axes.{added, source_by_axes};
 ghost use Rattle.apl_items.specs.Places.{places};
-ghost use Rattle.apl_selection.specs.Assignment.{assign_faults, assign_of, assigned, last_place, overlaid, overlaid_list, put_over};
+ghost use Rattle.apl_selection.specs.Assignment.{assign_faults, assign_of, last_place, overlaid, overlaid_array, overlaid_list, put_over};
 ghost use Rattle.apl_selection.specs.Naming.{AreSmall, AreSmallTogether, AreStridesFor, IsSmallBeyond, naming_by, scaled_place};
 ghost use Rattle.apl_selection.specs.Subscripts.{is_miscounted, is_outside, named_by, point_outside, points_outside, selection_shape};
 
@@ -32,7 +32,7 @@ pub fn index_assign(alloc: Global, a: &Array, subs: &Subs, v: &Array) -> Result<
     let selection = selection_shape(alloc, a.shape(), subs)?;
     match assign_report(a, subs, selection.as_slice(), v) {
         Some(report) => Err(Fail::Report(report)),
-        None => Ok(assigned(alloc, a, subs, v)?),
+        None => Ok(overlaid_array(alloc, a, subs, v)?),
     }
 }
 
@@ -56,14 +56,14 @@ fn assign_report(a: &Array, subs: &[Option<Array>], selection: &[u32], v: &Array
 }
 
 /// A with the items of V in the places that subscripts select.
-fn assigned(
+fn overlaid_array(
     alloc: Global,
     a: &Array,
     subs: &[Option<Array>],
     v: &Array,
 ) -> Result<Array, WantOfMemory>
     requires { None ≡ first_report (assign_faults a.now subs.now v.now) }
-    ensures { IfOk result (λ array. array ≡ assigned a.now subs.now v.now) }
+    ensures { IfOk result (λ array. array ≡ overlaid_array a.now subs.now v.now) }
 {
     let old = a.items();
     let new = v.items();

@@ -3,7 +3,7 @@ use Rattle.std.proofs.Common.{◌≡◌, ℕ, ℤ, zero, suc, pos, ◌%◌, ◌<
 use Rattle.std.proofs.lemmas.Bool.Decides.{nat_tests}
 use Rattle.std.proofs.lemmas.List.{length-map}
 use Rattle.apl_arrays.specs.Array.{PlainArray, element_count, numbers_in}
-use Rattle.apl_items.specs.Along.{line_of, source_along, source_at}
+use Rattle.apl_items.specs.Along.{line_place, source_along, source_at}
 use Rattle.apl_items.specs.Extension.{number_at, place_in}
 use Rattle.apl_items.specs.Shapes.{along_of, inner_of, outer_of, split_at}
 use Rattle.apl_structure.specs.Moves.{moved_on}
@@ -16,7 +16,7 @@ same_moved_on b axis f g same =
     let split = split_at b.shape axis in
     let long = slice_index b.shape axis in
     ap (array_of b.shape) (same_moved b.items (element_count b.shape) (source_along split long f) (source_along split long g)
-    (λ place h. ap (source_at split long (outer_of split place) (inner_of split place)) (same (line_of split (outer_of split place) (inner_of split place)) (along_of split place))))
+    (λ place h. ap (source_at split long (outer_of split place) (inner_of split place)) (same (line_place split (outer_of split place) (inner_of split place)) (along_of split place))))
 
 mapped : (f : ℤ → ℕ) (numbers : List ℤ) (place : ℕ) → f (pos 0) ≡ 0 → slice_index (map f numbers) place ≡ f (slice_index_or numbers place (pos 0))
 mapped f [] place e = sym e

@@ -22,7 +22,7 @@ use Rattle.apl_selection.proofs.MoveLemmas.{moved_item}
 use Rattle.apl_selection.proofs.OrderLemmas.{Leads, led, led_by}
 use Rattle.apl_selection.proofs.PickLemmas.{as_many_within, each_within, some_same}
 use Rattle.apl_structure.specs.StructureLaws.{AreLeftAt, AreTakenTo, IsLeftAt, IsTakenTo, fill_of}
-use Rattle.apl_structure.specs.Taking.{axes_faults, axes_for, drop_of, left, left_from, left_shape, number_for, take_of, taken, taken_from, taken_shape}
+use Rattle.apl_structure.specs.Taking.{axes_faults, axes_for, drop_of, number_for, remaining, remaining_from, remaining_shape, take_of, taken, taken_from, taken_shape}
 use Rattle.apl_structure.proofs.TakeLemmas.{source_fits}
 use Rattle.apl_structure.proofs.TransposeLemmas.{within_from_each}
 
@@ -181,22 +181,22 @@ left_by true false size long from to start end t low = absurd (let is = end refl
 left_by false true size long from to start end t low = ap (λ (n : ℕ). Some n) (sym (start refl))
 left_by false false size long from to start end t low = absurd (let is = start refl in grind (arith, nat_tests))
 
-left_at : (number : ℤ) (long from to : ℕ) → IsLeftAt number from to → from < long → left_from number long to ≡ Some from
+left_at : (number : ℤ) (long from to : ℕ) → IsLeftAt number from to → from < long → remaining_from number long to ≡ Some from
 left_at number long from to stands low =
     left_by (is_negative number) (nat_lt (cond (is_negative number) to (to + unsigned_abs number)) long) (unsigned_abs number) long from to stands.start stands.end refl low
 
 -- its shape
-pub drop_shape : (a b r : PlainArray) → drop_of a b ≡ Ok r → r.shape ≡ left_shape a (axes_for (item_count a.items) b)
-drop_shape a b r e = ap (λ (x : PlainArray). x.shape) (sym (no_report (first_report (axes_faults a b)) (left a b) r e).1)
+pub drop_shape : (a b r : PlainArray) → drop_of a b ≡ Ok r → r.shape ≡ remaining_shape a (axes_for (item_count a.items) b)
+drop_shape a b r e = ap (λ (x : PlainArray). x.shape) (sym (no_report (first_report (axes_faults a b)) (remaining a b) r e).1)
 
 pub left_stands : (a b r : PlainArray) (source from to : List ℕ) (item : Item) → drop_of a b ≡ Ok r → source ≡ axes_for (item_count a.items) b → AreWithin source from → AreWithin r.shape to
     → AreLeftAt a source from to → IsItemOf b.items (place_of source from) item → IsItemOf r.items (place_of r.shape to) item
 left_stands a b r source from to item e s from_in to_in as_far there =
-    let done = no_report (first_report (axes_faults a b)) (left a b) r e in
-    let rank : length source ≡ length (left_shape a source) = sym (length-map-range_with_len (λ axis. slice_index source axis - unsigned_abs (number_for a axis)) 0 (length source)) in
-    let rule : List ℕ → ℕ → ℕ → Option ℕ = λ axes axis along. left_from (number_for a axis) (get_or axes axis 0) along in
-    let stands : AreWithin (left_shape a source) to → IsItemOf (picked (left_shape a source) source b.items (rule source)).items (place_of (left_shape a source) to) item = λ inside.
-    picked_item (left_shape a source) source b.items (rule source) from to item rank inside from_in
+    let done = no_report (first_report (axes_faults a b)) (remaining a b) r e in
+    let rank : length source ≡ length (remaining_shape a source) = sym (length-map-range_with_len (λ axis. slice_index source axis - unsigned_abs (number_for a axis)) 0 (length source)) in
+    let rule : List ℕ → ℕ → ℕ → Option ℕ = λ axes axis along. remaining_from (number_for a axis) (get_or axes axis 0) along in
+    let stands : AreWithin (remaining_shape a source) to → IsItemOf (picked (remaining_shape a source) source b.items (rule source)).items (place_of (remaining_shape a source) to) item = λ inside.
+    picked_item (remaining_shape a source) source b.items (rule source) from to item rank inside from_in
     (λ axis h. left_at (number_for a axis) (get_or source axis 0) (get_or from axis 0) (get_or to axis 0) (as_far axis h) (each_within source from axis from_in h)) there in
     subst (λ (x : PlainArray). AreWithin x.shape to → IsItemOf x.items (place_of x.shape to) item)
-    (ap (λ (axes : List ℕ). picked (left_shape a axes) axes b.items (rule axes)) s ∙ done.1) stands to_in
+    (ap (λ (axes : List ℕ). picked (remaining_shape a axes) axes b.items (rule axes)) s ∙ done.1) stands to_in

@@ -14,7 +14,7 @@ use Rattle.apl_items.specs.Places.{places}
 use Rattle.apl_items.proofs.ShapeLemmas.{element_count-cons}
 use Rattle.apl_structure.specs.Lengths.{lengths}
 use Rattle.apl_selection.specs.Picks.{picked}
-use Rattle.apl_structure.specs.Taking.{axes_faults, axes_for, left, left_from, take_of, taken, taken_from, taken_shape}
+use Rattle.apl_structure.specs.Taking.{axes_faults, axes_for, remaining, remaining_from, take_of, taken, taken_from, taken_shape}
 use Rattle.apl_selection.specs.Listing.{is_scalar}
 use Rattle.apl_selection.proofs.PickLemmas.{axes_small, some_same}
 use Rattle.apl_selection.proofs.FaultLemmas.{answer_fits, answer_too_large, same_number}
@@ -80,7 +80,7 @@ taken_is a b numbers source shape items n s e i = rw (n, s, e, i) refl
 
 pub left_is : (a b : PlainArray) (numbers : List ℤ) (source shape : List ℕ) (items : PlainItems) → numbers ≡ numbers_in a.items → source ≡ axes_for (item_count a.items) b
     → shape ≡ map (λ axis. slice_index source axis - unsigned_abs (slice_index_or numbers axis (pos 0))) (places (length source)) → items ≡ b.items
-    → picked shape source items (λ axis along. left_from (slice_index_or numbers axis (pos 0)) (slice_index source axis) along) ≡ left a b
+    → picked shape source items (λ axis along. remaining_from (slice_index_or numbers axis (pos 0)) (slice_index source axis) along) ≡ remaining a b
 left_is a b numbers source shape items n s e i = rw (e, n, s, i) refl
 
 -- as many axes, none longer, have no more elements

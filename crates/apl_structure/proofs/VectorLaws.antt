@@ -17,7 +17,7 @@ use Rattle.apl_selection.proofs.FaultLemmas.{answer_fits}
 use Rattle.apl_selection.proofs.JoinLaws.{chars_joined, numbers_joined, vector_fits}
 use Rattle.apl_selection.proofs.MoveLemmas.{array_of, count_of_moved, same_moved}
 use Rattle.apl_structure.specs.StructureLaws.{first_items, items_after, items_before, last_items}
-use Rattle.apl_structure.specs.Taking.{axes_faults, drop_of, left_from, take_of, taken, taken_from}
+use Rattle.apl_structure.specs.Taking.{axes_faults, drop_of, remaining_from, take_of, taken, taken_from}
 use Rattle.apl_structure.proofs.LawLemmas.{not_negative, ok_same}
 
 less : (m n : ℕ) → nat_lt m n ≡ true → m < n
@@ -143,18 +143,18 @@ take_last (suc n) items few = last_by (negsuc n) (suc n) items refl few (λ alon
 
 -- ---- the items but the first
 
-after_list : {T : Type 0} (fill : T) (list : List T) (count : ℕ) → moved_list fill list (length list - count) (left_from (pos count) (length list)) ≡ drop count list
+after_list : {T : Type 0} (fill : T) (list : List T) (count : ℕ) → moved_list fill list (length list - count) (remaining_from (pos count) (length list)) ≡ drop count list
 after_list {T} fill list count =
     let whole = length-drop count list in
-    sym (fill_by_all (λ k. item_or fill list (left_from (pos count) (length list) k)) (drop count list) (length list - count) fill whole
+    sym (fill_by_all (λ k. item_or fill list (remaining_from (pos count) (length list) k)) (drop count list) (length list - count) fill whole
     (λ k h. get_or-drop count list k fill
     ∙ (let at : count + k ≡ k + count = omega arith in ap (λ (p : ℕ). get_or list p fill) at)
     ∙ sym (ap (item_or fill list) (told k (omega arith)))))
   where
-    told : (k : ℕ) → k + count < length list → left_from (pos count) (length list) k ≡ Some (k + count)
+    told : (k : ℕ) → k + count < length list → remaining_from (pos count) (length list) k ≡ Some (k + count)
     told k h = rw (not_negative count, is_less (k + count) (length list) h) refl
 
-after_moved : (items : PlainItems) (count : ℕ) → moved_items items (item_count items - count) (left_from (pos count) (item_count items)) ≡ items_after count items
+after_moved : (items : PlainItems) (count : ℕ) → moved_items items (item_count items - count) (remaining_from (pos count) (item_count items)) ≡ items_after count items
 after_moved (numbers list) count = ap numbers (after_list (pos 0) list count)
 after_moved (chars list) count = ap chars (after_list blank list count)
 
@@ -162,7 +162,7 @@ after_moved (chars list) count = ap chars (after_list blank list count)
 pub drop_first : (count : ℕ) (items : PlainItems) → drop_of (scalar (pos count)) (as_vector items) ≡ Ok (as_vector (items_after count items))
 drop_first count items =
     ap (λ (x : PlainArray). Ok x)
-    (picked_vector (item_count items - count) (item_count items) items (items_after count items) (λ axis along. left_from (pos count) (item_count items) along) (after_moved items count))
+    (picked_vector (item_count items - count) (item_count items) items (items_after count items) (λ axis along. remaining_from (pos count) (item_count items) along) (after_moved items count))
 
 -- ---- the items but the last
 
@@ -178,10 +178,10 @@ before_moved : (items : PlainItems) (count : ℕ) (source : ℕ → Option ℕ) 
 before_moved (numbers list) count source told = ap numbers (before_list (pos 0) list count source told)
 before_moved (chars list) count source told = ap chars (before_list blank list count source told)
 
-before_by : (number : ℤ) (count : ℕ) (items : PlainItems) → unsigned_abs number ≡ count → ((k : ℕ) → k < item_count items - count → left_from number (item_count items) k ≡ Some k)
+before_by : (number : ℤ) (count : ℕ) (items : PlainItems) → unsigned_abs number ≡ count → ((k : ℕ) → k < item_count items - count → remaining_from number (item_count items) k ≡ Some k)
     → drop_of (scalar number) (as_vector items) ≡ Ok (as_vector (items_before count items))
 before_by number count items size told =
-    let rule : ℕ → ℕ → Option ℕ = λ axis along. left_from number (item_count items) along in
+    let rule : ℕ → ℕ → Option ℕ = λ axis along. remaining_from number (item_count items) along in
     ap (λ (n : ℕ). Ok (picked ((item_count items - n) ∷ []) (item_count items ∷ []) items rule)) size
     ∙ ap (λ (x : PlainArray). Ok x) (picked_vector (item_count items - count) (item_count items) items (items_before count items) rule (before_moved items count (rule 0) told))
 

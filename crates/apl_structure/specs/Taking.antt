@@ -54,21 +54,21 @@ take_of a b = answer_of (record (axes_faults a b) { too_large = is_some (shape_f
 -- ---- drop
 
 -- where along an axis the items without the first stand, or without the last where the count is negative; none past its end
-abbrev pub left_from : ℤ → ℕ → ℕ → Option ℕ
-left_from count length along =
+abbrev pub remaining_from : ℤ → ℕ → ℕ → Option ℕ
+remaining_from count length along =
     let place = if is_negative count then along else along + unsigned_abs count in
     if nat_lt place length then Some place else None
 
 -- how long the axes of a drop are
-abbrev pub left_shape : PlainArray → List ℕ → List ℕ
-left_shape a source = map (λ axis. slice_index source axis - unsigned_abs (number_for a axis)) (places (length source))
+abbrev pub remaining_shape : PlainArray → List ℕ → List ℕ
+remaining_shape a source = map (λ axis. slice_index source axis - unsigned_abs (number_for a axis)) (places (length source))
 
 -- per axis the items of B without the first, or without the last
-abbrev pub left : PlainArray → PlainArray → PlainArray
-left a b =
+abbrev pub remaining : PlainArray → PlainArray → PlainArray
+remaining a b =
     let source = axes_for (item_count a.items) b in
-    picked (left_shape a source) source b.items (λ axis along. left_from (number_for a axis) (slice_index source axis) along)
+    picked (remaining_shape a source) source b.items (λ axis along. remaining_from (number_for a axis) (slice_index source axis) along)
 
 -- A drop B
 abbrev pub drop_of : PlainArray → PlainArray → Answer
-drop_of a b = answer_of (axes_faults a b) (left a b)
+drop_of a b = answer_of (axes_faults a b) (remaining a b)

@@ -16,7 +16,7 @@ ghost use Rattle.apl_structure.specs.Reshaping.{reshape_of};
 ghost use Rattle.apl_structure.specs.Reversal.{reversed};
 ghost use Rattle.apl_structure.specs.Rotation.{rotate_of};
 ghost use Rattle.apl_structure.specs.StructureLaws.{AreLeftAt, AreTakenTo, fill_of, first_items, items_after, items_before, last_items, opposite};
-ghost use Rattle.apl_structure.specs.Taking.{axes_for, drop_of, left_shape, take_of, taken_shape};
+ghost use Rattle.apl_structure.specs.Taking.{axes_for, drop_of, remaining_shape, take_of, taken_shape};
 ghost use Rattle.apl_structure.specs.Transposition.{transposed};
 
 use apl_arrays::Way;
@@ -90,7 +90,7 @@ pub fn takes_keep_the_distance_from_an_end()
 /// one of B as many places on as the number says, or at the same place where it is negative. The call does nothing. No
 /// memory.
 pub fn drops_leave_the_others_in_order()
-    ensures shape { (a b r : PlainArray) → drop_of a b ≡ Ok r → r.shape ≡ left_shape a (axes_for (item_count a.items) b) }
+    ensures shape { (a b r : PlainArray) → drop_of a b ≡ Ok r → r.shape ≡ remaining_shape a (axes_for (item_count a.items) b) }
     ensures left { (a b r : PlainArray) (source from to : ListOf ℕ) (item : Item) → drop_of a b ≡ Ok r → source ≡ axes_for (item_count a.items) b → AreWithin source from → AreWithin r.shape to
         → AreLeftAt a source from to → IsItemOf b.items (place_of source from) item → IsItemOf r.items (place_of r.shape to) item }
 {}

@@ -2,7 +2,7 @@ ghost use Rattle.std.specs.Prelude.{◌≡◌, ◌-◌, ◌<◌, None, pos, IfOk
 ghost use Rattle.apl_arrays.specs.Array.{numbers_in};
 ghost use Rattle.apl_items.specs.Answers.{Answers, first_report};
 ghost use Rattle.apl_items.specs.Places.{places};
-ghost use Rattle.apl_structure.specs.Taking.{axes_faults, axes_for, drop_of, left, left_from, take_of, taken_from};
+ghost use Rattle.apl_structure.specs.Taking.{axes_faults, axes_for, drop_of, remaining, remaining_from, take_of, taken_from};
 
 use crate::lengths::{capped, pass_limits};
 use apl_arrays::{Array, Fail, Items, RANK_LIMIT, Report, WantOfMemory};
@@ -30,7 +30,7 @@ pub fn drop_items(alloc: Global, a: &Array, b: &Array) -> Result<Array, Fail>
 {
     match axes_report(a, b) {
         Some(report) => Err(Fail::Report(report)),
-        None => Ok(left(alloc, a, b)?),
+        None => Ok(remaining(alloc, a, b)?),
     }
 }
 
@@ -69,14 +69,14 @@ fn taken(alloc: Global, a: &Array, b: &Array) -> Result<Array, Fail>
 }
 
 /// Per axis of B the items without the first or the last.
-fn left(alloc: Global, a: &Array, b: &Array) -> Result<Array, WantOfMemory>
+fn remaining(alloc: Global, a: &Array, b: &Array) -> Result<Array, WantOfMemory>
     requires { None ≡ first_report (axes_faults a.now b.now) }
-    ensures { IfOk result (λ array. array ≡ left a.now b.now) }
+    ensures { IfOk result (λ array. array ≡ remaining a.now b.now) }
 {
     let numbers = a.numbers();
     let axes = axes_for(alloc, a.items().len(), b)?;
     let source = axes.as_slice();
-    let lengths = left_shape(alloc, numbers, source)?;
+    let lengths = remaining_shape(alloc, numbers, source)?;
     let shape = lengths.as_slice();
     let picks = DropPlaces { numbers, source };
     picked(alloc, b.items(), source, shape, &picks)
@@ -95,7 +95,7 @@ fn axes_for(alloc: Global, count: usize, b: &Array) -> Result<Vec<u32>, WantOfMe
 }
 
 /// How long the axes of a drop are.
-fn left_shape(alloc: Global, numbers: &[i64], source: &[u32]) -> Result<Vec<u32>, WantOfMemory>
+fn remaining_shape(alloc: Global, numbers: &[i64], source: &[u32]) -> Result<Vec<u32>, WantOfMemory>
     ensures { IfOk result (λ shape. shape.items ≡ map (λ axis. slice_index source.now axis - unsigned_abs (slice_index_or numbers.now axis (pos 0))) (places (length source.now))) }
 {
     let mut shape = Vec::new(alloc);
@@ -172,12 +172,12 @@ struct DropPlaces<'a> {
 
 impl Picks for DropPlaces<'_> {
     ghost use Rattle.std.specs.Prelude.{pos, slice_index, slice_index_or};
-    ghost use Rattle.apl_structure.specs.Taking.{left_from};
+    ghost use Rattle.apl_structure.specs.Taking.{remaining_from};
 
-    ghost from = { λ t axis along. left_from (slice_index_or t.numbers.now axis (pos 0)) (slice_index t.source.now axis) along };
+    ghost from = { λ t axis along. remaining_from (slice_index_or t.numbers.now axis (pos 0)) (slice_index t.source.now axis) along };
 
     fn from(&self, axis: usize, along: usize) -> Option<usize> {
-        left_from(
+        remaining_from(
             number_for(self.numbers, axis),
             length_of(self.source, axis),
             along,
@@ -186,9 +186,9 @@ impl Picks for DropPlaces<'_> {
 }
 
 /// Where along an axis the items without the first stand, or without the last where the number is negative.
-fn left_from(number: i64, length: u32, along: usize) -> Option<usize>
+fn remaining_from(number: i64, length: u32, along: usize) -> Option<usize>
     requires { along < 16384 }
-    ensures { result ≡ left_from number length along }
+    ensures { result ≡ remaining_from number length along }
 {
     let place = if number < 0 {
         along

@@ -7,10 +7,10 @@ use Rattle.apl_arrays.specs.Glyph.{is_blank, lamp, left_arrow, semicolon}
 use Rattle.apl_arrays.specs.Name.{goes_on}
 use Rattle.apl_arrays.proofs.Names.{name_goes_on}
 use Rattle.line_scanner.specs.Token.{PlainKind, numbers, chars, name, system, sign, PlainToken}
-use Rattle.line_scanner.specs.Grammar.{IsText, TokensNext}
+use Rattle.line_scanner.specs.Grammar.{IsTokenText, TokensNext}
 use Rattle.apl_workspace.specs.declared.symbol.Symbol.{Symbol}
 use Rattle.apl_workspace.specs.declared.symbol.Symbol.TheVariants.{Word, Arrow, Semicolon, Other}
-use Rattle.apl_workspace.specs.Header.{PlainHeader, symbol_of, symbols_of, is_lamp}
+use Rattle.apl_workspace.specs.Header.{PlainHeader, header_symbol, symbols_of, is_lamp}
 use Rattle.apl_workspace.specs.Grammar.{header_kinds}
 use Rattle.apl_workspace.proofs.Symbols.{result_symbols, name_symbols, local_symbols, header_symbols, kind_of, header_kinds_symbols}
 
@@ -56,36 +56,36 @@ sign_back glyph true semi e f h = ap sign (sym (eqb-true glyph left_arrow e))
 sign_back glyph false true e f h = ap sign (sym (eqb-true glyph semicolon f))
 sign_back glyph false false e f h = absurd (false≢true (sym h))
 
-kind_back : (kind : PlainKind) → is_other (symbol_of kind) ≡ false → kind_of (symbol_of kind) ≡ kind
+kind_back : (kind : PlainKind) → is_other (header_symbol kind) ≡ false → kind_of (header_symbol kind) ≡ kind
 kind_back (numbers list) e = absurd (false≢true (sym e))
 kind_back (chars list) e = absurd (false≢true (sym e))
 kind_back (name glyphs) e = refl
 kind_back (system which) e = absurd (false≢true (sym e))
 kind_back (sign glyph) e = sign_back glyph (eqb glyph left_arrow) (eqb glyph semicolon) refl refl e
 
-kinds_back : (kinds : List PlainKind) → list_any is_other (map symbol_of kinds) ≡ false → map kind_of (map symbol_of kinds) ≡ kinds
+kinds_back : (kinds : List PlainKind) → list_any is_other (map header_symbol kinds) ≡ false → map kind_of (map header_symbol kinds) ≡ kinds
 kinds_back [] e = refl
 kinds_back (kind ∷ kinds) e =
-    let parts = or_parts (is_other (symbol_of kind)) (list_any is_other (map symbol_of kinds)) e in
-    ap (λ (first : PlainKind). first ∷ map kind_of (map symbol_of kinds)) (kind_back kind parts.0) ∙ ap (λ (rest : List PlainKind). kind ∷ rest) (kinds_back kinds parts.1)
+    let parts = or_parts (is_other (header_symbol kind)) (list_any is_other (map header_symbol kinds)) e in
+    ap (λ (first : PlainKind). first ∷ map kind_of (map header_symbol kinds)) (kind_back kind parts.0) ∙ ap (λ (rest : List PlainKind). kind ∷ rest) (kinds_back kinds parts.1)
 
 abbrev pub kinds_of : List PlainToken → List PlainKind
 kinds_of tokens = map (λ token. token.kind) tokens
 
-symbols_by_kinds : (tokens : List PlainToken) → symbols_of tokens ≡ map symbol_of (kinds_of tokens)
+symbols_by_kinds : (tokens : List PlainToken) → symbols_of tokens ≡ map header_symbol (kinds_of tokens)
 symbols_by_kinds [] = refl
-symbols_by_kinds (token ∷ tokens) = ap (λ (rest : List Symbol). symbol_of token.kind ∷ rest) (symbols_by_kinds tokens)
+symbols_by_kinds (token ∷ tokens) = ap (λ (rest : List Symbol). header_symbol token.kind ∷ rest) (symbols_by_kinds tokens)
 
 -- tokens of a header have its symbols
 pub symbols_from_kinds : (tokens : List PlainToken) (header : PlainHeader) → kinds_of tokens ≡ header_kinds header → symbols_of tokens ≡ header_symbols header
-symbols_from_kinds tokens header e = symbols_by_kinds tokens ∙ ap (map symbol_of) e ∙ header_kinds_symbols header
+symbols_from_kinds tokens header e = symbols_by_kinds tokens ∙ ap (map header_symbol) e ∙ header_kinds_symbols header
 
 -- tokens with the symbols of a header are its tokens
 pub kinds_from_symbols : (tokens : List PlainToken) (header : PlainHeader) → symbols_of tokens ≡ header_symbols header → kinds_of tokens ≡ header_kinds header
 kinds_from_symbols tokens header e =
-    let same : map symbol_of (kinds_of tokens) ≡ header_symbols header = sym (symbols_by_kinds tokens) ∙ e in
-    let plain : list_any is_other (map symbol_of (kinds_of tokens)) ≡ false = ap (list_any is_other) same ∙ header_is_plain header in
-    let theirs : list_any is_other (map symbol_of (header_kinds header)) ≡ false = ap (list_any is_other) (header_kinds_symbols header) ∙ header_is_plain header in
+    let same : map header_symbol (kinds_of tokens) ≡ header_symbols header = sym (symbols_by_kinds tokens) ∙ e in
+    let plain : list_any is_other (map header_symbol (kinds_of tokens)) ≡ false = ap (list_any is_other) same ∙ header_is_plain header in
+    let theirs : list_any is_other (map header_symbol (header_kinds header)) ≡ false = ap (list_any is_other) (header_kinds_symbols header) ∙ header_is_plain header in
     sym (kinds_back (kinds_of tokens) plain) ∙ ap (map kind_of) (same ∙ sym (header_kinds_symbols header)) ∙ kinds_back (header_kinds header) theirs
 
 -- ---- comments
@@ -105,7 +105,7 @@ sign_without glyph true semi e f h = ap is_lamp (eqb-true glyph left_arrow e)
 sign_without glyph false true e f h = ap is_lamp (eqb-true glyph semicolon f)
 sign_without glyph false false e f h = absurd (false≢true (sym h))
 
-text_without : (kind : PlainKind) (text : List ℕ) → IsText kind text → is_other (symbol_of kind) ≡ false → list_any is_lamp text ≡ false
+text_without : (kind : PlainKind) (text : List ℕ) → IsTokenText kind text → is_other (header_symbol kind) ≡ false → list_any is_lamp text ≡ false
 text_without (numbers list) text is e = absurd (false≢true (sym e))
 text_without (chars list) text is e = absurd (false≢true (sym e))
 text_without (name glyphs) text is e = ap (list_any is_lamp) is.0 ∙ run_without goes_on glyphs refl (name_goes_on glyphs is.1)
@@ -117,7 +117,7 @@ pub tokens_without : (tokens : List PlainToken) (at : ℕ) (line : List ℕ) (pl
 tokens_without [] at line place h e =
     ap (list_any is_lamp) h.whole ∙ list_any-append is_lamp h.blanks [] ∙ or_none (list_any is_lamp h.blanks) false (run_without is_blank h.blanks refl h.are_blank) refl
 tokens_without (token ∷ tokens) at line place (more, h, next) e =
-    let parts = or_parts (is_other (symbol_of token.kind)) (list_any is_other (symbols_of tokens)) e in
+    let parts = or_parts (is_other (header_symbol token.kind)) (list_any is_other (symbols_of tokens)) e in
     let rest = tokens_without tokens token.after more place next parts.1 in
     ap (list_any is_lamp) h.whole ∙ list_any-append is_lamp h.blanks (h.text ++ more)
     ∙ or_none (list_any is_lamp h.blanks) (list_any is_lamp (h.text ++ more)) (run_without is_blank h.blanks refl h.are_blank)

@@ -5,7 +5,7 @@ use Rattle.std.specs.List.{list_any}
 use Rattle.std.proofs.lemmas.Bool.{false≢true}
 use Rattle.std.proofs.lemmas.Option.{same_Some}
 use Rattle.line_scanner.specs.Token.{PlainToken}
-use Rattle.line_scanner.specs.Scanning.{Scanned, scan_of}
+use Rattle.line_scanner.specs.Scanning.{Scanned, reading_of}
 use Rattle.line_scanner.specs.Grammar.{TokensNext, EndsLine, at_end, at_comment}
 use Rattle.line_scanner.proofs.ScanLaw.{reading_is_computed}
 use Rattle.apl_workspace.specs.Names.{all_differ}
@@ -27,10 +27,10 @@ computed_by false scan tokens header e f g right differ =
 computed : (line : List ℕ) (header : PlainHeader) → IsHeader line header → header_of line ≡ Some header
 unfolding header_of
 computed line header h =
-    let scanned : scan_of line ≡ Ok h.tokens = (reading_is_computed line (Ok h.tokens)).0 (h.place, [], h.reads, at_end refl) in
+    let scanned : reading_of line ≡ Ok h.tokens = (reading_is_computed line (Ok h.tokens)).0 (h.place, [], h.reads, at_end refl) in
     let symbols = symbols_from_kinds h.tokens header h.kinds in
     let plain : list_any is_other (symbols_of h.tokens) ≡ false = ap (list_any is_other) symbols ∙ header_is_plain header in
-    computed_by (list_any is_lamp line) (scan_of line) h.tokens header (tokens_without h.tokens 0 line h.place h.reads plain) scanned symbols h.right h.differ
+    computed_by (list_any is_lamp line) (reading_of line) h.tokens header (tokens_without h.tokens 0 line h.place h.reads plain) scanned symbols h.right h.differ
 
 apart_by : (found : Option PlainHeader) (header : PlainHeader) → with_names_apart found ≡ Some header → (found ≡ Some header) × (all_differ (names_of header) ≡ true)
 apart_by None header e = absurd cc
@@ -44,7 +44,7 @@ ended : (line : List ℕ) (tokens : List PlainToken) (place : ℕ) (rest : List 
 ended line tokens place rest next (at_end e) none = subst (λ (r : List ℕ). TokensNext 0 line tokens place r) e next
 ended line tokens place rest next (at_comment comment e) none = absurd (false≢true (sym none ∙ lamp_behind tokens 0 line place rest next (ap (list_any is_lamp) e)))
 
-header_by : (line : List ℕ) (header : PlainHeader) (with_lamp : Bool) (scan : Scanned) → list_any is_lamp line ≡ with_lamp → scan_of line ≡ scan → cond {A = Option PlainHeader} with_lamp None (header_of_scan scan) ≡ Some header → IsHeader line header
+header_by : (line : List ℕ) (header : PlainHeader) (with_lamp : Bool) (scan : Scanned) → list_any is_lamp line ≡ with_lamp → reading_of line ≡ scan → cond {A = Option PlainHeader} with_lamp None (header_of_scan scan) ≡ Some header → IsHeader line header
 header_by line header true scan e f g = absurd cc
 header_by line header false (Err fault) e f g = absurd cc
 header_by line header false (Ok tokens) e f g =
@@ -62,7 +62,7 @@ header_by line header false (Ok tokens) e f g =
 
 found_back : (line : List ℕ) (header : PlainHeader) → header_of line ≡ Some header → IsHeader line header
 unfolding header_of
-found_back line header e = header_by line header (list_any is_lamp line) (scan_of line) refl refl e
+found_back line header e = header_by line header (list_any is_lamp line) (reading_of line) refl refl e
 
 -- a line is a header exactly where this header is computed of it
 pub header_is_computed : (line : List ℕ) (header : PlainHeader) → IsHeader line header ↔ (header_of line ≡ Some header)

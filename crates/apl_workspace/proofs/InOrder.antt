@@ -5,7 +5,7 @@ use Rattle.std.specs.Cmp.Lexicographic.{pointwise}
 use Rattle.std.specs.Map.{keys_of, lookup}
 use Rattle.std.proofs.lemmas.Bool.Decides.{Decides-eqb, same_from_decides}
 use Rattle.std.proofs.lemmas.Slice.Eq.{slice_eq-Decides}
-use Rattle.apl_workspace.specs.Meaning.{Names, meaning_in, with_meaning, without_name}
+use Rattle.apl_workspace.specs.Meaning.{NameTable, meaning_in, with_meaning, without_name}
 use Rattle.apl_workspace.specs.Names.{is_name_of}
 use Rattle.apl_workspace.specs.Sorted.{sorted}
 use Rattle.apl_workspace.specs.declared.meaning.Meaning.{Meaning}
@@ -42,7 +42,7 @@ pub looked_up : (entries : Entries) (name : List ℕ) → by_glyphs entries name
 looked_up entries name = found_by_glyphs entries name ∙ sym (found_in_order entries name)
 
 -- a table that has of each name what entries have is the table of them
-pub same_table : (entries : Entries) (names : Names) → Ascend (keys_of names) → ((name : List ℕ) → by_glyphs entries name ≡ meaning_in names name) → sorted entries ≡ names
+pub same_table : (entries : Entries) (names : NameTable) → Ascend (keys_of names) → ((name : List ℕ) → by_glyphs entries name ≡ meaning_in names name) → sorted entries ≡ names
 same_table entries names ascend same = told_by_look_ups (sorted entries) names (sorted_ascends entries) ascend (λ name. sym (looked_up entries name) ∙ same name)
 
 -- an entry was put in

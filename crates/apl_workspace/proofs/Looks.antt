@@ -12,9 +12,9 @@ use Rattle.apl_workspace.specs.Frame.{argument_or, frame_of, header_meaning, hea
 use Rattle.apl_workspace.specs.Function.{PlainFunction}
 use Rattle.apl_workspace.specs.Header.{PlainHeader}
 use Rattle.apl_workspace.specs.Limits.{most_weight}
-use Rattle.apl_workspace.specs.Meaning.{IsLocal, Names, meaning_in, meaning_of, own_copy_in, with_meaning}
+use Rattle.apl_workspace.specs.Meaning.{IsLocal, NameTable, meaning_in, meaning_of, own_copy_in, with_meaning}
 use Rattle.apl_workspace.specs.Names.{is_name_of}
-use Rattle.apl_workspace.specs.Workspace.{IsWorkspace, PlainWorkspace, assigned, entered, entered_by, global_in, in_innermost, innermost, is_local, is_of_another, is_unhidden, left, look, marked, names_offered, seen_by, takes_offer, unmarked, unshared, with_global, without_global, workspace_weight}
+use Rattle.apl_workspace.specs.Workspace.{IsWorkspace, PlainWorkspace, assigned, global_in, in_innermost, innermost, is_local, is_of_another, is_unhidden, look, marked, names_offered, seen_by, takes_offer, unmarked, unshared, with_frame, with_frame_by, with_global, without_frame, without_global, workspace_weight}
 use Rattle.apl_workspace.specs.declared.args.Args.{Args}
 use Rattle.apl_workspace.specs.declared.meaning.Meaning.{Meaning}
 use Rattle.apl_workspace.specs.declared.meaning.Meaning.TheVariants.{Nothing, Value, Function}
@@ -63,7 +63,7 @@ later_has : (first second : Option Meaning) → is_some first ≡ false → is_s
 later_has None second e has = has
 later_has (Some meaning) second e has = absurd cc
 
-innermost_given : (frames : List Names) (name other : List ℕ) (meaning : Meaning) → is_some (innermost frames name) ≡ true → innermost (in_innermost frames name meaning) other ≡ cond (is_name_of name other) (Some meaning) (innermost frames other)
+innermost_given : (frames : List NameTable) (name other : List ℕ) (meaning : Meaning) → is_some (innermost frames name) ≡ true → innermost (in_innermost frames name meaning) other ≡ cond (is_name_of name other) (Some meaning) (innermost frames other)
 innermost_given [] name other meaning has = absurd (false≢true has)
 innermost_given (table ∷ tables) name other meaning has = by (is_some (meaning_in table name)) refl (innermost_given tables name other meaning)
   where
@@ -141,18 +141,18 @@ hidden_by : (found local global : Option Meaning) → seen_by (option_or found l
 hidden_by None local global = refl
 hidden_by (Some meaning) local global = refl
 
-pub look_entered : (w : PlainWorkspace) (name other : List ℕ) (args : Args) (function : PlainFunction) → look w name ≡ Function function → look (entered w name args) other ≡ unwrap_or (meaning_in (frame_of function args) other) (look w other)
+pub look_entered : (w : PlainWorkspace) (name other : List ℕ) (args : Args) (function : PlainFunction) → look w name ≡ Function function → look (with_frame w name args) other ≡ unwrap_or (meaning_in (frame_of function args) other) (look w other)
 look_entered w name other args function is =
-    ap (λ (m : Meaning). look (entered_by m w args) other) is ∙ hidden_by (meaning_in (frame_of function args) other) (innermost w.frames other) (meaning_in w.globals other)
+    ap (λ (m : Meaning). look (with_frame_by m w args) other) is ∙ hidden_by (meaning_in (frame_of function args) other) (innermost w.frames other) (meaning_in w.globals other)
 
-pub left_again : (w : PlainWorkspace) (name : List ℕ) (args : Args) (function : PlainFunction) → look w name ≡ Function function → left (entered w name args) ≡ w
-left_again w name args function is = ap (λ (m : Meaning). left (entered_by m w args)) is
+pub left_again : (w : PlainWorkspace) (name : List ℕ) (args : Args) (function : PlainFunction) → look w name ≡ Function function → without_frame (with_frame w name args) ≡ w
+left_again w name args function is = ap (λ (m : Meaning). without_frame (with_frame_by m w args)) is
 
 local_by : (first second : Option Meaning) → IfSome first IsLocal → IfSome second IsLocal → IfSome (option_or first second) IsLocal
 local_by None second h k = k
 local_by (Some meaning) second h k = h
 
-innermost_is_local : (frames : List Names) (name : List ℕ) → All HasLocals frames → IfSome (innermost frames name) IsLocal
+innermost_is_local : (frames : List NameTable) (name : List ℕ) → All HasLocals frames → IfSome (innermost frames name) IsLocal
 innermost_is_local [] name h = tt
 innermost_is_local (table ∷ tables) name h =
     local_by (meaning_in table name) (innermost tables name) (IfSome-lookup_from_All IsLocal (is_name_of name) table (All-head HasLocals table tables h)) (innermost_is_local tables name (All-tail HasLocals table tables h))
@@ -168,7 +168,7 @@ seen_globally w name meaning h none is = global_by meaning (innermost w.frames n
 
 -- ---- names of a header
 
-locals_found : (names : Names) (more : List (List ℕ)) (name : List ℕ) → meaning_in (fold with_local_name names more) name ≡ cond (list_any (is_name_of name) more) (Some Nothing) (meaning_in names name)
+locals_found : (names : NameTable) (more : List (List ℕ)) (name : List ℕ) → meaning_in (fold with_local_name names more) name ≡ cond (list_any (is_name_of name) more) (Some Nothing) (meaning_in names name)
 locals_found names [] name = refl
 locals_found names (local ∷ more) name =
     locals_found (with_local_name names local) more name
@@ -181,7 +181,7 @@ locals_found names (local ∷ more) name =
     either false true found = refl
     either false false found = refl
 
-argument_found : (names : Names) (argument : Option (List ℕ)) (value : Option PlainArray) (name : List ℕ) → meaning_in (with_argument names argument value) name ≡ argument_or argument value name (meaning_in names name)
+argument_found : (names : NameTable) (argument : Option (List ℕ)) (value : Option PlainArray) (name : List ℕ) → meaning_in (with_argument names argument value) name ≡ argument_or argument value name (meaning_in names name)
 argument_found names None value name = refl
 argument_found names (Some argument) value name = found_with names argument (meaning_of value) name
 

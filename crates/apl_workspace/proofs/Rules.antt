@@ -15,7 +15,7 @@ use Rattle.apl_workspace.specs.Frame.{frame_of, header_names, with_argument, wit
 use Rattle.apl_workspace.specs.Function.{PlainFunction}
 use Rattle.apl_workspace.specs.Label.{label_of}
 use Rattle.apl_workspace.specs.Limits.{most_depth, most_weight}
-use Rattle.apl_workspace.specs.Meaning.{IsGlobal, IsLocal, Names, is_shared_in, is_shared_meaning, meaning_in, table_weight, with_meaning, with_value, without_name}
+use Rattle.apl_workspace.specs.Meaning.{IsGlobal, IsLocal, NameTable, is_shared_in, is_shared_meaning, meaning_in, table_weight, with_meaning, with_value_or_none, without_name}
 use Rattle.apl_arrays.specs.Name.{name_order}
 use Rattle.apl_workspace.specs.Names.{all_differ, is_name_of}
 use Rattle.apl_workspace.specs.Workspace.{IsFrameFor, IsWorkspace, PlainWorkspace, empty_workspace, in_innermost, is_addressee, is_of_another, is_shared, names_offered, unshared, with_global, without_global, without_globals, workspace_weight}
@@ -32,7 +32,7 @@ abbrev pub IsFree : PlainWorkspace → List ℕ → Type 0
 IsFree w name = is_shared w name ≡ false
 
 -- the offer is of a shared name
-abbrev pub IsShare : Names → Remake → Type 0
+abbrev pub IsShare : NameTable → Remake → Type 0
 IsShare globals offer = is_shared_in globals offer.local ≡ true
 
 -- one may offer to the addressee
@@ -40,7 +40,7 @@ abbrev pub IsAddressed : Remake → Type 0
 IsAddressed offer = is_addressee offer.to ≡ true
 
 -- a frame has no function and no share
-abbrev pub HasLocals : Names → Type 0
+abbrev pub HasLocals : NameTable → Type 0
 HasLocals frame = All IsLocal (values_of frame)
 
 -- ---- names that are shared
@@ -50,7 +50,7 @@ shared_by true meaning was stays shared = stays refl
 shared_by false meaning was stays shared = shared
 
 -- a shared name is shared beside a name that stands for something else, and is itself given none but a share
-shared_with : (globals : Names) (name other : List ℕ) (meaning : Meaning) → (is_shared_in globals name ≡ true → is_shared_meaning meaning ≡ true) → is_shared_in globals other ≡ true → is_shared_in (with_meaning globals name meaning) other ≡ true
+shared_with : (globals : NameTable) (name other : List ℕ) (meaning : Meaning) → (is_shared_in globals name ≡ true → is_shared_meaning meaning ≡ true) → is_shared_in globals other ≡ true → is_shared_in (with_meaning globals name meaning) other ≡ true
 shared_with globals name other meaning stays shared =
     ap (λ (o : Option Meaning). is_shared_meaning (unwrap_or o Nothing)) (found_with globals name meaning other)
     ∙ shared_by (is_name_of name other) meaning (meaning_in globals other) (λ e. stays (ap (is_shared_in globals) (same_name name other e) ∙ shared)) shared
@@ -135,7 +135,7 @@ erasing_all_keeps w (name ∷ names) h free =
 
 -- ---- offers that are listed
 
-pub none_offered : (globals : Names) (offers : List Remake) (name : List ℕ) → is_shared_in globals name ≡ false → All (λ (offer : Remake). is_shared_in globals offer.local ≡ true) offers → list_any (is_name_of name) (names_offered offers) ≡ false
+pub none_offered : (globals : NameTable) (offers : List Remake) (name : List ℕ) → is_shared_in globals name ≡ false → All (λ (offer : Remake). is_shared_in globals offer.local ≡ true) offers → list_any (is_name_of name) (names_offered offers) ≡ false
 none_offered globals [] name free shared = refl
 none_offered globals (offer ∷ offers) name free shared =
     other_by (is_name_of name offer.local) refl (none_offered globals offers name free (All-tail (IsShare globals) offer offers shared))
@@ -193,7 +193,7 @@ names_left name (offer ∷ offers) = left_by name offer offers (is_of_another na
 still_differ : (name : List ℕ) (offers : List Remake) → all_differ (names_offered offers) ≡ true → all_differ (names_offered (filter (is_of_another name) offers)) ≡ true
 still_differ name offers e = ap all_differ (names_left name offers) ∙ differ_picked (λ other. not (is_name_of name other)) (names_offered offers) e
 
-others_shared : (was made : Names) (name : List ℕ) (offers : List Remake) → ((other : List ℕ) → is_name_of name other ≡ false → is_shared_in was other ≡ true → is_shared_in made other ≡ true) → All (λ (offer : Remake). is_shared_in was offer.local ≡ true) offers
+others_shared : (was made : NameTable) (name : List ℕ) (offers : List Remake) → ((other : List ℕ) → is_name_of name other ≡ false → is_shared_in was other ≡ true → is_shared_in made other ≡ true) → All (λ (offer : Remake). is_shared_in was offer.local ≡ true) offers
     → All (λ (offer : Remake). is_shared_in made offer.local ≡ true) (filter (is_of_another name) offers)
 others_shared was made name [] keeps shared = All-nil (IsShare made)
 others_shared was made name (offer ∷ offers) keeps shared =
@@ -206,16 +206,16 @@ others_shared was made name (offer ∷ offers) keeps shared =
     shared_by_name true e later = later
     shared_by_name false e later = All-cons (IsShare made) offer left (keeps offer.local e (All-head (IsShare was) offer offers shared)) later
 
-value_keeps : (w : PlainWorkspace) (name other : List ℕ) (value : Option PlainArray) → IsWorkspace w → is_name_of name other ≡ false → is_shared w other ≡ true → is_shared_in (with_value w.globals name value) other ≡ true
+value_keeps : (w : PlainWorkspace) (name other : List ℕ) (value : Option PlainArray) → IsWorkspace w → is_name_of name other ≡ false → is_shared w other ≡ true → is_shared_in (with_value_or_none w.globals name value) other ≡ true
 value_keeps w name other None h apart shared = shared_without w name other h apart shared
 value_keeps w name other (Some value) h apart shared =
     ap (λ (o : Option Meaning). is_shared_meaning (unwrap_or o Nothing)) (found_with w.globals name (Value value) other ∙ ap (λ (b : Bool). cond b (Some (Value value)) (meaning_in w.globals other)) apart) ∙ shared
 
-value_ascends : (w : PlainWorkspace) (name : List ℕ) (value : Option PlainArray) → IsWorkspace w → IsStrictlySortedBy name_order (keys_of (with_value w.globals name value))
+value_ascends : (w : PlainWorkspace) (name : List ℕ) (value : Option PlainArray) → IsWorkspace w → IsStrictlySortedBy name_order (keys_of (with_value_or_none w.globals name value))
 value_ascends w name None h = without_ascends w.globals name h.ascending
 value_ascends w name (Some value) h = with_ascends w.globals name (Value value) h.ascending
 
-value_is_global : (w : PlainWorkspace) (name : List ℕ) (value : Option PlainArray) → IsWorkspace w → (other : List ℕ) → IfSome (meaning_in (with_value w.globals name value) other) (IsGlobal other)
+value_is_global : (w : PlainWorkspace) (name : List ℕ) (value : Option PlainArray) → IsWorkspace w → (other : List ℕ) → IfSome (meaning_in (with_value_or_none w.globals name value) other) (IsGlobal other)
 value_is_global w name None h = globals_without w name h
 value_is_global w name (Some value) h = globals_with w name (Value value) h tt
 
@@ -228,7 +228,7 @@ unsharing_keeps w name value h fits = record {
   offers = record {
     count = omega (arith, some_left (is_of_another name) w.offers, h.offers.count);
     differ = still_differ name w.offers h.offers.differ;
-    shared = others_shared w.globals (with_value w.globals name value) name w.offers (λ other apart was. value_keeps w name other value h apart was) h.offers.shared;
+    shared = others_shared w.globals (with_value_or_none w.globals name value) name w.offers (λ other apart was. value_keeps w name other value h apart was) h.offers.shared;
     addressees = All-filter (is_of_another name) IsAddressed w.offers h.offers.addressees;
   };
   weight = fits;
@@ -239,7 +239,7 @@ unsharing_keeps w name value h fits = record {
 -- ---- frames
 
 -- the rules with other frames
-pub frames_keep : (w : PlainWorkspace) (frames : List Names) → IsWorkspace w → All HasLocals frames → workspace_weight (record w { frames = frames }) ≤ most_weight → length frames ≤ most_depth → IsWorkspace (record w { frames = frames })
+pub frames_keep : (w : PlainWorkspace) (frames : List NameTable) → IsWorkspace w → All HasLocals frames → workspace_weight (record w { frames = frames }) ≤ most_weight → length frames ≤ most_depth → IsWorkspace (record w { frames = frames })
 frames_keep w frames h locals fits deep = record {
   ascending = h.ascending;
   globals = h.globals;
@@ -250,7 +250,7 @@ frames_keep w frames h locals fits deep = record {
   printed = h.printed;
 }
 
-given_locals : (frames : List Names) (name : List ℕ) (value : PlainArray) → All HasLocals frames → All HasLocals (in_innermost frames name (Value value))
+given_locals : (frames : List NameTable) (name : List ℕ) (value : PlainArray) → All HasLocals frames → All HasLocals (in_innermost frames name (Value value))
 given_locals [] name value h = h
 given_locals (table ∷ frames) name value h =
     locals_by (is_some (meaning_in table name)) (given_locals frames name value (All-tail HasLocals table frames h))
@@ -260,7 +260,7 @@ given_locals (table ∷ frames) name value h =
     locals_by true later = All-cons HasLocals (with_meaning table name (Value value)) frames (All-values-insert_entry name_order name (Value value) IsLocal table (All-head HasLocals table frames h) tt) (All-tail HasLocals table frames h)
     locals_by false later = All-cons HasLocals table (in_innermost frames name (Value value)) (All-head HasLocals table frames h) later
 
-as_deep : (frames : List Names) (name : List ℕ) (meaning : Meaning) → length (in_innermost frames name meaning) ≡ length frames
+as_deep : (frames : List NameTable) (name : List ℕ) (meaning : Meaning) → length (in_innermost frames name meaning) ≡ length frames
 as_deep [] name meaning = refl
 as_deep (table ∷ frames) name meaning = deep_by (is_some (meaning_in table name)) (as_deep frames name meaning)
   where
@@ -274,7 +274,7 @@ giving_keeps w name value h fits =
     frames_keep w (in_innermost w.frames name (Value value)) h (given_locals w.frames name value h.locals) fits (omega (arith, as_deep w.frames name (Value value), h.depth))
 
 -- the innermost frame is gone
-pub leaving_keeps : (w : PlainWorkspace) (frame : Names) (frames : List Names) → w.frames ≡ frame ∷ frames → IsWorkspace w → IsWorkspace (record w { frames = frames })
+pub leaving_keeps : (w : PlainWorkspace) (frame : NameTable) (frames : List NameTable) → w.frames ≡ frame ∷ frames → IsWorkspace w → IsWorkspace (record w { frames = frames })
 leaving_keeps w frame frames e h =
     let weighs : sum_by table_weight w.frames ≡ table_weight frame + sum_by table_weight frames = ap (sum_by table_weight) e ∙ sum_by-cons table_weight frame frames in
     let deep : length w.frames ≡ suc (length frames) = ap length e in
@@ -282,23 +282,23 @@ leaving_keeps w frame frames e h =
 
 -- ---- a frame more
 
-put_local : (names : Names) (name : List ℕ) (meaning : Meaning) → All IsLocal (values_of names) → IsLocal meaning → All IsLocal (values_of (with_meaning names name meaning))
+put_local : (names : NameTable) (name : List ℕ) (meaning : Meaning) → All IsLocal (values_of names) → IsLocal meaning → All IsLocal (values_of (with_meaning names name meaning))
 put_local names name meaning h is = All-values-insert_entry name_order name meaning IsLocal names h is
 
-argument_local : (names : Names) (name : Option (List ℕ)) (value : Option PlainArray) → All IsLocal (values_of names) → All IsLocal (values_of (with_argument names name value))
+argument_local : (names : NameTable) (name : Option (List ℕ)) (value : Option PlainArray) → All IsLocal (values_of names) → All IsLocal (values_of (with_argument names name value))
 argument_local names None value h = h
 argument_local names (Some name) None h = put_local names name Nothing h tt
 argument_local names (Some name) (Some value) h = put_local names name (Value value) h tt
 
-names_local : (names : Names) (more : List (List ℕ)) → All IsLocal (values_of names) → All IsLocal (values_of (fold with_local_name names more))
+names_local : (names : NameTable) (more : List (List ℕ)) → All IsLocal (values_of names) → All IsLocal (values_of (fold with_local_name names more))
 names_local names [] h = h
 names_local names (name ∷ more) h = names_local (with_local_name names name) more (put_local names name Nothing h tt)
 
-label_local : (label : Option (List ℕ)) (number : ℕ) (names : Names) → All IsLocal (values_of names) → All IsLocal (values_of (with_label label number names))
+label_local : (label : Option (List ℕ)) (number : ℕ) (names : NameTable) → All IsLocal (values_of names) → All IsLocal (values_of (with_label label number names))
 label_local None number names h = h
 label_local (Some label) number names h = put_local names label (Label number) h tt
 
-labels_local : (number : ℕ) (lines : List (List ℕ)) (names : Names) → All IsLocal (values_of names) → All IsLocal (values_of (with_labels number lines names))
+labels_local : (number : ℕ) (lines : List (List ℕ)) (names : NameTable) → All IsLocal (values_of names) → All IsLocal (values_of (with_labels number lines names))
 labels_local number [] names h = h
 labels_local number (line ∷ lines) names h = label_local (label_of line) number (with_labels (number + 1) lines names) (labels_local (number + 1) lines names h)
 
@@ -307,15 +307,15 @@ frame_local function args =
     labels_local 1 function.lines (header_names function.header args)
     (names_local _ (option_to_list function.header.result ++ function.header.locals) (argument_local _ function.header.right args.right (argument_local [] function.header.left args.left (All-nil IsLocal))))
 
-frame_for_local : (meaning : Meaning) (args : Args) (frame : Names) → IsFrameFor meaning args frame → All IsLocal (values_of frame)
+frame_for_local : (meaning : Meaning) (args : Args) (frame : NameTable) → IsFrameFor meaning args frame → All IsLocal (values_of frame)
 frame_for_local Nothing args frame h = absurd h
 frame_for_local (Value value) args frame h = absurd h
-frame_for_local (Function function) args frame h = subst (λ (f : Names). All IsLocal (values_of f)) (sym h) (frame_local function args)
+frame_for_local (Function function) args frame h = subst (λ (f : NameTable). All IsLocal (values_of f)) (sym h) (frame_local function args)
 frame_for_local (Label line) args frame h = absurd h
 frame_for_local (Shared copy) args frame h = absurd h
 
 -- a frame of a function stands before the others
-pub entering_keeps : (w : PlainWorkspace) (frame : Names) (meaning : Meaning) (args : Args) → IsFrameFor meaning args frame → IsWorkspace w → workspace_weight (record w { frames = frame ∷ w.frames }) ≤ most_weight → length w.frames < most_depth
+pub entering_keeps : (w : PlainWorkspace) (frame : NameTable) (meaning : Meaning) (args : Args) → IsFrameFor meaning args frame → IsWorkspace w → workspace_weight (record w { frames = frame ∷ w.frames }) ≤ most_weight → length w.frames < most_depth
     → IsWorkspace (record w { frames = frame ∷ w.frames })
 entering_keeps w frame meaning args is h fits deep = frames_keep w (frame ∷ w.frames) h (All-cons HasLocals frame w.frames (frame_for_local meaning args frame is) h.locals) fits (omega (arith, deep))
 

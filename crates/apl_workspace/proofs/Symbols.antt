@@ -10,7 +10,7 @@ use Rattle.line_scanner.specs.Token.{PlainKind, name, sign}
 use Rattle.apl_workspace.specs.declared.symbol.Symbol.{Symbol}
 use Rattle.apl_workspace.specs.declared.symbol.Symbol.TheVariants.{Word, Arrow, Semicolon, Other}
 use Rattle.apl_workspace.specs.declared.symbol.Syntax.{Syntax}
-use Rattle.apl_workspace.specs.Header.{PlainHeader, symbol_of, with_local, locals_in, result_in, word_in, syntax_of_two, syntax_of_one, syntax_from, syntax_in, header_with, header_behind, header_in}
+use Rattle.apl_workspace.specs.Header.{PlainHeader, header_symbol, with_local, locals_in, result_in, word_in, syntax_of_two, syntax_of_one, syntax_from, syntax_in, header_with, header_behind, header_in}
 use Rattle.apl_workspace.specs.Grammar.{result_part, name_part, local_part, header_kinds}
 
 -- R←, where there is a result
@@ -169,24 +169,24 @@ kind_of Arrow = sign left_arrow
 kind_of Semicolon = sign semicolon
 kind_of Other = sign blank
 
-result_kinds : (result : Option (List ℕ)) (more : List PlainKind) → map symbol_of (result_part result ++ more) ≡ result_symbols result ++ map symbol_of more
+result_kinds : (result : Option (List ℕ)) (more : List PlainKind) → map header_symbol (result_part result ++ more) ≡ result_symbols result ++ map header_symbol more
 result_kinds None more = refl
 result_kinds (Some result) more = refl
 
-name_kinds : (glyphs : Option (List ℕ)) (more : List PlainKind) → map symbol_of (name_part glyphs ++ more) ≡ name_symbols glyphs ++ map symbol_of more
+name_kinds : (glyphs : Option (List ℕ)) (more : List PlainKind) → map header_symbol (name_part glyphs ++ more) ≡ name_symbols glyphs ++ map header_symbol more
 name_kinds None more = refl
 name_kinds (Some glyphs) more = refl
 
-local_kinds : (locals : List (List ℕ)) → map symbol_of (flat_map local_part locals) ≡ local_symbols locals
+local_kinds : (locals : List (List ℕ)) → map header_symbol (flat_map local_part locals) ≡ local_symbols locals
 local_kinds [] = refl
 local_kinds (local ∷ locals) = ap (λ (x : List Symbol). Semicolon ∷ Word local ∷ x) (local_kinds locals)
 
 -- the tokens of a header have its symbols
-pub header_kinds_symbols : (header : PlainHeader) → map symbol_of (header_kinds header) ≡ header_symbols header
+pub header_kinds_symbols : (header : PlainHeader) → map header_symbol (header_kinds header) ≡ header_symbols header
 header_kinds_symbols header =
     let locals = flat_map local_part header.locals in
     let right = name_part header.right ++ locals in
-    let behind : map symbol_of right ≡ name_symbols header.right ++ local_symbols header.locals = name_kinds header.right locals ∙ ap (λ (x : List Symbol). name_symbols header.right ++ x) (local_kinds header.locals) in
-    let left : map symbol_of (name_part header.left ++ (name header.name ∷ right)) ≡ name_symbols header.left ++ (Word header.name ∷ (name_symbols header.right ++ local_symbols header.locals)) =
+    let behind : map header_symbol right ≡ name_symbols header.right ++ local_symbols header.locals = name_kinds header.right locals ∙ ap (λ (x : List Symbol). name_symbols header.right ++ x) (local_kinds header.locals) in
+    let left : map header_symbol (name_part header.left ++ (name header.name ∷ right)) ≡ name_symbols header.left ++ (Word header.name ∷ (name_symbols header.right ++ local_symbols header.locals)) =
     name_kinds header.left (name header.name ∷ right) ∙ ap (λ (x : List Symbol). name_symbols header.left ++ (Word header.name ∷ x)) behind in
     result_kinds header.result (name_part header.left ++ (name header.name ∷ right)) ∙ ap (λ (x : List Symbol). result_symbols header.result ++ x) left

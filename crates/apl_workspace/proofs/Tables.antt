@@ -16,25 +16,25 @@ use Rattle.apl_workspace.specs.Sorted.{sorted}
 use Rattle.apl_arrays.specs.Name.{name_order}
 use Rattle.apl_workspace.specs.Names.{is_name_of}
 use Rattle.apl_workspace.specs.Limits.{most_weight}
-use Rattle.apl_workspace.specs.Meaning.{Names, IsTable, IsWhole, copy_of, meaning_in, meaning_weight, own_copy_in, table_weight, value_weight, weight_in, with_meaning, without_name}
+use Rattle.apl_workspace.specs.Meaning.{NameTable, IsTable, IsWhole, shared_copy, meaning_in, meaning_weight, own_copy_in, table_weight, value_weight, weight_in, with_meaning, without_name}
 use Rattle.apl_workspace.proofs.Ascending.{found_with, found_without, none_ascend, told_by_look_ups, with_ascends, without_ascends}
 use Rattle.apl_workspace.proofs.InOrder.{Entries, by_glyphs, looked_up}
 use Rattle.apl_workspace.proofs.NameLaw.{own_name, same_name}
 
 -- one name more, or anew
-pub weight_with : (names : Names) (name : List ℕ) (meaning : Meaning) → IsStrictlySortedBy name_order (keys_of names) → table_weight (with_meaning names name meaning) + weight_in names name ≡ table_weight names + meaning_weight meaning
+pub weight_with : (names : NameTable) (name : List ℕ) (meaning : Meaning) → IsStrictlySortedBy name_order (keys_of names) → table_weight (with_meaning names name meaning) + weight_in names name ≡ table_weight names + meaning_weight meaning
 weight_with names name meaning sorted = sum_by-insert_entry meaning_weight nat_list_cmp_total names name meaning sorted
 
 -- one name less
-pub weight_without : (names : Names) (name : List ℕ) → table_weight (without_name names name) + weight_in names name ≡ table_weight names
+pub weight_without : (names : NameTable) (name : List ℕ) → table_weight (without_name names name) + weight_in names name ≡ table_weight names
 weight_without names name = sum_by-remove_entry meaning_weight (is_name_of name) names
 
 -- what is reckoned before a name is put into a table
-pub record IsReckoned (names : Names) (name : List ℕ) (meaning : Meaning) (reckoned most : ℕ) : Type 0 where
+pub record IsReckoned (names : NameTable) (name : List ℕ) (meaning : Meaning) (reckoned most : ℕ) : Type 0 where
   pub over : most < reckoned → most < table_weight (with_meaning names name meaning)
   pub fits : reckoned ≤ most → reckoned ≡ table_weight (with_meaning names name meaning)
 
-pub put_is_reckoned : (entries names : Names) (name : List ℕ) (meaning : Meaning) (weight before after reckoned most : ℕ) → entries ≡ names → IsTable weight entries → most ≤ most_weight → before ≡ weight_in names name
+pub put_is_reckoned : (entries names : NameTable) (name : List ℕ) (meaning : Meaning) (weight before after reckoned most : ℕ) → entries ≡ names → IsTable weight entries → most ≤ most_weight → before ≡ weight_in names name
     → after ≡ min (meaning_weight meaning) (most_weight + 1) → reckoned ≡ weight - before + after → IsReckoned names name meaning reckoned most
 put_is_reckoned entries names name meaning weight before after reckoned most e table bound b a r =
     let same : weight ≡ table_weight names = table.counted ∙ ap table_weight e in
@@ -43,11 +43,11 @@ put_is_reckoned entries names name meaning weight before after reckoned most e t
     let less = weight_without names name in
     record { over = λ h. omega (arith, same, sum, less, b, a, r, bound, h); fits = λ h. omega (arith, same, sum, less, b, a, r, bound, h) }
   where
-    ordered : (entries names : Names) → entries ≡ names → IsStrictlySortedBy name_order (keys_of entries) → IsStrictlySortedBy name_order (keys_of names)
+    ordered : (entries names : NameTable) → entries ≡ names → IsStrictlySortedBy name_order (keys_of entries) → IsStrictlySortedBy name_order (keys_of names)
     ordered entries names e s = rw (← e) s
 
 -- a reckoned weight over the limit, for a table that keeps within it
-pub never_over : (names : Names) (name : List ℕ) (meaning : Meaning) (reckoned most : ℕ) → IsReckoned names name meaning reckoned most → most < reckoned → table_weight (with_meaning names name meaning) ≤ most → false ≡ true
+pub never_over : (names : NameTable) (name : List ℕ) (meaning : Meaning) (reckoned most : ℕ) → IsReckoned names name meaning reckoned most → most < reckoned → table_weight (with_meaning names name meaning) ≤ most → false ≡ true
 never_over names name meaning reckoned most h over fits = absurd (omega (arith, h.over over, fits))
 
 -- what holds of each thing that is found holds of it beside a new one
@@ -55,7 +55,7 @@ whole_by : (b : Bool) (name other : List ℕ) (meaning : Meaning) (was : Option 
 whole_by true name other meaning was p whole before = subst (λ (n : List ℕ). IsWhole n meaning) (same_name name other p) whole
 whole_by false name other meaning was p whole before = before
 
-whole_with : (names : Names) (name : List ℕ) (meaning : Meaning) → IsWhole name meaning → ((other : List ℕ) → IfSome (meaning_in names other) (IsWhole other)) → (other : List ℕ) → IfSome (meaning_in (with_meaning names name meaning) other) (IsWhole other)
+whole_with : (names : NameTable) (name : List ℕ) (meaning : Meaning) → IsWhole name meaning → ((other : List ℕ) → IfSome (meaning_in names other) (IsWhole other)) → (other : List ℕ) → IfSome (meaning_in (with_meaning names name meaning) other) (IsWhole other)
 whole_with names name meaning whole all other =
     subst (λ (o : Option Meaning). IfSome o (IsWhole other)) (sym (found_with names name meaning other)) (whole_by (is_name_of name other) name other meaning (meaning_in names other) refl whole (all other))
 
@@ -63,33 +63,33 @@ less_by : (b : Bool) (other : List ℕ) (was : Option Meaning) → IfSome was (I
 less_by true other was before = tt
 less_by false other was before = before
 
-whole_without : (names : Names) (name : List ℕ) → IsStrictlySortedBy name_order (keys_of names) → ((other : List ℕ) → IfSome (meaning_in names other) (IsWhole other)) → (other : List ℕ) → IfSome (meaning_in (without_name names name) other) (IsWhole other)
+whole_without : (names : NameTable) (name : List ℕ) → IsStrictlySortedBy name_order (keys_of names) → ((other : List ℕ) → IfSome (meaning_in names other) (IsWhole other)) → (other : List ℕ) → IfSome (meaning_in (without_name names name) other) (IsWhole other)
 whole_without names name ascend all other =
     subst (λ (o : Option Meaning). IfSome o (IsWhole other)) (sym (found_without names name other ascend)) (less_by (is_name_of name other) other (meaning_in names other) (all other))
 
 -- the table with a name is one
-pub is_table_with : (entries names made : Names) (name : List ℕ) (meaning : Meaning) (weight reckoned most : ℕ) → entries ≡ names → IsTable weight entries → IsWhole name meaning → IsReckoned names name meaning reckoned most → reckoned ≤ most → most ≤ most_weight
+pub is_table_with : (entries names made : NameTable) (name : List ℕ) (meaning : Meaning) (weight reckoned most : ℕ) → entries ≡ names → IsTable weight entries → IsWhole name meaning → IsReckoned names name meaning reckoned most → reckoned ≤ most → most ≤ most_weight
     → made ≡ with_meaning entries name meaning → IsTable reckoned made
 is_table_with entries names made name meaning weight reckoned most e table whole h fits bound is =
-    let counted : reckoned ≡ table_weight made = h.fits fits ∙ sym (ap table_weight (is ∙ ap (λ (n : Names). with_meaning n name meaning) e)) in
+    let counted : reckoned ≡ table_weight made = h.fits fits ∙ sym (ap table_weight (is ∙ ap (λ (n : NameTable). with_meaning n name meaning) e)) in
     record {
       counted = counted;
       within = omega (arith, fits, bound);
-      ascending = subst (λ (n : Names). IsStrictlySortedBy name_order (keys_of n)) (sym is) (with_ascends entries name meaning table.ascending);
-      whole = subst (λ (n : Names). (other : List ℕ) → IfSome (meaning_in n other) (IsWhole other)) (sym is) (whole_with entries name meaning whole table.whole);
+      ascending = subst (λ (n : NameTable). IsStrictlySortedBy name_order (keys_of n)) (sym is) (with_ascends entries name meaning table.ascending);
+      whole = subst (λ (n : NameTable). (other : List ℕ) → IfSome (meaning_in n other) (IsWhole other)) (sym is) (whole_with entries name meaning whole table.whole);
     }
 
 -- the table without a name is one
-pub is_table_without : (entries names made : Names) (name : List ℕ) (weight before : ℕ) → entries ≡ names → IsTable weight entries → before ≡ weight_in names name → made ≡ without_name entries name → IsTable (weight - before) made
+pub is_table_without : (entries names made : NameTable) (name : List ℕ) (weight before : ℕ) → entries ≡ names → IsTable weight entries → before ≡ weight_in names name → made ≡ without_name entries name → IsTable (weight - before) made
 is_table_without entries names made name weight before e table b is =
     let less = weight_without names name in
     let same : weight ≡ table_weight names = table.counted ∙ ap table_weight e in
-    let left : table_weight made ≡ table_weight (without_name names name) = ap table_weight (is ∙ ap (λ (n : Names). without_name n name) e) in
+    let left : table_weight made ≡ table_weight (without_name names name) = ap table_weight (is ∙ ap (λ (n : NameTable). without_name n name) e) in
     record {
       counted = omega (arith, less, same, left, b);
       within = omega (arith, table.within);
-      ascending = subst (λ (n : Names). IsStrictlySortedBy name_order (keys_of n)) (sym is) (without_ascends entries name table.ascending);
-      whole = subst (λ (n : Names). (other : List ℕ) → IfSome (meaning_in n other) (IsWhole other)) (sym is) (whole_without entries name table.ascending table.whole);
+      ascending = subst (λ (n : NameTable). IsStrictlySortedBy name_order (keys_of n)) (sym is) (without_ascends entries name table.ascending);
+      whole = subst (λ (n : NameTable). (other : List ℕ) → IfSome (meaning_in n other) (IsWhole other)) (sym is) (whole_without entries name table.ascending table.whole);
     }
 
 -- no entries are a table
@@ -97,25 +97,25 @@ pub is_empty_table : (entries : Entries) → entries ≡ [] → IsTable 0 (sorte
 is_empty_table entries is = subst (IsTable 0) (sym (ap sorted is)) (record { counted = refl; within = omega arith; ascending = none_ascend; whole = λ other. tt })
 
 -- a table weighs no more without a name
-pub erasing_is_lighter : (names : Names) (name : List ℕ) → table_weight (without_name names name) ≤ table_weight names
+pub erasing_is_lighter : (names : NameTable) (name : List ℕ) → table_weight (without_name names name) ≤ table_weight names
 erasing_is_lighter names name = omega (arith, weight_without names name)
 
 -- what a name weighs that was looked up
-pub record Weighs (names : Names) (name : List ℕ) (weight : ℕ) : Type 0 where
+pub record Weighs (names : NameTable) (name : List ℕ) (weight : ℕ) : Type 0 where
   pub value : weight ≡ weight_in names name
   pub within : weight ≤ table_weight names
 
-pub weighs : (entries : Entries) (names : Names) (name : List ℕ) (meaning : Meaning) (whole weight : ℕ) → sorted entries ≡ names → IsTable whole (sorted entries) → Some meaning ≡ by_glyphs entries name
+pub weighs : (entries : Entries) (names : NameTable) (name : List ℕ) (meaning : Meaning) (whole weight : ℕ) → sorted entries ≡ names → IsTable whole (sorted entries) → Some meaning ≡ by_glyphs entries name
     → weight ≡ min (meaning_weight meaning) (most_weight + 1) → Weighs names name weight
 weighs entries names name meaning whole weight e table is m =
-    let there : Some meaning ≡ meaning_in names name = is ∙ looked_up entries name ∙ ap (λ (n : Names). meaning_in n name) e in
+    let there : Some meaning ≡ meaning_in names name = is ∙ looked_up entries name ∙ ap (λ (n : NameTable). meaning_in n name) e in
     let own : meaning_weight meaning ≡ weight_in names name = ap (λ (o : Option Meaning). unwrap_or (option_map meaning_weight o) 0) there in
     let same : whole ≡ table_weight names = table.counted ∙ ap table_weight e in
     let less = weight_without names name in
     record { value = omega (arith, own, same, less, m, table.within); within = omega (arith, own, same, less, m, table.within) }
 
 -- a table weighs at most as much more as what is put in
-pub at_most_heavier : (names : Names) (name : List ℕ) (meaning : Meaning) → table_weight (with_meaning names name meaning) ≤ table_weight names + meaning_weight meaning
+pub at_most_heavier : (names : NameTable) (name : List ℕ) (meaning : Meaning) → table_weight (with_meaning names name meaning) ≤ table_weight names + meaning_weight meaning
 at_most_heavier [] name meaning = omega (arith, sum_by-cons meaning_weight meaning [])
 at_most_heavier (e ∷ es) name meaning = by (name_order name e.0) (at_most_heavier es name meaning)
   where
@@ -131,7 +131,7 @@ twice_by : (b : Bool) (second first : Meaning) (was : Option Meaning) → cond b
 twice_by true second first was = refl
 twice_by false second first was = refl
 
-pub put_twice : (names : Names) (name : List ℕ) (first second : Meaning) → IsStrictlySortedBy name_order (keys_of names) → with_meaning (with_meaning names name first) name second ≡ with_meaning names name second
+pub put_twice : (names : NameTable) (name : List ℕ) (first second : Meaning) → IsStrictlySortedBy name_order (keys_of names) → with_meaning (with_meaning names name first) name second ≡ with_meaning names name second
 put_twice names name first second s =
     let once = with_ascends names name first s in
     told_by_look_ups (with_meaning (with_meaning names name first) name second) (with_meaning names name second) (with_ascends (with_meaning names name first) name second once) (with_ascends names name second s)
@@ -143,7 +143,7 @@ gone_by : (b : Bool) (first : Meaning) (was : Option Meaning) → cond b None (c
 gone_by true first was = refl
 gone_by false first was = refl
 
-pub put_and_taken : (names : Names) (name : List ℕ) (first : Meaning) → IsStrictlySortedBy name_order (keys_of names) → without_name (with_meaning names name first) name ≡ without_name names name
+pub put_and_taken : (names : NameTable) (name : List ℕ) (first : Meaning) → IsStrictlySortedBy name_order (keys_of names) → without_name (with_meaning names name first) name ≡ without_name names name
 put_and_taken names name first s =
     let once = with_ascends names name first s in
     told_by_look_ups (without_name (with_meaning names name first) name) (without_name names name) (without_ascends (with_meaning names name first) name once) (without_ascends names name s)
@@ -152,7 +152,7 @@ put_and_taken names name first s =
     ∙ gone_by (is_name_of name other) first (meaning_in names other) ∙ sym (found_without names name other s))
 
 -- what is left of a shared name that keeps its own copy
-pub record KeepsCopy (names : Names) (name : List ℕ) : Type 0 where
+pub record KeepsCopy (names : NameTable) (name : List ℕ) : Type 0 where
   pub bounded : table_weight names ≤ most_weight
   pub emptied : table_weight (with_meaning names name Nothing) ≤ table_weight names
   pub still_there : IsSome (meaning_in (with_meaning names name Nothing) name)
@@ -161,7 +161,7 @@ pub record KeepsCopy (names : Names) (name : List ℕ) : Type 0 where
   pub put : (copy : PlainArray) → with_meaning (with_meaning names name Nothing) name (Value copy) ≡ with_meaning names name (Value copy)
   pub as_heavy : (copy : PlainArray) → own_copy_in names name ≡ Some copy → table_weight (with_meaning names name (Value copy)) ≤ table_weight names
 
-copy_weighs : (o : Option Meaning) (copy : PlainArray) → copy_of (unwrap_or o Nothing) ≡ Some copy → unwrap_or (option_map meaning_weight o) 0 ≡ value_weight copy
+copy_weighs : (o : Option Meaning) (copy : PlainArray) → shared_copy (unwrap_or o Nothing) ≡ Some copy → unwrap_or (option_map meaning_weight o) 0 ≡ value_weight copy
 copy_weighs None copy e = absurd cc
 copy_weighs (Some Nothing) copy e = absurd cc
 copy_weighs (Some (Value value)) copy e = absurd cc
@@ -170,9 +170,9 @@ copy_weighs (Some (Label line)) copy e = absurd cc
 copy_weighs (Some (Shared None)) copy e = absurd cc
 copy_weighs (Some (Shared (Some value))) copy e = ap (λ (o : Option PlainArray). unwrap_or (option_map value_weight o) 0) e
 
-pub keeps_copy : (entries names : Names) (name : List ℕ) (weight : ℕ) → entries ≡ names → IsTable weight entries → KeepsCopy names name
+pub keeps_copy : (entries names : NameTable) (name : List ℕ) (weight : ℕ) → entries ≡ names → IsTable weight entries → KeepsCopy names name
 keeps_copy entries names name weight e table =
-    let s = subst (λ (n : Names). IsStrictlySortedBy name_order (keys_of n)) e table.ascending in
+    let s = subst (λ (n : NameTable). IsStrictlySortedBy name_order (keys_of n)) e table.ascending in
     let same : weight ≡ table_weight names = table.counted ∙ ap table_weight e in
     record {
       bounded = omega (arith, same, table.within);

@@ -7,7 +7,7 @@ use Rattle.std.specs.Option.{option_map}
 use Rattle.std.proofs.lemmas.List.Elements.{filter_agree}
 use Rattle.std.proofs.lemmas.List.Sums.{fold_more}
 use Rattle.std.proofs.lemmas.Map.Entries.{lookup-filter-keys}
-use Rattle.apl_workspace.specs.Meaning.{IsTable, Names, meaning_in, meaning_weight, table_weight, weight_in, with_meaning, without_name, without_names}
+use Rattle.apl_workspace.specs.Meaning.{IsTable, NameTable, meaning_in, meaning_weight, table_weight, weight_in, with_meaning, without_name, without_names}
 use Rattle.apl_workspace.specs.Names.{is_name_of}
 use Rattle.apl_workspace.specs.Sorted.{sorted}
 use Rattle.apl_workspace.specs.declared.meaning.Meaning.{Meaning}
@@ -19,7 +19,7 @@ use Rattle.apl_workspace.proofs.Tables.{is_table_without, weight_without}
 
 -- ---- a table without names
 
-pub still_ascends : (names : Names) (gone : List (List ℕ)) → Ascend (keys_of names) → Ascend (keys_of (without_names names gone))
+pub still_ascends : (names : NameTable) (gone : List (List ℕ)) → Ascend (keys_of names) → Ascend (keys_of (without_names names gone))
 still_ascends names [] s = s
 still_ascends names (name ∷ gone) s = still_ascends (without_name names name) gone (without_ascends names name s)
 
@@ -30,7 +30,7 @@ gone_by false true found = refl
 gone_by false false found = refl
 
 -- the names that are gone stand for nothing, and all others for what they did
-pub found_without_all : (names : Names) (gone : List (List ℕ)) (other : List ℕ) → Ascend (keys_of names) → meaning_in (without_names names gone) other ≡ cond (list_any (is_name_of other) gone) None (meaning_in names other)
+pub found_without_all : (names : NameTable) (gone : List (List ℕ)) (other : List ℕ) → Ascend (keys_of names) → meaning_in (without_names names gone) other ≡ cond (list_any (is_name_of other) gone) None (meaning_in names other)
 found_without_all names [] other s = refl
 found_without_all names (name ∷ gone) other s =
     found_without_all (without_name names name) gone other (without_ascends names name s)
@@ -38,24 +38,24 @@ found_without_all names (name ∷ gone) other s =
     ∙ gone_by (is_name_of other name) (list_any (is_name_of other) gone) (meaning_in names other)
 
 -- the table without names is one
-pub is_table_without_all : (names : Names) (gone : List (List ℕ)) (weight : ℕ) → IsTable weight names → IsTable (table_weight (without_names names gone)) (without_names names gone)
+pub is_table_without_all : (names : NameTable) (gone : List (List ℕ)) (weight : ℕ) → IsTable weight names → IsTable (table_weight (without_names names gone)) (without_names names gone)
 is_table_without_all names [] weight h = subst (λ (n : ℕ). IsTable n names) h.counted h
 is_table_without_all names (name ∷ gone) weight h =
     is_table_without_all (without_name names name) gone (weight - weight_in names name) (is_table_without names names (without_name names name) name weight (weight_in names name) refl h refl refl)
 
 -- ---- the weight, name after name
 
-weighs_by : (names : Names) (gone : List (List ℕ)) (name : List ℕ) (b : Bool) → Ascend (keys_of names) → list_any (is_name_of name) gone ≡ b → weight_in (without_names names gone) name ≡ cond b 0 (weight_in names name)
+weighs_by : (names : NameTable) (gone : List (List ℕ)) (name : List ℕ) (b : Bool) → Ascend (keys_of names) → list_any (is_name_of name) gone ≡ b → weight_in (without_names names gone) name ≡ cond b 0 (weight_in names name)
 weighs_by names gone name true s e =
     ap (λ (o : Option Meaning). unwrap_or (option_map meaning_weight o) 0) (found_without_all names gone name s ∙ ap (λ (b : Bool). cond b None (meaning_in names name)) e)
 weighs_by names gone name false s e =
     ap (λ (o : Option Meaning). unwrap_or (option_map meaning_weight o) 0) (found_without_all names gone name s ∙ ap (λ (b : Bool). cond b None (meaning_in names name)) e)
 
 -- a name more is gone
-pub one_less : (names : Names) (gone : List (List ℕ)) (i : ℕ) (name : List ℕ) → i < length gone → name ≡ get_or gone i name → without_names names (take (i + 1) gone) ≡ without_name (without_names names (take i gone)) name
+pub one_less : (names : NameTable) (gone : List (List ℕ)) (i : ℕ) (name : List ℕ) → i < length gone → name ≡ get_or gone i name → without_names names (take (i + 1) gone) ≡ without_name (without_names names (take i gone)) name
 one_less names gone i name within is = fold_more without_name names gone i name within ∙ ap (without_name (without_names names (take i gone))) (sym is)
 
-left_by : (names : Names) (gone : List (List ℕ)) (name : List ℕ) (before own : ℕ) (b : Bool) → Ascend (keys_of names) → list_any (is_name_of name) gone ≡ b → before ≡ table_weight (without_names names gone) → own ≡ weight_in names name
+left_by : (names : NameTable) (gone : List (List ℕ)) (name : List ℕ) (before own : ℕ) (b : Bool) → Ascend (keys_of names) → list_any (is_name_of name) gone ≡ b → before ≡ table_weight (without_names names gone) → own ≡ weight_in names name
     → cond (not b) (before - own) before ≡ table_weight (without_name (without_names names gone) name)
 left_by names gone name before own true s e is weighs =
     let none : weight_in (without_names names gone) name ≡ 0 = weighs_by names gone name true s e in
@@ -67,13 +67,13 @@ left_by names gone name before own false s e is weighs =
     omega (arith, same, less, is, weighs)
 
 -- what is left of the weight, where a name was gone before, or was not
-pub weight_left : (names : Names) (gone : List (List ℕ)) (i : ℕ) (name : List ℕ) (before own after : ℕ) (b : Bool) → Ascend (keys_of names) → i < length gone → name ≡ get_or gone i name → before ≡ table_weight (without_names names (take i gone)) → own ≡ weight_in names name
+pub weight_left : (names : NameTable) (gone : List (List ℕ)) (i : ℕ) (name : List ℕ) (before own after : ℕ) (b : Bool) → Ascend (keys_of names) → i < length gone → name ≡ get_or gone i name → before ≡ table_weight (without_names names (take i gone)) → own ≡ weight_in names name
     → list_any (is_name_of name) (take i gone) ≡ b → after ≡ cond (not b) (before - own) before → after ≡ table_weight (without_names names (take (i + 1) gone))
 weight_left names gone i name before own after b s within is so weighs among made =
     made ∙ left_by names (take i gone) name before own b s among so weighs ∙ sym (ap table_weight (one_less names gone i name within is))
 
 -- a name that was not gone before weighs no more than what is left
-pub weighs_within : (names : Names) (gone : List (List ℕ)) (name : List ℕ) (before own : ℕ) → Ascend (keys_of names) → before ≡ table_weight (without_names names gone) → own ≡ weight_in names name → list_any (is_name_of name) gone ≡ false → own ≤ before
+pub weighs_within : (names : NameTable) (gone : List (List ℕ)) (name : List ℕ) (before own : ℕ) → Ascend (keys_of names) → before ≡ table_weight (without_names names gone) → own ≡ weight_in names name → list_any (is_name_of name) gone ≡ false → own ≤ before
 weighs_within names gone name before own s is weighs e =
     let same : weight_in (without_names names gone) name ≡ weight_in names name = weighs_by names gone name false s e in
     let less = weight_without (without_names names gone) name in
@@ -104,9 +104,9 @@ kept_in_order entries gone among same =
     found_in_order kept name ∙ found_passing entries gone name ∙ ap (λ (o : Option Meaning). cond (list_any (is_name_of name) gone) None o) (sym (found_in_order entries name))
     ∙ sym (found_without_all (sorted entries) gone name (sorted_ascends entries)))
 
-passed_by : (b : Bool) (item : List ℕ × Meaning) (rest : Entries) (old : Names) → old ≡ sorted rest → cond b old (with_meaning old item.0 item.1) ≡ sorted (cond (not b) (item ∷ rest) rest)
+passed_by : (b : Bool) (item : List ℕ × Meaning) (rest : Entries) (old : NameTable) → old ≡ sorted rest → cond b old (with_meaning old item.0 item.1) ≡ sorted (cond (not b) (item ∷ rest) rest)
 passed_by true item rest old e = e
-passed_by false item rest old e = ap (λ (names : Names). with_meaning names item.0 item.1) e
+passed_by false item rest old e = ap (λ (names : NameTable). with_meaning names item.0 item.1) e
 
 -- an entry more was copied, or passed over
 pub copied_on : (gone : List ℕ → Bool) (entries old new : Entries) (at left : ℕ) → at + 1 ≡ left → left ≤ length entries

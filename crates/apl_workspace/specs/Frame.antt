@@ -6,23 +6,23 @@ use Rattle.apl_arrays.specs.Array.{PlainArray}
 use Rattle.apl_workspace.specs.Function.{PlainFunction}
 use Rattle.apl_workspace.specs.Header.{PlainHeader}
 use Rattle.apl_workspace.specs.Label.{label_of}
-use Rattle.apl_workspace.specs.Meaning.{Names, meaning_of, with_meaning}
+use Rattle.apl_workspace.specs.Meaning.{NameTable, meaning_of, with_meaning}
 use Rattle.apl_workspace.specs.Names.{is_name_of}
 use Rattle.apl_workspace.specs.declared.args.Args.{Args}
 use Rattle.apl_workspace.specs.declared.meaning.Meaning.{Meaning}
 use Rattle.apl_workspace.specs.declared.meaning.Meaning.TheVariants.{Nothing, Label}
 
 -- the names with an argument, where the header has it
-abbrev pub with_argument : Names → Option (List ℕ) → Option PlainArray → Names
+abbrev pub with_argument : NameTable → Option (List ℕ) → Option PlainArray → NameTable
 with_argument names None value = names
 with_argument names (Some name) value = with_meaning names name (meaning_of value)
 
 -- the names with a local one, which has no value yet
-abbrev pub with_local_name : Names → List ℕ → Names
+abbrev pub with_local_name : NameTable → List ℕ → NameTable
 with_local_name names name = with_meaning names name Nothing
 
 -- the names of a header but the function's own: both arguments with their values, the result and the local ones without
-abbrev pub header_names : PlainHeader → Args → Names
+abbrev pub header_names : PlainHeader → Args → NameTable
 header_names header args = fold with_local_name (with_argument (with_argument [] header.left args.left) header.right args.right) (option_to_list header.result ++ header.locals)
 
 -- what an argument of this name stands for, or another name
@@ -37,17 +37,17 @@ header_meaning header args name =
     else argument_or header.right args.right name (argument_or header.left args.left name None)
 
 -- the names with a label that stands for a line, where that line has one
-abbrev pub with_label : Option (List ℕ) → ℕ → Names → Names
+abbrev pub with_label : Option (List ℕ) → ℕ → NameTable → NameTable
 with_label None line names = names
 with_label (Some label) line names = with_meaning names label (Label line)
 
 -- the names with the labels of these lines, of which the first has this number; of equal labels the first counts
-abbrev pub with_labels : ℕ → List (List ℕ) → Names → Names
+abbrev pub with_labels : ℕ → List (List ℕ) → NameTable → NameTable
 with_labels number [] names = names
 with_labels number (line ∷ lines) names = with_label (label_of line) number (with_labels (number + 1) lines names)
 
 -- the frame of a function: the names of its header, and its labels, which hide those
-abbrev pub frame_of : PlainFunction → Args → Names
+abbrev pub frame_of : PlainFunction → Args → NameTable
 frame_of function args = with_labels 1 function.lines (header_names function.header args)
 
 -- the arguments are those that the header asks for

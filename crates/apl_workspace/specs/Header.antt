@@ -4,7 +4,7 @@ use Rattle.std.specs.List.{list_any}
 use Rattle.std.specs.Option.{option_to_list, option_map}
 use Rattle.apl_arrays.specs.Glyph.{lamp, left_arrow, semicolon}
 use Rattle.line_scanner.specs.Token.{PlainKind, numbers, chars, name, system, sign, PlainToken}
-use Rattle.line_scanner.specs.Scanning.{Scanned, scan_of}
+use Rattle.line_scanner.specs.Scanning.{Scanned, reading_of}
 use Rattle.apl_workspace.specs.declared.symbol.Symbol.{Symbol}
 use Rattle.apl_workspace.specs.declared.symbol.Syntax.{Syntax}
 use Rattle.apl_workspace.specs.declared.symbol.Symbol.TheVariants.{Word, Arrow, Semicolon, Other}
@@ -23,16 +23,16 @@ abbrev pub names_of : PlainHeader → List (List ℕ)
 names_of header = header.name ∷ option_to_list header.left ++ option_to_list header.right ++ option_to_list header.result ++ header.locals
 
 -- what a sign is in a header
-abbrev pub symbol_of_sign : ℕ → Symbol
-symbol_of_sign glyph = if glyph == left_arrow then Arrow else if glyph == semicolon then Semicolon else Other
+abbrev pub header_symbol_of_sign : ℕ → Symbol
+header_symbol_of_sign glyph = if glyph == left_arrow then Arrow else if glyph == semicolon then Semicolon else Other
 
 -- what a token is in a header
-abbrev pub symbol_of : PlainKind → Symbol
-symbol_of (numbers list) = Other
-symbol_of (chars list) = Other
-symbol_of (name glyphs) = Word glyphs
-symbol_of (system which) = Other
-symbol_of (sign glyph) = symbol_of_sign glyph
+abbrev pub header_symbol : PlainKind → Symbol
+header_symbol (numbers list) = Other
+header_symbol (chars list) = Other
+header_symbol (name glyphs) = Word glyphs
+header_symbol (system which) = Other
+header_symbol (sign glyph) = header_symbol_of_sign glyph
 
 -- a local name before others
 abbrev pub with_local : List ℕ → Option (List (List ℕ)) → Option (List (List ℕ))
@@ -99,7 +99,7 @@ with_names_apart (Some header) = if all_differ (names_of header) then Some heade
 
 -- the symbols of tokens
 abbrev pub symbols_of : List PlainToken → List Symbol
-symbols_of tokens = map (λ token. symbol_of token.kind) tokens
+symbols_of tokens = map (λ token. header_symbol token.kind) tokens
 
 -- the header that a scan gives
 abbrev pub header_of_scan : Scanned → Option PlainHeader
@@ -112,4 +112,4 @@ is_lamp glyph = glyph == lamp
 
 -- the header that a line is; a line with a comment is none
 unfoldable pub header_of : List ℕ → Option PlainHeader
-header_of line = if list_any is_lamp line then None else header_of_scan (scan_of line)
+header_of line = if list_any is_lamp line then None else header_of_scan (reading_of line)

@@ -1,7 +1,7 @@
 -- Lists of global names.
 use Rattle.std.specs.Prelude.{ℕ, Bool, true, List, Option, Some, None, filter}
 use Rattle.std.specs.Map.{keys_of}
-use Rattle.apl_workspace.specs.Meaning.{Names, is_function_meaning, is_shared_meaning, is_variable_meaning}
+use Rattle.apl_workspace.specs.Meaning.{NameTable, is_function_meaning, is_shared_meaning, is_variable_meaning}
 use Rattle.apl_workspace.specs.Workspace.{PlainWorkspace}
 use Rattle.apl_workspace.specs.declared.meaning.Meaning.{Meaning}
 use Rattle.apl_workspace.specs.declared.what.What.{What}
@@ -19,7 +19,7 @@ is_wanted None meaning = true
 is_wanted (Some what) meaning = is_asked what meaning
 
 -- the names of a table that stand for what is asked, ascending
-abbrev pub names_among : What → Names → List (List ℕ)
+abbrev pub names_among : What → NameTable → List (List ℕ)
 names_among what names = keys_of (filter (λ entry. is_asked what entry.1) names)
 
 -- the global names of a workspace that stand for what is asked, ascending

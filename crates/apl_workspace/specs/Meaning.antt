@@ -53,12 +53,12 @@ is_variable_meaning (Label line) = false
 is_variable_meaning (Shared copy) = true
 
 -- the own copy of the value of a shared variable
-abbrev pub copy_of : Meaning → Option PlainArray
-copy_of Nothing = None
-copy_of (Value value) = None
-copy_of (Function function) = None
-copy_of (Label line) = None
-copy_of (Shared copy) = copy
+abbrev pub shared_copy : Meaning → Option PlainArray
+shared_copy Nothing = None
+shared_copy (Value value) = None
+shared_copy (Function function) = None
+shared_copy (Label line) = None
+shared_copy (Shared copy) = copy
 
 -- a function that a name stands for keeps its limits and has that name
 abbrev pub IsWhole : List ℕ → Meaning → Type 0
@@ -90,54 +90,54 @@ IsLocal (Label line) = Unit {0}
 IsLocal (Shared copy) = ⊥
 
 -- names in their order, each with what it stands for
-abbrev pub Names : Type 0
-Names = List (List ℕ × Meaning)
+abbrev pub NameTable : Type 0
+NameTable = List (List ℕ × Meaning)
 
 -- what a name stands for in a table, where the table has it
-abbrev pub meaning_in : Names → List ℕ → Option Meaning
+abbrev pub meaning_in : NameTable → List ℕ → Option Meaning
 meaning_in names name = lookup (is_name_of name) names
 
 -- the table with a name that stands for this; all other names stay
-abbrev pub with_meaning : Names → List ℕ → Meaning → Names
+abbrev pub with_meaning : NameTable → List ℕ → Meaning → NameTable
 with_meaning names name meaning = insert_entry name_order names name meaning
 
 -- the table without a name; all other names stay
-abbrev pub without_name : Names → List ℕ → Names
+abbrev pub without_name : NameTable → List ℕ → NameTable
 without_name names name = remove_entry (is_name_of name) names
 
 -- the table without these names; all other names stay
-abbrev pub without_names : Names → List (List ℕ) → Names
+abbrev pub without_names : NameTable → List (List ℕ) → NameTable
 without_names names gone = fold without_name names gone
 
 -- a name has this value, or is not there
-abbrev pub with_value : Names → List ℕ → Option PlainArray → Names
-with_value names name None = without_name names name
-with_value names name (Some value) = with_meaning names name (Value value)
+abbrev pub with_value_or_none : NameTable → List ℕ → Option PlainArray → NameTable
+with_value_or_none names name None = without_name names name
+with_value_or_none names name (Some value) = with_meaning names name (Value value)
 
 -- the own copy of a shared name in a table
-abbrev pub own_copy_in : Names → List ℕ → Option PlainArray
-own_copy_in names name = copy_of (unwrap_or (meaning_in names name) Nothing)
+abbrev pub own_copy_in : NameTable → List ℕ → Option PlainArray
+own_copy_in names name = shared_copy (unwrap_or (meaning_in names name) Nothing)
 
 -- a name is shared in a table
-abbrev pub is_shared_in : Names → List ℕ → Bool
+abbrev pub is_shared_in : NameTable → List ℕ → Bool
 is_shared_in names name = is_shared_meaning (unwrap_or (meaning_in names name) Nothing)
 
 -- what a table weighs
-abbrev pub table_weight : Names → ℕ
+abbrev pub table_weight : NameTable → ℕ
 table_weight names = sum_by meaning_weight (values_of names)
 
 -- names ascend, each once, functions are whole, and all weigh so much, which is not more than a workspace may
-pub record IsTable (weight : ℕ) (names : Names) : Type 0 where
+pub record IsTable (weight : ℕ) (names : NameTable) : Type 0 where
   pub counted : weight ≡ table_weight names
   pub within : weight ≤ most_weight
   pub ascending : IsStrictlySortedBy name_order (keys_of names)
   pub whole : (name : List ℕ) → IfSome (meaning_in names name) (IsWhole name)
 
 -- what a name weighs in a table
-abbrev pub weight_in : Names → List ℕ → ℕ
+abbrev pub weight_in : NameTable → List ℕ → ℕ
 weight_in names name = unwrap_or (option_map meaning_weight (meaning_in names name)) 0
 
 -- why a table was not made: it would weigh more than it may, or memory ran out
-abbrev pub IsFullFor : ℕ → Names → Fail → Type 0
+abbrev pub IsFullFor : ℕ → NameTable → Fail → Type 0
 IsFullFor most names (Report report) = (report ≡ WsFull) × (most < table_weight names)
 IsFullFor most names WantOfMemory = Unit {0}

@@ -12,7 +12,7 @@ use Rattle.apl_arrays.specs.declared.report.Fail.TheVariants.{Report, WantOfMemo
 use Rattle.apl_arrays.specs.declared.report.Report.TheVariants.{Syntax, WsFull}
 use Rattle.apl_workspace.specs.Frame.{AreArgumentsOf, frame_of}
 use Rattle.apl_workspace.specs.Limits.{most_weight, most_depth, most_printed}
-use Rattle.apl_workspace.specs.Meaning.{IsGlobal, IsLocal, Names, is_shared_in, meaning_in, own_copy_in, table_weight, with_meaning, with_value, without_name, without_names}
+use Rattle.apl_workspace.specs.Meaning.{IsGlobal, IsLocal, NameTable, is_shared_in, meaning_in, own_copy_in, table_weight, with_meaning, with_value_or_none, without_name, without_names}
 use Rattle.apl_arrays.specs.Name.{name_order}
 use Rattle.apl_workspace.specs.Names.{all_differ, is_name_of}
 use Rattle.apl_workspace.specs.declared.args.Args.{Args}
@@ -22,8 +22,8 @@ use Rattle.apl_workspace.specs.declared.remake.Remake.{Remake}
 
 -- a workspace: its global names, the frames of functions under way with the innermost first, the offers that are listed, and how many glyphs were printed
 pub record PlainWorkspace : Type 0 where
-  pub globals : Names
-  pub frames : List Names
+  pub globals : NameTable
+  pub frames : List NameTable
   pub offers : List Remake
   pub printed : ℕ
 
@@ -36,7 +36,7 @@ abbrev pub workspace_weight : PlainWorkspace → ℕ
 workspace_weight w = table_weight w.globals + sum_by table_weight w.frames
 
 -- what a name stands for in the first of these tables that has it
-abbrev pub innermost : List Names → List ℕ → Option Meaning
+abbrev pub innermost : List NameTable → List ℕ → Option Meaning
 innermost [] name = None
 innermost (table ∷ tables) name = option_or (meaning_in table name) (innermost tables name)
 
@@ -88,7 +88,7 @@ marked w offer copy = record w { globals = with_meaning w.globals offer.local (S
 
 -- a name is shared no more, and has this value
 abbrev pub unshared : PlainWorkspace → List ℕ → Option PlainArray → PlainWorkspace
-unshared w name value = record w { globals = with_value w.globals name value; offers = filter (is_of_another name) w.offers }
+unshared w name value = record w { globals = with_value_or_none w.globals name value; offers = filter (is_of_another name) w.offers }
 
 -- a name is shared no more; it has the value handed in, or its own copy where the workspace would weigh too much with that
 abbrev pub unmarked : PlainWorkspace → List ℕ → Option PlainArray → PlainWorkspace
@@ -97,7 +97,7 @@ unmarked w name value =
     else unshared w name (own_copy_in w.globals name)
 
 -- the frames with this value of a name in the innermost of them that has it
-abbrev pub in_innermost : List Names → List ℕ → Meaning → List Names
+abbrev pub in_innermost : List NameTable → List ℕ → Meaning → List NameTable
 in_innermost [] name meaning = []
 in_innermost (table ∷ tables) name meaning = if is_some (meaning_in table name) then with_meaning table name meaning ∷ tables else table ∷ in_innermost tables name meaning
 
@@ -120,7 +120,7 @@ abbrev pub names_offered : List Remake → List (List ℕ)
 names_offered offers = map (λ offer. offer.local) offers
 
 -- offers that may be listed beside these global names: not too many, no name twice, each of a shared name, and to whom one may offer
-pub record AreOffers (globals : Names) (offers : List Remake) : Type 0 where
+pub record AreOffers (globals : NameTable) (offers : List Remake) : Type 0 where
   pub count : length offers ≤ most_offers
   pub differ : all_differ (names_offered offers) ≡ true
   pub shared : All (λ offer. is_shared_in globals offer.local ≡ true) offers
@@ -172,31 +172,31 @@ IsNotAssigned assignable w (Report report) = MatchBool assignable ((report ≡ W
 IsNotAssigned assignable w WantOfMemory = assignable ≡ true
 
 -- the innermost table that has a name stands behind so many outer ones
-pub record IsInnermostAt (frames : List Names) (name : List ℕ) (at : ℕ) : Type 0 where
-  pub outer : List Names
-  pub table : Names
-  pub inner : List Names
+pub record IsInnermostAt (frames : List NameTable) (name : List ℕ) (at : ℕ) : Type 0 where
+  pub outer : List NameTable
+  pub table : NameTable
+  pub inner : List NameTable
   pub whole : frames ≡ outer ++ table ∷ inner
   pub place : length outer ≡ at
   pub has : is_some (meaning_in table name) ≡ true
   pub lacking : innermost (reverse inner) name ≡ None
 
 -- why frames were not changed: they would weigh more than they may, or memory ran out
-abbrev pub AreFullFor : ℕ → List Names → Fail → Type 0
+abbrev pub AreFullFor : ℕ → List NameTable → Fail → Type 0
 AreFullFor most frames (Report report) = (report ≡ WsFull) × (most < sum_by table_weight frames)
 AreFullFor most frames WantOfMemory = Unit {0}
 
 -- a workspace in which a frame more stands before the others, where the name stands for a function
-abbrev pub entered_by : Meaning → PlainWorkspace → Args → PlainWorkspace
-entered_by Nothing w args = w
-entered_by (Value value) w args = w
-entered_by (Function function) w args = record w { frames = frame_of function args ∷ w.frames }
-entered_by (Label line) w args = w
-entered_by (Shared copy) w args = w
+abbrev pub with_frame_by : Meaning → PlainWorkspace → Args → PlainWorkspace
+with_frame_by Nothing w args = w
+with_frame_by (Value value) w args = w
+with_frame_by (Function function) w args = record w { frames = frame_of function args ∷ w.frames }
+with_frame_by (Label line) w args = w
+with_frame_by (Shared copy) w args = w
 
 -- a function is entered: its frame stands before the others
-abbrev pub entered : PlainWorkspace → List ℕ → Args → PlainWorkspace
-entered w name args = entered_by (look w name) w args
+abbrev pub with_frame : PlainWorkspace → List ℕ → Args → PlainWorkspace
+with_frame w name args = with_frame_by (look w name) w args
 
 -- the arguments are those of the function that a name stands for
 abbrev pub AreArgumentsFor : Meaning → Args → Type 0
@@ -212,11 +212,11 @@ IsNotEntered before after (Report report) = (report ≡ WsFull) × ((most_depth 
 IsNotEntered before after WantOfMemory = Unit {0}
 
 -- the innermost frame is left
-abbrev pub left : PlainWorkspace → PlainWorkspace
-left w = record w { frames = drop 1 w.frames }
+abbrev pub without_frame : PlainWorkspace → PlainWorkspace
+without_frame w = record w { frames = drop 1 w.frames }
 
 -- a frame is that of the function that a name stands for
-abbrev pub IsFrameFor : Meaning → Args → Names → Type 0
+abbrev pub IsFrameFor : Meaning → Args → NameTable → Type 0
 IsFrameFor Nothing args frame = ⊥
 IsFrameFor (Value value) args frame = ⊥
 IsFrameFor (Function function) args frame = frame ≡ frame_of function args

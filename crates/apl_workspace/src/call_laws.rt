@@ -8,7 +8,7 @@ ghost use Rattle.apl_workspace.specs.Header.{PlainHeader};
 ghost use Rattle.apl_workspace.specs.Limits.{most_weight};
 ghost use Rattle.apl_workspace.specs.Meaning.{meaning_in, meaning_of, own_copy_in};
 ghost use Rattle.apl_workspace.specs.Names.{is_name_of};
-ghost use Rattle.apl_workspace.specs.Workspace.{IsWorkspace, PlainWorkspace, assigned, entered, global_in, is_unhidden, left, look, marked, takes_offer, unmarked, unshared, with_global, without_global, workspace_weight};
+ghost use Rattle.apl_workspace.specs.Workspace.{IsWorkspace, PlainWorkspace, assigned, global_in, is_unhidden, look, marked, takes_offer, unmarked, unshared, with_frame, with_global, without_frame, without_global, workspace_weight};
 
 use crate::{Args, Meaning, Remake};
 
@@ -43,8 +43,8 @@ pub fn unmarking_leaves_a_variable()
 /// While a function runs, the names of its frame hide all others, and when it is left all is as it was before. The call
 /// does nothing. No memory.
 pub fn frames_hide_names()
-    ensures entered { (w : PlainWorkspace) (name other : ListOf ℕ) (args : Args) (function : PlainFunction) → look w name ≡ Meaning.Function function → look (entered w name args) other ≡ unwrap_or (meaning_in (frame_of function args) other) (look w other) }
-    ensures left { (w : PlainWorkspace) (name : ListOf ℕ) (args : Args) (function : PlainFunction) → look w name ≡ Meaning.Function function → left (entered w name args) ≡ w }
+    ensures entered { (w : PlainWorkspace) (name other : ListOf ℕ) (args : Args) (function : PlainFunction) → look w name ≡ Meaning.Function function → look (with_frame w name args) other ≡ unwrap_or (meaning_in (frame_of function args) other) (look w other) }
+    ensures left { (w : PlainWorkspace) (name : ListOf ℕ) (args : Args) (function : PlainFunction) → look w name ≡ Meaning.Function function → without_frame (with_frame w name args) ≡ w }
 {}
 
 /// As a function begins, its result and its local names stand for nothing, and its arguments for their values. The call

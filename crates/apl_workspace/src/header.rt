@@ -1,7 +1,7 @@
 ghost use Rattle.std.specs.Prelude.{◌≡◌, ◌<◌, ◌++◌, Some, None, Ok, IfOk, IfSome, OnOk, IsErr, MatchOption, length};
 ghost use Rattle.std.specs.List.{list_any};
 ghost use Rattle.std.specs.Option.{option_map, option_to_list};
-ghost use Rattle.line_scanner.specs.Scanning.{scan_of};
+ghost use Rattle.line_scanner.specs.Scanning.{reading_of};
 ghost use Rattle.apl_workspace.specs.Header.{header_behind, header_in, header_of, is_lamp, local_in, locals_in, names_of, result_in, symbols_of, syntax_in, syntax_of_one, syntax_of_two, with_names_apart, word_in};
 ghost use Rattle.apl_workspace.specs.Names.{all_differ};
 
@@ -83,7 +83,7 @@ fn has_comment(glyphs: &[Glyph]) -> bool
 
 /// The tokens of a line, or `None` where it has an error.
 fn tokens_of(alloc: Global, line: &Line) -> Result<Option<Tokens>, WantOfMemory>
-    ensures { IfOk result (λ found. MatchOption found (IsErr (scan_of line.now.items)) (λ tokens. scan_of line.now.items ≡ Ok tokens.tokens.items)) }
+    ensures { IfOk result (λ found. MatchOption found (IsErr (reading_of line.now.items)) (λ tokens. reading_of line.now.items ≡ Ok tokens.tokens.items)) }
 {
     match scan(alloc, line) {
         Ok(tokens) => Ok(Some(tokens)),

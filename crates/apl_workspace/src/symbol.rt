@@ -1,6 +1,6 @@
 ghost use Rattle.std.specs.Prelude.{◌≡◌, IfOk, map};
 ghost use Rattle.line_scanner.specs.Token.{plain_kind, plain_token};
-ghost use Rattle.apl_workspace.specs.Header.{symbol_of, symbols_of};
+ghost use Rattle.apl_workspace.specs.Header.{header_symbol, symbols_of};
 
 use apl_arrays::{Glyph, Name, WantOfMemory};
 use line_scanner::{Token, TokenKind};
@@ -24,8 +24,8 @@ pub struct Syntax {
 }
 
 /// What a token is in a header. No memory.
-fn symbol_of(kind: &TokenKind) -> Symbol
-    ensures { result ≡ symbol_of (plain_kind kind.now) }
+fn header_symbol(kind: &TokenKind) -> Symbol
+    ensures { result ≡ header_symbol (plain_kind kind.now) }
 {
     match kind {
         TokenKind::Name(name) => Symbol::Word(*name),
@@ -41,7 +41,7 @@ pub fn symbols_of(alloc: Global, tokens: &[Token]) -> Result<Vec<Symbol>, WantOf
 {
     let mut symbols = Vec::new(alloc);
     for token in tokens {
-        symbols.push(symbol_of(&token.kind))?;
+        symbols.push(header_symbol(&token.kind))?;
     }
     Ok(symbols)
 }

@@ -7,7 +7,7 @@ ghost use Rattle.std.specs.Map.{keys_of};
 ghost use Rattle.std.specs.Option.{option_copied};
 ghost use Rattle.apl_workspace.specs.Limits.{most_weight};
 ghost use Rattle.apl_workspace.specs.Listing.{is_wanted, names_among};
-ghost use Rattle.apl_workspace.specs.Meaning.{IsFullFor, IsWhole, copy_of, is_shared_in, meaning_in, meaning_weight, own_copy_in, table_weight, weight_in, with_meaning, with_value, without_name};
+ghost use Rattle.apl_workspace.specs.Meaning.{IsFullFor, IsWhole, is_shared_in, meaning_in, meaning_weight, own_copy_in, shared_copy, table_weight, weight_in, with_meaning, with_value_or_none, without_name};
 ghost use Rattle.apl_workspace.specs.Sorted.{sorted};
 
 mod copying;
@@ -27,10 +27,10 @@ pub struct Table {
 }
 
 impl Model for Table {
-    ghost use Rattle.apl_workspace.specs.Meaning.{Names, IsTable};
+    ghost use Rattle.apl_workspace.specs.Meaning.{NameTable, IsTable};
     ghost use Rattle.apl_workspace.specs.Sorted.{sorted};
 
-    ghost Value = { Names };
+    ghost Value = { NameTable };
 
     ghost view = { λ t. sorted t.names.entries };
 
@@ -166,8 +166,8 @@ impl Table {
         requires shared { is_shared_in self.old name.now ≡ true }
         requires limit { most ≤ most_weight }
         requires within { table_weight self.old ≤ most }
-        ensures fits { table_weight (with_value self.old name.now value) ≤ most → self.new ≡ with_value self.old name.now value }
-        ensures heavy { most < table_weight (with_value self.old name.now value) → self.new ≡ with_value self.old name.now (own_copy_in self.old name.now) }
+        ensures fits { table_weight (with_value_or_none self.old name.now value) ≤ most → self.new ≡ with_value_or_none self.old name.now value }
+        ensures heavy { most < table_weight (with_value_or_none self.old name.now value) → self.new ≡ with_value_or_none self.old name.now (own_copy_in self.old name.now) }
         ensures weight { table_weight self.new ≤ most }
     {
         match value {
@@ -182,7 +182,7 @@ impl Table {
     /// A shared name has its own copy as its value, or is not there where it has none. No memory.
     fn keep_copy(&mut self, name: &Name)
         requires { is_shared_in self.old name.now ≡ true }
-        ensures value { self.new ≡ with_value self.old name.now (own_copy_in self.old name.now) }
+        ensures value { self.new ≡ with_value_or_none self.old name.now (own_copy_in self.old name.now) }
         ensures weight { table_weight self.new ≤ table_weight self.old }
     {
         let _ = &self.names;
@@ -260,7 +260,7 @@ fn discard_old(_meaning: Option<Meaning>) {}
 
 /// The own copy of the value of a shared name.
 fn own_copy(meaning: Option<Meaning>) -> Option<Array>
-    ensures { result ≡ copy_of (unwrap_or meaning Meaning.Nothing) }
+    ensures { result ≡ shared_copy (unwrap_or meaning Meaning.Nothing) }
 {
     match meaning {
         Some(Meaning::Shared(copy)) => copy,

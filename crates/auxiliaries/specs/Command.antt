@@ -12,10 +12,10 @@ pub data Command : Type 0 where
   other : Command
 
 -- what stands behind a word at the front
-abbrev pub behind : List ℕ → List ℕ → Option (List ℕ)
-behind [] glyphs = Some glyphs
-behind (byte ∷ word) [] = None
-behind (byte ∷ word) (glyph ∷ glyphs) = if glyph == byte then behind word glyphs else None
+abbrev pub behind_word : List ℕ → List ℕ → Option (List ℕ)
+behind_word [] glyphs = Some glyphs
+behind_word (byte ∷ word) [] = None
+behind_word (byte ∷ word) (glyph ∷ glyphs) = if glyph == byte then behind_word word glyphs else None
 
 -- a command by what stands behind its word, else another
 abbrev pub by_word : Option (List ℕ) → (List ℕ → Command) → Command → Command
@@ -30,11 +30,11 @@ alone None command otherwise = otherwise
 
 -- the command that is one word, if it is one
 abbrev pub bare_command : List ℕ → Command
-bare_command glyphs = alone (behind (codes "NEXT") glyphs) next (alone (behind (codes "DONE") glyphs) done other)
+bare_command glyphs = alone (behind_word (codes "NEXT") glyphs) next (alone (behind_word (codes "DONE") glyphs) done other)
 
 -- the command of these glyphs
 abbrev pub command_in : List ℕ → Command
-command_in glyphs = by_word (behind (codes "READ ") glyphs) read (by_word (behind (codes "WRITE ") glyphs) write (by_word (behind (codes "PUT ") glyphs) put (bare_command glyphs)))
+command_in glyphs = by_word (behind_word (codes "READ ") glyphs) read (by_word (behind_word (codes "WRITE ") glyphs) write (by_word (behind_word (codes "PUT ") glyphs) put (bare_command glyphs)))
 
 -- glyphs are a command where they are a vector
 abbrev pub command_by_rank : ℕ → PlainItems → Command

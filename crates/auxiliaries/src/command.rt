@@ -1,5 +1,5 @@
 ghost use Rattle.std.specs.Prelude.{◌≡◌, option_copied};
-ghost use Rattle.auxiliaries.specs.Command.{command_of, command_in, bare_command, behind};
+ghost use Rattle.auxiliaries.specs.Command.{command_of, command_in, bare_command, behind_word};
 ghost use Rattle.auxiliaries.specs.Plain.{plain_command};
 
 use apl_arrays::{Array, Glyph, Items};
@@ -29,11 +29,11 @@ pub(crate) fn command_of(value: &Array) -> Command<'_>
 fn command_in(glyphs: &[Glyph]) -> Command<'_>
     ensures { plain_command result ≡ command_in glyphs.now }
 {
-    match behind(b"READ ", glyphs) {
+    match behind_word(b"READ ", glyphs) {
         Some(name) => Command::Read(name),
-        None => match behind(b"WRITE ", glyphs) {
+        None => match behind_word(b"WRITE ", glyphs) {
             Some(name) => Command::Write(name),
-            None => match behind(b"PUT ", glyphs) {
+            None => match behind_word(b"PUT ", glyphs) {
                 Some(text) => Command::Put(text),
                 None => bare_command(glyphs),
             },
@@ -45,9 +45,9 @@ fn command_in(glyphs: &[Glyph]) -> Command<'_>
 fn bare_command(glyphs: &[Glyph]) -> Command<'_>
     ensures { plain_command result ≡ bare_command glyphs.now }
 {
-    match behind(b"NEXT", glyphs) {
+    match behind_word(b"NEXT", glyphs) {
         Some([]) => Command::Next,
-        _ => match behind(b"DONE", glyphs) {
+        _ => match behind_word(b"DONE", glyphs) {
             Some([]) => Command::Done,
             _ => Command::Other,
         },
@@ -55,13 +55,13 @@ fn bare_command(glyphs: &[Glyph]) -> Command<'_>
 }
 
 // What stands behind a word at the front.
-fn behind<'a>(word: &[u8], glyphs: &'a [Glyph]) -> Option<&'a [Glyph]>
-    ensures { option_copied result ≡ behind word.now glyphs.now }
+fn behind_word<'a>(word: &[u8], glyphs: &'a [Glyph]) -> Option<&'a [Glyph]>
+    ensures { option_copied result ≡ behind_word word.now glyphs.now }
 {
     match word {
         [] => Some(glyphs),
         [byte, word @ ..] => match glyphs {
-            [glyph, glyphs @ ..] if glyph.code() == *byte => behind(word, glyphs),
+            [glyph, glyphs @ ..] if glyph.code() == *byte => behind_word(word, glyphs),
             _ => None,
         },
     }

@@ -62,7 +62,7 @@ pub(crate) fn text_lines(
     let mut rest = bytes;
     while !rest.is_empty() {
         let (line, behind) = cut_line(rest);
-        match line_of(alloc, line)? {
+        match file_line(alloc, line)? {
             Some(line) => lines.push_back(line)?,
             None => return Ok(None),
         }
@@ -84,7 +84,7 @@ fn cut_line(bytes: &[u8]) -> (&[u8], &[u8])
 }
 
 // The line that bytes spell, or `None` where they spell none or it is too long.
-fn line_of(alloc: Global, bytes: &[u8]) -> Result<Option<Line>, WantOfMemory>
+fn file_line(alloc: Global, bytes: &[u8]) -> Result<Option<Line>, WantOfMemory>
     ensures { IfOk result (λ line. MatchOption line ((glyphs : List ℕ) → ¬ IsFileLine bytes.now glyphs) (λ line. IsFileLine bytes.now line.items)) }
 {
     match glyphs_of(alloc, bytes) {

@@ -9,7 +9,7 @@ use Rattle.apl_arrays.specs.Glyph.{IsGlyph}
 use Rattle.apl_arrays.specs.Limits.{most_line_glyphs, most_user_lines}
 use Rattle.apl_arrays.specs.Ascending.{AscendBy}
 use Rattle.bundle_text.specs.User.{PlainUser}
-use Rattle.bundle_text.specs.Bundle.{most_read_users, IsUserNumber, IsUser, IsLine}
+use Rattle.bundle_text.specs.Bundle.{most_read_users, IsUserNumber, IsUser, IsUserLine}
 use Rattle.bundle_text.specs.Draft.{IsDraft}
 
 ascending_push : (users : List PlainUser) (last next : PlainUser) → AscendBy (λ user. user.number) (users ++ last ∷ []) → last.number < next.number → AscendBy (λ user. user.number) ((users ++ last ∷ []) ++ next ∷ [])
@@ -27,7 +27,7 @@ ascending_begun users None next first a below = rw (first refl) tt
 ascending_begun users (Some last) next first a below = ascending_push users last next a (ltb-true last.number next.number below)
 
 new_user : (number : ℕ) → IsUserNumber number → IsUser (record { number = number; lines = [] })
-new_user number range = record { number = range; few = omega arith; each = All-nil IsLine }
+new_user number range = record { number = range; few = omega arith; each = All-nil IsUserLine }
 
 pub begun : (users : List PlainUser) (current : Option PlainUser) (number : ℕ) (all : List PlainUser) (lines : List (List ℕ)) → IsDraft (record { users = users; current = current }) → IsUserNumber number
     → option_map_or (λ last. nat_lt last.number number) current true ≡ true → all ≡ all_of users current → length all < most_read_users → lines ≡ []
@@ -53,7 +53,7 @@ IsDraft-added : (users : List PlainUser) (last : PlainUser) (line : List ℕ) �
     → IsDraft (record { users = users; current = Some (record { number = last.number; lines = last.lines ++ line ∷ [] }) })
 IsDraft-added users last line draft glyphs room short =
     let next : PlainUser = record { number = last.number; lines = last.lines ++ line ∷ [] } in
-    let longer : IsUser last → IsUser next = λ one. record { number = one.number; few = omega (arith, length-append last.lines (line ∷ [])); each = All-push IsLine last.lines line one.each (record { glyphs = glyphs; short = short }) } in
+    let longer : IsUser last → IsUser next = λ one. record { number = one.number; few = omega (arith, length-append last.lines (line ∷ [])); each = All-push IsUserLine last.lines line one.each (record { glyphs = glyphs; short = short }) } in
     record {
       first = λ e. absurd cc;
       few = omega (arith, length-append users (last ∷ []), length-append users (next ∷ []), draft.few);

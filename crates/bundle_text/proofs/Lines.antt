@@ -11,7 +11,7 @@ use Rattle.std.proofs.lemmas.List.Concat.{flat_map-append}
 use Rattle.apl_arrays.specs.Limits.{most_line_glyphs, most_user_lines}
 use Rattle.apl_arrays.specs.Ascending.{AscendBy}
 use Rattle.bundle_text.specs.User.{PlainUser}
-use Rattle.bundle_text.specs.Bundle.{most_read_users, PlainBundle, IsUser, IsLine, IsBundle}
+use Rattle.bundle_text.specs.Bundle.{most_read_users, PlainBundle, IsUser, IsUserLine, IsBundle}
 use Rattle.bundle_text.specs.BundleLine.{PlainLine, user, input}
 use Rattle.bundle_text.specs.Draft.{PlainDraft, nothing_read, users_of, after_input, draft_after, bundle_of}
 
@@ -45,14 +45,14 @@ input_read : (users : List PlainUser) (number : ℕ) (lines : List (List ℕ)) (
 input_read users number lines line room short =
     both_pass (nat_lt (length lines) most_user_lines) (nat_le (length line) most_line_glyphs) (draft_of users number (lines ++ line ∷ [])) (lt-ltb _ _ room) (le-leb _ _ short)
 
-inputs_read : (users : List PlainUser) (number : ℕ) (lines more : List (List ℕ)) (rest : List PlainLine) → length lines + length more ≤ most_user_lines → All IsLine more
+inputs_read : (users : List PlainUser) (number : ℕ) (lines more : List (List ℕ)) (rest : List PlainLine) → length lines + length more ≤ most_user_lines → All IsUserLine more
     → bundle_from (draft_of users number lines) (map (λ line. input line) more ++ rest) ≡ bundle_from (draft_of users number (lines ++ more)) rest
 inputs_read users number lines [] rest few each =
     ap (λ (all : List (List ℕ)). bundle_from (draft_of users number all) rest) (sym (append-nil lines))
 inputs_read users number lines (line ∷ more) rest few each =
-    let one = All-head IsLine line more each in
+    let one = All-head IsUserLine line more each in
     let first = step (draft_of users number lines) (draft_of users number (lines ++ line ∷ [])) (input line) (map (λ line. input line) more ++ rest) (input_read users number lines line (omega arith) one.short) in
-    let others = inputs_read users number (lines ++ line ∷ []) more rest (omega (arith, length-append lines (line ∷ []))) (All-tail IsLine line more each) in
+    let others = inputs_read users number (lines ++ line ∷ []) more rest (omega (arith, length-append lines (line ∷ []))) (All-tail IsUserLine line more each) in
     first ∙ others ∙ ap (λ (all : List (List ℕ)). bundle_from (draft_of users number all) rest) (append_assoc lines (line ∷ []) more)
 
 -- a user

@@ -8,11 +8,11 @@ use Rattle.bundle_text.specs.declared.refused.BundleRefused.{BundleRefused}
 use Rattle.bundle_text.specs.declared.refused.BundleRefused.TheVariants.{Malformed, WantOfMemory}
 use Rattle.bundle_text.specs.Refused.{IsReason}
 use Rattle.bundle_text.specs.User.{PlainUser}
-use Rattle.bundle_text.specs.Bundle.{PlainBundle, IsUser, IsLine, IsBundle, lines_of_user, bundle_spelling, BundleText, IsNoBundle}
+use Rattle.bundle_text.specs.Bundle.{PlainBundle, IsUser, IsUserLine, IsBundle, lines_of_user, bundle_spelling, BundleText, IsNoBundle}
 use Rattle.line_text.specs.Lines.{content, end_line, line_text, lines_text, HasNoFeed}
 use Rattle.line_text.proofs.Ascii.{end_utf8}
 use Rattle.bundle_text.specs.BundleLine.{PlainLine, user, input, IsBundleLine, IsTextOf, line_spelling}
-use Rattle.bundle_text.specs.Draft.{PlainDraft, nothing_read, users_of, bundle_of, Reads, ReadsNothing}
+use Rattle.bundle_text.specs.Draft.{PlainDraft, nothing_read, users_of, bundle_of, LeadsTo, LeadsNowhere}
 use Rattle.bundle_text.proofs.Texts.{cut, line_has_no_feed, same_line, end_is_no_line}
 use Rattle.bundle_text.proofs.Lines.{bundle_from, read_of_user, read_of, bundle_read, lines_grow, step}
 
@@ -70,10 +70,10 @@ spelling_is users =
     flat_map-append line_text (flat_map lines_of_user users) (end_line ∷ [])
     ∙ ap₂ (λ (front rest : List ℕ). front ++ rest) (users_text users) (append-nil (line_text end_line) ∙ ap ended end_utf8)
 
-inputs_are_lines : (lines : List (List ℕ)) → All IsLine lines → All IsBundleLine (map (λ line. input line) lines)
+inputs_are_lines : (lines : List (List ℕ)) → All IsUserLine lines → All IsBundleLine (map (λ line. input line) lines)
 inputs_are_lines [] each = All-nil IsBundleLine
 inputs_are_lines (line ∷ lines) each =
-    All-cons IsBundleLine (input line) (map (λ line. input line) lines) (All-head IsLine line lines each).glyphs (inputs_are_lines lines (All-tail IsLine line lines each))
+    All-cons IsBundleLine (input line) (map (λ line. input line) lines) (All-head IsUserLine line lines each).glyphs (inputs_are_lines lines (All-tail IsUserLine line lines each))
 
 users_are_lines : (users : List PlainUser) → All IsUser users → All IsBundleLine (read_of users)
 users_are_lines [] each = All-nil IsBundleLine
@@ -90,7 +90,7 @@ pub record ReadSoFar (bytes rest : List ℕ) (draft : PlainDraft) : Type 0 where
 pub nothing_so_far : (bytes : List ℕ) → ReadSoFar bytes bytes nothing_read
 nothing_so_far bytes = record { whole = refl; lines = All-nil IsBundleLine; same = λ more. refl }
 
-pub goes_on : (bytes rest line after : List ℕ) (draft next : PlainDraft) → ReadSoFar bytes rest draft → rest ≡ line ++ 10 ∷ after → Reads draft line next → ReadSoFar bytes after next
+pub goes_on : (bytes rest line after : List ℕ) (draft next : PlainDraft) → ReadSoFar bytes rest draft → rest ≡ line ++ 10 ∷ after → LeadsTo draft line next → ReadSoFar bytes after next
 goes_on bytes rest line after draft next so_far front read =
     let before = read_of (users_of draft) in
     let one = read.0 in
@@ -151,7 +151,7 @@ at_line (one ∷ others) line after lines clean e ends continues =
 
 -- no line comes where none may stand
 
-pub no_bundle_at_line : (bytes rest line after : List ℕ) (draft : PlainDraft) → ReadSoFar bytes rest draft → rest ≡ line ++ 10 ∷ after → HasNoFeed line → line ≢ end_line → ReadsNothing draft line → IsNoBundle bytes
+pub no_bundle_at_line : (bytes rest line after : List ℕ) (draft : PlainDraft) → ReadSoFar bytes rest draft → rest ≡ line ++ 10 ∷ after → HasNoFeed line → line ≢ end_line → LeadsNowhere draft line → IsNoBundle bytes
 no_bundle_at_line bytes rest line after draft so_far front clean other nothing bundle text =
     let on = onward bytes rest draft bundle so_far text in
     let e : line ++ 10 ∷ (after ++ on.feed) ≡ text_of on.more ++ the_end = sym (append_assoc line (10 ∷ after) on.feed) ∙ ap (λ (text : List ℕ). text ++ on.feed) (sym front) ∙ on.text in
@@ -216,7 +216,7 @@ result_at_rest bytes rest draft (Ok bundle) so_far clean rules read = bundle_at_
 result_at_rest bytes rest draft (Err WantOfMemory) so_far clean rules read = tt
 result_at_rest bytes rest draft (Err (Malformed offset rule)) so_far clean rules read = no_bundle_at_rest bytes rest draft so_far clean read
 
-pub refused_at_line : (bytes rest line after : List ℕ) (draft : PlainDraft) (why : BundleRefused) → ReadSoFar bytes rest draft → rest ≡ line ++ 10 ∷ after → HasNoFeed line → line ≢ end_line → IsReason why (ReadsNothing draft line) → IsReason why (IsNoBundle bytes)
+pub refused_at_line : (bytes rest line after : List ℕ) (draft : PlainDraft) (why : BundleRefused) → ReadSoFar bytes rest draft → rest ≡ line ++ 10 ∷ after → HasNoFeed line → line ≢ end_line → IsReason why (LeadsNowhere draft line) → IsReason why (IsNoBundle bytes)
 refused_at_line bytes rest line after draft WantOfMemory so_far front clean other nothing = tt
 refused_at_line bytes rest line after draft (Malformed offset rule) so_far front clean other nothing = no_bundle_at_line bytes rest line after draft so_far front clean other nothing
 

@@ -12,7 +12,7 @@ use Rattle.bundle_text.specs.BundleLine.{PlainLine, user, input, IsBundleLine, I
 use Rattle.bundle_text.specs.declared.refused.BundleRefused.{BundleRefused}
 use Rattle.bundle_text.specs.declared.refused.BundleRefused.TheVariants.{Malformed, WantOfMemory}
 use Rattle.bundle_text.specs.Refused.{IsReason}
-use Rattle.bundle_text.specs.Draft.{PlainDraft, draft_after, Reads, ReadsNothing}
+use Rattle.bundle_text.specs.Draft.{PlainDraft, draft_after, LeadsTo, LeadsNowhere}
 
 pub cut : (front other after rest : List ℕ) → HasNoFeed front → HasNoFeed other → front ++ 10 ∷ after ≡ other ++ 10 ∷ rest → (front ≡ other) × (after ≡ rest)
 cut [] [] after rest a b e = (refl, cc)
@@ -56,7 +56,7 @@ end_is_no_line (input line) glyphs e = differ 101 124 (ap first_of (e ∙ conten
 
 pub line_read : (draft : PlainDraft) (bytes : List ℕ) (line : PlainLine) (result : Result PlainDraft BundleRefused) → IsTextOf line bytes
     → MatchResult result (λ next. draft_after draft line ≡ Some next) (λ why. IsReason why (draft_after draft line ≡ None))
-    → MatchResult result (λ next. Reads draft bytes next) (λ why. IsReason why (ReadsNothing draft bytes))
+    → MatchResult result (λ next. LeadsTo draft bytes next) (λ why. IsReason why (LeadsNowhere draft bytes))
 line_read draft bytes line (Ok next) text leads = (line, text, leads)
 line_read draft bytes line (Err WantOfMemory) text leads = tt
 line_read draft bytes line (Err (Malformed offset rule)) text leads =

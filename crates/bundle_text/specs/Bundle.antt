@@ -17,7 +17,7 @@ pub record PlainBundle : Type 0 where
   pub users : List PlainUser
 
 -- glyphs, 1,000 at the most
-pub record IsLine (line : List ℕ) : Type 0 where
+pub record IsUserLine (line : List ℕ) : Type 0 where
   pub glyphs : All IsGlyph line
   pub short : length line ≤ most_line_glyphs
 
@@ -29,7 +29,7 @@ IsUserNumber number = (first_user ≤ number) × (number ≤ last_user)
 pub record IsUser (user : PlainUser) : Type 0 where
   pub number : IsUserNumber user.number
   pub few : length user.lines ≤ most_user_lines
-  pub each : All IsLine user.lines
+  pub each : All IsUserLine user.lines
 
 -- what the rules ask of a bundle
 pub record IsBundle (bundle : PlainBundle) : Type 0 where

@@ -52,9 +52,9 @@ pub record IsDraft (draft : PlainDraft) : Type 0 where
   pub each : All IsUser (users_of draft)
 
 -- the bytes are a line that leads from one draft to the next
-abbrev pub Reads : PlainDraft → List ℕ → PlainDraft → Type 0
-Reads draft bytes next = (line : PlainLine) × IsTextOf line bytes × (draft_after draft line ≡ Some next)
+abbrev pub LeadsTo : PlainDraft → List ℕ → PlainDraft → Type 0
+LeadsTo draft bytes next = (line : PlainLine) × IsTextOf line bytes × (draft_after draft line ≡ Some next)
 
 -- the bytes are no line that may stand there
-abbrev pub ReadsNothing : PlainDraft → List ℕ → Type 0
-ReadsNothing draft bytes = (line : PlainLine) → IsTextOf line bytes → draft_after draft line ≡ None
+abbrev pub LeadsNowhere : PlainDraft → List ℕ → Type 0
+LeadsNowhere draft bytes = (line : PlainLine) → IsTextOf line bytes → draft_after draft line ≡ None

@@ -43,7 +43,7 @@ fn comes_next(current: &Option<BundleUser>, number: u32) -> bool
 }
 
 // All users: the whole ones, and the one whose lines were read.
-fn joined(mut users: UserList, current: Option<BundleUser>) -> Result<UserList, WantOfMemory>
+fn with_current(mut users: UserList, current: Option<BundleUser>) -> Result<UserList, WantOfMemory>
     requires { AscendBy (λ user. user.number) (users.items ++ option_to_list (option_map plain_user current)) }
     ensures { IfOk result (λ all. all.items ≡ users.items ++ option_to_list (option_map plain_user current)) }
 {
@@ -80,7 +80,7 @@ impl Draft {
         if !comes_next(&current, number) {
             return Err(BundleRefused::malformed(offset, BundleRule::Place));
         }
-        let users = joined(users, current)?;
+        let users = with_current(users, current)?;
         if users.as_slice().len() >= USER_LIMIT {
             return Err(BundleRefused::malformed(offset, BundleRule::Limit));
         }
@@ -132,6 +132,6 @@ impl Draft {
         ensures bundle { IfOk result (λ bundle. bundle ≡ bundle_of self) }
     {
         let Draft { users, current } = self;
-        Ok(Bundle::of_users(joined(users, current)?))
+        Ok(Bundle::of_users(with_current(users, current)?))
     }
 }

@@ -82,7 +82,7 @@ fn formless(alloc: Global, bytes: &[u8], offset: u64) -> BundleRefused
 
 /// The line that bytes spell, which stand at the offset; the end is none of these lines. `Malformed` with the rule that
 /// they break where they spell none. It takes memory for the glyphs.
-pub fn line_of(alloc: Global, bytes: &[u8], offset: u64) -> Result<BundleLine, BundleRefused>
+pub fn bundle_line(alloc: Global, bytes: &[u8], offset: u64) -> Result<BundleLine, BundleRefused>
     requires { offset + length bytes.now < 2 ^ 64 }
     ensures { MatchResult result (λ line. IsTextOf (plain_line line) bytes.now) (λ why. IsReason why (IsNoLine bytes.now)) }
 {

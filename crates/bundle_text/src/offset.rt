@@ -4,7 +4,7 @@ ghost use Rattle.apl_arrays.specs.List.{glyphs_in};
 ghost use Rattle.apl_arrays.specs.Limits.{most_user_lines};
 ghost use Rattle.line_text.specs.Lines.{content, user_lines, lines_text};
 ghost use Rattle.bundle_text.specs.User.{plain_user};
-ghost use Rattle.bundle_text.specs.Bundle.{most_read_users, lines_of_user, IsLine, IsUser};
+ghost use Rattle.bundle_text.specs.Bundle.{most_read_users, lines_of_user, IsUserLine, IsUser};
 ghost use Rattle.bundle_text.specs.Offset.{offset_of};
 
 use crate::user::BundleUser;
@@ -14,7 +14,7 @@ use line_text::{heading_size, line_size};
 // How many bytes lines of input take, each with its bar.
 fn contents_size(lines: &[Line]) -> u64
     requires few { length lines.now ≤ most_user_lines }
-    requires each { All IsLine (map glyphs_in lines.now) }
+    requires each { All IsUserLine (map glyphs_in lines.now) }
     ensures value { result ≡ length (lines_text (map content (map glyphs_in lines.now))) }
     ensures small { result ≤ 3002 * length lines.now }
 {

@@ -1,12 +1,12 @@
 ghost use Rattle.std.specs.Prelude.{◌≡◌, ◌≢◌, ◌+◌, ◌<◌, ◌^◌, [], ◌∷◌, ◌++◌, All, IsTrue, ◌↔◌, IfOk, IfErr, ℕ, List, length, MatchOption, MatchResult};
 ghost use Rattle.line_text.specs.Lines.{line_feed, end_line};
 ghost use Rattle.bundle_text.specs.Bundle.{PlainBundle, IsBundle, BundleText, IsNoBundle};
-ghost use Rattle.bundle_text.specs.Draft.{bundle_of, Reads, ReadsNothing};
+ghost use Rattle.bundle_text.specs.Draft.{bundle_of, LeadsTo, LeadsNowhere};
 ghost use Rattle.bundle_text.specs.Refused.{IsReason};
 
 use crate::Bundle;
 use crate::draft::Draft;
-use crate::line::{glyphs_at, line_of};
+use crate::line::{bundle_line, glyphs_at};
 use crate::refused::{BundleRefused, BundleRule};
 use line_text::first_line;
 use std::alloc::Global;
@@ -43,7 +43,7 @@ fn behind_end(alloc: Global, after: &[u8], offset: u64) -> BundleRefused
     if is_end(line) {
         return BundleRefused::malformed(offset, BundleRule::Place);
     }
-    match line_of(alloc, line, offset) {
+    match bundle_line(alloc, line, offset) {
         Ok(_) => BundleRefused::malformed(offset, BundleRule::Place),
         Err(why) => why,
     }
@@ -78,11 +78,11 @@ fn last(alloc: Global, draft: Draft, rest: &[u8], offset: u64) -> Result<Bundle,
 }
 
 // The draft with one line more, which stands at the offset.
-fn with_line(alloc: Global, draft: Draft, line: &[u8], offset: u64) -> Result<Draft, BundleRefused>
+fn next_draft(alloc: Global, draft: Draft, line: &[u8], offset: u64) -> Result<Draft, BundleRefused>
     requires { offset + length line.now < 2 ^ 64 }
-    ensures { MatchResult result (λ next. Reads draft line.now next) (λ why. IsReason why (ReadsNothing draft line.now)) }
+    ensures { MatchResult result (λ next. LeadsTo draft line.now next) (λ why. IsReason why (LeadsNowhere draft line.now)) }
 {
-    let read = line_of(alloc, line, offset)?;
+    let read = bundle_line(alloc, line, offset)?;
     draft.with(alloc, read, offset)
 }
 
@@ -97,7 +97,7 @@ fn read_lines(alloc: Global, bytes: &[u8]) -> Result<Bundle, BundleRefused>
         if is_end(line) {
             return finished(alloc, draft, after, offset + 4);
         }
-        draft = with_line(alloc, draft, line, offset)?;
+        draft = next_draft(alloc, draft, line, offset)?;
         rest = after;
     }
     last(alloc, draft, rest, (bytes.len() - rest.len()) as u64)

@@ -26,7 +26,7 @@ fn fields(alloc: Global, row: &str) -> Result<Vec<&str>, AllocError> {
 }
 
 // What a row says behind so many fields.
-fn behind(row: &str, count: usize) -> Option<&str> {
+fn after_fields(row: &str, count: usize) -> Option<&str> {
     row.splitn(count.saturating_add(1), SEPARATOR).nth(count)
 }
 
@@ -37,7 +37,7 @@ fn row_differs<R: Print + AllocGlobal, T: Trial>(
     trial: &T,
     row: &str,
 ) -> Result<bool> {
-    let wanted = behind(row, trial.given()).context("nothing says what is wanted")?;
+    let wanted = after_fields(row, trial.given()).context("nothing says what is wanted")?;
     let wanted = bytes_of(rt.alloc(), wanted)?;
     let found = trial.found(rt.alloc(), &fields(rt.alloc(), row)?)?;
     if found.as_bytes() == wanted.as_slice() {

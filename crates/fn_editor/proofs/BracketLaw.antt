@@ -9,9 +9,9 @@ use Rattle.std.proofs.lemmas.Option.{same_Some}
 use Rattle.apl_arrays.specs.Glyph.{delta, digit, is_digit, period, quad, right_bracket}
 use Rattle.apl_arrays.specs.Run.{begins}
 use Rattle.apl_arrays.proofs.Runs.{drop_run, run_passes, run_splits, take_run}
-use Rattle.fn_editor.specs.Bracket.{bracket_in, closed_here, number_in, place, tenth_in, whole_of, with_number, with_tenth}
+use Rattle.fn_editor.specs.Bracket.{bracket_in, bracket_with_number, closed_here, line_number_in, place, tenth_in, whole_of, with_tenth}
 use Rattle.fn_editor.specs.Grammar.{IsBracket, IsNumberText, IsWritten}
-use Rattle.fn_editor.specs.Number.{most_whole, number_of, tenth_text}
+use Rattle.fn_editor.specs.Number.{line_number, most_whole, tenth_text}
 use Rattle.fn_editor.specs.declared.bracket.Bracket.{Bracket}
 use Rattle.fn_editor.specs.declared.bracket.Bracket.TheVariants.{Show, Delete, Header, At}
 
@@ -99,7 +99,7 @@ front_by text (Some whole) number rest e is =
     let behind = drop (prefix_len is_digit text) text in
     let cut = split behind in
     let tenth = (tenth_in behind).0 in
-    let pair = same_Some (number_of whole tenth, (tenth_in behind).1) (number, rest) is in
+    let pair = same_Some (line_number whole tenth, (tenth_in behind).1) (number, rest) is in
     let read = whole_by digits whole (eqb (length digits) 0) (nat_le (digits_value 10 digits) most_whole) refl refl e in
     record {
       written = digits ++ tenth_text tenth;
@@ -112,11 +112,11 @@ front_by text (Some whole) number rest e is =
         some = read.some;
         small = read.small;
         one_digit = cut.one_digit;
-        value = sym (ap (λ (p : ℕ × List ℕ). p.0) pair) ∙ ap (λ (n : ℕ). number_of n tenth) read.value;
+        value = sym (ap (λ (p : ℕ × List ℕ). p.0) pair) ∙ ap (λ (n : ℕ). line_number n tenth) read.value;
       };
     }
 
-front : (text : List ℕ) (number : ℕ) (rest : List ℕ) → number_in text ≡ Some (number, rest) → IsFront text number rest
+front : (text : List ℕ) (number : ℕ) (rest : List ℕ) → line_number_in text ≡ Some (number, rest) → IsFront text number rest
 front text number rest is = front_by text (whole_of (take_while is_digit text)) number rest refl is
 
 -- a number is written up to a bracket that is closed
@@ -127,7 +127,7 @@ record IsClosed (asks : ℕ → Bracket) (text : List ℕ) (bracket : Bracket) (
   whole : text ≡ written ++ right_bracket ∷ rest
   is_number : IsNumberText written number
 
-numbered_by : (asks : ℕ → Bracket) (text : List ℕ) (bracket : Bracket) (rest : List ℕ) (found : Option (ℕ × List ℕ)) → number_in text ≡ found → with_number asks found ≡ Some (bracket, rest) → IsClosed asks text bracket rest
+numbered_by : (asks : ℕ → Bracket) (text : List ℕ) (bracket : Bracket) (rest : List ℕ) (found : Option (ℕ × List ℕ)) → line_number_in text ≡ found → bracket_with_number asks found ≡ Some (bracket, rest) → IsClosed asks text bracket rest
 numbered_by asks text bracket rest None e is = absurd cc
 numbered_by asks text bracket rest (Some found) e is =
     let ends = closed bracket (asks found.0) found.1 rest is in
@@ -141,17 +141,17 @@ placed text number false e h =
     (omega (arith, some), h)
 
 written_by : (first : ℕ) (behind : List ℕ) (bracket : Bracket) (rest : List ℕ) (shows deletes : Bool) → eqb first quad ≡ shows → eqb first delta ≡ deletes
-    → cond shows (closed_here Show behind) (cond deletes (with_number Delete (number_in behind)) (with_number place (number_in (first ∷ behind)))) ≡ Some (bracket, rest) → IsBracket (first ∷ behind) bracket rest
+    → cond shows (closed_here Show behind) (cond deletes (bracket_with_number Delete (line_number_in behind)) (bracket_with_number place (line_number_in (first ∷ behind)))) ≡ Some (bracket, rest) → IsBracket (first ∷ behind) bracket rest
 written_by first behind bracket rest true deletes e f is =
     let ends = closed bracket Show behind rest is in
     let here : first ≡ quad = eqb-true first quad e in
     record { written = quad ∷ []; whole = λ i. here i ∷ ends.1 i; is = subst (λ (b : Bracket). IsWritten b (quad ∷ [])) ends.0 refl }
 written_by first behind bracket rest false true e f is =
-    let read = numbered_by Delete behind bracket rest (number_in behind) refl is in
+    let read = numbered_by Delete behind bracket rest (line_number_in behind) refl is in
     let here : first ≡ delta = eqb-true first delta f in
     record { written = delta ∷ read.written; whole = λ i. here i ∷ read.whole i; is = subst (λ (b : Bracket). IsWritten b (delta ∷ read.written)) read.asked (read.written, (refl, read.is_number)) }
 written_by first behind bracket rest false false e f is =
-    let read = numbered_by place (first ∷ behind) bracket rest (number_in (first ∷ behind)) refl is in
+    let read = numbered_by place (first ∷ behind) bracket rest (line_number_in (first ∷ behind)) refl is in
     record { written = read.written; whole = read.whole; is = subst (λ (b : Bracket). IsWritten b read.written) read.asked (placed read.written read.number (eqb read.number 0) refl read.is_number) }
 
 pub bracket_is_written : (text : List ℕ) (bracket : Bracket) (rest : List ℕ) → bracket_in text ≡ Some (bracket, rest) → IsBracket text bracket rest
@@ -183,12 +183,12 @@ whole_found digits some small =
     ap (λ (b : Bool). cond b None (cond (nat_le (digits_value 10 digits) most_whole) (Some (digits_value 10 digits)) None)) not_none
     ∙ ap (λ (b : Bool). cond b (Some (digits_value 10 digits)) None) (is_at_most (digits_value 10 digits) most_whole small)
 
-number_found : (written : List ℕ) (number : ℕ) (rest : List ℕ) → IsNumberText written number → number_in (written ++ right_bracket ∷ rest) ≡ Some (number, right_bracket ∷ rest)
+number_found : (written : List ℕ) (number : ℕ) (rest : List ℕ) → IsNumberText written number → line_number_in (written ++ right_bracket ∷ rest) ≡ Some (number, right_bracket ∷ rest)
 number_found written number rest h =
     let behind = behind_digits h.tenth rest in
     let found = tenth_found h.tenth rest h.one_digit in
     let text : written ++ right_bracket ∷ rest ≡ h.digits ++ behind = ap (λ (l : List ℕ). l ++ right_bracket ∷ rest) h.whole ∙ append_assoc h.digits (tenth_text h.tenth) (right_bracket ∷ rest) in
-    ap number_in text
+    ap line_number_in text
     ∙ ap (λ (l : List ℕ). with_tenth (whole_of l) (tenth_in (drop (prefix_len is_digit (h.digits ++ behind)) (h.digits ++ behind)))) (take_run is_digit h.digits behind h.are_digits found.1)
     ∙ ap (λ (l : List ℕ). with_tenth (whole_of h.digits) (tenth_in l)) (drop_run is_digit h.digits behind h.are_digits found.1)
     ∙ ap (λ (o : Option ℕ). with_tenth o (tenth_in behind)) (whole_found h.digits h.some h.small)
@@ -216,21 +216,21 @@ number_apart : (written more : List ℕ) (number : ℕ) → IsNumberText written
 number_apart written more number h =
     subst IsApart (sym (ap (λ (l : List ℕ). l ++ more) h.whole ∙ append_assoc h.digits (tenth_text h.tenth) more)) (apart_by h.digits (tenth_text h.tenth ++ more) h.some h.are_digits)
 
-alone : (text : List ℕ) → IsApart text → bracket_in text ≡ with_number place (number_in text)
+alone : (text : List ℕ) → IsApart text → bracket_in text ≡ bracket_with_number place (line_number_in text)
 alone text h =
     ap bracket_in h.whole
-    ∙ ap (λ (b : Bool). cond b (closed_here Show h.behind) (cond (eqb h.first delta) (with_number Delete (number_in h.behind)) (with_number place (number_in (h.first ∷ h.behind))))) h.no_quad
-    ∙ ap (λ (b : Bool). cond b (with_number Delete (number_in h.behind)) (with_number place (number_in (h.first ∷ h.behind)))) h.no_delta
-    ∙ sym (ap (λ (l : List ℕ). with_number place (number_in l)) h.whole)
+    ∙ ap (λ (b : Bool). cond b (closed_here Show h.behind) (cond (eqb h.first delta) (bracket_with_number Delete (line_number_in h.behind)) (bracket_with_number place (line_number_in (h.first ∷ h.behind))))) h.no_quad
+    ∙ ap (λ (b : Bool). cond b (bracket_with_number Delete (line_number_in h.behind)) (bracket_with_number place (line_number_in (h.first ∷ h.behind)))) h.no_delta
+    ∙ sym (ap (λ (l : List ℕ). bracket_with_number place (line_number_in l)) h.whole)
 
 read_by : (bracket : Bracket) (written rest : List ℕ) → IsWritten bracket written → bracket_in (written ++ right_bracket ∷ rest) ≡ Some (bracket, rest)
 read_by Show written rest is = ap (λ (l : List ℕ). bracket_in (l ++ right_bracket ∷ rest)) is
 read_by (Delete number) written rest (digits, is) =
-    ap (λ (l : List ℕ). bracket_in (l ++ right_bracket ∷ rest)) is.0 ∙ ap (with_number Delete) (number_found digits number rest is.1)
-read_by Header written rest is = alone (written ++ right_bracket ∷ rest) (number_apart written (right_bracket ∷ rest) 0 is) ∙ ap (with_number place) (number_found written 0 rest is)
+    ap (λ (l : List ℕ). bracket_in (l ++ right_bracket ∷ rest)) is.0 ∙ ap (bracket_with_number Delete) (number_found digits number rest is.1)
+read_by Header written rest is = alone (written ++ right_bracket ∷ rest) (number_apart written (right_bracket ∷ rest) 0 is) ∙ ap (bracket_with_number place) (number_found written 0 rest is)
 read_by (At number) written rest is =
     let some : eqb number 0 ≡ false = not_same number 0 (λ none. absurd (omega (arith, is.0, none))) in
-    alone (written ++ right_bracket ∷ rest) (number_apart written (right_bracket ∷ rest) number is.1) ∙ ap (with_number place) (number_found written number rest is.1)
+    alone (written ++ right_bracket ∷ rest) (number_apart written (right_bracket ∷ rest) number is.1) ∙ ap (bracket_with_number place) (number_found written number rest is.1)
     ∙ ap (λ (b : Bool). Some (cond b Header (At number), rest)) some
 
 pub written_is_bracket : (text : List ℕ) (bracket : Bracket) (rest : List ℕ) → IsBracket text bracket rest → bracket_in text ≡ Some (bracket, rest)

@@ -14,9 +14,9 @@ use Rattle.apl_workspace.specs.Limits.{most_function_lines}
 use Rattle.apl_workspace.specs.Meaning.{IsWhole}
 use Rattle.apl_workspace.specs.declared.meaning.Meaning.{Meaning}
 use Rattle.apl_workspace.specs.declared.meaning.Meaning.TheVariants.{Function}
-use Rattle.fn_editor.specs.Editing.{may_enter, moved}
-use Rattle.fn_editor.specs.Number.{most_whole, whole}
-use Rattle.fn_editor.specs.Editor.{IsEditor, Lines, PlainEditor, function_of, has_line, numbered, with_line, without_line}
+use Rattle.fn_editor.specs.Editing.{may_enter, with_current_number}
+use Rattle.fn_editor.specs.Number.{most_whole, whole_part}
+use Rattle.fn_editor.specs.Editor.{IsEditor, Lines, PlainEditor, defined_function, has_line, numbered, with_line_at, without_line}
 use Rattle.fn_editor.proofs.Numbered.{length_numbered, values_numbered}
 
 fewer_by : (test : ℕ → Bool) (line : ℕ × List ℕ) (lines : Lines) (b : Bool) → test line.0 ≡ b → length (remove_entry test lines) ≤ length lines → length (remove_entry test (line ∷ lines)) ≤ length (line ∷ lines)
@@ -37,7 +37,7 @@ deleted_is_editor editor number at lines h e = record {
 }
 
 -- with a line more, or another in its place
-pub entered_is_editor : (editor : PlainEditor) (number at : ℕ) (text : List ℕ) (lines : Lines) → IsEditor editor → lines ≡ with_line editor.lines number text → length text ≤ most_line_glyphs → length lines ≤ most_function_lines → IsEditor (record editor { lines = lines; number = at })
+pub entered_is_editor : (editor : PlainEditor) (number at : ℕ) (text : List ℕ) (lines : Lines) → IsEditor editor → lines ≡ with_line_at editor.lines number text → length text ≤ most_line_glyphs → length lines ≤ most_function_lines → IsEditor (record editor { lines = lines; number = at })
 entered_is_editor editor number at text lines h e short few = record {
   header = h.header;
   text = h.text;
@@ -46,7 +46,7 @@ entered_is_editor editor number at text lines h e short few = record {
 }
 
 -- what is defined at the close is a function
-pub function_is_whole : (editor : PlainEditor) → IsEditor editor → IsFunction (function_of editor)
+pub function_is_whole : (editor : PlainEditor) → IsEditor editor → IsFunction (defined_function editor)
 function_is_whole editor h = record {
   header = h.header;
   text = h.text;
@@ -65,7 +65,7 @@ at_most a b e = grind (arith, nat_tests)
 below : (a b : ℕ) → ltb a b ≡ true → a < b
 below a b e = grind (arith, nat_tests)
 
-entered_by : (editor : PlainEditor) (number at : ℕ) (text : List ℕ) (lines : Lines) (has : Bool) → IsEditor editor → leb (length text) most_line_glyphs ≡ true → has || ltb (length editor.lines) most_function_lines ≡ true → lines ≡ with_line editor.lines number text → length lines ≡ length editor.lines + cond has 0 1 → IsEditor (record editor { lines = lines; number = at })
+entered_by : (editor : PlainEditor) (number at : ℕ) (text : List ℕ) (lines : Lines) (has : Bool) → IsEditor editor → leb (length text) most_line_glyphs ≡ true → has || ltb (length editor.lines) most_function_lines ≡ true → lines ≡ with_line_at editor.lines number text → length lines ≡ length editor.lines + cond has 0 1 → IsEditor (record editor { lines = lines; number = at })
 entered_by editor number at text lines true h short room e size =
     let same : length lines ≡ length editor.lines + 0 = size in
     entered_is_editor editor number at text lines h e (at_most (length text) most_line_glyphs short) (omega (arith, h.count, same))
@@ -75,10 +75,10 @@ entered_by editor number at text lines false h short room e size =
     entered_is_editor editor number at text lines h e (at_most (length text) most_line_glyphs short) (omega (arith, few, more))
 
 -- with text that may enter
-pub entered_keeps : (editor : PlainEditor) (number at : ℕ) (text : List ℕ) (lines : Lines) → IsEditor editor → may_enter (moved editor number) text ≡ true → lines ≡ with_line editor.lines number text → length lines ≡ length editor.lines + cond (has_line editor.lines number) 0 1 → IsEditor (record editor { lines = lines; number = at })
+pub entered_keeps : (editor : PlainEditor) (number at : ℕ) (text : List ℕ) (lines : Lines) → IsEditor editor → may_enter (with_current_number editor number) text ≡ true → lines ≡ with_line_at editor.lines number text → length lines ≡ length editor.lines + cond (has_line editor.lines number) 0 1 → IsEditor (record editor { lines = lines; number = at })
 entered_keeps editor number at text lines h may e size =
-    let parts = and_parts (leb (length text) most_line_glyphs && leb (whole number) most_whole) (has_line editor.lines number || ltb (length editor.lines) most_function_lines) may in
-    let first = and_parts (leb (length text) most_line_glyphs) (leb (whole number) most_whole) parts.0 in
+    let parts = and_parts (leb (length text) most_line_glyphs && leb (whole_part number) most_whole) (has_line editor.lines number || ltb (length editor.lines) most_function_lines) may in
+    let first = and_parts (leb (length text) most_line_glyphs) (leb (whole_part number) most_whole) parts.0 in
     entered_by editor number at text lines (has_line editor.lines number) h first.0 parts.1 e size
 
 -- a function that is opened

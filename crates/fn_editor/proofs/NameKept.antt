@@ -14,9 +14,9 @@ use Rattle.apl_workspace.specs.declared.meaning.Meaning.TheVariants.{Function}
 use Rattle.apl_workspace.proofs.InOrder.{same_test}
 use Rattle.apl_workspace.proofs.NameLaw as names
 use Rattle.fn_editor.specs.Bracket.{bracket_in}
-use Rattle.fn_editor.specs.Closing.{behind, is_blank_text}
+use Rattle.fn_editor.specs.Closing.{behind_glyph, is_blank_text}
 use Rattle.apl_arrays.specs.Name.{same_name}
-use Rattle.fn_editor.specs.Editing.{Edited, by_bracket, commanded, deleted, edited, edited_by, entered, is_in_reach, may_enter, moved, quietly, with_header, with_text}
+use Rattle.fn_editor.specs.Editing.{Edited, by_bracket, commanded, deleted, edited, edited_by, entered, is_in_reach, may_enter, quietly, with_current_number, with_header, with_text}
 use Rattle.fn_editor.specs.Editor.{PlainEditor, has_line, shown}
 use Rattle.fn_editor.specs.declared.bracket.Bracket.{Bracket}
 use Rattle.fn_editor.specs.declared.bracket.Bracket.TheVariants.{Show, Delete, Header, At}
@@ -58,8 +58,8 @@ deleted_by : (editor : PlainEditor) (number : ℕ) (b : Bool) → KeepsName edit
 deleted_by editor number true = refl
 deleted_by editor number false = tt
 
-reached_by : (editor : PlainEditor) (number : ℕ) (text : List ℕ) (b : Bool) → KeepsName editor.header.name (cond b (option_map quietly (with_text (moved editor number) text)) None)
-reached_by editor number text true = quietly_named editor.header.name (with_text (moved editor number) text) (text_by (moved editor number) text (is_blank_text text) (may_enter (moved editor number) text))
+reached_by : (editor : PlainEditor) (number : ℕ) (text : List ℕ) (b : Bool) → KeepsName editor.header.name (cond b (option_map quietly (with_text (with_current_number editor number) text)) None)
+reached_by editor number text true = quietly_named editor.header.name (with_text (with_current_number editor number) text) (text_by (with_current_number editor number) text (is_blank_text text) (may_enter (with_current_number editor number) text))
 reached_by editor number text false = tt
 
 commanded_named : (editor : PlainEditor) (bracket : Bracket) (text : List ℕ) → KeepsName editor.header.name (commanded editor bracket text)
@@ -78,7 +78,7 @@ edited_named editor line (Some rest) = bracket_named editor (bracket_in rest)
 
 -- what a line does keeps the name
 pub edited_keeps_name : (editor : PlainEditor) (line : List ℕ) (done : Edited) → edited editor line ≡ Some done → done.editor.header.name ≡ editor.header.name
-edited_keeps_name editor line done is = subst (KeepsName editor.header.name) is (edited_named editor line (behind left_bracket (without_blanks line)))
+edited_keeps_name editor line done is = subst (KeepsName editor.header.name) is (edited_named editor line (behind_glyph left_bracket (without_blanks line)))
 
 -- so does what a bracket does
 pub bracket_keeps_name : (editor : PlainEditor) (rest : List ℕ) (done : Edited) → by_bracket editor (bracket_in rest) ≡ Some done → done.editor.header.name ≡ editor.header.name

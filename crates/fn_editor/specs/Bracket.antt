@@ -3,7 +3,7 @@ use Rattle.std.specs.Prelude.{◌-◌, ◌&&◌, ◌==◌, ℕ, List, [], ◌∷
 use Rattle.std.specs.List.{prefix_len}
 use Rattle.std.specs.Str.Parse.{digits_value}
 use Rattle.apl_arrays.specs.Glyph.{delta, digit, is_digit, period, quad, right_bracket}
-use Rattle.fn_editor.specs.Number.{most_whole, number_of}
+use Rattle.fn_editor.specs.Number.{line_number, most_whole}
 use Rattle.fn_editor.specs.declared.bracket.Bracket.{Bracket}
 use Rattle.fn_editor.specs.declared.bracket.Bracket.TheVariants.{Show, Delete, Header, At}
 
@@ -19,11 +19,11 @@ tenth_in text = (0, text)
 -- a whole number and the tenth behind it, and what follows
 abbrev pub with_tenth : Option ℕ → ℕ × List ℕ → Option (ℕ × List ℕ)
 with_tenth None found = None
-with_tenth (Some whole) found = Some (number_of whole found.0, found.1)
+with_tenth (Some whole) found = Some (line_number whole found.0, found.1)
 
 -- the number at the front, n or n.d, and what follows
-abbrev pub number_in : List ℕ → Option (ℕ × List ℕ)
-number_in text = with_tenth (whole_of (take_while is_digit text)) (tenth_in (drop (prefix_len is_digit text) text))
+abbrev pub line_number_in : List ℕ → Option (ℕ × List ℕ)
+line_number_in text = with_tenth (whole_of (take_while is_digit text)) (tenth_in (drop (prefix_len is_digit text) text))
 
 -- a bracket that is closed here, and what follows it
 abbrev pub closed_here : Bracket → List ℕ → Option (Bracket × List ℕ)
@@ -35,11 +35,11 @@ abbrev pub place : ℕ → Bracket
 place number = if number == 0 then Header else At number
 
 -- a bracket that asks this of a number, and what follows it
-abbrev pub with_number : (ℕ → Bracket) → Option (ℕ × List ℕ) → Option (Bracket × List ℕ)
-with_number asks None = None
-with_number asks (Some found) = closed_here (asks found.0) found.1
+abbrev pub bracket_with_number : (ℕ → Bracket) → Option (ℕ × List ℕ) → Option (Bracket × List ℕ)
+bracket_with_number asks None = None
+bracket_with_number asks (Some found) = closed_here (asks found.0) found.1
 
 -- what a bracket asks, behind its [, and what follows it: ⎕], ∆n], n] or a number with a tenth
 abbrev pub bracket_in : List ℕ → Option (Bracket × List ℕ)
 bracket_in [] = None
-bracket_in (first ∷ rest) = if first == quad then closed_here Show rest else if first == delta then with_number Delete (number_in rest) else with_number place (number_in (first ∷ rest))
+bracket_in (first ∷ rest) = if first == quad then closed_here Show rest else if first == delta then bracket_with_number Delete (line_number_in rest) else bracket_with_number place (line_number_in (first ∷ rest))

@@ -8,9 +8,9 @@ abbrev pub is_blank_text : List ℕ → Bool
 is_blank_text text = list_all is_blank text
 
 -- what follows a glyph that stands at the front
-abbrev pub behind : ℕ → List ℕ → Option (List ℕ)
-behind glyph [] = None
-behind glyph (first ∷ rest) = if first == glyph then Some rest else None
+abbrev pub behind_glyph : ℕ → List ℕ → Option (List ℕ)
+behind_glyph glyph [] = None
+behind_glyph glyph (first ∷ rest) = if first == glyph then Some rest else None
 
 -- what stands before a closing ∇ with one glyph more in front, or before that glyph where it is the closing ∇
 abbrev pub before_close_at : ℕ → List ℕ → Option (List ℕ) → Option (List ℕ)
@@ -23,8 +23,8 @@ before_close [] = None
 before_close (first ∷ rest) = before_close_at first rest (before_close rest)
 
 -- the line closes the definition
-abbrev pub closes : List ℕ → Bool
-closes line = is_some (before_close line)
+abbrev pub closes_definition : List ℕ → Bool
+closes_definition line = is_some (before_close line)
 
 -- what is done before it closes, or without closing
 abbrev pub body : List ℕ → List ℕ

@@ -11,9 +11,9 @@ use Rattle.apl_workspace.specs.Blanks.{without_blanks}
 use Rattle.apl_workspace.specs.Header.{PlainHeader, header_of}
 use Rattle.apl_workspace.specs.Limits.{most_function_lines}
 use Rattle.fn_editor.specs.Bracket.{bracket_in}
-use Rattle.fn_editor.specs.Closing.{behind, body, closes, is_blank_text}
-use Rattle.fn_editor.specs.Editor.{PlainEditor, has_line, last_number, shown, with_line, without_line}
-use Rattle.fn_editor.specs.Number.{most_whole, next, whole}
+use Rattle.fn_editor.specs.Closing.{behind_glyph, body, closes_definition, is_blank_text}
+use Rattle.fn_editor.specs.Editor.{PlainEditor, has_line, last_number, shown, with_line_at, without_line}
+use Rattle.fn_editor.specs.Number.{most_whole, next, whole_part}
 use Rattle.fn_editor.specs.declared.bracket.Bracket.{Bracket}
 use Rattle.fn_editor.specs.declared.bracket.Bracket.TheVariants.{Show, Delete, Header, At}
 
@@ -23,18 +23,18 @@ pub record Edited : Type 0 where
   pub shown : List (List ℕ)
 
 -- the definition with its number moved
-abbrev pub moved : PlainEditor → ℕ → PlainEditor
-moved editor number = record editor { number = number }
+abbrev pub with_current_number : PlainEditor → ℕ → PlainEditor
+with_current_number editor number = record editor { number = number }
 
 -- text may become the line at the number: it has at most 1,000 glyphs, the number is not over 999, and there are not 200 other lines
 abbrev pub may_enter : PlainEditor → List ℕ → Bool
 may_enter editor text =
-    nat_le (length text) most_line_glyphs && nat_le (whole editor.number) most_whole
+    nat_le (length text) most_line_glyphs && nat_le (whole_part editor.number) most_whole
     && (has_line editor.lines editor.number || nat_lt (length editor.lines) most_function_lines)
 
 -- text is put in at the number, over a line that stands there, and the next number is current
 abbrev pub entered : PlainEditor → List ℕ → PlainEditor
-entered editor text = record editor { lines = with_line editor.lines editor.number text; number = next editor.number }
+entered editor text = record editor { lines = with_line_at editor.lines editor.number text; number = next editor.number }
 
 -- the definition with text entered at its number; blank text changes nothing
 abbrev pub with_text : PlainEditor → List ℕ → Option PlainEditor
@@ -52,7 +52,7 @@ with_header editor text (Some header) =
 
 -- a line may be asked for at most one past the whole part of the last line's number
 abbrev pub is_in_reach : PlainEditor → ℕ → Bool
-is_in_reach editor number = nat_le (whole number) (whole (last_number 0 editor.lines) + 1)
+is_in_reach editor number = nat_le (whole_part number) (whole_part (last_number 0 editor.lines) + 1)
 
 -- nothing is shown
 abbrev pub quietly : PlainEditor → Edited
@@ -63,7 +63,7 @@ abbrev pub commanded : PlainEditor → Bracket → List ℕ → Option Edited
 commanded editor Show text = if is_blank_text text then Some (record { editor = editor; shown = shown editor }) else None
 commanded editor (Delete number) text = if is_blank_text text && has_line editor.lines number then Some (quietly (deleted editor number)) else None
 commanded editor Header text = option_map quietly (with_header editor text (header_of text))
-commanded editor (At number) text = if is_in_reach editor number then option_map quietly (with_text (moved editor number) text) else None
+commanded editor (At number) text = if is_in_reach editor number then option_map quietly (with_text (with_current_number editor number) text) else None
 
 -- what a bracket does, where it is one
 abbrev pub by_bracket : PlainEditor → Option (Bracket × List ℕ) → Option Edited
@@ -77,7 +77,7 @@ edited_by editor line (Some rest) = by_bracket editor (bracket_in rest)
 
 -- what a line without a closing ∇ does: a bracket at its start does what it asks, and any other line is text
 abbrev pub edited : PlainEditor → List ℕ → Option Edited
-edited editor line = edited_by editor line (behind left_bracket (without_blanks line))
+edited editor line = edited_by editor line (behind_glyph left_bracket (without_blanks line))
 
 -- and then the definition is closed, or stays open
 abbrev pub then_closed : Bool → Edited → Edited
@@ -85,7 +85,7 @@ then_closed closed result = record result { editor = record result.editor { clos
 
 -- what a line does: none is DEFN ERROR, which changes nothing
 abbrev pub fed : PlainEditor → List ℕ → Option Edited
-fed editor line = option_map (then_closed (closes line)) (edited editor (body line))
+fed editor line = option_map (then_closed (closes_definition line)) (edited editor (body line))
 
 -- why nothing was done: DEFN ERROR, where the rules give nothing, or memory ran out
 abbrev pub IsRefused : {A : Type 0} → Option A → Fail → Type 0

@@ -8,7 +8,7 @@ use Rattle.apl_arrays.specs.Limits.{most_line_glyphs}
 use Rattle.apl_workspace.specs.Function.{PlainFunction}
 use Rattle.apl_workspace.specs.Header.{PlainHeader, header_of}
 use Rattle.apl_workspace.specs.Limits.{most_function_lines}
-use Rattle.fn_editor.specs.Number.{number_of, whole}
+use Rattle.fn_editor.specs.Number.{line_number, whole_part}
 use Rattle.fn_editor.specs.Prompt.{prompt_text}
 
 -- lines with their numbers, which ascend
@@ -28,8 +28,8 @@ abbrev pub has_line : Lines → ℕ → Bool
 has_line lines number = is_some (lookup (is_at (nat_cmp number)) lines)
 
 -- the lines with this text at a number, in place of one that is there
-abbrev pub with_line : Lines → ℕ → List ℕ → Lines
-with_line lines number text = insert_entry nat_cmp lines number text
+abbrev pub with_line_at : Lines → ℕ → List ℕ → Lines
+with_line_at lines number text = insert_entry nat_cmp lines number text
 
 -- the lines without the one at a number
 abbrev pub without_line : Lines → ℕ → Lines
@@ -43,15 +43,15 @@ last_number number (line ∷ lines) = last_number line.0 lines
 -- lines with whole numbers, from this one on
 abbrev pub numbered : ℕ → List (List ℕ) → Lines
 numbered whole [] = []
-numbered whole (line ∷ lines) = (number_of whole 0, line) ∷ numbered (whole + 1) lines
+numbered whole (line ∷ lines) = (line_number whole 0, line) ∷ numbered (whole + 1) lines
 
 -- a function's definition as it is opened: its lines have whole numbers, and the current number is the next
 abbrev pub editor_of : PlainFunction → PlainEditor
-editor_of function = record { text = function.text; header = function.header; lines = numbered 1 function.lines; number = number_of (length function.lines + 1) 0; closed = false }
+editor_of function = record { text = function.text; header = function.header; lines = numbered 1 function.lines; number = line_number (length function.lines + 1) 0; closed = false }
 
 -- what is defined at the close: the lines in their order, numbered from 1
-abbrev pub function_of : PlainEditor → PlainFunction
-function_of editor = record { text = editor.text; header = editor.header; lines = values_of editor.lines }
+abbrev pub defined_function : PlainEditor → PlainFunction
+defined_function editor = record { text = editor.text; header = editor.header; lines = values_of editor.lines }
 
 -- a line behind its prompt
 abbrev pub shown_line : ℕ × List ℕ → List ℕ

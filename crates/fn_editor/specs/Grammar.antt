@@ -3,7 +3,7 @@ use Rattle.std.specs.Prelude.{◌≡◌, ◌<◌, ◌≤◌, ◌++◌, ℕ, true
 use Rattle.std.specs.List.{list_all}
 use Rattle.std.specs.Str.Parse.{digits_value}
 use Rattle.apl_arrays.specs.Glyph.{delta, is_digit, quad, right_bracket}
-use Rattle.fn_editor.specs.Number.{most_whole, number_of, tenth_text}
+use Rattle.fn_editor.specs.Number.{line_number, most_whole, tenth_text}
 use Rattle.fn_editor.specs.declared.bracket.Bracket.{Bracket}
 use Rattle.fn_editor.specs.declared.bracket.Bracket.TheVariants.{Show, Delete, Header, At}
 
@@ -16,7 +16,7 @@ pub record IsNumberText (text : List ℕ) (number : ℕ) : Type 0 where
   pub some : 0 < length digits
   pub small : digits_value 10 digits ≤ most_whole
   pub one_digit : tenth ≤ 9
-  pub value : number ≡ number_of (digits_value 10 digits) tenth
+  pub value : number ≡ line_number (digits_value 10 digits) tenth
 
 -- what stands between [ and ]: ⎕ shows, ∆ and a number deletes, and a number alone goes there, or to the header where it is 0
 abbrev pub IsWritten : Bracket → List ℕ → Type 0

@@ -11,12 +11,12 @@ abbrev pub most_number : ℕ
 most_number = 10000
 
 -- the number of a whole part and of the digit behind the point, which is 0 where there is none
-abbrev pub number_of : ℕ → ℕ → ℕ
-number_of whole tenth = 10 * whole + tenth
+abbrev pub line_number : ℕ → ℕ → ℕ
+line_number whole tenth = 10 * whole + tenth
 
 -- the whole part
-abbrev pub whole : ℕ → ℕ
-whole number = number / 10
+abbrev pub whole_part : ℕ → ℕ
+whole_part number = number / 10
 
 -- the digit behind the point, 0 where there is none
 abbrev pub tenth : ℕ → ℕ
@@ -31,5 +31,5 @@ abbrev pub tenth_text : ℕ → List ℕ
 tenth_text tenth = if tenth == 0 then [] else period ∷ digit tenth ∷ []
 
 -- the number as text
-abbrev pub number_text : ℕ → List ℕ
-number_text number = decimal (whole number) ++ tenth_text (tenth number)
+abbrev pub line_number_text : ℕ → List ℕ
+line_number_text number = decimal (whole_part number) ++ tenth_text (tenth number)

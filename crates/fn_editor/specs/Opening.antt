@@ -10,14 +10,14 @@ use Rattle.apl_workspace.specs.Workspace.{PlainWorkspace, global_in}
 use Rattle.apl_workspace.specs.declared.meaning.Meaning.{Meaning}
 use Rattle.apl_workspace.specs.declared.meaning.Meaning.TheVariants.{Nothing, Value, Function, Label, Shared}
 use Rattle.fn_editor.specs.Bracket.{bracket_in}
-use Rattle.fn_editor.specs.Closing.{behind, body, closes}
+use Rattle.fn_editor.specs.Closing.{behind_glyph, body, closes_definition}
 use Rattle.fn_editor.specs.Editing.{Edited, by_bracket, quietly, then_closed}
 use Rattle.fn_editor.specs.Editor.{PlainEditor, editor_of}
-use Rattle.fn_editor.specs.Number.{number_of}
+use Rattle.fn_editor.specs.Number.{line_number}
 
 -- a new definition: no lines, and the number is 1
 abbrev pub new_editor : List ℕ → PlainHeader → PlainEditor
-new_editor text header = record { text = text; header = header; lines = []; number = number_of 1 0; closed = false }
+new_editor text header = record { text = text; header = header; lines = []; number = line_number 1 0; closed = false }
 
 -- a header that is a name and nothing else
 abbrev pub is_bare : PlainHeader → Bool
@@ -47,7 +47,7 @@ opened_at rest (Shared copy) = None
 -- a name, and what follows the bracket behind it
 abbrev pub bracket_behind : List ℕ → Option (List ℕ × ℕ) → Option (List ℕ × List ℕ)
 bracket_behind text None = None
-bracket_behind text (Some found) = option_map (λ rest. (found.0, rest)) (behind left_bracket (without_blanks (drop found.1 text)))
+bracket_behind text (Some found) = option_map (λ rest. (found.0, rest)) (behind_glyph left_bracket (without_blanks (drop found.1 text)))
 
 -- the name at the front, and what follows the bracket behind it, where one stands there
 abbrev pub name_with_bracket : List ℕ → Option (List ℕ × List ℕ)
@@ -65,8 +65,8 @@ opened_by w text = opened_with w text (name_with_bracket text)
 -- what a line opens behind its first ∇: none is DEFN ERROR
 abbrev pub opened_behind : PlainWorkspace → Option (List ℕ) → Option Edited
 opened_behind w None = None
-opened_behind w (Some rest) = option_map (then_closed (closes rest)) (opened_by w (body rest))
+opened_behind w (Some rest) = option_map (then_closed (closes_definition rest)) (opened_by w (body rest))
 
 -- what a line opens: none is DEFN ERROR, and nothing is opened
 abbrev pub opened : PlainWorkspace → List ℕ → Option Edited
-opened w line = opened_behind w (behind del (without_blanks line))
+opened w line = opened_behind w (behind_glyph del (without_blanks line))

@@ -1,11 +1,11 @@
 -- The prompt of a number.
 use Rattle.std.specs.Prelude.{◌-◌, ◌++◌, ℕ, List, [], ◌∷◌, length, max, replicate}
 use Rattle.apl_arrays.specs.Glyph.{blank, left_bracket, right_bracket}
-use Rattle.fn_editor.specs.Number.{number_text}
+use Rattle.fn_editor.specs.Number.{line_number_text}
 
 -- the number in brackets
 abbrev pub bracketed_number : ℕ → List ℕ
-bracketed_number number = left_bracket ∷ number_text number ++ right_bracket ∷ []
+bracketed_number number = left_bracket ∷ line_number_text number ++ right_bracket ∷ []
 
 -- so many blanks fill a prompt: one at least, and so many that it has six glyphs
 abbrev pub filling : ℕ → ℕ

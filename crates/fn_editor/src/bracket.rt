@@ -4,9 +4,9 @@ ghost use Rattle.std.specs.Char.{digit_value};
 ghost use Rattle.std.specs.Str.Parse.{digits_value};
 ghost use Rattle.apl_arrays.specs.Glyph.{is_digit};
 ghost use Rattle.fn_editor.specs.Number.{most_whole};
-ghost use Rattle.fn_editor.specs.Bracket.{bracket_in, closed_here, number_in, place, tenth_in, whole_of, with_number};
+ghost use Rattle.fn_editor.specs.Bracket.{bracket_in, bracket_with_number, closed_here, line_number_in, place, tenth_in, whole_of};
 
-use crate::closing::behind;
+use crate::closing::behind_glyph;
 use crate::number::{LineNumber, WHOLE_LIMIT};
 use apl_arrays::{Glyph, digit_count};
 
@@ -35,9 +35,9 @@ pub fn bracket_in(text: &[Glyph]) -> Option<(Bracket, &[Glyph])>
 
 // A bracket that deletes the line of a number, and what follows it.
 fn deletion_in(text: &[Glyph]) -> Option<(Bracket, &[Glyph])>
-    ensures { option_map (λ found. (found.0, found.1.now)) result ≡ with_number Bracket.Delete (number_in text.now) }
+    ensures { option_map (λ found. (found.0, found.1.now)) result ≡ bracket_with_number Bracket.Delete (line_number_in text.now) }
 {
-    match number_in(text) {
+    match line_number_in(text) {
         None => None,
         Some((number, rest)) => closed_here(Bracket::Delete(number), rest),
     }
@@ -45,9 +45,9 @@ fn deletion_in(text: &[Glyph]) -> Option<(Bracket, &[Glyph])>
 
 // A bracket with a number, and what follows it.
 fn place_in(text: &[Glyph]) -> Option<(Bracket, &[Glyph])>
-    ensures { option_map (λ found. (found.0, found.1.now)) result ≡ with_number place (number_in text.now) }
+    ensures { option_map (λ found. (found.0, found.1.now)) result ≡ bracket_with_number place (line_number_in text.now) }
 {
-    match number_in(text) {
+    match line_number_in(text) {
         None => None,
         Some((number, rest)) => closed_here(place(number), rest),
     }
@@ -57,7 +57,7 @@ fn place_in(text: &[Glyph]) -> Option<(Bracket, &[Glyph])>
 fn closed_here(bracket: Bracket, text: &[Glyph]) -> Option<(Bracket, &[Glyph])>
     ensures { option_map (λ found. (found.0, found.1.now)) result ≡ closed_here bracket text.now }
 {
-    let rest = behind(text, Glyph::RIGHT_BRACKET)?;
+    let rest = behind_glyph(text, Glyph::RIGHT_BRACKET)?;
     Some((bracket, rest))
 }
 
@@ -74,8 +74,8 @@ fn place(number: LineNumber) -> Bracket
 
 // The number at the front, n or n.d, and what follows.
 #[tactic(auto, using(line_scanner::proofs::Digits::digits_at_front))]
-fn number_in(text: &[Glyph]) -> Option<(LineNumber, &[Glyph])>
-    ensures { option_map (λ found. (found.0, found.1.now)) result ≡ number_in text.now }
+fn line_number_in(text: &[Glyph]) -> Option<(LineNumber, &[Glyph])>
+    ensures { option_map (λ found. (found.0, found.1.now)) result ≡ line_number_in text.now }
 {
     let count = digit_count(text);
     let whole = whole_of(&text[..count])?;

@@ -1,6 +1,6 @@
 ghost use Rattle.std.specs.Prelude.{◌≡◌, ◌<◌, ◌+◌, true, false, drop, length, option_copied, slice_index};
 ghost use Rattle.apl_arrays.specs.Glyph.{is_blank};
-ghost use Rattle.fn_editor.specs.Closing.{before_close, behind, body, closes, is_blank_text};
+ghost use Rattle.fn_editor.specs.Closing.{before_close, behind_glyph, body, closes_definition, is_blank_text};
 
 use apl_arrays::Glyph;
 
@@ -12,8 +12,8 @@ pub fn is_blank_text(text: &[Glyph]) -> bool
 }
 
 /// What follows a glyph at the front, where it stands there. No memory.
-pub fn behind(line: &[Glyph], glyph: Glyph) -> Option<&[Glyph]>
-    ensures { option_copied result ≡ behind glyph line.now }
+pub fn behind_glyph(line: &[Glyph], glyph: Glyph) -> Option<&[Glyph]>
+    ensures { option_copied result ≡ behind_glyph glyph line.now }
 {
     match line {
         [first, rest @ ..] if *first == glyph => Some(rest),
@@ -24,7 +24,7 @@ pub fn behind(line: &[Glyph], glyph: Glyph) -> Option<&[Glyph]>
 /// What is done of a line, and whether the line closes the definition: it ends with ∇, blanks aside. No memory.
 pub fn split_close(line: &[Glyph]) -> (&[Glyph], bool)
     ensures body { result.0.now ≡ body line.now }
-    ensures closes { result.1 ≡ closes line.now }
+    ensures closes { result.1 ≡ closes_definition line.now }
 {
     match before_close(line) {
         None => (line, false),

@@ -24,7 +24,7 @@ impl LineText {
         ensures { IfOk result (λ text. text ≡ glyphs.now) }
     {
         Ok(LineText {
-            line: line_of(alloc, glyphs)?,
+            line: copied_line(alloc, glyphs)?,
         })
     }
 
@@ -44,7 +44,7 @@ impl LineText {
 }
 
 /// A line of these glyphs. It takes memory for them.
-pub fn line_of(alloc: Global, glyphs: &[Glyph]) -> Result<Line, WantOfMemory>
+pub fn copied_line(alloc: Global, glyphs: &[Glyph]) -> Result<Line, WantOfMemory>
     ensures { IfOk result (λ line. line.items ≡ glyphs.now) }
 {
     Ok(Line::from(Vec::from_slice(alloc, glyphs)?))

@@ -12,16 +12,16 @@ ghost use Rattle.apl_workspace.specs.Meaning.{is_variable_meaning};
 ghost use Rattle.apl_workspace.specs.declared.meaning.Meaning.{Meaning};
 ghost use Rattle.apl_workspace.specs.Workspace.{IsFull, global_in, with_global, workspace_weight};
 ghost use Rattle.fn_editor.specs.Bracket.{bracket_in};
-ghost use Rattle.fn_editor.specs.Closing.{behind};
-ghost use Rattle.fn_editor.specs.Editing.{IsRefused, by_bracket, commanded, deleted, edited, fed, is_in_reach, may_enter, moved, quietly, with_header, with_text};
-ghost use Rattle.fn_editor.specs.Editor.{editor_of, function_of, has_line, numbered, shown, with_line, without_line};
-ghost use Rattle.fn_editor.specs.Number.{number_of};
+ghost use Rattle.fn_editor.specs.Closing.{behind_glyph};
+ghost use Rattle.fn_editor.specs.Editing.{IsRefused, by_bracket, commanded, deleted, edited, fed, is_in_reach, may_enter, quietly, with_current_number, with_header, with_text};
+ghost use Rattle.fn_editor.specs.Editor.{defined_function, editor_of, has_line, numbered, shown, with_line_at, without_line};
+ghost use Rattle.fn_editor.specs.Number.{line_number};
 ghost use Rattle.fn_editor.specs.Opening.{new_editor};
 ghost use Rattle.fn_editor.specs.Prompt.{prompt_text};
 
 use crate::bracket::{Bracket, bracket_in};
-use crate::closing::{behind, is_blank_text, split_close};
-use crate::content::{LineText, line_of};
+use crate::closing::{behind_glyph, is_blank_text, split_close};
+use crate::content::{LineText, copied_line};
 use crate::number::{LineNumber, WHOLE_LIMIT};
 use crate::prompt::Prompt;
 use crate::showing::shown;
@@ -111,10 +111,10 @@ impl Editor {
     pub fn close(self, ws: &mut Workspace) -> Result<(), Fail>
         requires closed { self.closed ≡ true }
         requires no_variable { is_variable_meaning (global_in ws.old self.header.name) ≡ false }
-        ensures ok { OnOk result (ws.new ≡ with_global ws.old self.header.name (Meaning.Function (function_of self))) }
-        ensures fits { OnOk result (workspace_weight (with_global ws.old self.header.name (Meaning.Function (function_of self))) ≤ most_weight) }
+        ensures ok { OnOk result (ws.new ≡ with_global ws.old self.header.name (Meaning.Function (defined_function self))) }
+        ensures fits { OnOk result (workspace_weight (with_global ws.old self.header.name (Meaning.Function (defined_function self))) ≤ most_weight) }
         ensures err { OnErr result (ws.new ≡ ws.old) }
-        ensures full { IfErr result (IsFull (with_global ws.old self.header.name (Meaning.Function (function_of self)))) }
+        ensures full { IfErr result (IsFull (with_global ws.old self.header.name (Meaning.Function (defined_function self)))) }
     {
         let function = self.into_function()?;
         ws.define(function)
@@ -165,7 +165,7 @@ impl Editor {
         ensures refused { IfErr result (λ fail. IsRefused (edited self.old line.now) fail) }
         ensures err { OnErr result (self.new ≡ self.old) }
     {
-        match behind(without_blanks(line), Glyph::LEFT_BRACKET) {
+        match behind_glyph(without_blanks(line), Glyph::LEFT_BRACKET) {
             None => {
                 let number = self.number;
                 self.enter(number, line)?;
@@ -222,8 +222,8 @@ impl Editor {
 
     // Text enters at a number, and the number moves on; blank text only moves the number there.
     fn enter(&mut self, number: LineNumber, text: &[Glyph]) -> Result<(), Fail>
-        ensures ok { OnOk result (with_text (moved self.old number) text.now ≡ Some self.new) }
-        ensures refused { IfErr result (λ fail. IsRefused (with_text (moved self.old number) text.now) fail) }
+        ensures ok { OnOk result (with_text (with_current_number self.old number) text.now ≡ Some self.new) }
+        ensures refused { IfErr result (λ fail. IsRefused (with_text (with_current_number self.old number) text.now) fail) }
         ensures err { OnErr result (self.new ≡ self.old) }
     {
         if is_blank_text(text) {
@@ -240,10 +240,10 @@ impl Editor {
     }
 
     fn may_enter(&self, number: LineNumber, text: &[Glyph]) -> bool
-        ensures { result ≡ may_enter (moved self.now number) text.now }
+        ensures { result ≡ may_enter (with_current_number self.now number) text.now }
     {
         text.len() <= LINE_GLYPH_LIMIT
-            && number.whole() <= WHOLE_LIMIT
+            && number.whole_part() <= WHOLE_LIMIT
             && (self.lines.contains_key(&number) || self.lines.len() < FUNCTION_LINE_LIMIT)
     }
 
@@ -264,8 +264,8 @@ impl Editor {
         ensures { result ≡ is_in_reach self.now number }
     {
         match self.lines.last_key_value() {
-            None => number.whole() <= 1,
-            Some((last, _)) => number.whole() <= last.whole() + 1,
+            None => number.whole_part() <= 1,
+            Some((last, _)) => number.whole_part() <= last.whole_part() + 1,
         }
     }
 
@@ -289,7 +289,7 @@ impl Editor {
         ensures refused { IfErr result (λ fail. IsRefused (option_map quietly (with_header self.old text.now (header_of text.now))) fail) }
         ensures err { OnErr result (self.new ≡ self.old) }
     {
-        let text = line_of(self.alloc, text)?;
+        let text = copied_line(self.alloc, text)?;
         match Header::read(self.alloc, &text)? {
             None => Err(Fail::Report(Report::Defn)),
             Some(header) => self.take_header(text, header),
@@ -312,7 +312,7 @@ impl Editor {
 
     // The function of the definition.
     fn into_function(self) -> Result<Function, WantOfMemory>
-        ensures value { IfOk result (λ function. function ≡ function_of self) }
+        ensures value { IfOk result (λ function. function ≡ defined_function self) }
         ensures whole { IfOk result (λ function. IsFunction function) }
     {
         let mut lines = LineList::new(self.alloc);
@@ -334,7 +334,7 @@ fn numbered(
     lines: &[Line],
 ) -> Result<(BTreeMap<LineNumber, LineText>, LineNumber), WantOfMemory>
     requires { length lines.now ≤ most_function_lines }
-    ensures { IfOk result (λ found. (found.0.entries ≡ numbered 1 (map glyphs_in lines.now)) × (found.1 ≡ number_of (length lines.now + 1) 0)) }
+    ensures { IfOk result (λ found. (found.0.entries ≡ numbered 1 (map glyphs_in lines.now)) × (found.1 ≡ line_number (length lines.now + 1) 0)) }
 {
     let mut map = BTreeMap::new(alloc);
     let mut number = LineNumber::of(1, 0);
@@ -351,7 +351,7 @@ fn put_line(
     number: LineNumber,
     text: LineText,
 ) -> Result<(), WantOfMemory>
-    ensures ok { OnOk result (lines.new.entries ≡ with_line lines.old.entries number text) }
+    ensures ok { OnOk result (lines.new.entries ≡ with_line_at lines.old.entries number text) }
     ensures len { OnOk result (btree_map_len lines.new ≡ btree_map_len lines.old + (if has_line lines.old.entries number then 0 else 1)) }
     ensures err { OnErr result (lines.new.entries ≡ lines.old.entries) }
 {

@@ -4,7 +4,7 @@ ghost use Rattle.std.specs.Prelude.{◌≡◌, ◌↔◌, ◌<◌, ◌+◌, ℕ,
 ghost use Rattle.fn_editor.specs.Closing.{IsBeforeClose, before_close};
 ghost use Rattle.fn_editor.specs.Bracket.{bracket_in};
 ghost use Rattle.fn_editor.specs.Grammar.{IsBracket};
-ghost use Rattle.fn_editor.specs.Number.{most_whole, next, number_of};
+ghost use Rattle.fn_editor.specs.Number.{line_number, most_whole, next};
 
 use crate::bracket::Bracket;
 use crate::number::WHOLE_LIMIT;
@@ -12,9 +12,9 @@ use crate::number::WHOLE_LIMIT;
 /// Whole numbers go on by one, tenths by a tenth, and the ninth tenth by the next whole number. The call does nothing.
 /// No memory.
 pub fn numbers_go_on_in_tenths()
-    ensures whole { (n : ℕ) → next (number_of n 0) ≡ number_of (n + 1) 0 }
-    ensures tenth { (n d : ℕ) → 0 < d → d < 9 → next (number_of n d) ≡ number_of n (d + 1) }
-    ensures ninth { (n : ℕ) → next (number_of n 9) ≡ number_of (n + 1) 0 }
+    ensures whole { (n : ℕ) → next (line_number n 0) ≡ line_number (n + 1) 0 }
+    ensures tenth { (n d : ℕ) → 0 < d → d < 9 → next (line_number n d) ≡ line_number n (d + 1) }
+    ensures ninth { (n : ℕ) → next (line_number n 9) ≡ line_number (n + 1) 0 }
 {}
 
 /// A line closes exactly where it ends with ∇, blanks aside, and all before that is done. The call does nothing. No

@@ -1,5 +1,5 @@
 ghost use Rattle.std.specs.Prelude.{◌≡◌, ◌+◌, ◌<◌, ◌≤◌};
-ghost use Rattle.fn_editor.specs.Number.{most_number, most_whole, next, number_of, tenth, whole};
+ghost use Rattle.fn_editor.specs.Number.{line_number, most_number, most_whole, next, tenth, whole_part};
 
 use std::marker::Model;
 
@@ -30,7 +30,7 @@ impl LineNumber {
     pub fn of(whole: u16, tenth: u8) -> LineNumber
         requires whole { whole ≤ most_whole }
         requires tenth { tenth < 10 }
-        ensures { result ≡ number_of whole tenth }
+        ensures { result ≡ line_number whole tenth }
     {
         LineNumber {
             tenths: 10 * whole + u16::from(tenth),
@@ -38,8 +38,8 @@ impl LineNumber {
     }
 
     /// The whole part. No memory.
-    pub fn whole(self) -> u16
-        ensures value { result ≡ whole self }
+    pub fn whole_part(self) -> u16
+        ensures value { result ≡ whole_part self }
         ensures within { result ≤ most_whole + 1 }
         ensures limit { self ≤ most_number }
     {
@@ -57,7 +57,7 @@ impl LineNumber {
     /// The number that comes next: one more, or behind a point a tenth more, and behind the ninth tenth the next whole
     /// number. No memory.
     pub fn next(self) -> LineNumber
-        requires { whole self ≤ most_whole }
+        requires { whole_part self ≤ most_whole }
         ensures { result ≡ next self }
     {
         let step = if self.tenths % 10 == 0 { 10 } else { 1 };

@@ -9,8 +9,8 @@ ghost use Rattle.fn_editor.specs.Bracket.{bracket_in};
 ghost use Rattle.fn_editor.specs.Opening.{is_bare, name_with_bracket, opened, opened_as, opened_at, opened_by, opened_by_header};
 
 use crate::Editor;
-use crate::closing::{behind, split_close};
-use crate::content::line_of;
+use crate::closing::{behind_glyph, split_close};
+use crate::content::copied_line;
 use apl_arrays::{Fail, Glyph, LINE_GLYPH_LIMIT, Line, LineList, Name, Report};
 use apl_workspace::{Header, Seen, Workspace, without_blanks};
 use std::alloc::Global;
@@ -34,7 +34,7 @@ impl Editor {
         ensures closed { IfOk result (λ done. done.closed ≡ done.editor.closed) }
         ensures refused { IfErr result (λ fail. IsRefused (opened ws.now line.now.items) fail) }
     {
-        match behind(without_blanks(line.as_slice()), Glyph::DEL) {
+        match behind_glyph(without_blanks(line.as_slice()), Glyph::DEL) {
             None => Err(Fail::Report(Report::Defn)),
             Some(rest) => {
                 let (body, closes) = split_close(rest);
@@ -67,7 +67,7 @@ fn name_with_bracket(text: &[Glyph]) -> Option<(Name, &[Glyph])>
 {
     let text = without_blanks(text);
     let (name, count) = Name::longest(text)?;
-    let rest = behind(without_blanks(&text[count..]), Glyph::LEFT_BRACKET)?;
+    let rest = behind_glyph(without_blanks(&text[count..]), Glyph::LEFT_BRACKET)?;
     Some((name, rest))
 }
 
@@ -99,7 +99,7 @@ fn open_by_header(alloc: Global, text: &[Glyph], ws: &Workspace) -> Result<(Edit
     ensures no_variable { IfOk result (λ done. is_variable_meaning (global_in ws.now done.0.header.name) ≡ false) }
     ensures refused { IfErr result (λ fail. IsRefused (opened_by_header ws.now text.now (header_of text.now)) fail) }
 {
-    let text = line_of(alloc, text)?;
+    let text = copied_line(alloc, text)?;
     match Header::read(alloc, &text)? {
         None => Err(Fail::Report(Report::Defn)),
         Some(header) => {

@@ -2,7 +2,7 @@ ghost use Rattle.std.specs.Prelude.{◌≡◌, ◌+◌, ◌<◌, ◌≤◌, ◌+
 ghost use Rattle.std.specs.List.{list_all};
 ghost use Rattle.line_text.specs.Spaced.{is_plain};
 ghost use Rattle.apl_arrays.specs.Glyph.{blank};
-ghost use Rattle.fn_editor.specs.Number.{number_text, tenth_text};
+ghost use Rattle.fn_editor.specs.Number.{line_number_text, tenth_text};
 ghost use Rattle.fn_editor.specs.Prompt.{bracketed_number, filling, prompt_text};
 
 use crate::number::LineNumber;
@@ -52,7 +52,7 @@ impl Prompt {
     {
         let mut prompt = Prompt::new();
         prompt.push(Glyph::LEFT_BRACKET);
-        prompt.push_count(number.whole());
+        prompt.push_count(number.whole_part());
         prompt.push_tenth(number.tenth());
         prompt.push(Glyph::RIGHT_BRACKET);
         prompt.fill();

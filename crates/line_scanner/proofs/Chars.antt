@@ -3,7 +3,7 @@ use Rattle.std.proofs.Common.{◌≡◌, ℕ, suc, ◌+◌, ◌<◌, ◌≤◌, 
 use Rattle.std.proofs.lemmas.List.{append-nil, drop_all}
 use Rattle.std.specs.Bool.{beq}
 use Rattle.line_scanner.specs.Role.{is_quote}
-use Rattle.line_scanner.specs.Number.{behind}
+use Rattle.line_scanner.specs.Number.{found_after}
 use Rattle.line_scanner.specs.Scanning.{with_char, chars_by, chars_from}
 
 -- characters that were read, up to a place, before those that are found from it on
@@ -25,9 +25,9 @@ onto-with_char read at glyph (Some found) =
     let glyphs : at + 1 + found.1 ≡ at + (1 + found.1) = omega arith in
     rw (append_assoc read (glyph ∷ []) found.0, glyphs) refl
 
-onto-behind : (read : List ℕ) (at : ℕ) (found : Option (List ℕ × ℕ)) → onto read (at + 1) found ≡ onto read at (behind 1 found)
-onto-behind read at None = refl
-onto-behind read at (Some found) = let glyphs : at + 1 + found.1 ≡ at + (1 + found.1) = omega arith in rw glyphs refl
+onto-found_after : (read : List ℕ) (at : ℕ) (found : Option (List ℕ × ℕ)) → onto read (at + 1) found ≡ onto read at (found_after 1 found)
+onto-found_after read at None = refl
+onto-found_after read at (Some found) = let glyphs : at + 1 + found.1 ≡ at + (1 + found.1) = omega arith in rw glyphs refl
 
 -- what the glyph at a place gives, by whether it is a quote
 read_at : (closing quote : Bool) (line read : List ℕ) (at glyph : ℕ) (all : Option (List ℕ × ℕ)) → at < length line → glyph ≡ get_or line at glyph → is_quote glyph ≡ quote
@@ -51,7 +51,7 @@ pub reads_quote : (closing quote now : Bool) (line read same : List ℕ) (at gly
 reads_quote true quote now line read same at glyph all lt e is differs was p q so_far = absurd cc
 reads_quote false false now line read same at glyph all lt e is differs was p q so_far = absurd cc
 reads_quote false true now line read same at glyph all lt e is differs was p q so_far =
-    rw (p, q, onto-behind read at (chars_from true (drop (at + 1) line))) (read_at false true line read at glyph all lt e (sym is) so_far)
+    rw (p, q, onto-found_after read at (chars_from true (drop (at + 1) line))) (read_at false true line read at glyph all lt e (sym is) so_far)
 
 -- a quote that closed
 pub reads_close : (closing quote : Bool) (line read : List ℕ) (at glyph : ℕ) (all : Option (List ℕ × ℕ)) → at < length line → glyph ≡ get_or line at glyph → quote ≡ is_quote glyph → beq closing quote ≡ false → closing ≡ true

@@ -4,7 +4,7 @@ use Rattle.std.specs.List.{flat_map}
 use Rattle.std.proofs.lemmas.Bool.{eqb-true}
 use Rattle.std.proofs.lemmas.List.{length-append, append-nil}
 use Rattle.line_scanner.specs.Role.{is_quote}
-use Rattle.line_scanner.specs.Number.{behind}
+use Rattle.line_scanner.specs.Number.{found_after}
 use Rattle.line_scanner.specs.Scanning.{with_char, chars_by, chars_from}
 use Rattle.apl_arrays.specs.Glyph as named
 use Rattle.apl_arrays.specs.Run.{begins}
@@ -111,7 +111,7 @@ char_onto : (g : ℕ) (list : List ℕ) (n m : ℕ) (found : Option (List ℕ ×
 char_onto g list n m None e = refl
 char_onto g list n m (Some found) e = let same : 1 + (n + found.1) ≡ m + found.1 = omega (arith, e) in ap (λ (k : ℕ). Some (g ∷ (list ++ found.0), k)) same
 
-behind_onto : (list : List ℕ) (n m : ℕ) (found : Option (List ℕ × ℕ)) → 1 + n ≡ m → behind 1 (onto list n found) ≡ onto list m found
+behind_onto : (list : List ℕ) (n m : ℕ) (found : Option (List ℕ × ℕ)) → 1 + n ≡ m → found_after 1 (onto list n found) ≡ onto list m found
 behind_onto list n m None e = refl
 behind_onto list n m (Some found) e = let same : 1 + (n + found.1) ≡ m + found.1 = omega (arith, e) in ap (λ (k : ℕ). Some (list ++ found.0, k)) same
 
@@ -119,7 +119,7 @@ doubled_by : (quote : Bool) (g : ℕ) (list beyond : List ℕ) (found : Option (
     → chars_from false (doubled g ++ beyond) ≡ onto (g ∷ list) (length (doubled g) + n) found
 unfolding chars_from
 doubled_by false g list beyond found n is e = rw (is, is, e) (char_onto g list n (1 + n) found refl)
-doubled_by true g list beyond found n is e = rw (is, is, e) (ap (behind 1) (char_onto g list n (1 + n) found refl) ∙ behind_onto (g ∷ list) (1 + n) (2 + n) found (omega arith))
+doubled_by true g list beyond found n is e = rw (is, is, e) (ap (found_after 1) (char_onto g list n (1 + n) found refl) ∙ behind_onto (g ∷ list) (1 + n) (2 + n) found (omega arith))
 
 nothing_onto : (found : Option (List ℕ × ℕ)) → found ≡ onto [] 0 found
 nothing_onto None = refl

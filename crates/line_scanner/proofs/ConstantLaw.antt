@@ -8,9 +8,9 @@ use Rattle.std.proofs.lemmas.List.{length-append}
 use Rattle.std.proofs.lemmas.List.Folds.{length-prefix_len}
 use Rattle.apl_arrays.specs.Glyph as named
 use Rattle.apl_arrays.specs.Glyph.{is_blank, is_digit}
-use Rattle.line_scanner.specs.Number.{number, next_number, next_numbers, numbers_then, with_number, constant}
+use Rattle.line_scanner.specs.Number.{number, next_number, next_numbers, numbers_then, number_with_more, constant}
 use Rattle.apl_arrays.specs.Run.{begins}
-use Rattle.line_scanner.specs.Grammar.{AreBlank, AreDigits, overbar, NumberNext, AreNext, IsConstant, NoNumberNext}
+use Rattle.line_scanner.specs.Grammar.{AreBlank, AreDigits, overbar_if, NumberNext, AreNext, IsNumericConstant, NoNumberNext}
 use Rattle.apl_arrays.proofs.Runs.{run_passes, run_splits, drop_run, run_is, begins_both, begins_front}
 use Rattle.line_scanner.proofs.Numbers.{nothing_next, next_numbers_some, next_numbers_none}
 use Rattle.line_scanner.proofs.NumberLaw.{NumberTaken, number_sound, number_complete}
@@ -50,7 +50,7 @@ digit_not_blank : (g : ℕ) → is_digit g ≡ true → is_blank g ≡ false
 digit_not_blank g e = grind (arith, nat_tests)
 
 -- a number does not begin with a blank
-not_blank : (number others : List ℕ) (negative : Bool) (digits : List ℕ) → number ≡ overbar negative ++ digits → AreDigits digits → begins is_blank (number ++ others) ≡ false
+not_blank : (number others : List ℕ) (negative : Bool) (digits : List ℕ) → number ≡ overbar_if negative ++ digits → AreDigits digits → begins is_blank (number ++ others) ≡ false
 not_blank number others true digits e are = ap (λ (xs : List ℕ). begins is_blank (xs ++ others)) e
 not_blank number others false [] e are = absurd (omega (arith, are.some))
 not_blank number others false (d ∷ digits) e are =
@@ -149,7 +149,7 @@ pub record ConstantTaken (line : List ℕ) (values : List ℤ) (taken : ℕ) : T
   pub text : List ℕ
   pub rest : List ℕ
   pub whole : line ≡ text ++ rest
-  pub is_constant : IsConstant values text
+  pub is_constant : IsNumericConstant values text
   pub ends : NoNumberNext rest
   pub len : taken ≡ length text
   pub some : 0 < taken
@@ -168,7 +168,7 @@ constant_by line value n values m h t =
     }
 
 -- what is computed is a constant
-pub constant_sound : (line : List ℕ) (first : ℤ × ℕ) → number line ≡ Some first → ConstantTaken line (with_number first (next_numbers first.1 line)).0 (with_number first (next_numbers first.1 line)).1
+pub constant_sound : (line : List ℕ) (first : ℤ × ℕ) → number line ≡ Some first → ConstantTaken line (number_with_more first (next_numbers first.1 line)).0 (number_with_more first (next_numbers first.1 line)).1
 constant_sound line first e =
     let h = number_sound line first e in
     let more = next_numbers first.1 line in
@@ -205,13 +205,13 @@ numbers_complete (value ∷ values) text rest (others, h, next) none =
     } in
     let found = next_complete (text ++ rest) value (others ++ rest) here in
     let digits = h.first.is_number.are_digits.some in
-    let some : 0 < n = omega (arith, digits, ap length h.first.is_number.spelled, length-append (overbar h.first.is_number.negative) h.first.is_number.digits) in
+    let some : 0 < n = omega (arith, digits, ap length h.first.is_number.spelled, length-append (overbar_if h.first.is_number.negative) h.first.is_number.digits) in
     let len : n ≡ length (h.blanks ++ number) = omega (arith, length-append h.blanks number) in
     let behind : next_numbers (0 + n) (text ++ rest) ≡ (values, length others) = ap (λ (k : ℕ). next_numbers k (text ++ rest)) (omega arith) ∙ ap (next_numbers n) whole ∙ numbers_behind (h.blanks ++ number) (others ++ rest) n len ∙ numbers_complete values others rest next none in
     let total : n + length others ≡ length text = omega (arith, len, ap length split, length-append (h.blanks ++ number) others) in
-    next_numbers_some 0 (text ++ rest) (value, n) found some ∙ ap (with_number (value, n)) behind ∙ ap (λ (k : ℕ). (value ∷ values, k)) total
+    next_numbers_some 0 (text ++ rest) (value, n) found some ∙ ap (number_with_more (value, n)) behind ∙ ap (λ (k : ℕ). (value ∷ values, k)) total
 
-pub constant_complete : (values : List ℤ) (text rest : List ℕ) → IsConstant values text → NoNumberNext rest → constant (text ++ rest) ≡ Some (values, length text)
+pub constant_complete : (values : List ℤ) (text rest : List ℕ) → IsNumericConstant values text → NoNumberNext rest → constant (text ++ rest) ≡ Some (values, length text)
 constant_complete [] text rest e none = absurd e
 constant_complete (value ∷ values) text rest (others, h, next) none =
     let ends : begins is_digit (others ++ rest) ≡ false = begins_both is_digit others rest h.ends none.no_digit in

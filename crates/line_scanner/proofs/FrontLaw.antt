@@ -13,11 +13,11 @@ use Rattle.apl_arrays.specs.declared.system.SystemName.{SystemName}
 use Rattle.apl_arrays.specs.declared.system.SystemName.TheVariants.{Svo, Svc, Svr, Svq, Svs}
 use Rattle.line_scanner.specs.Token.{PlainKind, numbers, chars, name, system, sign}
 use Rattle.line_scanner.specs.Role.{role_of, is_quote}
-use Rattle.line_scanner.specs.Number.{behind, number, constant_then, constant}
+use Rattle.line_scanner.specs.Number.{found_after, number, constant_then, constant}
 use Rattle.line_scanner.specs.Scanning.{PlainFront, nothing, blank, token, unused, malformed, chars_from, system_name, name_front, constant_front, chars_front, system_front, front_by, front_of}
 use Rattle.apl_arrays.specs.Run.{begins}
 use Rattle.apl_arrays.specs.System.{system_text}
-use Rattle.line_scanner.specs.Grammar.{AreDigits, overbar, IsText, EndsBefore, quoted, doubled, EndsLine, at_end, at_comment, IsUnused, IsMalformed, no_digit, out_of_range, open_quote, long_name, no_system_name, IsConstant}
+use Rattle.line_scanner.specs.Grammar.{AreDigits, overbar_if, IsTokenText, EndsBefore, quoted, doubled, EndsLine, at_end, at_comment, IsUnused, BeginsNoToken, no_digit, out_of_range, open_quote, long_name, no_system_name, IsNumericConstant}
 use Rattle.line_scanner.proofs.Roles.{letter_role, digit_role, from_letter, from_digit, from_blank, from_overbar, from_quote, from_quad, from_lamp}
 use Rattle.apl_arrays.proofs.Runs.{run_passes, run_stops, run_splits, take_run}
 use Rattle.line_scanner.proofs.NumberLaw.{overbar_malformed, digit_malformed, no_digit_no_number, out_of_range_no_number}
@@ -30,7 +30,7 @@ pub record TokenTaken (line : List ℕ) (kind : PlainKind) (taken : ℕ) : Type 
   pub text : List ℕ
   pub rest : List ℕ
   pub whole : line ≡ text ++ rest
-  pub is_text : IsText kind text
+  pub is_text : IsTokenText kind text
   pub ends : EndsBefore kind rest
   pub len : taken ≡ length text
   pub some : 0 < taken
@@ -41,7 +41,7 @@ IsFront line nothing = EndsLine line
 IsFront line blank = (rest : List ℕ) × (line ≡ named.blank ∷ rest)
 IsFront line (token kind taken) = TokenTaken line kind taken
 IsFront line unused = IsUnused line
-IsFront line malformed = IsMalformed line
+IsFront line malformed = BeginsNoToken line
 
 name_by : (first : ℕ) (rest : List ℕ) (is : Bool) → is_letter first ≡ true → is_name (first ∷ take_while goes_on rest) ≡ is
     → IsFront (first ∷ rest) (name_front (cond {A = Option (List ℕ × ℕ)} is (Some (first ∷ take_while goes_on rest, length (first ∷ take_while goes_on rest))) None))
@@ -61,13 +61,13 @@ name_by first rest false letter is =
 name_sound : (first : ℕ) (rest : List ℕ) → is_letter first ≡ true → IsFront (first ∷ rest) (name_front (longest_name (first ∷ rest)))
 name_sound first rest letter = subst (λ (run : List ℕ). IsFront (first ∷ rest) (name_front (name_of_run run))) (sym (run_of_letter first rest letter)) (name_by first rest (is_name (first ∷ take_while goes_on rest)) letter refl)
 
-constant_fronts : (line : List ℕ) (found : Option (ℤ × ℕ)) → number line ≡ found → (number line ≡ None → IsMalformed line) → IsFront line (constant_front (constant_then found line))
+constant_fronts : (line : List ℕ) (found : Option (ℤ × ℕ)) → number line ≡ found → (number line ≡ None → BeginsNoToken line) → IsFront line (constant_front (constant_then found line))
 constant_fronts line None e none = none e
 constant_fronts line (Some first) e none =
     let h = constant_sound line first e in
     record { text = h.text; rest = h.rest; whole = h.whole; is_text = h.is_constant; ends = h.ends; len = h.len; some = h.some }
 
-chars_by_found : (rest : List ℕ) (found : Option (List ℕ × ℕ)) → chars_from false rest ≡ found → IsFront (named.quote ∷ rest) (chars_front (behind 1 found))
+chars_by_found : (rest : List ℕ) (found : Option (List ℕ × ℕ)) → chars_from false rest ≡ found → IsFront (named.quote ∷ rest) (chars_front (found_after 1 found))
 chars_by_found rest None e = let h = chars_open false rest e in open_quote h.0 (ap (λ (xs : List ℕ). named.quote ∷ xs) h.1)
 chars_by_found rest (Some found) e =
     let h = chars_sound false rest found e in
@@ -102,7 +102,7 @@ by_role Blank first rest e = (rest, ap (λ (g : ℕ). g ∷ rest) (from_blank fi
 by_role Letter first rest e = name_sound first rest (from_letter first e)
 by_role Digit first rest e = constant_fronts (first ∷ rest) (number (first ∷ rest)) refl (digit_malformed first rest (from_digit first e))
 by_role Overbar first rest e = subst (λ (g : ℕ). IsFront (g ∷ rest) (constant_front (constant (g ∷ rest)))) (sym (from_overbar first e)) (constant_fronts (named.overbar ∷ rest) (number (named.overbar ∷ rest)) refl (overbar_malformed rest))
-by_role Quote first rest e = at_first first named.quote rest (chars_front (behind 1 (chars_from false rest))) (from_quote first e) (chars_by_found rest (chars_from false rest) refl)
+by_role Quote first rest e = at_first first named.quote rest (chars_front (found_after 1 (chars_from false rest))) (from_quote first e) (chars_by_found rest (chars_from false rest) refl)
 by_role Quad first rest e = subst (λ (g : ℕ). IsFront (g ∷ rest) (system_front (system_name (g ∷ rest)))) (sym (from_quad first e)) (system_by_found rest (system_name (named.quad ∷ rest)) refl)
 by_role Lamp first rest e = at_comment rest (ap (λ (g : ℕ). g ∷ rest) (from_lamp first e))
 by_role Sign first rest e = record { text = first ∷ []; rest = rest; whole = refl; is_text = (refl, e); ends = tt; len = refl; some = omega arith }
@@ -125,16 +125,16 @@ unfolding role_of
 overbar_role = refl
 
 -- at the front of digits, perhaps behind ¯, stands a constant
-numeric_front : (negative : Bool) (digits others : List ℕ) → AreDigits digits → front_of (overbar negative ++ (digits ++ others)) ≡ constant_front (constant (overbar negative ++ (digits ++ others)))
+numeric_front : (negative : Bool) (digits others : List ℕ) → AreDigits digits → front_of (overbar_if negative ++ (digits ++ others)) ≡ constant_front (constant (overbar_if negative ++ (digits ++ others)))
 numeric_front true digits others are = front_of_role named.overbar (digits ++ others) Overbar overbar_role
 numeric_front false [] others are = absurd (omega (arith, are.some))
 numeric_front false (d ∷ digits) others are = front_of_role d (digits ++ others) Digit (digit_role d (and_parts (is_digit d) (list_all is_digit digits) are.all).0)
 
-constant_text : (values : List ℤ) (text rest : List ℕ) → IsConstant values text → front_of (text ++ rest) ≡ constant_front (constant (text ++ rest))
+constant_text : (values : List ℤ) (text rest : List ℕ) → IsNumericConstant values text → front_of (text ++ rest) ≡ constant_front (constant (text ++ rest))
 constant_text [] text rest h = absurd h
 constant_text (value ∷ values) text rest (others, h, next) =
     let n = h.is_number in
-    let whole : text ++ rest ≡ overbar n.negative ++ (n.digits ++ (others ++ rest)) = ap (λ (xs : List ℕ). xs ++ rest) (h.whole ∙ ap (λ (xs : List ℕ). xs ++ others) n.spelled) ∙ append_assoc (overbar n.negative ++ n.digits) others rest ∙ append_assoc (overbar n.negative) n.digits (others ++ rest) in
+    let whole : text ++ rest ≡ overbar_if n.negative ++ (n.digits ++ (others ++ rest)) = ap (λ (xs : List ℕ). xs ++ rest) (h.whole ∙ ap (λ (xs : List ℕ). xs ++ others) n.spelled) ∙ append_assoc (overbar_if n.negative ++ n.digits) others rest ∙ append_assoc (overbar_if n.negative) n.digits (others ++ rest) in
     ap front_of whole ∙ numeric_front n.negative n.digits (others ++ rest) n.are_digits ∙ ap (λ (xs : List ℕ). constant_front (constant xs)) (sym whole)
 
 name_text : (text rest : List ℕ) → IsName text → begins goes_on rest ≡ false → front_of (text ++ rest) ≡ token (name text) (length text)
@@ -158,7 +158,7 @@ chars_text list rest ends =
     let flat = flat_map doubled list in
     let regroup : (flat ++ named.quote ∷ []) ++ rest ≡ flat ++ (named.quote ∷ rest) = append_assoc flat (named.quote ∷ []) rest in
     let len : 1 + (length flat + 1) ≡ length (quoted list) = omega (arith, length-append flat (named.quote ∷ [])) in
-    front_of_role named.quote ((flat ++ named.quote ∷ []) ++ rest) Quote quote_role ∙ ap (λ (xs : List ℕ). chars_front (behind 1 (chars_from false xs))) regroup ∙ ap (λ found. chars_front (behind 1 found)) (chars_closed list rest ends)
+    front_of_role named.quote ((flat ++ named.quote ∷ []) ++ rest) Quote quote_role ∙ ap (λ (xs : List ℕ). chars_front (found_after 1 (chars_from false xs))) regroup ∙ ap (λ found. chars_front (found_after 1 found)) (chars_closed list rest ends)
     ∙ ap (token (chars list)) len
 
 system_as_quad : (which : SystemName) (rest : List ℕ) → named.quad ∷ drop 1 (system_text which ++ rest) ≡ system_text which ++ rest
@@ -172,7 +172,7 @@ system_is_text : (which : SystemName) (rest : List ℕ) → front_of (system_tex
 system_is_text which rest = ap front_of (sym (system_as_quad which rest)) ∙ front_of_role named.quad (drop 1 (system_text which ++ rest)) Quad quad_role ∙ ap (λ (xs : List ℕ). system_front (system_name xs)) (system_as_quad which rest) ∙ ap system_front (system_complete which rest) ∙ ap (token (system which)) (four which)
 
 -- a token of the grammar at the front is computed
-pub token_complete : (kind : PlainKind) (text rest : List ℕ) → IsText kind text → EndsBefore kind rest → front_of (text ++ rest) ≡ token kind (length text)
+pub token_complete : (kind : PlainKind) (text rest : List ℕ) → IsTokenText kind text → EndsBefore kind rest → front_of (text ++ rest) ≡ token kind (length text)
 token_complete (numbers values) text rest is ends = constant_text values text rest is ∙ ap constant_front (constant_complete values text rest is ends)
 token_complete (chars list) text rest is ends = ap (λ (xs : List ℕ). front_of (xs ++ rest)) is ∙ chars_text list rest ends ∙ ap (λ (xs : List ℕ). token (chars list) (length xs)) (sym is)
 token_complete (name glyphs) text rest is ends = ap (λ (xs : List ℕ). front_of (xs ++ rest)) is.0 ∙ name_text glyphs rest is.1 ends ∙ ap (λ (xs : List ℕ). token (name glyphs) (length xs)) (sym is.0)
@@ -205,13 +205,13 @@ constant_none : (line : List ℕ) (found : Option (ℤ × ℕ)) → number line 
 constant_none line found e none = ap (λ f. constant_front (constant_then f line)) (e ∙ none)
 
 -- what begins no token is computed
-pub malformed_complete : (rest : List ℕ) → IsMalformed rest → front_of rest ≡ malformed
+pub malformed_complete : (rest : List ℕ) → BeginsNoToken rest → front_of rest ≡ malformed
 malformed_complete rest (no_digit more e ends) =
     ap front_of e ∙ front_of_role named.overbar more Overbar overbar_role ∙ constant_none (named.overbar ∷ more) None (no_digit_no_number more ends) refl
 malformed_complete rest (out_of_range negative digits more e are ends wide) =
-    ap front_of e ∙ numeric_front negative digits more are ∙ constant_none (overbar negative ++ (digits ++ more)) None (out_of_range_no_number negative digits more are ends wide) refl
+    ap front_of e ∙ numeric_front negative digits more are ∙ constant_none (overbar_if negative ++ (digits ++ more)) None (out_of_range_no_number negative digits more are ends wide) refl
 malformed_complete rest (open_quote list e) =
-    ap front_of e ∙ front_of_role named.quote (flat_map doubled list) Quote quote_role ∙ ap (λ found. chars_front (behind 1 found)) (chars_unclosed list)
+    ap front_of e ∙ front_of_role named.quote (flat_map doubled list) Quote quote_role ∙ ap (λ found. chars_front (found_after 1 found)) (chars_unclosed list)
 malformed_complete rest (long_name first others more e letter all ends long) =
     let run : take_while goes_on (first ∷ (others ++ more)) ≡ first ∷ others = run_of_letter first (others ++ more) letter ∙ ap (λ (xs : List ℕ). first ∷ xs) (take_run goes_on others more all ends) in
     ap front_of e ∙ front_of_role first (others ++ more) Letter (letter_role first letter) ∙ ap (λ (xs : List ℕ). name_front (name_of_run xs)) run ∙ ap (λ (b : Bool). name_front (cond {A = Option (List ℕ × ℕ)} b (Some (first ∷ others, length (first ∷ others))) None)) (too_long first others long)

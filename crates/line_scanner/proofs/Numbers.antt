@@ -2,7 +2,7 @@
 use Rattle.std.proofs.Common.{◌≡◌, ℕ, zero, suc, ◌+◌, ◌-◌, ◌≤◌, ◌<◌, ℤ, List, [], ◌∷◌, ◌++◌, Some, None, length, take, drop, refl, sym, ap, ◌∙◌, append_assoc, arith}
 use Rattle.std.proofs.lemmas.List.{append-nil, length-drop, take_all}
 use Rattle.std.proofs.lemmas.Option.{none-some}
-use Rattle.line_scanner.specs.Number.{number, next_number, next_numbers, with_number}
+use Rattle.line_scanner.specs.Number.{number, next_number, next_numbers, number_with_more}
 
 -- in nothing no number comes next
 pub nothing_next : next_number [] ≡ None
@@ -18,7 +18,7 @@ unfolding next_numbers
 suc_passes passed k glyph rest e = rw e refl
 
 -- where a number comes next, it is the next of the numbers
-pub next_numbers_some : (end : ℕ) (line : List ℕ) (found : ℤ × ℕ) → next_number (drop end line) ≡ Some found → 0 < found.1 → next_numbers end line ≡ with_number found (next_numbers (end + found.1) line)
+pub next_numbers_some : (end : ℕ) (line : List ℕ) (found : ℤ × ℕ) → next_number (drop end line) ≡ Some found → 0 < found.1 → next_numbers end line ≡ number_with_more found (next_numbers (end + found.1) line)
 unfolding next_numbers
 next_numbers_some zero [] found e some = absurd (none_next found e)
 next_numbers_some (suc end) [] found e some = absurd (none_next found e)
@@ -65,7 +65,7 @@ reads_on first taken line read more end next value n e bounds pushed same h =
 
 -- all numbers
 pub reads_all : (first : ℤ) (taken : ℕ) (line : List ℕ) (read : List ℤ) (end : ℕ) → None ≡ next_number (take (length line - end) (drop end line)) → IsReadTo first taken line read end
-    → (read, end) ≡ with_number (first, taken) (next_numbers taken line)
+    → (read, end) ≡ number_with_more (first, taken) (next_numbers taken line)
 reads_all first taken line read end e h =
     let stop = next_numbers_none end line (ap next_number (sym (left_from end line)) ∙ sym e) in
     let items : read ≡ first ∷ (next_numbers taken line).0 = sym (append-nil read) ∙ ap (λ (x : List ℤ × ℕ). read ++ x.0) (sym stop) ∙ h.items in

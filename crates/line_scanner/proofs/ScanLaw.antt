@@ -7,7 +7,7 @@ use Rattle.std.proofs.lemmas.Bool.{and_parts, eqb-true}
 use Rattle.apl_arrays.specs.Glyph as named
 use Rattle.apl_arrays.specs.Glyph.{is_blank}
 use Rattle.line_scanner.specs.Token.{PlainKind, PlainToken}
-use Rattle.line_scanner.specs.Scanning.{PlainFront, nothing, blank, token, unused, malformed, Fault, character_at, syntax_at, Scanned, front_of, with_token, scan_front, scan_from, scan_of}
+use Rattle.line_scanner.specs.Scanning.{PlainFront, nothing, blank, token, unused, malformed, Fault, character_at, syntax_at, Scanned, front_of, with_token, scan_front, scan_from, reading_of}
 use Rattle.line_scanner.specs.Grammar.{AreBlank, TokenNext, BlanksNext, TokensNext, at_end, ReadsFrom, IsReading}
 use Rattle.line_scanner.proofs.FrontLaw.{TokenTaken, IsFront, front_sound, token_complete, end_complete, unused_complete, blank_complete, malformed_complete}
 
@@ -124,7 +124,7 @@ sound_from at zero (glyph ∷ rest) =
     subst (λ (k : ℕ). ReadsFrom k (glyph ∷ rest) (scan_front (front_of (glyph ∷ rest)) at (λ passed. scan_from (at + 1) passed rest))) (omega arith) here
 
 -- what is computed of a line is a reading of it
-pub scan_sound : (line : List ℕ) → IsReading line (scan_of line)
+pub scan_sound : (line : List ℕ) → IsReading line (reading_of line)
 scan_sound line = sound_from 0 0 line
 
 -- ---- a reading is what is computed
@@ -176,11 +176,11 @@ complete_from at line (Err (character_at place)) (tokens, rest, h, fault) = over
 complete_from at line (Err (syntax_at place)) (tokens, rest, h, fault) = over_tokens tokens at line place rest h ∙ ap (with_tokens tokens) (malformed_step place rest (malformed_complete rest fault)) ∙ with_tokens-err tokens (syntax_at place)
 
 -- each reading of a line is the one that is computed
-pub scan_complete : (line : List ℕ) (reading : Scanned) → IsReading line reading → scan_of line ≡ reading
+pub scan_complete : (line : List ℕ) (reading : Scanned) → IsReading line reading → reading_of line ≡ reading
 scan_complete line reading h = complete_from 0 line reading h
 
 -- a reading is what is computed, and the other way round
-pub reading_is_computed : (line : List ℕ) (reading : Scanned) → IsReading line reading ↔ (scan_of line ≡ reading)
+pub reading_is_computed : (line : List ℕ) (reading : Scanned) → IsReading line reading ↔ (reading_of line ≡ reading)
 reading_is_computed line reading = (scan_complete line reading, λ e. subst (λ (r : Scanned). IsReading line r) e (scan_sound line))
 
 -- no line has two readings

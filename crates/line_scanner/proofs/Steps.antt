@@ -5,9 +5,9 @@ use Rattle.std.proofs.Math.Seq.{drop-append_seam, take-append_seam}
 use Rattle.std.proofs.lemmas.List.{drop-drop, length-append, length-drop}
 use Rattle.std.proofs.lemmas.List.Elements.{All-from_recursion}
 use Rattle.line_scanner.specs.Token.{PlainKind, PlainToken}
-use Rattle.line_scanner.specs.Scanning.{PlainFront, nothing, blank, token, unused, malformed, Scanned, character_at, syntax_at, with_token, front_of, scan_from, scan_of}
+use Rattle.line_scanner.specs.Scanning.{PlainFront, nothing, blank, token, unused, malformed, Scanned, character_at, syntax_at, with_token, front_of, scan_from, reading_of}
 use Rattle.line_scanner.specs.Front.{FitsIn}
-use Rattle.line_scanner.specs.Grammar.{EndsBefore, TokensNext, IsReading, AreInOrder, IsSliceOf, IsText}
+use Rattle.line_scanner.specs.Grammar.{EndsBefore, TokensNext, IsReading, AreInOrder, IsSliceOf, IsTokenText}
 use Rattle.line_scanner.proofs.Numbers.{left_from}
 use Rattle.line_scanner.proofs.FrontLaw.{IsFront, front_sound, token_complete}
 use Rattle.line_scanner.proofs.ScanLaw.{with_tokens, with_tokens-ok, with_tokens-err, token_step, blank_step, end_step, unused_step, malformed_step, scan_sound, some_taken}
@@ -27,7 +27,7 @@ fits_front line front e = fits_by line front (subst (λ f. IsFront line f) (sym 
 
 -- some tokens, up to a place, and what is scanned from it on are what is scanned of a line
 pub record IsScannedTo (line : List ℕ) (tokens : List PlainToken) (at : ℕ) : Type 0 where
-  pub same : with_tokens tokens (scan_from at 0 (drop at line)) ≡ scan_of line
+  pub same : with_tokens tokens (scan_from at 0 (drop at line)) ≡ reading_of line
   pub within : at ≤ length line
 
 pub begins_scan : (line : List ℕ) (tokens : List PlainToken) → tokens ≡ [] → IsScannedTo line tokens 0
@@ -58,19 +58,19 @@ scans_blank line tokens at e fits h =
       within = omega (arith, fits, ap length (left_from at line), length-drop at line, h.within);
     }
 
-pub scans_end : (line : List ℕ) (tokens : List PlainToken) (at : ℕ) → nothing ≡ front_of (take (length line - at) (drop at line)) → IsScannedTo line tokens at → scan_of line ≡ Ok tokens
+pub scans_end : (line : List ℕ) (tokens : List PlainToken) (at : ℕ) → nothing ≡ front_of (take (length line - at) (drop at line)) → IsScannedTo line tokens at → reading_of line ≡ Ok tokens
 scans_end line tokens at e h = sym h.same ∙ ap (with_tokens tokens) (end_step at (drop at line) (ap front_of (sym (left_from at line)) ∙ sym e)) ∙ with_tokens-ok tokens
 
-pub scans_unused : (line : List ℕ) (tokens : List PlainToken) (at : ℕ) → unused ≡ front_of (take (length line - at) (drop at line)) → IsScannedTo line tokens at → scan_of line ≡ Err (character_at at)
+pub scans_unused : (line : List ℕ) (tokens : List PlainToken) (at : ℕ) → unused ≡ front_of (take (length line - at) (drop at line)) → IsScannedTo line tokens at → reading_of line ≡ Err (character_at at)
 scans_unused line tokens at e h = sym h.same ∙ ap (with_tokens tokens) (unused_step at (drop at line) (ap front_of (sym (left_from at line)) ∙ sym e)) ∙ with_tokens-err tokens (character_at at)
 
-pub scans_malformed : (line : List ℕ) (tokens : List PlainToken) (at : ℕ) → malformed ≡ front_of (take (length line - at) (drop at line)) → IsScannedTo line tokens at → scan_of line ≡ Err (syntax_at at)
+pub scans_malformed : (line : List ℕ) (tokens : List PlainToken) (at : ℕ) → malformed ≡ front_of (take (length line - at) (drop at line)) → IsScannedTo line tokens at → reading_of line ≡ Err (syntax_at at)
 scans_malformed line tokens at e h = sym h.same ∙ ap (with_tokens tokens) (malformed_step at (drop at line) (ap front_of (sym (left_from at line)) ∙ sym e)) ∙ with_tokens-err tokens (syntax_at at)
 
 -- ---- spans
 
 -- a token is not empty
-some_text : (kind : PlainKind) (text more : List ℕ) → IsText kind text → EndsBefore kind more → 0 < length text
+some_text : (kind : PlainKind) (text more : List ℕ) → IsTokenText kind text → EndsBefore kind more → 0 < length text
 some_text kind text more is ends = some_taken (text ++ more) kind (length text) (subst (λ f. IsFront (text ++ more) f) (token_complete kind text more is ends) (front_sound (text ++ more)))
 
 order_of : (tokens : List PlainToken) (at : ℕ) (line : List ℕ) (place : ℕ) (rest : List ℕ) (to : ℕ) → at + length line ≡ to → TokensNext at line tokens place rest → AreInOrder at tokens to
@@ -81,7 +81,7 @@ order_of (first ∷ tokens) at line place rest to total (more, h, next) =
     (omega (arith, h.from), omega (arith, h.to, some), order_of tokens first.after more place rest to (omega (arith, len, h.from, h.to, total)) next)
 
 -- the tokens of a line stand in order on it
-pub in_order : (line : List ℕ) (tokens : List PlainToken) → scan_of line ≡ Ok tokens → AreInOrder 0 tokens (length line)
+pub in_order : (line : List ℕ) (tokens : List PlainToken) → reading_of line ≡ Ok tokens → AreInOrder 0 tokens (length line)
 in_order line tokens e =
     let h = subst (λ (r : Scanned). IsReading line r) e (scan_sound line) in
     order_of tokens 0 line h.0 h.1 (length line) (omega arith) h.2
@@ -100,10 +100,10 @@ slices_of (first ∷ tokens) all before at line place rest whole from (more, h, 
     let slice : slice_range all first.at first.after ≡ h.text = slice_at (before ++ h.blanks) h.text more all first.at first.after front here h.to in
     let behind : all ≡ ((before ++ h.blanks) ++ h.text) ++ more = front ∙ sym (append_assoc (before ++ h.blanks) h.text more) in
     let end : first.after ≡ length ((before ++ h.blanks) ++ h.text) = omega (arith, here, h.to, length-append (before ++ h.blanks) h.text) in
-    (subst (IsText first.kind) (sym slice) h.is_text, slices_of tokens all ((before ++ h.blanks) ++ h.text) first.after more place rest behind end next)
+    (subst (IsTokenText first.kind) (sym slice) h.is_text, slices_of tokens all ((before ++ h.blanks) ++ h.text) first.after more place rest behind end next)
 
 -- each token of a line is its slice of it
-pub are_slices : (line : List ℕ) (tokens : List PlainToken) → scan_of line ≡ Ok tokens → All (IsSliceOf line) tokens
+pub are_slices : (line : List ℕ) (tokens : List PlainToken) → reading_of line ≡ Ok tokens → All (IsSliceOf line) tokens
 are_slices line tokens e =
     let h = subst (λ (r : Scanned). IsReading line r) e (scan_sound line) in
     All-from_recursion (IsSliceOf line) tokens (slices_of tokens line [] 0 line h.0 h.1 refl refl h.2)

@@ -26,16 +26,16 @@ pub record AreDigits (digits : List ℕ) : Type 0 where
   pub all : IsTrue (list_all is_digit digits)
 
 -- ¯ before the digits of a negative number
-abbrev pub overbar : Bool → List ℕ
-overbar true = named.overbar ∷ []
-overbar false = []
+abbrev pub overbar_if : Bool → List ℕ
+overbar_if true = named.overbar ∷ []
+overbar_if false = []
 
 -- a number: perhaps ¯, and digits, of a value that fits 64 bits
 pub record IsNumber (text : List ℕ) (value : ℤ) : Type 0 where
   pub negative : Bool
   pub digits : List ℕ
   pub are_digits : AreDigits digits
-  pub spelled : text ≡ overbar negative ++ digits
+  pub spelled : text ≡ overbar_if negative ++ digits
   pub is : value ≡ signed negative (digits_value 10 digits)
   pub fits : FitsSigned w64 value
 
@@ -60,9 +60,9 @@ AreNext [] text = text ≡ []
 AreNext (value ∷ values) text = (others : List ℕ) × NumberNext text value others × AreNext values others
 
 -- a constant of numbers: one or more with only blanks between them
-abbrev pub IsConstant : List ℤ → List ℕ → Type 0
-IsConstant [] text = ⊥
-IsConstant (value ∷ values) text = (others : List ℕ) × NumberFirst text value others × AreNext values others
+abbrev pub IsNumericConstant : List ℤ → List ℕ → Type 0
+IsNumericConstant [] text = ⊥
+IsNumericConstant (value ∷ values) text = (others : List ℕ) × NumberFirst text value others × AreNext values others
 
 -- a character as it stands between quotes: a quote is written twice
 abbrev pub doubled : ℕ → List ℕ
@@ -73,12 +73,12 @@ abbrev pub quoted : List ℕ → List ℕ
 quoted list = named.quote ∷ flat_map doubled list ++ named.quote ∷ []
 
 -- these glyphs are this token
-abbrev pub IsText : PlainKind → List ℕ → Type 0
-IsText (numbers values) text = IsConstant values text
-IsText (chars list) text = text ≡ quoted list
-IsText (name glyphs) text = (text ≡ glyphs) × IsName glyphs
-IsText (system which) text = text ≡ system_text which
-IsText (sign glyph) text = (text ≡ glyph ∷ []) × (role_of glyph ≡ Sign)
+abbrev pub IsTokenText : PlainKind → List ℕ → Type 0
+IsTokenText (numbers values) text = IsNumericConstant values text
+IsTokenText (chars list) text = text ≡ quoted list
+IsTokenText (name glyphs) text = (text ≡ glyphs) × IsName glyphs
+IsTokenText (system which) text = text ≡ system_text which
+IsTokenText (sign glyph) text = (text ≡ glyph ∷ []) × (role_of glyph ≡ Sign)
 
 -- no digit follows, and no number comes next behind blanks
 pub record NoNumberNext (rest : List ℕ) : Type 0 where
@@ -99,7 +99,7 @@ pub record TokenNext (at : ℕ) (line : List ℕ) (token : PlainToken) (more : L
   pub text : List ℕ
   pub whole : line ≡ blanks ++ (text ++ more)
   pub are_blank : AreBlank blanks
-  pub is_text : IsText token.kind text
+  pub is_text : IsTokenText token.kind text
   pub ends : EndsBefore token.kind more
   pub from : token.at ≡ at + length blanks
   pub to : token.after ≡ token.at + length text
@@ -129,20 +129,20 @@ pub record IsUnused (rest : List ℕ) : Type 0 where
   pub unused : role_of glyph ≡ Unused
 
 -- no token begins so: ¯ without a digit, a number out of range, an open quote, a name longer than 32, or ⎕ without the rest of a system name
-pub data IsMalformed (rest : List ℕ) : Type 0 where
-  no_digit : (more : List ℕ) → rest ≡ named.overbar ∷ more → begins is_digit more ≡ false → IsMalformed rest
-  out_of_range : (negative : Bool) (digits more : List ℕ) → rest ≡ overbar negative ++ (digits ++ more) → AreDigits digits → begins is_digit more ≡ false
-      → (FitsSigned w64 (signed negative (digits_value 10 digits)) → ⊥) → IsMalformed rest
-  open_quote : (list : List ℕ) → rest ≡ named.quote ∷ flat_map doubled list → IsMalformed rest
+pub data BeginsNoToken (rest : List ℕ) : Type 0 where
+  no_digit : (more : List ℕ) → rest ≡ named.overbar ∷ more → begins is_digit more ≡ false → BeginsNoToken rest
+  out_of_range : (negative : Bool) (digits more : List ℕ) → rest ≡ overbar_if negative ++ (digits ++ more) → AreDigits digits → begins is_digit more ≡ false
+      → (FitsSigned w64 (signed negative (digits_value 10 digits)) → ⊥) → BeginsNoToken rest
+  open_quote : (list : List ℕ) → rest ≡ named.quote ∷ flat_map doubled list → BeginsNoToken rest
   long_name : (first : ℕ) (others more : List ℕ) → rest ≡ first ∷ (others ++ more) → IsTrue (is_letter first) → IsTrue (list_all goes_on others) → begins goes_on more ≡ false
-      → most_name_glyphs - 1 < length others → IsMalformed rest
-  no_system_name : (more : List ℕ) → rest ≡ named.quad ∷ more → ((which : SystemName) (others : List ℕ) → rest ≡ system_text which ++ others → ⊥) → IsMalformed rest
+      → most_name_glyphs - 1 < length others → BeginsNoToken rest
+  no_system_name : (more : List ℕ) → rest ≡ named.quad ∷ more → ((which : SystemName) (others : List ℕ) → rest ≡ system_text which ++ others → ⊥) → BeginsNoToken rest
 
 -- what the glyphs from a place on are: tokens and the end of the line, or an error behind tokens
 abbrev pub ReadsFrom : ℕ → List ℕ → Scanned → Type 0
 ReadsFrom at line (Ok tokens) = (place : ℕ) × (rest : List ℕ) × TokensNext at line tokens place rest × EndsLine rest
 ReadsFrom at line (Err (character_at place)) = (tokens : List PlainToken) × (rest : List ℕ) × TokensNext at line tokens place rest × IsUnused rest
-ReadsFrom at line (Err (syntax_at place)) = (tokens : List PlainToken) × (rest : List ℕ) × TokensNext at line tokens place rest × IsMalformed rest
+ReadsFrom at line (Err (syntax_at place)) = (tokens : List PlainToken) × (rest : List ℕ) × TokensNext at line tokens place rest × BeginsNoToken rest
 
 -- what a line is
 abbrev pub IsReading : List ℕ → Scanned → Type 0
@@ -155,4 +155,4 @@ AreInOrder from (token ∷ tokens) to = (from ≤ token.at) × (token.at < token
 
 -- the glyphs of a line from a token's first place to its last are the token
 abbrev pub IsSliceOf : List ℕ → PlainToken → Type 0
-IsSliceOf line token = IsText token.kind (slice_range line token.at token.after)
+IsSliceOf line token = IsTokenText token.kind (slice_range line token.at token.after)

@@ -10,7 +10,7 @@ use Rattle.line_scanner.specs.declared.refused.ScanRefused.TheVariants.{Characte
 use Rattle.apl_arrays.specs.declared.system.SystemName.{SystemName}
 use Rattle.line_scanner.specs.Token.{PlainKind, numbers, chars, name, system, sign, PlainToken}
 use Rattle.line_scanner.specs.Role.{role_of, is_quote}
-use Rattle.line_scanner.specs.Number.{behind, constant}
+use Rattle.line_scanner.specs.Number.{constant, found_after}
 
 -- what stands at the front: the end or a comment, a blank, a token and how many glyphs it takes, or an error
 pub data PlainFront : Type 0 where
@@ -33,7 +33,7 @@ with_char char (Some found) = Some (char ∷ found.0, 1 + found.1)
 -- the characters from a glyph on. The first argument tells whether a quote stands before that closes unless this glyph is a quote too, the second whether it is one.
 abbrev pub chars_by : Bool → Bool → ℕ → (Bool → Option (List ℕ × ℕ)) → Option (List ℕ × ℕ)
 chars_by false false glyph beyond = with_char glyph (beyond false)
-chars_by false true glyph beyond = behind 1 (beyond true)
+chars_by false true glyph beyond = found_after 1 (beyond true)
 chars_by true true glyph beyond = with_char glyph (beyond false)
 chars_by true false glyph beyond = Some ([], 0)
 
@@ -72,7 +72,7 @@ front_by Blank first rest = blank
 front_by Letter first rest = name_front (longest_name (first ∷ rest))
 front_by Digit first rest = constant_front (constant (first ∷ rest))
 front_by Overbar first rest = constant_front (constant (first ∷ rest))
-front_by Quote first rest = chars_front (behind 1 (chars_from false rest))
+front_by Quote first rest = chars_front (found_after 1 (chars_from false rest))
 front_by Quad first rest = system_front (system_name (first ∷ rest))
 front_by Lamp first rest = nothing
 front_by Sign first rest = token (sign first) 1
@@ -107,8 +107,8 @@ scan_from at (suc passed) (glyph ∷ rest) = scan_from (at + 1) passed rest
 scan_from at zero (glyph ∷ rest) = scan_front (front_of (glyph ∷ rest)) at (λ passed. scan_from (at + 1) passed rest)
 
 -- the tokens of a line, or its first error
-abbrev pub scan_of : List ℕ → Scanned
-scan_of line = scan_from 0 0 line
+abbrev pub reading_of : List ℕ → Scanned
+reading_of line = scan_from 0 0 line
 
 -- why a line was refused is its first error, unless memory ran out
 abbrev pub IsRefusal : ScanRefused → Scanned → Type 0

@@ -1,5 +1,5 @@
 ghost use Rattle.std.specs.Prelude.{◌≡◌, ◌≤◌, IfOk, length};
-ghost use Rattle.line_scanner.specs.Number.{next_numbers, with_number};
+ghost use Rattle.line_scanner.specs.Number.{next_numbers, number_with_more};
 
 use crate::number::next_number;
 use apl_arrays::{Glyph, List, NumberList, WantOfMemory};
@@ -14,7 +14,7 @@ pub fn numbers_from(
     glyphs: &[Glyph],
 ) -> Result<(NumberList, usize), WantOfMemory>
     requires { taken ≤ length glyphs.now }
-    ensures value { IfOk result (λ found. (found.0.items, found.1) ≡ with_number (first, taken) (next_numbers taken glyphs.now)) }
+    ensures value { IfOk result (λ found. (found.0.items, found.1) ≡ number_with_more (first, taken) (next_numbers taken glyphs.now)) }
     ensures within { IfOk result (λ found. (taken ≤ found.1) × (found.1 ≤ length glyphs.now)) }
 {
     let mut numbers = List::new(alloc);

@@ -1,6 +1,6 @@
 ghost use Rattle.std.specs.Prelude.{◌≡◌, ◌≤◌, false, IfOk, length};
 ghost use Rattle.apl_arrays.specs.Name.{longest_name};
-ghost use Rattle.line_scanner.specs.Number.{constant, behind};
+ghost use Rattle.line_scanner.specs.Number.{constant, found_after};
 ghost use Rattle.line_scanner.specs.Front.{plain_front, FitsIn};
 ghost use Rattle.line_scanner.specs.Scanning.{front_of, name_front, constant_front, chars_front, chars_from, system_name};
 
@@ -51,7 +51,7 @@ fn constant_front(alloc: Global, glyphs: &[Glyph]) -> Result<Front, WantOfMemory
 
 /// The constant of characters whose opening quote stands before these glyphs.
 fn chars_front(alloc: Global, glyphs: &[Glyph]) -> Result<Front, WantOfMemory>
-    ensures { IfOk result (λ found. plain_front found ≡ chars_front (behind 1 (chars_from false glyphs.now))) }
+    ensures { IfOk result (λ found. plain_front found ≡ chars_front (found_after 1 (chars_from false glyphs.now))) }
 {
     match chars_until_quote(alloc, glyphs)? {
         None => Ok(Front::Malformed),

@@ -4,7 +4,7 @@ ghost use Rattle.std.specs.Prelude.{◌≡◌, ◌↔◌, ◌∷◌, [], ◌++�
 ghost use Rattle.apl_arrays.specs.Glyph as named;
 ghost use Rattle.line_scanner.specs.Role.{role_of};
 ghost use Rattle.line_scanner.specs.Token.{numbers, chars, name, system, sign};
-ghost use Rattle.line_scanner.specs.Scanning.{Scanned, scan_of, character_at, syntax_at};
+ghost use Rattle.line_scanner.specs.Scanning.{Scanned, reading_of, character_at, syntax_at};
 ghost use Rattle.line_scanner.specs.Grammar.{IsReading};
 
 use crate::role::Role;
@@ -19,7 +19,7 @@ pub fn each_line_has_one_reading()
 /// What is computed of a line is exactly what the grammar has. The call does nothing.
 #[tactic(auto, using(crate::proofs::ScanLaw::reading_is_computed))]
 pub fn readings_are_computed()
-    ensures { (line : List ℕ) (reading : Scanned) → IsReading line reading ↔ (scan_of line ≡ reading) }
+    ensures { (line : List ℕ) (reading : Scanned) → IsReading line reading ↔ (reading_of line ≡ reading) }
 {}
 
 /// The signs, and the glyphs without a role. The call does nothing.
@@ -44,24 +44,24 @@ pub fn roles_of_glyphs()
 #[tactic(auto, unfolding(crate::specs::Role::role_of, crate::specs::Number::number, crate::specs::Number::next_number, crate::specs::Number::next_numbers, crate::specs::Scanning::chars_from, crate::specs::Scanning::front_of, crate::specs::Scanning::scan_from))]
 pub fn worked_lines()
     // A&B
-    ensures unused { scan_of (codes "A&B") ≡ Err (character_at 1) }
+    ensures unused { reading_of (codes "A&B") ≡ Err (character_at 1) }
     // 'AB
-    ensures open_quote { scan_of (codes "'AB") ≡ Err (syntax_at 0) }
+    ensures open_quote { reading_of (codes "'AB") ≡ Err (syntax_at 0) }
     // 1 22
-    ensures one_constant { scan_of (codes "1 22") ≡ Ok (record { kind = numbers (pos 1 ∷ pos 22 ∷ []); at = 0; after = 4 } ∷ []) }
+    ensures one_constant { reading_of (codes "1 22") ≡ Ok (record { kind = numbers (pos 1 ∷ pos 22 ∷ []); at = 0; after = 4 } ∷ []) }
     // 1¯2
-    ensures two_numbers { scan_of (codes "1" ++ named.overbar ∷ codes "2") ≡ Ok (record { kind = numbers (pos 1 ∷ negsuc 1 ∷ []); at = 0; after = 3 } ∷ []) }
+    ensures two_numbers { reading_of (codes "1" ++ named.overbar ∷ codes "2") ≡ Ok (record { kind = numbers (pos 1 ∷ negsuc 1 ∷ []); at = 0; after = 3 } ∷ []) }
     // 'IT''S'
-    ensures doubled_quote { scan_of (codes "'IT''S'") ≡ Ok (record { kind = chars (codes "IT'S"); at = 0; after = 7 } ∷ []) }
+    ensures doubled_quote { reading_of (codes "'IT''S'") ≡ Ok (record { kind = chars (codes "IT'S"); at = 0; after = 7 } ∷ []) }
     // 9223372036854775808
-    ensures out_of_range { scan_of (codes "9223372036854775808") ≡ Err (syntax_at 0) }
+    ensures out_of_range { reading_of (codes "9223372036854775808") ≡ Err (syntax_at 0) }
     // ⍎X
-    ensures execute { scan_of (named.execute ∷ codes "X")
+    ensures execute { reading_of (named.execute ∷ codes "X")
         ≡ Ok (record { kind = sign named.execute; at = 0; after = 1 } ∷ record { kind = name (codes "X"); at = 1; after = 2 } ∷ []) }
     // ⎕SVOX
-    ensures system_and_name { scan_of (named.quad ∷ codes "SVOX")
+    ensures system_and_name { reading_of (named.quad ∷ codes "SVOX")
         ≡ Ok (record { kind = system SystemName.Svo; at = 0; after = 4 } ∷ record { kind = name (codes "X"); at = 4; after = 5 } ∷ []) }
     // X+ ⍝ '&
-    ensures comment { scan_of (codes "X+ " ++ named.lamp ∷ codes " '&")
+    ensures comment { reading_of (codes "X+ " ++ named.lamp ∷ codes " '&")
         ≡ Ok (record { kind = name (codes "X"); at = 0; after = 1 } ∷ record { kind = sign named.plus; at = 1; after = 2 } ∷ []) }
 {}

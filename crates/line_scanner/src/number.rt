@@ -3,7 +3,7 @@ ghost use Rattle.std.specs.Char.{digit_value};
 ghost use Rattle.std.specs.Str.Parse.{digits_value};
 ghost use Rattle.apl_arrays.specs.Glyph.{is_digit};
 ghost use Rattle.line_scanner.specs.Role.{is_overbar};
-ghost use Rattle.line_scanner.specs.Number.{signed, in_64, number_of, number, next_number};
+ghost use Rattle.line_scanner.specs.Number.{signed, in_64, signed_number, number, next_number};
 
 use apl_arrays::{Glyph, blank_count, digit_count};
 
@@ -52,8 +52,8 @@ fn signed(negative: bool, magnitude: u64) -> Option<i64>
 
 /// The number of the digits at the front with its sign, and how many they are.
 #[tactic(auto, using(crate::proofs::Digits::digits_at_front))]
-fn number_of(negative: bool, glyphs: &[Glyph]) -> Option<(i64, usize)>
-    ensures value { result ≡ number_of negative (take_while is_digit glyphs.now) }
+fn signed_number(negative: bool, glyphs: &[Glyph]) -> Option<(i64, usize)>
+    ensures value { result ≡ signed_number negative (take_while is_digit glyphs.now) }
     ensures within { IfSome result (λ found. (0 < found.1) × (found.1 ≤ length glyphs.now)) }
 {
     let count = digit_count(glyphs);
@@ -72,10 +72,10 @@ pub fn number(glyphs: &[Glyph]) -> Option<(i64, usize)>
 {
     match glyphs {
         [first, rest @ ..] if is_overbar(*first) => {
-            let (value, count) = number_of(true, rest)?;
+            let (value, count) = signed_number(true, rest)?;
             Some((value, count + 1))
         }
-        _ => number_of(false, glyphs),
+        _ => signed_number(false, glyphs),
     }
 }
 

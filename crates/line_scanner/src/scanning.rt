@@ -1,5 +1,5 @@
 ghost use Rattle.std.specs.Prelude.{◌≡◌, ◌≤◌, ◌<◌, All, Ok, IfOk, IfErr, length};
-ghost use Rattle.line_scanner.specs.Scanning.{scan_of, IsRefusal};
+ghost use Rattle.line_scanner.specs.Scanning.{reading_of, IsRefusal};
 ghost use Rattle.line_scanner.specs.Grammar.{AreInOrder, IsSliceOf};
 
 use crate::front::{Front, front_of};
@@ -13,9 +13,9 @@ use std::alloc::Global;
 /// lowest place is answered. It takes memory for the tokens.
 #[tactic(auto, using(crate::proofs::Steps::scans))]
 pub fn scan(alloc: Global, line: &Line) -> Result<Tokens, ScanRefused>
-    ensures tokens { IfOk result (λ found. scan_of line.now.items ≡ Ok found.tokens.items) }
+    ensures tokens { IfOk result (λ found. reading_of line.now.items ≡ Ok found.tokens.items) }
     ensures length { IfOk result (λ found. found.length ≡ length line.now.items) }
-    ensures refused { IfErr result (λ refused. IsRefusal refused (scan_of line.now.items)) }
+    ensures refused { IfErr result (λ refused. IsRefusal refused (reading_of line.now.items)) }
 
     ensures in_order { IfOk result (λ found. AreInOrder 0 found.tokens.items (length line.now.items)) }
     ensures slices { IfOk result (λ found. All (IsSliceOf line.now.items) found.tokens.items) }

@@ -5,8 +5,8 @@ use Rattle.line_trees.specs.declared.class.Class.{Class}
 use Rattle.line_trees.specs.Nodes as node
 use Rattle.line_trees.specs.Nodes.{PlainNode}
 use Rattle.line_trees.specs.Parsing.{PlainTree, parsed}
-use Rattle.line_trees.specs.Trees.{Expr, constant, value, niladic, paren, indexed, monadic, monadic_along, dyadic, dyadic_along, assign, assign_at, Subscripts, no_more, omitted, given, Statement, nothing, branch, whole, execute, Placed, PlacedList, added, placed, placed_subscripts, nodes_of_statement}
-use Rattle.line_trees.specs.Order.{AreBelow, NamesBelow, NameEarlier, IsInOrder}
+use Rattle.line_trees.specs.Trees.{Expr, constant, value, niladic, paren, indexed, monadic, monadic_along, dyadic, dyadic_along, assign, assign_at, Subscripts, no_more, omitted, given, Statement, nothing, branch, whole, execute, Placed, PlacedList, with_node, placed, placed_subscripts, nodes_of_statement}
+use Rattle.line_trees.specs.Order.{AreBelow, NamesBelow, NameEarlier, IsTreeInOrder}
 use Rattle.line_trees.proofs.TreeLaw.{HoldAll, keeps_all, stands, stand_all}
 use Rattle.line_trees.proofs.Places.{tree_is_line}
 
@@ -15,7 +15,7 @@ names_more : (at count : ℕ) (nodes : List PlainNode) (n : PlainNode) → count
 names_more at count [] n e h k = (subst (λ (x : ℕ). NamesBelow x n) (let same : count ≡ at = omega (arith, e) in same) k, tt)
 names_more at count (first ∷ nodes) n e h k = (h.0, names_more (at + 1) count nodes n (omega (arith, e)) h.1 k)
 
-names_added : (nodes : List PlainNode) (n : PlainNode) → NameEarlier 0 nodes → NamesBelow (length nodes) n → NameEarlier 0 (added nodes n).0
+names_added : (nodes : List PlainNode) (n : PlainNode) → NameEarlier 0 nodes → NamesBelow (length nodes) n → NameEarlier 0 (with_node nodes n).0
 names_added nodes n h k = names_more 0 (length nodes) nodes n (omega arith) h k
 
 -- the numbers of subscripts that stand for trees are those of nodes
@@ -73,12 +73,12 @@ mutual
   all_earlier nodes (omitted more) w = all_earlier nodes more w
   all_earlier nodes (given e more) w = let s : PlacedList = placed_subscripts nodes more in earlier s.0 e (all_earlier nodes more w)
 
-statement_in_order : (label : Option (List ℕ)) (s : Statement) → IsInOrder (nodes_of_statement label s)
+statement_in_order : (label : Option (List ℕ)) (s : Statement) → IsTreeInOrder (nodes_of_statement label s)
 statement_in_order label nothing = record { nodes = tt; form = tt }
 statement_in_order label (branch e) = record { nodes = earlier [] e tt; form = (stands [] e).holds.below }
 statement_in_order label (whole e) = record { nodes = earlier [] e tt; form = (stands [] e).holds.below }
 statement_in_order label (execute e) = record { nodes = earlier [] e tt; form = (stands [] e).holds.below }
 
 -- each node that is parsed stands after those that it names
-pub tree_in_order : (classes : List Class) (tokens : List PlainToken) (len : ℕ) (t : PlainTree) → parsed classes tokens len ≡ Ok t → IsInOrder t
-tree_in_order classes tokens len t e = let (line, h, same) = tree_is_line classes tokens len t e in subst IsInOrder (sym same) (statement_in_order line.label line.statement)
+pub tree_in_order : (classes : List Class) (tokens : List PlainToken) (len : ℕ) (t : PlainTree) → parsed classes tokens len ≡ Ok t → IsTreeInOrder t
+tree_in_order classes tokens len t e = let (line, h, same) = tree_is_line classes tokens len t e in subst IsTreeInOrder (sym same) (statement_in_order line.label line.statement)

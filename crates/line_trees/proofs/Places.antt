@@ -13,7 +13,7 @@ use Rattle.apl_arrays.specs.List.{first_of}
 use Rattle.line_trees.specs.Symbols.{symbol_of}
 use Rattle.line_trees.specs.Marks.{Marked, marks_from, marked_by, with_mark, step, may_end, changed}
 use Rattle.line_trees.specs.Parsing.{PlainTree, Parsed, parsed_by, parsed}
-use Rattle.line_trees.specs.Trees.{LineTree, as_nodes, line_of}
+use Rattle.line_trees.specs.Trees.{LineTree, as_nodes, line_tree_of}
 use Rattle.line_trees.specs.Grammar.{IsLine, BeginsLine, IsStop, stops_at, ends_early}
 use Rattle.line_trees.proofs.Endings.{HasMarks, mark_before, IsAlive, LeadsOn, ending, leads_on}
 use Rattle.line_trees.proofs.LineLaw.{line_parsed}
@@ -119,7 +119,7 @@ tree_is_line classes tokens len t e = tree_by classes len (marks_from classes le
 -- no tokens have two trees
 pub one_tree : (classes : List Class) (tokens : List PlainToken) (first second : LineTree) → IsLine classes first tokens → IsLine classes second tokens → first ≡ second
 one_tree classes tokens first second h k =
-    sym (line_again first) ∙ ap line_of (same_tree (as_nodes first) (as_nodes second) (parsed classes tokens 0) (line_parsed classes first tokens 0 h) (line_parsed classes second tokens 0 k)) ∙ line_again second
+    sym (line_again first) ∙ ap line_tree_of (same_tree (as_nodes first) (as_nodes second) (parsed classes tokens 0) (line_parsed classes first tokens 0 h) (line_parsed classes second tokens 0 k)) ∙ line_again second
 
 -- ---- the place of an error is one
 

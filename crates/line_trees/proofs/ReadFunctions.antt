@@ -24,7 +24,7 @@ use Rattle.apl_arrays.specs.List.{first_of}
 use Rattle.line_trees.specs.Signs.{folded, between}
 use Rattle.line_trees.specs.Marks.{step, takes_axis, after_function}
 use Rattle.line_trees.specs.Nodes as node
-use Rattle.line_trees.specs.Building.{Built, whole, with_waiting, attached, built_by, lead_built, dyadic_by}
+use Rattle.line_trees.specs.Building.{Built, whole_expression, with_waiting, attached, built_by, lead_built, dyadic_by}
 use Rattle.line_trees.specs.Trees.{Expr, monadic, monadic_along, dyadic, dyadic_along, Placed, placed}
 use Rattle.line_trees.specs.Grammar.{symbols, IsMonadic, scalar_monad, operator, other_monad, IsDyadic, scalar_dyad, inner, outer, slash, other_dyad, InBrackets, IsExpr}
 use Rattle.line_trees.proofs.Reading.{reads_token}
@@ -57,7 +57,7 @@ argument b axis right waiting = record { label = b.label; nodes = b.nodes; waiti
 
 -- a node that is a whole expression before others
 abbrev applied : Built → node.PlainNode → List Pending → Built
-applied b n waiting = record { label = b.label; nodes = b.nodes ++ n ∷ []; waiting = whole (length b.nodes) ∷ waiting; lists = b.lists }
+applied b n waiting = record { label = b.label; nodes = b.nodes ++ n ∷ []; waiting = whole_expression (length b.nodes) ∷ waiting; lists = b.lists }
 
 -- the operand of a slash
 lead_slash : (m : Option Monad) (d : Dyad) (fold : Fold) (axis : Option ℕ) (right : ℕ) (b : Built) (waiting : List Pending)

@@ -18,9 +18,9 @@ use Rattle.line_trees.specs.declared.machine.Bracket.TheVariants as bracket
 use Rattle.line_trees.specs.declared.machine.Change.TheVariants.{Keep, Open, Close}
 use Rattle.line_trees.specs.declared.machine.Move.{Move}
 use Rattle.apl_arrays.specs.List.{first_of, others_of}
-use Rattle.line_trees.specs.Marks.{step, goes, opens, closes, close_bracket, next_subscript, is_name}
+use Rattle.line_trees.specs.Marks.{step, goes, opens, closes, close_bracket, next_subscript, is_bare_name}
 use Rattle.line_trees.specs.Nodes as node
-use Rattle.line_trees.specs.Building.{Built, whole, with_waiting, attached, operand_built, built_by, target_or_operand, subscripts_built}
+use Rattle.line_trees.specs.Building.{Built, whole_expression, with_waiting, attached, operand_built, built_by, target_or_operand, subscripts_built}
 use Rattle.line_trees.specs.Trees.{Expr, constant, value, niladic, paren, indexed, monadic, monadic_along, dyadic, dyadic_along, assign, assign_at, Subscripts, no_more, omitted, given, Placed, PlacedList, placed, placed_subscripts}
 use Rattle.line_trees.specs.Grammar.{Is, IsExpr, AreSubscripts, AreMore}
 use Rattle.line_trees.proofs.Reading.{read, reads_token}
@@ -33,7 +33,7 @@ ends_of (constant items) = operand.Other
 ends_of (value n) = operand.Name
 ends_of (niladic n) = operand.Other
 ends_of (paren e) = operand.Other
-ends_of (indexed v subs) = cond (is_name (ends_of v)) operand.Target operand.Other
+ends_of (indexed v subs) = cond (is_bare_name (ends_of v)) operand.Target operand.Other
 ends_of (monadic f right) = ends_of right
 ends_of (monadic_along f axis right) = ends_of right
 ends_of (dyadic f left right) = ends_of right
@@ -43,7 +43,7 @@ ends_of (assign_at n subs right) = ends_of right
 
 -- an expression of these nodes before what was built
 abbrev pub before_all : Built → Placed → List Pending → Built
-before_all b p waiting = record { label = b.label; nodes = p.0; waiting = whole p.1 ∷ waiting; lists = b.lists }
+before_all b p waiting = record { label = b.label; nodes = p.0; waiting = whole_expression p.1 ∷ waiting; lists = b.lists }
 
 -- the expression before what was built
 abbrev pub expr_on : Expr → Built → Built
@@ -215,7 +215,7 @@ pub is_list : (b : Bool) → IsList (cond b bracket.OfName bracket.OfOther) (con
 is_list true = record { closed = refl; next = refl }
 is_list false = record { closed = refl; next = refl }
 
-pub opens_list : (o : Operand) (top : Option Bracket) → step (Ends o) top symbol.LeftBracket ≡ opens mark.OpenSubscripts (Begins before.Subscript) (cond (is_name o) bracket.OfName bracket.OfOther)
+pub opens_list : (o : Operand) (top : Option Bracket) → step (Ends o) top symbol.LeftBracket ≡ opens mark.OpenSubscripts (Begins before.Subscript) (cond (is_bare_name o) bracket.OfName bracket.OfOther)
 unfolding step
 opens_list o top = refl
 
@@ -225,7 +225,7 @@ indexed_read classes len v subs each list text rest brackets b (front, square, i
     let q : PlacedList = placed_subscripts b.nodes subs in
     let o = ends_of v in
     let b1 : Built = record { label = b.label; nodes = q.0; waiting = pending.Indexing ∷ b.waiting; lists = q.1 ∷ b.lists } in
-    let read_list = list inside rest p.left p.right brackets (cond (is_name o) bracket.OfName bracket.OfOther) (cond (is_name o) operand.Target operand.Other) (Ends o) b (is_list (is_name o)) (opens_list o (first_of brackets)) p.is_left p.is_right s next in
+    let read_list = list inside rest p.left p.right brackets (cond (is_bare_name o) bracket.OfName bracket.OfOther) (cond (is_bare_name o) operand.Target operand.Other) (Ends o) b (is_list (is_bare_name o)) (opens_list o (first_of brackets)) p.is_left p.is_right s next in
     let waits : Reads classes len (Ends o) brackets (p.left ∷ (inside ++ p.right ∷ rest)) b1 =
     read_list ∙ ap (λ (x : List Pending). Ok (with_waiting b1 x)) (open_indexing b.waiting h) in
     reads_as classes len (Begins before.Plain) brackets (text ++ rest) (front ++ (p.left ∷ (inside ++ p.right ∷ rest))) _ _

@@ -2,7 +2,7 @@
 use Rattle.std.proofs.Common.{◌≡◌, ℕ, zero, suc, ◌+◌, ◌<◌, List, [], ◌∷◌, ◌++◌, Option, Some, None, length, get_or, refl, ap, ◌∙◌, arith, length-append}
 use Rattle.line_trees.specs.Nodes as node
 use Rattle.line_trees.specs.Nodes.{PlainNode}
-use Rattle.line_trees.specs.Trees.{Expr, constant, value, niladic, paren, indexed, monadic, monadic_along, dyadic, dyadic_along, assign, assign_at, Subscripts, no_more, omitted, given, Statement, nothing, branch, whole, execute, LineTree, Placed, PlacedList, added, placed, placed_subscripts, as_nodes, subscripts_at, expr_of, trees_from, tree_numbered, line_of}
+use Rattle.line_trees.specs.Trees.{Expr, constant, value, niladic, paren, indexed, monadic, monadic_along, dyadic, dyadic_along, assign, assign_at, Subscripts, no_more, omitted, given, Statement, nothing, branch, whole, execute, LineTree, Placed, PlacedList, with_node, placed, placed_subscripts, as_nodes, subscripts_at, expr_of, trees_from, tree_numbered, line_tree_of}
 
 -- one node more
 trees_more : (made : List Expr) (nodes : List PlainNode) (n : PlainNode) → trees_from made (nodes ++ n ∷ []) ≡ trees_from made nodes ++ expr_of (trees_from made nodes) n ∷ []
@@ -43,7 +43,7 @@ keeps_added nodes n k e h = record {
 }
 
 -- a node more stands for its tree
-holds_added : (nodes : List PlainNode) (n : PlainNode) (e : Expr) → expr_of (trees_from [] nodes) n ≡ e → Holds (added nodes n).0 (added nodes n).1 e
+holds_added : (nodes : List PlainNode) (n : PlainNode) (e : Expr) → expr_of (trees_from [] nodes) n ≡ e → Holds (with_node nodes n).0 (with_node nodes n).1 e
 holds_added nodes n e h = record {
   below = omega (arith, length-append nodes (n ∷ []));
   is = ap (λ (x : List Expr). get_or x (length nodes) (value [])) (trees_more [] nodes n) ∙ last_at (trees_from [] nodes) (expr_of (trees_from [] nodes) n) (value []) (length nodes) (omega (arith, trees_length [] nodes)) ∙ h;
@@ -77,7 +77,7 @@ pub record StandAll (nodes : List PlainNode) (p : PlacedList) (subs : Subscripts
   pub hold : HoldAll p.0 p.1 subs
   pub keeps : Keeps nodes p.0
 
-stands_added : (nodes last : List PlainNode) (n : PlainNode) (e : Expr) → Keeps nodes last → expr_of (trees_from [] last) n ≡ e → Stands nodes (added last n) e
+stands_added : (nodes last : List PlainNode) (n : PlainNode) (e : Expr) → Keeps nodes last → expr_of (trees_from [] last) n ≡ e → Stands nodes (with_node last n) e
 stands_added nodes last n e keeps h = record { holds = holds_added last n e h; keeps = λ k x was. keeps_added last n k x (keeps k x was) }
 
 mutual
@@ -150,12 +150,12 @@ mutual
 abbrev labelled : Option (List ℕ) → Statement → LineTree
 labelled label s = record { label = label; statement = s }
 
-again : (label : Option (List ℕ)) (s : Statement) → line_of (as_nodes (labelled label s)) ≡ labelled label s
+again : (label : Option (List ℕ)) (s : Statement) → line_tree_of (as_nodes (labelled label s)) ≡ labelled label s
 again label nothing = refl
 again label (branch e) = ap (λ (x : Expr). labelled label (branch x)) (stands [] e).holds.is
 again label (whole e) = ap (λ (x : Expr). labelled label (whole x)) (stands [] e).holds.is
 again label (execute e) = ap (λ (x : Expr). labelled label (execute x)) (stands [] e).holds.is
 
 -- the nodes of a line stand for it
-pub line_again : (line : LineTree) → line_of (as_nodes line) ≡ line
+pub line_again : (line : LineTree) → line_tree_of (as_nodes line) ≡ line
 line_again line = again line.label line.statement

@@ -5,7 +5,7 @@ use Rattle.line_trees.specs.declared.tree.Pending.TheVariants as pending
 use Rattle.apl_arrays.specs.List.{first_of, others_of}
 use Rattle.line_trees.specs.Nodes.{PlainNode}
 use Rattle.line_trees.specs.Nodes as node
-use Rattle.line_trees.specs.Building.{Numbers, Built, whole, attached, name_built, subscript_built, subscripts, behind_subscripts, target_or_operand, subscripts_built}
+use Rattle.line_trees.specs.Building.{Numbers, Built, whole_expression, attached, name_built, subscript_built, subscripts, behind_subscripts, target_or_operand, subscripts_built}
 
 -- neither a label nor a target is waited for
 abbrev pub IsOpen : List Pending → Type 0
@@ -33,7 +33,7 @@ closed_open waiting h = absurd h
 
 -- an operand to which nothing waits is a whole expression
 pub closed_attached : (label : Option (List ℕ)) (v : ℕ) (nodes : List PlainNode) (waiting : List Pending) (lists : List Numbers) → IsClosed waiting
-    → attached label v nodes waiting lists ≡ record { label = label; nodes = nodes; waiting = whole v ∷ waiting; lists = lists }
+    → attached label v nodes waiting lists ≡ record { label = label; nodes = nodes; waiting = whole_expression v ∷ waiting; lists = lists }
 unfolding attached
 closed_attached label v nodes [] lists h = refl
 closed_attached label v nodes (pending.Parenthesis ∷ waiting) lists h = refl

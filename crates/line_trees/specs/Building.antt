@@ -41,12 +41,12 @@ abbrev pub with_waiting : Built → List Pending → Built
 with_waiting b waiting = record { label = b.label; nodes = b.nodes; waiting = waiting; lists = b.lists }
 
 -- a whole expression, the number of its node given
-abbrev pub whole : ℕ → Pending
-whole n = pending.Expr None n
+abbrev pub whole_expression : ℕ → Pending
+whole_expression n = pending.Expr None n
 
 -- a node more, which is a whole expression, and what waits behind it
 abbrev pub with_whole : Built → PlainNode → List Pending → Built
-with_whole b n waiting = record { label = b.label; nodes = b.nodes ++ n ∷ []; waiting = whole (length b.nodes) ∷ waiting; lists = b.lists }
+with_whole b n waiting = record { label = b.label; nodes = b.nodes ++ n ∷ []; waiting = whole_expression (length b.nodes) ∷ waiting; lists = b.lists }
 
 -- the first list
 abbrev pub first_list : List Numbers → Numbers
@@ -60,8 +60,8 @@ other_lists (list ∷ lists) = lists
 
 -- an operand whose value has this number, where no subscripts wait: a dyadic function that waits takes it, and else it is a whole expression
 abbrev pub finished : Option (List ℕ) → ℕ → List PlainNode → List Pending → List Numbers → Option Pending → List Pending → Built
-finished label v nodes waiting lists (Some (pending.Dyadic f axis right)) others = record { label = label; nodes = nodes ++ apply f (Some v) right axis ∷ []; waiting = whole (length nodes) ∷ others; lists = lists }
-finished label v nodes waiting lists first others = record { label = label; nodes = nodes; waiting = whole v ∷ waiting; lists = lists }
+finished label v nodes waiting lists (Some (pending.Dyadic f axis right)) others = record { label = label; nodes = nodes ++ apply f (Some v) right axis ∷ []; waiting = whole_expression (length nodes) ∷ others; lists = lists }
+finished label v nodes waiting lists first others = record { label = label; nodes = nodes; waiting = whole_expression v ∷ waiting; lists = lists }
 
 -- an operand whose value has this number: lists of subscripts that wait index it first
 unfoldable pub attached : Option (List ℕ) → ℕ → List PlainNode → List Pending → List Numbers → Built
@@ -89,7 +89,7 @@ operand_built b n waiting = attached b.label (length b.nodes) (b.nodes ++ n ∷ 
 abbrev pub name_built : List ℕ → Built → Option Pending → List Pending → Built
 name_built n b (Some pending.Label) others = record { label = Some n; nodes = b.nodes; waiting = others; lists = b.lists }
 name_built n b (Some (pending.Gets right)) others = with_whole b (assign n right) others
-name_built n b (Some (pending.GetsAt right)) others = record { label = b.label; nodes = b.nodes ++ assign_at n (first_list b.lists) right ∷ []; waiting = whole (length b.nodes) ∷ others; lists = other_lists b.lists }
+name_built n b (Some (pending.GetsAt right)) others = record { label = b.label; nodes = b.nodes ++ assign_at n (first_list b.lists) right ∷ []; waiting = whole_expression (length b.nodes) ∷ others; lists = other_lists b.lists }
 name_built n b first others = operand_built b (value n) b.waiting
 
 -- an expression in parentheses, behind which others wait

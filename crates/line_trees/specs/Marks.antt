@@ -147,11 +147,11 @@ begin_by before.Product top s = begin_product s
 begin_by (before.Lead m d) top s = begin_lead m d s
 
 -- the operand is a name, of which nothing else stands yet
-abbrev pub is_name : Operand → Bool
-is_name operand.First = true
-is_name operand.Name = true
-is_name operand.Target = false
-is_name operand.Other = false
+abbrev pub is_bare_name : Operand → Bool
+is_bare_name operand.First = true
+is_bare_name operand.Name = true
+is_bare_name operand.Target = false
+is_bare_name operand.Other = false
 
 -- a value may be assigned to the operand
 abbrev pub is_target : Operand → Bool
@@ -178,7 +178,7 @@ go_on o top (symbol.Scalar m d) = scalar_move d
 go_on o top (symbol.Slash fold) = goes mark.Dyadic (Begins before.Axis)
 go_on o top (symbol.Function m d) = dyadic_move d
 go_on o top symbol.Jot = goes mark.Jot Jot
-go_on o top symbol.LeftBracket = opens mark.OpenSubscripts (Begins before.Subscript) (if is_name o then bracket.OfName else bracket.OfOther)
+go_on o top symbol.LeftBracket = opens mark.OpenSubscripts (Begins before.Subscript) (if is_bare_name o then bracket.OfName else bracket.OfOther)
 go_on o top symbol.LeftArrow = if is_target o then goes mark.Gets (Begins before.Plain) else None
 go_on o top symbol.Colon = if is_first o then goes mark.Colon (Begins before.Statement) else None
 go_on o top symbol.RightParenthesis = close_parenthesis top

@@ -40,6 +40,6 @@ IsFormBelow bound (form.Value k) = k < bound
 IsFormBelow bound (form.Execute k) = k < bound
 
 -- each node of a tree names only nodes before it, and its form names one of them
-pub record IsInOrder (tree : PlainTree) : Type 0 where
+pub record IsTreeInOrder (tree : PlainTree) : Type 0 where
   pub nodes : NameEarlier 0 tree.nodes
   pub form : IsFormBelow (length tree.nodes) tree.form

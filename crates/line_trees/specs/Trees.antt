@@ -54,24 +54,24 @@ abbrev pub list_with : Option ℕ → List PlainNode → List (Option ℕ) → P
 list_with place nodes places = (nodes, place ∷ places)
 
 -- a node behind others
-abbrev pub added : List PlainNode → PlainNode → Placed
-added nodes n = (nodes ++ n ∷ [], length nodes)
+abbrev pub with_node : List PlainNode → PlainNode → Placed
+with_node nodes n = (nodes ++ n ∷ [], length nodes)
 
 -- the nodes of a tree behind others, in the order of evaluation: the right argument, the axis, the left argument, then the function; the subscripts, the last one first, then what they index; the right side, the subscripts, then the target
 abbrev mutual
   pub placed : List PlainNode → Expr → Placed
-  placed nodes (constant items) = added nodes (node.constant items)
-  placed nodes (value n) = added nodes (node.value n)
-  placed nodes (niladic n) = added nodes (node.niladic n)
-  placed nodes (paren e) = (λ (e : Placed). added e.0 (node.paren e.1)) (placed nodes e)
-  placed nodes (indexed v subs) = (λ (s : PlacedList). (λ (v : Placed). added v.0 (node.indexed v.1 s.1)) (placed s.0 v)) (placed_subscripts nodes subs)
-  placed nodes (monadic f right) = (λ (r : Placed). added r.0 (node.apply f None r.1 None)) (placed nodes right)
-  placed nodes (monadic_along f axis right) = (λ (r : Placed). (λ (k : Placed). added k.0 (node.apply f None r.1 (Some k.1))) (placed r.0 axis)) (placed nodes right)
-  placed nodes (dyadic f left right) = (λ (r : Placed). (λ (l : Placed). added l.0 (node.apply f (Some l.1) r.1 None)) (placed r.0 left)) (placed nodes right)
+  placed nodes (constant items) = with_node nodes (node.constant items)
+  placed nodes (value n) = with_node nodes (node.value n)
+  placed nodes (niladic n) = with_node nodes (node.niladic n)
+  placed nodes (paren e) = (λ (e : Placed). with_node e.0 (node.paren e.1)) (placed nodes e)
+  placed nodes (indexed v subs) = (λ (s : PlacedList). (λ (v : Placed). with_node v.0 (node.indexed v.1 s.1)) (placed s.0 v)) (placed_subscripts nodes subs)
+  placed nodes (monadic f right) = (λ (r : Placed). with_node r.0 (node.apply f None r.1 None)) (placed nodes right)
+  placed nodes (monadic_along f axis right) = (λ (r : Placed). (λ (k : Placed). with_node k.0 (node.apply f None r.1 (Some k.1))) (placed r.0 axis)) (placed nodes right)
+  placed nodes (dyadic f left right) = (λ (r : Placed). (λ (l : Placed). with_node l.0 (node.apply f (Some l.1) r.1 None)) (placed r.0 left)) (placed nodes right)
   placed nodes (dyadic_along f left axis right) =
-      (λ (r : Placed). (λ (k : Placed). (λ (l : Placed). added l.0 (node.apply f (Some l.1) r.1 (Some k.1))) (placed k.0 left)) (placed r.0 axis)) (placed nodes right)
-  placed nodes (assign target right) = (λ (r : Placed). added r.0 (node.assign target r.1)) (placed nodes right)
-  placed nodes (assign_at target subs right) = (λ (r : Placed). (λ (s : PlacedList). added s.0 (node.assign_at target s.1 r.1)) (placed_subscripts r.0 subs)) (placed nodes right)
+      (λ (r : Placed). (λ (k : Placed). (λ (l : Placed). with_node l.0 (node.apply f (Some l.1) r.1 (Some k.1))) (placed k.0 left)) (placed r.0 axis)) (placed nodes right)
+  placed nodes (assign target right) = (λ (r : Placed). with_node r.0 (node.assign target r.1)) (placed nodes right)
+  placed nodes (assign_at target subs right) = (λ (r : Placed). (λ (s : PlacedList). with_node s.0 (node.assign_at target s.1 r.1)) (placed_subscripts r.0 subs)) (placed nodes right)
 
   pub placed_subscripts : List PlainNode → Subscripts → PlacedList
   placed_subscripts nodes no_more = (nodes, [])
@@ -140,5 +140,5 @@ statement_of nodes (form.Value k) = whole (tree_numbered nodes k)
 statement_of nodes (form.Execute k) = execute (tree_numbered nodes k)
 
 -- the line for which a label, a form and nodes stand
-abbrev pub line_of : PlainTree → LineTree
-line_of tree = record { label = tree.label; statement = statement_of tree.nodes tree.form }
+abbrev pub line_tree_of : PlainTree → LineTree
+line_tree_of tree = record { label = tree.label; statement = statement_of tree.nodes tree.form }

@@ -4,7 +4,7 @@ ghost use Rattle.std.specs.Prelude.{◌≡◌, ◌∷◌, ◌++◌, [], List, Op
 ghost use Rattle.line_scanner.specs.Token.{plain_kind};
 ghost use Rattle.apl_arrays.specs.Array.{plain_items};
 ghost use Rattle.line_trees.specs.Nodes.{plain_node};
-ghost use Rattle.line_trees.specs.Building.{Built, attached, finished, is_indexing, built_by, items_of, operand_built, name_built, parenthesis_built, parenthesis_behind, subscript_built, subscripts_built, subscripts, behind_subscripts, indexing, target_or_operand, axis_built, axis_before, monadic_built, lead_built, slash_built, dyadic_built, scalar_built, jot_built, factor_built, gets_built, branch_built, execute_built, name_by, niladic_by, lead_by, slash_by, monadic_by, dyadic_by, scalar_by, factor_by, with_waiting, with_whole, whole, nothing_built, first_list, other_lists};
+ghost use Rattle.line_trees.specs.Building.{Built, attached, finished, is_indexing, built_by, items_of, operand_built, name_built, parenthesis_built, parenthesis_behind, subscript_built, subscripts_built, subscripts, behind_subscripts, indexing, target_or_operand, axis_built, axis_before, monadic_built, lead_built, slash_built, dyadic_built, scalar_built, jot_built, factor_built, gets_built, branch_built, execute_built, name_by, niladic_by, lead_by, slash_by, monadic_by, dyadic_by, scalar_by, factor_by, with_waiting, with_whole, whole_expression, nothing_built, first_list, other_lists};
 ghost use Rattle.apl_arrays.specs.List.{first_of, others_of};
 ghost use Rattle.line_trees.specs.Builders.{plain_builder};
 ghost use Rattle.line_trees.specs.Parsing.{plain_tree, tree_of, form_of};

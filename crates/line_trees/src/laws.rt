@@ -7,10 +7,10 @@ ghost use Rattle.line_scanner.specs.Token.{numbers, chars, name, system, sign};
 ghost use Rattle.line_trees.specs.Nodes.{constant, value, niladic, paren, indexed, apply, assign, assign_at};
 ghost use Rattle.line_trees.specs.declared.class.Class.{Class};
 ghost use Rattle.line_scanner.specs.Token.{PlainToken};
-ghost use Rattle.line_trees.specs.Trees.{LineTree, as_nodes, line_of};
+ghost use Rattle.line_trees.specs.Trees.{LineTree, as_nodes, line_tree_of};
 ghost use Rattle.line_trees.specs.Grammar.{IsLine, IsStop};
 ghost use Rattle.line_trees.specs.Parsing.{PlainTree, parsed};
-ghost use Rattle.line_trees.specs.Order.{IsInOrder};
+ghost use Rattle.line_trees.specs.Order.{IsTreeInOrder};
 ghost use Rattle.line_trees.specs.Worked.{parsed_glyphs, three_classes};
 
 use crate::{Form, Fun};
@@ -157,11 +157,11 @@ pub fn stops_are_errors()
 
 /// Each node of a tree that is parsed stands after those that it names. The call does nothing.
 pub fn nodes_are_in_order()
-    ensures in_order { (classes : List Class) (tokens : List PlainToken) (length : ℕ) (tree : PlainTree) → parsed classes tokens length ≡ Ok tree → IsInOrder tree }
+    ensures in_order { (classes : List Class) (tokens : List PlainToken) (length : ℕ) (tree : PlainTree) → parsed classes tokens length ≡ Ok tree → IsTreeInOrder tree }
 {}
 
 /// The nodes of a line stand for its tree. The call does nothing.
 #[tactic(auto, using(crate::proofs::TreeLaw::line_again))]
 pub fn nodes_stand_for_trees()
-    ensures { (line : LineTree) → line_of (as_nodes line) ≡ line }
+    ensures { (line : LineTree) → line_tree_of (as_nodes line) ≡ line }
 {}

@@ -1,7 +1,7 @@
 //! What a token does, by what stands before it.
 
 ghost use Rattle.std.specs.Prelude.{◌≡◌};
-ghost use Rattle.line_trees.specs.Marks.{takes_axis, after_function, goes, opens, closes, monadic_move, dyadic_move, begin, begin_statement, begin_line, close_bracket, close_parenthesis, next_subscript, begin_subscript, begin_axis, begin_product, begin_lead, begin_by, is_name, is_target, is_first, scalar_move, go_on, jot_dot, factor_move, factor, step, may_be_nothing, may_end};
+ghost use Rattle.line_trees.specs.Marks.{takes_axis, after_function, goes, opens, closes, monadic_move, dyadic_move, begin, begin_statement, begin_line, close_bracket, close_parenthesis, next_subscript, begin_subscript, begin_axis, begin_product, begin_lead, begin_by, is_bare_name, is_target, is_first, scalar_move, go_on, jot_dot, factor_move, factor, step, may_be_nothing, may_end};
 
 use crate::Fun;
 use crate::signs::verb_takes_axis;
@@ -260,8 +260,8 @@ fn begin_by(before: Before, top: Option<Bracket>, symbol: Symbol) -> Option<Move
     }
 }
 
-fn is_name(operand: Operand) -> bool
-    ensures { result ≡ is_name operand }
+fn is_bare_name(operand: Operand) -> bool
+    ensures { result ≡ is_bare_name operand }
 {
     matches!(operand, Operand::First | Operand::Name)
 }
@@ -294,7 +294,7 @@ fn go_on(operand: Operand, top: Option<Bracket>, symbol: Symbol) -> Option<Move>
         Symbol::Function(_, dyadic) => dyadic_move(dyadic),
         Symbol::Jot => goes(Mark::Jot, Mode::Jot),
         Symbol::LeftBracket => {
-            let bracket = if is_name(operand) {
+            let bracket = if is_bare_name(operand) {
                 Bracket::OfName
             } else {
                 Bracket::OfOther

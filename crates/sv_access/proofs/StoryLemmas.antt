@@ -11,7 +11,7 @@ use Rattle.sv_access.specs.declared.state.State.{State}
 use Rattle.sv_access.specs.declared.state.State.TheVariants.{Quiet, UnseenA, UnseenB}
 use Rattle.sv_access.specs.declared.verdict.Verdict.TheVariants.{Granted, Held}
 use Rattle.sv_access.specs.Access.{other_side, same_side}
-use Rattle.sv_access.specs.Control.{has_element, swapped, joined}
+use Rattle.sv_access.specs.Control.{has_element, swapped, combined}
 use Rattle.sv_access.specs.State.{state_after, vector_of_state, quiet_vector, own_unseen_vector, partners_unseen_vector}
 use Rattle.sv_access.specs.Table.{element_of, verdict_of}
 use Rattle.sv_access.specs.Story.{Story, is_last_setter, is_unseen, is_early, verdict_of_story, vector_of_story, state_of_story}
@@ -154,7 +154,7 @@ state_by_unseen story = record {
     of_neither_where UnseenB = ((λ h. cc), (λ h. cc))
 
 -- what B sees of the control in force is what A would, were the two vectors exchanged
-pub joined_alike : (a b : Control) → swapped (joined a b) ≡ joined b a
+pub joined_alike : (a b : Control) → swapped (combined a b) ≡ combined b a
 joined_alike a b =
     let first = or_comm (has_element a 2) (has_element b 1) in
     let second = or_comm (has_element a 1) (has_element b 2) in

@@ -38,5 +38,5 @@ either_of a b =
     (has_element a 4 || has_element b 4)
 
 -- what is in force for a coupling as A sees it: 1 wherever A's vector has it, or B's read from A's side
-abbrev pub joined : Control → Control → Control
-joined a b = either_of a (swapped b)
+abbrev pub combined : Control → Control → Control
+combined a b = either_of a (swapped b)

@@ -7,7 +7,7 @@ use Rattle.sv_access.specs.declared.control.Control.{Control}
 use Rattle.sv_access.specs.declared.state.State.{State}
 use Rattle.sv_access.specs.declared.state.State.TheVariants.{Quiet, UnseenA, UnseenB}
 use Rattle.sv_access.specs.Access.{Access, other_side}
-use Rattle.sv_access.specs.Control.{has_element, joined, in_view}
+use Rattle.sv_access.specs.Control.{has_element, combined, in_view}
 use Rattle.sv_access.specs.State.{state_after, vector_of_state}
 use Rattle.sv_access.specs.Table.{element_of, verdict_of, owners_among, owners_of, NamesAnElement}
 use Rattle.sv_access.specs.Story.{Story, is_unseen, verdict_of_story, vector_of_story, state_of_story}
@@ -48,7 +48,7 @@ StatesHaveOneVector = (state : State) (side : Side) → vector_of_state state si
 
 -- what B sees of the control in force is what A would, were the two vectors exchanged
 abbrev pub SidesJoinAlike : Type 0
-SidesJoinAlike = (a b : Control) → in_view B (joined a b) ≡ joined b a
+SidesJoinAlike = (a b : Control) → in_view B (combined a b) ≡ combined b a
 
 -- the vector that a side set, in its own view, by A's and B's
 abbrev pub vector_by : Control → Control → Side → Control

@@ -1,5 +1,5 @@
 ghost use Rattle.std.specs.Prelude.{◌≡◌};
-ghost use Rattle.sv_access.specs.Control.{swapped, joined};
+ghost use Rattle.sv_access.specs.Control.{swapped, combined};
 
 /// Which accesses a side wants controlled. As that side sees them, the four elements stand for a
 /// set by me, a set by the partner, a use by me and a use by the partner.
@@ -17,7 +17,7 @@ pub fn swap(c: Control) -> Control
 /// The control in force for a coupling, in A's view: each element is 1 where one of the two
 /// vectors has it. `a` is in A's view and `b` in B's. No memory.
 pub fn join(a: Control, b: Control) -> Control
-    ensures { result ≡ joined a b }
+    ensures { result ≡ combined a b }
 {
     let b = swap(b);
     Control([

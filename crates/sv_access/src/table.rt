@@ -1,5 +1,5 @@
 ghost use Rattle.std.specs.Prelude.{◌≡◌, ℕ, ◌≤◌, IsTrue};
-ghost use Rattle.sv_access.specs.Control.{has_element, joined};
+ghost use Rattle.sv_access.specs.Control.{combined, has_element};
 ghost use Rattle.sv_access.specs.Table.{element_of, verdict_of, owners_among, owners_of, NamesAnElement};
 
 use crate::access::{Kind, Side};
@@ -26,7 +26,7 @@ pub fn decide(control: Control, state: State, side: Side, kind: Kind) -> Verdict
 pub fn owners(a: Control, b: Control, side: Side, element: u8) -> Owners
     requires lowest { 1 ≤ element }
     requires highest { element ≤ 4 }
-    requires in_force { IsTrue (has_element (joined a b) element) }
+    requires in_force { IsTrue (has_element (combined a b) element) }
     ensures { result ≡ owners_of a b side element }
 {
     let of_a = has_element(a, element);

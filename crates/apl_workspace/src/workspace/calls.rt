@@ -1,6 +1,6 @@
 ghost use Rattle.std.specs.Prelude.{◌≡◌, ◌≢◌, ◌<◌, ◌≤◌, [], OnOk, OnErr, IfErr, IfOk, length};
 ghost use Rattle.apl_workspace.specs.Limits.{most_depth, most_weight};
-ghost use Rattle.apl_workspace.specs.Workspace.{AreArgumentsFor, IsFrameFor, IsNotEntered, entered, left, look, workspace_weight};
+ghost use Rattle.apl_workspace.specs.Workspace.{AreArgumentsFor, IsFrameFor, IsNotEntered, look, with_frame, without_frame, workspace_weight};
 
 use crate::frame::frame_of;
 use crate::limits::{DEPTH_LIMIT, WEIGHT_LIMIT};
@@ -14,11 +14,11 @@ impl Workspace {
     /// the workspace as it was, and so does `WantOfMemory`. It takes memory for the frame.
     pub fn push_frame(&mut self, function: &Name, args: Args) -> Result<(), Fail>
         requires { AreArgumentsFor (look self.old function.now) args }
-        ensures ok { OnOk result (self.new ≡ entered self.old function.now args) }
+        ensures ok { OnOk result (self.new ≡ with_frame self.old function.now args) }
         ensures depth { OnOk result (length self.old.frames < most_depth) }
-        ensures fits { OnOk result (workspace_weight (entered self.old function.now args) ≤ most_weight) }
+        ensures fits { OnOk result (workspace_weight (with_frame self.old function.now args) ≤ most_weight) }
         ensures err { OnErr result (self.new ≡ self.old) }
-        ensures full { IfErr result (IsNotEntered self.old (entered self.old function.now args)) }
+        ensures full { IfErr result (IsNotEntered self.old (with_frame self.old function.now args)) }
     {
         if self.frames.len() >= DEPTH_LIMIT {
             discard(args);
@@ -39,7 +39,7 @@ impl Workspace {
     /// Leaves the innermost function: its frame is gone, with the values of its names. No memory.
     pub fn pop_frame(&mut self)
         requires { self.old.frames ≢ [] }
-        ensures { self.new ≡ left self.old }
+        ensures { self.new ≡ without_frame self.old }
     {
         if let Some(frame) = self.frames.pop() {
             self.frames_weight -= frame.weight();

@@ -1,5 +1,5 @@
 use Rattle.std.proofs.Common.{sym, ap, subst, ◌∙◌, ◌+◌, ◌≤◌, drop, List, ℕ}
-use Rattle.apl_workspace.specs.Meaning.{Names, table_weight}
+use Rattle.apl_workspace.specs.Meaning.{NameTable, table_weight}
 use Rattle.apl_workspace.specs.Workspace.{PlainWorkspace}
 use Rattle.apl_execute.specs.Copying.{MayCome}
 use Rattle.apl_execute.specs.Merge.{copy_in, with_copies, with_copy}
@@ -19,10 +19,10 @@ loop-name-preserved c =
     record {
       same = same_step c.args.ws.now ws c.put_copy.new.ws (with_copy ws.globals name (copy_in from name)) c.loop-name.invariant.same c.in-Ok.ensures.ok;
       rest =
-          ap (λ (g : Names). with_copies from g (drop (i + 1) names)) globals
+          ap (λ (g : NameTable). with_copies from g (drop (i + 1) names)) globals
           ∙ ap (with_copies from ws.globals) (sym left)
           ∙ c.loop-name.invariant.rest;
-      may = subst (λ (g : Names). MayCome g (drop (i + 1) names)) (sym globals) (comes_on from ws.globals name (drop (i + 1) names) may);
+      may = subst (λ (g : NameTable). MayCome g (drop (i + 1) names)) (sym globals) (comes_on from ws.globals name (drop (i + 1) names) may);
     }
 
 pub returns-in-Err-clause-full : goal.returns-in-Err-clause-full
@@ -38,4 +38,4 @@ returns-in-Err-clause-full c =
     let rises = heavier from some (drop (i + 1) names) (comes_on from ws.globals name (drop (i + 1) names) may) in
     let all = ap (with_copies from ws.globals) (sym left) ∙ c.loop-name.invariant.rest in
     full_later c.args.ws.now ws some (with_copies from c.args.ws.now.globals names) c.in-Err.fail c.loop-name.invariant.same
-    (subst (λ (g : Names). table_weight some ≤ table_weight g) all rises) c.in-Err.ensures.full
+    (subst (λ (g : NameTable). table_weight some ≤ table_weight g) all rises) c.in-Err.ensures.full

@@ -1,5 +1,5 @@
 use Rattle.std.proofs.Common.{◌≡◌, ◌<◌, ◌∙◌, true, is_none, sym, ap, arith}
-use Rattle.apl_scalar.specs.Table.{row_of}
+use Rattle.apl_scalar.specs.Table.{row_of_dyad}
 use Rattle.apl_operators.proofs.NumberLemmas.{identities_made, identities_refused, none_is, same_everywhere, told_to_lack}
 use Rattle.apl_operators.proofs.identities.identities.Goals as goal
 
@@ -10,9 +10,9 @@ returns-then-is_some c =
 pub returns-then-is_none : goal.returns-then-is_none
 returns-then-is_none c =
     let some : 0 < c.count_of_elements-count.result = omega arith in
-    let none : is_none (row_of c.args.f).identity ≡ true = ap is_none (sym c.identity_of.ensures ∙ none_is c.identity_of.result c.if-is_none.ensures) in
-    told_to_lack c.args.shape.now c.count_of_elements-count.result (λ place. (row_of c.args.f).identity) (sym c.shape_fault.ensures ∙ none_is c.shape_fault.result (sym c.if-is_some.ensures))
-    c.count_of_elements-count.ensures (same_everywhere c.count_of_elements-count.result (row_of c.args.f).identity some ∙ none)
+    let none : is_none (row_of_dyad c.args.f).identity ≡ true = ap is_none (sym c.identity_of.ensures ∙ none_is c.identity_of.result c.if-is_none.ensures) in
+    told_to_lack c.args.shape.now c.count_of_elements-count.result (λ place. (row_of_dyad c.args.f).identity) (sym c.shape_fault.ensures ∙ none_is c.shape_fault.result (sym c.if-is_some.ensures))
+    c.count_of_elements-count.ensures (same_everywhere c.count_of_elements-count.result (row_of_dyad c.args.f).identity some ∙ none)
 
 pub returns : goal.returns
 returns c =

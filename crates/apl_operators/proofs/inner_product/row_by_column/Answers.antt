@@ -1,5 +1,5 @@
 use Rattle.std.proofs.Common.{◌+◌, ◌*◌, ◌∙◌, ℕ, ℤ, Option, arith}
-use Rattle.apl_scalar.specs.Table.{dyadic_item, row_of}
+use Rattle.apl_scalar.specs.Table.{dyadic_item, row_of_dyad}
 use Rattle.apl_operators.proofs.ProductLemmas.{pair_places, some_reduced}
 use Rattle.apl_operators.proofs.inner_product.row_by_column.Goals as goal
 
@@ -13,4 +13,4 @@ returns g c item follows =
     let places = pair_places extent c.args.row c.args.column place c.requires.extent c.requires.row c.requires.column (omega (arith, below, c.requires.extent.some)) in
     follows (c.args.row * extent.paired + place) (place * extent.columns + c.args.column) answer places.0 places.1 told)
     c.requires.rule
-    ∙ some_reduced (dyadic_item f) (row_of f).identity pairs extent.paired c.requires.extent.some
+    ∙ some_reduced (dyadic_item f) (row_of_dyad f).identity pairs extent.paired c.requires.extent.some

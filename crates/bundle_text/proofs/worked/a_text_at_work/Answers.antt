@@ -4,7 +4,7 @@ use Rattle.std.specs.Fmt.{digits}
 use Rattle.std.proofs.lemmas.List.Elements.{All-nil, All-from_recursion}
 use Rattle.apl_arrays.specs.Glyph.{IsGlyph}
 use Rattle.bundle_text.specs.User.{PlainUser}
-use Rattle.bundle_text.specs.Bundle.{IsLine, IsUser}
+use Rattle.bundle_text.specs.Bundle.{IsUser, IsUserLine}
 use Rattle.bundle_text.proofs.worked.a_text_at_work.Goals as goal
 
 pub returns-clause-spelled : goal.returns-clause-spelled
@@ -22,14 +22,14 @@ unfolding encode_utf8
 returns-clause-none c =
     record { rules = record { few = omega arith; ascending = tt; each = All-nil IsUser }; text = inr refl }
 
-line_x : IsLine (codes "X")
+line_x : IsUserLine (codes "X")
 line_x = record { glyphs = All-from_recursion IsGlyph (codes "X") ((omega arith, omega arith, λ e. omega arith), tt); short = omega arith }
 
 abbrev user_x : PlainUser
 user_x = record { number = 1001; lines = codes "X" ∷ [] }
 
 rules_of_user : IsUser user_x
-rules_of_user = record { number = (omega arith, omega arith); few = omega arith; each = All-from_recursion IsLine (codes "X" ∷ []) (line_x, tt) }
+rules_of_user = record { number = (omega arith, omega arith); few = omega arith; each = All-from_recursion IsUserLine (codes "X" ∷ []) (line_x, tt) }
 
 pub returns-clause-some : goal.returns-clause-some
 unfolding digits encode_utf8

@@ -1,7 +1,7 @@
 use Rattle.std.proofs.Common.{refl, subst, take, true, false}
 use Rattle.std.specs.List.Sorted.{IsStrictlySortedBy}
 use Rattle.std.specs.Map.{keys_of}
-use Rattle.apl_workspace.specs.Meaning.{Names, weight_in}
+use Rattle.apl_workspace.specs.Meaning.{NameTable, weight_in}
 use Rattle.apl_arrays.specs.Name.{name_order}
 use Rattle.apl_workspace.proofs.NameLaw.{has_more, was_new, was_there}
 use Rattle.apl_workspace.proofs.Without.{weighs_within, weight_left}
@@ -10,7 +10,7 @@ use Rattle.apl_workspace.proofs.table.Table.weight_without.Goals.{then-branch, e
 
 pub overflow_sub-weight : goal.overflow_sub-weight
 overflow_sub-weight c =
-    let ascend = subst (λ (n : Names). IsStrictlySortedBy name_order (keys_of n)) c.self.view_is c.self.invariant.ascending in
+    let ascend = subst (λ (n : NameTable). IsStrictlySortedBy name_order (keys_of n)) c.self.view_is c.self.invariant.ascending in
     let name = c.name-item.result in
     let new = was_new _ _ _ c.in_ok-insert.ensures.added c.if-branch.true (c.loop-name.invariant.names name) in
     weighs_within c.args.self.now (take c.loop-name.name-index c.args.names.now) name c.loop-name.weight c.weight_at-weight.result ascend c.loop-name.invariant.weight c.weight_at-weight.ensures.value new
@@ -20,7 +20,7 @@ loop-name-preserved c =
     let names = c.args.names.now in
     let at = c.loop-name.name-index in
     let name = c.name-item.result in
-    let ascend = subst (λ (n : Names). IsStrictlySortedBy name_order (keys_of n)) c.self.view_is c.self.invariant.ascending in
+    let ascend = subst (λ (n : NameTable). IsStrictlySortedBy name_order (keys_of n)) c.self.view_is c.self.invariant.ascending in
     let left = weight_left c.args.self.now names at name c.loop-name.weight in
     record {
       names = λ asked. has_more names at name asked _ _ c.loop-name-test.true c.name-item.is (c.in_ok-insert.ensures.updates.0 asked) (c.loop-name.invariant.names asked);

@@ -2,7 +2,7 @@ use Rattle.std.proofs.Common.{◌∙◌, sym}
 use Rattle.std.proofs.Common.{map}
 use Rattle.apl_io.specs.Kept.{file_entry}
 use Rattle.apl_io.proofs.Entries.{written_first, unwritten}
-use Rattle.apl_io.proofs.memory_text.copy_of.Goals as goal
+use Rattle.apl_io.proofs.memory_text.copy_latest.Goals as goal
 
 pub returns-then-is_some : goal.returns-then-is_some
 returns-then-is_some c =

@@ -1,6 +1,6 @@
 use Rattle.std.proofs.Common.{◌≡◌, ◌-◌, pos, map, slice_index, slice_index_or, unsigned_abs}
 use Rattle.apl_items.specs.Places.{places}
-use Rattle.apl_structure.proofs.taking.left_shape.Given as goal
+use Rattle.apl_structure.proofs.taking.remaining_shape.Given as goal
 
 -- the axes so far
 abbrev pub invariant-loop-axis : goal.invariant-loop-axis

@@ -5,7 +5,7 @@ use Rattle.apl_items.specs.Axes.{source_by_axes}
 use Rattle.apl_selection.specs.Naming.{AreStridesFor, naming_by}
 use Rattle.apl_selection.specs.Subscripts.{point_outside}
 use Rattle.apl_selection.proofs.NamingLemmas.{assign_is_right, assigned_is, busy, counted, idle_is, overlaid_count, small_for}
-use Rattle.apl_selection.proofs.assignment.assigned.Goals as goal
+use Rattle.apl_selection.proofs.assignment.overlaid_array.Goals as goal
 
 pub returns-then-is_idle : goal.returns-then-is_idle
 returns-then-is_idle c =
