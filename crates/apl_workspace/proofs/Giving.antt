@@ -9,7 +9,7 @@ use Rattle.apl_workspace.specs.declared.meaning.Meaning.{Meaning}
 use Rattle.apl_workspace.specs.declared.remake.Remake.{Remake}
 use Rattle.apl_workspace.specs.Limits.{most_weight}
 use Rattle.apl_workspace.specs.Meaning.{NameTable, meaning_in, table_weight}
-use Rattle.apl_workspace.specs.Workspace.{AreFullFor, IsFull, IsInnermostAt, PlainWorkspace, given, in_innermost, innermost, with_global, workspace_weight}
+use Rattle.apl_workspace.specs.Workspace.{AreTooHeavy, IsFull, IsInnermostAt, PlainWorkspace, given, in_innermost, innermost, with_global, workspace_weight}
 use Rattle.apl_workspace.proofs.Innermost.{reversed, weight_reversed}
 
 first_is_some : (first second : Option Meaning) → is_some first ≡ true → is_some (option_or first second) ≡ true
@@ -63,6 +63,6 @@ pub given_fits : (globals : NameTable) (offers : List Remake) (printed : ℕ) (f
 given_fits globals offers printed frames items name meaning at w weight own view e h is fits o bound = omega (arith, given_weight globals offers printed frames items name meaning at w view e h, is, fits, o, bound)
 
 pub given_full : (globals : NameTable) (offers : List Remake) (printed : ℕ) (frames items : List NameTable) (name : List ℕ) (meaning : Meaning) (at : ℕ) (w : PlainWorkspace) (own : ℕ) (fail : Fail) → with_frames globals offers printed (reverse items) ≡ w → frames ≡ items
-    → IsInnermostAt frames name at → own ≡ table_weight globals → own ≤ most_weight → AreFullFor (most_weight - own) (in_innermost (reverse frames) name meaning) fail → IsFull (given w name meaning) fail
-given_full globals offers printed frames items name meaning at w own (Report report) view e h o bound full = (full.0, omega (arith, given_weight globals offers printed frames items name meaning at w view e h, full.1, o, bound))
+    → IsInnermostAt frames name at → own ≡ table_weight globals → own ≤ most_weight → AreTooHeavy (most_weight - own) (in_innermost (reverse frames) name meaning) fail → IsFull (given w name meaning) fail
+given_full globals offers printed frames items name meaning at w own (Report report) view e h o bound full = (cc (full.0), omega (arith, given_weight globals offers printed frames items name meaning at w view e h, full.1, o, bound))
 given_full globals offers printed frames items name meaning at w own WantOfMemory view e h o bound full = tt

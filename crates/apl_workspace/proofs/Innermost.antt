@@ -1,15 +1,16 @@
 -- Frames from the innermost outwards.
 use Rattle.std.proofs.Common.{◌≡◌, ℕ, suc, ◌+◌, ◌-◌, ◌<◌, ◌≤◌, true, false, cond, List, [], ◌∷◌, ◌++◌, Option, Some, None, length, take, drop, get_or, set, reverse, sum_by, refl, sym, ap, ◌∙◌, append_assoc, drop-cons, arith}
-use Rattle.std.specs.Prelude.{is_some}
+use Rattle.std.specs.Prelude.{IsSome, is_some}
 use Rattle.std.specs.Option.{option_or}
 use Rattle.std.proofs.lemmas.List.{take_more, take-append-drop, length-take-le, get_or-append_right, reverse-append}
 use Rattle.std.proofs.lemmas.List.Sums.{sum_by-append, sum_by-cons}
 use Rattle.std.proofs.Math.Seq.{set-append_seam}
 use Rattle.apl_arrays.specs.declared.report.Fail.{Fail}
 use Rattle.apl_arrays.specs.declared.report.Fail.TheVariants.{Report, WantOfMemory}
+use Rattle.apl_arrays.specs.declared.report.Report.TheVariants.{WsFull}
 use Rattle.apl_workspace.specs.declared.meaning.Meaning.{Meaning}
 use Rattle.apl_workspace.specs.Meaning.{IsFullFor, NameTable, meaning_in, table_weight, with_meaning}
-use Rattle.apl_workspace.specs.Workspace.{AreFullFor, IsInnermostAt, in_innermost, innermost}
+use Rattle.apl_workspace.specs.Workspace.{AreTooHeavy, IsInnermostAt, in_innermost, innermost}
 
 -- the frame at a place comes before those below it
 pub next_frame : (frames : List NameTable) (at : ℕ) (table : NameTable) → at < length frames → table ≡ get_or frames at table → reverse (take (at + 1) frames) ≡ table ∷ reverse (take at frames)
@@ -149,6 +150,10 @@ is_put frames found name meaning at before weight h e b w =
 
 -- a table that would weigh more than is left for it makes frames that weigh more than they may
 pub full_frames : (frames : List NameTable) (found : NameTable) (name : List ℕ) (meaning : Meaning) (at before weight most : ℕ) (fail : Fail) → IsPut frames found name meaning at before weight → weight ≤ most
-    → IsFullFor (most - (weight - before)) (with_meaning found name meaning) fail → AreFullFor most (in_innermost (reverse frames) name meaning) fail
-full_frames frames found name meaning at before weight most (Report report) h within full = (full.0, omega (arith, h.weighs, within, full.1))
-full_frames frames found name meaning at before weight most WantOfMemory h within full = tt
+    → IsFullFor (most - (weight - before)) (with_meaning found name meaning) fail → fail ≡ Report WsFull → AreTooHeavy most (in_innermost (reverse frames) name meaning) fail
+full_frames frames found name meaning at before weight most (Report report) h within full is = (is, omega (arith, h.weighs, within, full.1))
+full_frames frames found name meaning at before weight most WantOfMemory h within full is = absurd cc
+
+-- the frame at the place has the name
+pub has_it : (frames : List NameTable) (name : List ℕ) (at : ℕ) (found : NameTable) → IsInnermostAt frames name at → found ≡ get_or frames at found → IsSome (meaning_in found name)
+has_it frames name at found h e = ap (λ (t : NameTable). is_some (meaning_in t name)) (frame_at frames name at found h e) ∙ h.has

@@ -154,6 +154,10 @@ abbrev pub IsFull : PlainWorkspace → Fail → Type 0
 IsFull w (Report report) = (report ≡ WsFull) × (most_weight < workspace_weight w)
 IsFull w WantOfMemory = Unit {0}
 
+-- why a workspace was not changed where that takes no memory: it would weigh more than it may
+abbrev pub IsTooHeavy : PlainWorkspace → Fail → Type 0
+IsTooHeavy w fail = (fail ≡ Report WsFull) × (most_weight < workspace_weight w)
+
 -- what the global name stands for
 abbrev pub global_in : PlainWorkspace → List ℕ → Meaning
 global_in w name = unwrap_or (meaning_in w.globals name) Nothing
@@ -166,10 +170,14 @@ without_globals w names = record w { globals = without_names w.globals names }
 abbrev pub without_global : PlainWorkspace → List ℕ → PlainWorkspace
 without_global w name = record w { globals = without_name w.globals name }
 
--- why an assignment was refused: the name is a label or a function, else the workspace would weigh more than it may, or memory ran out
-abbrev pub IsNotAssigned : Bool → PlainWorkspace → Fail → Type 0
-IsNotAssigned assignable w (Report report) = MatchBool assignable ((report ≡ WsFull) × (most_weight < workspace_weight w)) (report ≡ Syntax)
-IsNotAssigned assignable w WantOfMemory = assignable ≡ true
+-- a look-up finds the name, in a frame or as a global, be there a value or none
+abbrev pub is_there : PlainWorkspace → List ℕ → Bool
+is_there w name = is_local w name || is_some (meaning_in w.globals name)
+
+-- why an assignment was refused: the name is a label or a function, else the workspace would weigh more than it may, or memory ran out for a name that was not there
+abbrev pub IsNotAssigned : Bool → Bool → PlainWorkspace → Fail → Type 0
+IsNotAssigned there assignable w (Report report) = MatchBool assignable ((report ≡ WsFull) × (most_weight < workspace_weight w)) (report ≡ Syntax)
+IsNotAssigned there assignable w WantOfMemory = (assignable ≡ true) × (there ≡ false)
 
 -- the innermost table that has a name stands behind so many outer ones
 pub record IsInnermostAt (frames : List NameTable) (name : List ℕ) (at : ℕ) : Type 0 where
@@ -181,10 +189,9 @@ pub record IsInnermostAt (frames : List NameTable) (name : List ℕ) (at : ℕ) 
   pub has : is_some (meaning_in table name) ≡ true
   pub lacking : innermost (reverse inner) name ≡ None
 
--- why frames were not changed: they would weigh more than they may, or memory ran out
-abbrev pub AreFullFor : ℕ → List NameTable → Fail → Type 0
-AreFullFor most frames (Report report) = (report ≡ WsFull) × (most < sum_by table_weight frames)
-AreFullFor most frames WantOfMemory = Unit {0}
+-- why frames were not changed, which takes no memory: they would weigh more than they may
+abbrev pub AreTooHeavy : ℕ → List NameTable → Fail → Type 0
+AreTooHeavy most frames fail = (fail ≡ Report WsFull) × (most < sum_by table_weight frames)
 
 -- a workspace in which a frame more stands before the others, where the name stands for a function
 abbrev pub with_frame_by : Meaning → PlainWorkspace → Args → PlainWorkspace

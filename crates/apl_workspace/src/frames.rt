@@ -1,6 +1,6 @@
 ghost use Rattle.std.specs.Prelude.{◌≡◌, ◌<◌, ◌≤◌, None, MatchOption, OnOk, OnErr, IfOk, IfErr, IfSome, length, reverse, sum_by};
 ghost use Rattle.std.specs.Option.{option_copied};
-ghost use Rattle.apl_workspace.specs.Workspace.{AreFullFor, IsInnermostAt, in_innermost, innermost};
+ghost use Rattle.apl_workspace.specs.Workspace.{AreTooHeavy, IsInnermostAt, in_innermost, innermost};
 ghost use Rattle.apl_workspace.specs.Limits.{most_weight};
 ghost use Rattle.apl_workspace.specs.Meaning.{IsWhole, table_weight};
 
@@ -61,7 +61,7 @@ pub fn put_innermost(
     ensures weight { IfOk result (λ weighs. weighs ≡ sum_by table_weight (in_innermost (reverse frames.old) name meaning)) }
     ensures fits { IfOk result (λ weighs. weighs ≤ most) }
     ensures err { OnErr result (frames.new ≡ frames.old) }
-    ensures full { IfErr result (AreFullFor most (in_innermost (reverse frames.old) name meaning)) }
+    ensures full { IfErr result (AreTooHeavy most (in_innermost (reverse frames.old) name meaning)) }
 {
     let table = &mut frames[at];
     let others = weight - table.weight();

@@ -84,6 +84,7 @@ impl Table {
         ensures fits { OnOk result (table_weight (with_meaning self.old name meaning) ≤ most) }
         ensures full { IfErr result (λ fail. IsFullFor most (with_meaning self.old name meaning) fail) }
         ensures granted { IsSome (meaning_in self.old name) → table_weight (with_meaning self.old name meaning) ≤ most → IsOk result }
+        ensures there { IsSome (meaning_in self.old name) → IfErr result (λ fail. fail ≡ Fail.Report Report.WsFull) }
     {
         let before = self.weight_at(&name);
         let weight = self.weight - before + meaning.weight();
@@ -107,6 +108,7 @@ impl Table {
         ensures fits { OnOk result (table_weight (with_meaning self.old name meaning) ≤ most) }
         ensures full { IfErr result (λ fail. IsFullFor most (with_meaning self.old name meaning) fail) }
         ensures granted { IsSome (meaning_in self.old name) → table_weight (with_meaning self.old name meaning) ≤ most → IsOk result }
+        ensures there { IsSome (meaning_in self.old name) → IfErr result (λ fail. fail ≡ Fail.Report Report.WsFull) }
     {
         match self.exchange(name, meaning, most) {
             Ok(before) => {
@@ -126,6 +128,7 @@ impl Table {
         ensures ok { OnOk result (self.new ≡ with_meaning self.old name meaning) }
         ensures err { OnErr result (self.new ≡ self.old) }
         ensures weight { OnOk result (table_weight self.new ≤ table_weight self.old + meaning_weight meaning) }
+        ensures there { IsSome (meaning_in self.old name) → IsOk result }
     {
         match self.put(name, meaning, WEIGHT_LIMIT) {
             Ok(()) => Ok(()),
@@ -142,6 +145,7 @@ impl Table {
         ensures ok { OnOk result (self.new ≡ with_meaning self.old name meaning) }
         ensures err { OnErr result (self.new ≡ self.old) }
         ensures weight { OnOk result (table_weight self.new ≤ table_weight self.old) }
+        ensures there { IsSome (meaning_in self.old name) → IsOk result }
     {
         let _ = &self.names;
         self.put_light(name, meaning)

@@ -2,7 +2,7 @@ ghost use Rattle.std.specs.Prelude.{◌≡◌, ◌≤◌, true, false, Some, IsO
 ghost use Rattle.apl_workspace.specs.Function.{IsFunction};
 ghost use Rattle.apl_workspace.specs.Limits.{most_weight};
 ghost use Rattle.apl_workspace.specs.Meaning.{IsGlobal, is_shared_meaning, is_variable_meaning, meaning_in};
-ghost use Rattle.apl_workspace.specs.Workspace.{IsFull, IsNotAssigned, assigned, global_in, is_assignable, is_shared, look, with_global, without_global, workspace_weight};
+ghost use Rattle.apl_workspace.specs.Workspace.{IsFull, IsNotAssigned, assigned, global_in, is_assignable, is_shared, is_there, look, with_global, without_global, workspace_weight};
 
 use crate::frames::{innermost_place, put_innermost};
 use crate::limits::WEIGHT_LIMIT;
@@ -19,7 +19,7 @@ impl Workspace {
         ensures assignable { OnOk result (is_assignable (look self.old name.now) ≡ true) }
         ensures fits { OnOk result (workspace_weight (assigned self.old name.now value) ≤ most_weight) }
         ensures err { OnErr result (self.new ≡ self.old) }
-        ensures refused { IfErr result (IsNotAssigned (is_assignable (look self.old name.now)) (assigned self.old name.now value)) }
+        ensures refused { IfErr result (IsNotAssigned (is_there self.old name.now) (is_assignable (look self.old name.now)) (assigned self.old name.now value)) }
     {
         if !self.is_assignable(name) {
             discard(value);
@@ -38,6 +38,7 @@ impl Workspace {
         ensures fits { OnOk result (workspace_weight (with_global self.old function.header.name (Meaning.Function function)) ≤ most_weight) }
         ensures err { OnErr result (self.new ≡ self.old) }
         ensures full { IfErr result (IsFull (with_global self.old function.header.name (Meaning.Function function))) }
+        ensures there { IsSome (meaning_in self.old.globals function.header.name) → IfErr result (λ fail. fail ≡ Fail.Report Report.WsFull) }
     {
         let name = function.name();
         self.put_global(name, Meaning::Function(function))
@@ -68,6 +69,7 @@ impl Workspace {
         ensures fits { OnOk result (workspace_weight (assigned self.old name.now value) ≤ most_weight) }
         ensures err { OnErr result (self.new ≡ self.old) }
         ensures full { IfErr result (IsFull (assigned self.old name.now value)) }
+        ensures there { is_there self.old name.now ≡ true → IfErr result (λ fail. fail ≡ Fail.Report Report.WsFull) }
     {
         let value = Meaning::Value(value);
         match innermost_place(&self.frames, name) {
@@ -96,6 +98,7 @@ impl Workspace {
         ensures err { OnErr result (self.new ≡ self.old) }
         ensures full { IfErr result (IsFull (with_global self.old name meaning)) }
         ensures granted { IsSome (meaning_in self.old.globals name) → workspace_weight (with_global self.old name meaning) ≤ most_weight → IsOk result }
+        ensures there { IsSome (meaning_in self.old.globals name) → IfErr result (λ fail. fail ≡ Fail.Report Report.WsFull) }
     {
         let most = WEIGHT_LIMIT - self.frames_weight;
         self.globals.put(name, meaning, most)

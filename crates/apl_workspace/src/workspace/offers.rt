@@ -1,12 +1,12 @@
-ghost use Rattle.std.specs.Prelude.{◌≡◌, ◌≤◌, true, false, Some, IsOk, OnOk, OnErr, IfErr, filter, vec_len};
+ghost use Rattle.std.specs.Prelude.{◌≡◌, ◌≤◌, true, false, Some, IsOk, IsSome, OnOk, OnErr, IfErr, filter, vec_len};
 ghost use Rattle.apl_workspace.specs.Limits.{most_weight};
-ghost use Rattle.apl_workspace.specs.Meaning.{is_function_meaning};
-ghost use Rattle.apl_workspace.specs.Workspace.{IsFull, global_in, is_addressee, is_of_another, is_shared, marked, takes_offer, unmarked, with_global, workspace_weight};
+ghost use Rattle.apl_workspace.specs.Meaning.{is_function_meaning, meaning_in};
+ghost use Rattle.apl_workspace.specs.Workspace.{IsFull, IsTooHeavy, global_in, is_addressee, is_of_another, is_shared, marked, takes_offer, unmarked, with_global, workspace_weight};
 
 use crate::limits::WEIGHT_LIMIT;
 use crate::room::reserve_one;
 use crate::{Meaning, Remake, Workspace};
-use apl_arrays::{Array, Fail, Name, OFFER_LIMIT};
+use apl_arrays::{Array, Fail, Name, OFFER_LIMIT, Report};
 
 impl Workspace {
     /// Marks a global name as shared with its own copy of the value, and lists its offer last. A name that was shared
@@ -26,6 +26,7 @@ impl Workspace {
         ensures fits { OnOk result (workspace_weight (with_global self.old name.now (Meaning.Shared value)) ≤ most_weight) }
         ensures err { OnErr result (self.new ≡ self.old) }
         ensures full { IfErr result (IsFull (with_global self.old name.now (Meaning.Shared value))) }
+        ensures there { takes_offer self.old name.now ≡ false → IsSome (meaning_in self.old.globals name.now) → IfErr result (λ fail. fail ≡ Fail.Report Report.WsFull) }
     {
         let local = *name;
         let most = WEIGHT_LIMIT - self.frames_weight;
@@ -68,7 +69,7 @@ impl Workspace {
         ensures ok { OnOk result (self.new ≡ with_global self.old name.now (Meaning.Shared (Some value))) }
         ensures fits { OnOk result (workspace_weight (with_global self.old name.now (Meaning.Shared (Some value))) ≤ most_weight) }
         ensures err { OnErr result (self.new ≡ self.old) }
-        ensures full { IfErr result (IsFull (with_global self.old name.now (Meaning.Shared (Some value)))) }
+        ensures full { IfErr result (IsTooHeavy (with_global self.old name.now (Meaning.Shared (Some value)))) }
         ensures granted { workspace_weight (with_global self.old name.now (Meaning.Shared (Some value))) ≤ most_weight → IsOk result }
     {
         self.put_global(*name, Meaning::Shared(Some(value)))

@@ -1,5 +1,5 @@
 use Rattle.std.proofs.Common.{◌+◌, ◌-◌, ap, sym, ◌∙◌, get_or}
-use Rattle.apl_workspace.proofs.Innermost.{is_put, full_frames}
+use Rattle.apl_workspace.proofs.Innermost.{has_it, is_put, full_frames}
 use Rattle.apl_workspace.specs.Meaning.{NameTable, table_weight}
 use Rattle.apl_workspace.proofs.frames.put_innermost.Goals as goal
 
@@ -31,4 +31,4 @@ returns-in-Err-clause-full c =
     let at = c.args.at in
     let found = get_or frames at c.index-frames-at.result in
     let put = is_put frames found c.args.name c.args.meaning at c.weight.result c.args.weight c.requires.place (ap (λ (t : NameTable). get_or frames at t) c.index-frames-at.is) c.weight.ensures.value c.requires.weight in
-    full_frames frames found c.args.name c.args.meaning at c.weight.result c.args.weight c.args.most c.in-Err.fail put c.requires.within c.in-Err.ensures.full
+    full_frames frames found c.args.name c.args.meaning at c.weight.result c.args.weight c.args.most c.in-Err.fail put c.requires.within c.in-Err.ensures.full (c.in-Err.ensures.there (has_it frames c.args.name at found c.requires.place (ap (λ (t : NameTable). get_or frames at t) c.index-frames-at.is)))
