@@ -24,10 +24,10 @@ pub struct Opened {
 }
 
 impl Editor {
-    /// Opens a definition by a line that begins with `∇`: by a header whose name stands for nothing, or by the bare name
-    /// of a function, which one bracket may follow; then a closing `∇` closes it. The answer tells what is shown. `Defn`
-    /// where the rules open nothing: the name of what is opened is no variable. It takes memory for the texts of the
-    /// function, and for lines that are shown.
+    /// Opens a definition by a line that begins with `∇`, blanks aside: by a header whose name stands for nothing, or by
+    /// the bare name of a function, which one bracket may follow; then a closing `∇` closes it. The answer tells what is
+    /// shown. `Defn` where the rules open nothing: the name of what is opened is no variable. It takes memory for the texts
+    /// of the function, and for lines that are shown.
     pub fn start(alloc: Global, line: &Line, ws: &Workspace) -> Result<Opened, Fail>
         ensures ok { IfOk result (λ done. opened ws.now line.now.items ≡ Some (record { editor = done.editor; shown = done.shown.items })) }
         ensures no_variable { IfOk result (λ done. is_variable_meaning (global_in ws.now done.editor.header.name) ≡ false) }
