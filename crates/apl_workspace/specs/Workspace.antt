@@ -213,10 +213,10 @@ AreArgumentsFor (Function function) args = AreArgumentsOf function.header args
 AreArgumentsFor (Label line) args = ⊥
 AreArgumentsFor (Shared copy) args = ⊥
 
--- why a function was not entered: as many are under way as may be, or the workspace would weigh more than it may, or memory ran out
+-- why a function was not entered: as many are under way as may be, or the workspace would weigh more than it may, or, where fewer are, memory ran out
 abbrev pub IsNotEntered : PlainWorkspace → PlainWorkspace → Fail → Type 0
 IsNotEntered before after (Report report) = (report ≡ WsFull) × ((most_depth ≤ length before.frames) ⊎ (most_weight < workspace_weight after))
-IsNotEntered before after WantOfMemory = Unit {0}
+IsNotEntered before after WantOfMemory = length before.frames < most_depth
 
 -- the innermost frame is left
 abbrev pub without_frame : PlainWorkspace → PlainWorkspace
