@@ -1,7 +1,8 @@
 ghost use Rattle.std.specs.Prelude.{◌≡◌, ◌+ℤ◌, ◌*ℤ◌, None, length};
 ghost use Rattle.apl_items.specs.Answers.{Answers, first_report};
 ghost use Rattle.apl_items.specs.Extension.{Reaches};
-ghost use Rattle.apl_search.specs.Decode.{counts_differ, decode_of, decode_misfit, shared_count, taken_on, value_after, value_of};
+ghost use Rattle.apl_items.specs.Places.{OnWantOfMemory};
+ghost use Rattle.apl_search.specs.Decode.{counts_differ, decode_faults, decode_of, decode_misfit, shared_count, taken_on, value_after, value_of};
 
 use crate::numbers::small;
 use apl_arrays::{Array, Fail, Report};
@@ -10,10 +11,11 @@ use std::alloc::Global;
 
 /// The value of digits by bases: of the first digit, and then always times the next base, plus the next digit. One element
 /// extends, and no digits have the value 0. RANK where an argument is of rank over 1, else LENGTH where there are not as
-/// many digits as bases, else DOMAIN where an argument is of characters or a value leaves 64 bits. It takes memory for the
-/// number.
+/// many digits as bases, else DOMAIN where an argument is of characters or a value leaves 64 bits. Where there is no report
+/// it takes memory for the number.
 pub fn decode(alloc: Global, a: &Array, b: &Array) -> Result<Array, Fail>
-    ensures { Answers result (decode_of a.now b.now) }
+    ensures answer { Answers result (decode_of a.now b.now) }
+    ensures memory { OnWantOfMemory result (first_report (decode_faults a.now b.now) ≡ None) }
 {
     match decode_misfit(a, b) {
         Some(report) => Err(Fail::Report(report)),

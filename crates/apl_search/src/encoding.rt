@@ -1,6 +1,6 @@
 ghost use Rattle.std.specs.Prelude.{◌≡◌, ◌≢◌, ◌*ℤ◌, ◌+◌, ◌-◌, ◌*◌, ◌<◌, ◌≤◌, ◌^◌, ℕ, None, false, pos, true, IfOk, drop, length, slice_index_or, unsigned_abs};
 ghost use Rattle.apl_items.specs.Answers.{Answers, first_report};
-ghost use Rattle.apl_items.specs.Places.{items_by, lacks_item};
+ghost use Rattle.apl_items.specs.Places.{OnWantOfMemory, items_by, lacks_item};
 ghost use Rattle.apl_scalar.specs.Counting.{floor_quotient, residue};
 ghost use Rattle.apl_arrays.specs.Number.{fits};
 ghost use Rattle.apl_scalar.specs.Table.{item_where, least};
@@ -19,7 +19,8 @@ use std::alloc::Global;
 /// argument is of characters or a digit leaves 64 bits, else WS FULL where the digits are over 16,384. It takes memory for
 /// the digits and their shape, where there is no report.
 pub fn encode(alloc: Global, a: &Array, b: &Array) -> Result<Array, Fail>
-    ensures { Answers result (encode_of a.now b.now) }
+    ensures answer { Answers result (encode_of a.now b.now) }
+    ensures memory { OnWantOfMemory result (first_report (encode_faults a.now b.now) ≡ None) }
 {
     match encode_report(a, b) {
         Some(report) => Err(Fail::Report(report)),

@@ -2,6 +2,7 @@ ghost use Rattle.std.specs.Prelude.{◌≡◌, ◌+◌, ◌≤◌, pos, IfOk, le
 ghost use Rattle.std.specs.List.{list_any, position_or_len};
 ghost use Rattle.apl_arrays.specs.Array.{item_count, plain_items};
 ghost use Rattle.apl_items.specs.Answers.{Answers};
+ghost use Rattle.apl_items.specs.Places.{OnWantOfMemory};
 ghost use Rattle.apl_scalar.specs.Table.{truth};
 ghost use Rattle.apl_search.specs.Lookup.{first_places, index_of_of, member_of, memberships};
 
@@ -11,10 +12,11 @@ use apl_scalar::rules::truth;
 use std::alloc::Global;
 
 /// The first place in a vector of each item of another array, from 1; for an item that it has not, 1 and its length. A
-/// scalar is a vector of one item, and a character is no number. RANK where the first array is of rank over 1. It takes
-/// memory for the places, and where both have many items for those of the first in order.
+/// scalar is a vector of one item, and a character is no number. RANK where the first array is of rank over 1. Where there
+/// is no report it takes memory for the places, and where both have many items for those of the first in order.
 pub fn index_of(alloc: Global, a: &Array, b: &Array) -> Result<Array, Fail>
-    ensures { Answers result (index_of_of a.now b.now) }
+    ensures answer { Answers result (index_of_of a.now b.now) }
+    ensures memory { OnWantOfMemory result (length a.now.shape ≤ 1) }
 {
     if a.shape().len() > 1 {
         return Err(Fail::Report(Report::Rank));

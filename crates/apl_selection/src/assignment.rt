@@ -8,6 +8,7 @@ ghost use Rattle.apl_selection.specs.Assignment.{assign_faults, assign_of, last_
 ghost use Rattle.apl_selection.specs.Naming.{AreSmall, AreSmallTogether, AreStridesFor, IsSmallBeyond, naming_by, scaled_place};
 ghost use Rattle.apl_selection.specs.Subscripts.{is_miscounted, is_outside, named_by, point_outside, points_outside, selection_shape};
 
+use crate::listing::item_in;
 use crate::strides::{scaled, stride_in, strides_of};
 use crate::subscripts::{
     Subs, are_of_chars, is_miscounted, named_counts, place_from_0, point_outside, selection_shape,
@@ -281,20 +282,6 @@ fn put_over<T: Copy + Drop>(old: T, items: &[T], place: Option<u32>) -> T
 {
     match place {
         None => old,
-        Some(place) => item_or_old(
-            old,
-            items,
-            if items.len() == 1 { 0 } else { place as usize },
-        ),
-    }
-}
-
-/// The item at a place, or the one that stood there.
-fn item_or_old<T: Copy + Drop>(old: T, items: &[T], place: usize) -> T
-    ensures { result ≡ slice_index_or items.now place old }
-{
-    match items.get(place) {
-        Some(item) => *item,
-        None => old,
+        Some(place) => item_in(items, place as usize, old),
     }
 }

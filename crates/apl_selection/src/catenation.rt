@@ -3,13 +3,13 @@ ghost use Rattle.apl_arrays.specs.Array.{FitsLimits, IsArray, chars_in, element_
 ghost use Rattle.apl_items.specs.Along.{source_count};
 ghost use Rattle.apl_items.specs.Answers.{Answers, first_report};
 ghost use Rattle.apl_items.specs.Extension.{Reaches, place_in};
-ghost use Rattle.apl_items.specs.Moves.{item_or, moved_list};
+ghost use Rattle.apl_items.specs.Moves.{moved_list};
 ghost use Rattle.apl_items.specs.Shapes.{split_at, split_count};
 ghost use Rattle.apl_items.specs.Axis.{lacks_axis};
 ghost use Rattle.apl_selection.specs.Catenation.{agree_around, are_near, are_no_scalars, axes_behind, catenate_faults, catenate_of, greater_shape, catenated, catenated_axis, catenated_place, catenated_rank, catenated_shape, kind_giver, kinds_clash, span_of};
 ghost use Rattle.apl_selection.specs.Listing.{vector_shape};
 
-use crate::listing::{vector_shape, with_axis};
+use crate::listing::{item_in, vector_shape, with_axis};
 use crate::strides::length_of;
 use apl_arrays::{
     Array, Fail, Glyph, Items, List, Report, WantOfMemory, Way, count_of_elements, shape_fault,
@@ -303,16 +303,5 @@ fn push_part<T: Copy + Drop>(
     for place in 0..count {
         let at = start + place;
         made.push_reserved(item_in(list, at, fill));
-    }
-}
-
-/// The item of a list at a place, where a lone item stands at all.
-fn item_in<T: Copy + Drop>(list: &[T], place: usize, fill: T) -> T
-    ensures { result ≡ item_or fill list.now (Some (place_in (length list.now) place)) }
-{
-    let at = if list.len() == 1 { 0 } else { place };
-    match list.get(at) {
-        Some(item) => *item,
-        None => fill,
     }
 }

@@ -2,6 +2,7 @@ ghost use Rattle.std.specs.Prelude.{◌≡◌, ◌<◌, ◌≤◌, ℕ, false, S
 ghost use Rattle.apl_arrays.specs.Array.{FitsLimits, element_count, item_count, plain_items};
 ghost use Rattle.apl_items.specs.Answers.{Answers, Faults, first_report};
 ghost use Rattle.apl_items.specs.Extension.{place_in};
+ghost use Rattle.apl_items.specs.Moves.{item_or};
 ghost use Rattle.apl_items.specs.Axis.{lacks_axis};
 ghost use Rattle.apl_selection.specs.Listing.{listed, listed_of, listed_shape, meant_axis, meant_length, on_axis, vector_shape};
 
@@ -39,6 +40,17 @@ pub(crate) fn place_in(length: u32, place: usize) -> u16
     ensures { result ≡ place_in length place }
 {
     if length == 1 { 0 } else { place as u16 }
+}
+
+/// The item of a list at a place, where a lone item stands at all.
+pub(crate) fn item_in<T: Copy + Drop>(list: &[T], place: usize, fill: T) -> T
+    ensures { result ≡ item_or fill list.now (Some (place_in (length list.now) place)) }
+{
+    let at = if list.len() == 1 { 0 } else { place };
+    match list.get(at) {
+        Some(item) => *item,
+        None => fill,
+    }
 }
 
 /// The shape with another length of an axis. It takes memory for it.

@@ -12,3 +12,4 @@ pub mod TakeLaws
 pub mod TakeLemmas
 pub mod TransposeLemmas
 pub mod VectorLaws
+pub mod WantLemmas

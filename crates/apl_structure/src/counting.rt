@@ -1,8 +1,8 @@
-ghost use Rattle.std.specs.Prelude.{◌≡◌, ◌+◌, ◌≤◌, pos, IfOk, map, unsigned_abs};
+ghost use Rattle.std.specs.Prelude.{◌≡◌, ◌+◌, ◌≤◌, None, pos, IfOk, map, unsigned_abs};
 ghost use Rattle.apl_arrays.specs.Array.{numbers};
 ghost use Rattle.apl_items.specs.Answers.{Answers, first_report};
 ghost use Rattle.apl_items.specs.Extension.{number_at};
-ghost use Rattle.apl_items.specs.Places.{places};
+ghost use Rattle.apl_items.specs.Places.{OnWantOfMemory, places};
 ghost use Rattle.apl_structure.specs.Counting.{iota_faults, iota_of, lone_number};
 
 use apl_arrays::{Array, ELEMENT_LIMIT, Fail, Items, List, NumberList, Report, WantOfMemory};
@@ -10,10 +10,11 @@ use apl_items::is_single;
 use std::alloc::Global;
 
 /// The numbers from 1 to the number of an array. RANK where the array is of rank over 1, else LENGTH where it has not
-/// one element, else DOMAIN where it is a character or negative, else WS FULL where it is over 16,384. It takes memory
-/// for the numbers.
+/// one element, else DOMAIN where it is a character or negative, else WS FULL where it is over 16,384. Where there is no
+/// report it takes memory for the numbers.
 pub fn iota(alloc: Global, b: &Array) -> Result<Array, Fail>
-    ensures { Answers result (iota_of b.now) }
+    ensures answer { Answers result (iota_of b.now) }
+    ensures memory { OnWantOfMemory result (first_report (iota_faults b.now) ≡ None) }
 {
     match iota_report(b) {
         Some(report) => Err(Fail::Report(report)),

@@ -3,7 +3,7 @@ ghost use Rattle.std.specs.List.{list_any};
 ghost use Rattle.apl_arrays.specs.Array.{FitsLimits, numbers_in};
 ghost use Rattle.apl_items.specs.Answers.{Answers, first_report};
 ghost use Rattle.apl_items.specs.Axis.{lacks_axis};
-ghost use Rattle.apl_items.specs.Places.{places};
+ghost use Rattle.apl_items.specs.Places.{OnWantOfMemory, places};
 ghost use Rattle.apl_structure.specs.Diagonals.{axes_by_faults, axes_named, axis_count, diagonal_shape, least_length, leaves_gap, step_of, transpose_by_of, transposed_by};
 
 use apl_arrays::{Array, ELEMENT_LIMIT, Fail, Report, WantOfMemory, count_of_elements};
@@ -13,9 +13,10 @@ use std::alloc::Global;
 
 /// B with its axes where A puts them, the i-th at A[i]; axes that come to one place run on together up to the shortest.
 /// RANK where A is of rank over 1, else LENGTH where it has not one number for each axis of B, else DOMAIN where these
-/// are not exactly 1 to some number. It takes memory for a shape, for strides and for the items.
+/// are not exactly 1 to some number. Where there is no report it takes memory for a shape, for strides and for the items.
 pub fn transpose_by(alloc: Global, a: &Array, b: &Array) -> Result<Array, Fail>
-    ensures { Answers result (transpose_by_of a.now b.now) }
+    ensures answer { Answers result (transpose_by_of a.now b.now) }
+    ensures memory { OnWantOfMemory result (first_report (axes_by_faults a.now b.now) ≡ None) }
 {
     match axes_by_report(a, b) {
         Some(report) => Err(Fail::Report(report)),

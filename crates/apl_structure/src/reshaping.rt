@@ -3,6 +3,7 @@ ghost use Rattle.std.specs.Int.{is_negative};
 ghost use Rattle.std.specs.List.{list_any};
 ghost use Rattle.apl_arrays.specs.Array.{FitsLimits, element_count, item_count};
 ghost use Rattle.apl_items.specs.Answers.{Answers, first_report};
+ghost use Rattle.apl_items.specs.Places.{OnWantOfMemory};
 ghost use Rattle.apl_structure.specs.Reshaping.{is_hollow, reshape_faults, reshape_of, reshaped};
 
 use crate::lengths::{capped, pass_limits};
@@ -13,9 +14,11 @@ use std::alloc::Global;
 
 /// An array of the shape A, of B's items, from the first again where they end. RANK where A is of rank over 1 or has
 /// over eight numbers, else DOMAIN where it is of characters, has a negative number, or asks for items where B has
-/// none, else WS FULL where the result is too large. It takes memory for the shape and the items.
+/// none, else WS FULL where the result is too large. Where there is no report but WS FULL it takes memory for the shape,
+/// and then for the items.
 pub fn reshape(alloc: Global, a: &Array, b: &Array) -> Result<Array, Fail>
-    ensures { Answers result (reshape_of a.now b.now) }
+    ensures answer { Answers result (reshape_of a.now b.now) }
+    ensures memory { OnWantOfMemory result (first_report (reshape_faults a.now b.now) ≡ None) }
 {
     match reshape_report(a, b) {
         Some(report) => Err(Fail::Report(report)),

@@ -1,4 +1,7 @@
+ghost use Rattle.std.specs.Prelude.{◌≡◌, false, length};
 ghost use Rattle.apl_items.specs.Answers.{Answers};
+ghost use Rattle.apl_items.specs.Axis.{lacks_axis};
+ghost use Rattle.apl_items.specs.Places.{OnWantOfMemory};
 ghost use Rattle.apl_structure.specs.Reversal.{reverse_of};
 
 use crate::moves::moved_on;
@@ -7,9 +10,10 @@ use apl_items::{Along, axis_of, lacks_axis};
 use std::alloc::Global;
 
 /// An array with its items in reverse order along an axis, the last or the first where none is named; a scalar is
-/// unchanged. INDEX where the axis is not from 1 to the rank. It takes memory for the items.
+/// unchanged. INDEX where the axis is not from 1 to the rank. Where there is no report it takes memory for the items.
 pub fn reverse(alloc: Global, b: &Array, way: Way, axis: Option<i64>) -> Result<Array, Fail>
-    ensures { Answers result (reverse_of b.now way axis) }
+    ensures answer { Answers result (reverse_of b.now way axis) }
+    ensures memory { OnWantOfMemory result (lacks_axis (length b.now.shape) axis ≡ false) }
 {
     let rank = b.shape().len();
     if lacks_axis(rank, axis) {

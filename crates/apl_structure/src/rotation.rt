@@ -1,5 +1,6 @@
-ghost use Rattle.std.specs.Prelude.{◌≡◌, ◌<◌, ◌≤◌, IfOk, IfSome, length, map, not};
+ghost use Rattle.std.specs.Prelude.{◌≡◌, ◌<◌, ◌≤◌, None, IfOk, IfSome, length, map, not};
 ghost use Rattle.apl_items.specs.Answers.{Answers, first_report};
+ghost use Rattle.apl_items.specs.Places.{OnWantOfMemory};
 ghost use Rattle.apl_structure.specs.Rotation.{fits_around, rotate_faults, rotate_of, rotated, turn_of, turned_from, wrapped};
 
 use crate::moves::moved_on;
@@ -11,7 +12,8 @@ use std::alloc::Global;
 /// An array whose lines along an axis, the last or the first where none is named, are turned: an item comes from as many
 /// places on as A says, cyclically; a scalar is unchanged. RANK where A has not one element and its rank is not one less
 /// than B's, else LENGTH where its shape is not B's without the axis, else DOMAIN where it is of characters, else INDEX
-/// where the axis is not from 1 to the rank. It takes memory for the items, and for a number for each line.
+/// where the axis is not from 1 to the rank. Where there is no report it takes memory for the items, and for a number for
+/// each line.
 pub fn rotate(
     alloc: Global,
     a: &Array,
@@ -19,7 +21,8 @@ pub fn rotate(
     way: Way,
     axis: Option<i64>,
 ) -> Result<Array, Fail>
-    ensures { Answers result (rotate_of a.now b.now way axis) }
+    ensures answer { Answers result (rotate_of a.now b.now way axis) }
+    ensures memory { OnWantOfMemory result (first_report (rotate_faults a.now b.now way axis) ≡ None) }
 {
     match rotate_report(a, b, way, axis) {
         Some(report) => Err(Fail::Report(report)),

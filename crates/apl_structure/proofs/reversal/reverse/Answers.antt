@@ -18,8 +18,8 @@ reversed_is b way axis used long array named some is_used is_long is =
     ∙ ap (λ (u : ℕ). moved_on b u (λ line along. from_the_end (get_or b.shape u 0) along)) is_used in
     rw (named, not_zero (length b.shape) some) (ap (λ (x : PlainArray). Ok x) (sym (is ∙ same)))
 
-pub returns-in_ok-moved_on : goal.returns-in_ok-moved_on
-returns-in_ok-moved_on c =
+pub returns-in_ok-moved_on-clause-answer : goal.returns-in_ok-moved_on-clause-answer
+returns-in_ok-moved_on-clause-answer c =
     let rank = c.shape-rank.ensures.value in
     let named : lacks_axis (length c.args.b.now.shape) c.args.axis ≡ false = subst (λ (xs : List ℕ). lacks_axis (length xs) c.args.axis ≡ false) rank (sym c.lacks_axis.ensures ∙ c.if-lacks_axis.false) in
     let used = subst (λ (xs : List ℕ). c.axis_of-axis.result ≡ axis_of (length xs) c.args.way c.args.axis) rank c.axis_of-axis.ensures.value in

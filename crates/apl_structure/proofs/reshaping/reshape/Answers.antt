@@ -1,0 +1,6 @@
+use Rattle.std.proofs.Common.{sym, ◌∙◌}
+use Rattle.apl_structure.proofs.WantLemmas.{on_want}
+use Rattle.apl_structure.proofs.reshaping.reshape.Goals as goal
+
+pub returns-in-None-clause-memory : goal.returns-in-None-clause-memory
+returns-in-None-clause-memory c = on_want c.shaped_by.result _ (sym c.reshape_report.ensures ∙ c.in-None.is)
