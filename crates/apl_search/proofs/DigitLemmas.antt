@@ -15,9 +15,10 @@ use Rattle.std.proofs.lemmas.Nat.{mul-add-lt, div-mul-add, mod-mul-add, div-add-
 use Rattle.apl_items.specs.Places.{items_by, lacks_item, places}
 use Rattle.apl_items.proofs.PlaceLemmas.{list_any-places, made}
 use Rattle.apl_scalar.specs.Counting.{floor_by, floor_quotient, residue}
+use Rattle.apl_scalar.specs.Reading.{AllFit}
 use Rattle.apl_scalar.specs.Table.{fits, item_where, least}
 use Rattle.apl_scalar.proofs.Quotients.{residue_from_0, residue_below, residue_to_0, residue_above}
-use Rattle.apl_search.specs.Encode.{AreBefore, AreFrom, AreSmall, digit_at, digit_for, rest_by, rest_by_all}
+use Rattle.apl_search.specs.Encode.{AreBefore, AreFrom, digit_at, digit_for, rest_by, rest_by_all}
 
 -- ---- magnitudes
 
@@ -25,10 +26,6 @@ use Rattle.apl_search.specs.Encode.{AreBefore, AreFrom, AreSmall, digit_at, digi
 signed : (z : ℤ) → fits z ≡ true → FitsSigned w64 z
 signed (pos n) e = record { sfits = grind (arith, nat_tests) }
 signed (negsuc n) e = record { sfits = grind (arith, nat_tests) }
-
-pub fits_signed : (z : ℤ) → FitsSigned w64 z → fits z ≡ true
-fits_signed (pos n) small = let below = small.sfits in grind (arith, nat_tests)
-fits_signed (negsuc n) small = let below = small.sfits in grind (arith, nat_tests)
 
 no_greater : (z : ℤ) → fits z ≡ true → unsigned_abs z ≤ 2 ^ 63
 no_greater z small = let inside = signed z small in omega (arith, ints)
@@ -131,7 +128,7 @@ kept : (z : ℤ) → fits z ≡ true → is_none (item_where true z) ≡ false
 kept z e = ap (λ (b : Bool). is_none (if true && b then Some z else None)) e
 
 -- a digit that leaves 64 bits is one of the least number
-least_lacking : (bases numbers : List ℤ) → AreSmall bases → AreSmall numbers → (place : ℕ) → place < length bases * length numbers → is_none (digit_for bases numbers place) ≡ true
+least_lacking : (bases numbers : List ℤ) → AllFit bases → AllFit numbers → (place : ℕ) → place < length bases * length numbers → is_none (digit_for bases numbers place) ≡ true
     → int_eq (get_or numbers (place % length numbers) (pos 0)) least ≡ true
 least_lacking bases numbers of_bases of_numbers place below lacks = by_test (int_eq (get_or numbers (place % length numbers) (pos 0)) least) refl
   where
@@ -147,7 +144,7 @@ least_lacking bases numbers of_bases of_numbers place below lacks = by_test (int
         absurd (let bad : true ≡ false = sym lacks ∙ kept (digit_at bases (get_or numbers (place % length numbers) (pos 0)) (place / length numbers)) fine in cc)
 
 -- where the least number is there, a digit leaves 64 bits exactly where one of its own does
-pub lacks_by_least : (bases numbers : List ℤ) → AreSmall bases → AreSmall numbers → list_any (λ y. int_eq y least) numbers ≡ true
+pub lacks_by_least : (bases numbers : List ℤ) → AllFit bases → AllFit numbers → list_any (λ y. int_eq y least) numbers ≡ true
     → lacks_item (length bases) (λ at. item_where true (digit_at bases least at)) ≡ lacks_item (length bases * length numbers) (digit_for bases numbers)
 lacks_by_least bases numbers of_bases of_numbers has =
     both_ways (lacks_item (length bases) (λ at. item_where true (digit_at bases least at))) (lacks_item (length bases * length numbers) (digit_for bases numbers)) forth back
@@ -173,7 +170,7 @@ lacks_by_least bases numbers of_bases of_numbers has =
         (ap (λ (z : ℤ). is_none (item_where true (digit_at bases z (place.0 / length numbers)))) (sym is) ∙ place.2)
 
 -- and where it is not there, none does
-pub none_lacks_without_least : (bases numbers : List ℤ) → AreSmall bases → AreSmall numbers → list_any (λ y. int_eq y least) numbers ≡ false
+pub none_lacks_without_least : (bases numbers : List ℤ) → AllFit bases → AllFit numbers → list_any (λ y. int_eq y least) numbers ≡ false
     → false ≡ lacks_item (length bases * length numbers) (digit_for bases numbers)
 none_lacks_without_least bases numbers of_bases of_numbers has =
     none_lacks (length bases * length numbers) (digit_for bases numbers) (λ place below. by_test place below (is_none (digit_for bases numbers place)) refl)
