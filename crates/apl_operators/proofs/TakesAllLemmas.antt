@@ -1,6 +1,7 @@
 -- Functions that have a value of 64 bits at all items.
 use Rattle.std.proofs.Common.{◌≡◌, ◌+◌, ◌/◌, ◌%◌, ◌*◌, ◌<◌, ◌≤◌, ◌^◌, ◌≤ℤ◌, ◌<ℤ◌, ◌==◌, ◌⊎◌, inl, inr, ℕ, zero, suc, ℤ, pos, negsuc, Bool, true, false, not, List, length, get_or, Option, Some, None, is_none, nat_lt, refl, sym, ap, subst, ◌∙◌, arith}
 use Rattle.std.specs.Prelude.{int_le, int_lt, slice_index, slice_index_or}
+use Rattle.std.specs.Int.{int_max, int_min}
 use Rattle.std.specs.Ordering.{int_eq}
 use Rattle.std.proofs.lemmas.Bool.{cases_lt, false≢true}
 use Rattle.std.proofs.lemmas.Bool.Decides.{nat_tests}
@@ -50,15 +51,15 @@ residue_fits (pos (suc d)) b p q =
 residue_fits (negsuc d) b p q = to_0_fits d (residue (negsuc d) b) p (residue_to_0 (negsuc d) b (omega (arith, ints))) (residue_above (negsuc d) b (omega (arith, ints)))
 
 numbers_small : (f : Dyad) (a b : ℤ) → refuses_none f ≡ true → Fits a → Fits b → is_small (dyadic_item f a b) ≡ true
-numbers_small Maximum a b e p q = small_where _ (greater_fits a b p q)
-numbers_small Minimum a b e p q = small_where _ (lesser_fits a b p q)
-numbers_small Residue a b e p q = small_where _ (residue_fits a b p q)
-numbers_small Less a b e p q = small_where _ (truth_fits (int_lt a b))
-numbers_small NotGreater a b e p q = small_where _ (truth_fits (int_le a b))
-numbers_small Equal a b e p q = small_where _ (truth_fits (int_eq a b))
-numbers_small NotLess a b e p q = small_where _ (truth_fits (int_le b a))
-numbers_small Greater a b e p q = small_where _ (truth_fits (int_lt b a))
-numbers_small NotEqual a b e p q = small_where _ (truth_fits (not (int_eq a b)))
+numbers_small Maximum a b e p q = small_where (int_max a b) (greater_fits a b p q)
+numbers_small Minimum a b e p q = small_where (int_min a b) (lesser_fits a b p q)
+numbers_small Residue a b e p q = small_where (residue a b) (residue_fits a b p q)
+numbers_small Less a b e p q = small_where (truth (int_lt a b)) (truth_fits (int_lt a b))
+numbers_small NotGreater a b e p q = small_where (truth (int_le a b)) (truth_fits (int_le a b))
+numbers_small Equal a b e p q = small_where (truth (int_eq a b)) (truth_fits (int_eq a b))
+numbers_small NotLess a b e p q = small_where (truth (int_le b a)) (truth_fits (int_le b a))
+numbers_small Greater a b e p q = small_where (truth (int_lt b a)) (truth_fits (int_lt b a))
+numbers_small NotEqual a b e p q = small_where (truth (not (int_eq a b))) (truth_fits (not (int_eq a b)))
 numbers_small _ a b e p q = absurd (false≢true e)
 
 chars_small : (f : Dyad) (alike : Bool) → takes_chars f ≡ true → is_small (item_of_chars f alike) ≡ true

@@ -1,12 +1,14 @@
-use Rattle.std.proofs.Common.{◌≡◌, ◌*◌, ◌∙◌, is_some, true, Ok, refl, sym, ap}
+use Rattle.std.proofs.Common.{◌≡◌, ℤ, ◌*◌, ◌∙◌, is_some, true, Ok, refl, sym, ap}
 use Rattle.std.proofs.lemmas.Result.{err_from_is_err_and}
 use Rattle.apl_arrays.specs.Array.{PlainArray}
+use Rattle.apl_arrays.specs.List.{Listed}
 use Rattle.apl_items.specs.Answers.{Answer}
 use Rattle.apl_items.specs.Places.{AtPlace, GivesEach}
 use Rattle.apl_items.proofs.PlaceLemmas.{nothing_lacks_at, something_lacks}
+use Rattle.apl_scalar.proofs.MemoryLemmas.{has_as_told, want_through}
 use Rattle.apl_operators.specs.Gathering.{numbers_answer}
 use Rattle.apl_operators.proofs.NumberLemmas.{answers_through, lacking_of_many, none_is, none_lacking_of_many, numbers_made, refused_by_place}
-use Rattle.apl_operators.proofs.RowLemmas.{has_as_told, lacks_as_told, want_through}
+use Rattle.apl_operators.proofs.RowLemmas.{lacks_as_told}
 use Rattle.apl_operators.proofs.rows.numbers_by_rows.Goals as goal
 use Rattle.apl_operators.proofs.rows.numbers_by_rows.Given as given
 
@@ -21,7 +23,7 @@ pub returns-in_err-items-clause-memory : goal.returns-in_err-items-clause-memory
 returns-in_err-items-clause-memory g c =
     let p = err_from_is_err_and c.from_residual.result c.from_residual.ensures.1 in
     let same : p.0 ≡ c.in_err-items.field-0.0 = cc p.2 in
-    want_through c.from_residual.result c.in_err-items.field-0.0 p.0 (GivesEach (c.args.rows * c.args.columns) (AtPlace (given.F-post g c.args.rule.now) c.args.columns)) p.1 same c.in_err-items.ensures.memory
+    want_through (Listed ℤ) c.from_residual.result c.in_err-items.field-0.0 p.0 (GivesEach (c.args.rows * c.args.columns) (AtPlace (given.F-post g c.args.rule.now) c.args.columns)) p.1 same c.in_err-items.ensures.memory
 
 pub returns-in_ok-items-clause-value : goal.returns-in_ok-items-clause-value
 returns-in_ok-items-clause-value g c item follows =

@@ -44,14 +44,14 @@ loop-at-preserved g c =
           (run_item by c.args.list.now c.args.split item c.args.outer c.loop-at.at c.index-list-place.result runs c.requires.outer c.loop-at-test.true here));
     }
 
-pub returns-after-loop-at-clause-len : goal.returns-after-loop-at-clause-len
-returns-after-loop-at-clause-len g c e =
+pub returns-clause-len : goal.returns-clause-len
+returns-clause-len g c e =
     let all : c.loop-at.at ≡ row_length c.args.split = omega arith in
     let next : (c.args.outer + 1) * row_length c.args.split ≡ c.args.outer * row_length c.args.split + row_length c.args.split = omega arith in
     omega (arith, c.loop-at.invariant.whole, all, next)
 
-pub returns-after-loop-at-clause-made : goal.returns-after-loop-at-clause-made
-returns-after-loop-at-clause-made g c e =
+pub returns-clause-made : goal.returns-clause-made
+returns-clause-made g c e =
     let all : c.loop-at.at ≡ row_length c.args.split = omega arith in
     let next : (c.args.outer + 1) * row_length c.args.split ≡ c.args.outer * row_length c.args.split + row_length c.args.split = omega arith in
     runs_to_as (given.F-post g c.args.rule.now) c.args.list.now c.args.split (c.args.outer * row_length c.args.split + c.loop-at.at) ((c.args.outer + 1) * row_length c.args.split) c.loop-at.made.items (omega (arith, all, next)) c.loop-at.invariant.each
