@@ -16,7 +16,7 @@ use Rattle.apl_items.proofs.ShapeLemmas.{along_of_place, inner_of_place, outer_o
 use Rattle.apl_operators.specs.Reduction.{Joins, front_of_line, joined, number_on, reduction}
 use Rattle.apl_scalar.specs.Reading.{AllFit}
 use Rattle.apl_arrays.specs.Number.{fits}
-use Rattle.apl_operators.specs.Running.{BreaksOff, Runs, RunsTo, front_at, row_length}
+use Rattle.apl_operators.specs.Running.{Runs, RunsTo, front_at, row_length}
 use Rattle.apl_operators.proofs.FrontLemmas.{Fits, Groups, one_more}
 
 -- a vector, seen along its only axis
@@ -171,8 +171,8 @@ line_next {T} joins by list split item outer at count made last number value lon
     let was : item (count - 1) ≡ Some last = sym (so_far (count - 1) (omega arith)) ∙ kept in
     joining last number value told
     ∙ sym
-        (ap item is ∙ runs.next outer at p (omega arith) below ∙ ap (λ (n : ℕ). joined by (item n) (slice_get list (outer * row_length split + at))) before
-        ∙ ap (λ (o : Option T). joined by o (slice_get list (outer * row_length split + at))) was ∙ ap (λ (n : ℕ). joined by (Some last) (slice_get list n)) (sym is) ∙ ap (λ (o : Option T). joined by (Some last) o) read)
+    (ap item is ∙ runs.next outer at p (omega arith) below ∙ ap (λ (n : ℕ). joined by (item n) (slice_get list (outer * row_length split + at))) before
+    ∙ ap (λ (o : Option T). joined by o (slice_get list (outer * row_length split + at))) was ∙ ap (λ (n : ℕ). joined by (Some last) (slice_get list n)) (sym is) ∙ ap (λ (o : Option T). joined by (Some last) o) read)
 
 -- the first of a line
 pub line_first : {T : Type 0} (by : T → T → Option T) (list : List T) (split : Split) (item : ℕ → Option T) (outer count : ℕ) (number : T)

@@ -161,7 +161,7 @@ scan_item_on_line f shape list way axis split outer along inner r some is_split 
     let below : place < element_count shape = omega (arith, low, count) in
     let scan_is : scan_of f (number_array shape list) way axis ≡ numbers_answer shape rule =
     rw (named, not_zero (length shape) some, not_zero (element_count shape) (omega (arith, below)))
-        (ap (λ (t : Split). gathered shape (scanned_at f (numbers list) t)) (sym is_split) ∙ scan_of_numbers f list split shape) in
+    (ap (λ (t : Split). gathered shape (scanned_at f (numbers list) t)) (sym is_split) ∙ scan_of_numbers f list split shape) in
     let given = given_numbers shape rule r (sym scan_is ∙ e) in
     let item = each_given (element_count shape) rule place (pos 0) given.0 below in
     let value : get_or (items_by (element_count shape) rule) place (pos 0) ≡ slice_index_or (numbers_in r.items) place (pos 0) = ap (λ (a : PlainArray). get_or (numbers_in a.items) place (pos 0)) given.1 in

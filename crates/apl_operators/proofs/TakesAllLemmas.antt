@@ -1,5 +1,5 @@
 -- Functions that have a value of 64 bits at all items.
-use Rattle.std.proofs.Common.{◌≡◌, ◌+◌, ◌/◌, ◌%◌, ◌*◌, ◌<◌, ◌≤◌, ◌^◌, ◌≤ℤ◌, ◌<ℤ◌, ◌==◌, ◌⊎◌, inl, inr, ℕ, zero, suc, ℤ, pos, negsuc, Bool, true, false, not, List, length, get_or, Option, Some, None, is_none, nat_lt, refl, sym, ap, subst, ◌∙◌, arith}
+use Rattle.std.proofs.Common.{◌≡◌, ◌+◌, ◌/◌, ◌%◌, ◌*◌, ◌<◌, ◌≤◌, ◌≤ℤ◌, ◌<ℤ◌, ◌==◌, ◌⊎◌, inl, inr, ℕ, zero, suc, ℤ, pos, negsuc, Bool, true, false, not, List, length, get_or, Option, Some, None, is_none, refl, ap, ◌∙◌, arith}
 use Rattle.std.specs.Prelude.{int_le, int_lt, slice_index, slice_index_or}
 use Rattle.std.specs.Int.{int_max, int_min}
 use Rattle.std.specs.Ordering.{int_eq}
@@ -8,7 +8,6 @@ use Rattle.std.proofs.lemmas.Bool.Decides.{nat_tests}
 use Rattle.std.proofs.lemmas.Int.{ints}
 use Rattle.std.proofs.lemmas.List.{get_or_past}
 use Rattle.std.proofs.lemmas.List.Elements.{All-get_or}
-use Rattle.std.proofs.lemmas.Option.{none-some}
 use Rattle.apl_arrays.specs.declared.array.Item.{Item}
 use Rattle.apl_arrays.specs.declared.verb.Dyad.{Dyad}
 use Rattle.apl_arrays.specs.declared.verb.Dyad.TheVariants.{Maximum, Minimum, Residue, Less, NotGreater, Equal, NotLess, Greater, NotEqual}

@@ -1,5 +1,5 @@
 -- Where memory ran out, no report was due.
-use Rattle.std.proofs.Common.{◌≡◌, ℕ, ℤ, ◌<◌, ◌∙◌, false, Option, Some, IsOk, Result, Err, refl, sym, ap, subst}
+use Rattle.std.proofs.Common.{◌≡◌, ℕ, false, Option, Some, IsOk, Result, Err, refl, sym, subst}
 use Rattle.apl_arrays.specs.declared.report.Fail.{Fail}
 use Rattle.apl_arrays.specs.declared.verb.Monad.{Monad}
 use Rattle.apl_arrays.specs.declared.verb.Dyad.{Dyad}

@@ -1,4 +1,4 @@
-use Rattle.std.proofs.Common.{◌≡◌, ℤ, ◌*◌, ◌∙◌, is_some, true, Ok, refl, sym, ap}
+use Rattle.std.proofs.Common.{◌≡◌, ℤ, ◌*◌, ◌∙◌, is_some, Ok, refl, sym, ap}
 use Rattle.std.proofs.lemmas.Result.{err_from_is_err_and}
 use Rattle.apl_arrays.specs.Array.{PlainArray}
 use Rattle.apl_arrays.specs.List.{Listed}

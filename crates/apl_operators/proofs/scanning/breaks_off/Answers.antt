@@ -1,4 +1,3 @@
-use Rattle.std.proofs.Common.{◌*◌}
 use Rattle.apl_scalar.specs.Table.{dyadic_item}
 use Rattle.apl_operators.proofs.LastLemmas.{last_fronts_have, last_fronts_lack}
 use Rattle.apl_operators.proofs.WeightLemmas.{some_along}

@@ -1,4 +1,4 @@
-use Rattle.std.proofs.Common.{◌≡◌, Option, ℤ, length, sym}
+use Rattle.std.proofs.Common.{◌≡◌, length, sym}
 use Rattle.apl_items.specs.Places.{GivesEach, HasItems}
 use Rattle.apl_items.proofs.RowLemmas.{weaker_want}
 use Rattle.apl_scalar.specs.Table.{dyadic_item}

@@ -1,4 +1,4 @@
-use Rattle.std.proofs.Common.{◌≡◌, ◌==◌, Option, ℤ}
+use Rattle.std.proofs.Common.{◌==◌}
 use Rattle.apl_items.specs.Extension.{char_at}
 use Rattle.apl_items.specs.Places.{GivesEach, HasItems}
 use Rattle.apl_items.proofs.RowLemmas.{weaker_want}

@@ -1,4 +1,3 @@
-use Rattle.std.proofs.Common.{◌≡◌, Option, ℤ}
 use Rattle.apl_items.specs.Extension.{number_at}
 use Rattle.apl_items.specs.Places.{GivesEach, HasItems}
 use Rattle.apl_items.proofs.RowLemmas.{weaker_want}
