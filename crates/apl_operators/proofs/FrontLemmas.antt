@@ -74,14 +74,14 @@ pub where_fits : (value : ℤ) → Fits value → item_where true value ≡ Some
 where_fits value e = rw e refl
 
 -- the greater and the lesser of two numbers are one of them
-greater_fits : (a b : ℤ) → Fits a → Fits b → Fits (int_max a b)
+pub greater_fits : (a b : ℤ) → Fits a → Fits b → Fits (int_max a b)
 greater_fits a b p q = by_test (int_lt b a)
   where
     by_test : (t : Bool) → Fits (cond t a b)
     by_test true = p
     by_test false = q
 
-lesser_fits : (a b : ℤ) → Fits a → Fits b → Fits (int_min a b)
+pub lesser_fits : (a b : ℤ) → Fits a → Fits b → Fits (int_min a b)
 lesser_fits a b p q = by_test (int_lt b a)
   where
     by_test : (t : Bool) → Fits (cond t b a)

@@ -2,6 +2,7 @@ mod ExtentLemmas
 mod FrontLemmas
 mod GatherLemmas
 mod InnerLaws
+mod LastLemmas
 mod LineLemmas
 mod NumberLemmas
 mod ProductLemmas

@@ -9,12 +9,12 @@ use Rattle.apl_arrays.specs.Array.{PlainArray, plain_items}
 use Rattle.apl_arrays.specs.List.{Listed}
 use Rattle.apl_items.specs.Answers.{Answers}
 use Rattle.apl_scalar.specs.Table.{item_of_chars}
-use Rattle.apl_operators.specs.declared.inner_product.Extent.{Extent}
+use Rattle.apl_operators.specs.declared.products.Extent.{Extent}
 use Rattle.apl_operators.specs.Gathering.{numbers_answer}
 use Rattle.apl_operators.specs.Inner.{inner_at}
 use Rattle.apl_operators.specs.Products.{IsExtent, products_at}
 use Rattle.apl_operators.specs.Reduction.{reduction, reduction_of}
-use Rattle.apl_operators.proofs.RowLemmas.{place_below}
+use Rattle.apl_items.proofs.RowLemmas.{place_below}
 
 -- the reduction of some items
 pub some_reduced : {T : Type 0} (join : T → T → Option T) (identity : Option T) (item : ℕ → Option T) (count : ℕ) → 0 < count

@@ -1,79 +1,16 @@
--- Items made row by row are the items made place by place.
-use Rattle.std.proofs.Common.{◌≡◌, ℕ, zero, suc, ◌+◌, ◌*◌, ◌/◌, ◌%◌, ◌<◌, ◌≤◌, ◌||◌, Bool, true, false, not, List, [], ◌∷◌, ◌++◌, Option, Some, None, is_none, is_some, length, slice_get, ◌⊎◌, inl, inr, refl, sym, ap, ◌∙◌, subst, arith}
-use Rattle.std.proofs.lemmas.Bool.{cases_lt}
-use Rattle.std.proofs.lemmas.Nat.{div-mul-add, mod-mul-add, mul-add-lt}
-use Rattle.std.proofs.Math.Nat.{mul_comm}
-use Rattle.apl_items.specs.Places.{Follows, lacks_item}
-use Rattle.apl_items.proofs.PlaceLemmas.{list_any-places, list_any-places_more}
-use Rattle.apl_operators.specs.Rows.{AtPlace}
+-- Rules that are asked row by row, and what they tell of numbers.
+use Rattle.std.proofs.Common.{◌≡◌, ℕ, ◌<◌, Bool, true, false, Option, None, refl, sym}
+use Rattle.apl_items.specs.Places.{Follows, GivesEach, LacksItem, lacks_item}
+use Rattle.apl_items.proofs.PlaceLemmas.{nothing_lacks_at, something_lacks}
+use Rattle.apl_scalar.proofs.MemoryLemmas.{has_as_told}
 
--- a place of a row is a place of all rows
-pub at_place : {A : Type 0} (answers : ℕ → ℕ → A → Type 0) (columns row column : ℕ) (answer : A) → column < columns
-    → answers row column answer → AtPlace answers columns (row * columns + column) answer
-at_place answers columns row column answer inside told =
-    subst (λ (r : ℕ). answers r ((row * columns + column) % columns) answer) (sym (div-mul-add row columns column inside))
-    (subst (λ (k : ℕ). answers row k answer) (sym (mod-mul-add row columns column inside)) told)
+-- a place at which a call gives none is one at which a definition does
+pub lacks_as_told : {T : Type 0} (count : ℕ) (answers : ℕ → Option T → Type 0) (rule : ℕ → Option T) → Follows answers count rule
+    → (place : ℕ) × (place < count) × answers place None → LacksItem count rule
+lacks_as_told count answers rule follows at = (at.0, at.1, sym (follows at.0 None at.1 at.2))
 
-pub place_below : (rows columns row column : ℕ) → row < rows → column < columns → row * columns + column < rows * columns
-place_below rows columns row column p q = let turned = mul_comm rows columns in omega (arith, mul-add-lt row columns column rows p q)
-
--- no place so far is without an item
-abbrev pub NoneLacks : {T : Type 0} → (ℕ → Option T → Type 0) → ℕ → ℕ → Type 0
-NoneLacks {T} answers count so_far = (item : ℕ → Option T) → Follows answers count item → lacks_item so_far item ≡ false
-
-none_of : {T : Type 0} (answer : Option T) (b : Bool) → is_some answer ≡ b → is_none answer ≡ not b
-none_of (Some x) b e = ap not e
-none_of None b e = ap not e
-
-pub none_lacks_more : {T : Type 0} (answers : ℕ → Option T → Type 0) (count place : ℕ) (answer : Option T)
-    → NoneLacks answers count place → place < count → answers place answer → is_some answer ≡ true → NoneLacks answers count (place + 1)
-none_lacks_more answers count place answer so_far below told is item follows =
-    list_any-places_more (λ p. is_none (item p)) place false (ap is_none (sym (follows place answer below told)) ∙ none_of answer true is)
-    ∙ ap (λ (b : Bool). b || false) (so_far item follows)
-
-pub one_lacks : {T : Type 0} (answers : ℕ → Option T → Type 0) (count place : ℕ) (answer : Option T)
-    → place < count → answers place answer → is_some answer ≡ false → (item : ℕ → Option T) → Follows answers count item → true ≡ lacks_item count item
-one_lacks answers count place answer below told is item follows =
-    sym (list_any-places (λ p. is_none (item p)) count place below (ap is_none (sym (follows place answer below told)) ∙ none_of answer false is))
-
-pub none_lacks_as : {T : Type 0} (answers : ℕ → Option T → Type 0) (count from to : ℕ) → from ≡ to → NoneLacks answers count from → NoneLacks answers count to
-none_lacks_as answers count from to same none = subst (λ (n : ℕ). NoneLacks answers count n) same none
-
--- ---- one item more
-
-pushed_last : {T : Type 0} (items : List T) (item : T) → slice_get (items ++ item ∷ []) (length items) ≡ Some item
-pushed_last [] item = refl
-pushed_last (x ∷ items) item = pushed_last items item
-
-pushed_before : {T : Type 0} (items : List T) (item : T) (k : ℕ) → k < length items → slice_get (items ++ item ∷ []) k ≡ slice_get items k
-pushed_before [] item k h = absurd (omega arith)
-pushed_before (x ∷ items) item zero h = refl
-pushed_before (x ∷ items) item (suc k) h = pushed_before items item k (omega arith)
-
-pub each_more : {T : Type 0} (answers : ℕ → Option T → Type 0) (count next : ℕ) (items more : List T) (item : T) → length items ≡ count → next ≡ count + 1
-    → more ≡ items ++ item ∷ [] → ((k : ℕ) → k < count → answers k (slice_get items k)) → answers count (Some item)
-    → (k : ℕ) → k < next → answers k (slice_get more k)
-each_more {T} answers count next items more item long is_next is each now k below =
-    subst (λ (list : List T). answers k (slice_get list k)) (sym is) (at_each (cases_lt k count))
-  where
-    at_each : (k < count) ⊎ (count ≤ k) → answers k (slice_get (items ++ item ∷ []) k)
-    at_each (inl h) = subst (λ (o : Option T). answers k o) (sym (pushed_before items item k (omega arith))) (each k h)
-    at_each (inr h) =
-        let same : length items ≡ k = omega arith in
-        let here : count ≡ k = omega arith in
-        subst (λ (n : ℕ). answers k (slice_get (items ++ item ∷ []) n)) same
-        (subst (λ (o : Option T). answers k o) (sym (pushed_last items item)) (subst (λ (n : ℕ). answers n (Some item)) here now))
-
--- ---- one place
-
--- a product of 1 is of 1 and 1
-pub lone_place : (rows columns : ℕ) → rows * columns ≡ 1 → (0 < rows) × (columns ≡ 1)
-lone_place zero columns e = absurd (omega arith)
-lone_place (suc rows) zero e = absurd (omega arith)
-lone_place (suc rows) (suc zero) e = (omega arith, refl)
-lone_place (suc rows) (suc (suc columns)) e = absurd (omega arith)
-
--- what a call answers in the only place
-pub at_lone_place : {A : Type 0} (answers : ℕ → ℕ → A → Type 0) (columns place : ℕ) (answer : A) → columns ≡ 1 → place ≡ 0 → answers 0 0 answer → AtPlace answers columns place answer
-at_lone_place answers columns place answer one first told =
-    subst (λ (p : ℕ). AtPlace answers columns p answer) (sym first) (subst (λ (n : ℕ). answers (0 / n) (0 % n) answer) (sym one) told)
+-- a look for a place without an item tells whether one is lacking
+pub told_lacking : {T : Type 0} (count : ℕ) (answers : ℕ → Option T → Type 0) (rule : ℕ → Option T) (lacks : Bool) → Follows answers count rule
+    → (lacks ≡ true → (place : ℕ) × (place < count) × answers place None) → (lacks ≡ false → GivesEach count answers) → lacks ≡ lacks_item count rule
+told_lacking count answers rule true follows some none = sym (something_lacks count rule (lacks_as_told count answers rule follows (some refl)))
+told_lacking count answers rule false follows some none = sym (nothing_lacks_at count rule (has_as_told count answers rule follows (none refl)))

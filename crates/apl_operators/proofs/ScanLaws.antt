@@ -1,23 +1,30 @@
--- Each item of a scan of a vector is a reduction of its first items.
-use Rattle.std.proofs.Common.{◌≡◌, ◌||◌, ℕ, ℤ, zero, suc, pos, ◌+◌, ◌-◌, ◌*◌, ◌/◌, ◌%◌, ◌<◌, ◌≤◌, Bool, true, false, List, [], ◌∷◌, Option, Some, None, Ok, is_none, length, take, get_or, slice_get, get_or-take, refl, sym, ap, ◌∙◌, arith}
+-- Each item of a scan is a reduction of the first items of its line.
+use Rattle.std.proofs.Common.{◌≡◌, ◌||◌, ℕ, ℤ, zero, suc, pos, negsuc, map, if◌then◌else◌, Err, ◌+◌, ◌-◌, ◌*◌, ◌/◌, ◌%◌, ◌<◌, ◌≤◌, Bool, true, false, List, [], ◌∷◌, Option, Some, None, Ok, is_none, length, take, get_or, slice_get, get_or-take, refl, sym, ap, ◌∙◌, arith}
 use Rattle.std.specs.Prelude.{slice_index_or}
 use Rattle.std.specs.List.{filter_map, list_any, range_with_len}
 use Rattle.std.proofs.lemmas.Bool.{false≢true}
+use Rattle.std.proofs.lemmas.Bool.Decides.{nat_tests}
 use Rattle.apl_arrays.specs.declared.array.ShapeFault.{ShapeFault}
 use Rattle.apl_arrays.specs.declared.array.ShapeFault.TheVariants as fault
 use Rattle.apl_arrays.specs.declared.verb.Dyad.{Dyad}
-use Rattle.apl_arrays.specs.declared.verb.Way.TheVariants.{Last}
+use Rattle.apl_arrays.specs.declared.report.Report.TheVariants.{Index}
+use Rattle.apl_arrays.specs.declared.verb.Way.{Way}
+use Rattle.apl_arrays.specs.declared.verb.Way.TheVariants.{First, Last}
 use Rattle.apl_arrays.specs.Array.{PlainArray, element_count, number_array, numbers, numbers_in, scalar}
 use Rattle.apl_arrays.specs.Shape.{shape_fault}
-use Rattle.apl_items.specs.Answers.{answer_of, faults_of_fault}
+use Rattle.apl_items.specs.Answers.{Answer, answer_of, faults_of_fault}
+use Rattle.apl_items.specs.Axis.{axis_of, lacks_axis}
+use Rattle.apl_items.specs.declared.shapes.Split.{Split}
 use Rattle.apl_items.specs.Places.{items_by, lacks_item, numbers_by}
-use Rattle.apl_items.proofs.ShapeLemmas.{element_count-cons}
+use Rattle.apl_items.specs.Shapes.{place_along, split_at, split_count}
+use Rattle.apl_items.proofs.ShapeLemmas.{element_count-cons, place_along_below, split_count_lem}
 use Rattle.apl_scalar.specs.Table.{dyadic_item}
-use Rattle.apl_operators.specs.Gathering.{numbers_answer}
+use Rattle.apl_operators.specs.Gathering.{gathered, numbers_answer}
+use Rattle.apl_operators.specs.Lines.{front_numbers}
 use Rattle.apl_operators.specs.Reduce.{reduce_of, reduced_line}
 use Rattle.apl_operators.specs.Reduction.{front_of_line, number_on}
 use Rattle.apl_operators.specs.Running.{front_at}
-use Rattle.apl_operators.specs.Scan.{scan_of}
+use Rattle.apl_operators.specs.Scan.{scan_of, scanned_at}
 use Rattle.apl_operators.proofs.LineLemmas.{not_zero, number_line_is}
 use Rattle.apl_operators.proofs.NumberLemmas.{gathered_as_numbers, numbers_made}
 use Rattle.apl_operators.proofs.RunLemmas.{front_on, lone, reduction_alike}
@@ -105,3 +112,58 @@ scan_item f list k r below e =
     let place : k ≡ (0 * n + k) * 1 + 0 = omega arith in
     vector_reduction f (take (k + 1) list) k (slice_index_or (numbers_in r.items) k (pos 0))
     (first_alike f list n k ∙ sym (front_on (dyadic_item f) list (lone n) k 0 k 0 place below (omega arith)) ∙ item ∙ ap (λ (z : ℤ). Some z) value)
+
+-- ---- a line along any axis
+
+axis_below : (rank : ℕ) (way : Way) (axis : Option ℤ) → lacks_axis rank axis ≡ false → 0 < rank → axis_of rank way axis < rank
+axis_below rank Last None named some = omega arith
+axis_below rank First None named some = some
+axis_below rank way (Some (pos zero)) named some = absurd (cc)
+axis_below rank way (Some (pos (suc n))) named some = grind (arith, nat_tests)
+axis_below rank way (Some (negsuc n)) named some = absurd (cc)
+
+named_axis : (t : Bool) (other : Answer) (r : PlainArray) → (if t then Err Index else other) ≡ Ok r → t ≡ false
+named_axis true other r e = absurd (cc)
+named_axis false other r e = refl
+
+mapped_at : (g : ℕ → ℤ) (first n j : ℕ) (d : ℤ) → j < n → get_or (map g (range_with_len first n)) j d ≡ g (first + j)
+mapped_at g first zero j d h = absurd (omega arith)
+mapped_at g first (suc n) zero d h = ap g (let same : first ≡ first + zero = omega arith in same)
+mapped_at g first (suc n) (suc j) d h = mapped_at g (first + 1) n j d (omega arith) ∙ ap g (let same : (first + 1) + j ≡ first + suc j = omega arith in same)
+
+-- the first numbers of a line, as a vector of their own
+line_alike : (f : Dyad) (list : List ℤ) (split : Split) (outer inner along : ℕ)
+    → front_of_line (dyadic_item f) (front_numbers list split outer inner along) (lone (along + 1)) 0 0 along ≡ front_of_line (dyadic_item f) list split outer inner along
+line_alike f list split outer inner along =
+    reduction_alike (dyadic_item f) (number_on (front_numbers list split outer inner along) (lone (along + 1)) 0 0) (number_on list split outer inner) 0 along same
+  where
+    number : ℕ → ℤ
+    number k = slice_index_or list (place_along split outer k inner) (pos 0)
+
+    same : (j : ℕ) → j ≤ 0 + along → number_on (front_numbers list split outer inner along) (lone (along + 1)) 0 0 j ≡ number_on list split outer inner j
+    same j h =
+        let one : (0 * (along + 1) + j) * 1 + 0 ≡ j = omega arith in
+        let inside : j < along + 1 = omega arith in
+        let start : 0 + j ≡ j = omega arith in
+        ap (λ (p : ℕ). Some (slice_index_or (front_numbers list split outer inner along) p (pos 0))) one
+        ∙ ap (λ (z : ℤ). Some z) (mapped_at number 0 (along + 1) j (pos 0) inside) ∙ ap (λ (n : ℕ). Some (number n)) start
+
+pub scan_item_on_line : (f : Dyad) (shape : List ℕ) (list : List ℤ) (way : Way) (axis : Option ℤ) (split : Split) (outer along inner : ℕ) (r : PlainArray) → 0 < length shape
+    → split ≡ split_at shape (axis_of (length shape) way axis) → outer < split.outer → along < split.along → inner < split.inner → scan_of f (number_array shape list) way axis ≡ Ok r
+    → reduce_of f (number_array ((along + 1) ∷ []) (front_numbers list split outer inner along)) Last None ≡ Ok (scalar (slice_index_or (numbers_in r.items) (place_along split outer along inner) (pos 0)))
+scan_item_on_line f shape list way axis split outer along inner r some is_split p q s e =
+    let rule : ℕ → Option ℤ = front_at (dyadic_item f) list split in
+    let place : ℕ = place_along split outer along inner in
+    let used : ℕ = axis_of (length shape) way axis in
+    let named = named_axis (lacks_axis (length shape) axis) _ r e in
+    let count : split_count split ≡ element_count shape = ap split_count is_split ∙ split_count_lem shape used (axis_below (length shape) way axis named some) in
+    let low = place_along_below split outer along inner p q s in
+    let below : place < element_count shape = omega (arith, low, count) in
+    let scan_is : scan_of f (number_array shape list) way axis ≡ numbers_answer shape rule =
+    rw (named, not_zero (length shape) some, not_zero (element_count shape) (omega (arith, below)))
+    (ap (λ (t : Split). gathered shape (scanned_at f (numbers list) t)) (sym is_split) ∙ scan_of_numbers f list split shape) in
+    let given = given_numbers shape rule r (sym scan_is ∙ e) in
+    let item = each_given (element_count shape) rule place (pos 0) given.0 below in
+    let value : get_or (items_by (element_count shape) rule) place (pos 0) ≡ slice_index_or (numbers_in r.items) place (pos 0) = ap (λ (a : PlainArray). get_or (numbers_in a.items) place (pos 0)) given.1 in
+    vector_reduction f (front_numbers list split outer inner along) along (slice_index_or (numbers_in r.items) place (pos 0))
+    (line_alike f list split outer inner along ∙ sym (front_on (dyadic_item f) list split place outer along inner refl q s) ∙ item ∙ ap (λ (z : ℤ). Some z) value)

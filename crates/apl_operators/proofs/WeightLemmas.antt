@@ -10,7 +10,7 @@ use Rattle.std.proofs.lemmas.Nat.{div-mul-add, mod-mul-add, mul-le}
 use Rattle.std.proofs.lemmas.Option.{none-some}
 use Rattle.apl_arrays.specs.declared.verb.Dyad.{Dyad}
 use Rattle.apl_arrays.specs.declared.verb.Dyad.TheVariants.{And, Maximum, Minimum, Or, Plus, Times}
-use Rattle.apl_arrays.specs.Number.{fits}
+use Rattle.apl_scalar.specs.Reading.{AllFit}
 use Rattle.apl_scalar.specs.Table.{dyadic_item, item_where}
 use Rattle.apl_items.specs.declared.shapes.Split.{Split}
 use Rattle.apl_items.specs.Places.{lacks_item}
@@ -20,7 +20,7 @@ use Rattle.apl_operators.specs.Reduction.{front_of_line, joined, number_on, redu
 use Rattle.apl_operators.specs.Running.{Runs, factor_weight, front_at, is_grouped, term_weight, weight_on}
 use Rattle.apl_operators.proofs.RunLemmas.{StepsOn, runs_by_steps, steps_by_groups}
 use Rattle.apl_operators.proofs.FrontLemmas.{Fits, Groups, and_groups, maximum_groups, minimum_groups, or_groups, where_fits, where_is}
-use Rattle.apl_operators.proofs.RowLemmas.{place_below}
+use Rattle.apl_items.proofs.RowLemmas.{place_below}
 
 -- how a function of numbers is bounded by a function of their weights, none of which is below the low one
 pub record Weighing (by : ℤ → ℤ → Option ℤ) (op : ℤ → ℤ → ℤ) (weights : ℕ → ℕ → ℕ) (low : ℕ) : Type 0 where
@@ -185,7 +185,7 @@ products = record {
 pub steps_of_sums : (list : List ℤ) (split : Split) → ((outer inner : ℕ) → outer < split.outer → inner < split.inner → (t : ℤ) × (weight_on term_weight (dyadic_item Plus) list split outer inner ≡ Some t))
     → StepsOn (dyadic_item Plus) list split
 steps_of_sums list split weigh = record {
-  step = λ outer inner along p q r fit.
+  step = λ outer inner along p q r.
       let number : ℕ → ℤ = λ k. slice_index_or list (place_along split outer k inner) (pos 0) in
       let weighed = weigh outer inner p q in
       ap (λ (n : ℕ). front_of_line (dyadic_item Plus) list split outer inner n) (add-one along)
@@ -196,7 +196,7 @@ steps_of_sums list split weigh = record {
 pub steps_of_products : (list : List ℤ) (split : Split) → ((outer inner : ℕ) → outer < split.outer → inner < split.inner → (t : ℤ) × (weight_on factor_weight (dyadic_item Times) list split outer inner ≡ Some t))
     → StepsOn (dyadic_item Times) list split
 steps_of_products list split weigh = record {
-  step = λ outer inner along p q r fit.
+  step = λ outer inner along p q r.
       let number : ℕ → ℤ = λ k. slice_index_or list (place_along split outer k inner) (pos 0) in
       let weighed = weigh outer inner p q in
       ap (λ (n : ℕ). front_of_line (dyadic_item Times) list split outer inner n) (add-one along)
@@ -231,23 +231,23 @@ grouped_functions And e = and_groups
 grouped_functions Or e = or_groups
 grouped_functions _ e = absurd (false≢true e)
 
-pub runs_grouped : (f : Dyad) (list : List ℤ) (split : Split) → split_count split ≡ length list → 0 < split.along → is_grouped f ≡ true
-    → Runs fits (dyadic_item f) list split (front_at (dyadic_item f) list split)
-runs_grouped f list split whole some grouped =
-    runs_by_steps (dyadic_item f) list split whole some (steps_by_groups (dyadic_item f) list split whole (grouped_functions f grouped))
+pub runs_grouped : (f : Dyad) (list : List ℤ) (split : Split) → split_count split ≡ length list → 0 < split.along → AllFit list → is_grouped f ≡ true
+    → Runs (dyadic_item f) list split (front_at (dyadic_item f) list split)
+runs_grouped f list split whole some fit grouped =
+    runs_by_steps (dyadic_item f) list split whole some (steps_by_groups (dyadic_item f) list split whole fit (grouped_functions f grouped))
 
 pub runs_of_sums : (f : Dyad) (list : List ℤ) (split : Split) (result : Bool) → f ≡ Plus → split_count split ≡ length list → 0 < split.along
     → result ≡ not (lacks_item (split.outer * split.inner) (λ line. weight_on term_weight (dyadic_item Plus) list split (line / split.inner) (line % split.inner))) → result ≡ true
-    → Runs fits (dyadic_item f) list split (front_at (dyadic_item f) list split)
+    → Runs (dyadic_item f) list split (front_at (dyadic_item f) list split)
 runs_of_sums f list split result is whole some told true_is =
-    subst (λ (g : Dyad). Runs fits (dyadic_item g) list split (front_at (dyadic_item g) list split)) (sym is)
+    subst (λ (g : Dyad). Runs (dyadic_item g) list split (front_at (dyadic_item g) list split)) (sym is)
     (runs_by_steps (dyadic_item Plus) list split whole some (steps_of_sums list split (weights_exist term_weight (dyadic_item Plus) list split (sym told ∙ true_is))))
 
 pub runs_of_products : (f : Dyad) (list : List ℤ) (split : Split) (result : Bool) → f ≡ Times → split_count split ≡ length list → 0 < split.along
     → result ≡ not (lacks_item (split.outer * split.inner) (λ line. weight_on factor_weight (dyadic_item Times) list split (line / split.inner) (line % split.inner))) → result ≡ true
-    → Runs fits (dyadic_item f) list split (front_at (dyadic_item f) list split)
+    → Runs (dyadic_item f) list split (front_at (dyadic_item f) list split)
 runs_of_products f list split result is whole some told true_is =
-    subst (λ (g : Dyad). Runs fits (dyadic_item g) list split (front_at (dyadic_item g) list split)) (sym is)
+    subst (λ (g : Dyad). Runs (dyadic_item g) list split (front_at (dyadic_item g) list split)) (sym is)
     (runs_by_steps (dyadic_item Times) list split whole some (steps_of_products list split (weights_exist factor_weight (dyadic_item Times) list split (sym told ∙ true_is))))
 
 pub some_along : (split : Split) → 0 < split_count split → 0 < split.along

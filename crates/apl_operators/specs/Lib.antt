@@ -1,5 +1,6 @@
 pub mod Gathering
 pub mod Inner
+pub mod Lines
 pub mod Outer
 pub mod Reduction
 pub mod Reduce

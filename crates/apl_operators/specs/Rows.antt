@@ -1,15 +1,16 @@
-use Rattle.std.specs.Prelude.{◌/◌, ◌%◌, ℕ, Bool, true, false}
+use Rattle.std.specs.Prelude.{◌≡◌, ℕ, ℤ, Bool, true, false, Option, Some, None}
 use Rattle.apl_arrays.specs.declared.verb.Dyad.{Dyad}
-use Rattle.apl_arrays.specs.declared.verb.Dyad.TheVariants.{Less, NotGreater, Equal, NotLess, Greater, NotEqual}
+use Rattle.apl_arrays.specs.declared.verb.Dyad.TheVariants.{Maximum, Minimum, Residue, Less, NotGreater, Equal, NotLess, Greater, NotEqual}
 use Rattle.apl_arrays.specs.Array.{PlainItems, numbers, chars}
-use Rattle.apl_scalar.specs.Table.{takes_chars}
+use Rattle.apl_arrays.specs.Number.{fits}
+use Rattle.apl_scalar.specs.Table.{pair_item, takes_chars}
+use Rattle.apl_operators.specs.Reduction.{item_in}
 
--- what a call by row and column answers at a place, where a row has so many places
-abbrev pub AtPlace : {A : Type 0} → (ℕ → ℕ → A → Type 0) → ℕ → ℕ → A → Type 0
-AtPlace answers columns place answer = answers (place / columns) (place % columns) answer
-
--- the function has a value at all pairs of numbers: a comparison
+-- the function has a value of 64 bits at all pairs of numbers of 64 bits
 abbrev pub refuses_none : Dyad → Bool
+refuses_none Maximum = true
+refuses_none Minimum = true
+refuses_none Residue = true
 refuses_none Less = true
 refuses_none NotGreater = true
 refuses_none Equal = true
@@ -18,9 +19,18 @@ refuses_none Greater = true
 refuses_none NotEqual = true
 refuses_none _ = false
 
--- the function has a value at each item of the one with each of the other
+-- the function has a value at each item of the one with each of the other, by their kinds
 abbrev pub takes_all : Dyad → PlainItems → PlainItems → Bool
 takes_all f (numbers a) (numbers b) = refuses_none f
 takes_all f (numbers a) (chars b) = takes_chars f
 takes_all f (chars a) (numbers b) = takes_chars f
 takes_all f (chars a) (chars b) = takes_chars f
+
+-- there is a number, and it has 64 bits
+abbrev pub is_small : Option ℤ → Bool
+is_small None = false
+is_small (Some number) = fits number
+
+-- the function has a value of 64 bits at each item of the one with each of the other
+abbrev pub TakesAll : Dyad → PlainItems → PlainItems → Type 0
+TakesAll f a b = (x y : ℕ) → is_small (pair_item f (item_in a x) (item_in b y)) ≡ true

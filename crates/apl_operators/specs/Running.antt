@@ -1,10 +1,11 @@
-use Rattle.std.specs.Prelude.{◌≡◌, ◌+◌, ◌*◌, ◌-◌, ◌<◌, ◌≤◌, ℕ, ℤ, pos, Bool, true, false, List, Option, Some, slice_get, slice_index_or, max, unsigned_abs}
+use Rattle.std.specs.Prelude.{◌≡◌, ◌+◌, ◌*◌, ◌-◌, ◌<◌, ◌≤◌, ℕ, ℤ, pos, Bool, true, false, List, Option, length, slice_get, slice_index_or, max, unsigned_abs}
 use Rattle.apl_arrays.specs.declared.verb.Dyad.{Dyad}
 use Rattle.apl_arrays.specs.declared.verb.Dyad.TheVariants.{And, Maximum, Minimum, Or}
 use Rattle.apl_items.specs.declared.shapes.Split.{Split}
+use Rattle.apl_items.specs.Places.{LacksItem}
 use Rattle.apl_items.specs.Shapes.{along_of, inner_of, outer_of, place_along}
 use Rattle.apl_scalar.specs.Table.{item_where}
-use Rattle.apl_operators.specs.Reduction.{front_of_line, joined, reduction}
+use Rattle.apl_operators.specs.Reduction.{Joins, front_of_line, joined, reduction}
 
 -- the reduction of the front of a line of numbers, up to a place
 abbrev pub front_at : (ℤ → ℤ → Option ℤ) → List ℤ → Split → ℕ → Option ℤ
@@ -14,20 +15,21 @@ front_at join list split place = front_of_line join list split (outer_of split p
 abbrev pub row_length : Split → ℕ
 row_length split = split.along * split.inner
 
--- the items of a list up to a place pass a test
-abbrev pub PassUpTo : {T : Type 0} → (T → Bool) → List T → ℕ → Type 0
-PassUpTo {T} test list place = (k : ℕ) (x : T) → k ≤ place → slice_get list k ≡ Some x → test x ≡ true
-
--- each item follows from the one before it on its line, where the items of the list up to it pass a test: the first is that of
--- the list, and each other is joined with that of the list
-pub record Runs {T : Type 0} (test : T → Bool) (join : T → T → Option T) (list : List T) (split : Split) (item : ℕ → Option T) : Type 0 where
+-- each item follows from the one before it on its line: the first is that of the list, and each other is joined with that of the
+-- list
+pub record Runs {T : Type 0} (join : T → T → Option T) (list : List T) (split : Split) (item : ℕ → Option T) : Type 0 where
   pub first : (outer at : ℕ) → outer < split.outer → at < split.inner → item (outer * row_length split + at) ≡ slice_get list (outer * row_length split + at)
-  pub next : (outer at : ℕ) → outer < split.outer → split.inner ≤ at → at < row_length split → PassUpTo test list (outer * row_length split + at)
+  pub next : (outer at : ℕ) → outer < split.outer → split.inner ≤ at → at < row_length split
       → item (outer * row_length split + at) ≡ joined join (item (outer * row_length split + at - split.inner)) (slice_get list (outer * row_length split + at))
 
--- a call gives its item back, which passes a test
-abbrev pub GivesSameItem : {T : Type 0} → (T → T → Type 0) → (T → Bool) → Type 0
-GivesSameItem {T} answers test = (x y : T) → answers x y → (y ≡ x) × (test x ≡ true)
+-- so many items are those of any definition that joins as the calls do and runs on
+abbrev pub RunsTo : {T : Type 0} → (T → T → Option T → Type 0) → List T → Split → ℕ → List T → Type 0
+RunsTo {T} joins list split count made =
+    (by : T → T → Option T) (item : ℕ → Option T) → Joins joins by → Runs by list split item → (k : ℕ) → k < count → slice_get made k ≡ item k
+
+-- of any definition that joins as the calls do and runs on an item is lacking
+abbrev pub BreaksOff : {T : Type 0} → (T → T → Option T → Type 0) → List T → Split → Type 0
+BreaksOff {T} joins list split = (by : T → T → Option T) (item : ℕ → Option T) → Joins joins by → Runs by list split item → LacksItem (length list) item
 
 -- a function of which any grouping gives the same item, or none
 abbrev pub is_grouped : Dyad → Bool

@@ -10,10 +10,11 @@ ghost use Rattle.apl_operators.specs.Products.{FollowsPairs, IsExtent, product_o
 ghost use Rattle.apl_operators.specs.Reduction.{Joins, Tells};
 
 use crate::identities::identities;
-use crate::items::refuses_none;
-use crate::reduction::reduced;
-use crate::rows::numbers_by_rows;
-use apl_arrays::{Array, Dyad, Fail, Glyph, Items, RANK_LIMIT, Report, count_of_elements};
+use crate::items::{refuses_none, takes_all};
+use crate::products::{Extent, all_products};
+use apl_arrays::{
+    Array, Dyad, Fail, Glyph, Items, RANK_LIMIT, Report, count_of_elements, shape_fault,
+};
 use apl_items::{glyph_at, is_single, joined_shape, number_at};
 use apl_scalar::{character_of, dyadic_table, rules};
 use std::alloc::Global;
@@ -22,20 +23,6 @@ macro_rules! pairs_of {
     (($($argument:expr),*), $rule:expr, $identity:expr) => {
         products_by_pairs($($argument,)* $rule)
     };
-}
-
-macro_rules! reductions_of {
-    (($($argument:expr),*), $rule:expr, $identity:expr) => {
-        products_by($($argument,)* $rule)
-    };
-}
-
-/// How many rows the first argument has, how many items are paired in each product, and how many columns the second has.
-#[derive(Clone, Copy)]
-struct Extent {
-    rows: usize,
-    paired: usize,
-    columns: usize,
 }
 
 /// The inner product of two arrays: each row of the first with each column of the second, paired by one function and
@@ -141,7 +128,8 @@ fn products(
     products_of_items(alloc, f, g, shape, a.items(), b.items(), extent)
 }
 
-/// The products of rows and columns that have items. The kinds are looked at once.
+/// The products of rows and columns that have items. The kinds are looked at once. Where they are too many, functions that
+/// take all items are not asked.
 fn products_of_items(
     alloc: Global,
     f: Dyad,
@@ -158,6 +146,9 @@ fn products_of_items(
     requires in_b { Reaches (item_count (plain_items b.now)) (extent.paired * extent.columns) }
     ensures { Answers result (numbers_answer shape.now (inner_at f g (plain_items a.now) (plain_items b.now) extent.paired extent.columns)) }
 {
+    if shape_fault(shape).is_some() && refuses_none(f) && takes_all(g, a, b) {
+        return Err(Fail::Report(Report::WsFull));
+    }
     match (a, b) {
         (Items::Numbers(a), Items::Numbers(b)) => {
             number_products(alloc, f, g, shape, a.as_slice(), b.as_slice(), extent)
@@ -215,7 +206,6 @@ fn products_by_pairs<G: Fn(i64, i64) -> Option<i64>>(
         f,
         shape,
         extent,
-        !refuses_none(g),
         &|x: usize, y: usize| -> Option<i64>
             requires callable { G.IsAlwaysCallable rule }
             requires in_a { place_in (length a.now) x < length a.now }
@@ -285,7 +275,6 @@ fn glyph_products_by<G: Fn(bool) -> Option<i64>>(
         f,
         shape,
         extent,
-        character_of(g, false).is_none(),
         &|x: usize, y: usize| -> Option<i64>
             requires callable { G.IsAlwaysCallable rule }
             requires in_a { place_in (length a.now) x < length a.now }
@@ -314,95 +303,8 @@ fn unlike_products(
         f,
         shape,
         extent,
-        item.is_none(),
         &|_x: usize, _y: usize| -> Option<i64>
             ensures { result ≡ item }
         { item },
     )
-}
-
-/// All products, by a rule for the pair of two places, which may refuse or not. The function that reduces them is chosen
-/// once.
-fn all_products<P: Fn(usize, usize) -> Option<i64>>(
-    alloc: Global,
-    f: Dyad,
-    shape: &[u32],
-    extent: Extent,
-    may_refuse: bool,
-    pair: &P,
-) -> Result<Array, Fail>
-    requires rank { length shape.now ≤ most_axes }
-    requires count { extent.rows * extent.columns ≡ element_count shape.now }
-    requires extent { IsExtent extent }
-    requires callable { (x y : ℕ) → x < extent.rows * extent.paired → y < extent.paired * extent.columns → P.pre pair.now x y }
-    ensures { (item : ℕ → ℕ → Option ℤ) → FollowsPairs (P.post pair.now) (extent.rows * extent.paired) (extent.paired * extent.columns) item → Answers result (numbers_answer shape.now (products_at f item extent.paired extent.columns)) }
-{
-    dyadic_table!(f, reductions_of(alloc, f, shape, extent, may_refuse, pair))
-}
-
-/// All products, reduced by the rule of a function.
-fn products_by<P: Fn(usize, usize) -> Option<i64>, F: Fn(i64, i64) -> Option<i64>>(
-    alloc: Global,
-    f: Dyad,
-    shape: &[u32],
-    extent: Extent,
-    may_refuse: bool,
-    pair: &P,
-    rule: F,
-) -> Result<Array, Fail>
-    requires able { F.IsAlwaysCallable rule }
-    requires rule { Joins (F.post rule) (dyadic_item f) }
-    requires rank { length shape.now ≤ most_axes }
-    requires count { extent.rows * extent.columns ≡ element_count shape.now }
-    requires extent { IsExtent extent }
-    requires callable { (x y : ℕ) → x < extent.rows * extent.paired → y < extent.paired * extent.columns → P.pre pair.now x y }
-    ensures { (item : ℕ → ℕ → Option ℤ) → FollowsPairs (P.post pair.now) (extent.rows * extent.paired) (extent.paired * extent.columns) item → Answers result (numbers_answer shape.now (products_at f item extent.paired extent.columns)) }
-{
-    numbers_by_rows(
-        alloc,
-        shape,
-        extent.rows,
-        extent.columns,
-        may_refuse || !refuses_none(f),
-        &|row: usize, column: usize| -> Option<i64>
-            requires able { F.IsAlwaysCallable rule }
-            requires rule { Joins (F.post rule) (dyadic_item f) }
-            requires extent { IsExtent extent }
-            requires row { row < extent.rows }
-            requires column { column < extent.columns }
-            requires callable { (x y : ℕ) → x < extent.rows * extent.paired → y < extent.paired * extent.columns → P.pre pair.now x y }
-            ensures { (item : ℕ → ℕ → Option ℤ) → FollowsPairs (P.post pair.entry.now) (extent.rows * extent.paired) (extent.paired * extent.columns) item → result ≡ product_of f item extent.paired extent.columns row column }
-        { row_by_column(f, extent, row, column, pair, &rule) },
-    )
-}
-
-/// The product of a row and a column.
-fn row_by_column<P: Fn(usize, usize) -> Option<i64>, F: Fn(i64, i64) -> Option<i64>>(
-    f: Dyad,
-    extent: Extent,
-    row: usize,
-    column: usize,
-    pair: &P,
-    rule: &F,
-) -> Option<i64>
-    requires able { F.IsAlwaysCallable rule.now }
-    requires rule { Joins (F.post rule.now) (dyadic_item f) }
-    requires extent { IsExtent extent }
-    requires row { row < extent.rows }
-    requires column { column < extent.columns }
-    requires callable { (x y : ℕ) → x < extent.rows * extent.paired → y < extent.paired * extent.columns → P.pre pair.now x y }
-    ensures { (item : ℕ → ℕ → Option ℤ) → FollowsPairs (P.post pair.now) (extent.rows * extent.paired) (extent.paired * extent.columns) item → result ≡ product_of f item extent.paired extent.columns row column }
-{
-    let Extent {
-        paired,
-        columns,
-        ..
-    } = extent;
-    let item = |along: usize| -> Option<i64>
-        requires callable { P.pre pair.now (row * paired + along) (along * columns + column) }
-        requires in_a { row * paired + along < 2 ^ 64 }
-        requires in_b { along * columns + column < 2 ^ 64 }
-        ensures { P.post pair.entry.now (row * paired + along) (along * columns + column) result }
-    { pair(row * paired + along, along * columns + column) };
-    reduced(paired - 1, &item, rule)
 }

@@ -1,19 +1,50 @@
-ghost use Rattle.std.specs.Prelude.{◌≡◌};
+ghost use Rattle.std.specs.Prelude.{◌≡◌, true};
+ghost use Rattle.apl_arrays.specs.Array.{plain_items};
 ghost use Rattle.apl_scalar.specs.Table.{dyadic_item, item_of_chars, pair_item};
 ghost use Rattle.apl_operators.specs.Gathering.{number_in};
 ghost use Rattle.apl_operators.specs.Reduction.{Joins, Tells, joined_by};
-ghost use Rattle.apl_operators.specs.Rows.{refuses_none};
+ghost use Rattle.apl_operators.specs.Rows.{TakesAll, refuses_none, takes_all};
 
-use apl_arrays::{Dyad, Item};
+use apl_arrays::{Dyad, Item, Items};
+use apl_scalar::{character_of, read_all};
 
-/// Whether a dyadic function has a value at all pairs of numbers: a comparison.
+/// Whether a dyadic function has a value of 64 bits at all pairs of numbers of 64 bits: a comparison, the greater, the lesser
+/// and the residue.
 pub(crate) fn refuses_none(f: Dyad) -> bool
     ensures { result ≡ refuses_none f }
 {
     matches!(
         f,
-        Dyad::Less | Dyad::NotGreater | Dyad::Equal | Dyad::NotLess | Dyad::Greater | Dyad::NotEqual
+        Dyad::Less
+            | Dyad::NotGreater
+            | Dyad::Equal
+            | Dyad::NotLess
+            | Dyad::Greater
+            | Dyad::NotEqual
+            | Dyad::Maximum
+            | Dyad::Minimum
+            | Dyad::Residue
     )
+}
+
+/// Whether a dyadic function has a value of 64 bits at each item of the one list with each of the other. No memory.
+pub(crate) fn takes_all(f: Dyad, a: &Items, b: &Items) -> bool
+    ensures value { result ≡ takes_all f (plain_items a.now) (plain_items b.now) }
+    ensures all { result ≡ true → TakesAll f (plain_items a.now) (plain_items b.now) }
+{
+    read_all(a.numbers());
+    read_all(b.numbers());
+    takes_kinds(f, a, b)
+}
+
+/// The same, by the kinds of the items.
+fn takes_kinds(f: Dyad, a: &Items, b: &Items) -> bool
+    ensures { result ≡ takes_all f (plain_items a.now) (plain_items b.now) }
+{
+    match (a, b) {
+        (Items::Numbers(_), Items::Numbers(_)) => refuses_none(f),
+        _ => character_of(f, false).is_some(),
+    }
 }
 
 /// The item that a dyadic function gives at two items, or `None`, which is DOMAIN, by its rules for two numbers and for two

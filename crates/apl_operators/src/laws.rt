@@ -1,14 +1,18 @@
 //! What holds of the definitions, and worked examples.
 
-ghost use Rattle.std.specs.Prelude.{◌≡◌, ◌+◌, ◌<◌, ℕ, ℤ, pos, negsuc, List, [], ◌∷◌, Some, None, Ok, Err, length, slice_index_or, take};
+ghost use Rattle.std.specs.Prelude.{◌≡◌, ◌+◌, ◌<◌, ℕ, ℤ, pos, negsuc, List, [], ◌∷◌, Option, Some, None, Ok, Err, length, slice_index_or, take};
 ghost use Rattle.apl_arrays.specs.Array.{PlainArray, chars, number_array, numbers, numbers_in, scalar};
+ghost use Rattle.apl_items.specs.Axis.{axis_of};
+ghost use Rattle.apl_items.specs.Shapes.{place_along, split_at};
 ghost use Rattle.apl_scalar.specs.Table.{dyadic_item};
 ghost use Rattle.apl_operators.specs.Inner.{inner_product_of};
+ghost use Rattle.apl_operators.specs.Lines.{front_numbers};
 ghost use Rattle.apl_operators.specs.Outer.{outer_product_of};
 ghost use Rattle.apl_operators.specs.Reduce.{reduce_of};
 ghost use Rattle.apl_operators.specs.Scan.{scan_of};
 
 use apl_arrays::{Dyad, Report, Way};
+use apl_items::Split;
 
 /// Reductions: `-/1 2 3` is 2, since it goes from the right; no items give the identity, numbers or characters, or
 /// DOMAIN where there is none; one item and a scalar are unchanged; a scalar has no axis. The call does nothing. No
@@ -85,6 +89,15 @@ pub fn inner_products_reduce_pairs()
 pub fn each_item_of_a_scan_is_a_reduction()
     ensures { (f : Dyad) (list : List ℤ) (k : ℕ) (r : PlainArray) → k < length list → scan_of f (number_array (length list ∷ []) list) Way.Last None ≡ Ok r
         → reduce_of f (number_array ((k + 1) ∷ []) (take (k + 1) list)) Way.Last None ≡ Ok (scalar (slice_index_or (numbers_in r.items) k (pos 0))) }
+{}
+
+/// Each item of a scan along an axis is the reduction of the vector of the numbers of its line, from the first up to its own.
+/// The call does nothing. No memory.
+#[tactic(auto, using(crate::proofs::ScanLaws::scan_item_on_line))]
+pub fn each_item_of_a_scan_reduces_its_line()
+    ensures { (f : Dyad) (shape : List ℕ) (list : List ℤ) (way : Way) (axis : Option ℤ) (split : Split) (outer along inner : ℕ) (r : PlainArray) → 0 < length shape
+        → split ≡ split_at shape (axis_of (length shape) way axis) → outer < split.outer → along < split.along → inner < split.inner → scan_of f (number_array shape list) way axis ≡ Ok r
+        → reduce_of f (number_array ((along + 1) ∷ []) (front_numbers list split outer inner along)) Way.Last None ≡ Ok (scalar (slice_index_or (numbers_in r.items) (place_along split outer along inner) (pos 0))) }
 {}
 
 /// An inner product of two vectors is the reduction by the one function of what the other gives of their items, pair by pair:

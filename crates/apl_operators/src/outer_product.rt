@@ -6,9 +6,8 @@ ghost use Rattle.apl_scalar.specs.Table.{dyadic_item, item_of_chars};
 ghost use Rattle.apl_operators.specs.Gathering.{numbers_answer};
 ghost use Rattle.apl_operators.specs.Outer.{outer_at, outer_product_of};
 ghost use Rattle.apl_operators.specs.Reduction.{Joins, Tells};
-ghost use Rattle.apl_operators.specs.Rows.{takes_all};
 
-use crate::items::refuses_none;
+use crate::items::takes_all;
 use crate::rows::numbers_by_rows;
 use apl_arrays::{Array, Dyad, Fail, Glyph, Items, RANK_LIMIT, Report, shape_fault};
 use apl_items::joined_shape;
@@ -32,29 +31,19 @@ pub fn outer(alloc: Global, f: Dyad, a: &Array, b: &Array) -> Result<Array, Fail
         return Err(Fail::Report(Report::Rank));
     }
     let shape = joined_shape(alloc, a.shape(), b.shape())?;
-    if shape_fault(&shape).is_some() && takes_all(f, a.items(), b.items()) {
-        return Err(Fail::Report(Report::WsFull));
-    }
     all_pairs(alloc, f, &shape, a.items(), b.items())
 }
 
-/// Whether a dyadic function has a value at each item of the one with each of the other.
-fn takes_all(f: Dyad, a: &Items, b: &Items) -> bool
-    ensures { result ≡ takes_all f (plain_items a.now) (plain_items b.now) }
-{
-    match (a, b) {
-        (Items::Numbers(_), Items::Numbers(_)) => refuses_none(f),
-        _ => character_of(f, false).is_some(),
-    }
-}
-
-/// All pairs of items. The kinds are looked at once.
+/// All pairs of items. The kinds are looked at once. Where they are too many, a function that takes them all is not asked.
 fn all_pairs(alloc: Global, f: Dyad, shape: &[u32], a: &Items, b: &Items) -> Result<Array, Fail>
     requires rank { length shape.now ≤ most_axes }
     requires count { item_count (plain_items a.now) * item_count (plain_items b.now) ≡ element_count shape.now }
     requires fits { item_count (plain_items a.now) * item_count (plain_items b.now) < 2 ^ 64 }
     ensures { Answers result (numbers_answer shape.now (outer_at f (plain_items a.now) (plain_items b.now))) }
 {
+    if shape_fault(shape).is_some() && takes_all(f, a, b) {
+        return Err(Fail::Report(Report::WsFull));
+    }
     match (a, b) {
         (Items::Numbers(a), Items::Numbers(b)) => {
             number_pairs(alloc, f, shape, a.as_slice(), b.as_slice())
@@ -102,7 +91,6 @@ fn pairs_by<F: Fn(i64, i64) -> Option<i64>>(
         shape,
         a.len(),
         b.len(),
-        !refuses_none(f),
         &|row: usize, column: usize| -> Option<i64>
             requires callable { F.IsAlwaysCallable rule }
             requires row { row < length a.now }
@@ -162,7 +150,6 @@ fn glyph_pairs_by<F: Fn(bool) -> Option<i64>>(
         shape,
         a.len(),
         b.len(),
-        character_of(f, false).is_none(),
         &|row: usize, column: usize| -> Option<i64>
             requires callable { F.IsAlwaysCallable rule }
             requires row { row < length a.now }
@@ -191,7 +178,6 @@ fn unlike_pairs(
         shape,
         rows,
         columns,
-        item.is_none(),
         &|_row: usize, _column: usize| -> Option<i64>
             ensures { result ≡ item }
         { item },

@@ -9,8 +9,8 @@ ghost use Rattle.apl_operators.specs.Reduce.{reduce_of, reduced, reduced_line};
 ghost use Rattle.apl_operators.specs.Reduction.{Joins, Tells, front_of_line, item_in, joined_by, reduction};
 
 use crate::identities::identities;
-use crate::items::{joined_by, number_in, refuses_none};
-use crate::lines::{LineAt, front_of_line};
+use crate::items::{joined_by, number_in};
+use crate::lines::{LineAt, last_front};
 use crate::reduction::reduced;
 use crate::rows::numbers_by_rows;
 use apl_arrays::{Array, Dyad, Fail, Glyph, Item, Items, List, Report, Way, count_of_elements};
@@ -26,8 +26,8 @@ macro_rules! all_lines_of {
 
 /// The reduction of an array by a dyadic function, along an axis, the last or the first where none is named: of each line
 /// the first item, joined with the reduction of the others. No item gives the identity, and one item and a scalar are
-/// unchanged. DOMAIN where a pair has no value of 64 bits, or where there is no item and no identity, else INDEX where the
-/// axis is not from 1 to the rank, else WS FULL where the result is too large. It takes memory for the shape and for the
+/// unchanged. INDEX where the axis is not from 1 to the rank, else DOMAIN where a pair has no value of 64 bits, or where
+/// there is no item and no identity, else WS FULL where the result is too large. It takes memory for the shape and for the
 /// items. ISO 8485.
 pub fn reduce(alloc: Global, f: Dyad, b: &Array, way: Way, axis: Option<i64>) -> Result<Array, Fail>
     ensures { Answers result (reduce_of f b.now way axis) }
@@ -142,7 +142,6 @@ fn lines_by<F: Fn(i64, i64) -> Option<i64>>(
         shape,
         split.outer,
         split.inner,
-        !refuses_none(f),
         &|outer: usize, inner: usize| -> Option<i64>
             requires callable { F.IsAlwaysCallable rule }
             requires rule { Joins (F.post rule) (dyadic_item f) }
@@ -151,16 +150,7 @@ fn lines_by<F: Fn(i64, i64) -> Option<i64>>(
             requires outer { outer < split.outer }
             requires inner { inner < split.inner }
             ensures { result ≡ front_of_line (dyadic_item f) list.entry.now split outer inner (split.along - 1) }
-        {
-            front_of_line(
-                f,
-                list,
-                split,
-                LineAt { outer, inner },
-                split.along - 1,
-                &rule,
-            )
-        },
+        { last_front(f, list, split, LineAt { outer, inner }, &rule) },
     )
 }
 
@@ -232,7 +222,6 @@ fn char_lines_by<F: Fn(i64, i64) -> Option<i64>, G: Fn(bool) -> Option<i64>>(
         shape,
         split.outer,
         split.inner,
-        character_of(f, false).is_none(),
         &|outer: usize, inner: usize| -> Option<i64>
             requires able { F.IsAlwaysCallable numbers }
             requires numbers { Joins (F.post numbers) (dyadic_item f) }

@@ -1,25 +1,23 @@
-ghost use Rattle.std.specs.Prelude.{◌≡◌, ◌*◌, ◌/◌, ◌%◌, ◌-◌, ◌<◌, ◌≤◌, ℕ, ℤ, Option, Bool, true, false, not, length, pos, slice_get, slice_index_or, if◌then◌else◌};
-ghost use Rattle.apl_items.specs.Places.{MakesItems, lacks_item};
+ghost use Rattle.std.specs.Prelude.{◌≡◌, ◌+◌, ◌*◌, ◌/◌, ◌%◌, ◌-◌, ◌<◌, ◌≤◌, ℕ, ℤ, Option, None, Some, IfSome, true, false, not, length, pos, slice_get, slice_index_or, vec_capacity, vec_len, if◌then◌else◌};
+ghost use Rattle.apl_items.specs.Places.{IsByPlace, lacks_item};
 ghost use Rattle.apl_items.specs.Shapes.{place_along, split_count};
-ghost use Rattle.apl_arrays.specs.Number.{fits};
 ghost use Rattle.apl_scalar.specs.Table.{dyadic_item};
 ghost use Rattle.apl_operators.specs.Reduction.{Joins, joined};
-ghost use Rattle.apl_operators.specs.Running.{GivesSameItem, Runs, Weighs, factor_weight, front_at, is_grouped, term_weight, weight_on};
+ghost use Rattle.apl_operators.specs.Running.{BreaksOff, Runs, RunsTo, Weighs, factor_weight, front_at, is_grouped, row_length, term_weight, weight_on};
 
 use crate::reduction::reduced;
-use crate::rows::lacks_by_rows;
-use apl_arrays::{Dyad, Fail, List, Report};
-use apl_items::{Split, room_for};
-use apl_scalar::rules;
-use std::alloc::Global;
+use apl_arrays::{Dyad, List};
+use apl_items::{Split, lacks_by_rows};
+use apl_scalar::{read_all, rules};
 
 /// Whether the reduction of each front of each line follows from the one before it: by `⌈`, `⌊`, `∧` and `∨`, and by `+` and
 /// `×` where no sum or product of neighbours leaves 64 bits. No memory.
 pub(crate) fn runs(f: Dyad, list: &[i64], split: Split) -> bool
     requires whole { split_count split ≡ length list.now }
     requires some { 0 < split_count split }
-    ensures { result ≡ true → Runs fits (dyadic_item f) list.now split (front_at (dyadic_item f) list.now split) }
+    ensures { result ≡ true → Runs (dyadic_item f) list.now split (front_at (dyadic_item f) list.now split) }
 {
+    read_all(list);
     match f {
         Dyad::Plus => weighs_little(list, split, magnitude, rules::plus),
         Dyad::Times => weighs_little(list, split, factor, rules::times),
@@ -108,35 +106,129 @@ fn weight_of_line<W: Fn(i64) -> Option<i64>, F: Fn(i64, i64) -> Option<i64>>(
     reduced(split.along - 1, &item, rule)
 }
 
-/// The items that follow from the ones before them, in one pass over all rows, or DOMAIN where one does not. It takes memory
-/// for the items.
-pub(crate) fn running<T: Copy + Drop, F: Fn(T, T) -> Option<T>, K: Fn(T) -> T>(
-    alloc: Global,
+/// The items that follow from the ones before them, in one pass over all rows, in a list that has room for them, or `None`
+/// where one does not follow. No memory.
+pub(crate) fn running<T: Copy + Drop, F: Fn(T, T) -> Option<T>>(
+    room: Vec<T>,
     list: &[T],
     split: Split,
     rule: &F,
-    known: &K,
-) -> Result<List<T>, Fail>
+) -> Option<List<T>>
+    requires empty { vec_len room ≡ 0 }
+    requires room { vec_capacity room ≡ length list.now }
     requires callable { F.IsAlwaysCallable rule.now }
-    requires able { K.IsAlwaysCallable known.now }
     requires whole { split_count split ≡ length list.now }
     requires some { 0 < split_count split }
-    ensures { (test : T → Bool) (by : T → T → Option T) (item : ℕ → Option T) → GivesSameItem (K.post known.now) test → Joins (F.post rule.now) by → Runs test by list.now split item → MakesItems result (length list.now) item }
+    ensures made { IfSome result (λ made. (by : T → T → Option T) (item : ℕ → Option T) → Joins (F.post rule.now) by → Runs by list.now split item → IsByPlace (length list.now) item made.items) }
+    ensures none { result ≡ None → BreaksOff (F.post rule.now) list.now split }
 {
-    let count = list.len();
-    let row = split.along * split.inner;
-    let mut made = room_for(alloc, count)?;
+    let mut made = room;
     for outer in 0..split.outer {
-        for at in 0..row {
-            let place = outer * row + at;
-            let number = known(list[place]);
-            match follower(&made, number, place, split.inner, at < split.inner, rule) {
-                Some(item) => made.push_reserved(item),
-                None => return Err(Fail::Report(Report::Domain)),
-            }
+        if !push_next(&mut made, list, split, outer, rule) {
+            return None;
         }
     }
-    Ok(List::from(made))
+    Some(List::from(made))
+}
+
+/// Adds the items of a row, or false where one does not follow. On the last axis a row is one line.
+fn push_next<T: Copy + Drop, F: Fn(T, T) -> Option<T>>(
+    made: &mut Vec<T>,
+    list: &[T],
+    split: Split,
+    outer: usize,
+    rule: &F,
+) -> bool
+    requires callable { F.IsAlwaysCallable rule.now }
+    requires whole { split_count split ≡ length list.now }
+    requires outer { outer < split.outer }
+    requires some { 0 < split_count split }
+    requires made { vec_len made.old ≡ outer * row_length split }
+    requires room { vec_capacity made.old ≡ length list.now }
+    requires so_far { RunsTo (F.post rule.now) list.now split (outer * row_length split) made.old.items }
+    ensures len { result ≡ true → vec_len made.new ≡ (outer + 1) * row_length split }
+    ensures room { vec_capacity made.new ≡ vec_capacity made.old }
+    ensures made { result ≡ true → RunsTo (F.post rule.now) list.now split ((outer + 1) * row_length split) made.new.items }
+    ensures none { result ≡ false → BreaksOff (F.post rule.now) list.now split }
+{
+    if split.inner == 1 {
+        push_line(made, list, split, outer, rule)
+    } else {
+        push_row(made, list, split, outer, rule)
+    }
+}
+
+/// Adds the items of a row that is one line, or false where one does not follow. The last item is kept by itself.
+fn push_line<T: Copy + Drop, F: Fn(T, T) -> Option<T>>(
+    made: &mut Vec<T>,
+    list: &[T],
+    split: Split,
+    outer: usize,
+    rule: &F,
+) -> bool
+    requires lone { split.inner ≡ 1 }
+    requires callable { F.IsAlwaysCallable rule.now }
+    requires whole { split_count split ≡ length list.now }
+    requires outer { outer < split.outer }
+    requires some { 0 < split_count split }
+    requires made { vec_len made.old ≡ outer * row_length split }
+    requires room { vec_capacity made.old ≡ length list.now }
+    requires so_far { RunsTo (F.post rule.now) list.now split (outer * row_length split) made.old.items }
+    ensures len { result ≡ true → vec_len made.new ≡ (outer + 1) * row_length split }
+    ensures room { vec_capacity made.new ≡ vec_capacity made.old }
+    ensures made { result ≡ true → RunsTo (F.post rule.now) list.now split ((outer + 1) * row_length split) made.new.items }
+    ensures none { result ≡ false → BreaksOff (F.post rule.now) list.now split }
+{
+    let start = outer * split.along;
+    let mut last = list[start];
+    made.push_reserved(last);
+    for along in 1..split.along {
+        match rule(last, list[start + along]) {
+            Some(item) => last = item,
+            None => return false,
+        }
+        made.push_reserved(last);
+    }
+    true
+}
+
+/// Adds the items of a row, or false where one does not follow.
+fn push_row<T: Copy + Drop, F: Fn(T, T) -> Option<T>>(
+    made: &mut Vec<T>,
+    list: &[T],
+    split: Split,
+    outer: usize,
+    rule: &F,
+) -> bool
+    requires callable { F.IsAlwaysCallable rule.now }
+    requires whole { split_count split ≡ length list.now }
+    requires outer { outer < split.outer }
+    requires some { 0 < split_count split }
+    requires made { vec_len made.old ≡ outer * row_length split }
+    requires room { vec_capacity made.old ≡ length list.now }
+    requires so_far { RunsTo (F.post rule.now) list.now split (outer * row_length split) made.old.items }
+    ensures len { result ≡ true → vec_len made.new ≡ (outer + 1) * row_length split }
+    ensures room { vec_capacity made.new ≡ vec_capacity made.old }
+    ensures made { result ≡ true → RunsTo (F.post rule.now) list.now split ((outer + 1) * row_length split) made.new.items }
+    ensures none { result ≡ false → BreaksOff (F.post rule.now) list.now split }
+{
+    let row = split.along * split.inner;
+    for at in 0..row {
+        let place = outer * row + at;
+        let is_first = at < split.inner;
+        match follower(
+            made.as_slice(),
+            list[place],
+            place,
+            split.inner,
+            is_first,
+            rule,
+        ) {
+            Some(item) => made.push_reserved(item),
+            None => return false,
+        }
+    }
+    true
 }
 
 /// The item at a place: in the first row that of the list, else the item before it on its line, joined with that of the list.
@@ -159,12 +251,4 @@ fn follower<T: Copy, F: Fn(T, T) -> Option<T>>(
     } else {
         rule(made[place - inner], number)
     }
-}
-
-/// A number, of which it is known that it has 64 bits.
-pub(crate) fn known_number(number: i64) -> i64
-    ensures same { result ≡ number }
-    ensures known { fits number ≡ true }
-{
-    number
 }

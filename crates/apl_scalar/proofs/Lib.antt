@@ -1,5 +1,6 @@
 mod Examples
 mod Factorials
+pub mod MemoryLemmas
 mod Powers
 pub mod Quotients
 mod Reports

@@ -1,8 +1,8 @@
-ghost use Rattle.std.specs.Prelude.{◌≡◌, ◌==◌, length, true, false, not, if◌then◌else◌};
+ghost use Rattle.std.specs.Prelude.{◌≡◌, ◌==◌, Bool, Option, ℤ, IsOk, length, true, false, not, if◌then◌else◌};
 ghost use Rattle.apl_arrays.specs.Array.{FitsLimits, element_count, is_chars, item_count, numbers, numbers_in, plain_items};
 ghost use Rattle.apl_items.specs.Answers.{Answers, answer_of, first_report, no_faults};
 ghost use Rattle.apl_items.specs.Extension.{Reaches, char_at, leader, ranks_differ, shapes_differ};
-ghost use Rattle.apl_items.specs.Places.{MakesItems, lacks_item, numbers_by};
+ghost use Rattle.apl_items.specs.Places.{HasItems, MakesItems, OnWantOfMemory, lacks_item, numbers_by};
 ghost use Rattle.apl_scalar.specs.Scalar.{dyadic_at, dyadic_of, is_unfit, monadic_at, monadic_of};
 ghost use Rattle.apl_scalar.specs.Table.{item_of_chars, takes_chars};
 
@@ -13,9 +13,10 @@ use apl_items::{by_place, glyph_pairs, leader, ranks_differ, shapes_differ};
 use std::alloc::Global;
 
 /// A monadic scalar function of an array, item by item. DOMAIN where the argument is of characters, or where an item
-/// has no value of 64 bits. It takes memory for the items.
+/// has no value of 64 bits, also where there is no memory. It takes memory for the items.
 pub fn monadic(alloc: Global, f: Monad, b: &Array) -> Result<Array, Fail>
-    ensures { Answers result (monadic_of f b.now) }
+    ensures value { Answers result (monadic_of f b.now) }
+    ensures memory { OnWantOfMemory result (IsOk (monadic_of f b.now)) }
 {
     if b.is_chars() {
         Err(Fail::Report(Report::Domain))
@@ -28,7 +29,8 @@ pub fn monadic(alloc: Global, f: Monad, b: &Array) -> Result<Array, Fail>
 #[tactic(auto, using(apl_items::proofs::PlaceLemmas::by_places))]
 fn each_number(alloc: Global, f: Monad, b: &Array) -> Result<Array, Fail>
     requires { is_chars b.now.items ≡ false }
-    ensures { Answers result (monadic_of f b.now) }
+    ensures value { Answers result (monadic_of f b.now) }
+    ensures memory { OnWantOfMemory result (IsOk (monadic_of f b.now)) }
 {
     let items = own_items(alloc, f, b.items().len(), b.items())?;
     Ok(Array::shaped(b.shape(), Items::Numbers(items)))
@@ -38,7 +40,8 @@ fn each_number(alloc: Global, f: Monad, b: &Array) -> Result<Array, Fail>
 fn own_items(alloc: Global, f: Monad, count: usize, b: &Items) -> Result<NumberList, Fail>
     requires kind { is_chars (plain_items b.now) ≡ false }
     requires reaches { Reaches (item_count (plain_items b.now)) count }
-    ensures { MakesItems result count (monadic_at f (numbers_in (plain_items b.now))) }
+    ensures made { MakesItems result count (monadic_at f (numbers_in (plain_items b.now))) }
+    ensures memory { OnWantOfMemory result (HasItems count (monadic_at f (numbers_in (plain_items b.now)))) }
 {
     match b {
         Items::Numbers(b) => monadic_items(alloc, f, count, b.as_slice()),
@@ -48,9 +51,11 @@ fn own_items(alloc: Global, f: Monad, count: usize, b: &Items) -> Result<NumberL
 
 /// A dyadic scalar function of two arrays, item by item; a lone element stands for as many as the other array has. RANK
 /// where the ranks differ, else LENGTH where the shapes do, else DOMAIN where an argument is of characters, but for `=`
-/// and `≠`, or where a pair of items has no value of 64 bits. It takes memory for the items.
+/// and `≠`, or where a pair of items has no value of 64 bits, each also where there is no memory. It takes memory for the
+/// items.
 pub fn dyadic(alloc: Global, f: Dyad, a: &Array, b: &Array) -> Result<Array, Fail>
-    ensures { Answers result (dyadic_of f a.now b.now) }
+    ensures value { Answers result (dyadic_of f a.now b.now) }
+    ensures memory { OnWantOfMemory result (IsOk (dyadic_of f a.now b.now)) }
 {
     match misfit(f, a, b) {
         Some(report) => Err(Fail::Report(report)),
@@ -79,7 +84,8 @@ fn item_by_item(alloc: Global, f: Dyad, a: &Array, b: &Array) -> Result<Array, F
     requires rank { ranks_differ a.now b.now ≡ false }
     requires shape { shapes_differ a.now b.now ≡ false }
     requires kind { is_unfit f a.now.items b.now.items ≡ false }
-    ensures { Answers result (dyadic_of f a.now b.now) }
+    ensures value { Answers result (dyadic_of f a.now b.now) }
+    ensures memory { OnWantOfMemory result (IsOk (dyadic_of f a.now b.now)) }
 {
     let shaped = leader(a, b);
     let items = pair_items(alloc, f, shaped.items().len(), a.items(), b.items())?;
@@ -97,7 +103,8 @@ fn pair_items(
     requires kind { is_unfit f (plain_items a.now) (plain_items b.now) ≡ false }
     requires a_reaches { Reaches (item_count (plain_items a.now)) count }
     requires b_reaches { Reaches (item_count (plain_items b.now)) count }
-    ensures { MakesItems result count (dyadic_at f (plain_items a.now) (plain_items b.now)) }
+    ensures made { MakesItems result count (dyadic_at f (plain_items a.now) (plain_items b.now)) }
+    ensures memory { OnWantOfMemory result (HasItems count (dyadic_at f (plain_items a.now) (plain_items b.now))) }
 {
     match (a, b) {
         (Items::Numbers(a), Items::Numbers(b)) => dyadic_items(
@@ -129,18 +136,39 @@ fn glyph_items(
     requires kind { takes_chars f ≡ true }
     requires a_reaches { Reaches (length a.now) count }
     requires b_reaches { Reaches (length b.now) count }
-    ensures { MakesItems result count (λ place. item_of_chars f (char_at a.now place == char_at b.now place)) }
+    ensures made { MakesItems result count (λ place. item_of_chars f (char_at a.now place == char_at b.now place)) }
+    ensures memory { OnWantOfMemory result (HasItems count (λ place. item_of_chars f (char_at a.now place == char_at b.now place))) }
 {
     match f {
-        Dyad::Equal => glyph_pairs(alloc, count, a, b, rules::same),
-        _ => glyph_pairs(alloc, count, a, b, rules::different),
+        Dyad::Equal => glyph_items_by(alloc, f, count, a, b, rules::same),
+        _ => glyph_items_by(alloc, f, count, a, b, rules::different),
     }
+}
+
+/// A function of the pair of characters for each place, by its rule for characters that are the same or not.
+fn glyph_items_by<F: Fn(bool) -> Option<i64>>(
+    alloc: Global,
+    f: Dyad,
+    count: usize,
+    a: &[Glyph],
+    b: &[Glyph],
+    rule: F,
+) -> Result<NumberList, Fail>
+    requires callable { F.IsAlwaysCallable rule }
+    requires rule { (alike : Bool) (answer : Option ℤ) → F.post rule alike answer → answer ≡ item_of_chars f alike }
+    requires a_reaches { Reaches (length a.now) count }
+    requires b_reaches { Reaches (length b.now) count }
+    ensures made { MakesItems result count (λ place. item_of_chars f (char_at a.now place == char_at b.now place)) }
+    ensures memory { OnWantOfMemory result (HasItems count (λ place. item_of_chars f (char_at a.now place == char_at b.now place))) }
+{
+    glyph_pairs(alloc, count, a, b, rule)
 }
 
 /// `=` or `≠` of a character and a number for each place.
 fn unlike_items(alloc: Global, f: Dyad, count: usize) -> Result<NumberList, Fail>
     requires { takes_chars f ≡ true }
-    ensures { MakesItems result count (λ place. item_of_chars f false) }
+    ensures made { MakesItems result count (λ place. item_of_chars f false) }
+    ensures memory { OnWantOfMemory result (HasItems count (λ place. item_of_chars f false)) }
 {
     by_place(
         alloc,

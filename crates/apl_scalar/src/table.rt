@@ -1,6 +1,6 @@
-ghost use Rattle.std.specs.Prelude.{◌≡◌, length};
+ghost use Rattle.std.specs.Prelude.{◌≡◌, ℤ, Option, length};
 ghost use Rattle.apl_items.specs.Extension.{Reaches, number_at};
-ghost use Rattle.apl_items.specs.Places.{MakesItems};
+ghost use Rattle.apl_items.specs.Places.{HasItems, MakesItems, OnWantOfMemory};
 ghost use Rattle.apl_scalar.specs.Table.{monadic_item, dyadic_item, pair_item, item_of_chars, row_of_dyad};
 
 use crate::{counting, monad_rules, rules};
@@ -57,13 +57,13 @@ macro_rules! monadic_table {
 
 macro_rules! loop_of_pairs {
     (($($argument:expr),*), $rule:expr, $identity:expr) => {
-        pairs($($argument,)* $rule)
+        pairs_by($($argument,)* $rule)
     };
 }
 
 macro_rules! loop_of_each {
     (($($argument:expr),*), $rule:expr) => {
-        each($($argument,)* $rule)
+        each_by($($argument,)* $rule)
     };
 }
 
@@ -82,9 +82,27 @@ macro_rules! identity_of {
 /// A monadic function of the number for each place. The rule is chosen once.
 pub fn monadic_items(alloc: Global, f: Monad, count: usize, b: &[i64]) -> Result<NumberList, Fail>
     requires { Reaches (length b.now) count }
-    ensures { MakesItems result count (λ place. monadic_item f (number_at b.now place)) }
+    ensures made { MakesItems result count (λ place. monadic_item f (number_at b.now place)) }
+    ensures memory { OnWantOfMemory result (HasItems count (λ place. monadic_item f (number_at b.now place))) }
 {
-    monadic_table!(f, loop_of_each(alloc, count, b))
+    monadic_table!(f, loop_of_each(alloc, f, count, b))
+}
+
+/// A monadic function of the number for each place, by its rule.
+fn each_by<F: Fn(i64) -> Option<i64>>(
+    alloc: Global,
+    f: Monad,
+    count: usize,
+    b: &[i64],
+    rule: F,
+) -> Result<NumberList, Fail>
+    requires callable { F.IsAlwaysCallable rule }
+    requires rule { (x : ℤ) (answer : Option ℤ) → F.post rule x answer → answer ≡ monadic_item f x }
+    requires reaches { Reaches (length b.now) count }
+    ensures made { MakesItems result count (λ place. monadic_item f (number_at b.now place)) }
+    ensures memory { OnWantOfMemory result (HasItems count (λ place. monadic_item f (number_at b.now place))) }
+{
+    each(alloc, count, b, rule)
 }
 
 /// A dyadic function of the pair of numbers for each place. The rule is chosen once.
@@ -97,9 +115,29 @@ pub fn dyadic_items(
 ) -> Result<NumberList, Fail>
     requires a_reaches { Reaches (length a.now) count }
     requires b_reaches { Reaches (length b.now) count }
-    ensures { MakesItems result count (λ place. dyadic_item f (number_at a.now place) (number_at b.now place)) }
+    ensures made { MakesItems result count (λ place. dyadic_item f (number_at a.now place) (number_at b.now place)) }
+    ensures memory { OnWantOfMemory result (HasItems count (λ place. dyadic_item f (number_at a.now place) (number_at b.now place))) }
 {
-    dyadic_table!(f, loop_of_pairs(alloc, count, a, b))
+    dyadic_table!(f, loop_of_pairs(alloc, f, count, a, b))
+}
+
+/// A dyadic function of the pair of numbers for each place, by its rule.
+fn pairs_by<F: Fn(i64, i64) -> Option<i64>>(
+    alloc: Global,
+    f: Dyad,
+    count: usize,
+    a: &[i64],
+    b: &[i64],
+    rule: F,
+) -> Result<NumberList, Fail>
+    requires callable { F.IsAlwaysCallable rule }
+    requires rule { (x y : ℤ) (answer : Option ℤ) → F.post rule x y answer → answer ≡ dyadic_item f x y }
+    requires a_reaches { Reaches (length a.now) count }
+    requires b_reaches { Reaches (length b.now) count }
+    ensures made { MakesItems result count (λ place. dyadic_item f (number_at a.now place) (number_at b.now place)) }
+    ensures memory { OnWantOfMemory result (HasItems count (λ place. dyadic_item f (number_at a.now place) (number_at b.now place))) }
+{
+    pairs(alloc, count, a, b, rule)
 }
 
 /// The item of a dyadic function at two numbers, or `None`, which is DOMAIN. No memory.

@@ -15,10 +15,11 @@ use Rattle.std.proofs.lemmas.Nat.{mul-add-lt, div-mul-add, mod-mul-add, div-add-
 use Rattle.apl_items.specs.Places.{items_by, lacks_item, places}
 use Rattle.apl_items.proofs.PlaceLemmas.{list_any-places, made}
 use Rattle.apl_scalar.specs.Counting.{floor_by, floor_quotient, residue}
+use Rattle.apl_scalar.specs.Reading.{AllFit}
 use Rattle.apl_arrays.specs.Number.{fits}
 use Rattle.apl_scalar.specs.Table.{item_where, least}
 use Rattle.apl_scalar.proofs.Quotients.{residue_from_0, residue_below, residue_to_0, residue_above}
-use Rattle.apl_search.specs.Encode.{AllFit, AreBefore, AreFrom, digit_at, digit_for, rest_by, rest_by_all}
+use Rattle.apl_search.specs.Encode.{AreBefore, AreFrom, digit_at, digit_for, rest_by, rest_by_all}
 
 -- ---- magnitudes
 
@@ -26,10 +27,6 @@ use Rattle.apl_search.specs.Encode.{AllFit, AreBefore, AreFrom, digit_at, digit_
 signed : (z : ℤ) → fits z ≡ true → FitsSigned w64 z
 signed (pos n) e = record { sfits = grind (arith, nat_tests) }
 signed (negsuc n) e = record { sfits = grind (arith, nat_tests) }
-
-pub fits_signed : (z : ℤ) → FitsSigned w64 z → fits z ≡ true
-fits_signed (pos n) small = let below = small.sfits in grind (arith, nat_tests)
-fits_signed (negsuc n) small = let below = small.sfits in grind (arith, nat_tests)
 
 no_greater : (z : ℤ) → fits z ≡ true → unsigned_abs z ≤ 2 ^ 63
 no_greater z small = let inside = signed z small in omega (arith, ints)

@@ -1,4 +1,4 @@
-use Rattle.std.specs.Prelude.{◌≡◌, ◌+◌, ◌*◌, ◌/◌, ◌%◌, ◌<◌, ◌≤◌, ◌||◌, ◌++◌, ℕ, ℤ, pos, true, List, [], ◌∷◌, All, Option, length, drop, nat_lt, is_some, slice_index_or, if◌then◌else◌}
+use Rattle.std.specs.Prelude.{◌≡◌, ◌+◌, ◌*◌, ◌/◌, ◌%◌, ◌<◌, ◌≤◌, ◌||◌, ◌++◌, ℕ, ℤ, pos, true, List, [], ◌∷◌, Option, length, drop, nat_lt, is_some, slice_index_or, if◌then◌else◌}
 use Rattle.std.specs.Ordering.{int_eq}
 use Rattle.apl_arrays.specs.Array.{PlainArray, is_chars, element_count, numbers_in}
 use Rattle.apl_arrays.specs.Limits.{most_axes}
@@ -6,7 +6,6 @@ use Rattle.apl_arrays.specs.Shape.{shape_fault}
 use Rattle.apl_items.specs.Answers.{Answer, Faults, no_faults, answer_of}
 use Rattle.apl_items.specs.Places.{lacks_item, numbers_by}
 use Rattle.apl_scalar.specs.Counting.{floor_quotient, residue}
-use Rattle.apl_arrays.specs.Number.{fits}
 use Rattle.apl_scalar.specs.Table.{item_where}
 
 -- ---- digits
@@ -56,10 +55,6 @@ abbrev pub encode_of : PlainArray → PlainArray → Answer
 encode_of a b = answer_of (encode_faults a b) (digits_of a b)
 
 -- ---- digits that are put in column by column
-
--- each number is in 64 bits
-abbrev pub AllFit : List ℤ → Type 0
-AllFit list = All (λ number. fits number ≡ true) list
 
 -- the digits at all bases stand in the columns before one
 abbrev pub AreBefore : List ℤ → List ℤ → List ℤ → ℕ → Type 0

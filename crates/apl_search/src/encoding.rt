@@ -4,13 +4,14 @@ ghost use Rattle.apl_items.specs.Places.{OnWantOfMemory, items_by, lacks_item};
 ghost use Rattle.apl_scalar.specs.Counting.{floor_quotient, residue};
 ghost use Rattle.apl_arrays.specs.Number.{fits};
 ghost use Rattle.apl_scalar.specs.Table.{item_where, least};
-ghost use Rattle.apl_search.specs.Encode.{AreBefore, AllFit, digit_at, digit_for, digits_of, encode_faults, encode_of, encode_misfit, rest_by, rest_by_all};
+ghost use Rattle.apl_search.specs.Encode.{AreBefore, digit_at, digit_for, digits_of, encode_faults, encode_of, encode_misfit, rest_by, rest_by_all};
 
 use crate::numbers::small;
 use apl_arrays::{
     Array, ELEMENT_LIMIT, Fail, Items, List, NumberList, RANK_LIMIT, Report, WantOfMemory,
 };
 use apl_items::joined_shape;
+use apl_scalar::read_all;
 use std::alloc::Global;
 
 /// The digits of numbers by bases, in the shape of the bases and then that of the numbers. From the last base to the
@@ -74,15 +75,6 @@ fn lacks_digit(bases: &[i64], numbers: &[i64]) -> bool
     read_all(bases);
     read_all(numbers);
     numbers.contains(&i64::MIN) && least_lacks(bases)
-}
-
-/// Each number of a list is in 64 bits, as it is read. The call does nothing else.
-fn read_all(list: &[i64])
-    ensures { AllFit list.now }
-{
-    for place in 0..list.len() {
-        let _number = item_at(list, place);
-    }
 }
 
 /// The number at a place.

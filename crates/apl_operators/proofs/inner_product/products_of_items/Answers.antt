@@ -1,5 +1,17 @@
+use Rattle.std.proofs.Common.{◌∙◌, is_some, refl, sym, ap}
+use Rattle.apl_arrays.specs.Array.{plain_items}
+use Rattle.apl_operators.specs.Inner.{inner_at}
+use Rattle.apl_operators.proofs.NumberLemmas.{none_lacks_of_many}
 use Rattle.apl_operators.proofs.ProductLemmas.{unlike_chars, unlike_numbers}
+use Rattle.apl_operators.proofs.TakesAllLemmas.{products_there}
 use Rattle.apl_operators.proofs.inner_product.products_of_items.Goals as goal
+
+pub returns-then-takes_all : goal.returns-then-takes_all
+returns-then-takes_all c =
+    let extent = c.args.extent in
+    none_lacks_of_many c.args.shape.now (inner_at c.args.f c.args.g (plain_items c.args.a.now) (plain_items c.args.b.now) extent.paired extent.columns) c.requires.rank
+    (ap is_some (sym c.shape_fault.ensures) ∙ sym c.if-is_some.ensures)
+    (λ place. products_there c.args.f c.args.g (plain_items c.args.a.now) (plain_items c.args.b.now) extent.paired extent.columns place c.requires.extent.some (sym c.if-refuses_none.ensures) (c.if-takes_all.ensures.all refl))
 
 pub returns-in-Numbers-Chars : goal.returns-in-Numbers-Chars
 returns-in-Numbers-Chars c =

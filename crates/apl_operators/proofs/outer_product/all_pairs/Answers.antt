@@ -1,5 +1,15 @@
+use Rattle.std.proofs.Common.{◌∙◌, is_some, refl, sym, ap}
+use Rattle.apl_arrays.specs.Array.{plain_items}
+use Rattle.apl_operators.specs.Outer.{outer_at}
+use Rattle.apl_operators.proofs.NumberLemmas.{none_lacks_of_many}
 use Rattle.apl_operators.proofs.ShapeLemmas.{unlike_chars, unlike_numbers}
+use Rattle.apl_operators.proofs.TakesAllLemmas.{all_there}
 use Rattle.apl_operators.proofs.outer_product.all_pairs.Goals as goal
+
+pub returns-then-takes_all : goal.returns-then-takes_all
+returns-then-takes_all c =
+    none_lacks_of_many c.args.shape.now (outer_at c.args.f (plain_items c.args.a.now) (plain_items c.args.b.now)) c.requires.rank (ap is_some (sym c.shape_fault.ensures) ∙ sym c.if-is_some.ensures)
+    (λ place. all_there c.args.f (plain_items c.args.a.now) (plain_items c.args.b.now) place (c.if-takes_all.ensures.all refl))
 
 pub returns-in-Numbers-Chars : goal.returns-in-Numbers-Chars
 returns-in-Numbers-Chars c =

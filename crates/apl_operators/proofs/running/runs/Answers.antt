@@ -17,4 +17,4 @@ returns-in-Times c e =
 
 pub returns-in_default : goal.returns-in_default
 returns-in_default c e =
-    runs_grouped c.args.f c.args.list.now c.args.split c.requires.whole (some_along c.args.split c.requires.some) (sym c.is_grouped.ensures ∙ e)
+    runs_grouped c.args.f c.args.list.now c.args.split c.requires.whole (some_along c.args.split c.requires.some) c.read_all.ensures (sym c.is_grouped.ensures ∙ e)

@@ -32,13 +32,13 @@ returns-in_err-items-in-Numbers c =
     let p = err_from_is_err_and c.from_residual.result c.from_residual.ensures.1 in
     let same : p.0 ≡ c.in_err-items-in-Numbers.field-0.0 = cc p.2 in
     answers_through c.from_residual.result c.in_err-items-in-Numbers.field-0.0 p.0 (scanned c.args.f c.args.b.now c.args.axis) p.1 same
-    (scan_refused c.args.f c.args.b.now c.args.axis c.as_slice.result.now c.at-split.result c.in_err-items-in-Numbers.field-0.0 c.items.ensures.array is split c.in_err-items-in-Numbers.ensures)
+    (scan_refused c.args.f c.args.b.now c.args.axis c.as_slice.result.now c.at-split.result c.in_err-items-in-Numbers.field-0.0 c.items.ensures.array is split c.in_err-items-in-Numbers.ensures.made)
 
 pub returns-in_ok-items-in-Numbers : goal.returns-in_ok-items-in-Numbers
 returns-in_ok-items-in-Numbers c =
     let split : c.at-split.result ≡ split_at c.args.b.now.shape c.args.axis = c.at-split.ensures ∙ ap (λ (s : List ℕ). split_at s c.args.axis) c.shape.ensures.value in
     let is : c.args.b.now.items ≡ numbers c.as_slice.result.now = sym c.items.ensures.value ∙ sym (numbers_are c.items.result.now c.in-Numbers.list c.as_slice.result.now c.in-Numbers.is c.as_slice.ensures) in
-    scan_made c.args.f c.args.b.now c.shaped.result c.args.axis c.as_slice.result.now c.in_ok-items-in-Numbers.items.items c.at-split.result c.items.ensures.array is split c.in_ok-items-in-Numbers.ensures
+    scan_made c.args.f c.args.b.now c.shaped.result c.args.axis c.as_slice.result.now c.in_ok-items-in-Numbers.items.items c.at-split.result c.items.ensures.array is split c.in_ok-items-in-Numbers.ensures.made
     (c.shaped.ensures ∙ ap (λ (shape : List ℕ). array_of shape (numbers c.in_ok-items-in-Numbers.items.items)) c.shape-in-Numbers.ensures.value)
 
 pub returns-in_ok-copy-in-Chars : goal.returns-in_ok-copy-in-Chars

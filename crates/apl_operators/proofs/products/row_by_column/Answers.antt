@@ -1,7 +1,7 @@
 use Rattle.std.proofs.Common.{◌+◌, ◌*◌, ◌∙◌, ℕ, ℤ, Option, arith}
 use Rattle.apl_scalar.specs.Table.{dyadic_item, row_of_dyad}
 use Rattle.apl_operators.proofs.ProductLemmas.{pair_places, some_reduced}
-use Rattle.apl_operators.proofs.inner_product.row_by_column.Goals as goal
+use Rattle.apl_operators.proofs.products.row_by_column.Goals as goal
 
 pub returns : goal.returns
 returns g c item follows =
