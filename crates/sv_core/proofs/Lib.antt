@@ -1,5 +1,6 @@
-pub mod Kept
-pub mod Left
-pub mod Offered
-pub mod Opened
-pub mod Reopened
+mod EndingLemmas
+mod GoingLemmas
+mod HoldingLemmas
+mod Kept
+mod MakingLemmas
+mod TogetherLemmas

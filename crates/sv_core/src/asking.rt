@@ -1,0 +1,68 @@
+ghost use Rattle.std.specs.Prelude.{◌≡◌, IfOk};
+ghost use Rattle.sv_events.specs.Answer.{plain_answer};
+ghost use Rattle.sv_rules.specs.Control.{control_in_force, state_vector};
+ghost use Rattle.sv_rules.specs.Questions.{answer_to_question, degree_of};
+ghost use Rattle.sv_rules.specs.Standing.{own_offer, standing};
+
+use crate::Core;
+use apl_arrays::{Name, WantOfMemory};
+use sv_access::Control;
+use sv_cells::NO_CONTROL;
+use sv_events::{Answer, Question};
+use sv_rules::Standing;
+
+impl Core {
+    // The standing offer of a party of a local name, if there is one.
+    pub(crate) fn own(&self, party: u32, local: &Name) -> Option<Standing>
+        ensures { result ≡ own_offer (standing self.now.journal) party local.now }
+    {
+        self.offers.find(party, local)
+    }
+
+    // The degree of a party's name.
+    pub(crate) fn degree(&self, party: u32, local: &Name) -> u8
+        ensures { result ≡ degree_of self.now.journal (own_offer (standing self.now.journal) party local.now) }
+    {
+        match self.own(party, local) {
+            None => 0,
+            Some(offer) => self.offers.degree(offer.place),
+        }
+    }
+
+    fn control_in_force(&self, party: u32, local: &Name) -> Control
+        ensures { result ≡ control_in_force self.now.journal (own_offer (standing self.now.journal) party local.now) }
+    {
+        match self.own(party, local) {
+            None => NO_CONTROL,
+            Some(offer) => self.in_force_with(self.vector(&offer), &offer),
+        }
+    }
+
+    fn state_asked(&self, party: u32, local: &Name) -> Control
+        ensures { result ≡ state_vector self.now.journal (own_offer (standing self.now.journal) party local.now) }
+    {
+        match self.own(party, local) {
+            None => NO_CONTROL,
+            Some(offer) => self.state_vector(&offer),
+        }
+    }
+
+    // What a question of a party is answered.
+    pub(crate) fn answer_to(&self, party: u32, question: &Question) -> Result<Answer, WantOfMemory>
+        ensures { IfOk result (λ answer. plain_answer answer ≡ answer_to_question self.now.journal party question.now) }
+    {
+        match question {
+            Question::Control(local) => Ok(Answer::Vector(self.control_in_force(party, local))),
+            Question::State(local) => Ok(Answer::Vector(self.state_asked(party, local))),
+            Question::Degree(local) => Ok(Answer::Degree(self.degree(party, local))),
+            Question::Parties => {
+                let parties = self.offers.parties_to(self.alloc, party)?;
+                Ok(Answer::Parties(parties))
+            }
+            Question::Names(from) => {
+                let names = self.offers.names_to(self.alloc, *from, party)?;
+                Ok(Answer::Names(names))
+            }
+        }
+    }
+}
