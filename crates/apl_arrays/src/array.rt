@@ -243,7 +243,7 @@ impl Array {
         self.items.numbers()
     }
 
-    /// Whether the kind is characters, also of an empty array. No memory. ISO 8485.
+    /// Whether it holds characters, or is empty and of their kind. No memory. ISO 8485.
     pub fn is_chars(&self) -> bool
         ensures { result ≡ is_chars self.now.items }
     {

@@ -10,8 +10,8 @@ use std::marker::Model;
 /// The most bytes of a file's name.
 pub const FILE_NAME_LIMIT: usize = 32;
 
-/// The name of a text file: 1 to 32 of `A` to `Z`, `a` to `z`, `0` to `9`, `_`, `.` and `-`, the first no dot. It
-/// is seen as its text.
+/// The name of a text file. It has up to 32 letters and digits of ASCII, `_`, `-` and dots, and begins with no dot. It is
+/// seen as its text.
 #[derive(Debug, Clone, Copy)]
 pub struct FileName {
     bytes: [u8; FILE_NAME_LIMIT],

@@ -1,11 +1,12 @@
 ghost use Rattle.std.specs.Prelude.{◌≡◌, ◌∷◌, []};
 ghost use Rattle.apl_arrays.specs.Glyph as glyph;
-ghost use Rattle.apl_arrays.specs.Limits.{most_axes, most_elements, most_name_glyphs, most_file_name_bytes};
+ghost use Rattle.apl_arrays.specs.Limits.{most_axes, most_elements, most_line_glyphs, most_name_glyphs, most_file_name_bytes};
 ghost use Rattle.apl_arrays.specs.Parties.{first_user, last_user};
 
 use crate::array::{ELEMENT_LIMIT, RANK_LIMIT};
 use crate::file::FILE_NAME_LIMIT;
 use crate::glyph::{Glyph, SCALARS};
+use crate::line_list::LINE_GLYPH_LIMIT;
 use crate::name::NAME_LIMIT;
 use crate::party::{FIRST_USER, LAST_USER};
 
@@ -97,6 +98,7 @@ pub fn numbers_are_as_defined()
     ensures elements { ELEMENT_LIMIT ≡ most_elements }
     ensures name { NAME_LIMIT ≡ most_name_glyphs }
     ensures file_name { FILE_NAME_LIMIT ≡ most_file_name_bytes }
+    ensures line { LINE_GLYPH_LIMIT ≡ most_line_glyphs }
     ensures least_user { FIRST_USER ≡ first_user }
     ensures greatest_user { LAST_USER ≡ last_user }
 {}

@@ -25,7 +25,7 @@ pub use file::{FILE_NAME_LIMIT, FileName};
 pub use file_list::{File, FileList};
 pub use glyph::Glyph;
 pub use laws::{named_glyphs_of_apl, named_glyphs_of_ascii, numbers_are_as_defined};
-pub use line_list::LineList;
+pub use line_list::{LINE_GLYPH_LIMIT, LineList};
 pub use list::{Bytes, Line, List, NameList, NumberList, PartyList, Readings};
 pub use memory::WantOfMemory;
 pub use name::{NAME_LIMIT, Name, longest_names_end};

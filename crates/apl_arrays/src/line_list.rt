@@ -5,6 +5,9 @@ use crate::{Line, List, WantOfMemory};
 use std::alloc::Global;
 use std::marker::Model;
 
+/// The most glyphs of a line that is read, executed or kept in a function.
+pub const LINE_GLYPH_LIMIT: usize = 1_000;
+
 /// Lines of glyphs, seen as such and as the room that is left.
 #[derive(Debug, Drop)]
 pub struct LineList {

@@ -1,42 +1,40 @@
-use crate::arrays::{array_of, outcome_text};
-use crate::fields::{push_glyphs, unless_wanted};
-use anyhow::{Result, bail};
+use anyhow::{Context, Result};
+use apl_arrays::{Array, LineList};
 use apl_display::{format, lines_of};
+use case_fields::{array_of, outcome_text, push_glyphs};
 use case_tables::Trial;
 use std::alloc::Global;
 
-/// The lines in which an array is shown: the array, and its lines with a line feed behind each.
+/// What is shown of an array: the array, and its lines with a line feed behind each, or what `⍕` makes of it.
 #[derive(Clone, Copy, Debug)]
-pub struct Lines;
+pub enum Shown {
+    Lines,
+    Format,
+}
 
-/// What `⍕` makes of an array: the array, and the result.
-#[derive(Clone, Copy, Debug)]
-pub struct Formats;
-
-fn shown(alloc: Global, field: &str) -> Result<String> {
+fn lines_text(alloc: Global, lines: &LineList) -> Result<String> {
     let mut text = String::new(alloc);
-    for line in lines_of(alloc, &array_of(alloc, field)?)?.as_slice() {
+    for line in lines.as_slice() {
         push_glyphs(alloc, &mut text, line.as_slice())?;
         text.push('\n')?;
     }
     Ok(text)
 }
 
-impl Trial for Lines {
-    fn difference(&self, alloc: Global, fields: &[&str]) -> Result<Option<String>> {
-        match fields {
-            [array, wanted] => unless_wanted(alloc, shown(alloc, *array)?, *wanted),
-            _ => bail!("an array and its lines are wanted"),
-        }
-    }
+fn display_text(alloc: Global, array: &Array) -> Result<String> {
+    lines_text(alloc, &lines_of(alloc, array)?)
 }
 
-impl Trial for Formats {
-    fn difference(&self, alloc: Global, fields: &[&str]) -> Result<Option<String>> {
-        let [array, wanted] = fields else {
-            bail!("an array and a result are wanted");
-        };
-        let outcome = format(alloc, &array_of(alloc, *array)?);
-        unless_wanted(alloc, outcome_text(alloc, outcome)?, *wanted)
+impl Trial for Shown {
+    fn given(&self) -> usize {
+        1
+    }
+
+    fn found(&self, alloc: Global, fields: &[&str]) -> Result<String> {
+        let array = array_of(alloc, *fields.first().context("an array is wanted")?)?;
+        match self {
+            Shown::Lines => display_text(alloc, &array),
+            Shown::Format => outcome_text(alloc, format(alloc, &array)),
+        }
     }
 }

@@ -1,8 +1,6 @@
-use crate::arrays::{array_of, array_text, push_quoted};
-use crate::fields::{unless, unless_wanted};
-use crate::numbers::{number_of, push_numbers};
-use anyhow::{Result, bail};
+use anyhow::{Context, Result, bail};
 use apl_arrays::{Array, Item};
+use case_fields::{array_of, array_text, number_of, push_numbers, push_quoted};
 use case_tables::Trial;
 use std::alloc::Global;
 
@@ -30,29 +28,35 @@ fn item_text(alloc: Global, item: Item) -> Result<String> {
     Ok(text)
 }
 
+// Whether an array is equal to its copy, and has this number as its first item.
+fn is_kept(alloc: Global, array: &Array, number: i64) -> Result<bool> {
+    Ok(array.copy(alloc)? == *array && item_at(array, 0)? == Item::Number(number))
+}
+
 impl Trial for Scalars {
-    fn difference(&self, alloc: Global, fields: &[&str]) -> Result<Option<String>> {
-        let [number, wanted] = fields else {
-            bail!("a number and an array are wanted");
-        };
-        let number = number_of(alloc, *number)?;
+    fn given(&self) -> usize {
+        1
+    }
+
+    fn found(&self, alloc: Global, fields: &[&str]) -> Result<String> {
+        let number = number_of(alloc, *fields.first().context("a number is wanted")?)?;
         let scalar = Array::scalar(alloc, number)?;
-        if scalar.copy(alloc)? != scalar || scalar != array_of(alloc, *wanted)? {
-            return unless(alloc, false, "the array is another");
+        if !is_kept(alloc, &scalar, number)? {
+            bail!("the item or the copy is another");
         }
-        if item_at(&scalar, 0)? != Item::Number(number) {
-            return unless(alloc, false, "the item is another");
-        }
-        unless_wanted(alloc, array_text(alloc, &scalar)?, *wanted)
+        array_text(alloc, &scalar)
     }
 }
 
 impl Trial for PlacedItems {
-    fn difference(&self, alloc: Global, fields: &[&str]) -> Result<Option<String>> {
-        let [array, place, wanted] = fields else {
-            bail!("an array, a place and an item are wanted");
+    fn given(&self) -> usize {
+        2
+    }
+
+    fn found(&self, alloc: Global, fields: &[&str]) -> Result<String> {
+        let [array, place, ..] = fields else {
+            bail!("an array and a place are wanted");
         };
-        let item = item_at(&array_of(alloc, *array)?, place.parse()?)?;
-        unless_wanted(alloc, item_text(alloc, item)?, *wanted)
+        item_text(alloc, item_at(&array_of(alloc, *array)?, place.parse()?)?)
     }
 }

@@ -1,27 +1,26 @@
-use crate::fields::{line_of, name_of, push_glyphs, quoted, text_of, unless_wanted};
 use anyhow::{Context, Result, bail};
 use apl_arrays::{FileName, Glyph, Name, next_word};
+use case_fields::{line_of, name_of, push_glyphs, quoted, unescaped};
 use case_tables::Trial;
 use std::alloc::Global;
 use std::cmp::Ordering;
 
-/// Names: a line, whether it is a name, how many glyphs its longest name at the front has, and how many go on.
+/// Names: a line; whether it is a name, how many glyphs its longest name at the front has, and how many go on.
 #[derive(Clone, Copy, Debug)]
 pub struct Names;
-
-/// The order of names: a name, how it stands to another, and that one.
-#[derive(Clone, Copy, Debug)]
-pub struct NameOrder;
 
 /// Names of files: a text, and whether it is one.
 #[derive(Clone, Copy, Debug)]
 pub struct FileNames;
 
-/// The order of names of files: one, how it stands to another, and that one.
+/// The order of names, or of names of files: one, another, and how the first stands to it.
 #[derive(Clone, Copy, Debug)]
-pub struct FileNameOrder;
+pub enum Order {
+    Names,
+    FileNames,
+}
 
-/// Words between blanks: a line, its next word, and what follows it.
+/// Words between blanks: a line; its next word, and what follows it.
 #[derive(Clone, Copy, Debug)]
 pub struct Words;
 
@@ -44,20 +43,37 @@ fn front_of(alloc: Global, line: &[Glyph]) -> Result<String> {
 }
 
 impl Trial for Names {
-    fn difference(&self, alloc: Global, fields: &[&str]) -> Result<Option<String>> {
-        let [text, whole, front, run] = fields else {
-            bail!("a line, what it is, and two counts are wanted");
+    fn given(&self) -> usize {
+        1
+    }
+
+    fn found(&self, alloc: Global, fields: &[&str]) -> Result<String> {
+        let text = quoted(*fields.first().context("a line is wanted")?)?;
+        let line = line_of(alloc, text)?;
+        let whole = whole_of(line.as_slice());
+        let front = front_of(alloc, line.as_slice())?;
+        let run = Name::run_length(line.as_slice());
+        Ok(format!(in alloc; "{whole} ¦ {front} ¦ {run}")?)
+    }
+}
+
+fn file_name_of(alloc: Global, field: &str) -> Result<Option<FileName>> {
+    Ok(FileName::of(unescaped(alloc, quoted(field)?)?.as_str()))
+}
+
+impl Trial for FileNames {
+    fn given(&self) -> usize {
+        1
+    }
+
+    fn found(&self, alloc: Global, fields: &[&str]) -> Result<String> {
+        let field = *fields.first().context("a text is wanted")?;
+        let found = match file_name_of(alloc, field)? {
+            None => "none",
+            Some(name) if name.as_bytes() == quoted(field)?.as_bytes() => "name",
+            Some(_) => "another name",
         };
-        let line = line_of(alloc, quoted(*text)?)?;
-        let is = whole_of(line.as_slice());
-        let first = front_of(alloc, line.as_slice())?;
-        let count = Name::run_length(line.as_slice());
-        let found = format!(in alloc; "{is}, {first}, {count}")?;
-        unless_wanted(
-            alloc,
-            found,
-            format!(in alloc; "{whole}, {front}, {run}")?.as_str(),
-        )
+        Ok(String::from_str(alloc, found)?)
     }
 }
 
@@ -71,72 +87,53 @@ fn order_text<T: Ord>(one: &T, other: &T) -> &'static str {
     }
 }
 
-impl Trial for NameOrder {
-    fn difference(&self, alloc: Global, fields: &[&str]) -> Result<Option<String>> {
-        let [one, order, other] = fields else {
-            bail!("two names and their order are wanted");
-        };
-        let one = name_of(alloc, quoted(*one)?)?;
-        let other = name_of(alloc, quoted(*other)?)?;
-        let found = order_text(&one, &other);
-        unless_wanted(alloc, String::from_str(alloc, found)?, *order)
-    }
-}
-
-fn file_name_of(alloc: Global, field: &str) -> Result<Option<FileName>> {
-    Ok(FileName::of(text_of(alloc, quoted(field)?)?.as_str()))
-}
-
-impl Trial for FileNames {
-    fn difference(&self, alloc: Global, fields: &[&str]) -> Result<Option<String>> {
-        let [text, wanted] = fields else {
-            bail!("a text and what it is are wanted");
-        };
-        let found = match file_name_of(alloc, *text)? {
-            None => "none",
-            Some(name) if name.as_bytes() == quoted(*text)?.as_bytes() => "name",
-            Some(_) => "another name",
-        };
-        unless_wanted(alloc, String::from_str(alloc, found)?, *wanted)
-    }
-}
-
-impl Trial for FileNameOrder {
-    fn difference(&self, alloc: Global, fields: &[&str]) -> Result<Option<String>> {
-        let [one, order, other] = fields else {
-            bail!("two names and their order are wanted");
-        };
-        let one = file_name_of(alloc, *one)?.context("no name")?;
-        let other = file_name_of(alloc, *other)?.context("no name")?;
-        unless_wanted(
-            alloc,
-            String::from_str(alloc, order_text(&one, &other))?,
-            *order,
-        )
-    }
-}
-
-fn words_text(alloc: Global, line: &[Glyph]) -> Result<String> {
-    match next_word(line) {
-        None => Ok(String::from_str(alloc, "none, none")?),
-        Some((word, rest)) => {
-            let mut text = String::from_str(alloc, "'")?;
-            push_glyphs(alloc, &mut text, word)?;
-            text.push_str("', '")?;
-            push_glyphs(alloc, &mut text, rest)?;
-            text.push_str("'")?;
-            Ok(text)
+impl Order {
+    fn of(self, alloc: Global, one: &str, other: &str) -> Result<&'static str> {
+        match self {
+            Order::Names => Ok(order_text(
+                &name_of(alloc, quoted(one)?)?,
+                &name_of(alloc, quoted(other)?)?,
+            )),
+            Order::FileNames => Ok(order_text(
+                &file_name_of(alloc, one)?.context("no name")?,
+                &file_name_of(alloc, other)?.context("no name")?,
+            )),
         }
     }
 }
 
-impl Trial for Words {
-    fn difference(&self, alloc: Global, fields: &[&str]) -> Result<Option<String>> {
-        let [text, word, rest] = fields else {
-            bail!("a line, a word and a rest are wanted");
+impl Trial for Order {
+    fn given(&self) -> usize {
+        2
+    }
+
+    fn found(&self, alloc: Global, fields: &[&str]) -> Result<String> {
+        let [one, other, ..] = fields else {
+            bail!("two names are wanted");
         };
-        let line = line_of(alloc, quoted(*text)?)?;
-        let found = words_text(alloc, line.as_slice())?;
-        unless_wanted(alloc, found, format!(in alloc; "{word}, {rest}")?.as_str())
+        Ok(String::from_str(alloc, self.of(alloc, *one, *other)?)?)
+    }
+}
+
+fn word_text(alloc: Global, word: &[Glyph], rest: &[Glyph]) -> Result<String> {
+    let mut text = String::from_str(alloc, "'")?;
+    push_glyphs(alloc, &mut text, word)?;
+    text.push_str("' ¦ '")?;
+    push_glyphs(alloc, &mut text, rest)?;
+    text.push('\'')?;
+    Ok(text)
+}
+
+impl Trial for Words {
+    fn given(&self) -> usize {
+        1
+    }
+
+    fn found(&self, alloc: Global, fields: &[&str]) -> Result<String> {
+        let text = quoted(*fields.first().context("a line is wanted")?)?;
+        match next_word(line_of(alloc, text)?.as_slice()) {
+            None => Ok(String::from_str(alloc, "none ¦ none")?),
+            Some((word, rest)) => word_text(alloc, word, rest),
+        }
     }
 }

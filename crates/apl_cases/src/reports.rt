@@ -1,16 +1,14 @@
-use crate::fields::{unless, unless_wanted};
 use anyhow::{Context, Result, bail};
 use apl_arrays::{ArrayRefused, Fail, GlyphRefused, Report, WantOfMemory};
 use case_tables::Trial;
 use std::alloc::Global;
 
-/// Reports: the report, and its text.
+/// Reports or refusals: which one, and its text.
 #[derive(Clone, Copy, Debug)]
-pub struct Reports;
-
-/// Refusals: the refusal, and its text.
-#[derive(Clone, Copy, Debug)]
-pub struct Refusals;
+pub enum Texts {
+    Reports,
+    Refusals,
+}
 
 fn report_of(name: &str) -> Option<Report> {
     match name {
@@ -47,25 +45,26 @@ fn refusal_text(alloc: Global, name: &str) -> Result<String> {
     })
 }
 
-impl Trial for Reports {
-    fn difference(&self, alloc: Global, fields: &[&str]) -> Result<Option<String>> {
-        let [name, wanted] = fields else {
-            bail!("a report and its text are wanted");
-        };
-        let report = report_of(*name).context("no report")?;
-        let told = Fail::from(report).to_string(alloc)?;
-        if told.as_str() != report.text() {
-            return unless(alloc, false, "a failure tells another text");
-        }
-        unless_wanted(alloc, told, *wanted)
+// A failure tells its report.
+fn report_text(alloc: Global, name: &str) -> Result<String> {
+    let report = report_of(name).context("no report")?;
+    let told = Fail::from(report).to_string(alloc)?;
+    if told.as_str() != report.text() {
+        bail!("a failure tells another text");
     }
+    Ok(told)
 }
 
-impl Trial for Refusals {
-    fn difference(&self, alloc: Global, fields: &[&str]) -> Result<Option<String>> {
-        match fields {
-            [name, wanted] => unless_wanted(alloc, refusal_text(alloc, *name)?, *wanted),
-            _ => bail!("a refusal and its text are wanted"),
+impl Trial for Texts {
+    fn given(&self) -> usize {
+        1
+    }
+
+    fn found(&self, alloc: Global, fields: &[&str]) -> Result<String> {
+        let name = *fields.first().context("a report or a refusal is wanted")?;
+        match self {
+            Texts::Reports => report_text(alloc, name),
+            Texts::Refusals => refusal_text(alloc, name),
         }
     }
 }

@@ -1,17 +1,16 @@
-use crate::arrays::{array_of, array_text, shape_of};
-use crate::fields::{unless, unless_wanted};
 use anyhow::{Context, Result, bail};
 use apl_arrays::{
     Array, ArrayRefused, Glyph, Items, Line, NumberList, ShapeFault, count_of_elements, shape_fault,
 };
+use case_fields::{array_of, array_text, axes_of};
 use case_tables::Trial;
 use std::alloc::Global;
 
-/// Shapes: a shape, how many items, what an array of both is, and what the shape alone is.
+/// Shapes: a shape, how many items; what an array of both is, and what the shape alone is.
 #[derive(Clone, Copy, Debug)]
 pub struct Shapes;
 
-/// Equality of arrays: an array, whether another is the same, and that one.
+/// Equality of arrays: an array, another, and whether it is the same.
 #[derive(Clone, Copy, Debug)]
 pub struct Equality;
 
@@ -56,25 +55,29 @@ fn alone_text(shape: &[u32]) -> &'static str {
     }
 }
 
+// What an array of a shape and of so many items is, of numbers and of characters alike.
+fn both_text(alloc: Global, shape: &[u32], count: i64) -> Result<&'static str> {
+    let first = made_text(shape, numbers(alloc, count)?, &numbers(alloc, count)?);
+    let second = made_text(shape, chars(alloc, count)?, &chars(alloc, count)?);
+    Ok(if first == second { first } else { "unlike" })
+}
+
 impl Trial for Shapes {
-    fn difference(&self, alloc: Global, fields: &[&str]) -> Result<Option<String>> {
-        let [shape, count, made, alone] = fields else {
-            bail!("a shape, a count, what is made and what the shape is are wanted");
+    fn given(&self) -> usize {
+        2
+    }
+
+    fn found(&self, alloc: Global, fields: &[&str]) -> Result<String> {
+        let [shape, count, ..] = fields else {
+            bail!("a shape and a count are wanted");
         };
         let axes = shape
             .strip_prefix("(")
             .and_then(|rest| rest.strip_suffix(")"));
-        let shape = shape_of(alloc, axes.context("no shape")?)?;
-        let count = count.parse()?;
-        let first = made_text(&shape, numbers(alloc, count)?, &numbers(alloc, count)?);
-        let second = made_text(&shape, chars(alloc, count)?, &chars(alloc, count)?);
-        let third = alone_text(&shape);
-        let found = format!(in alloc; "{first}, {second}, {third}")?;
-        unless_wanted(
-            alloc,
-            found,
-            format!(in alloc; "{made}, {made}, {alone}")?.as_str(),
-        )
+        let shape = axes_of(alloc, axes.context("no shape")?)?;
+        let both = both_text(alloc, &shape, count.parse()?)?;
+        let alone = alone_text(&shape);
+        Ok(format!(in alloc; "{both} ¦ {alone}")?)
     }
 }
 
@@ -86,15 +89,18 @@ fn is_copied(alloc: Global, field: &str) -> Result<bool> {
 }
 
 impl Trial for Equality {
-    fn difference(&self, alloc: Global, fields: &[&str]) -> Result<Option<String>> {
-        let [one, wanted, other] = fields else {
-            bail!("two arrays and whether they are the same are wanted");
+    fn given(&self) -> usize {
+        2
+    }
+
+    fn found(&self, alloc: Global, fields: &[&str]) -> Result<String> {
+        let [one, other, ..] = fields else {
+            bail!("two arrays are wanted");
         };
         if !is_copied(alloc, *one)? {
-            return unless(alloc, false, "the copy is another");
+            bail!("the copy is another");
         }
         let is_same = array_of(alloc, *one)? == array_of(alloc, *other)?;
-        let found = if is_same { "same" } else { "other" };
-        unless_wanted(alloc, String::from_str(alloc, found)?, *wanted)
+        Ok(String::from_str(alloc, if is_same { "same" } else { "other" })?)
     }
 }

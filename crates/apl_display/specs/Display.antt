@@ -4,7 +4,7 @@ use Rattle.line_text.specs.Spaced.{spaced}
 use Rattle.apl_display.specs.Matrices.{extent_of, matrices_lines}
 use Rattle.line_text.specs.Number.{number_text}
 
--- items in one line: numbers with one blank between, characters as they are
+-- the items of a vector in one line: numbers are set apart by single blanks, characters stand side by side
 abbrev pub item_line : PlainItems → List ℕ
 item_line (numbers list) = spaced (map number_text list)
 item_line (chars list) = list

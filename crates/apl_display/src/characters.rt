@@ -85,7 +85,7 @@ fn vector_format(alloc: Global, b: &Array, list: &[i64]) -> Result<Array, Fail>
     Ok(in_rows(&[], width, line))
 }
 
-// The characters of an array of rank 2 or more without elements: none.
+// No characters, where an array of two axes or more has no items.
 fn empty_format(alloc: Global, b: &Array) -> Array
     requires rank { 2 ≤ length b.now.shape }
     requires none { item_count b.now.items ≡ 0 }
@@ -146,10 +146,10 @@ fn as_characters(alloc: Global, b: &Array) -> Result<Array, Fail>
     }
 }
 
-/// An array as characters: one of characters unchanged, a number scalar or vector as the vector of its display line,
-/// and any other array of numbers in its shape with the width of its display lines, which is 0 without elements, as
-/// the last axis. WS FULL exactly where the result would pass the limits of an array. It takes memory for the result
-/// and for a number a column.
+/// An array as characters. One of characters stays as it is. Of numbers it is what the display shows: of a scalar or a
+/// vector its line, as a vector; of any other array the glyphs of its lines, with their width (0 where there are none)
+/// in place of the last axis. WS FULL exactly where the result would pass the limits of an array. It takes memory for
+/// the result and for a number a column.
 pub fn format(alloc: Global, b: &Array) -> Result<Array, Fail>
     ensures { Answers result (format_of b.now) }
 {

@@ -28,7 +28,8 @@ pub fn matrices_share_their_widths()
         codes "AB" ∷ codes "CD" ∷ [] ∷ codes "EF" ∷ codes "GH" ∷ [] }
 {}
 
-/// An empty vector is an empty line; an array without elements at a higher rank has no line. The call does nothing.
+/// A vector without items shows one line with nothing in it; an array of more axes without items shows none. The call
+/// does nothing.
 pub fn nothing_is_shown()
     ensures numbers { display_lines (number_array (0 ∷ []) []) ≡ [] ∷ [] }
     ensures characters { display_lines (char_array (0 ∷ []) []) ≡ [] ∷ [] }

@@ -1,73 +1,56 @@
--- Names that go, and come again one after another.
-use Rattle.std.proofs.Common.{◌≡◌, ℕ, suc, ◌+◌, ◌≤◌, ◌<◌, Bool, true, false, cond, not, ◌&&◌, List, [], ◌∷◌, ◌++◌, Option, Some, None, length, drop, get_or, refl, sym, ap, subst, ◌∙◌, arith, add-one}
-use Rattle.std.specs.Prelude.{filter, is_some, unwrap_or}
+-- Names that are gone, and come one after another.
+use Rattle.std.proofs.Common.{◌≡◌, ℕ, suc, ◌+◌, ◌≤◌, ◌<◌, Bool, true, false, cond, ◌||◌, List, [], ◌∷◌, Option, Some, None, length, drop, get_or, sym, ap, subst, ◌∙◌, arith, add-one}
+use Rattle.std.specs.Prelude.{unwrap_or}
+use Rattle.std.specs.List.{list_any}
 use Rattle.std.specs.Option.{option_map}
 use Rattle.std.specs.List.Sorted.{IsStrictlySortedBy}
-use Rattle.std.specs.Map.{keys_of, values_of}
+use Rattle.std.specs.Map.{keys_of}
 use Rattle.std.proofs.Math.Seq.{drop-cons}
-use Rattle.std.proofs.lemmas.Bool.{and_parts, false≢true}
+use Rattle.std.proofs.lemmas.Bool.{or_parts}
 use Rattle.std.proofs.lemmas.Cmp.{nat_list_cmp_total}
 use Rattle.std.proofs.lemmas.Map.Entries.{sum_by-insert_entry}
-use Rattle.apl_workspace.specs.Meaning.{Names, is_shared_in, is_shared_meaning, meaning_in, meaning_weight, table_weight, weight_in, with_meaning, without_name}
-use Rattle.apl_workspace.specs.Names.{is_name_of, name_order}
-use Rattle.apl_workspace.specs.Workspace.{IsFull, PlainWorkspace, workspace_weight}
+use Rattle.apl_workspace.specs.Meaning.{Names, meaning_in, meaning_weight, table_weight, weight_in, with_meaning, without_name, without_names}
+use Rattle.apl_workspace.specs.Names.{all_differ, is_name_of, name_order}
+use Rattle.apl_workspace.specs.Workspace.{IsFull, IsWorkspace, PlainWorkspace, without_globals, workspace_weight}
 use Rattle.apl_arrays.specs.declared.report.Fail.{Fail}
 use Rattle.apl_arrays.specs.declared.report.Fail.TheVariants.{Report, WantOfMemory}
 use Rattle.apl_workspace.specs.declared.meaning.Meaning.{Meaning}
-use Rattle.apl_workspace.specs.declared.meaning.Meaning.TheVariants.{Nothing}
-use Rattle.apl_workspace.proofs.Ascending.{found_with, found_without, with_ascends, without_ascends}
-use Rattle.apl_workspace.proofs.NameLaw.{own_name}
-use Rattle.apl_execute.specs.Copying.{AreAbsent, AreOthers, AreUnshared, Differ, MayCome}
-use Rattle.apl_execute.specs.Merge.{copy_in, with_copies, with_copy, without_names}
+use Rattle.apl_workspace.proofs.Ascending.{found_with, with_ascends, without_ascends}
+use Rattle.apl_workspace.proofs.NameLaw.{first_differs, own_name}
+use Rattle.apl_workspace.proofs.Without.{found_without_all, still_ascends}
+use Rattle.apl_execute.specs.Copying.{AreAbsent, MayCome}
+use Rattle.apl_execute.specs.Merge.{copy_in, with_copies, with_copy}
 
 -- ---- names that go
 
-gone_stays_by : (globals : Names) (name other : List ℕ) (b : Bool) → is_name_of name other ≡ b → IsStrictlySortedBy name_order (keys_of globals) → meaning_in globals other ≡ None → meaning_in (without_name globals name) other ≡ None
-gone_stays_by globals name other true e s none = found_without globals name other s ∙ ap (λ (b : Bool). cond b None (meaning_in globals other)) e
-gone_stays_by globals name other false e s none = found_without globals name other s ∙ ap (λ (b : Bool). cond b None (meaning_in globals other)) e ∙ none
-
-gone_stays : (globals : Names) (names : List (List ℕ)) (other : List ℕ) → IsStrictlySortedBy name_order (keys_of globals) → meaning_in globals other ≡ None → meaning_in (without_names globals names) other ≡ None
-gone_stays globals [] other s none = none
-gone_stays globals (name ∷ names) other s none =
-    gone_stays (without_name globals name) names other (without_ascends globals name s) (gone_stays_by globals name other (is_name_of name other) refl s none)
-
-gone : (globals : Names) (name : List ℕ) → IsStrictlySortedBy name_order (keys_of globals) → meaning_in (without_name globals name) name ≡ None
-gone globals name s = found_without globals name name s ∙ ap (λ (b : Bool). cond b None (meaning_in globals name)) (own_name name)
-
-pub all_gone : (globals : Names) (names : List (List ℕ)) → IsStrictlySortedBy name_order (keys_of globals) → AreAbsent (without_names globals names) names
+all_gone : (globals : Names) (names : List (List ℕ)) → IsStrictlySortedBy name_order (keys_of globals) → AreAbsent (without_names globals names) names
 all_gone globals [] s = tt
 all_gone globals (name ∷ names) s =
-    (gone_stays (without_name globals name) names name (without_ascends globals name s) (gone globals name s), all_gone (without_name globals name) names (without_ascends globals name s))
+    (found_without_all globals (name ∷ names) name s ∙ ap (λ (b : Bool). cond (b || list_any (is_name_of name) names) None (meaning_in globals name)) (own_name name), all_gone (without_name globals name) names (without_ascends globals name s))
 
-pub still_ascend : (globals : Names) (names : List (List ℕ)) → IsStrictlySortedBy name_order (keys_of globals) → IsStrictlySortedBy name_order (keys_of (without_names globals names))
-still_ascend globals [] s = s
-still_ascend globals (name ∷ names) s = still_ascend (without_name globals name) names (without_ascends globals name s)
-
-unshared_by : (globals : Names) (name other : List ℕ) (b : Bool) → is_name_of name other ≡ b → IsStrictlySortedBy name_order (keys_of globals) → is_shared_in globals other ≡ false → is_shared_in (without_name globals name) other ≡ false
-unshared_by globals name other true e s free =
-    ap (λ (found : Option Meaning). is_shared_meaning (unwrap_or found Nothing)) (found_without globals name other s ∙ ap (λ (b : Bool). cond b None (meaning_in globals other)) e)
-unshared_by globals name other false e s free =
-    ap (λ (found : Option Meaning). is_shared_meaning (unwrap_or found Nothing)) (found_without globals name other s ∙ ap (λ (b : Bool). cond b None (meaning_in globals other)) e) ∙ free
-
-pub unshared_on : (globals : Names) (name : List ℕ) (names : List (List ℕ)) → IsStrictlySortedBy name_order (keys_of globals) → AreUnshared globals names → AreUnshared (without_name globals name) names
-unshared_on globals name [] s free = tt
-unshared_on globals name (other ∷ names) s free = (unshared_by globals name other (is_name_of name other) refl s free.0, unshared_on globals name names s free.1)
+-- names that are gone may come one after another
+pub may_come : (into w : PlainWorkspace) (names : List (List ℕ)) → IsWorkspace into → w ≡ without_globals into names → all_differ names ≡ true → MayCome w.globals names
+may_come into w names h is differ =
+    subst (λ (ws : PlainWorkspace). MayCome ws.globals names) (sym is)
+    (record { ascend = still_ascends into.globals names h.ascending; absent = all_gone into.globals names h.ascending; differ = differ })
 
 -- ---- names that come
 
 absent_by : (globals : Names) (name other : List ℕ) (meaning : Meaning) → is_name_of name other ≡ false → meaning_in globals other ≡ None → meaning_in (with_meaning globals name meaning) other ≡ None
 absent_by globals name other meaning apart none = found_with globals name meaning other ∙ ap (λ (b : Bool). cond b (Some meaning) (meaning_in globals other)) apart ∙ none
 
-absent_on : (globals : Names) (name : List ℕ) (meaning : Meaning) (names : List (List ℕ)) → AreOthers name names → AreAbsent globals names → AreAbsent (with_meaning globals name meaning) names
+absent_on : (globals : Names) (name : List ℕ) (meaning : Meaning) (names : List (List ℕ)) → list_any (is_name_of name) names ≡ false → AreAbsent globals names → AreAbsent (with_meaning globals name meaning) names
 absent_on globals name meaning [] others absent = tt
-absent_on globals name meaning (other ∷ names) others absent = (absent_by globals name other meaning others.0 absent.0, absent_on globals name meaning names others.1 absent.1)
+absent_on globals name meaning (other ∷ names) others absent =
+    let parts = or_parts (is_name_of name other) (list_any (is_name_of name) names) others in
+    (absent_by globals name other meaning parts.0 absent.0, absent_on globals name meaning names parts.1 absent.1)
 
 comes_by : (globals : Names) (name : List ℕ) (names : List (List ℕ)) (copy : Option Meaning) → MayCome globals (name ∷ names) → MayCome (with_copy globals name copy) names
-comes_by globals name names None h = record { ascend = h.ascend; absent = h.absent.1; differ = h.differ.1 }
+comes_by globals name names None h = record { ascend = h.ascend; absent = h.absent.1; differ = (first_differs name names h.differ).1 }
 comes_by globals name names (Some meaning) h = record {
   ascend = with_ascends globals name meaning h.ascend;
-  absent = absent_on globals name meaning names h.differ.0 h.absent.1;
-  differ = h.differ.1;
+  absent = absent_on globals name meaning names (first_differs name names h.differ).0 h.absent.1;
+  differ = (first_differs name names h.differ).1;
 }
 
 pub comes_on : (from : PlainWorkspace) (globals : Names) (name : List ℕ) (names : List (List ℕ)) → MayCome globals (name ∷ names) → MayCome (with_copy globals name (copy_in from name)) names

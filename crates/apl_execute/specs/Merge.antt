@@ -2,7 +2,7 @@
 use Rattle.std.specs.Prelude.{◌&&◌, ◌++◌, ℕ, Bool, not, List, [], ◌∷◌, Option, Some, None, filter, fold, is_some, if◌then◌else◌}
 use Rattle.std.specs.List.{list_any}
 use Rattle.apl_workspace.specs.Listing.{all_names}
-use Rattle.apl_workspace.specs.Meaning.{Names, with_meaning, without_name}
+use Rattle.apl_workspace.specs.Meaning.{Names, with_meaning, without_names}
 use Rattle.apl_workspace.specs.Names.{is_name_of}
 use Rattle.apl_workspace.specs.Workspace.{PlainWorkspace, global_in, is_shared}
 use Rattle.apl_workspace.specs.declared.meaning.Meaning.{Meaning}
@@ -45,11 +45,6 @@ is_kept into from name = is_some (copy_in from name) && is_shared into name
 -- the name is there, and is copied
 abbrev pub is_copied : PlainWorkspace → PlainWorkspace → List ℕ → Bool
 is_copied into from name = is_some (copy_in from name) && not (is_shared into name)
-
--- the names without these
-abbrev pub without_names : Names → List (List ℕ) → Names
-without_names globals [] = globals
-without_names globals (name ∷ names) = without_names (without_name globals name) names
 
 -- the names with one that stands for this, where there is something
 abbrev pub with_copy : Names → List ℕ → Option Meaning → Names

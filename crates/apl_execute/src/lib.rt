@@ -1,6 +1,7 @@
 //! Values that are executed as text, and names that one workspace takes over from another.
 #![tactic(auto)]
 
+pub mod laws;
 mod merging;
 mod text;
 

@@ -1,14 +1,12 @@
-ghost use Rattle.std.specs.Prelude.{◌≡◌, ◌≤◌, ◌∷◌, ◌++◌, [], None, if◌then◌else◌, IfErr, IfOk, OnErr, OnOk, filter, is_some};
+ghost use Rattle.std.specs.Prelude.{◌≡◌, ◌≤◌, ◌∷◌, ◌++◌, [], false, true, None, if◌then◌else◌, All, IfErr, IfOk, OnErr, OnOk, filter, is_some};
 ghost use Rattle.std.specs.Option.{option_map};
 ghost use Rattle.apl_workspace.specs.Limits.{most_weight};
-ghost use Rattle.std.specs.List.Sorted.{IsStrictlySortedBy};
-ghost use Rattle.std.specs.Map.{keys_of};
 ghost use Rattle.apl_workspace.specs.Meaning.{meaning_in};
-ghost use Rattle.apl_workspace.specs.Names.{name_order};
-ghost use Rattle.apl_execute.specs.Copying.{AreUnshared, Differ, MayCome};
+ghost use Rattle.apl_execute.specs.Copying.{MayCome};
+ghost use Rattle.apl_workspace.specs.Names.{all_differ};
 ghost use Rattle.apl_workspace.specs.Seen.{plain_seen};
-ghost use Rattle.apl_workspace.specs.Workspace.{IsFull, workspace_weight};
-ghost use Rattle.apl_execute.specs.Merge.{asked, copied_as, copy_in, each_once, is_copied, is_kept, is_missing, merged, with_copies, with_copy, with_names, without_names};
+ghost use Rattle.apl_workspace.specs.Workspace.{IsFull, is_shared, workspace_weight};
+ghost use Rattle.apl_execute.specs.Merge.{asked, copied_as, copy_in, each_once, is_copied, is_kept, is_missing, merged, with_copies, with_copy, with_names};
 
 use apl_arrays::{Fail, List, Name, NameList, WantOfMemory};
 use apl_workspace::{Seen, Workspace};
@@ -51,29 +49,26 @@ pub fn merge(
 }
 
 // The names that are asked for: these, each once, or all of a workspace.
-#[tactic(auto, using(crate::proofs::Mentions::ascending_differ))]
+#[tactic(auto, using(apl_workspace::proofs::NameLaw::ascending_differ))]
 fn asked(
     alloc: Global,
     from: &Workspace,
     names: Option<&NameList>,
 ) -> Result<NameList, WantOfMemory>
     ensures value { IfOk result (λ list. list.items ≡ asked from.now (option_map (λ asked. asked.now.items) names.entry)) }
-    ensures differ { IfOk result (λ list. Differ list.items) }
+    ensures differ { IfOk result (λ list. all_differ list.items ≡ true) }
 {
     match names {
-        None => {
-            let _ = from.weight();
-            from.all_names()
-        }
+        None => from.all_names(),
         Some(names) => each_once(alloc, names.as_slice()),
     }
 }
 
 // The names, each once, where it is first mentioned.
-#[tactic(auto, using(crate::proofs::Mentions::mentioned_differ))]
+#[tactic(auto, using(crate::proofs::MergeLaw::mentioned_once))]
 fn each_once(alloc: Global, names: &[Name]) -> Result<NameList, WantOfMemory>
     ensures value { IfOk result (λ list. list.items ≡ each_once names.now) }
-    ensures differ { Differ (each_once names.now) }
+    ensures differ { all_differ (each_once names.now) ≡ true }
 {
     let mut mentioned = BTreeSet::new(alloc);
     let mut list = List::new(alloc);
@@ -136,17 +131,17 @@ fn kept(
 }
 
 // The names that are copied.
-#[tactic(auto, using(crate::proofs::Mentions::differ_picked, crate::proofs::Mentions::copied_are_unshared))]
+#[tactic(auto, using(apl_workspace::proofs::NameLaw::differ_picked))]
 fn copied(
     alloc: Global,
     into: &Workspace,
     from: &Workspace,
     asked: &[Name],
 ) -> Result<NameList, WantOfMemory>
-    requires { Differ asked.now }
+    requires { all_differ asked.now ≡ true }
     ensures value { IfOk result (λ list. list.items ≡ filter (is_copied into.now from.now) asked.now) }
-    ensures differ { Differ (filter (is_copied into.now from.now) asked.now) }
-    ensures unshared { AreUnshared into.now.globals (filter (is_copied into.now from.now) asked.now) }
+    ensures differ { all_differ (filter (is_copied into.now from.now) asked.now) ≡ true }
+    ensures unshared { All (λ name. is_shared into.now name ≡ false) (filter (is_copied into.now from.now) asked.now) }
 {
     let mut list = List::new(alloc);
     for name in asked {
@@ -157,8 +152,7 @@ fn copied(
     Ok(list)
 }
 
-// The workspace with names as another has them: they go, and then come from there.
-#[tactic(auto, using(crate::proofs::Copies::all_gone, crate::proofs::Copies::still_ascend))]
+// The workspace with names as another has them: all others are copied, and these come from there.
 fn with_names(
     alloc: Global,
     into: &Workspace,
@@ -166,29 +160,16 @@ fn with_names(
     names: &[Name],
 ) -> Result<Workspace, Fail>
     requires into { into.now.frames ≡ [] }
-    requires unshared { AreUnshared into.now.globals names.now }
-    requires differ { Differ names.now }
+    requires unshared { All (λ name. is_shared into.now name ≡ false) names.now }
+    requires differ { all_differ names.now ≡ true }
     ensures ok { IfOk result (λ workspace. workspace ≡ with_names into.now from.now names.now) }
     ensures fits { OnOk result (workspace_weight (with_names into.now from.now names.now) ≤ most_weight) }
     ensures full { IfErr result (IsFull (with_names into.now from.now names.now)) }
 {
-    let _ = into.weight();
-    let mut workspace = into.copy()?;
-    erase_all(&mut workspace, names);
+    let mut workspace = into.copy_without(names)?;
     put_all(alloc, &mut workspace, from, names)?;
     let _ = workspace.weight();
     Ok(workspace)
-}
-
-// Takes names out, of which none is shared.
-fn erase_all(ws: &mut Workspace, names: &[Name])
-    requires ascend { IsStrictlySortedBy name_order (keys_of ws.old.globals) }
-    requires unshared { AreUnshared ws.old.globals names.now }
-    ensures { ws.new ≡ record ws.old { globals = without_names ws.old.globals names.now } }
-{
-    for name in names {
-        let _ = ws.erase(name);
-    }
 }
 
 // Puts names in that are not there, as another workspace has them. A refusal leaves some of them in.

@@ -2,11 +2,8 @@ ghost use Rattle.std.specs.Prelude.{◌≡◌, Ok, IfErr, IfOk};
 ghost use Rattle.apl_arrays.specs.Array.{chars};
 ghost use Rattle.apl_execute.specs.Text.{IsNoText, text_of, text_of_items};
 
-use apl_arrays::{Array, Fail, Items, Line, Report};
+use apl_arrays::{Array, Fail, Items, LINE_GLYPH_LIMIT, Line, Report};
 use std::alloc::Global;
-
-/// The most glyphs of a text.
-const TEXT_LIMIT: usize = 1000;
 
 /// The text that a value is: its characters. `Rank` where it has more than one axis, else `Domain` where it holds numbers,
 /// also none, else `Length` where it has over 1,000 glyphs. It takes memory for the text.
@@ -28,7 +25,7 @@ fn copy_of(alloc: Global, line: &Line) -> Result<Line, Fail>
     ensures ok { IfOk result (λ text. text_of_items (chars line.now.items) ≡ Ok text.items) }
     ensures refused { IfErr result (λ fail. IsNoText (text_of_items (chars line.now.items)) fail) }
 {
-    if line.as_slice().len() > TEXT_LIMIT {
+    if line.as_slice().len() > LINE_GLYPH_LIMIT {
         return Err(Fail::Report(Report::Length));
     }
     Ok(line.copy(alloc)?)

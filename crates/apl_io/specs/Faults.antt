@@ -5,6 +5,6 @@ use Rattle.std.specs.Prelude.{ℕ, ◌+◌, ◌-◌, ◌^◌, ◌≤◌, min}
 abbrev pub one_more : ℕ → ℕ
 one_more count = min (count + 1) (2 ^ 64 - 1)
 
--- the count rose, as one that stands at the greatest u64 is said to do too
+-- the count went up, or has no higher number to go to
 abbrev pub Rose : ℕ → ℕ → Type 0
 Rose before now = one_more before ≤ now

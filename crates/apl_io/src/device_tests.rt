@@ -52,15 +52,13 @@ fn gives_readings<C: Clock>(rt: &impl Abort, clock: &mut C) {
 }
 
 fn devices_keep(rt: &impl Abort, alloc: Global) -> Result<(), StoreError> {
-    if let Some(name) = name_x() {
-        let mut shelf = MemoryShelf::new(alloc, CallNumbers::new(alloc));
-        keeps_for_a_user(rt, &mut shelf, &name)?;
-    }
+    let name = name_x().expect(rt, "X is a name");
+    let mut shelf = MemoryShelf::new(alloc, CallNumbers::new(alloc));
+    keeps_for_a_user(rt, &mut shelf, &name)?;
     let mut files = FileList::new(alloc);
-    if let Some(name) = FileName::of("NOTES") {
-        let bytes = kept::copy_bytes(alloc, b"ONE")?;
-        files.push(File { name, bytes })?;
-    }
+    let name = FileName::of("NOTES").expect(rt, "NOTES names a file");
+    let bytes = kept::copy_bytes(alloc, b"ONE")?;
+    files.push(File { name, bytes })?;
     let mut second = CallNumbers::new(alloc);
     second.push(2)?;
     keeps_files(rt, &mut MemoryText::new(alloc, files, second))?;

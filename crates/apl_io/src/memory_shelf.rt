@@ -37,8 +37,8 @@ impl MemoryShelf {
     ghost use Rattle.std.specs.Prelude.{[]};
     ghost use Rattle.apl_io.specs.Kept.{new_keeper};
 
-    /// An empty shelf. Calls are numbered from 1, and the number stands still at the greatest `u64`; those that `fails`
-    /// has are to fail. No memory.
+    /// An empty shelf. `fails` has the numbers of the calls that are to fail: the first call is 1, and past the
+    /// greatest `u64` numbers go no further. No memory.
     pub fn new(alloc: Global, fails: CallNumbers) -> Self
         ensures { result ≡ new_keeper [] fails.items }
     {

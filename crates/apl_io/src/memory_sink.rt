@@ -35,8 +35,8 @@ impl MemorySink {
     ghost use Rattle.apl_io.specs.Memory.{new_store};
 
     /// An empty sink with room for so many bytes in all, which it takes at once. A call takes at most `piece` of them.
-    /// Calls are numbered from 1, and the number stands still at the greatest `u64`; those that `fails` has are to
-    /// fail. `WantOfMemory` only for the room.
+    /// `fails` has the numbers of the calls that are to fail: the first call is 1, and past the greatest `u64` numbers
+    /// go no further. `WantOfMemory` only for the room.
     pub fn new(
         alloc: Global,
         room: usize,

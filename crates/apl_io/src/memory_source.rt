@@ -31,8 +31,8 @@ impl Model for MemorySource {
 impl MemorySource {
     ghost use Rattle.apl_io.specs.Memory.{new_supply};
 
-    /// A source of these bytes. A call gives at most `piece` of them. Calls are numbered from 1, and the number stands
-    /// still at the greatest `u64`; those that `fails` has are to fail. It takes no memory.
+    /// A source of these bytes. A call gives at most `piece` of them. `fails` has the numbers of the calls that are
+    /// to fail: the first call is 1, and past the greatest `u64` numbers go no further. It takes no memory.
     pub fn new(bytes: Bytes, piece: usize, fails: CallNumbers) -> Self
         requires { 1 ≤ piece }
         ensures { result ≡ new_supply bytes.items piece fails.items }

@@ -38,8 +38,8 @@ impl Model for MemoryText {
 impl MemoryText {
     ghost use Rattle.apl_io.specs.Kept.{new_keeper};
 
-    /// A store of these files. Calls are numbered from 1, and the number stands still at the greatest `u64`; those that
-    /// `fails` has are to fail. No memory.
+    /// A store of these files. `fails` has the numbers of the calls that are to fail: the first call is 1, and past the
+    /// greatest `u64` numbers go no further. No memory.
     pub fn new(alloc: Global, files: FileList, fails: CallNumbers) -> Self
         ensures { result ≡ new_keeper (map file_entry files.items) fails.items }
     {

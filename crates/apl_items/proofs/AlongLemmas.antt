@@ -13,10 +13,12 @@ use Rattle.apl_items.proofs.ShapeLemmas.{along_of_place, inner_of_place, outer_o
 
 -- ---- the source places of a row
 
-regrouped : (o a i q r place : ℕ) → q * i + r ≡ place → o * (a * i) + place ≡ (o * a + q) * i + r
+-- a place behind so many rows, by its row and its item
+pub regrouped : (o a i q r place : ℕ) → q * i + r ≡ place → o * (a * i) + place ≡ (o * a + q) * i + r
 regrouped o a i q r place e = omega arith
 
-positive : (a b place : ℕ) → place < a * b → 0 < b
+-- where something is below a product, its second factor is not 0
+pub positive : (a b place : ℕ) → place < a * b → 0 < b
 positive a zero place below = absurd (omega arith)
 positive a (suc b) place below = omega arith
 

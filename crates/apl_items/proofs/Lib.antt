@@ -1,5 +1,5 @@
-mod AlongLemmas
-mod AxisLemmas
+pub mod AlongLemmas
+pub mod AxisLemmas
 pub mod MoveLemmas
 pub mod PlaceLemmas
 pub mod RefusalLemmas

@@ -1,8 +1,15 @@
 mod ExtentLemmas
+mod FrontLemmas
 mod GatherLemmas
+mod InnerLaws
 mod LineLemmas
 mod NumberLemmas
 mod ProductLemmas
 mod ReductionLemmas
 mod RowLemmas
+mod RunLemmas
+mod ScanLaws
+mod ScanLemmas
 mod ShapeLemmas
+mod TakesAllLemmas
+mod WeightLemmas

@@ -27,7 +27,7 @@ use Rattle.apl_operators.specs.Reduction.{front_of_line, identity_item, joined, 
 use Rattle.apl_operators.proofs.GatherLemmas.{gathered_chars, gathered_none}
 use Rattle.apl_operators.proofs.NumberLemmas.{gathered_as_numbers}
 
-not_zero : (n : ℕ) → 0 < n → (n == 0) ≡ false
+pub not_zero : (n : ℕ) → 0 < n → (n == 0) ≡ false
 not_zero n h = grind (arith, nat_tests)
 
 -- along an axis that is there

@@ -46,6 +46,13 @@ numbers_lack shape count rule fits whole lacks =
     let here = subst (λ (n : ℕ). LacksItem n rule) whole lacks in
     rw (fits, something_lacks (element_count shape) rule here) refl
 
+-- and a rule is told to lack one
+pub told_to_lack : (shape : List ℕ) (count : ℕ) (rule : ℕ → Option ℤ) → shape_fault shape ≡ None → count ≡ element_count shape → lacks_item count rule ≡ true
+    → numbers_answer shape rule ≡ Err Domain
+told_to_lack shape count rule fits whole lacks =
+    let here : lacks_item (element_count shape) rule ≡ true = ap (λ (n : ℕ). lacks_item n rule) (sym whole) ∙ lacks in
+    rw (fits, here) refl
+
 -- a call that makes items by place refused
 pub refused_by_place : (shape : List ℕ) (count : ℕ) (answers : ℕ → Option ℤ → Type 0) (rule : ℕ → Option ℤ) (why : Fail) → shape_fault shape ≡ None → count ≡ element_count shape
     → OnDomain {T = List ℤ} (Err why) ((place : ℕ) × (place < count) × answers place None) → Follows answers count rule → Answers (Err why) (numbers_answer shape rule)
@@ -128,6 +135,18 @@ gathered_as_numbers shape rule given each =
     ap (gathered shape) same ∙ by_lack shape given (lacks_item (element_count shape) given) refl
 
 -- ---- identities
+
+-- a shape of eight axes at the most that passes the limits is too large
+size_passes : (shape : List ℕ) → length shape ≤ 8 → is_some (shape_fault shape) ≡ true → shape_fault shape ≡ Some fault.Size
+size_passes shape few e = too_large_by_size shape few (λ fits. false≢true (sym (ap is_some (what_fits_has_no_fault shape fits)) ∙ e))
+
+-- numbers of which none is lacking, and that are too many
+pub none_lacks_of_many : (shape : List ℕ) (rule : ℕ → Option ℤ) → length shape ≤ 8 → is_some (shape_fault shape) ≡ true → ((place : ℕ) → is_none (rule place) ≡ false)
+    → numbers_answer shape rule ≡ Err WsFull
+none_lacks_of_many shape rule few large each =
+    let no_lack : (λ (place : ℕ). is_none (rule place)) ≡ (λ (place : ℕ). false) = fun_ext each in
+    let nothing : lacks_item (element_count shape) rule ≡ false = ap (λ (test : ℕ → Bool). list_any test (places (element_count shape))) no_lack ∙ never (places (element_count shape)) in
+    rw (size_passes shape few large, nothing) refl
 
 -- where a shape of eight axes at the most, none of them too long, passes the limits, there are elements
 too_many_elements : (shape : List ℕ) → length shape ≤ 8 → All (λ axis. axis ≤ 16384) shape → is_some (shape_fault shape) ≡ true

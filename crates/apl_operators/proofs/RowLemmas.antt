@@ -1,5 +1,5 @@
 -- Items made row by row are the items made place by place.
-use Rattle.std.proofs.Common.{◌≡◌, ℕ, zero, suc, ◌+◌, ◌*◌, ◌%◌, ◌<◌, ◌≤◌, List, [], ◌∷◌, ◌++◌, Option, Some, length, slice_get, ◌⊎◌, inl, inr, refl, sym, subst, arith}
+use Rattle.std.proofs.Common.{◌≡◌, ℕ, zero, suc, ◌+◌, ◌*◌, ◌/◌, ◌%◌, ◌<◌, ◌≤◌, List, [], ◌∷◌, ◌++◌, Option, Some, length, slice_get, ◌⊎◌, inl, inr, refl, sym, subst, arith}
 use Rattle.std.proofs.lemmas.Bool.{cases_lt}
 use Rattle.std.proofs.lemmas.Nat.{div-mul-add, mod-mul-add, mul-add-lt}
 use Rattle.std.proofs.Math.Nat.{mul_comm}
@@ -43,3 +43,17 @@ each_more {T} answers count next items more item long is_next is each now k belo
         let here : count ≡ k = omega arith in
         subst (λ (n : ℕ). answers k (slice_get (items ++ item ∷ []) n)) same
         (subst (λ (o : Option T). answers k o) (sym (pushed_last items item)) (subst (λ (n : ℕ). answers n (Some item)) here now))
+
+-- ---- one place
+
+-- a product of 1 is of 1 and 1
+pub lone_place : (rows columns : ℕ) → rows * columns ≡ 1 → (0 < rows) × (columns ≡ 1)
+lone_place zero columns e = absurd (omega arith)
+lone_place (suc rows) zero e = absurd (omega arith)
+lone_place (suc rows) (suc zero) e = (omega arith, refl)
+lone_place (suc rows) (suc (suc columns)) e = absurd (omega arith)
+
+-- what a call answers in the only place
+pub at_lone_place : {A : Type 0} (answers : ℕ → ℕ → A → Type 0) (columns place : ℕ) (answer : A) → columns ≡ 1 → place ≡ 0 → answers 0 0 answer → AtPlace answers columns place answer
+at_lone_place answers columns place answer one first told =
+    subst (λ (p : ℕ). AtPlace answers columns p answer) (sym first) (subst (λ (n : ℕ). answers (0 / n) (0 % n) answer) (sym one) told)

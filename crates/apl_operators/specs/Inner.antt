@@ -19,7 +19,7 @@ last_length shape = slice_index_or shape (length shape - 1) 1
 abbrev pub first_length : List ℕ → ℕ
 first_length shape = slice_index_or shape 0 1
 
--- the last axis of A and the first of B differ where neither extends
+-- neither array extends, and the two axes whose items would be paired are not equally long
 abbrev pub ends_differ : PlainArray → PlainArray → Bool
 ends_differ a b = are_whole a b && not (last_length a.shape == first_length b.shape)
 
@@ -37,8 +37,8 @@ abbrev pub inner_at : Dyad → Dyad → PlainItems → PlainItems → ℕ → �
 inner_at f g a b count columns place = reduction_of (dyadic_item f) (row_of f).identity (pair_at g a b count columns place) count
 
 -- each row of A with each column of B; the shape is that of A without its last axis, then that of B without its first
-abbrev pub inner_of : Dyad → Dyad → PlainArray → PlainArray → Answer
-inner_of f g a b =
+abbrev pub inner_product_of : Dyad → Dyad → PlainArray → PlainArray → Answer
+inner_product_of f g a b =
     let shape = front a.shape ++ drop 1 b.shape in
     let rule = inner_at f g a.items b.items (paired a b) (element_count (drop 1 b.shape)) in
     answer_of (record (number_faults shape rule) { bad_length = ends_differ a b }) (numbers_by shape rule)

@@ -6,3 +6,5 @@ pub mod Reduce
 pub mod Scan
 pub mod Rows
 pub mod Products
+pub mod Running
+pub mod Apply

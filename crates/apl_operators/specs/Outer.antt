@@ -11,5 +11,5 @@ abbrev pub outer_at : Dyad → PlainItems → PlainItems → ℕ → Option ℤ
 outer_at f a b place = pair_item f (item_in a (place / item_count b)) (item_in b (place % item_count b))
 
 -- each item of A with each of B; the shape is that of A, then that of B
-abbrev pub outer_of : Dyad → PlainArray → PlainArray → Answer
-outer_of f a b = numbers_answer (a.shape ++ b.shape) (outer_at f a.items b.items)
+abbrev pub outer_product_of : Dyad → PlainArray → PlainArray → Answer
+outer_product_of f a b = numbers_answer (a.shape ++ b.shape) (outer_at f a.items b.items)

@@ -55,3 +55,7 @@ front_of_line join list split outer inner along = reduction join (number_on list
 -- whatever a call answers at two items is what a definition gives there
 abbrev pub Joins : {T : Type 0} → (T → T → Option T → Type 0) → (T → T → Option T) → Type 0
 Joins {T} answers join = (a b : T) (answer : Option T) → answers a b answer → answer ≡ join a b
+
+-- whatever a call answers of a value is what a definition gives of it
+abbrev pub Tells : {A B : Type 0} → (A → B → Type 0) → (A → B) → Type 0
+Tells {A} {B} answers rule = (value : A) (answer : B) → answers value answer → answer ≡ rule value

@@ -19,9 +19,13 @@ pub(crate) fn identities(alloc: Global, f: Dyad, shape: &[u32]) -> Result<Array,
     if shape_fault(shape).is_some() {
         return Err(Fail::Report(report_of_many(f)));
     }
+    let count = count_of_elements(shape);
+    if count > 0 && identity_of(f).is_none() {
+        return Err(Fail::Report(Report::Domain));
+    }
     let items = by_place(
         alloc,
-        count_of_elements(shape),
+        count,
         |_place: usize| -> Option<i64>
             ensures { result ≡ (row_of f).identity }
         { identity_of(f) },

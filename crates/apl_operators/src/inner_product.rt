@@ -5,16 +5,17 @@ ghost use Rattle.apl_items.specs.Answers.{Answers};
 ghost use Rattle.apl_items.specs.Extension.{Reaches, char_at, number_at, place_in};
 ghost use Rattle.apl_scalar.specs.Table.{dyadic_item, item_of_chars};
 ghost use Rattle.apl_operators.specs.Gathering.{numbers_answer};
-ghost use Rattle.apl_operators.specs.Inner.{ends_differ, first_length, front, inner_at, inner_of, last_length, paired};
+ghost use Rattle.apl_operators.specs.Inner.{ends_differ, first_length, front, inner_at, inner_product_of, last_length, paired};
 ghost use Rattle.apl_operators.specs.Products.{FollowsPairs, IsExtent, product_of, products_at};
-ghost use Rattle.apl_operators.specs.Reduction.{Joins};
+ghost use Rattle.apl_operators.specs.Reduction.{Joins, Tells};
 
 use crate::identities::identities;
+use crate::items::refuses_none;
 use crate::reduction::reduced;
 use crate::rows::numbers_by_rows;
 use apl_arrays::{Array, Dyad, Fail, Glyph, Items, RANK_LIMIT, Report, count_of_elements};
 use apl_items::{glyph_at, is_single, joined_shape, number_at};
-use apl_scalar::{character_of, dyadic_table};
+use apl_scalar::{character_of, dyadic_table, rules};
 use std::alloc::Global;
 
 macro_rules! pairs_of {
@@ -44,7 +45,7 @@ struct Extent {
 /// paired and there is no identity, else WS FULL where the result is too large. It takes memory for the shape and for the
 /// items. ISO 8485.
 pub fn inner(alloc: Global, f: Dyad, g: Dyad, a: &Array, b: &Array) -> Result<Array, Fail>
-    ensures { Answers result (inner_of f g a.now b.now) }
+    ensures { Answers result (inner_product_of f g a.now b.now) }
 {
     let (front, back) = (without_last(a.shape()), without_first(b.shape()));
     if front.len() + back.len() > RANK_LIMIT {
@@ -126,7 +127,7 @@ fn products(
     requires rank { length shape.now ≤ most_axes }
     requires shape { shape.now ≡ front a.now.shape ++ drop 1 b.now.shape }
     requires fit { ends_differ a.now b.now ≡ false }
-    ensures { Answers result (inner_of f g a.now b.now) }
+    ensures { Answers result (inner_product_of f g a.now b.now) }
 {
     let paired = paired(a, b);
     if paired == 0 {
@@ -214,6 +215,7 @@ fn products_by_pairs<G: Fn(i64, i64) -> Option<i64>>(
         f,
         shape,
         extent,
+        !refuses_none(g),
         &|x: usize, y: usize| -> Option<i64>
             requires callable { G.IsAlwaysCallable rule }
             requires in_a { place_in (length a.now) x < length a.now }
@@ -223,7 +225,7 @@ fn products_by_pairs<G: Fn(i64, i64) -> Option<i64>>(
     )
 }
 
-/// The products of characters.
+/// The products of characters. The function that pairs them is chosen once.
 fn glyph_products(
     alloc: Global,
     f: Dyad,
@@ -240,20 +242,60 @@ fn glyph_products(
     requires in_b { Reaches (length b.now) (extent.paired * extent.columns) }
     ensures { Answers result (numbers_answer shape.now (inner_at f g (chars a.now) (chars b.now) extent.paired extent.columns)) }
 {
+    match g {
+        Dyad::Equal => glyph_products_by(alloc, f, g, shape, a, b, extent, rules::same),
+        Dyad::NotEqual => glyph_products_by(alloc, f, g, shape, a, b, extent, rules::different),
+        _ => glyph_products_by(
+            alloc,
+            f,
+            g,
+            shape,
+            a,
+            b,
+            extent,
+            |alike: bool| -> Option<i64>
+                ensures { result ≡ item_of_chars g alike }
+            { character_of(g, alike) },
+        ),
+    }
+}
+
+/// The products of characters, paired by the rule of a function for items that are alike or not.
+fn glyph_products_by<G: Fn(bool) -> Option<i64>>(
+    alloc: Global,
+    f: Dyad,
+    g: Dyad,
+    shape: &[u32],
+    a: &[Glyph],
+    b: &[Glyph],
+    extent: Extent,
+    rule: G,
+) -> Result<Array, Fail>
+    requires callable { G.IsAlwaysCallable rule }
+    requires rule { Tells (G.post rule) (item_of_chars g) }
+    requires rank { length shape.now ≤ most_axes }
+    requires count { extent.rows * extent.columns ≡ element_count shape.now }
+    requires extent { IsExtent extent }
+    requires in_a { Reaches (length a.now) (extent.rows * extent.paired) }
+    requires in_b { Reaches (length b.now) (extent.paired * extent.columns) }
+    ensures { Answers result (numbers_answer shape.now (inner_at f g (chars a.now) (chars b.now) extent.paired extent.columns)) }
+{
     all_products(
         alloc,
         f,
         shape,
         extent,
+        character_of(g, false).is_none(),
         &|x: usize, y: usize| -> Option<i64>
+            requires callable { G.IsAlwaysCallable rule }
             requires in_a { place_in (length a.now) x < length a.now }
             requires in_b { place_in (length b.now) y < length b.now }
-            ensures { result ≡ item_of_chars g (char_at a.entry.now x == char_at b.entry.now y) }
-        { character_of(g, glyph_at(a, x).code() == glyph_at(b, y).code()) },
+            ensures { G.post rule (char_at a.entry.now x == char_at b.entry.now y) result }
+        { rule(glyph_at(a, x).code() == glyph_at(b, y).code()) },
     )
 }
 
-/// The products of characters with numbers.
+/// The products of characters with numbers, of which one pair is as another.
 fn unlike_products(
     alloc: Global,
     f: Dyad,
@@ -266,23 +308,27 @@ fn unlike_products(
     requires extent { IsExtent extent }
     ensures { Answers result (numbers_answer shape.now (products_at f (λ x y. item_of_chars g false) extent.paired extent.columns)) }
 {
+    let item = character_of(g, false);
     all_products(
         alloc,
         f,
         shape,
         extent,
+        item.is_none(),
         &|_x: usize, _y: usize| -> Option<i64>
-            ensures { result ≡ item_of_chars g false }
-        { character_of(g, false) },
+            ensures { result ≡ item }
+        { item },
     )
 }
 
-/// All products, by a rule for the pair of two places. The function that reduces them is chosen once.
+/// All products, by a rule for the pair of two places, which may refuse or not. The function that reduces them is chosen
+/// once.
 fn all_products<P: Fn(usize, usize) -> Option<i64>>(
     alloc: Global,
     f: Dyad,
     shape: &[u32],
     extent: Extent,
+    may_refuse: bool,
     pair: &P,
 ) -> Result<Array, Fail>
     requires rank { length shape.now ≤ most_axes }
@@ -291,7 +337,7 @@ fn all_products<P: Fn(usize, usize) -> Option<i64>>(
     requires callable { (x y : ℕ) → x < extent.rows * extent.paired → y < extent.paired * extent.columns → P.pre pair.now x y }
     ensures { (item : ℕ → ℕ → Option ℤ) → FollowsPairs (P.post pair.now) (extent.rows * extent.paired) (extent.paired * extent.columns) item → Answers result (numbers_answer shape.now (products_at f item extent.paired extent.columns)) }
 {
-    dyadic_table!(f, reductions_of(alloc, f, shape, extent, pair))
+    dyadic_table!(f, reductions_of(alloc, f, shape, extent, may_refuse, pair))
 }
 
 /// All products, reduced by the rule of a function.
@@ -300,6 +346,7 @@ fn products_by<P: Fn(usize, usize) -> Option<i64>, F: Fn(i64, i64) -> Option<i64
     f: Dyad,
     shape: &[u32],
     extent: Extent,
+    may_refuse: bool,
     pair: &P,
     rule: F,
 ) -> Result<Array, Fail>
@@ -316,6 +363,7 @@ fn products_by<P: Fn(usize, usize) -> Option<i64>, F: Fn(i64, i64) -> Option<i64
         shape,
         extent.rows,
         extent.columns,
+        may_refuse || !refuses_none(f),
         &|row: usize, column: usize| -> Option<i64>
             requires able { F.IsAlwaysCallable rule }
             requires rule { Joins (F.post rule) (dyadic_item f) }
@@ -324,12 +372,12 @@ fn products_by<P: Fn(usize, usize) -> Option<i64>, F: Fn(i64, i64) -> Option<i64
             requires column { column < extent.columns }
             requires callable { (x y : ℕ) → x < extent.rows * extent.paired → y < extent.paired * extent.columns → P.pre pair.now x y }
             ensures { (item : ℕ → ℕ → Option ℤ) → FollowsPairs (P.post pair.entry.now) (extent.rows * extent.paired) (extent.paired * extent.columns) item → result ≡ product_of f item extent.paired extent.columns row column }
-        { product(f, extent, row, column, pair, &rule) },
+        { row_by_column(f, extent, row, column, pair, &rule) },
     )
 }
 
 /// The product of a row and a column.
-fn product<P: Fn(usize, usize) -> Option<i64>, F: Fn(i64, i64) -> Option<i64>>(
+fn row_by_column<P: Fn(usize, usize) -> Option<i64>, F: Fn(i64, i64) -> Option<i64>>(
     f: Dyad,
     extent: Extent,
     row: usize,

@@ -1,9 +1,10 @@
-//! Worked examples of the definitions.
+//! What holds of the definitions, and worked examples.
 
-ghost use Rattle.std.specs.Prelude.{◌≡◌, pos, negsuc, [], ◌∷◌, Some, None, Ok, Err};
-ghost use Rattle.apl_arrays.specs.Array.{chars, numbers, scalar};
-ghost use Rattle.apl_operators.specs.Inner.{inner_of};
-ghost use Rattle.apl_operators.specs.Outer.{outer_of};
+ghost use Rattle.std.specs.Prelude.{◌≡◌, ◌+◌, ◌<◌, ℕ, ℤ, pos, negsuc, List, [], ◌∷◌, Some, None, Ok, Err, length, slice_index_or, take};
+ghost use Rattle.apl_arrays.specs.Array.{PlainArray, chars, number_array, numbers, numbers_in, scalar};
+ghost use Rattle.apl_scalar.specs.Table.{dyadic_item};
+ghost use Rattle.apl_operators.specs.Inner.{inner_product_of};
+ghost use Rattle.apl_operators.specs.Outer.{outer_product_of};
 ghost use Rattle.apl_operators.specs.Reduce.{reduce_of};
 ghost use Rattle.apl_operators.specs.Scan.{scan_of};
 
@@ -55,26 +56,41 @@ pub fn scans_are_reductions()
 /// Outer products: `1 2∘.+1 2` is a matrix; no items are numbers, whatever is paired; a pair without a value is DOMAIN.
 /// The call does nothing. No memory.
 pub fn outer_products_pair_all()
-    ensures sums { outer_of Dyad.Plus (record { shape = 2 ∷ []; items = numbers (pos 1 ∷ pos 2 ∷ []) }) (record { shape = 2 ∷ []; items = numbers (pos 1 ∷ pos 2 ∷ []) })
+    ensures sums { outer_product_of Dyad.Plus (record { shape = 2 ∷ []; items = numbers (pos 1 ∷ pos 2 ∷ []) }) (record { shape = 2 ∷ []; items = numbers (pos 1 ∷ pos 2 ∷ []) })
         ≡ Ok (record { shape = 2 ∷ 2 ∷ []; items = numbers (pos 2 ∷ pos 3 ∷ pos 3 ∷ pos 4 ∷ []) }) }
-    ensures order { outer_of Dyad.Minus (record { shape = 2 ∷ []; items = numbers (pos 1 ∷ pos 2 ∷ []) }) (record { shape = 3 ∷ []; items = numbers (pos 1 ∷ pos 2 ∷ pos 3 ∷ []) })
+    ensures order { outer_product_of Dyad.Minus (record { shape = 2 ∷ []; items = numbers (pos 1 ∷ pos 2 ∷ []) }) (record { shape = 3 ∷ []; items = numbers (pos 1 ∷ pos 2 ∷ pos 3 ∷ []) })
         ≡ Ok (record { shape = 2 ∷ 3 ∷ []; items = numbers (pos 0 ∷ negsuc 0 ∷ negsuc 1 ∷ pos 1 ∷ pos 0 ∷ negsuc 0 ∷ []) }) }
-    ensures none { outer_of Dyad.Plus (record { shape = 0 ∷ []; items = chars [] }) (record { shape = 2 ∷ []; items = numbers (pos 1 ∷ pos 2 ∷ []) })
+    ensures none { outer_product_of Dyad.Plus (record { shape = 0 ∷ []; items = chars [] }) (record { shape = 2 ∷ []; items = numbers (pos 1 ∷ pos 2 ∷ []) })
         ≡ Ok (record { shape = 0 ∷ 2 ∷ []; items = numbers [] }) }
-    ensures refused { outer_of Dyad.Divide (record { shape = 1 ∷ []; items = numbers (pos 1 ∷ []) }) (record { shape = 2 ∷ []; items = numbers (pos 1 ∷ pos 2 ∷ []) }) ≡ Err Report.Domain }
-    ensures unlike { outer_of Dyad.NotEqual (scalar (pos 1)) (record { shape = 1 ∷ []; items = chars (65 ∷ []) }) ≡ Ok (record { shape = 1 ∷ []; items = numbers (pos 1 ∷ []) }) }
-    ensures axes { outer_of Dyad.Divide (record { shape = 1 ∷ 1 ∷ 1 ∷ 1 ∷ 1 ∷ []; items = numbers (pos 1 ∷ []) }) (record { shape = 1 ∷ 1 ∷ 1 ∷ 1 ∷ []; items = numbers (pos 2 ∷ []) }) ≡ Err Report.Rank }
+    ensures refused { outer_product_of Dyad.Divide (record { shape = 1 ∷ []; items = numbers (pos 1 ∷ []) }) (record { shape = 2 ∷ []; items = numbers (pos 1 ∷ pos 2 ∷ []) }) ≡ Err Report.Domain }
+    ensures unlike { outer_product_of Dyad.NotEqual (scalar (pos 1)) (record { shape = 1 ∷ []; items = chars (65 ∷ []) }) ≡ Ok (record { shape = 1 ∷ []; items = numbers (pos 1 ∷ []) }) }
+    ensures axes { outer_product_of Dyad.Divide (record { shape = 1 ∷ 1 ∷ 1 ∷ 1 ∷ 1 ∷ []; items = numbers (pos 1 ∷ []) }) (record { shape = 1 ∷ 1 ∷ 1 ∷ 1 ∷ []; items = numbers (pos 2 ∷ []) }) ≡ Err Report.Rank }
 {}
 
 /// Inner products: `1 2+.×3 4` is 11; a matrix by a vector; one element extends, but an axis of length 1 does not; no
 /// pairs give the identity of the first function. The call does nothing. No memory.
 pub fn inner_products_reduce_pairs()
-    ensures sum { inner_of Dyad.Plus Dyad.Times (record { shape = 2 ∷ []; items = numbers (pos 1 ∷ pos 2 ∷ []) }) (record { shape = 2 ∷ []; items = numbers (pos 3 ∷ pos 4 ∷ []) }) ≡ Ok (scalar (pos 11)) }
-    ensures rows { inner_of Dyad.Minus Dyad.Times (record { shape = 2 ∷ 2 ∷ []; items = numbers (pos 1 ∷ pos 2 ∷ pos 3 ∷ pos 4 ∷ []) }) (record { shape = 2 ∷ 1 ∷ []; items = numbers (pos 5 ∷ pos 1 ∷ []) })
+    ensures sum { inner_product_of Dyad.Plus Dyad.Times (record { shape = 2 ∷ []; items = numbers (pos 1 ∷ pos 2 ∷ []) }) (record { shape = 2 ∷ []; items = numbers (pos 3 ∷ pos 4 ∷ []) }) ≡ Ok (scalar (pos 11)) }
+    ensures rows { inner_product_of Dyad.Minus Dyad.Times (record { shape = 2 ∷ 2 ∷ []; items = numbers (pos 1 ∷ pos 2 ∷ pos 3 ∷ pos 4 ∷ []) }) (record { shape = 2 ∷ 1 ∷ []; items = numbers (pos 5 ∷ pos 1 ∷ []) })
         ≡ Ok (record { shape = 2 ∷ 1 ∷ []; items = numbers (pos 3 ∷ pos 11 ∷ []) }) }
-    ensures one { inner_of Dyad.Plus Dyad.Times (scalar (pos 2)) (record { shape = 2 ∷ []; items = numbers (pos 3 ∷ pos 4 ∷ []) }) ≡ Ok (scalar (pos 14)) }
-    ensures lengths { inner_of Dyad.Plus Dyad.Times (record { shape = 2 ∷ []; items = numbers (pos 1 ∷ pos 2 ∷ []) }) (record { shape = 1 ∷ 2 ∷ []; items = numbers (pos 3 ∷ pos 4 ∷ []) }) ≡ Err Report.Length }
-    ensures no_chars { inner_of Dyad.Plus Dyad.Times (record { shape = 0 ∷ []; items = chars [] }) (record { shape = 0 ∷ []; items = chars [] }) ≡ Ok (scalar (pos 0)) }
-    ensures first { inner_of Dyad.Times Dyad.Plus (record { shape = 0 ∷ []; items = numbers [] }) (record { shape = 0 ∷ []; items = numbers [] }) ≡ Ok (scalar (pos 1)) }
-    ensures no_identity { inner_of Dyad.Nor Dyad.Plus (record { shape = 0 ∷ []; items = numbers [] }) (record { shape = 0 ∷ []; items = numbers [] }) ≡ Err Report.Domain }
+    ensures one { inner_product_of Dyad.Plus Dyad.Times (scalar (pos 2)) (record { shape = 2 ∷ []; items = numbers (pos 3 ∷ pos 4 ∷ []) }) ≡ Ok (scalar (pos 14)) }
+    ensures lengths { inner_product_of Dyad.Plus Dyad.Times (record { shape = 2 ∷ []; items = numbers (pos 1 ∷ pos 2 ∷ []) }) (record { shape = 1 ∷ 2 ∷ []; items = numbers (pos 3 ∷ pos 4 ∷ []) }) ≡ Err Report.Length }
+    ensures no_chars { inner_product_of Dyad.Plus Dyad.Times (record { shape = 0 ∷ []; items = chars [] }) (record { shape = 0 ∷ []; items = chars [] }) ≡ Ok (scalar (pos 0)) }
+    ensures first { inner_product_of Dyad.Times Dyad.Plus (record { shape = 0 ∷ []; items = numbers [] }) (record { shape = 0 ∷ []; items = numbers [] }) ≡ Ok (scalar (pos 1)) }
+    ensures no_identity { inner_product_of Dyad.Nor Dyad.Plus (record { shape = 0 ∷ []; items = numbers [] }) (record { shape = 0 ∷ []; items = numbers [] }) ≡ Err Report.Domain }
+{}
+
+/// The k-th item of a scan of a vector is the reduction of its first k items. The call does nothing. No memory.
+#[tactic(auto, using(crate::proofs::ScanLaws::scan_item))]
+pub fn each_item_of_a_scan_is_a_reduction()
+    ensures { (f : Dyad) (list : List ℤ) (k : ℕ) (r : PlainArray) → k < length list → scan_of f (number_array (length list ∷ []) list) Way.Last None ≡ Ok r
+        → reduce_of f (number_array ((k + 1) ∷ []) (take (k + 1) list)) Way.Last None ≡ Ok (scalar (slice_index_or (numbers_in r.items) k (pos 0))) }
+{}
+
+/// An inner product of two vectors is the reduction by the one function of what the other gives of their items, pair by pair:
+/// `A f.g B` is `f/A g B`. The call does nothing. No memory.
+#[tactic(auto, using(crate::proofs::InnerLaws::products_of_vectors))]
+pub fn an_inner_product_of_vectors_is_a_reduction()
+    ensures { (f g : Dyad) (xs ys zs : List ℤ) (n : ℕ) → length xs ≡ n → length ys ≡ n → ((k : ℕ) → k < n → dyadic_item g (slice_index_or xs k (pos 0)) (slice_index_or ys k (pos 0)) ≡ Some (slice_index_or zs k (pos 0)))
+        → inner_product_of f g (number_array (n ∷ []) xs) (number_array (n ∷ []) ys) ≡ reduce_of f (number_array (n ∷ []) zs) Way.Last None }
 {}

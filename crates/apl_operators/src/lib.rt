@@ -1,6 +1,7 @@
-//! The operators of APL: what reduction, scan, inner and outer product of an array are; reduction, inner and outer product.
+//! The operators of APL, reduction, scan, inner and outer product, and the one door to all functions.
 #![tactic(auto)]
 
+mod applying;
 mod identities;
 mod inner_product;
 mod items;
@@ -10,9 +11,13 @@ mod outer_product;
 mod reducing;
 mod reduction;
 mod rows;
-#[cfg(test)]
-mod tests;
+mod running;
+mod scanning;
+mod steps;
 
+pub use applying::apply;
 pub use inner_product::inner;
 pub use outer_product::outer;
 pub use reducing::reduce;
+pub use scanning::scan;
+pub use steps::Steps;

@@ -4,13 +4,15 @@ ghost use Rattle.apl_arrays.specs.Limits.{most_axes};
 ghost use Rattle.apl_items.specs.Answers.{Answers};
 ghost use Rattle.apl_scalar.specs.Table.{dyadic_item, item_of_chars};
 ghost use Rattle.apl_operators.specs.Gathering.{numbers_answer};
-ghost use Rattle.apl_operators.specs.Outer.{outer_at, outer_of};
-ghost use Rattle.apl_operators.specs.Reduction.{Joins};
+ghost use Rattle.apl_operators.specs.Outer.{outer_at, outer_product_of};
+ghost use Rattle.apl_operators.specs.Reduction.{Joins, Tells};
+ghost use Rattle.apl_operators.specs.Rows.{takes_all};
 
+use crate::items::refuses_none;
 use crate::rows::numbers_by_rows;
-use apl_arrays::{Array, Dyad, Fail, Glyph, Items, RANK_LIMIT, Report};
+use apl_arrays::{Array, Dyad, Fail, Glyph, Items, RANK_LIMIT, Report, shape_fault};
 use apl_items::joined_shape;
-use apl_scalar::{character_of, dyadic_table};
+use apl_scalar::{character_of, dyadic_table, rules};
 use std::alloc::Global;
 
 macro_rules! all_pairs_of {
@@ -24,13 +26,26 @@ macro_rules! all_pairs_of {
 /// large. It takes memory for the shape and for the items. ISO 8485.
 #[tactic(auto, using(crate::proofs::ShapeLemmas::pair_count))]
 pub fn outer(alloc: Global, f: Dyad, a: &Array, b: &Array) -> Result<Array, Fail>
-    ensures { Answers result (outer_of f a.now b.now) }
+    ensures { Answers result (outer_product_of f a.now b.now) }
 {
     if a.shape().len() + b.shape().len() > RANK_LIMIT {
         return Err(Fail::Report(Report::Rank));
     }
     let shape = joined_shape(alloc, a.shape(), b.shape())?;
+    if shape_fault(&shape).is_some() && takes_all(f, a.items(), b.items()) {
+        return Err(Fail::Report(Report::WsFull));
+    }
     all_pairs(alloc, f, &shape, a.items(), b.items())
+}
+
+/// Whether a dyadic function has a value at each item of the one with each of the other.
+fn takes_all(f: Dyad, a: &Items, b: &Items) -> bool
+    ensures { result ≡ takes_all f (plain_items a.now) (plain_items b.now) }
+{
+    match (a, b) {
+        (Items::Numbers(_), Items::Numbers(_)) => refuses_none(f),
+        _ => character_of(f, false).is_some(),
+    }
 }
 
 /// All pairs of items. The kinds are looked at once.
@@ -87,6 +102,7 @@ fn pairs_by<F: Fn(i64, i64) -> Option<i64>>(
         shape,
         a.len(),
         b.len(),
+        !refuses_none(f),
         &|row: usize, column: usize| -> Option<i64>
             requires callable { F.IsAlwaysCallable rule }
             requires row { row < length a.now }
@@ -96,7 +112,7 @@ fn pairs_by<F: Fn(i64, i64) -> Option<i64>>(
     )
 }
 
-/// All pairs of characters.
+/// All pairs of characters. The function is chosen once.
 fn glyph_pairs(
     alloc: Global,
     f: Dyad,
@@ -109,20 +125,54 @@ fn glyph_pairs(
     requires fits { length a.now * length b.now < 2 ^ 64 }
     ensures { Answers result (numbers_answer shape.now (outer_at f (chars a.now) (chars b.now))) }
 {
+    match f {
+        Dyad::Equal => glyph_pairs_by(alloc, f, shape, a, b, rules::same),
+        Dyad::NotEqual => glyph_pairs_by(alloc, f, shape, a, b, rules::different),
+        _ => glyph_pairs_by(
+            alloc,
+            f,
+            shape,
+            a,
+            b,
+            |alike: bool| -> Option<i64>
+                ensures { result ≡ item_of_chars f alike }
+            { character_of(f, alike) },
+        ),
+    }
+}
+
+/// All pairs of characters, by the rule of a function for items that are alike or not.
+fn glyph_pairs_by<F: Fn(bool) -> Option<i64>>(
+    alloc: Global,
+    f: Dyad,
+    shape: &[u32],
+    a: &[Glyph],
+    b: &[Glyph],
+    rule: F,
+) -> Result<Array, Fail>
+    requires callable { F.IsAlwaysCallable rule }
+    requires rule { Tells (F.post rule) (item_of_chars f) }
+    requires rank { length shape.now ≤ most_axes }
+    requires count { length a.now * length b.now ≡ element_count shape.now }
+    requires fits { length a.now * length b.now < 2 ^ 64 }
+    ensures { Answers result (numbers_answer shape.now (outer_at f (chars a.now) (chars b.now))) }
+{
     numbers_by_rows(
         alloc,
         shape,
         a.len(),
         b.len(),
+        character_of(f, false).is_none(),
         &|row: usize, column: usize| -> Option<i64>
+            requires callable { F.IsAlwaysCallable rule }
             requires row { row < length a.now }
             requires column { column < length b.now }
-            ensures { result ≡ item_of_chars f (slice_index a.entry.now row == slice_index b.entry.now column) }
-        { character_of(f, a[row].code() == b[column].code()) },
+            ensures { F.post rule (slice_index a.entry.now row == slice_index b.entry.now column) result }
+        { rule(a[row].code() == b[column].code()) },
     )
 }
 
-/// All pairs of a character and a number.
+/// All pairs of a character and a number, of which one is as another.
 fn unlike_pairs(
     alloc: Global,
     f: Dyad,
@@ -135,13 +185,15 @@ fn unlike_pairs(
     requires fits { rows * columns < 2 ^ 64 }
     ensures { Answers result (numbers_answer shape.now (λ place. item_of_chars f false)) }
 {
+    let item = character_of(f, false);
     numbers_by_rows(
         alloc,
         shape,
         rows,
         columns,
+        item.is_none(),
         &|_row: usize, _column: usize| -> Option<i64>
-            ensures { result ≡ item_of_chars f false }
-        { character_of(f, false) },
+            ensures { result ≡ item }
+        { item },
     )
 }

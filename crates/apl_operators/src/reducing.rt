@@ -2,20 +2,20 @@ ghost use Rattle.std.specs.Prelude.{◌≡◌, ◌*◌, ◌<◌, ◌≤◌, ◌-
 ghost use Rattle.apl_arrays.specs.Array.{FitsLimits, chars, element_count, item_count, numbers, plain_items};
 ghost use Rattle.apl_items.specs.Answers.{Answers};
 ghost use Rattle.apl_items.specs.Shapes.{place_along, split_count};
-ghost use Rattle.apl_scalar.specs.Table.{dyadic_item};
+ghost use Rattle.apl_scalar.specs.Table.{dyadic_item, item_of_chars};
 ghost use Rattle.apl_items.specs.Axis.{without};
 ghost use Rattle.apl_operators.specs.Gathering.{gathered, number_in, numbers_answer};
 ghost use Rattle.apl_operators.specs.Reduce.{reduce_of, reduced, reduced_line};
-ghost use Rattle.apl_operators.specs.Reduction.{Joins, front_of_line, item_in, joined_by, reduction};
+ghost use Rattle.apl_operators.specs.Reduction.{Joins, Tells, front_of_line, item_in, joined_by, reduction};
 
 use crate::identities::identities;
-use crate::items::{joined_by, number_in};
+use crate::items::{joined_by, number_in, refuses_none};
 use crate::lines::{LineAt, front_of_line};
 use crate::reduction::reduced;
 use crate::rows::numbers_by_rows;
 use apl_arrays::{Array, Dyad, Fail, Glyph, Item, Items, List, Report, Way, count_of_elements};
 use apl_items::{Split, axis_of, joined_shape, lacks_axis};
-use apl_scalar::dyadic_table;
+use apl_scalar::{character_of, dyadic_table, item_of_numbers, rules};
 use std::alloc::Global;
 
 macro_rules! all_lines_of {
@@ -142,6 +142,7 @@ fn lines_by<F: Fn(i64, i64) -> Option<i64>>(
         shape,
         split.outer,
         split.inner,
+        !refuses_none(f),
         &|outer: usize, inner: usize| -> Option<i64>
             requires callable { F.IsAlwaysCallable rule }
             requires rule { Joins (F.post rule) (dyadic_item f) }
@@ -163,7 +164,7 @@ fn lines_by<F: Fn(i64, i64) -> Option<i64>>(
     )
 }
 
-/// The reductions of lines of two characters or more.
+/// The reductions of lines of two characters or more. The function is chosen once.
 fn char_lines(
     alloc: Global,
     f: Dyad,
@@ -177,23 +178,88 @@ fn char_lines(
     requires lines { split.outer * split.inner ≡ element_count shape.now }
     ensures { Answers result (gathered shape.now (reduced_line f (chars list.now) split)) }
 {
+    match f {
+        Dyad::Equal => char_lines_by(alloc, f, shape, list, split, rules::equal, rules::same),
+        Dyad::NotEqual => {
+            char_lines_by(
+                alloc,
+                f,
+                shape,
+                list,
+                split,
+                rules::not_equal,
+                rules::different,
+            )
+        }
+        _ => char_lines_by(
+            alloc,
+            f,
+            shape,
+            list,
+            split,
+            |x: i64, y: i64| -> Option<i64>
+                ensures { result ≡ dyadic_item f x y }
+            { item_of_numbers(f, x, y) },
+            |alike: bool| -> Option<i64>
+                ensures { result ≡ item_of_chars f alike }
+            { character_of(f, alike) },
+        ),
+    }
+}
+
+/// The reductions of lines of two characters or more, by the rules of a function for numbers and for characters.
+fn char_lines_by<F: Fn(i64, i64) -> Option<i64>, G: Fn(bool) -> Option<i64>>(
+    alloc: Global,
+    f: Dyad,
+    shape: &[u32],
+    list: &[Glyph],
+    split: Split,
+    numbers: F,
+    alike: G,
+) -> Result<Array, Fail>
+    requires able { F.IsAlwaysCallable numbers }
+    requires numbers { Joins (F.post numbers) (dyadic_item f) }
+    requires callable { G.IsAlwaysCallable alike }
+    requires alike { Tells (G.post alike) (item_of_chars f) }
+    requires fits { FitsLimits shape.now }
+    requires some { 1 < split.along }
+    requires whole { split_count split ≡ length list.now }
+    requires lines { split.outer * split.inner ≡ element_count shape.now }
+    ensures { Answers result (gathered shape.now (reduced_line f (chars list.now) split)) }
+{
     numbers_by_rows(
         alloc,
         shape,
         split.outer,
         split.inner,
+        character_of(f, false).is_none(),
         &|outer: usize, inner: usize| -> Option<i64>
+            requires able { F.IsAlwaysCallable numbers }
+            requires numbers { Joins (F.post numbers) (dyadic_item f) }
+            requires callable { G.IsAlwaysCallable alike }
+            requires alike { Tells (G.post alike) (item_of_chars f) }
             requires some { 1 < split.along }
             requires whole { split_count split ≡ length list.now }
             requires outer { outer < split.outer }
             requires inner { inner < split.inner }
             ensures { result ≡ number_in (reduction (joined_by f) (λ along. Some (item_in (chars list.entry.now) (place_along split outer along inner))) 0 (split.along - 1)) }
-        { char_line(f, list, split, LineAt { outer, inner }) },
+        { char_line(f, list, split, LineAt { outer, inner }, &numbers, &alike) },
     )
 }
 
-/// The reduction of a line of characters.
-fn char_line(f: Dyad, list: &[Glyph], split: Split, line: LineAt) -> Option<i64>
+/// The reduction of a line of characters, by the rules of a function for numbers and for characters.
+fn char_line<F: Fn(i64, i64) -> Option<i64>, G: Fn(bool) -> Option<i64>>(
+    f: Dyad,
+    list: &[Glyph],
+    split: Split,
+    line: LineAt,
+    numbers: &F,
+    alike: &G,
+) -> Option<i64>
+    requires able { F.IsAlwaysCallable numbers.now }
+    requires numbers { Joins (F.post numbers.now) (dyadic_item f) }
+    requires callable { G.IsAlwaysCallable alike.now }
+    requires alike { Tells (G.post alike.now) (item_of_chars f) }
     requires some { 0 < split.along }
     requires whole { split_count split ≡ length list.now }
     requires outer { line.outer < split.outer }
@@ -208,7 +274,11 @@ fn char_line(f: Dyad, list: &[Glyph], split: Split, line: LineAt) -> Option<i64>
         ensures { result ≡ Some (item_in (chars list.entry.now) (place_along split line.outer along line.inner)) }
     { Some(Item::Char(list[split.place(line.outer, along, line.inner)])) };
     let join = |x: Item, y: Item| -> Option<Item>
+        requires able { F.IsAlwaysCallable numbers.now }
+        requires numbers { Joins (F.post numbers.now) (dyadic_item f) }
+        requires callable { G.IsAlwaysCallable alike.now }
+        requires alike { Tells (G.post alike.now) (item_of_chars f) }
         ensures { result ≡ joined_by f x y }
-    { joined_by(f, &x, &y) };
+    { joined_by(f, &x, &y, numbers, alike) };
     number_in(reduced(split.along - 1, &glyph, &join))
 }

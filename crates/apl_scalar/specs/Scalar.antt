@@ -26,7 +26,7 @@ monadic_of f b =
 abbrev pub is_unfit : Dyad → PlainItems → PlainItems → Bool
 is_unfit f a b = (is_chars a || is_chars b) && not (takes_chars f)
 
--- a dyadic function: item by item, where an array with one element extends
+-- a dyadic function, item by item; a lone element stands for as many as the other array has
 abbrev pub dyadic_of : Dyad → PlainArray → PlainArray → Answer
 dyadic_of f a b =
     let shape = (leader a b).shape in

@@ -46,9 +46,9 @@ fn own_items(alloc: Global, f: Monad, count: usize, b: &Items) -> Result<NumberL
     }
 }
 
-/// A dyadic scalar function of two arrays, item by item, where an array with one element extends to the shape of the
-/// other. RANK where the ranks differ, else LENGTH where the shapes do, else DOMAIN where an argument is of characters,
-/// but for `=` and `≠`, or where a pair of items has no value of 64 bits. It takes memory for the items.
+/// A dyadic scalar function of two arrays, item by item; a lone element stands for as many as the other array has. RANK
+/// where the ranks differ, else LENGTH where the shapes do, else DOMAIN where an argument is of characters, but for `=`
+/// and `≠`, or where a pair of items has no value of 64 bits. It takes memory for the items.
 pub fn dyadic(alloc: Global, f: Dyad, a: &Array, b: &Array) -> Result<Array, Fail>
     ensures { Answers result (dyadic_of f a.now b.now) }
 {

@@ -11,7 +11,7 @@ use Rattle.apl_arrays.proofs.Shapes.{too_large_by_size, what_fits_has_no_fault}
 use Rattle.apl_items.specs.Answers.{first_report, no_faults}
 use Rattle.apl_items.specs.Places.{items_by, lacks_item}
 use Rattle.apl_items.proofs.ShapeLemmas.{element_count-append}
-use Rattle.apl_search.specs.Encode.{digit_for, digits_of, encode_faults, encode_shape, misfit}
+use Rattle.apl_search.specs.Encode.{digit_for, digits_of, encode_faults, encode_shape, encode_misfit}
 use Rattle.apl_search.proofs.Counts.{count_numbers}
 
 -- ---- the limit
@@ -57,14 +57,14 @@ no_report false false false false e = (refl, refl, refl)
 
 -- bases and numbers of two arrays without a misfit
 pub record IsSetOut (a b : PlainArray) (bases numbers : List ℤ) : Type 0 where
-  pub fine : first_report (misfit a b) ≡ None
+  pub fine : first_report (encode_misfit a b) ≡ None
   pub is_a : IsArray a
   pub is_b : IsArray b
   pub is_bases : bases ≡ numbers_in a.items
   pub is_numbers : numbers ≡ numbers_in b.items
 
 -- from what a call has read of the two arrays
-pub set_out : (a b : PlainArray) (of_a of_b : PlainItems) (bases numbers : List ℤ) → first_report (misfit a b) ≡ None → IsArray a → IsArray b
+pub set_out : (a b : PlainArray) (of_a of_b : PlainItems) (bases numbers : List ℤ) → first_report (encode_misfit a b) ≡ None → IsArray a → IsArray b
     → bases ≡ numbers_in of_a → of_a ≡ a.items → numbers ≡ numbers_in of_b → of_b ≡ b.items → IsSetOut a b bases numbers
 set_out a b of_a of_b bases numbers fine is_a is_b is_bases items_a is_numbers items_b = record {
   fine = fine;

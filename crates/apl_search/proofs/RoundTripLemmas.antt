@@ -22,7 +22,7 @@ use Rattle.apl_scalar.specs.Table.{fits, item_where}
 use Rattle.apl_scalar.proofs.Quotients.{residue_is_left}
 use Rattle.apl_search.specs.Decode.{decode_of, taken_on, value_after}
 use Rattle.apl_search.specs.Encode.{digit_at, digit_for, encode_of, rest_by, rest_by_all}
-use Rattle.apl_search.specs.RoundTrip.{AreBases, GivesBack, product, vector_of}
+use Rattle.apl_search.specs.RoundTrip.{AreBases, GivesBack, base_product, vector_of}
 use Rattle.apl_search.proofs.DigitLemmas.{digit_fits, digit_of_place, fits_small, rest_more, rests_no_greater}
 use Rattle.apl_search.proofs.EncodeLemmas.{large_by_count, within_limit}
 
@@ -36,16 +36,16 @@ rest_by_pos base number some = by_test (int_eq (pos base) (pos 0)) refl
     by_test false e = ap (λ (b : Bool). cond b (pos 0) (pos (number / base))) e
 
 -- what bases leave of a number is below what the number is below, by their product
-left_below : (bases : List ℕ) (number bound : ℕ) → All (λ base. (0 < base) × (base < 2 ^ 63)) bases → number < bound * product bases
+left_below : (bases : List ℕ) (number bound : ℕ) → All (λ base. (0 < base) × (base < 2 ^ 63)) bases → number < bound * base_product bases
     → (left : ℕ) × (rest_by_all (map pos bases) (pos number) ≡ pos left) × (left < bound)
 left_below [] number bound all below = (number, refl, omega arith)
 left_below (base ∷ bases) number bound all below =
-    let whole : bound * product (base ∷ bases) ≡ bound * base * product bases = ap (λ (n : ℕ). bound * n) (element_count-cons base bases) ∙ sym (mul_assoc bound base (product bases)) in
+    let whole : bound * base_product (base ∷ bases) ≡ bound * base * base_product bases = ap (λ (n : ℕ). bound * n) (element_count-cons base bases) ∙ sym (mul_assoc bound base (base_product bases)) in
     let rest = left_below bases number (bound * base) (All-tail (λ b. (0 < b) × (b < 2 ^ 63)) base bases all) (omega arith) in
     let some = (all 0 base (omega arith)).0 in
     (rest.0 / base, ap (λ (z : ℤ). rest_by (pos base) z) rest.1 ∙ rest_by_pos base rest.0 some, div_below rest.0 base bound some rest.2)
 
-nothing_left : (bases : List ℕ) (number : ℕ) → All (λ base. (0 < base) × (base < 2 ^ 63)) bases → number < product bases → rest_by_all (map pos bases) (pos number) ≡ pos 0
+nothing_left : (bases : List ℕ) (number : ℕ) → All (λ base. (0 < base) × (base < 2 ^ 63)) bases → number < base_product bases → rest_by_all (map pos bases) (pos number) ≡ pos 0
 nothing_left bases number all below =
     let left = left_below bases number 1 all (omega arith) in
     let none : left.0 ≡ 0 = (let small = left.2 in omega arith) in
@@ -85,7 +85,7 @@ abbrev Digits : List ℕ → ℕ → List ℤ → Type 0
 Digits bases number digits = (at : ℕ) → at < length bases → get_or digits at (pos 0) ≡ digit_at (map pos bases) (pos number) at
 
 -- the value of the first digits is what the other bases leave
-value_is : (bases : List ℕ) (number : ℕ) (digits : List ℤ) → AreBases bases → number < product bases → number < 2 ^ 63 → length digits ≡ length bases → Digits bases number digits
+value_is : (bases : List ℕ) (number : ℕ) (digits : List ℤ) → AreBases bases → number < base_product bases → number < 2 ^ 63 → length digits ≡ length bases → Digits bases number digits
     → (done : ℕ) → done ≤ length bases → value_after (map pos bases) digits done ≡ Some (rest_by_all (drop done (map pos bases)) (pos number))
 value_is bases number digits are below small len each zero le = ap (λ (z : ℤ). Some z) (sym (nothing_left bases number are.each below))
 value_is bases number digits are below small len each (suc done) le =
@@ -174,7 +174,7 @@ encodes bases number are small =
     encoded _ _ _ (nothing_lacks (element_count (length bases ∷ [])) (digit_for (map pos bases) (pos number ∷ [])) (digit_list bases number) by_place) (not_large (length bases) are.few)
     ∙ ap (λ (xs : List ℤ). Ok (record { shape = length bases ∷ []; items = numbers xs })) (made (element_count (length bases ∷ [])) (digit_for (map pos bases) (pos number ∷ [])) (digit_list bases number) by_place)
 
-decodes : (bases : List ℕ) (number : ℕ) → AreBases bases → number < product bases → number < 2 ^ 63
+decodes : (bases : List ℕ) (number : ℕ) → AreBases bases → number < base_product bases → number < 2 ^ 63
     → decode_of (vector_of bases) (record { shape = length bases ∷ []; items = numbers (digit_list bases number) }) ≡ Ok (scalar (pos number))
 decodes bases number are below small =
     let count = length-map bases pos in
@@ -190,6 +190,6 @@ decodes bases number are below small =
     shared false = length-map bases pos
 
 -- the value of the digits of a number is the number
-pub gives_back : (bases : List ℕ) (number : ℕ) → AreBases bases → number < product bases → number < 2 ^ 63 → GivesBack (vector_of bases) (scalar (pos number))
+pub gives_back : (bases : List ℕ) (number : ℕ) → AreBases bases → number < base_product bases → number < 2 ^ 63 → GivesBack (vector_of bases) (scalar (pos number))
 gives_back bases number are below small =
     (record { shape = length bases ∷ []; items = numbers (digit_list bases number) }, encodes bases number are small, decodes bases number are below small)

@@ -27,8 +27,8 @@ abbrev pub value_of : PlainArray → PlainArray → Option ℤ
 value_of a b = value_after (numbers_in a.items) (numbers_in b.items) (shared_count a b)
 
 -- what is wrong with bases and digits as such: they are vectors or scalars, as many, and of numbers
-abbrev pub misfit : PlainArray → PlainArray → Faults
-misfit a b = record no_faults {
+abbrev pub decode_misfit : PlainArray → PlainArray → Faults
+decode_misfit a b = record no_faults {
   bad_rank = nat_lt 1 (length a.shape) || nat_lt 1 (length b.shape);
   bad_length = counts_differ a b;
   bad_domain = is_chars a.items || is_chars b.items;
@@ -36,7 +36,7 @@ misfit a b = record no_faults {
 
 -- what is wrong with them; no value leaves 64 bits
 abbrev pub decode_faults : PlainArray → PlainArray → Faults
-decode_faults a b = record (misfit a b) { bad_domain = (misfit a b).bad_domain || is_none (value_of a b) }
+decode_faults a b = record (decode_misfit a b) { bad_domain = (decode_misfit a b).bad_domain || is_none (value_of a b) }
 
 -- the value of digits B by bases A
 abbrev pub decode_of : PlainArray → PlainArray → Answer

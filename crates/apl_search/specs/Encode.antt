@@ -33,16 +33,16 @@ encode_shape a b = a.shape ++ b.shape
 
 -- what is wrong with bases and numbers as such: bases are a vector or a scalar, digits have no more axes than arrays, and
 -- both are numbers
-abbrev pub misfit : PlainArray → PlainArray → Faults
-misfit a b = record no_faults {
+abbrev pub encode_misfit : PlainArray → PlainArray → Faults
+encode_misfit a b = record no_faults {
   bad_rank = nat_lt 1 (length a.shape) || nat_lt most_axes (length (encode_shape a b));
   bad_domain = is_chars a.items || is_chars b.items;
 }
 
 -- what is wrong with them; each digit is in 64 bits, and they are not too many
 abbrev pub encode_faults : PlainArray → PlainArray → Faults
-encode_faults a b = record (misfit a b) {
-  bad_domain = (misfit a b).bad_domain || lacks_item (element_count (encode_shape a b)) (digit_for (numbers_in a.items) (numbers_in b.items));
+encode_faults a b = record (encode_misfit a b) {
+  bad_domain = (encode_misfit a b).bad_domain || lacks_item (element_count (encode_shape a b)) (digit_for (numbers_in a.items) (numbers_in b.items));
   too_large = is_some (shape_fault (encode_shape a b));
 }
 

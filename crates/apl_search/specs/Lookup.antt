@@ -47,7 +47,7 @@ abbrev pub memberships : PlainItems → PlainItems → List ℤ
 memberships (numbers list) b = map (λ n. truth (has_number b n)) list
 memberships (chars list) b = map (λ c. truth (has_char b c)) list
 
--- 1 where the item of A is in B
+-- for each item of A, as 1 or 0, whether B has it
 abbrev pub member_of : PlainArray → PlainArray → Answer
 member_of a b = answer_of no_faults (number_array a.shape (memberships a.items b.items))
 

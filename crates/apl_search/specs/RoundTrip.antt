@@ -9,8 +9,8 @@ pub record AreBases (bases : List ℕ) : Type 0 where
   pub each : All (λ base. (0 < base) × (base < 2 ^ 63)) bases
 
 -- the product of bases
-abbrev pub product : List ℕ → ℕ
-product bases = fold ◌*◌ 1 bases
+abbrev pub base_product : List ℕ → ℕ
+base_product bases = fold ◌*◌ 1 bases
 
 -- the vector of bases
 abbrev pub vector_of : List ℕ → PlainArray

@@ -1,7 +1,7 @@
 ghost use Rattle.std.specs.Prelude.{◌≡◌, ◌+ℤ◌, ◌*ℤ◌, None, length};
 ghost use Rattle.apl_items.specs.Answers.{Answers, first_report};
 ghost use Rattle.apl_items.specs.Extension.{Reaches};
-ghost use Rattle.apl_search.specs.Decode.{counts_differ, decode_of, misfit, shared_count, taken_on, value_after, value_of};
+ghost use Rattle.apl_search.specs.Decode.{counts_differ, decode_of, decode_misfit, shared_count, taken_on, value_after, value_of};
 
 use crate::numbers::small;
 use apl_arrays::{Array, Fail, Report};
@@ -15,7 +15,7 @@ use std::alloc::Global;
 pub fn decode(alloc: Global, a: &Array, b: &Array) -> Result<Array, Fail>
     ensures { Answers result (decode_of a.now b.now) }
 {
-    match misfit(a, b) {
+    match decode_misfit(a, b) {
         Some(report) => Err(Fail::Report(report)),
         None => match value_of(a, b) {
             Some(value) => Ok(Array::scalar(alloc, value)?),
@@ -25,8 +25,8 @@ pub fn decode(alloc: Global, a: &Array, b: &Array) -> Result<Array, Fail>
 }
 
 /// The report on the shapes and kinds of bases and digits, if there is one.
-fn misfit(a: &Array, b: &Array) -> Option<Report>
-    ensures { result ≡ first_report (misfit a.now b.now) }
+fn decode_misfit(a: &Array, b: &Array) -> Option<Report>
+    ensures { result ≡ first_report (decode_misfit a.now b.now) }
 {
     if a.shape().len() > 1 || b.shape().len() > 1 {
         Some(Report::Rank)
@@ -59,7 +59,7 @@ fn shared_count(a: &Array, b: &Array) -> usize
 
 /// The value of all digits, or `None` where one leaves 64 bits.
 fn value_of(a: &Array, b: &Array) -> Option<i64>
-    requires { first_report (misfit a.now b.now) ≡ None }
+    requires { first_report (decode_misfit a.now b.now) ≡ None }
     ensures { result ≡ value_of a.now b.now }
 {
     value_after(a.items().numbers(), b.items().numbers(), shared_count(a, b))
@@ -89,11 +89,11 @@ fn taken_on(base: i64, digit: i64, value: Option<i64>) -> Option<i64>
 fn next_value(value: i64, base: i64, digit: i64) -> i128
     ensures { result ≡ value *ℤ base +ℤ digit }
 {
-    product(value, base) + i128::from(digit)
+    widened_product(value, base) + i128::from(digit)
 }
 
 /// The product of two numbers.
-fn product(a: i64, b: i64) -> i128
+fn widened_product(a: i64, b: i64) -> i128
     ensures { result ≡ a *ℤ b }
 {
     i128::from(a) * i128::from(b)

@@ -3,7 +3,7 @@ ghost use Rattle.apl_items.specs.Answers.{Answers, first_report};
 ghost use Rattle.apl_items.specs.Places.{items_by, lacks_item};
 ghost use Rattle.apl_scalar.specs.Counting.{floor_quotient, residue};
 ghost use Rattle.apl_scalar.specs.Table.{fits, item_where, least};
-ghost use Rattle.apl_search.specs.Encode.{AreBefore, AreSmall, digit_at, digit_for, digits_of, encode_faults, encode_of, misfit, rest_by, rest_by_all};
+ghost use Rattle.apl_search.specs.Encode.{AreBefore, AreSmall, digit_at, digit_for, digits_of, encode_faults, encode_of, encode_misfit, rest_by, rest_by_all};
 
 use crate::numbers::small;
 use apl_arrays::{
@@ -30,15 +30,15 @@ pub fn encode(alloc: Global, a: &Array, b: &Array) -> Result<Array, Fail>
 fn encode_report(a: &Array, b: &Array) -> Option<Report>
     ensures { result ≡ first_report (encode_faults a.now b.now) }
 {
-    match misfit(a, b) {
+    match encode_misfit(a, b) {
         Some(report) => Some(report),
         None => digits_report(a, b),
     }
 }
 
 /// The report on the shapes and kinds of bases and numbers, if there is one.
-fn misfit(a: &Array, b: &Array) -> Option<Report>
-    ensures { result ≡ first_report (misfit a.now b.now) }
+fn encode_misfit(a: &Array, b: &Array) -> Option<Report>
+    ensures { result ≡ first_report (encode_misfit a.now b.now) }
 {
     if a.shape().len() > 1 || a.shape().len() + b.shape().len() > RANK_LIMIT {
         Some(Report::Rank)
@@ -51,7 +51,7 @@ fn misfit(a: &Array, b: &Array) -> Option<Report>
 
 /// The report on digits, if there is one: DOMAIN where one of them leaves 64 bits, else WS FULL where they are too many.
 fn digits_report(a: &Array, b: &Array) -> Option<Report>
-    requires { first_report (misfit a.now b.now) ≡ None }
+    requires { first_report (encode_misfit a.now b.now) ≡ None }
     ensures { result ≡ first_report (encode_faults a.now b.now) }
 {
     let bases = a.items().numbers();
@@ -166,12 +166,12 @@ fn taken_off(base: i64, rest: i128) -> (i128, i128)
         (rest, 0)
     } else {
         let left = floor_quotient(i128::from(base), rest);
-        (rest - product(i128::from(base), left), left)
+        (rest - wide_product(i128::from(base), left), left)
     }
 }
 
 /// The product of two numbers of 64 bits.
-fn product(a: i128, b: i128) -> i128
+fn wide_product(a: i128, b: i128) -> i128
     requires a { unsigned_abs a ≤ 2 ^ 63 }
     requires b { unsigned_abs b ≤ 2 ^ 63 }
     ensures value { result ≡ a *ℤ b }

@@ -34,11 +34,11 @@ pub fn has<T: Ord>(list: &[T], index: &[(T, u32)], item: &T) -> bool
     requires { IsIndexOf T.cmp list.now index.now }
     ensures { result ≡ list_any (T.eq item.now) list.now }
 {
-    place_of(list, index, item) < list.len()
+    first_place(list, index, item) < list.len()
 }
 
 /// The first place in a list of an item, from 0, or the length of the list, by its index. No memory.
-pub fn place_of<T: Ord>(list: &[T], index: &[(T, u32)], item: &T) -> usize
+pub fn first_place<T: Ord>(list: &[T], index: &[(T, u32)], item: &T) -> usize
     requires { IsIndexOf T.cmp list.now index.now }
     ensures value { result ≡ position_or_len (T.eq item.now) list.now }
     ensures inside { result ≤ length list.now }

@@ -9,7 +9,7 @@ ghost use Rattle.apl_search.specs.Decode.{value_after};
 ghost use Rattle.apl_search.specs.Encode.{digit_at};
 ghost use Rattle.apl_search.specs.Grade.{by_item, falling, grade, in_order, placed, rising};
 ghost use Rattle.apl_search.specs.Lookup.{first_places, memberships};
-ghost use Rattle.apl_search.specs.RoundTrip.{AreBases, GivesBack, product, vector_of};
+ghost use Rattle.apl_search.specs.RoundTrip.{AreBases, GivesBack, base_product, vector_of};
 
 /// A grade has each number with its place once, and they stand in order: by the number, and of equal numbers by the
 /// place. The call does nothing. No memory.
@@ -38,7 +38,7 @@ pub fn the_first_place_counts()
 /// call does nothing. No memory.
 #[tactic(auto, using(crate::proofs::RoundTripLemmas::gives_back))]
 pub fn digits_give_their_number_back()
-    ensures { (bases : List ℕ) (number : ℕ) → AreBases bases → number < product bases → number < 2 ^ 63 → GivesBack (vector_of bases) (scalar (pos number)) }
+    ensures { (bases : List ℕ) (number : ℕ) → AreBases bases → number < base_product bases → number < 2 ^ 63 → GivesBack (vector_of bases) (scalar (pos number)) }
 {}
 
 /// An hour, a minute and a second are 3661 seconds, and back. The call does nothing. No memory.

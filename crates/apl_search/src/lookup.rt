@@ -5,7 +5,7 @@ ghost use Rattle.apl_items.specs.Answers.{Answers};
 ghost use Rattle.apl_scalar.specs.Table.{truth};
 ghost use Rattle.apl_search.specs.Lookup.{first_places, index_of_of, member_of, memberships};
 
-use crate::index::{has, index_for, place_of};
+use crate::index::{first_place, has, index_for};
 use apl_arrays::{Array, Fail, Items, List, NumberList, Report, WantOfMemory};
 use apl_scalar::rules::truth;
 use std::alloc::Global;
@@ -57,7 +57,7 @@ fn places_of<T: Ord + Copy + Drop>(
     let mut places = List::new(alloc);
     places.reserve(b.len())?;
     for item in b {
-        places.push_reserved(number_of(place_of(a, &index, item)));
+        places.push_reserved(number_of(first_place(a, &index, item)));
     }
     Ok(places)
 }

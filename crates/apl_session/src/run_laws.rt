@@ -1,6 +1,6 @@
 ghost use Rattle.apl_session.specs.RunLaws.{OthersChangeNoPart, PartsMakeOneTranscript};
 
-/// A user's part of a run stays true when entries of other parties follow. The call does nothing.
+/// What others enter behind a user's part leaves that part true. The call does nothing.
 pub fn others_change_no_part()
     ensures { OthersChangeNoPart }
 {}

@@ -15,10 +15,9 @@ use Rattle.apl_items.specs.Places.{places}
 use Rattle.apl_items.specs.Shapes.{AreWithin, coordinates_of, place_of, stride_of}
 use Rattle.apl_items.proofs.ShapeLemmas.{coordinates_are_within, parts_fit, place_of_below}
 use Rattle.apl_structure.specs.Diagonals.{axes_by_faults, axes_named, axis_count, coordinates_by, diagonal_shape, least_length, leaves_gap, step_of, transpose_by_of, transposed_by}
-use Rattle.apl_structure.proofs.AxisLemmas.{as_many_within, each_within, same_offsets}
-use Rattle.apl_structure.proofs.FaultLemmas.{answer_fits, answer_too_large, count_of_numbers, nothing_is_wrong}
-use Rattle.apl_structure.proofs.MoveLemmas.{array_of, same_map, same_moved}
-use Rattle.apl_structure.proofs.TakeLemmas.{same_number}
+use Rattle.apl_selection.proofs.PickLemmas.{as_many_within, each_within, same_offsets}
+use Rattle.apl_selection.proofs.FaultLemmas.{answer_fits, answer_too_large, count_of_numbers, nothing_is_wrong, same_number}
+use Rattle.apl_selection.proofs.MoveLemmas.{array_of, same_map, same_moved}
 
 -- ---- offsets that grow evenly along each axis
 

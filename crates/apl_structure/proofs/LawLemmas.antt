@@ -1,5 +1,5 @@
 -- What moved twice stands where it stood.
-use Rattle.std.proofs.Common.{◌≡◌, ℕ, ℤ, zero, suc, pos, ◌+◌, ◌-◌, ◌*◌, ◌/◌, ◌%◌, ◌<◌, ◌≤◌, ◌==◌, ◌&&◌, ◌||◌, Bool, true, false, not, nat_lt, List, [], ◌∷◌, map, Option, Some, None, Ok, is_some, length, slice_index, get_or, refl, sym, ap, subst, ◌∙◌, arith}
+use Rattle.std.proofs.Common.{◌≡◌, ℕ, ℤ, zero, suc, pos, ◌+◌, ◌-◌, ◌*◌, ◌/◌, ◌%◌, ◌<◌, ◌==◌, ◌&&◌, ◌||◌, Bool, true, false, not, nat_lt, List, [], ◌∷◌, map, Option, Some, None, Ok, is_some, length, slice_index, get_or, refl, sym, ap, subst, ◌∙◌, arith}
 use Rattle.std.specs.Int.{is_negative}
 use Rattle.std.specs.List.{list_any}
 use Rattle.std.proofs.lemmas.Bool.Decides.{nat_tests}
@@ -16,14 +16,15 @@ use Rattle.apl_items.specs.Along.{source_along, source_at}
 use Rattle.apl_items.specs.Moves.{item_or, moved_items, moved_list}
 use Rattle.apl_items.specs.declared.shapes.Split.{Split}
 use Rattle.apl_items.specs.Shapes.{along_of, inner_of, outer_of, place_along, split_at, split_count}
+use Rattle.apl_items.proofs.AlongLemmas.{positive}
 use Rattle.apl_items.proofs.ShapeLemmas.{along_of_place, inner_of_place, outer_of_place, place_along_below, place_along_parts, split_count_lem, element_count-cons}
 use Rattle.apl_structure.specs.Lengths.{is_hollow, lengths}
 use Rattle.apl_structure.specs.Moves.{moved_on}
 use Rattle.apl_structure.specs.Plain.{ravel_of, shape_of}
 use Rattle.apl_structure.specs.Reshaping.{reshape_faults, reshape_of, reshaped}
 use Rattle.apl_structure.specs.Reversal.{from_the_end, reversed}
-use Rattle.apl_structure.proofs.MoveLemmas.{array_of, same_moved}
-use Rattle.apl_structure.proofs.TakeLemmas.{same_number}
+use Rattle.apl_selection.proofs.MoveLemmas.{array_of, same_moved}
+use Rattle.apl_selection.proofs.FaultLemmas.{few_axes, same_number}
 
 -- what moved first and then again is back at its place
 pub record IsBack (count : ℕ) (first again : ℕ → Option ℕ) (place : ℕ) : Type 0 where
@@ -53,10 +54,6 @@ from_the_end_is long along h = let test : nat_lt along long ≡ true = within al
     within m n h = grind (arith, nat_tests)
 
 -- ---- reversed twice
-
-positive : (a b place : ℕ) → place < a * b → 0 < b
-positive a zero place below = absurd (omega arith)
-positive a (suc b) place below = omega arith
 
 parts_within : (split : Split) (place : ℕ) → place < split_count split
     → (outer_of split place < split.outer) × (along_of split place < split.along) × (inner_of split place < split.inner)
@@ -141,9 +138,6 @@ hollow_from (x ∷ xs) e = hollow_by x (element_count xs) (x == 0) (is_hollow xs
 asks_for_none : (count : ℕ) (empty hollow : Bool) → (count == 0) ≡ empty → (count ≡ 0 → hollow ≡ true) → (empty && not hollow) ≡ false
 asks_for_none count false hollow e is = refl
 asks_for_none count true hollow e is = rw (is (same_number count 0 e)) refl
-
-pub few_axes : (n : ℕ) → n ≤ 8 → nat_lt 8 n ≡ false
-few_axes n h = grind (arith, nat_tests)
 
 nothing_reported : (rank negative asks large : Bool) → rank ≡ false → negative ≡ false → asks ≡ false → large ≡ false
     → first_report (record no_faults { bad_rank = false || rank; bad_domain = false || negative || asks; too_large = large }) ≡ None

@@ -1,16 +1,16 @@
 -- Lengths that are capped pass the limits exactly where the numbers do.
-use Rattle.std.proofs.Common.{◌≡◌, ℕ, ℤ, ◌≤◌, ◌==◌, ◌&&◌, ◌||◌, Bool, true, false, cond, nat_lt, List, [], ◌∷◌, Option, Some, None, is_some, length, min, unsigned_abs, refl, sym, ap, subst, ◌∙◌, arith}
+use Rattle.std.proofs.Common.{◌≡◌, ℕ, ℤ, ◌≤◌, ◌==◌, ◌&&◌, ◌||◌, Bool, true, false, cond, nat_lt, List, [], ◌∷◌, Some, None, is_some, length, min, unsigned_abs, refl, sym, ap, subst, ◌∙◌, arith}
 use Rattle.std.specs.List.{All, list_all}
 use Rattle.std.proofs.lemmas.Bool.{and_parts}
 use Rattle.std.proofs.lemmas.Bool.Decides.{nat_tests}
 use Rattle.std.proofs.lemmas.List.{length-map}
 use Rattle.std.proofs.lemmas.List.Elements.{All-head, All-tail}
-use Rattle.apl_arrays.specs.declared.array.ShapeFault.{ShapeFault}
 use Rattle.apl_arrays.specs.declared.array.ShapeFault.TheVariants.{Rank, Size}
 use Rattle.apl_arrays.specs.Array.{FitsLimits, element_count}
 use Rattle.apl_arrays.specs.Shape.{is_small, shape_fault}
 use Rattle.apl_arrays.proofs.Shapes.{no_fault_fits}
 use Rattle.apl_structure.specs.Lengths.{capped, is_hollow, lengths}
+use Rattle.apl_selection.proofs.FaultLemmas.{none_from}
 
 small_when_capped : (n : ℕ) → is_small (min n 16385) ≡ is_small n
 small_when_capped n = grind (arith, nat_tests)
@@ -50,11 +50,6 @@ faulty_when_capped numbers =
     faulty_by (nat_lt 8 (length (capped numbers))) (nat_lt 8 (length (lengths numbers))) (list_all is_small (capped numbers)) (list_all is_small (lengths numbers))
     (is_small (element_count (capped numbers))) (is_small (element_count (lengths numbers))) (ap (nat_lt 8) (same_rank numbers)) (all_small numbers)
     (λ e. ap (λ (xs : List ℕ). is_small (element_count xs)) (small_lengths numbers e))
-
--- no fault
-pub none_from : (o : Option ShapeFault) → is_some o ≡ false → o ≡ None
-none_from None e = refl
-none_from (Some fault) e = absurd (cc)
 
 uncapped : (numbers : List ℤ) → All (λ n. n ≤ 16384) (lengths numbers) → capped numbers ≡ lengths numbers
 uncapped [] h = refl

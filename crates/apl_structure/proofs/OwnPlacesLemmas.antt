@@ -13,14 +13,14 @@ use Rattle.apl_items.specs.Axes.{added}
 use Rattle.apl_items.specs.Moves.{moved_items}
 use Rattle.apl_items.specs.Places.{places}
 use Rattle.apl_structure.specs.Counting.{first_numbers, iota_of}
-use Rattle.apl_structure.specs.Indexing.{index_of, indexed, named_place}
+use Rattle.apl_selection.specs.Indexing.{selection_of, indexed, named_place}
 use Rattle.apl_structure.specs.Plain.{shape_of}
-use Rattle.apl_structure.specs.Subscripts.{is_outside, point_outside}
-use Rattle.apl_structure.proofs.GivenBackLemmas.{fine}
-use Rattle.apl_structure.proofs.IndexLemmas.{place_of_axis}
+use Rattle.apl_selection.specs.Subscripts.{is_outside, point_outside}
+use Rattle.apl_selection.proofs.GivenBackLemmas.{fine}
+use Rattle.apl_selection.proofs.IndexLemmas.{place_of_axis}
 use Rattle.apl_structure.proofs.LawLemmas.{items_stay, not_negative}
-use Rattle.apl_structure.proofs.MoveLemmas.{array_of, same_moved}
-use Rattle.apl_structure.proofs.SubscriptLemmas.{whole_axis}
+use Rattle.apl_selection.proofs.MoveLemmas.{array_of, same_moved}
+use Rattle.apl_selection.proofs.SubscriptLemmas.{whole_axis}
 
 number_on_axis : (long place : ℕ) → place < long → is_outside long (pos (place + 1)) ≡ false
 number_on_axis long place below = by_parts (is_negative (pos (place + 1))) (place + 1 == 0) (nat_lt long (place + 1)) (not_negative (place + 1)) (not_zero place) (not_over long place below)
@@ -68,7 +68,7 @@ few_items : (n : ℕ) → n ≤ 16384 → nat_lt 16384 n ≡ false
 few_items n h = grind (arith, nat_tests)
 
 own_by : (shape : List ℕ) (items : PlainItems) (count numbers : PlainArray) → IsArray (array_of shape items) → length shape ≡ 1 → shape_of (array_of shape items) ≡ Ok count → iota_of count ≡ Ok numbers
-    → index_of (array_of shape items) (Some numbers ∷ []) ≡ Ok (array_of shape items)
+    → selection_of (array_of shape items) (Some numbers ∷ []) ≡ Ok (array_of shape items)
 own_by [] items count numbers array vector s i = absurd (omega arith)
 own_by (n ∷ m ∷ rest) items count numbers array vector s i = absurd (omega arith)
 own_by (n ∷ []) items count numbers array vector s i =
@@ -82,12 +82,12 @@ own_by (n ∷ []) items count numbers array vector s i =
     let subs : List (Option PlainArray) = Some (first_numbers n) ∷ [] in
     let is_fine = fine false false false (point_outside (n ∷ []) subs) (is_some (shape_fault (n ∷ []))) refl refl refl
     (ap (λ (x : Bool). x || false) (all_on_axis n n 0 (omega arith))) (ap is_some (what_fits_has_no_fault (n ∷ []) array.fits)) in
-    ap (λ (x : PlainArray). index_of b (Some x ∷ [])) (sym given)
+    ap (λ (x : PlainArray). selection_of b (Some x ∷ [])) (sym given)
     ∙ ap (λ (report : Option Report). unless report (indexed b subs)) is_fine
     ∙ ap (λ (x : PlainItems). Ok (array_of (n ∷ []) x))
     (ap (λ (k : ℕ). moved_items items k (named_place (n ∷ []) subs)) array.whole
     ∙ same_moved items (item_count items) (named_place (n ∷ []) subs) (λ place. Some place) (λ place h. own_place n place (let same = array.whole in omega arith)) ∙ items_stay items)
 
 -- a vector at all its places
-pub own_places : (b count numbers : PlainArray) → IsArray b → length b.shape ≡ 1 → shape_of b ≡ Ok count → iota_of count ≡ Ok numbers → index_of b (Some numbers ∷ []) ≡ Ok b
+pub own_places : (b count numbers : PlainArray) → IsArray b → length b.shape ≡ 1 → shape_of b ≡ Ok count → iota_of count ≡ Ok numbers → selection_of b (Some numbers ∷ []) ≡ Ok b
 own_places b count numbers array vector s i = own_by b.shape b.items count numbers array vector s i

@@ -12,8 +12,8 @@ use Rattle.apl_items.proofs.ShapeLemmas.{element_count-cons}
 use Rattle.apl_structure.specs.Lengths.{capped, is_hollow, lengths}
 use Rattle.apl_structure.specs.Reshaping.{reshape_faults, reshape_of, reshaped}
 use Rattle.apl_structure.proofs.LengthLemmas.{lengths_that_fit}
-use Rattle.apl_structure.proofs.MoveLemmas.{array_of, same_moved}
-use Rattle.apl_structure.proofs.TakeLemmas.{same_number}
+use Rattle.apl_selection.proofs.MoveLemmas.{array_of, same_moved}
+use Rattle.apl_selection.proofs.FaultLemmas.{same_number}
 
 nothing_wrong : (rank domain large : Bool) → None ≡ first_report (record no_faults { bad_rank = rank; bad_domain = domain; too_large = large }) → (domain ≡ false) × (large ≡ false)
 nothing_wrong true domain large e = absurd (cc)

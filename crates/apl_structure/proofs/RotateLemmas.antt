@@ -8,7 +8,7 @@ use Rattle.apl_items.specs.Extension.{number_at, place_in}
 use Rattle.apl_items.specs.Shapes.{along_of, inner_of, outer_of, split_at}
 use Rattle.apl_structure.specs.Moves.{moved_on}
 use Rattle.apl_structure.specs.Rotation.{rotated, turn_of, turned_from}
-use Rattle.apl_structure.proofs.MoveLemmas.{array_of, same_moved}
+use Rattle.apl_selection.proofs.MoveLemmas.{array_of, same_moved}
 
 -- the same rule moves the same items
 pub same_moved_on : (b : PlainArray) (axis : ℕ) (f g : ℕ → ℕ → Option ℕ) → ((line along : ℕ) → f line along ≡ g line along) → moved_on b axis f ≡ moved_on b axis g

@@ -14,17 +14,16 @@ use Rattle.apl_items.specs.Answers.{first_report, no_faults, unless}
 use Rattle.apl_items.specs.Places.{places}
 use Rattle.apl_items.proofs.ShapeLemmas.{element_count-cons}
 use Rattle.apl_structure.specs.Lengths.{lengths}
-use Rattle.apl_structure.specs.Picks.{picked}
-use Rattle.apl_structure.specs.Taking.{axes_faults, axes_for, is_scalar, left, left_from, take_of, taken, taken_from, taken_shape}
-use Rattle.apl_structure.proofs.AxisLemmas.{axes_small}
+use Rattle.apl_selection.specs.Picks.{picked}
+use Rattle.apl_structure.specs.Taking.{axes_faults, axes_for, left, left_from, take_of, taken, taken_from, taken_shape}
+use Rattle.apl_selection.specs.Listing.{is_scalar}
+use Rattle.apl_selection.proofs.PickLemmas.{axes_small}
+use Rattle.apl_selection.proofs.FaultLemmas.{same_number}
 
 -- ---- the axes of the source
 
 not_over : (m n : ℕ) → nat_lt m n ≡ false → n ≤ m
 not_over m n e = grind (arith, nat_tests)
-
-pub same_number : (m n : ℕ) → (m == n) ≡ true → m ≡ n
-same_number m n e = grind (arith, nat_tests)
 
 by_tests : (over scalar many alike kind : Bool) → None ≡ first_report (record no_faults { bad_rank = over || scalar && many; bad_length = not scalar && not alike; bad_domain = kind })
     → (scalar ≡ true → many ≡ false) × (scalar ≡ false → alike ≡ true)

@@ -8,9 +8,10 @@ use Rattle.apl_items.specs.Moves.{moved_items}
 use Rattle.apl_items.specs.Shapes.{AreWithin, coordinates_of, place_of, stride_of}
 use Rattle.apl_items.proofs.ShapeLemmas.{coordinates_are_within, coordinates_of_place, element_count-append, place_of_below, place_of_coordinates}
 use Rattle.apl_structure.specs.Transposition.{opposite_offset, transposed}
-use Rattle.apl_structure.proofs.AxisLemmas.{as_many_within, count_from, each_within, element_count-reverse}
+use Rattle.apl_selection.proofs.PickLemmas.{as_many_within, count_from, each_within}
+use Rattle.apl_structure.proofs.OppositeLemmas.{element_count-reverse}
 use Rattle.apl_structure.proofs.LawLemmas.{IsBack, twice_items}
-use Rattle.apl_structure.proofs.MoveLemmas.{array_of}
+use Rattle.apl_selection.proofs.MoveLemmas.{array_of}
 
 regrouped : (b e n p x : ℕ) → b * (e * n) + (p * n + x) ≡ (b * e + p) * n + x
 regrouped b e n p x = omega arith

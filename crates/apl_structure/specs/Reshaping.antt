@@ -18,7 +18,7 @@ reshape_faults a b =
       too_large = is_some (shape_fault (lengths numbers));
     }
 
--- the items of B over and over
+-- B's items, from the first again where they end
 abbrev pub reshaped : List ℕ → PlainArray → PlainArray
 reshaped shape b = moved shape b.items (λ place. Some (place % item_count b.items))
 

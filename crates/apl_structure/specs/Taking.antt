@@ -1,4 +1,4 @@
-use Rattle.std.specs.Prelude.{◌+◌, ◌-◌, ◌&&◌, ◌||◌, ◌==◌, ℕ, ℤ, pos, Bool, not, List, Option, Some, None, length, map, replicate, slice_index, slice_index_or, nat_le, nat_lt, is_some, unsigned_abs, if◌then◌else◌}
+use Rattle.std.specs.Prelude.{◌+◌, ◌-◌, ◌&&◌, ◌||◌, ◌==◌, ℕ, ℤ, pos, not, List, Option, Some, None, length, map, replicate, slice_index, slice_index_or, nat_le, nat_lt, is_some, unsigned_abs, if◌then◌else◌}
 use Rattle.std.specs.Int.{is_negative}
 use Rattle.apl_arrays.specs.Array.{PlainArray, is_chars, item_count, numbers_in}
 use Rattle.apl_arrays.specs.Limits.{most_axes}
@@ -6,19 +6,17 @@ use Rattle.apl_arrays.specs.Shape.{shape_fault}
 use Rattle.apl_items.specs.Answers.{Answer, Faults, no_faults, answer_of}
 use Rattle.apl_items.specs.Places.{places}
 use Rattle.apl_structure.specs.Lengths.{lengths}
-use Rattle.apl_structure.specs.Picks.{picked}
+use Rattle.apl_selection.specs.Picks.{picked}
+use Rattle.apl_selection.specs.Listing.{is_scalar}
 
 -- ---- A has one number for each axis of B
-
--- the array is a scalar
-abbrev pub is_scalar : PlainArray → Bool
-is_scalar b = length b.shape == 0
 
 -- the axes of B, where a scalar has one place along each of as many as A asks for
 abbrev pub axes_for : ℕ → PlainArray → List ℕ
 axes_for count b = if is_scalar b then replicate count 1 else b.shape
 
--- what is wrong with A: it has one number for each axis of B, and a scalar B has the rank that A asks for
+-- what is wrong with A: its numbers are not as many as B's axes, where B has any; a scalar B takes as many axes as A
+-- has numbers
 abbrev pub axes_faults : PlainArray → PlainArray → Faults
 axes_faults a b =
     let count = item_count a.items in record no_faults {

@@ -6,18 +6,16 @@ ghost use Rattle.apl_items.specs.Axis.{lacks_axis};
 ghost use Rattle.apl_items.specs.Places.{places};
 ghost use Rattle.apl_structure.specs.Diagonals.{axes_by_faults, axes_named, axis_count, diagonal_shape, least_length, leaves_gap, step_of, transpose_by_of, transposed_by};
 
-use crate::picks::filled;
-use crate::strides::strides_of;
-use crate::taking::length_of;
 use apl_arrays::{
     Array, ELEMENT_LIMIT, Fail, Report, WantOfMemory, count_of_elements, shape_fault,
 };
 use apl_items::{Axes, lacks_axis, moved_by_axes, room_for};
+use apl_selection::{filled, length_of, strides_of};
 use std::alloc::Global;
 
-/// B with axis i as axis A[i] of the result; where several become one axis, their diagonal, of the least length. RANK where A
-/// is of rank over 1, else LENGTH where it has not one number for each axis of B, else DOMAIN where these are not exactly 1 to
-/// some number. It takes memory for a shape, for strides and for the items.
+/// B with its axes where A puts them, the i-th at A[i]; axes that come to one place run on together up to the shortest.
+/// RANK where A is of rank over 1, else LENGTH where it has not one number for each axis of B, else DOMAIN where these
+/// are not exactly 1 to some number. It takes memory for a shape, for strides and for the items.
 pub fn transpose_by(alloc: Global, a: &Array, b: &Array) -> Result<Array, Fail>
     ensures { Answers result (transpose_by_of a.now b.now) }
 {

@@ -7,14 +7,14 @@ ghost use Rattle.apl_structure.specs.Lengths.{capped};
 ghost use Rattle.apl_structure.specs.Reshaping.{reshape_faults, reshape_of, reshaped};
 
 use crate::lengths::{are_hollow, capped, pass_limits};
-use crate::picks::filled;
 use apl_arrays::{Array, Fail, RANK_LIMIT, Report, WantOfMemory, count_of_elements};
 use apl_items::{Walk, moved};
+use apl_selection::filled;
 use std::alloc::Global;
 
-/// The items of B over and over, in the shape A. RANK where A is of rank over 1 or has over eight numbers, else DOMAIN
-/// where it is of characters, has a negative number, or asks for items where B has none, else WS FULL where the result
-/// is too large. It takes memory for the shape and the items.
+/// An array of the shape A, of B's items, from the first again where they end. RANK where A is of rank over 1 or has
+/// over eight numbers, else DOMAIN where it is of characters, has a negative number, or asks for items where B has
+/// none, else WS FULL where the result is too large. It takes memory for the shape and the items.
 pub fn reshape(alloc: Global, a: &Array, b: &Array) -> Result<Array, Fail>
     ensures { Answers result (reshape_of a.now b.now) }
 {
@@ -52,7 +52,7 @@ fn has_negative(numbers: &[i64]) -> bool
     numbers.iter().any(|number| *number < 0)
 }
 
-/// The items of B over and over.
+/// B's items, from the first again where they end.
 fn reshaped(alloc: Global, b: &Array, shape: &[u32]) -> Result<Array, WantOfMemory>
     requires fits { FitsLimits shape.now }
     requires some { item_count b.now.items ≡ 0 → element_count shape.now ≡ 0 }

@@ -3,9 +3,9 @@ ghost use Rattle.apl_items.specs.Answers.{Answers, first_report};
 ghost use Rattle.apl_structure.specs.Rotation.{fits_around, rotate_faults, rotate_of, rotated, turn_of, turned_from, wrapped};
 
 use crate::moves::moved_on;
-use crate::taking::length_of;
 use apl_arrays::{Array, Fail, Report, WantOfMemory, Way};
 use apl_items::{Along, axis_of, is_single, lacks_axis};
+use apl_selection::length_of;
 use std::alloc::Global;
 
 /// An array whose lines along an axis, the last or the first where none is named, are turned: an item comes from as many

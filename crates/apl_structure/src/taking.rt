@@ -5,14 +5,14 @@ ghost use Rattle.apl_items.specs.Places.{places};
 ghost use Rattle.apl_structure.specs.Taking.{axes_faults, axes_for, drop_of, left, left_from, take_of, taken_from};
 
 use crate::lengths::{capped, pass_limits};
-use crate::picks::{Picks, picked};
 use apl_arrays::{Array, Fail, Items, RANK_LIMIT, Report, WantOfMemory};
+use apl_selection::{Picks, length_of, picked};
 use std::alloc::Global;
 
-/// Per axis of B the first items, as many as A says, or the last where A is negative, filled. RANK where A is of rank
-/// over 1 or asks a scalar for over eight axes, else LENGTH where A has not one number for each axis, else DOMAIN where
-/// A is of characters, else WS FULL where the result is too large. It takes memory for the items, and for a shape and
-/// strides.
+/// Along each axis of B as many items as A says, from its end where that is negative, and the fill beyond them. RANK
+/// where A is of rank over 1 or asks a scalar for over eight axes, else LENGTH where A has not one number for each
+/// axis, else DOMAIN where A is of characters, else WS FULL where the result is too large. It takes memory for the
+/// items, and for a shape and strides.
 pub fn take(alloc: Global, a: &Array, b: &Array) -> Result<Array, Fail>
     ensures { Answers result (take_of a.now b.now) }
 {
@@ -119,16 +119,6 @@ pub(crate) fn number_on(numbers: &[i64], axis: usize) -> i64
 {
     match numbers.get(axis) {
         Some(number) => *number,
-        None => 0,
-    }
-}
-
-/// The length of an axis, 0 past the last.
-pub(crate) fn length_of(shape: &[u32], axis: usize) -> u32
-    ensures { result ≡ slice_index shape.now axis }
-{
-    match shape.get(axis) {
-        Some(length) => *length,
         None => 0,
     }
 }

@@ -2,9 +2,9 @@ ghost use Rattle.std.specs.Prelude.{◌≡◌, IfOk, reverse};
 ghost use Rattle.apl_items.specs.Answers.{Answers};
 ghost use Rattle.apl_structure.specs.Transposition.{transpose_of, transposed};
 
-use crate::strides::{scaled, stride_in, strides_of};
 use apl_arrays::{Array, Fail, WantOfMemory};
 use apl_items::{Axes, moved_by_axes};
+use apl_selection::{scaled, stride_in, strides_of};
 use std::alloc::Global;
 
 /// An array with its axes in reverse order. It takes memory for its shape, for strides and for the items.

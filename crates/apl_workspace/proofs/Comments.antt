@@ -1,7 +1,7 @@
 -- The tokens of a header leave no room for a comment, and are told by their symbols.
-use Rattle.std.proofs.Common.{◌≡◌, ℕ, Bool, true, false, cond, eqb, ◌&&◌, ◌||◌, List, [], ◌∷◌, ◌++◌, Option, Some, None, refl, sym, ap, ◌∙◌, map}
+use Rattle.std.proofs.Common.{◌≡◌, ℕ, Bool, true, false, cond, eqb, ◌||◌, List, [], ◌∷◌, ◌++◌, Option, Some, None, refl, sym, ap, ◌∙◌, map}
 use Rattle.std.specs.List.{list_any, list_all}
-use Rattle.std.proofs.lemmas.Bool.{false≢true, eqb-true}
+use Rattle.std.proofs.lemmas.Bool.{and_parts, false≢true, eqb-true, or_parts}
 use Rattle.std.proofs.lemmas.List.Folds.{list_any-append}
 use Rattle.apl_arrays.specs.Glyph.{is_blank, lamp, left_arrow, semicolon}
 use Rattle.apl_arrays.specs.Name.{goes_on}
@@ -12,7 +12,7 @@ use Rattle.apl_workspace.specs.declared.symbol.Symbol.{Symbol}
 use Rattle.apl_workspace.specs.declared.symbol.Symbol.TheVariants.{Word, Arrow, Semicolon, Other}
 use Rattle.apl_workspace.specs.Header.{PlainHeader, symbol_of, symbols_of, is_lamp}
 use Rattle.apl_workspace.specs.Grammar.{header_kinds}
-use Rattle.apl_workspace.proofs.Symbols.{result_symbols, name_symbols, local_symbols, symbols_with, header_symbols, kind_of, header_kinds_symbols}
+use Rattle.apl_workspace.proofs.Symbols.{result_symbols, name_symbols, local_symbols, header_symbols, kind_of, header_kinds_symbols}
 
 -- a symbol that no header has
 abbrev pub is_other : Symbol → Bool
@@ -21,10 +21,6 @@ is_other Arrow = false
 is_other Semicolon = false
 is_other Other = true
 
-or_parts : (a b : Bool) → a || b ≡ false → (a ≡ false) × (b ≡ false)
-or_parts true b e = absurd (false≢true (sym e))
-or_parts false b e = (refl, e)
-
 or_none : (a b : Bool) → a ≡ false → b ≡ false → a || b ≡ false
 or_none true b e f = absurd (false≢true (sym e))
 or_none false b e f = f
@@ -32,10 +28,6 @@ or_none false b e f = f
 or_second : (a b : Bool) → b ≡ true → a || b ≡ true
 or_second true b e = refl
 or_second false b e = e
-
-all_parts : (a b : Bool) → a && b ≡ true → (a ≡ true) × (b ≡ true)
-all_parts true b e = (refl, e)
-all_parts false b e = absurd (false≢true e)
 
 -- ---- a header has no other symbols
 
@@ -105,7 +97,7 @@ lamp_fails p glyph false none e is = refl
 run_without : (p : ℕ → Bool) (glyphs : List ℕ) → p lamp ≡ false → list_all p glyphs ≡ true → list_any is_lamp glyphs ≡ false
 run_without p [] none e = refl
 run_without p (glyph ∷ glyphs) none e =
-    let parts = all_parts (p glyph) (list_all p glyphs) e in
+    let parts = and_parts (p glyph) (list_all p glyphs) e in
     or_none (is_lamp glyph) (list_any is_lamp glyphs) (lamp_fails p glyph (eqb glyph lamp) none parts.0 refl) (run_without p glyphs none parts.1)
 
 sign_without : (glyph : ℕ) (arrow semi : Bool) → eqb glyph left_arrow ≡ arrow → eqb glyph semicolon ≡ semi → is_other (cond arrow Arrow (cond semi Semicolon Other)) ≡ false → is_lamp glyph ≡ false

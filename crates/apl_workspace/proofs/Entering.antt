@@ -1,5 +1,5 @@
 -- Functions that are entered and left.
-use Rattle.std.proofs.Common.{◌≡◌, ℕ, suc, ◌+◌, ◌<◌, ◌≤◌, List, [], ◌∷◌, ◌++◌, Option, Some, None, length, take, drop, get_or, map, fold, reverse, sum_by, refl, sym, ap, ◌∙◌, subst, drop-cons, arith}
+use Rattle.std.proofs.Common.{◌≡◌, ℕ, suc, ◌+◌, ◌<◌, ◌≤◌, List, [], ◌∷◌, ◌++◌, Option, length, take, drop, get_or, map, fold, reverse, sum_by, refl, sym, ap, ◌∙◌, drop-cons, arith}
 use Rattle.std.specs.Option.{option_to_list}
 use Rattle.std.proofs.lemmas.List.Sums.{fold-append, fold_more, sum_by-cons}
 use Rattle.apl_arrays.specs.List.{Listed, glyphs_in}
@@ -7,7 +7,7 @@ use Rattle.apl_workspace.specs.declared.args.Args.{Args}
 use Rattle.apl_workspace.specs.declared.meaning.Meaning.{Meaning}
 use Rattle.apl_workspace.specs.declared.meaning.Meaning.TheVariants.{Nothing, Value, Function, Label, Shared}
 use Rattle.apl_workspace.specs.declared.remake.Remake.{Remake}
-use Rattle.apl_workspace.specs.Frame.{frame_of, with_label, with_labels, with_local_name}
+use Rattle.apl_workspace.specs.Frame.{with_label, with_labels, with_local_name}
 use Rattle.apl_workspace.specs.Label.{label_of}
 use Rattle.apl_workspace.specs.Meaning.{Names, table_weight}
 use Rattle.apl_workspace.specs.Workspace.{IsFrameFor, PlainWorkspace, entered_by, workspace_weight}

@@ -1,5 +1,5 @@
 -- What a name of a frame stands for.
-use Rattle.std.proofs.Common.{◌≡◌, ℕ, ◌+◌, Bool, true, false, cond, List, [], ◌∷◌, Option, Some, None, refl, ap, ◌∙◌}
+use Rattle.std.proofs.Common.{◌≡◌, ℕ, ◌+◌, Bool, true, false, cond, List, [], ◌∷◌, Option, Some, None, refl, ◌∙◌}
 use Rattle.std.specs.Option.{option_map, option_or}
 use Rattle.apl_workspace.specs.Frame.{labelled_line, this_or_later, with_label, with_labels}
 use Rattle.apl_workspace.specs.Label.{label_of}

@@ -1,5 +1,5 @@
 -- What a name stands for, given in a frame.
-use Rattle.std.proofs.Common.{◌≡◌, ℕ, ◌+◌, ◌-◌, ◌<◌, ◌≤◌, Bool, true, false, cond, List, [], ◌∷◌, ◌++◌, Option, Some, None, reverse, sum_by, refl, sym, ap, ◌∙◌, subst, arith}
+use Rattle.std.proofs.Common.{◌≡◌, ℕ, ◌+◌, ◌-◌, ◌≤◌, Bool, true, false, cond, List, [], ◌∷◌, ◌++◌, Option, Some, None, reverse, sum_by, refl, sym, ap, ◌∙◌, arith}
 use Rattle.std.specs.Prelude.{is_some}
 use Rattle.std.specs.Option.{option_or}
 use Rattle.std.proofs.lemmas.Bool.{false≢true}
@@ -8,8 +8,8 @@ use Rattle.apl_arrays.specs.declared.report.Fail.TheVariants.{Report, WantOfMemo
 use Rattle.apl_workspace.specs.declared.meaning.Meaning.{Meaning}
 use Rattle.apl_workspace.specs.declared.remake.Remake.{Remake}
 use Rattle.apl_workspace.specs.Limits.{most_weight}
-use Rattle.apl_workspace.specs.Meaning.{Names, meaning_in, table_weight, with_meaning}
-use Rattle.apl_workspace.specs.Workspace.{AreFullFor, IsFull, IsInnermostAt, PlainWorkspace, given, in_innermost, innermost, is_local, with_global, workspace_weight}
+use Rattle.apl_workspace.specs.Meaning.{Names, meaning_in, table_weight}
+use Rattle.apl_workspace.specs.Workspace.{AreFullFor, IsFull, IsInnermostAt, PlainWorkspace, given, in_innermost, innermost, with_global, workspace_weight}
 use Rattle.apl_workspace.proofs.Innermost.{reversed, weight_reversed}
 
 first_is_some : (first second : Option Meaning) → is_some first ≡ true → is_some (option_or first second) ≡ true

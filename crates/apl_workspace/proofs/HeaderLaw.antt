@@ -1,10 +1,9 @@
 -- What is computed of a line is what the grammar of headers has.
-use Rattle.std.proofs.Common.{◌≡◌, ◌↔◌, ℕ, Bool, true, false, cond, List, [], ◌∷◌, Option, Some, None, Ok, Err, refl, sym, ap, subst, ◌∙◌}
+use Rattle.std.proofs.Common.{◌≡◌, ◌↔◌, ℕ, Bool, true, false, cond, List, [], Option, Some, None, Ok, Err, refl, sym, ap, subst, ◌∙◌}
 use Rattle.std.specs.Prelude.{IsSome}
 use Rattle.std.specs.List.{list_any}
 use Rattle.std.proofs.lemmas.Bool.{false≢true}
 use Rattle.std.proofs.lemmas.Option.{same_Some}
-use Rattle.apl_arrays.specs.Glyph.{lamp}
 use Rattle.line_scanner.specs.Token.{PlainToken}
 use Rattle.line_scanner.specs.Scanning.{Scanned, scan_of}
 use Rattle.line_scanner.specs.Grammar.{TokensNext, EndsLine, at_end, at_comment}

@@ -1,13 +1,12 @@
 -- Entries in any order against the table of them in order.
-use Rattle.std.proofs.Common.{◌≡◌, ◌==◌, ℕ, ◌+◌, ◌<◌, Bool, true, false, cond, List, [], ◌∷◌, Option, Some, None, length, drop, get_or, refl, sym, ap, ◌∙◌, subst}
-use Rattle.std.specs.Prelude.{IsSome, is_some, slice_get}
+use Rattle.std.proofs.Common.{◌≡◌, ◌==◌, ℕ, true, false, cond, List, [], ◌∷◌, Option, Some, None, refl, sym, ap, ◌∙◌}
+use Rattle.std.specs.Prelude.{IsSome, is_some}
 use Rattle.std.specs.Cmp.Lexicographic.{pointwise}
 use Rattle.std.specs.Map.{keys_of, lookup}
-use Rattle.std.proofs.lemmas.Bool.{cases_Bool}
 use Rattle.std.proofs.lemmas.Bool.Decides.{Decides-eqb, same_from_decides}
 use Rattle.std.proofs.lemmas.Slice.Eq.{slice_eq-Decides}
 use Rattle.apl_workspace.specs.Meaning.{Names, meaning_in, with_meaning, without_name}
-use Rattle.apl_workspace.specs.Names.{name_order, is_name_of}
+use Rattle.apl_workspace.specs.Names.{is_name_of}
 use Rattle.apl_workspace.specs.Sorted.{sorted}
 use Rattle.apl_workspace.specs.declared.meaning.Meaning.{Meaning}
 use Rattle.apl_workspace.proofs.Ascending.{Ascend, found, found_with, found_without, none_ascend, told_by_look_ups, with_ascends, without_ascends}

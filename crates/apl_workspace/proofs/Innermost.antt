@@ -50,7 +50,7 @@ behind_place frames at table lt e =
     let next : suc at ≡ at + 1 = omega arith in
     drop-cons frames at table lt ∙ ap (λ first. first ∷ drop (suc at) frames) (sym e) ∙ ap (λ (k : ℕ). table ∷ drop k frames) next
 
-none_from : (found : Option Meaning) → is_some found ≡ false → found ≡ None
+pub none_from : (found : Option Meaning) → is_some found ≡ false → found ≡ None
 none_from None e = refl
 none_from (Some meaning) e = absurd cc
 

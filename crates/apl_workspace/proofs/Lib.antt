@@ -6,11 +6,15 @@ pub mod Giving
 pub mod HeaderLaw
 pub mod InOrder
 pub mod Innermost
+pub mod Inside
 pub mod Labels
 pub mod Listed
 pub mod Locals
+pub mod Looks
 pub mod NameLaw
 pub mod Places
+pub mod Rules
 pub mod Symbols
 pub mod Tables
 pub mod Whole
+pub mod Without

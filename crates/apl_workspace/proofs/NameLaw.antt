@@ -1,12 +1,14 @@
 -- Names told apart, and names that differ.
 use Rattle.std.proofs.Common.{◌≡◌, ℕ, suc, ◌+◌, ◌<◌, Bool, true, false, cond, not, ◌&&◌, ◌||◌, List, [], ◌∷◌, ◌++◌, Ordering, length, take, drop, get_or, refl, sym, ap, ◌∙◌, subst, drop-cons}
-use Rattle.std.specs.List.{list_any}
-use Rattle.std.specs.Ordering.{nat_cmp, is_eq, eq_by_cmp}
+use Rattle.std.specs.Prelude.{filter}
+use Rattle.std.specs.List.{AllByRecursion, list_any}
+use Rattle.std.specs.List.Sorted.{IsStrictlySortedBy}
+use Rattle.std.specs.Ordering.{is_eq}
 use Rattle.std.specs.declared.cmp.Ordering.TheVariants.{Less, Equal, Greater}
-use Rattle.std.specs.Cmp.{IsEquivalence}
 use Rattle.std.proofs.lemmas.Cmp.{nat_list_cmp_total, tied_itself, eq_by_cmp_equiv}
+use Rattle.std.proofs.lemmas.Map.Keys.{sorted_head, sorted_tail}
 use Rattle.std.proofs.lemmas.Map.Lookups.{exact_bytes}
-use Rattle.std.proofs.lemmas.Bool.{false≢true}
+use Rattle.std.proofs.lemmas.Bool.{and_parts, false≢true, or_parts}
 use Rattle.std.proofs.lemmas.List.{take_more, take-append-drop}
 use Rattle.std.proofs.lemmas.List.Folds.{list_any-append}
 use Rattle.apl_workspace.specs.Names.{name_order, is_name_of, all_differ}
@@ -40,10 +42,6 @@ negated : (b : Bool) → b ≡ false → not b ≡ true
 negated true e = absurd (false≢true (sym e))
 negated false e = refl
 
-or_false : (a b : Bool) → a || b ≡ false → (a ≡ false) × (b ≡ false)
-or_false true b e = absurd (false≢true (sym e))
-or_false false b e = (refl, e)
-
 not_both : (a b : Bool) → a ≡ true → not a && b ≡ false
 not_both true b e = refl
 not_both false b e = absurd (false≢true e)
@@ -51,10 +49,6 @@ not_both false b e = absurd (false≢true e)
 second_fails : (a b : Bool) → b ≡ false → a && b ≡ false
 second_fails true b e = e
 second_fails false b e = refl
-
-both_parts : (a b : Bool) → a && b ≡ true → (a ≡ true) × (b ≡ true)
-both_parts true b e = (refl, e)
-both_parts false b e = absurd (false≢true e)
 
 both_hold : (a b : Bool) → a ≡ true → b ≡ true → a && b ≡ true
 both_hold true b e f = f
@@ -68,14 +62,14 @@ or_right false b e = e
 any_push : (test : List ℕ → Bool) (names : List (List ℕ)) (last : List ℕ) → list_any test names ≡ false → test last ≡ false → list_any test (names ++ last ∷ []) ≡ false
 any_push test [] last e f = ap (λ b. b || false) f
 any_push test (name ∷ names) last e f =
-    let parts = or_false (test name) (list_any test names) e in
+    let parts = or_parts (test name) (list_any test names) e in
     ap (λ b. b || list_any test (names ++ last ∷ [])) parts.0 ∙ any_push test names last parts.1 f
 
 any_behind : (test : List ℕ → Bool) (names : List (List ℕ)) (last : List ℕ) (more : List (List ℕ)) → test last ≡ true → list_any test (names ++ last ∷ more) ≡ true
 any_behind test [] last more f = ap (λ b. b || list_any test more) f
 any_behind test (name ∷ names) last more f = or_right (test name) (list_any test (names ++ last ∷ more)) (any_behind test names last more f)
 
-from_not : (b : Bool) → not b ≡ true → b ≡ false
+pub from_not : (b : Bool) → not b ≡ true → b ≡ false
 from_not true e = absurd (false≢true e)
 from_not false e = refl
 
@@ -84,8 +78,8 @@ pub differ_push : (names : List (List ℕ)) (last : List ℕ) → all_differ nam
 unfolding all_differ
 differ_push [] last e f = refl
 differ_push (name ∷ names) last e f =
-    let parts = both_parts (not (list_any (is_name_of name) names)) (all_differ names) e in
-    let apart = or_false (is_name_of last name) (list_any (is_name_of last) names) f in
+    let parts = and_parts (not (list_any (is_name_of name) names)) (all_differ names) e in
+    let apart = or_parts (is_name_of last name) (list_any (is_name_of last) names) f in
     let was : list_any (is_name_of name) names ≡ false = from_not (list_any (is_name_of name) names) parts.0 in
     both_hold (not (list_any (is_name_of name) (names ++ last ∷ []))) (all_differ (names ++ last ∷ []))
     (negated (list_any (is_name_of name) (names ++ last ∷ [])) (any_push (is_name_of name) names last was (name_flips name last ∙ apart.0)))
@@ -104,7 +98,7 @@ repeat_found (name ∷ names) last more e = repeat_by (is_name_of last name) (li
 
 -- ---- name after name
 
-here_too : (a b : Bool) → cond b true a ≡ (a || (b || false))
+pub here_too : (a b : Bool) → cond b true a ≡ (a || (b || false))
 here_too true true = refl
 here_too true false = refl
 here_too false true = refl
@@ -131,7 +125,7 @@ has_more names i name asked had now lt e is was =
 pub repeat_at : (names : List (List ℕ)) (i : ℕ) (name : List ℕ) → i < length names → name ≡ get_or names i name → list_any (is_name_of name) (take i names) ≡ true → false ≡ all_differ names
 repeat_at names i name lt e found = sym (ap all_differ (split_at names i name lt e) ∙ repeat_found (take i names) name (drop (suc i) names) found)
 
-none_differ : all_differ [] ≡ true
+pub none_differ : all_differ [] ≡ true
 unfolding all_differ
 none_differ = refl
 
@@ -147,3 +141,44 @@ was_there added false among e f g = absurd (false≢true (sym f ∙ e))
 pub was_new : (added has among : Bool) → added ≡ not has → added ≡ true → has ≡ among → among ≡ false
 was_new added true among e f g = absurd (false≢true (sym e ∙ f))
 was_new added false among e f g = sym g
+
+-- ---- names that are picked out
+
+-- the first of names that differ is none of the others
+pub first_differs : (name : List ℕ) (names : List (List ℕ)) → all_differ (name ∷ names) ≡ true → (list_any (is_name_of name) names ≡ false) × (all_differ names ≡ true)
+unfolding all_differ
+first_differs name names e =
+    let parts = and_parts (not (list_any (is_name_of name) names)) (all_differ names) e in
+    (from_not (list_any (is_name_of name) names) parts.0, parts.1)
+
+differ_cons : (name : List ℕ) (names : List (List ℕ)) → list_any (is_name_of name) names ≡ false → all_differ names ≡ true → all_differ (name ∷ names) ≡ true
+unfolding all_differ
+differ_cons name names apart differ = both_hold (not (list_any (is_name_of name) names)) (all_differ names) (negated (list_any (is_name_of name) names) apart) differ
+
+none_by : (p : List ℕ → Bool) (name other : List ℕ) (names : List (List ℕ)) (b : Bool) → is_name_of name other ≡ false → list_any (is_name_of name) (filter p names) ≡ false → list_any (is_name_of name) (cond b (other ∷ filter p names) (filter p names)) ≡ false
+none_by p name other names true apart later = ap (λ b. b || list_any (is_name_of name) (filter p names)) apart ∙ later
+none_by p name other names false apart later = later
+
+none_picked : (p : List ℕ → Bool) (name : List ℕ) (names : List (List ℕ)) → list_any (is_name_of name) names ≡ false → list_any (is_name_of name) (filter p names) ≡ false
+none_picked p name [] e = refl
+none_picked p name (other ∷ names) e =
+    let parts = or_parts (is_name_of name other) (list_any (is_name_of name) names) e in none_by p name other names (p other) parts.0 (none_picked p name names parts.1)
+
+picked_by : (p : List ℕ → Bool) (name : List ℕ) (names : List (List ℕ)) (b : Bool) → list_any (is_name_of name) (filter p names) ≡ false → all_differ (filter p names) ≡ true → all_differ (cond b (name ∷ filter p names) (filter p names)) ≡ true
+picked_by p name names true apart differ = differ_cons name (filter p names) apart differ
+picked_by p name names false apart differ = differ
+
+-- names that differ still do where some are left out
+pub differ_picked : (p : List ℕ → Bool) (names : List (List ℕ)) → all_differ names ≡ true → all_differ (filter p names) ≡ true
+differ_picked p [] e = none_differ
+differ_picked p (name ∷ names) e =
+    let parts = first_differs name names e in picked_by p name names (p name) (none_picked p name names parts.0) (differ_picked p names parts.1)
+
+none_above : (name : List ℕ) (names : List (List ℕ)) → AllByRecursion (λ other. name_order name other ≡ Less) names → list_any (is_name_of name) names ≡ false
+none_above name [] h = refl
+none_above name (other ∷ names) h = ap (λ b. b || list_any (is_name_of name) names) (ap is_eq h.0) ∙ none_above name names h.1
+
+-- names that ascend differ
+pub ascending_differ : (names : List (List ℕ)) → IsStrictlySortedBy name_order names → all_differ names ≡ true
+ascending_differ [] s = none_differ
+ascending_differ (name ∷ names) s = differ_cons name names (none_above name names (sorted_head name_order name names s)) (ascending_differ names (sorted_tail name_order name names s))

@@ -1,20 +1,18 @@
 -- Entries place by place.
-use Rattle.std.proofs.Common.{◌≡◌, ℕ, zero, suc, ◌+◌, ◌<◌, ◌≤◌, Bool, true, false, cond, List, [], ◌∷◌, ◌++◌, Some, length, drop, take, filter, refl, sym, ap, ◌∙◌, arith}
+use Rattle.std.proofs.Common.{◌≡◌, ℕ, zero, suc, ◌+◌, ◌<◌, Bool, true, false, cond, List, [], ◌∷◌, ◌++◌, Some, length, drop, take, filter, refl, sym, ap, ◌∙◌, arith}
 use Rattle.std.specs.Prelude.{slice_get, if◌then◌else◌}
 use Rattle.std.specs.Map.{keys_of}
-use Rattle.apl_workspace.specs.Meaning.{with_meaning}
-use Rattle.apl_workspace.specs.Sorted.{sorted}
 use Rattle.apl_workspace.specs.declared.meaning.Meaning.{Meaning}
 use Rattle.apl_workspace.proofs.InOrder.{Entries}
 
 -- a list cut at a place
-record IsCut {A : Type 0} (items : List A) (at : ℕ) : Type 0 where
-  item : A
-  here : slice_get items at ≡ Some item
-  behind : drop at items ≡ item ∷ drop (at + 1) items
-  before : take (at + 1) items ≡ take at items ++ item ∷ []
+pub record IsCut {A : Type 0} (items : List A) (at : ℕ) : Type 0 where
+  pub item : A
+  pub here : slice_get items at ≡ Some item
+  pub behind : drop at items ≡ item ∷ drop (at + 1) items
+  pub before : take (at + 1) items ≡ take at items ++ item ∷ []
 
-cut : {A : Type 0} (items : List A) (at : ℕ) → at < length items → IsCut items at
+pub cut : {A : Type 0} (items : List A) (at : ℕ) → at < length items → IsCut items at
 cut [] at lt = absurd (omega arith)
 cut (x ∷ xs) zero lt = record { item = x; here = refl; behind = refl; before = refl }
 cut (x ∷ xs) (suc at) lt =
@@ -26,13 +24,6 @@ cut (x ∷ xs) (suc at) lt =
       behind = later.behind ∙ ap (λ (k : ℕ). later.item ∷ drop k (x ∷ xs)) (sym next);
       before = ap (λ (k : ℕ). take k (x ∷ xs)) next ∙ ap (λ rest. x ∷ rest) later.before;
     }
-
--- an entry more was copied
-pub copied_on : (entries old new : Entries) (at left : ℕ) → at + 1 ≡ left → left ≤ length entries → ((entry : List ℕ × Meaning) → slice_get entries at ≡ Some entry → sorted new ≡ with_meaning (sorted old) entry.0 entry.1)
-    → sorted old ≡ sorted (drop left entries) → sorted new ≡ sorted (drop at entries)
-copied_on entries old new at left more lt put so =
-    let here = cut entries at (omega (arith, more, lt)) in
-    put here.item here.here ∙ ap (λ names. with_meaning names here.item.0 here.item.1) (so ∙ ap (λ (k : ℕ). sorted (drop k entries)) (sym more)) ∙ sym (ap sorted here.behind)
 
 filter_push : {A : Type 0} (test : A → Bool) (front : List A) (last : A) → filter test (front ++ last ∷ []) ≡ cond (test last) (filter test front ++ last ∷ []) (filter test front)
 filter_push test [] last = refl

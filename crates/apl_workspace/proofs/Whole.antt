@@ -1,5 +1,5 @@
 -- Functions that keep their limits.
-use Rattle.std.proofs.Common.{◌≡◌, ◌≤◌, ℕ, Bool, true, false, ◌&&◌, List, [], ◌∷◌, Some, All, length, map, ap, refl, arith}
+use Rattle.std.proofs.Common.{◌≡◌, ◌≤◌, ℕ, true, ◌&&◌, List, [], ◌∷◌, Some, length, map, ap, refl, arith}
 use Rattle.std.specs.Prelude.{nat_le}
 use Rattle.std.specs.List.{AllByRecursion, list_all}
 use Rattle.std.proofs.lemmas.Bool.{and_parts}
@@ -7,7 +7,7 @@ use Rattle.std.proofs.lemmas.Bool.Decides.{nat_tests}
 use Rattle.std.proofs.lemmas.List.Elements.{All-from_recursion}
 use Rattle.apl_arrays.specs.List.{Listed, glyphs_in}
 use Rattle.apl_arrays.specs.Limits.{most_line_glyphs}
-use Rattle.apl_workspace.specs.Function.{IsFunction, PlainFunction, function_with, is_short, keeps_limits}
+use Rattle.apl_workspace.specs.Function.{IsFunction, function_with, is_short, keeps_limits}
 use Rattle.apl_workspace.specs.Header.{PlainHeader, header_of}
 use Rattle.apl_workspace.specs.Limits.{most_function_lines}
 

@@ -1,25 +1,21 @@
 -- Frames of functions under way.
 use Rattle.std.specs.Prelude.{◌≡◌, ◌+◌, ◌++◌, ℕ, List, [], ◌∷◌, Option, Some, None, fold, is_some, if◌then◌else◌}
-use Rattle.std.specs.Option.{option_or, option_to_list}
+use Rattle.std.specs.List.{list_any}
+use Rattle.std.specs.Option.{option_to_list}
 use Rattle.apl_arrays.specs.Array.{PlainArray}
 use Rattle.apl_workspace.specs.Function.{PlainFunction}
 use Rattle.apl_workspace.specs.Header.{PlainHeader}
 use Rattle.apl_workspace.specs.Label.{label_of}
-use Rattle.apl_workspace.specs.Meaning.{Names, with_meaning}
+use Rattle.apl_workspace.specs.Meaning.{Names, meaning_of, with_meaning}
 use Rattle.apl_workspace.specs.Names.{is_name_of}
 use Rattle.apl_workspace.specs.declared.args.Args.{Args}
 use Rattle.apl_workspace.specs.declared.meaning.Meaning.{Meaning}
-use Rattle.apl_workspace.specs.declared.meaning.Meaning.TheVariants.{Nothing, Value, Label}
-
--- what stands for an argument that was handed in
-abbrev pub argument_meaning : Option PlainArray → Meaning
-argument_meaning None = Nothing
-argument_meaning (Some value) = Value value
+use Rattle.apl_workspace.specs.declared.meaning.Meaning.TheVariants.{Nothing, Label}
 
 -- the names with an argument, where the header has it
 abbrev pub with_argument : Names → Option (List ℕ) → Option PlainArray → Names
 with_argument names None value = names
-with_argument names (Some name) value = with_meaning names name (argument_meaning value)
+with_argument names (Some name) value = with_meaning names name (meaning_of value)
 
 -- the names with a local one, which has no value yet
 abbrev pub with_local_name : Names → List ℕ → Names
@@ -28,6 +24,17 @@ with_local_name names name = with_meaning names name Nothing
 -- the names of a header but the function's own: both arguments with their values, the result and the local ones without
 abbrev pub header_names : PlainHeader → Args → Names
 header_names header args = fold with_local_name (with_argument (with_argument [] header.left args.left) header.right args.right) (option_to_list header.result ++ header.locals)
+
+-- what an argument of this name stands for, or another name
+abbrev pub argument_or : Option (List ℕ) → Option PlainArray → List ℕ → Option Meaning → Option Meaning
+argument_or None value name other = other
+argument_or (Some argument) value name other = if is_name_of argument name then Some (meaning_of value) else other
+
+-- what a name of a header stands for as its function begins: the result and the local names for nothing yet, the arguments for their values
+abbrev pub header_meaning : PlainHeader → Args → List ℕ → Option Meaning
+header_meaning header args name =
+    if list_any (is_name_of name) (option_to_list header.result ++ header.locals) then Some Nothing
+    else argument_or header.right args.right name (argument_or header.left args.left name None)
 
 -- the names with a label that stands for a line, where that line has one
 abbrev pub with_label : Option (List ℕ) → ℕ → Names → Names

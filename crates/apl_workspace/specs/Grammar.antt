@@ -1,7 +1,6 @@
 -- The grammar of a header.
 use Rattle.std.specs.Prelude.{◌≡◌, ◌++◌, true, ℕ, List, [], ◌∷◌, Option, Some, None, IsSome, map}
 use Rattle.std.specs.List.{flat_map}
-use Rattle.std.specs.Option.{option_to_list}
 use Rattle.apl_arrays.specs.Glyph.{left_arrow, semicolon}
 use Rattle.line_scanner.specs.Token.{PlainKind, name, sign, PlainToken}
 use Rattle.line_scanner.specs.Grammar.{TokensNext}

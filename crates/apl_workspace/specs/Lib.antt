@@ -1,3 +1,4 @@
+pub mod Blanks
 pub mod Frame
 pub mod Function
 pub mod Grammar

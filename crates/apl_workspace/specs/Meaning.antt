@@ -1,5 +1,5 @@
 -- What names stand for, tables of names, and what they weigh.
-use Rattle.std.specs.Prelude.{◌≡◌, ◌<◌, ◌≤◌, ◌+◌, ℕ, Bool, true, false, List, [], ◌∷◌, Option, Some, None, IfSome, sum_by, unwrap_or}
+use Rattle.std.specs.Prelude.{◌≡◌, ◌<◌, ◌≤◌, ◌+◌, ℕ, Bool, true, false, List, Option, Some, None, IfSome, fold, sum_by, unwrap_or}
 use Rattle.std.specs.Option.{option_map}
 use Rattle.std.specs.Map.{keys_of, lookup, remove_entry, values_of}
 use Rattle.std.specs.List.Sorted.{IsStrictlySortedBy}
@@ -8,7 +8,7 @@ use Rattle.apl_arrays.specs.Array.{PlainArray, item_count}
 use Rattle.apl_arrays.specs.declared.report.Fail.{Fail}
 use Rattle.apl_arrays.specs.declared.report.Fail.TheVariants.{Report, WantOfMemory}
 use Rattle.apl_arrays.specs.declared.report.Report.TheVariants.{WsFull}
-use Rattle.apl_workspace.specs.Function.{IsFunction, PlainFunction, function_weight}
+use Rattle.apl_workspace.specs.Function.{IsFunction, function_weight}
 use Rattle.apl_workspace.specs.Limits.{most_weight}
 use Rattle.apl_workspace.specs.Names.{name_order, is_name_of}
 use Rattle.apl_workspace.specs.declared.meaning.Meaning.{Meaning}
@@ -67,6 +67,27 @@ IsWhole name (Function function) = IsFunction function × (function.header.name 
 IsWhole name (Label line) = Unit {0}
 IsWhole name (Shared copy) = Unit {0}
 
+-- what a name stands for that has this value, or none yet
+abbrev pub meaning_of : Option PlainArray → Meaning
+meaning_of None = Nothing
+meaning_of (Some value) = Value value
+
+-- a global name stands for a value, for a share, or for a function of that name that keeps its limits
+abbrev pub IsGlobal : List ℕ → Meaning → Type 0
+IsGlobal name Nothing = ⊥
+IsGlobal name (Value value) = Unit {0}
+IsGlobal name (Function function) = IsFunction function × (function.header.name ≡ name)
+IsGlobal name (Label line) = ⊥
+IsGlobal name (Shared copy) = Unit {0}
+
+-- a local name stands for a value, for a line, or for nothing yet
+abbrev pub IsLocal : Meaning → Type 0
+IsLocal Nothing = Unit {0}
+IsLocal (Value value) = Unit {0}
+IsLocal (Function function) = ⊥
+IsLocal (Label line) = Unit {0}
+IsLocal (Shared copy) = ⊥
+
 -- names in their order, each with what it stands for
 abbrev pub Names : Type 0
 Names = List (List ℕ × Meaning)
@@ -82,6 +103,10 @@ with_meaning names name meaning = insert_entry name_order names name meaning
 -- the table without a name; all other names stay
 abbrev pub without_name : Names → List ℕ → Names
 without_name names name = remove_entry (is_name_of name) names
+
+-- the table without these names; all other names stay
+abbrev pub without_names : Names → List (List ℕ) → Names
+without_names names gone = fold without_name names gone
 
 -- a name has this value, or is not there
 abbrev pub with_value : Names → List ℕ → Option PlainArray → Names

@@ -1,6 +1,8 @@
 -- Workspaces as plain data, what their names stand for, and what each call leaves.
-use Rattle.std.specs.Prelude.{◌≡◌, ◌≤◌, ◌<◌, ◌+◌, ◌++◌, ◌==◌, ◌||◌, ◌⊎◌, ℕ, Bool, true, false, not, List, [], ◌∷◌, Option, Some, None, IsTrue, length, filter, drop, is_some, nat_le, reverse, sum_by, unwrap_or, if◌then◌else◌}
+use Rattle.std.specs.Prelude.{◌≡◌, ◌≤◌, ◌<◌, ◌+◌, ◌++◌, ◌==◌, ◌&&◌, ◌||◌, ◌⊎◌, ℕ, Bool, true, false, not, List, [], ◌∷◌, Option, Some, None, All, IfSome, length, filter, drop, is_some, map, nat_le, nat_lt, reverse, sum_by, unwrap_or, if◌then◌else◌}
 use Rattle.std.specs.Bool.{MatchBool}
+use Rattle.std.specs.List.Sorted.{IsStrictlySortedBy}
+use Rattle.std.specs.Map.{keys_of, values_of}
 use Rattle.std.specs.Option.{option_or}
 use Rattle.apl_arrays.specs.Array.{PlainArray}
 use Rattle.apl_arrays.specs.Limits.{most_offers}
@@ -10,8 +12,8 @@ use Rattle.apl_arrays.specs.declared.report.Fail.TheVariants.{Report, WantOfMemo
 use Rattle.apl_arrays.specs.declared.report.Report.TheVariants.{Syntax, WsFull}
 use Rattle.apl_workspace.specs.Frame.{AreArgumentsOf, frame_of}
 use Rattle.apl_workspace.specs.Limits.{most_weight, most_depth, most_printed}
-use Rattle.apl_workspace.specs.Meaning.{Names, is_shared_in, meaning_in, own_copy_in, table_weight, with_meaning, with_value, without_name}
-use Rattle.apl_workspace.specs.Names.{is_name_of}
+use Rattle.apl_workspace.specs.Meaning.{IsGlobal, IsLocal, Names, is_shared_in, meaning_in, own_copy_in, table_weight, with_meaning, with_value, without_name, without_names}
+use Rattle.apl_workspace.specs.Names.{all_differ, is_name_of, name_order}
 use Rattle.apl_workspace.specs.declared.args.Args.{Args}
 use Rattle.apl_workspace.specs.declared.meaning.Meaning.{Meaning}
 use Rattle.apl_workspace.specs.declared.meaning.Meaning.TheVariants.{Nothing, Value, Function, Label, Shared}
@@ -55,17 +57,29 @@ is_local w name = is_some (innermost w.frames name)
 abbrev pub is_shared : PlainWorkspace → List ℕ → Bool
 is_shared w name = is_shared_in w.globals name
 
+-- a global name is this one, and no frame hides it
+abbrev pub is_unhidden : PlainWorkspace → List ℕ → List ℕ → Bool
+is_unhidden w name other = is_name_of name other && not (is_local w other)
+
 -- the workspace with a global name that stands for this
 abbrev pub with_global : PlainWorkspace → List ℕ → Meaning → PlainWorkspace
 with_global w name meaning = record w { globals = with_meaning w.globals name meaning }
+
+-- whom an offer may be made to: to any, to an auxiliary, or to a user
+abbrev pub is_addressee : ℕ → Bool
+is_addressee to = to == 0 || to == clock_party || to == text_party || is_user_number to
 
 -- the offer is of another name
 abbrev pub is_of_another : List ℕ → Remake → Bool
 is_of_another name offer = not (is_name_of name offer.local)
 
--- the offers with one more at the end, where the name was not shared yet and fewer than 64 are listed
+-- an offer of the name is listed: the name is not shared yet, and fewer than 64 offers are listed
+abbrev pub takes_offer : PlainWorkspace → List ℕ → Bool
+takes_offer w name = not (is_shared w name) && nat_lt (length w.offers) most_offers
+
+-- the offers with one more at the end, where it is listed
 abbrev pub offers_with : PlainWorkspace → Remake → List Remake
-offers_with w offer = if is_shared w offer.local || nat_le most_offers (length w.offers) then w.offers else w.offers ++ offer ∷ []
+offers_with w offer = if takes_offer w offer.local then w.offers ++ offer ∷ [] else w.offers
 
 -- a name is shared, with its own copy of the value, and its offer is listed
 abbrev pub marked : PlainWorkspace → Remake → Option PlainArray → PlainWorkspace
@@ -86,7 +100,7 @@ abbrev pub in_innermost : List Names → List ℕ → Meaning → List Names
 in_innermost [] name meaning = []
 in_innermost (table ∷ tables) name meaning = if is_some (meaning_in table name) then with_meaning table name meaning ∷ tables else table ∷ in_innermost tables name meaning
 
--- a name stands for this: in the innermost frame that has the name, else globally
+-- a name stands for this where a look-up finds the name: in a frame, or as a global
 abbrev pub given : PlainWorkspace → List ℕ → Meaning → PlainWorkspace
 given w name meaning =
     if is_local w name then record w { frames = in_innermost w.frames name meaning }
@@ -100,13 +114,31 @@ assigned w name value = given w name (Value value)
 abbrev pub with_printed : PlainWorkspace → ℕ → PlainWorkspace
 with_printed w glyphs = record w { printed = w.printed + glyphs }
 
--- what holds of every workspace: so much do its frames weigh, and it keeps within its limits
-pub record IsWorkspace (frames_weight : ℕ) (w : PlainWorkspace) : Type 0 where
-  pub counted : frames_weight ≡ sum_by table_weight w.frames
+-- the local names of offers
+abbrev pub names_offered : List Remake → List (List ℕ)
+names_offered offers = map (λ offer. offer.local) offers
+
+-- offers that may be listed beside these global names: not too many, no name twice, each of a shared name, and to whom one may offer
+pub record AreOffers (globals : Names) (offers : List Remake) : Type 0 where
+  pub count : length offers ≤ most_offers
+  pub differ : all_differ (names_offered offers) ≡ true
+  pub shared : All (λ offer. is_shared_in globals offer.local ≡ true) offers
+  pub addressees : All (λ offer. is_addressee offer.to ≡ true) offers
+
+-- what holds of every workspace: global names ascend and stand for values, functions and shares, local ones for none but values and lines, the listed offers are in order, and all limits are kept
+pub record IsWorkspace (w : PlainWorkspace) : Type 0 where
+  pub ascending : IsStrictlySortedBy name_order (keys_of w.globals)
+  pub globals : (name : List ℕ) → IfSome (meaning_in w.globals name) (IsGlobal name)
+  pub locals : All (λ frame. All IsLocal (values_of frame)) w.frames
+  pub offers : AreOffers w.globals w.offers
   pub weight : workspace_weight w ≤ most_weight
   pub depth : length w.frames ≤ most_depth
-  pub offers : length w.offers ≤ most_offers
   pub printed : w.printed ≤ most_printed
+
+-- what a workspace keeps beside: the weight of its frames
+pub record IsInside (frames_weight : ℕ) (w : PlainWorkspace) : Type 0 where
+  pub counted : frames_weight ≡ sum_by table_weight w.frames
+  pub rules : IsWorkspace w
 
 -- a value may be assigned to what a name stands for: to no function and no label
 abbrev pub is_assignable : Meaning → Bool
@@ -125,13 +157,13 @@ IsFull w WantOfMemory = Unit {0}
 abbrev pub global_in : PlainWorkspace → List ℕ → Meaning
 global_in w name = unwrap_or (meaning_in w.globals name) Nothing
 
+-- the workspace without these global names
+abbrev pub without_globals : PlainWorkspace → List (List ℕ) → PlainWorkspace
+without_globals w names = record w { globals = without_names w.globals names }
+
 -- the workspace without a global name
 abbrev pub without_global : PlainWorkspace → List ℕ → PlainWorkspace
 without_global w name = record w { globals = without_name w.globals name }
-
--- whom an offer may be made to: to any, to an auxiliary, or to a user
-abbrev pub is_addressee : ℕ → Bool
-is_addressee to = to == 0 || to == clock_party || to == text_party || is_user_number to
 
 -- why an assignment was refused: the name is a label or a function, else the workspace would weigh more than it may, or memory ran out
 abbrev pub IsNotAssigned : Bool → PlainWorkspace → Fail → Type 0

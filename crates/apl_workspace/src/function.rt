@@ -5,8 +5,8 @@ ghost use Rattle.apl_workspace.specs.Function.{IsFunction, function_of, function
 ghost use Rattle.apl_workspace.specs.Limits.{most_weight};
 
 use crate::Header;
-use crate::limits::{FUNCTION_LINE_LIMIT, LINE_GLYPH_LIMIT, WEIGHT_LIMIT};
-use apl_arrays::{Line, LineList, Name, WantOfMemory};
+use crate::limits::{FUNCTION_LINE_LIMIT, WEIGHT_LIMIT};
+use apl_arrays::{LINE_GLYPH_LIMIT, Line, LineList, Name, WantOfMemory};
 use std::alloc::Global;
 use std::marker::Model;
 

@@ -32,9 +32,9 @@ impl Model for Header {
 }
 
 impl Header {
-    /// The header that a line is, or `None` where it is none. A header is `F`, `F B`, `A F B`, or one of these behind
-    /// `R←`, and then a semicolon and a local name any number of times. All its names differ, and it has no comment.
-    /// It takes memory for tokens and names.
+    /// The header that a line is, or `None` where it is none. The function's name stands alone, before an argument or
+    /// between two; a result and `←` may come first, and local names, each behind a semicolon, last. No name comes
+    /// twice, and no comment is there. It takes memory for tokens and names.
     #[tactic(auto, unfolding(crate::specs::Header::header_of))]
     pub fn read(alloc: Global, line: &Line) -> Result<Option<Header>, WantOfMemory>
         ensures { IfOk result (λ header. header ≡ header_of line.now.items) }

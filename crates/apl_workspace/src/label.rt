@@ -1,27 +1,22 @@
 ghost use Rattle.std.specs.Prelude.{◌≡◌, ◌↔◌, ℕ, List, Some};
 ghost use Rattle.apl_arrays.specs.Run.{begins};
-ghost use Rattle.apl_workspace.specs.Label.{HasLabel, behind_blanks, is_colon, label_in, label_of};
+ghost use Rattle.apl_workspace.specs.Label.{HasLabel, is_colon, label_in, label_of};
 
-use apl_arrays::{Glyph, Name, blank_count};
+use crate::blanks::without_blanks;
+use apl_arrays::{Glyph, Name};
 
 /// The label of a line: the name with which it begins behind blanks, where a colon follows it behind blanks. What stands
 /// behind the colon may be anything. No memory.
 pub fn label_of(line: &[Glyph]) -> Option<Name>
     ensures { result ≡ label_of line.now }
 {
-    let line = behind_blanks(line);
+    let line = without_blanks(line);
     let (label, count) = Name::longest(line)?;
-    if begins_with_colon(behind_blanks(&line[count..])) {
+    if begins_with_colon(without_blanks(&line[count..])) {
         Some(label)
     } else {
         None
     }
-}
-
-fn behind_blanks(glyphs: &[Glyph]) -> &[Glyph]
-    ensures { result.now ≡ behind_blanks glyphs.now }
-{
-    &glyphs[blank_count(glyphs)..]
 }
 
 fn begins_with_colon(glyphs: &[Glyph]) -> bool

@@ -2,6 +2,8 @@
 #![tactic(auto)]
 
 mod args;
+mod blanks;
+pub mod call_laws;
 mod frame;
 mod frames;
 mod function;
@@ -19,12 +21,14 @@ mod what;
 mod workspace;
 
 pub use args::Args;
+pub use blanks::without_blanks;
 pub use frame::labels_hide_names;
 pub use function::Function;
 pub use header::Header;
 pub use label::{label_of, labels_stand_before_colons};
 pub use limits::{
-    DEPTH_LIMIT, FUNCTION_LINE_LIMIT, LINE_GLYPH_LIMIT, OFFER_LIMIT, PRINTED_LIMIT, WEIGHT_LIMIT,
+    DEPTH_LIMIT, FUNCTION_LINE_LIMIT, OFFER_LIMIT, PRINTED_LIMIT, WEIGHT_LIMIT,
+    limits_are_as_defined,
 };
 pub use meaning::Meaning;
 pub use remake::{Remake, RemakeList};
@@ -32,6 +36,3 @@ pub use seen::Seen;
 pub use table::Table;
 pub use what::What;
 pub use workspace::Workspace;
-
-#[cfg(test)]
-mod tests;

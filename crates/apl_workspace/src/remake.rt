@@ -1,6 +1,6 @@
 use apl_arrays::{List, Name};
 
-/// An offer to be made again: the local name, the surrogate, and the party that it is made to, or 0 for any.
+/// An offer to be made again: its name here, its name for others, and for whom it is (0: for any).
 #[derive(Clone, Copy, Debug, PartialEq, Eq, Hash)]
 pub struct Remake {
     pub local: Name,
@@ -8,5 +8,5 @@ pub struct Remake {
     pub to: u32,
 }
 
-/// Offers in the order in which they were made.
+/// Offers, the oldest first.
 pub type RemakeList = List<Remake>;

@@ -10,6 +10,8 @@ ghost use Rattle.apl_workspace.specs.Listing.{is_wanted, names_among};
 ghost use Rattle.apl_workspace.specs.Meaning.{IsFullFor, IsWhole, copy_of, is_shared_in, meaning_in, meaning_weight, own_copy_in, table_weight, weight_in, with_meaning, with_value, without_name};
 ghost use Rattle.apl_workspace.specs.Sorted.{sorted};
 
+mod copying;
+
 use crate::limits::WEIGHT_LIMIT;
 use crate::{Meaning, What};
 use apl_arrays::{Array, Fail, List, Name, NameList, Report, WantOfMemory};
@@ -224,16 +226,6 @@ impl Table {
         Ok(List::from(names))
     }
 
-    /// An equal table. It takes memory for all that it holds.
-    pub fn copy(&self, alloc: Global) -> Result<Table, WantOfMemory>
-        ensures { IfOk result (λ table. table ≡ self.now) }
-    {
-        Ok(Table {
-            names: copy_of(alloc, &self.names)?,
-            weight: self.weight,
-        })
-    }
-
     #[tactic(auto, using(crate::proofs::InOrder::looked_up, crate::proofs::Tables::weight_without))]
     fn weight_at(&self, name: &Name) -> usize
         ensures value { result ≡ weight_in self.now name.now }
@@ -273,42 +265,6 @@ fn own_copy(meaning: Option<Meaning>) -> Option<Array>
     match meaning {
         Some(Meaning::Shared(copy)) => copy,
         _ => None,
-    }
-}
-
-/// Equal names, each with an equal meaning.
-#[tactic(auto, using(crate::proofs::Places::copied_on))]
-fn copy_of(
-    alloc: Global,
-    names: &IndexMap<Name, Meaning>,
-) -> Result<IndexMap<Name, Meaning>, WantOfMemory>
-    ensures { IfOk result (λ copy. sorted copy.entries ≡ sorted names.now.entries) }
-{
-    let mut copy = IndexMap::new(alloc);
-    let mut at = names.len();
-    while at > 0 {
-        at -= 1;
-        copy_entry(alloc, names, at, &mut copy)?;
-    }
-    Ok(copy)
-}
-
-/// Puts a copy of the entry at a place in.
-fn copy_entry(
-    alloc: Global,
-    names: &IndexMap<Name, Meaning>,
-    at: usize,
-    copy: &mut IndexMap<Name, Meaning>,
-) -> Result<(), WantOfMemory>
-    requires { at < length names.now.entries }
-    ensures { OnOk result ((entry : ListOf ℕ × Meaning) → slice_get names.now.entries at ≡ Some entry → sorted copy.new.entries ≡ with_meaning (sorted copy.old.entries) entry.0 entry.1) }
-{
-    match names.get_index(at) {
-        None => unreachable!(),
-        Some((name, meaning)) => {
-            discard_old(put_in(copy, *name, meaning.copy(alloc)?)?);
-            Ok(())
-        }
     }
 }
 

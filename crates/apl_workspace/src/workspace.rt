@@ -1,11 +1,9 @@
-ghost use Rattle.std.specs.Prelude.{◌≡◌, ◌≤◌, ◌+◌, [], IfOk, length};
-ghost use Rattle.std.specs.List.Sorted.{IsStrictlySortedBy};
-ghost use Rattle.apl_workspace.specs.Limits.{most_printed, most_weight};
+ghost use Rattle.std.specs.Prelude.{◌≡◌, ◌≤◌, ◌+◌, [], false, All, IfOk, length};
+ghost use Rattle.apl_workspace.specs.Limits.{most_depth, most_printed, most_weight};
 ghost use Rattle.apl_workspace.specs.Listing.{all_names, names_asked};
-ghost use Rattle.apl_workspace.specs.Names.{name_order};
 ghost use Rattle.apl_workspace.specs.Seen.{plain_seen};
 ghost use Rattle.apl_workspace.specs.Meaning.{IsWhole, is_shared_meaning};
-ghost use Rattle.apl_workspace.specs.Workspace.{empty_workspace, global_in, is_local, is_shared, look, with_printed, workspace_weight};
+ghost use Rattle.apl_workspace.specs.Workspace.{IsWorkspace, empty_workspace, global_in, is_local, is_shared, look, with_printed, without_globals, workspace_weight};
 
 mod calls;
 mod changes;
@@ -31,13 +29,13 @@ pub struct Workspace {
 
 impl Model for Workspace {
     ghost use Rattle.std.specs.Prelude.{reverse};
-    ghost use Rattle.apl_workspace.specs.Workspace.{PlainWorkspace, IsWorkspace};
+    ghost use Rattle.apl_workspace.specs.Workspace.{PlainWorkspace, IsInside};
 
     ghost Value = { PlainWorkspace };
 
     ghost view = { λ w. record { globals = w.globals; frames = reverse w.frames.items; offers = w.offers.items; printed = w.printed } };
 
-    ghost invariant = { λ w. IsWorkspace w.frames_weight (record { globals = w.globals; frames = reverse w.frames.items; offers = w.offers.items; printed = w.printed }) };
+    ghost invariant = { λ w. IsInside w.frames_weight (record { globals = w.globals; frames = reverse w.frames.items; offers = w.offers.items; printed = w.printed }) };
 }
 
 impl Workspace {
@@ -69,7 +67,7 @@ impl Workspace {
         }
     }
 
-    /// Whether some frame has the name, with or without a value. No memory.
+    /// Whether the name is one of a frame's, be there a value or none. No memory.
     pub fn is_local(&self, name: &Name) -> bool
         ensures { result ≡ is_local self.now name.now }
     {
@@ -102,9 +100,10 @@ impl Workspace {
         self.printed += glyphs;
     }
 
-    /// The offers that are listed, in the order in which they were made. It takes memory for them.
+    /// The offers that are listed, the oldest first. It takes memory for them.
     pub fn remakes(&self) -> Result<RemakeList, WantOfMemory>
-        ensures { IfOk result (λ offers. offers.items ≡ self.now.offers) }
+        ensures value { IfOk result (λ offers. offers.items ≡ self.now.offers) }
+        ensures rules { IsWorkspace self.now }
     {
         Ok(List::from(Vec::from_slice(self.alloc, &self.offers)?))
     }
@@ -122,30 +121,33 @@ impl Workspace {
 
     /// The global names that stand for what is asked, ascending. It takes memory for them.
     pub fn names(&self, what: What) -> Result<NameList, WantOfMemory>
-        ensures { IfOk result (λ names. names.items ≡ names_asked what self.now) }
+        ensures value { IfOk result (λ names. names.items ≡ names_asked what self.now) }
+        ensures rules { IsWorkspace self.now }
     {
         self.globals.names_among(self.alloc, what)
     }
 
     /// All global names, ascending. It takes memory for them.
     pub fn all_names(&self) -> Result<NameList, WantOfMemory>
-        ensures { IfOk result (λ names. names.items ≡ all_names self.now) }
+        ensures value { IfOk result (λ names. names.items ≡ all_names self.now) }
+        ensures rules { IsWorkspace self.now }
     {
         self.globals.all_names(self.alloc)
     }
 
-    /// What it weighs: the global names and all frames. The global names ascend, each once. No memory.
+    /// What it weighs: the global names and all frames. No memory.
     pub fn weight(&self) -> usize
         ensures value { result ≡ workspace_weight self.now }
         ensures within { result ≤ most_weight }
-        ensures ascending { IsStrictlySortedBy name_order (all_names self.now) }
+        ensures rules { IsWorkspace self.now }
     {
         self.globals.weight() + self.frames_weight
     }
 
     /// How many functions are under way. No memory.
     pub fn depth(&self) -> usize
-        ensures { result ≡ length self.now.frames }
+        ensures value { result ≡ length self.now.frames }
+        ensures within { result ≤ most_depth }
     {
         self.frames.len()
     }
@@ -155,9 +157,20 @@ impl Workspace {
         requires { self.now.frames ≡ [] }
         ensures { IfOk result (λ workspace. workspace ≡ self.now) }
     {
+        self.copy_without(&[])
+    }
+
+    /// A workspace that is equal but for these global names, which it lacks. It takes memory for them and for all that
+    /// stays.
+    pub fn copy_without(&self, names: &[Name]) -> Result<Workspace, WantOfMemory>
+        requires frames { self.now.frames ≡ [] }
+        requires unshared { All (λ name. is_shared self.now name ≡ false) names.now }
+        ensures value { IfOk result (λ workspace. workspace ≡ without_globals self.now names.now) }
+        ensures rules { IsWorkspace self.now }
+    {
         Ok(Workspace {
             alloc: self.alloc,
-            globals: self.globals.copy(self.alloc)?,
+            globals: self.globals.copy_without(self.alloc, names)?,
             frames: Vec::new(self.alloc),
             frames_weight: 0,
             offers: Vec::from_slice(self.alloc, &self.offers)?,

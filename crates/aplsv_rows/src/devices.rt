@@ -1,6 +1,7 @@
-use crate::case::{Case, Device, Wanted, difference_of};
-use crate::ending::{code_of, told_of};
+use crate::case::{Case, Device};
+use crate::ending::ending_of;
 use crate::files::StoredCase;
+use crate::run::run;
 use anyhow::{Context, Result, bail};
 use case_tables::Trial;
 use std::alloc::Global;
@@ -21,7 +22,7 @@ fn devices_of(words: &str) -> Option<(Device, Device, usize)> {
     Some((device_of(source)?, device_of(sink)?, room.parse().ok()?))
 }
 
-/// Stored cases over devices that give and take pieces, fail or are full: the case, the devices, the ending, and how many
+/// Stored cases over devices that give and take pieces, fail or are full: the case, and the devices; the ending, and how many
 /// bytes of the output are written.
 #[derive(Clone, Copy)]
 pub struct Devices<'a> {
@@ -38,33 +39,29 @@ fn case_over<'a>(stored: &'a StoredCase, devices: &str) -> Option<Case<'a>> {
     })
 }
 
-fn device_difference(
-    rt: &HostRuntime,
-    name: &str,
-    devices: &str,
-    ending: &str,
-    kept: &str,
-) -> Result<Option<String>> {
-    let stored = StoredCase::read(rt, name)?;
-    let case = case_over(&stored, devices).context("no devices")?;
-    let kept: usize = kept.parse().context("no number of bytes")?;
-    let told = told_of(rt.alloc(), ending)?;
-    let output = stored.wanted()?.written;
-    let wanted = Wanted {
-        code: code_of(ending),
-        told: told.as_str(),
-        written: output.get(..kept).context("fewer bytes in the output")?,
-    };
-    difference_of(rt.alloc(), &case, &wanted)
+// How many bytes are written of an output.
+fn written_text(alloc: Global, output: &[u8], written: &[u8]) -> Result<String> {
+    let count = written.len();
+    Ok(if output.get(..count) == Some(written) {
+        format!(in alloc; "{count}")?
+    } else {
+        String::from_str(alloc, "another output")?
+    })
 }
 
 impl Trial for Devices<'_> {
-    fn difference(&self, _alloc: Global, fields: &[&str]) -> Result<Option<String>> {
-        match fields {
-            [name, devices, ending, kept] => {
-                device_difference(self.rt, *name, *devices, *ending, *kept)
-            }
-            _ => bail!("a case, devices, an ending and a number of bytes are wanted"),
-        }
+    fn given(&self) -> usize {
+        2
+    }
+
+    fn found(&self, alloc: Global, fields: &[&str]) -> Result<String> {
+        let [name, devices, ..] = fields else {
+            bail!("a case and devices are wanted");
+        };
+        let stored = StoredCase::read(self.rt, *name)?;
+        let ended = run(alloc, &case_over(&stored, *devices).context("no devices")?)?;
+        let ending = ending_of(alloc, &ended)?;
+        let written = written_text(alloc, stored.wanted()?.written, &ended.written)?;
+        Ok(format!(in alloc; "{ending} ¦ {written}")?)
     }
 }

@@ -1,4 +1,5 @@
-use anyhow::Result;
+use crate::run::Ended;
+use anyhow::{Context, Result};
 use aplsv_top::Status;
 use std::alloc::{AllocError, Global};
 
@@ -15,8 +16,23 @@ pub fn code_of(ending: &str) -> u8 {
     }
 }
 
-/// The text on standard error of an ending; none where all is done.
-pub fn told_of(alloc: Global, ending: &str) -> Result<String, AllocError> {
+/// The ending of a run, or its status and what it told where these two do not belong together.
+pub fn ending_of(alloc: Global, ended: &Ended) -> Result<String> {
+    let (code, told) = (ended.code, ended.told.as_str());
+    let ending = if told.is_empty() {
+        "done"
+    } else {
+        told.strip_prefix("aplsv: ")
+            .context("the program is not named")?
+    };
+    if code_of(ending) != code {
+        return Ok(format!(in alloc; "status {code} `{told}`")?);
+    }
+    Ok(String::from_str(alloc, ending)?)
+}
+
+// The text on standard error of an ending; none where all is done.
+fn told_of(alloc: Global, ending: &str) -> Result<String, AllocError> {
     if ending == "done" {
         return Ok(String::new(alloc));
     }

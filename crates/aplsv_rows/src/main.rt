@@ -11,7 +11,7 @@ mod run;
 mod trials;
 
 use anyhow::Result;
-use case_tables::{Tally, run_table};
+use case_tables::{Tally, conclude, run_table};
 use devices::Devices;
 use ending::memory_differs;
 use folders::each_bundle;
@@ -31,12 +31,5 @@ fn all_cases(rt: &HostRuntime) -> Result<Tally> {
 }
 
 fn main(rt: HostRuntime) -> Result<ExitCode> {
-    let tally = all_cases(&rt)?;
-    let Tally { cases, differing } = tally;
-    println!(rt; "{cases} cases, of which {differing} differ")?;
-    Ok(if tally.agrees() {
-        ExitCode::SUCCESS
-    } else {
-        ExitCode::FAILURE
-    })
+    conclude(&rt, all_cases(&rt)?)
 }

@@ -1,6 +1,7 @@
-use crate::case::{Wanted, difference_of, sound_case};
-use crate::ending::{code_of, told_of};
-use anyhow::{Result, bail};
+use crate::case::sound_case;
+use crate::ending::ending_of;
+use crate::run::{Ended, run};
+use anyhow::{Context, Result};
 use case_tables::{Trial, bytes_of};
 use std::alloc::Global;
 use std::str;
@@ -8,66 +9,62 @@ use std::str;
 /// The words of a run of a bundle.
 pub const REPLAY: &str = "--replay";
 
-/// Bytes that are refused: the input, and the ending. Nothing is written.
+/// Bytes that are refused: the input; the ending. Nothing is written.
 #[derive(Clone, Copy, Debug)]
 pub struct Refusals;
 
-/// Bundles: the input, and the output.
+/// Bundles: the input; the output.
 #[derive(Clone, Copy, Debug)]
 pub struct Texts;
 
-/// Words that have no meaning: the words, and the ending. Nothing is read or written.
+/// Words that have no meaning: the words; the ending. Nothing is read or written.
 #[derive(Clone, Copy, Debug)]
 pub struct Words;
 
-// Nothing is written, and the ending is told.
-fn refusal(alloc: Global, words: &str, input: &[u8], ending: &str) -> Result<Option<String>> {
-    let told = told_of(alloc, ending)?;
-    let wanted = Wanted {
-        code: code_of(ending),
-        told: told.as_str(),
-        written: &[],
-    };
-    difference_of(alloc, &sound_case(words, input), &wanted)
+// The ending of a run that is to write nothing.
+fn refusal_text(alloc: Global, ended: &Ended) -> Result<String> {
+    let ending = ending_of(alloc, ended)?;
+    if ended.written.is_empty() {
+        return Ok(ending);
+    }
+    Ok(format!(in alloc; "{ending}, with output")?)
 }
 
 impl Trial for Refusals {
-    fn difference(&self, alloc: Global, fields: &[&str]) -> Result<Option<String>> {
-        match fields {
-            [input, ending] => refusal(alloc, REPLAY, &bytes_of(alloc, *input)?, *ending),
-            _ => bail!("an input and an ending are wanted"),
-        }
+    fn given(&self) -> usize {
+        1
+    }
+
+    fn found(&self, alloc: Global, fields: &[&str]) -> Result<String> {
+        let input = bytes_of(alloc, *fields.first().context("an input is wanted")?)?;
+        refusal_text(alloc, &run(alloc, &sound_case(REPLAY, &input))?)
     }
 }
 
 impl Trial for Words {
-    fn difference(&self, alloc: Global, fields: &[&str]) -> Result<Option<String>> {
-        match fields {
-            [words, ending] => {
-                let words = bytes_of(alloc, *words)?;
-                refusal(alloc, str::from_utf8(&words)?, b"end\n", *ending)
-            }
-            _ => bail!("words and an ending are wanted"),
-        }
+    fn given(&self) -> usize {
+        1
+    }
+
+    fn found(&self, alloc: Global, fields: &[&str]) -> Result<String> {
+        let words = bytes_of(alloc, *fields.first().context("words are wanted")?)?;
+        let case = sound_case(str::from_utf8(&words)?, b"end\n");
+        refusal_text(alloc, &run(alloc, &case)?)
     }
 }
 
-fn text_difference(alloc: Global, input: &str, output: &str) -> Result<Option<String>> {
-    let input = bytes_of(alloc, input)?;
-    let output = bytes_of(alloc, output)?;
-    let wanted = Wanted {
-        code: 0,
-        told: "",
-        written: &output,
-    };
-    difference_of(alloc, &sound_case(REPLAY, &input), &wanted)
-}
-
 impl Trial for Texts {
-    fn difference(&self, alloc: Global, fields: &[&str]) -> Result<Option<String>> {
-        match fields {
-            [input, output] => text_difference(alloc, *input, *output),
-            _ => bail!("an input and an output are wanted"),
+    fn given(&self) -> usize {
+        1
+    }
+
+    fn found(&self, alloc: Global, fields: &[&str]) -> Result<String> {
+        let input = bytes_of(alloc, *fields.first().context("an input is wanted")?)?;
+        let ended = run(alloc, &sound_case(REPLAY, &input))?;
+        let ending = ending_of(alloc, &ended)?;
+        if ending.as_str() != "done" {
+            return Ok(ending);
         }
+        Ok(String::from_str(alloc, str::from_utf8(&ended.written)?)?)
     }
 }

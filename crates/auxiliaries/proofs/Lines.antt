@@ -1,36 +1,32 @@
 -- The lines of a file, one after another.
-use Rattle.std.proofs.Common.{◌≡◌, ◌∙◌, ◌+◌, ◌<◌, ◌≤◌, ℕ, suc, List, [], ◌∷◌, ◌++◌, Bool, true, false, cond, not, eqb, length, take, drop, refl, sym, ap, subst, map, arith, append-nil, ◌-◌, zero, Some, None, ltb, All, get_or, take_all, length-drop}
-use Rattle.std.specs.List.{AllZip, position, position_or_len}
-use Rattle.std.specs.Option.{unwrap_or}
-use Rattle.std.proofs.lemmas.List.{drop_all}
-use Rattle.std.proofs.lemmas.Bool.{ltb-false}
+use Rattle.std.proofs.Common.{◌≡◌, ◌≢◌, ◌∙◌, ⊎_elim, ◌+◌, ◌<◌, ◌≤◌, ℕ, suc, List, [], ◌∷◌, ◌++◌, Bool, true, false, cond, not, eqb, length, take, drop, refl, sym, ap, subst, map, arith, append-nil, ◌-◌, zero, Some, None, ltb, All, get_or, take_all, length-drop}
+use Rattle.std.specs.List.{AllZip}
+use Rattle.std.proofs.lemmas.Bool.Decides.{eqb_tells}
+use Rattle.std.proofs.lemmas.List.Elements.{All-head, All-tail}
 use Rattle.apl_arrays.specs.Glyph.{Spells}
 use Rattle.apl_arrays.specs.List.{Listed, glyphs_in}
+use Rattle.line_text.specs.Lines.{line_feed, HasNoFeed}
 use Rattle.auxiliaries.specs.File.{lines_in, with_byte, IsFileLine, IsText, IsNoText, most_file_bytes, most_file_line_glyphs}
 
--- where the first line feed stands, or the length
-abbrev pub feed : List ℕ → ℕ
-feed bytes = position_or_len (λ byte. eqb byte 10) bytes
+-- a byte that is no line feed goes on with its line
+goes_on : (byte : ℕ) (bytes : List ℕ) → byte ≢ line_feed → lines_in (byte ∷ bytes) ≡ with_byte byte (lines_in bytes)
+goes_on byte bytes none = ⊎_elim (λ feed. absurd (none feed.1)) (λ other. ap (λ ends. cond ends ([] ∷ lines_in bytes) (with_byte byte (lines_in bytes))) other.0) (eqb_tells byte line_feed)
 
--- one place further in a longer list
-further : (byte : ℕ) (bytes : List ℕ) (n : ℕ) → (take (1 + n) (byte ∷ bytes) ≡ byte ∷ take n bytes) × (drop (1 + n + 1) (byte ∷ bytes) ≡ drop (n + 1) bytes)
-further byte bytes n =
-    let one : 1 + n ≡ suc n = omega arith in
-    let two : 1 + n + 1 ≡ suc (n + 1) = omega arith in
-    (ap (λ m. take m (byte ∷ bytes)) one, ap (λ m. drop m (byte ∷ bytes)) two)
+-- a line that a line feed ends
+pub ended : (line behind : List ℕ) → HasNoFeed line → lines_in (line ++ line_feed ∷ behind) ≡ line ∷ lines_in behind
+ended [] behind none = refl
+ended (byte ∷ line) behind none =
+    let more : List ℕ = line ++ line_feed ∷ behind in
+    goes_on byte more (All-head (λ byte. byte ≢ line_feed) byte line none)
+    ∙ ap (λ lines. with_byte byte lines) (ended line behind (All-tail (λ byte. byte ≢ line_feed) byte line none))
 
--- the first byte is a line feed, or stands before the others
-front : (ends : Bool) (byte : ℕ) (bytes : List ℕ) → with_byte byte (lines_in bytes) ≡ (byte ∷ take (feed bytes) bytes) ∷ lines_in (drop (feed bytes + 1) bytes)
-    → cond ends ([] ∷ lines_in bytes) (with_byte byte (lines_in bytes)) ≡ take (cond (not ends) (1 + feed bytes) 0) (byte ∷ bytes) ∷ lines_in (drop (cond (not ends) (1 + feed bytes) 0 + 1) (byte ∷ bytes))
-front true byte bytes rest = refl
-front false byte bytes rest =
-    let far = further byte bytes (feed bytes) in
-    rest ∙ ap (λ line. line ∷ lines_in (drop (feed bytes + 1) bytes)) (sym far.0) ∙ ap (λ behind. take (1 + feed bytes) (byte ∷ bytes) ∷ lines_in behind) (sym far.1)
-
--- the first line stands before the first line feed, and the others behind it
-pub first_line : (byte : ℕ) (bytes : List ℕ) → lines_in (byte ∷ bytes) ≡ take (feed (byte ∷ bytes)) (byte ∷ bytes) ∷ lines_in (drop (feed (byte ∷ bytes) + 1) (byte ∷ bytes))
-first_line byte [] = front (eqb byte 10) byte [] refl
-first_line byte (next ∷ bytes) = front (eqb byte 10) byte (next ∷ bytes) (ap (λ lines. with_byte byte lines) (first_line next bytes))
+-- a last line without a line feed
+pub unended : (line : List ℕ) → 0 < length line → HasNoFeed line → lines_in line ≡ line ∷ []
+unended [] some none = absurd (omega (arith, some))
+unended (byte ∷ []) some none = goes_on byte [] (All-head (λ byte. byte ≢ line_feed) byte [] none)
+unended (byte ∷ next ∷ line) some none =
+    goes_on byte (next ∷ line) (All-head (λ byte. byte ≢ line_feed) byte (next ∷ line) none)
+    ∙ ap (λ lines. with_byte byte lines) (unended (next ∷ line) (omega arith) (All-tail (λ byte. byte ≢ line_feed) byte (next ∷ line) none))
 
 -- one more line that is spelt, and so all lines so far
 pub one_more : (bytes rest line behind : List ℕ) (lines : List (Listed ℕ)) (next : Listed ℕ) → lines_in rest ≡ line ∷ lines_in behind → IsFileLine line next.items
@@ -78,43 +74,6 @@ all_lines bytes [] lines none small far =
     let P : List (List ℕ) → Type 0 = λ all. AllZip IsFileLine (lines_in bytes) all in
     record { small = small; each = subst P (append-nil (map glyphs_in lines)) (far [] tt) }
 all_lines bytes (byte ∷ rest) lines none small far = absurd (omega (arith, none))
-
--- a choice of something is what was chosen
-chosen : (b : Bool) (n at : ℕ) → Some at ≡ cond b (Some n) None → at ≡ n
-chosen true n at is = ap (λ o. unwrap_or o 0) is
-chosen false n at is = cc
-
--- a choice of nothing was not made
-not_chosen : (b : Bool) (n : ℕ) → None ≡ cond b (Some n) None → b ≡ false
-not_chosen true n is = cc
-not_chosen false n is = refl
-
--- the first line of bytes that are there
-of_some : (bytes : List ℕ) → 0 < length bytes → lines_in bytes ≡ take (feed bytes) bytes ∷ lines_in (drop (feed bytes + 1) bytes)
-of_some [] some = absurd (omega (arith, some))
-of_some (byte ∷ bytes) some = first_line byte bytes
-
--- a line that ends in a line feed
-pub ended : (bytes : List ℕ) (at : ℕ) → 0 < length bytes → Some at ≡ position (λ byte. eqb byte 10) bytes → lines_in bytes ≡ take at bytes ∷ lines_in (take (length bytes - (at + 1)) (drop (at + 1) bytes))
-ended bytes at some is =
-    let same : at ≡ feed bytes = chosen (ltb (feed bytes) (length bytes)) (feed bytes) at is in
-    let rest : take (length bytes - (at + 1)) (drop (at + 1) bytes) ≡ drop (at + 1) bytes =
-    take_all (length bytes - (at + 1)) (drop (at + 1) bytes) (omega (arith, length-drop (at + 1) bytes)) in
-    rw (rest, same) (of_some bytes some)
-
--- a last line without a line feed
-pub unended : (bytes : List ℕ) → 0 < length bytes → None ≡ position (λ byte. eqb byte 10) bytes → lines_in bytes ≡ bytes ∷ lines_in (take (length bytes - length bytes) (drop (length bytes) bytes))
-unended bytes some is =
-    let far : length bytes ≤ feed bytes = ltb-false (feed bytes) (length bytes) (not_chosen (ltb (feed bytes) (length bytes)) (feed bytes) is) in
-    let whole : take (feed bytes) bytes ≡ bytes = take_all (feed bytes) bytes far in
-    let behind : drop (feed bytes + 1) bytes ≡ [] = drop_all (feed bytes + 1) bytes (omega (arith, far)) in
-    let none : drop (length bytes) bytes ≡ [] = drop_all (length bytes) bytes (omega arith) in
-    of_some bytes some ∙ ap (λ line. line ∷ lines_in (drop (feed bytes + 1) bytes)) whole
-    ∙ ap (λ rest. bytes ∷ lines_in rest) (behind ∙ sym (ap (λ rest. take (length bytes - length bytes) rest) none ∙ take_nothing (length bytes - length bytes)))
-  where
-    take_nothing : (n : ℕ) → take {A = ℕ} n [] ≡ []
-    take_nothing zero = refl
-    take_nothing (suc n) = refl
 
 -- the lines of a text are short
 pub short_lines : (bytes : List ℕ) (lines : List (List ℕ)) → IsText bytes lines → All (λ line. length line ≤ most_file_line_glyphs) lines

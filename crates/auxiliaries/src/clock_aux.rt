@@ -14,7 +14,7 @@ const REFUSED: i64 = -1;
 /// The answer where the clock failed.
 const FAULT: i64 = -2;
 
-/// The clock auxiliary: the number 0 is answered by the next reading of its clock. It is seen as this clock.
+/// The clock auxiliary: who sends the number 0 gets the next reading of its clock. It is seen as this clock.
 #[derive(Debug, Drop)]
 pub struct ClockAux<C> {
     alloc: Global,

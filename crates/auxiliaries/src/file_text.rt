@@ -1,5 +1,4 @@
-ghost use Rattle.std.specs.Prelude.{◌≡◌, ◌==◌, ◌<◌, ◌∷◌, ℕ, List, IfOk, MatchOption, length, map};
-ghost use Rattle.std.specs.List.{position};
+ghost use Rattle.std.specs.Prelude.{◌≡◌, ◌<◌, ◌∷◌, ℕ, List, IfOk, MatchOption, length, map};
 ghost use Rattle.std.specs.String.{string_bytes};
 ghost use Rattle.apl_arrays.specs.File.{IsFileName};
 ghost use Rattle.apl_arrays.specs.List.{glyphs_in};
@@ -7,6 +6,7 @@ ghost use Rattle.auxiliaries.specs.File.{lines_in, IsFileLine, IsText, IsNoText}
 ghost use Rattle.line_text.specs.Lines.{line_text};
 
 use apl_arrays::{Bytes, FileName, Glyph, GlyphRefused, Line, WantOfMemory, glyphs_of, utf8_of};
+use line_text::first_line;
 use std::alloc::Global;
 use std::collections::VecDeque;
 
@@ -14,7 +14,7 @@ use std::collections::VecDeque;
 pub(crate) const FILE_LIMIT: usize = 4_194_304;
 
 /// The most glyphs of a line of a text file.
-pub(crate) const LINE_LIMIT: usize = 16_384;
+pub(crate) const FILE_LINE_LIMIT: usize = 16_384;
 
 /// The text of a name of a file, or `None` where the glyphs are none. It takes memory for the text.
 pub(crate) fn file_name(alloc: Global, glyphs: &[Glyph]) -> Result<Option<String>, WantOfMemory>
@@ -61,7 +61,7 @@ pub(crate) fn text_lines(
     let mut lines = VecDeque::new(alloc);
     let mut rest = bytes;
     while !rest.is_empty() {
-        let (line, behind) = first_line(rest);
+        let (line, behind) = cut_line(rest);
         match line_of(alloc, line)? {
             Some(line) => lines.push_back(line)?,
             None => return Ok(None),
@@ -71,23 +71,16 @@ pub(crate) fn text_lines(
     Ok(Some(lines))
 }
 
-// The bytes of the first line, and those behind its line feed.
-fn first_line(bytes: &[u8]) -> (&[u8], &[u8])
+// The bytes of the first line, which a line feed may end, and those behind it.
+fn cut_line(bytes: &[u8]) -> (&[u8], &[u8])
     requires { 0 < length bytes.now }
     ensures lines { lines_in bytes.now ≡ result.0.now ∷ lines_in result.1.now }
     ensures fewer { length result.1.now < length bytes.now }
 {
-    match line_feed(bytes) {
-        Some(at) => (&bytes[..at], &bytes[at + 1..]),
-        None => (bytes, &bytes[bytes.len()..]),
+    match first_line(bytes) {
+        Some((line, behind)) => (line, behind),
+        None => (bytes, &[]),
     }
-}
-
-// Where the first line feed stands.
-fn line_feed(bytes: &[u8]) -> Option<usize>
-    ensures { result ≡ position (λ byte. byte == 10) bytes.now }
-{
-    bytes.iter().position(|byte| *byte == b'\n')
 }
 
 // The line that bytes spell, or `None` where they spell none or it is too long.
@@ -95,7 +88,7 @@ fn line_of(alloc: Global, bytes: &[u8]) -> Result<Option<Line>, WantOfMemory>
     ensures { IfOk result (λ line. MatchOption line ((glyphs : List ℕ) → ¬ IsFileLine bytes.now glyphs) (λ line. IsFileLine bytes.now line.items)) }
 {
     match glyphs_of(alloc, bytes) {
-        Ok(line) if line.as_slice().len() <= LINE_LIMIT => Ok(Some(line)),
+        Ok(line) if line.as_slice().len() <= FILE_LINE_LIMIT => Ok(Some(line)),
         Ok(_) => Ok(None),
         Err(GlyphRefused::BadGlyph(_)) => Ok(None),
         Err(GlyphRefused::WantOfMemory) => Err(WantOfMemory),

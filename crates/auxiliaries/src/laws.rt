@@ -46,8 +46,8 @@ pub fn session_as_worked()
     ensures again { AfterReplace {T = Unit {0}} (Ok tt) (writing (codes "OUT") (codes "HI" ++ 10 ∷ [])) (code 0) idle }
 {}
 
-/// The lines of a file: a last line without a line feed counts, a blank line is a line, and a file without bytes has
-/// none. The call does nothing.
+/// The lines of a file: what stands behind the last line feed is one too, a blank line is a line, and a file without
+/// bytes has none. The call does nothing.
 pub fn lines_as_they_stand()
     ensures nothing { lines_in [] ≡ [] }
     ensures blank { lines_in (10 ∷ []) ≡ [] ∷ [] }

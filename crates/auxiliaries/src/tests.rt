@@ -33,11 +33,10 @@ fn answers<R: Replier>(
     commands: &[(&str, i64)],
 ) -> Result<(), WantOfMemory> {
     for (text, number) in commands {
-        if let Some(value) = command(alloc, *text)? {
-            let found = answer(replier, &value)?;
-            let wanted = Array::scalar(alloc, *number)?;
-            assert!(rt; found == wanted);
-        }
+        let value = command(alloc, *text)?.expect(rt, "a command is a vector");
+        let found = answer(replier, &value)?;
+        let wanted = Array::scalar(alloc, *number)?;
+        assert!(rt; found == wanted);
     }
     Ok(())
 }
@@ -53,10 +52,10 @@ fn writes_and_reads(rt: &impl Abort, alloc: Global) -> Result<(), WantOfMemory> 
         ("READ OUT", 0),
     ];
     answers(rt, alloc, &mut aux, &commands)?;
-    if let (Some(next), Some(line)) = (command(alloc, "NEXT")?, command(alloc, "HI")?) {
-        let found = answer(&mut aux, &next)?;
-        assert!(rt; found == line);
-    }
+    let next = command(alloc, "NEXT")?.expect(rt, "a command is a vector");
+    let line = command(alloc, "HI")?.expect(rt, "a line is a vector");
+    let found = answer(&mut aux, &next)?;
+    assert!(rt; found == line);
     Replier::forget(&mut aux, 1001);
     answers(rt, alloc, &mut aux, &[("NEXT", 2)])
 }

@@ -110,7 +110,7 @@ impl<T: TextStore> TextAux<T> {
         ensures files { OnErr result (KeepsFiles (T.told self.old.store) (T.told self.new.store)) }
         ensures counted { T.faults self.old.store ≤ T.faults self.new.store }
     {
-        let (code, state) = after_read(self.alloc, self.store.read(name))?;
+        let (code, state) = read_result(self.alloc, self.store.read(name))?;
         let answer = code.answer(self.alloc)?;
         self.state = state;
         Ok(answer)
@@ -157,7 +157,7 @@ impl<T: TextStore> TextAux<T> {
         ensures err { OnErr result (self.new ≡ self.old) }
     {
         match &mut self.state {
-            TextState::Writing(_, bytes) => add_line(self.alloc, bytes, text),
+            TextState::Writing(_, bytes) => put_line(self.alloc, bytes, text),
             _ => Code::Refused.answer(self.alloc),
         }
     }
@@ -186,7 +186,7 @@ impl<T: TextStore> TextAux<T> {
 }
 
 // What follows from the store's answer about a file. It takes memory for the lines.
-fn after_read(
+fn read_result(
     alloc: Global,
     reply: Result<Option<Bytes>, StoreError>,
 ) -> Result<(Code, TextState), WantOfMemory>
@@ -217,7 +217,7 @@ fn next_line(alloc: Global, lines: &mut VecDeque<Line>) -> Array
 }
 
 // Adds a line to the bytes of a file, unless that would be too large.
-fn add_line(alloc: Global, bytes: &mut Vec<u8>, text: &[Glyph]) -> Result<Array, WantOfMemory>
+fn put_line(alloc: Global, bytes: &mut Vec<u8>, text: &[Glyph]) -> Result<Array, WantOfMemory>
     ensures answer { IfOk result (λ answer. answer ≡ (if nat_le (length (bytes.old.items ++ line_text text.now)) most_file_bytes then code 0 else code 4)) }
     ensures bytes { OnOk result (bytes.new.items ≡ (if nat_le (length (bytes.old.items ++ line_text text.now)) most_file_bytes then bytes.old.items ++ line_text text.now else bytes.old.items)) }
     ensures err { OnErr result (bytes.new.items ≡ bytes.old.items) }

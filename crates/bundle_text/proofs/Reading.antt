@@ -9,11 +9,11 @@ use Rattle.bundle_text.specs.declared.refused.BundleRefused.TheVariants.{Malform
 use Rattle.bundle_text.specs.Refused.{IsReason}
 use Rattle.bundle_text.specs.User.{PlainUser}
 use Rattle.bundle_text.specs.Bundle.{PlainBundle, IsUser, IsLine, IsBundle, lines_of_user, bundle_spelling, BundleText, IsNoBundle}
-use Rattle.line_text.specs.Lines.{content, end_line, line_text, lines_text}
+use Rattle.line_text.specs.Lines.{content, end_line, line_text, lines_text, HasNoFeed}
 use Rattle.line_text.proofs.Ascii.{end_utf8}
 use Rattle.bundle_text.specs.BundleLine.{PlainLine, user, input, IsBundleLine, IsTextOf, line_spelling}
 use Rattle.bundle_text.specs.Draft.{PlainDraft, nothing_read, users_of, bundle_of, Reads, ReadsNothing}
-use Rattle.bundle_text.proofs.Texts.{HasNoFeed, cut, line_has_no_feed, same_line, end_is_no_line}
+use Rattle.bundle_text.proofs.Texts.{cut, line_has_no_feed, same_line, end_is_no_line}
 use Rattle.bundle_text.proofs.Lines.{bundle_from, read_of_user, read_of, bundle_read, lines_grow, step}
 
 -- the text and a line feed

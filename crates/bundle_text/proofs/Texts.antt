@@ -9,7 +9,7 @@ use Rattle.std.proofs.lemmas.List.Sums.{fails_before_first}
 use Rattle.std.proofs.lemmas.Fmt.{decimal_injective}
 use Rattle.apl_arrays.specs.Glyph.{IsGlyph}
 use Rattle.apl_arrays.proofs.Spelling.{one_line, no_control}
-use Rattle.line_text.specs.Lines.{end_line}
+use Rattle.line_text.specs.Lines.{end_line, HasNoFeed}
 use Rattle.line_text.proofs.Ascii.{heading_utf8, content_utf8}
 use Rattle.line_text.proofs.GlyphTexts.{heading_glyphs, content_glyphs}
 use Rattle.bundle_text.specs.BundleLine.{PlainLine, user, input, IsBundleLine, IsTextOf, line_glyphs, line_spelling}
@@ -17,35 +17,6 @@ use Rattle.bundle_text.specs.declared.refused.BundleRefused.{BundleRefused}
 use Rattle.bundle_text.specs.declared.refused.BundleRefused.TheVariants.{Malformed, WantOfMemory}
 use Rattle.bundle_text.specs.Refused.{IsReason}
 use Rattle.bundle_text.specs.Draft.{PlainDraft, draft_after, Reads, ReadsNothing}
-
-abbrev pub HasNoFeed : List ℕ → Type 0
-HasNoFeed bytes = All (λ byte. byte ≢ 10) bytes
-
--- the first line feed
-
-none_is_false : (b : Bool) (n : ℕ) → cond b (Some n) None ≡ None → b ≡ false
-none_is_false true n e = absurd cc
-none_is_false false n e = refl
-
-pub no_feed_found : (bytes : List ℕ) → position (λ byte. eqb byte 10) bytes ≡ None → All (λ byte. byte ≢ 10) bytes
-no_feed_found bytes none k d within e =
-    let beyond : length bytes ≤ position_or_len (λ byte. eqb byte 10) bytes = ltb-false _ _ (none_is_false (ltb (position_or_len (λ byte. eqb byte 10) bytes) (length bytes)) (position_or_len (λ byte. eqb byte 10) bytes) none) in
-    let fails = fails_before_first (λ byte. eqb byte 10) bytes k d (omega arith) in
-    false≢true (sym (rw e at fails))
-
-pub feed_found : (bytes : List ℕ) (place : ℕ) → position (λ byte. eqb byte 10) bytes ≡ Some place → (bytes ≡ take place bytes ++ 10 ∷ drop (place + 1) bytes) × All (λ byte. byte ≢ 10) (take place bytes)
-feed_found bytes place found =
-    let at = position-Some (λ byte. eqb byte 10) bytes place 0 found in
-    let feed : get_or bytes place 0 ≡ 10 = eqb-true (get_or bytes place 0) 10 at.1 in
-    let rest : drop place bytes ≡ 10 ∷ drop (place + 1) bytes = rw add-one (drop-cons bytes place 0 at.0) ∙ ap (λ byte. byte ∷ drop (place + 1) bytes) feed in
-    let none : HasNoFeed (take place bytes) = λ k d within e.
-    let below : k < place = omega (arith, length-take place bytes) in
-    let same : get_or bytes k d ≡ 10 = sym (get_or-take place bytes k d below) ∙ e in
-    let fails : eqb (get_or bytes k d) 10 ≡ false = (position-Some (λ byte. eqb byte 10) bytes place d found).2 k below in
-    false≢true (sym (rw same at fails)) in
-    (sym (take-append-drop place bytes) ∙ ap (λ (end : List ℕ). take place bytes ++ end) rest, none)
-
--- lines
 
 pub cut : (front other after rest : List ℕ) → HasNoFeed front → HasNoFeed other → front ++ 10 ∷ after ≡ other ++ 10 ∷ rest → (front ≡ other) × (after ≡ rest)
 cut [] [] after rest a b e = (refl, cc)

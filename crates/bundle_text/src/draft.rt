@@ -4,11 +4,11 @@ ghost use Rattle.bundle_text.specs.User.{plain_user, IsAscending};
 ghost use Rattle.bundle_text.specs.Refused.{IsReason};
 
 use crate::bundle::Bundle;
-use crate::limits::{GLYPH_LIMIT, LINE_LIMIT, USER_LIMIT};
+use crate::limits::{LINE_LIMIT, USER_LIMIT};
 use crate::line::BundleLine;
 use crate::refused::{BundleRefused, BundleRule};
 use crate::user::{BundleUser, UserList};
-use apl_arrays::{Line, LineList, WantOfMemory};
+use apl_arrays::{LINE_GLYPH_LIMIT, Line, LineList, WantOfMemory};
 use std::alloc::Global;
 use std::marker::Model;
 
@@ -102,7 +102,7 @@ impl Draft {
         let Some(mut user) = current else {
             return Err(BundleRefused::malformed(offset, BundleRule::Place));
         };
-        if user.lines.as_slice().len() >= LINE_LIMIT || line.as_slice().len() > GLYPH_LIMIT {
+        if user.lines.as_slice().len() >= LINE_LIMIT || line.as_slice().len() > LINE_GLYPH_LIMIT {
             return Err(BundleRefused::malformed(offset, BundleRule::Limit));
         }
         user.lines.push(line)?;

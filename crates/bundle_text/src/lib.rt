@@ -14,7 +14,7 @@ mod user;
 pub mod worked;
 
 pub use bundle::Bundle;
-pub use limits::{GLYPH_LIMIT, LINE_LIMIT, USER_LIMIT};
+pub use limits::{LINE_LIMIT, USER_LIMIT};
 pub use refused::{BundleRefused, BundleRule};
 pub use text::{read, texts_are_of_one_bundle};
 pub use user::{BundleUser, UserList};

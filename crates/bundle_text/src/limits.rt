@@ -3,6 +3,3 @@ pub const USER_LIMIT: usize = 2;
 
 /// The most lines of a user.
 pub const LINE_LIMIT: usize = 10_000;
-
-/// The most glyphs of a line.
-pub const GLYPH_LIMIT: usize = 1_000;

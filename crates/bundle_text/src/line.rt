@@ -27,7 +27,7 @@ fn digit(byte: u8) -> Option<u32>
 }
 
 // The number of a user, as a heading has it: from 1001 on, with four digits.
-fn number_of(digits: &[u8]) -> Option<u32>
+fn user_number(digits: &[u8]) -> Option<u32>
     ensures { MatchOption result (IsNoNumber digits.now) (λ number. IsUserNumber number × (digits.now ≡ decimal number)) }
 {
     let [thousands, hundreds, tens, ones] = digits else {
@@ -51,7 +51,7 @@ fn number_of(digits: &[u8]) -> Option<u32>
 fn heading_of(line: &[u8]) -> Option<u32>
     ensures { MatchOption result (IsNoHeading line.now) (λ number. IsUserNumber number × (line.now ≡ line_utf8 (heading number))) }
 {
-    number_of(line.strip_prefix(b"user ")?)
+    user_number(line.strip_prefix(b"user ")?)
 }
 
 /// The glyphs that bytes spell, which stand at the offset. `Malformed` with the rule of glyphs where they spell none,

@@ -50,7 +50,7 @@ impl fmt::Display for BundleRule {
 /// Why bytes are not read as a bundle.
 #[derive(Clone, Copy, Debug, PartialEq, Eq)]
 pub enum BundleRefused {
-    /// The first line that breaks a rule stands at the offset; for `Glyph` it is the offset of the bad bytes.
+    /// At the offset begins the first line that a rule refuses, or for `Glyph` what is no glyph in it.
     Malformed { offset: u64, rule: BundleRule },
     /// Memory ran out.
     WantOfMemory,

@@ -8,17 +8,8 @@ use crate::Bundle;
 use crate::draft::Draft;
 use crate::line::{glyphs_at, line_of};
 use crate::refused::{BundleRefused, BundleRule};
+use line_text::first_line;
 use std::alloc::Global;
-
-// The first line, up to its line feed, and what comes after it; or `None` where no line feed stands.
-#[tactic(auto, using(crate::proofs::Texts::no_feed_found, crate::proofs::Texts::feed_found))]
-fn first_line(bytes: &[u8]) -> Option<(&[u8], &[u8])>
-    ensures { MatchOption result (All (λ byte. byte ≢ line_feed) bytes.now)
-        (λ found. (bytes.now ≡ found.0.now ++ line_feed ∷ found.1.now) × All (λ byte. byte ≢ line_feed) found.0.now) }
-{
-    let place = bytes.iter().position(|byte| *byte == b'\n')?;
-    Some((&bytes[..place], &bytes[place + 1..]))
-}
 
 fn is_end(line: &[u8]) -> bool
     ensures { IsTrue result ↔ (line.now ≡ end_line) }

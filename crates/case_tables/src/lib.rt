@@ -1,10 +1,13 @@
-//! Tables of cases as text: a row a case, its fields, bytes written with escapes, and how a run of them came out.
+//! Tables of cases as text: a row a case, its fields, bytes written with escapes, how a run of them came out, and the end
+//! of a program that runs them.
 #![tactic(auto)]
 
+mod ending;
 mod escapes;
 mod table;
 mod tally;
 
+pub use ending::conclude;
 pub use escapes::{EscapeRefused, bytes_of};
-pub use table::{Trial, run_table};
+pub use table::{Trial, run_table, run_tables};
 pub use tally::Tally;

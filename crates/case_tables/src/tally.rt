@@ -1,4 +1,4 @@
-ghost use Rattle.std.specs.Prelude.{◌≡◌, ◌<◌, ◌≤◌, ◌↔◌, IsTrue};
+ghost use Rattle.std.specs.Prelude.{◌≡◌, ◌+◌, ◌-◌, ◌^◌, ◌↔◌, min, IsTrue, IsFalse};
 
 /// How many cases were run, and how many of them differed from what was wanted.
 #[derive(Clone, Copy, Debug, PartialEq, Eq)]
@@ -20,9 +20,9 @@ impl Tally {
 
     /// Counts a case. The counts stand still at the greatest `u64`. No memory.
     pub fn count(&mut self, differs: bool)
-        ensures counted { 0 < self.new.cases }
-        ensures told { IsTrue differs → 0 < self.new.differing }
-        ensures kept { self.old.differing ≤ self.new.differing }
+        ensures cases { self.new.cases ≡ min (self.old.cases + 1) (2 ^ 64 - 1) }
+        ensures differs { IsTrue differs → self.new.differing ≡ min (self.old.differing + 1) (2 ^ 64 - 1) }
+        ensures agrees { IsFalse differs → self.new.differing ≡ self.old.differing }
     {
         self.cases = self.cases.saturating_add(1);
         if differs {
@@ -32,8 +32,8 @@ impl Tally {
 
     /// Counts the cases of another tally too. The counts stand still at the greatest `u64`. No memory.
     pub fn add(&mut self, other: Tally)
-        ensures told { other.differing ≤ self.new.differing }
-        ensures kept { self.old.differing ≤ self.new.differing }
+        ensures cases { self.new.cases ≡ min (self.old.cases + other.cases) (2 ^ 64 - 1) }
+        ensures differing { self.new.differing ≡ min (self.old.differing + other.differing) (2 ^ 64 - 1) }
     {
         self.cases = self.cases.saturating_add(other.cases);
         self.differing = self.differing.saturating_add(other.differing);

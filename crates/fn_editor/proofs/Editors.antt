@@ -1,5 +1,5 @@
 -- What holds of every open definition after each change.
-use Rattle.std.proofs.Common.{◌≡◌, ℕ, ◌≤◌, ◌<◌, ◌+◌, Bool, true, false, cond, leb, ltb, ◌&&◌, ◌||◌, List, [], ◌∷◌, Some, length, refl, sym, ap, subst, ◌∙◌, arith, All, map}
+use Rattle.std.proofs.Common.{◌≡◌, ℕ, ◌≤◌, ◌<◌, ◌+◌, Bool, true, false, cond, leb, ltb, ◌&&◌, ◌||◌, List, [], ◌∷◌, Some, length, refl, sym, ap, subst, ◌∙◌, arith, All}
 use Rattle.std.specs.BTreeMap.{is_at}
 use Rattle.std.specs.Map.{remove_entry, values_of}
 use Rattle.std.specs.Ordering.{nat_cmp}
@@ -7,13 +7,15 @@ use Rattle.std.proofs.lemmas.Bool.{and_parts}
 use Rattle.std.proofs.lemmas.Bool.Decides.{nat_tests}
 use Rattle.std.proofs.lemmas.List.{length-map}
 use Rattle.std.proofs.lemmas.Map.Views.{All-map-remove_entry, All-values-insert_entry}
+use Rattle.apl_arrays.specs.Limits.{most_line_glyphs}
 use Rattle.apl_workspace.specs.Function.{IsFunction, PlainFunction}
 use Rattle.apl_workspace.specs.Header.{PlainHeader, header_of}
+use Rattle.apl_workspace.specs.Limits.{most_function_lines}
 use Rattle.apl_workspace.specs.Meaning.{IsWhole}
 use Rattle.apl_workspace.specs.declared.meaning.Meaning.{Meaning}
 use Rattle.apl_workspace.specs.declared.meaning.Meaning.TheVariants.{Function}
 use Rattle.fn_editor.specs.Editing.{may_enter, moved}
-use Rattle.fn_editor.specs.Number.{whole}
+use Rattle.fn_editor.specs.Number.{most_whole, whole}
 use Rattle.fn_editor.specs.Editor.{IsEditor, Lines, PlainEditor, function_of, has_line, numbered, with_line, without_line}
 use Rattle.fn_editor.proofs.Numbered.{length_numbered, values_numbered}
 
@@ -31,16 +33,16 @@ deleted_is_editor editor number at lines h e = record {
   header = h.header;
   text = h.text;
   count = rw e (let few = fewer (is_at (nat_cmp number)) editor.lines in omega (arith, few, h.count));
-  lines = rw e (All-map-remove_entry (is_at (nat_cmp number)) (λ (line : ℕ × List ℕ). line.1) (λ (line : List ℕ). length line ≤ 1000) editor.lines h.lines);
+  lines = rw e (All-map-remove_entry (is_at (nat_cmp number)) (λ (line : ℕ × List ℕ). line.1) (λ (line : List ℕ). length line ≤ most_line_glyphs) editor.lines h.lines);
 }
 
 -- with a line more, or another in its place
-pub entered_is_editor : (editor : PlainEditor) (number at : ℕ) (text : List ℕ) (lines : Lines) → IsEditor editor → lines ≡ with_line editor.lines number text → length text ≤ 1000 → length lines ≤ 200 → IsEditor (record editor { lines = lines; number = at })
+pub entered_is_editor : (editor : PlainEditor) (number at : ℕ) (text : List ℕ) (lines : Lines) → IsEditor editor → lines ≡ with_line editor.lines number text → length text ≤ most_line_glyphs → length lines ≤ most_function_lines → IsEditor (record editor { lines = lines; number = at })
 entered_is_editor editor number at text lines h e short few = record {
   header = h.header;
   text = h.text;
   count = few;
-  lines = rw e (All-values-insert_entry nat_cmp number text (λ (line : List ℕ). length line ≤ 1000) editor.lines h.lines short);
+  lines = rw e (All-values-insert_entry nat_cmp number text (λ (line : List ℕ). length line ≤ most_line_glyphs) editor.lines h.lines short);
 }
 
 -- what is defined at the close is a function
@@ -63,20 +65,20 @@ at_most a b e = grind (arith, nat_tests)
 below : (a b : ℕ) → ltb a b ≡ true → a < b
 below a b e = grind (arith, nat_tests)
 
-entered_by : (editor : PlainEditor) (number at : ℕ) (text : List ℕ) (lines : Lines) (has : Bool) → IsEditor editor → leb (length text) 1000 ≡ true → has || ltb (length editor.lines) 200 ≡ true → lines ≡ with_line editor.lines number text → length lines ≡ length editor.lines + cond has 0 1 → IsEditor (record editor { lines = lines; number = at })
+entered_by : (editor : PlainEditor) (number at : ℕ) (text : List ℕ) (lines : Lines) (has : Bool) → IsEditor editor → leb (length text) most_line_glyphs ≡ true → has || ltb (length editor.lines) most_function_lines ≡ true → lines ≡ with_line editor.lines number text → length lines ≡ length editor.lines + cond has 0 1 → IsEditor (record editor { lines = lines; number = at })
 entered_by editor number at text lines true h short room e size =
     let same : length lines ≡ length editor.lines + 0 = size in
-    entered_is_editor editor number at text lines h e (at_most (length text) 1000 short) (omega (arith, h.count, same))
+    entered_is_editor editor number at text lines h e (at_most (length text) most_line_glyphs short) (omega (arith, h.count, same))
 entered_by editor number at text lines false h short room e size =
-    let few : length editor.lines < 200 = below (length editor.lines) 200 room in
+    let few : length editor.lines < most_function_lines = below (length editor.lines) most_function_lines room in
     let more : length lines ≡ length editor.lines + 1 = size in
-    entered_is_editor editor number at text lines h e (at_most (length text) 1000 short) (omega (arith, few, more))
+    entered_is_editor editor number at text lines h e (at_most (length text) most_line_glyphs short) (omega (arith, few, more))
 
 -- with text that may enter
 pub entered_keeps : (editor : PlainEditor) (number at : ℕ) (text : List ℕ) (lines : Lines) → IsEditor editor → may_enter (moved editor number) text ≡ true → lines ≡ with_line editor.lines number text → length lines ≡ length editor.lines + cond (has_line editor.lines number) 0 1 → IsEditor (record editor { lines = lines; number = at })
 entered_keeps editor number at text lines h may e size =
-    let parts = and_parts (leb (length text) 1000 && leb (whole number) 999) (has_line editor.lines number || ltb (length editor.lines) 200) may in
-    let first = and_parts (leb (length text) 1000) (leb (whole number) 999) parts.0 in
+    let parts = and_parts (leb (length text) most_line_glyphs && leb (whole number) most_whole) (has_line editor.lines number || ltb (length editor.lines) most_function_lines) may in
+    let first = and_parts (leb (length text) most_line_glyphs) (leb (whole number) most_whole) parts.0 in
     entered_by editor number at text lines (has_line editor.lines number) h first.0 parts.1 e size
 
 -- a function that is opened
@@ -86,5 +88,5 @@ opened_is_editor function text header lines number closed h et eh el = record {
   header = ap header_of et ∙ h.header ∙ ap (λ (x : PlainHeader). Some x) (sym eh);
   text = let same : length text ≡ length function.text = ap length et in omega (arith, same, h.text);
   count = let same : length lines ≡ length function.lines = ap length el ∙ length_numbered 1 function.lines in omega (arith, same, h.count);
-  lines = subst (λ (all : List (List ℕ)). All (λ (line : List ℕ). length line ≤ 1000) all) (sym (ap (λ (all : Lines). values_of all) el ∙ values_numbered 1 function.lines)) h.lines;
+  lines = subst (λ (all : List (List ℕ)). All (λ (line : List ℕ). length line ≤ most_line_glyphs) all) (sym (ap (λ (all : Lines). values_of all) el ∙ values_numbered 1 function.lines)) h.lines;
 }

@@ -3,19 +3,19 @@ use Rattle.std.proofs.Common.{◌≡◌, ℕ, ◌+◌, ◌≤◌, ◌<◌, Bool,
 use Rattle.std.proofs.lemmas.Bool.{eqb-false}
 use Rattle.std.proofs.lemmas.Fmt.{length-decimal-le}
 use Rattle.apl_arrays.specs.Glyph.{digit, period}
-use Rattle.fn_editor.specs.Number.{tenth, tenth_text, whole}
+use Rattle.fn_editor.specs.Number.{most_number, most_whole, tenth, tenth_text, whole}
 
-three_digits : (n : ℕ) → n ≤ 999 → length (decimal n) ≤ 3
+three_digits : (n : ℕ) → n ≤ most_whole → length (decimal n) ≤ 3
 three_digits n small = length-decimal-le 3 n (lit< tt) (omega arith) (omega arith)
 
-four_digits : (n : ℕ) → n ≤ 1000 → length (decimal n) ≤ 4
+four_digits : (n : ℕ) → n ≤ most_whole + 1 → length (decimal n) ≤ 4
 four_digits n small = length-decimal-le 4 n (lit< tt) (omega arith) (omega arith)
 
 tenth_length : (t : ℕ) (b : Bool) → eqb t 0 ≡ b → length (tenth_text t) ≡ cond b 0 2
 tenth_length t true e = ap (λ (b : Bool). length (cond b [] (period ∷ digit t ∷ []))) e
 tenth_length t false e = ap (λ (b : Bool). length (cond b [] (period ∷ digit t ∷ []))) e
 
-short_by : (number : ℕ) (b : Bool) → eqb (tenth number) 0 ≡ b → number ≤ 10000 → length (decimal (whole number)) + length (tenth_text (tenth number)) ≤ 5
+short_by : (number : ℕ) (b : Bool) → eqb (tenth number) 0 ≡ b → number ≤ most_number → length (decimal (whole number)) + length (tenth_text (tenth number)) ≤ 5
 short_by number true e small =
     let four = four_digits (whole number) (omega arith) in
     let none : length (tenth_text (tenth number)) ≡ 0 = tenth_length (tenth number) true e in
@@ -27,7 +27,7 @@ short_by number false e small =
     omega (arith, three, two)
 
 -- a number has at most five glyphs
-pub number_is_short : (number : ℕ) → number ≤ 10000 → length (decimal (whole number)) + length (tenth_text (tenth number)) ≤ 5
+pub number_is_short : (number : ℕ) → number ≤ most_number → length (decimal (whole number)) + length (tenth_text (tenth number)) ≤ 5
 number_is_short number small = short_by number (eqb (tenth number) 0) refl small
 
 at_most_two : (t : ℕ) (b : Bool) → eqb t 0 ≡ b → length (tenth_text t) ≤ 2
@@ -39,7 +39,7 @@ pub tenth_is_short : (t : ℕ) → length (tenth_text t) ≤ 2
 tenth_is_short t = at_most_two t (eqb t 0) refl
 
 -- what stands before the closing bracket of a prompt has at most six glyphs
-pub before_bracket : (number w t glyph : ℕ) (zero one two three : List ℕ) → zero ≡ [] → one ≡ zero ++ glyph ∷ [] → two ≡ one ++ decimal w → three ≡ two ++ tenth_text t → w ≡ whole number → t ≡ tenth number → number ≤ 10000 → length three ≤ 6
+pub before_bracket : (number w t glyph : ℕ) (zero one two three : List ℕ) → zero ≡ [] → one ≡ zero ++ glyph ∷ [] → two ≡ one ++ decimal w → three ≡ two ++ tenth_text t → w ≡ whole number → t ≡ tenth number → number ≤ most_number → length three ≤ 6
 before_bracket number w t glyph zero one two three e0 e1 e2 e3 ew et small =
     let short = number_is_short number small in
     let l0 : length zero ≡ 0 = ap length e0 in

@@ -1,5 +1,5 @@
 -- What a bracket at the start of a line asks.
-use Rattle.std.specs.Prelude.{◌-◌, ◌&&◌, ◌==◌, ℕ, Bool, List, [], ◌∷◌, Option, Some, None, length, nat_le, drop, take_while, if◌then◌else◌}
+use Rattle.std.specs.Prelude.{◌-◌, ◌&&◌, ◌==◌, ℕ, List, [], ◌∷◌, Option, Some, None, length, nat_le, drop, take_while, if◌then◌else◌}
 use Rattle.std.specs.List.{prefix_len}
 use Rattle.std.specs.Str.Parse.{digits_value}
 use Rattle.apl_arrays.specs.Glyph.{delta, is_between, is_digit, period, quad, right_bracket}

@@ -1,15 +1,11 @@
--- Where a line closes a definition, and what stands behind blanks.
-use Rattle.std.specs.Prelude.{◌≡◌, ◌&&◌, ◌++◌, ◌==◌, ℕ, Bool, true, List, [], ◌∷◌, Option, Some, None, drop, is_some, unwrap_or, if◌then◌else◌}
-use Rattle.std.specs.List.{list_all, prefix_len}
+-- Where a line closes a definition.
+use Rattle.std.specs.Prelude.{◌≡◌, ◌&&◌, ◌++◌, ◌==◌, ℕ, Bool, true, List, [], ◌∷◌, Option, Some, None, is_some, unwrap_or, if◌then◌else◌}
+use Rattle.std.specs.List.{list_all}
 use Rattle.apl_arrays.specs.Glyph.{del, is_blank}
 
 -- nothing but blanks
 abbrev pub is_blank_text : List ℕ → Bool
 is_blank_text text = list_all is_blank text
-
--- a line without the blanks at its front
-abbrev pub without_blanks : List ℕ → List ℕ
-without_blanks line = drop (prefix_len is_blank line) line
 
 -- what follows a glyph that stands at the front
 abbrev pub behind : ℕ → List ℕ → Option (List ℕ)
@@ -21,7 +17,7 @@ abbrev pub before_close_at : ℕ → List ℕ → Option (List ℕ) → Option (
 before_close_at first rest (Some front) = Some (first ∷ front)
 before_close_at first rest None = if (first == del) && is_blank_text rest then Some [] else None
 
--- what stands before the ∇ that closes: the last glyph other than blanks
+-- what stands before the ∇ that closes, behind which only blanks come
 abbrev pub before_close : List ℕ → Option (List ℕ)
 before_close [] = None
 before_close (first ∷ rest) = before_close_at first rest (before_close rest)

@@ -7,10 +7,11 @@ use Rattle.apl_arrays.specs.Limits.{most_line_glyphs}
 use Rattle.apl_arrays.specs.declared.report.Fail.{Fail}
 use Rattle.apl_arrays.specs.declared.report.Fail.TheVariants.{Report, WantOfMemory}
 use Rattle.apl_arrays.specs.declared.report.Report.TheVariants.{Defn}
+use Rattle.apl_workspace.specs.Blanks.{without_blanks}
 use Rattle.apl_workspace.specs.Header.{PlainHeader, header_of}
 use Rattle.apl_workspace.specs.Limits.{most_function_lines}
 use Rattle.fn_editor.specs.Bracket.{bracket_in}
-use Rattle.fn_editor.specs.Closing.{behind, body, closes, is_blank_text, without_blanks}
+use Rattle.fn_editor.specs.Closing.{behind, body, closes, is_blank_text}
 use Rattle.fn_editor.specs.Editor.{PlainEditor, has_line, last_number, shown, with_line, without_line}
 use Rattle.fn_editor.specs.Number.{most_whole, next, whole}
 use Rattle.fn_editor.specs.declared.bracket.Bracket.{Bracket}
@@ -31,7 +32,7 @@ may_enter editor text =
     nat_le (length text) most_line_glyphs && nat_le (whole editor.number) most_whole
     && (has_line editor.lines editor.number || nat_lt (length editor.lines) most_function_lines)
 
--- text becomes the line at the number, in place of one that is there, and the number moves on
+-- text is put in at the number, over a line that stands there, and the next number is current
 abbrev pub entered : PlainEditor → List ℕ → PlainEditor
 entered editor text = record editor { lines = with_line editor.lines editor.number text; number = next editor.number }
 

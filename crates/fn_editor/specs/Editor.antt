@@ -8,7 +8,7 @@ use Rattle.apl_arrays.specs.Limits.{most_line_glyphs}
 use Rattle.apl_workspace.specs.Function.{PlainFunction}
 use Rattle.apl_workspace.specs.Header.{PlainHeader, header_of}
 use Rattle.apl_workspace.specs.Limits.{most_function_lines}
-use Rattle.fn_editor.specs.Number.{next, number_of, whole}
+use Rattle.fn_editor.specs.Number.{number_of, whole}
 use Rattle.fn_editor.specs.Prompt.{prompt_text}
 
 -- lines with their numbers, which ascend
@@ -45,7 +45,7 @@ abbrev pub numbered : ℕ → List (List ℕ) → Lines
 numbered whole [] = []
 numbered whole (line ∷ lines) = (number_of whole 0, line) ∷ numbered (whole + 1) lines
 
--- a definition that is opened: the number is one past the last line
+-- a function's definition as it is opened: its lines have whole numbers, and the current number is the next
 abbrev pub editor_of : PlainFunction → PlainEditor
 editor_of function = record { text = function.text; header = function.header; lines = numbered 1 function.lines; number = number_of (length function.lines + 1) 0; closed = false }
 
@@ -61,7 +61,8 @@ shown_line line = prompt_text line.0 ++ line.1
 abbrev pub edge : List ℕ
 edge = replicate 4 blank ++ del ∷ []
 
--- what is shown of a definition: four blanks, ∇, a blank and the header; each line behind its prompt; four blanks and ∇
+-- what is shown of a definition: the header behind its edge and a blank, the lines with their prompts, and the edge
+-- again
 abbrev pub shown : PlainEditor → List (List ℕ)
 shown editor = (edge ++ blank ∷ editor.text) ∷ map shown_line editor.lines ++ edge ∷ []
 

@@ -22,7 +22,7 @@ whole number = number / 10
 abbrev pub tenth : ℕ → ℕ
 tenth number = number % 10
 
--- the number that comes next: after n comes n+1, after n.d comes n.(d+1), after n.9 comes n+1
+-- the number that comes next: one more, or behind a point a tenth more, and behind the ninth tenth the next whole number
 abbrev pub next : ℕ → ℕ
 next number = if tenth number == 0 then number + 10 else number + 1
 

@@ -1,15 +1,16 @@
 -- How a definition is opened.
-use Rattle.std.specs.Prelude.{◌+◌, ◌&&◌, ℕ, Bool, false, not, List, [], Option, Some, None, length, drop, is_some, nat_le, if◌then◌else◌}
+use Rattle.std.specs.Prelude.{◌&&◌, ℕ, Bool, false, not, List, [], Option, Some, None, length, drop, is_some, nat_le, if◌then◌else◌}
 use Rattle.std.specs.Option.{option_map}
 use Rattle.apl_arrays.specs.Glyph.{del, left_bracket}
 use Rattle.apl_arrays.specs.Limits.{most_line_glyphs}
 use Rattle.apl_arrays.specs.Name.{longest_name}
+use Rattle.apl_workspace.specs.Blanks.{without_blanks}
 use Rattle.apl_workspace.specs.Header.{PlainHeader, header_of}
 use Rattle.apl_workspace.specs.Workspace.{PlainWorkspace, global_in}
 use Rattle.apl_workspace.specs.declared.meaning.Meaning.{Meaning}
 use Rattle.apl_workspace.specs.declared.meaning.Meaning.TheVariants.{Nothing, Value, Function, Label, Shared}
 use Rattle.fn_editor.specs.Bracket.{bracket_in}
-use Rattle.fn_editor.specs.Closing.{behind, body, closes, without_blanks}
+use Rattle.fn_editor.specs.Closing.{behind, body, closes}
 use Rattle.fn_editor.specs.Editing.{Edited, by_bracket, quietly, then_closed}
 use Rattle.fn_editor.specs.Editor.{PlainEditor, editor_of}
 use Rattle.fn_editor.specs.Number.{number_of}

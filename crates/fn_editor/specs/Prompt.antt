@@ -7,10 +7,10 @@ use Rattle.fn_editor.specs.Number.{number_text}
 abbrev pub bracketed_number : ℕ → List ℕ
 bracketed_number number = left_bracket ∷ number_text number ++ right_bracket ∷ []
 
--- so many blanks fill a text up to six glyphs, and at least one
+-- so many blanks fill a prompt: one at least, and so many that it has six glyphs
 abbrev pub filling : ℕ → ℕ
 filling count = max (6 - count) 1
 
--- the number in brackets, and blanks up to six glyphs, at least one
+-- the number in brackets, and the blanks that fill it
 abbrev pub prompt_text : ℕ → List ℕ
 prompt_text number = bracketed_number number ++ replicate (filling (length (bracketed_number number))) blank

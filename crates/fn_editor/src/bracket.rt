@@ -92,7 +92,7 @@ fn digit_count(text: &[Glyph]) -> usize
     text.iter().take_while(|glyph| glyph.is_digit()).count()
 }
 
-// The whole number of the digits, where there are some and it is not over 999.
+// The whole number of the digits, where there are some and it is within its limit.
 fn whole_of(digits: &[Glyph]) -> Option<u16>
     requires { All (λ digit. IsTrue (is_digit digit)) digits.now }
     ensures value { result ≡ whole_of digits.now }
@@ -105,10 +105,10 @@ fn whole_of(digits: &[Glyph]) -> Option<u16>
     Some(value)
 }
 
-// The number of the digits, or 1000 where it is greater.
+// The number of the digits, or one more than a whole part may be where it is greater.
 fn capped_value(digits: &[Glyph]) -> u16
     requires { All (λ digit. IsTrue (is_digit digit)) digits.now }
-    ensures { result ≡ min (digits_value 10 digits.now) 1000 }
+    ensures { result ≡ min (digits_value 10 digits.now) (most_whole + 1) }
 {
     let mut value = 0;
     for digit in digits {
@@ -117,15 +117,15 @@ fn capped_value(digits: &[Glyph]) -> u16
     value
 }
 
-// The number with a digit more, or 1000 where that is greater.
+// The number with a digit more, or one more than a whole part may be where that is greater.
 fn with_digit(value: u16, digit: Glyph) -> u16
     requires digit { IsTrue (is_digit digit) }
-    requires small { value ≤ 1000 }
-    ensures { result ≡ min (value * 10 + digit_value digit) 1000 }
+    requires small { value ≤ most_whole + 1 }
+    ensures { result ≡ min (value * 10 + digit_value digit) (most_whole + 1) }
 {
     match digit.digit_value() {
         None => unreachable!(),
-        Some(last) => (value * 10 + u16::from(last)).min(1000),
+        Some(last) => (value * 10 + u16::from(last)).min(WHOLE_LIMIT + 1),
     }
 }
 

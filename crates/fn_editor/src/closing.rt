@@ -1,21 +1,14 @@
 ghost use Rattle.std.specs.Prelude.{◌≡◌, ◌<◌, ◌+◌, true, false, drop, length, option_copied, slice_index};
 ghost use Rattle.apl_arrays.specs.Glyph.{is_blank};
-ghost use Rattle.fn_editor.specs.Closing.{before_close, behind, body, closes, is_blank_text, without_blanks};
+ghost use Rattle.fn_editor.specs.Closing.{before_close, behind, body, closes, is_blank_text};
 
-use apl_arrays::{Glyph, blank_count};
+use apl_arrays::Glyph;
 
 /// Whether nothing but blanks stands there. No memory.
 pub fn is_blank_text(text: &[Glyph]) -> bool
     ensures { result ≡ is_blank_text text.now }
 {
     text.iter().all(|glyph| glyph.is_blank())
-}
-
-/// The line without the blanks at its front. No memory.
-pub fn without_blanks(line: &[Glyph]) -> &[Glyph]
-    ensures { result.now ≡ without_blanks line.now }
-{
-    &line[blank_count(line)..]
 }
 
 /// What follows a glyph at the front, where it stands there. No memory.
@@ -28,7 +21,7 @@ pub fn behind(line: &[Glyph], glyph: Glyph) -> Option<&[Glyph]>
     }
 }
 
-/// What is done of a line, and whether the line closes the definition: its last glyph other than blanks is ∇. No memory.
+/// What is done of a line, and whether the line closes the definition: it ends with ∇, blanks aside. No memory.
 pub fn split_close(line: &[Glyph]) -> (&[Glyph], bool)
     ensures body { result.0.now ≡ body line.now }
     ensures closes { result.1 ≡ closes line.now }

@@ -1,4 +1,5 @@
 ghost use Rattle.std.specs.Prelude.{◌≡◌, ◌+◌, ◌<◌, ◌≤◌, false, true, Some, IfOk, IfErr, OnOk, OnErr, length, map, if◌then◌else◌};
+ghost use Rattle.apl_arrays.specs.Limits.{most_line_glyphs};
 ghost use Rattle.apl_arrays.specs.List.{glyphs_in};
 ghost use Rattle.std.specs.Option.{option_map};
 ghost use Rattle.std.specs.BTreeMap.{btree_map_len, is_at};
@@ -6,7 +7,7 @@ ghost use Rattle.std.specs.Map.{lookup};
 ghost use Rattle.std.specs.Ordering.{nat_cmp};
 ghost use Rattle.apl_workspace.specs.Function.{IsFunction};
 ghost use Rattle.apl_workspace.specs.Header.{header_of};
-ghost use Rattle.apl_workspace.specs.Limits.{most_weight};
+ghost use Rattle.apl_workspace.specs.Limits.{most_function_lines, most_weight};
 ghost use Rattle.apl_workspace.specs.Meaning.{is_variable_meaning};
 ghost use Rattle.apl_workspace.specs.declared.meaning.Meaning.{Meaning};
 ghost use Rattle.apl_workspace.specs.Workspace.{IsFull, global_in, with_global, workspace_weight};
@@ -19,13 +20,13 @@ ghost use Rattle.fn_editor.specs.Opening.{new_editor};
 ghost use Rattle.fn_editor.specs.Prompt.{prompt_text};
 
 use crate::bracket::{Bracket, bracket_in};
-use crate::closing::{behind, is_blank_text, split_close, without_blanks};
+use crate::closing::{behind, is_blank_text, split_close};
 use crate::content::{LineText, line_of};
 use crate::number::{LineNumber, WHOLE_LIMIT};
 use crate::prompt::Prompt;
 use crate::showing::shown;
-use apl_arrays::{Fail, Glyph, Line, LineList, Name, Report, WantOfMemory};
-use apl_workspace::{FUNCTION_LINE_LIMIT, Function, Header, LINE_GLYPH_LIMIT, Workspace};
+use apl_arrays::{Fail, Glyph, LINE_GLYPH_LIMIT, Line, LineList, Name, Report, WantOfMemory};
+use apl_workspace::{FUNCTION_LINE_LIMIT, Function, Header, Workspace, without_blanks};
 use std::alloc::Global;
 use std::collections::BTreeMap;
 use std::marker::Model;
@@ -60,7 +61,8 @@ pub struct Fed {
 }
 
 impl Editor {
-    /// The prompt of the current number: `[`, the number, `]`, and blanks up to six glyphs, at least one. No memory.
+    /// The prompt of the current number: the number in brackets, filled with one blank at least until it has six glyphs.
+    /// No memory.
     pub fn prompt(&self) -> Prompt
         ensures { result ≡ prompt_text self.now.number }
     {
@@ -83,13 +85,14 @@ impl Editor {
     }
 
     /// Does what a line asks: a bracket at its start, or text that enters at the current number; then a closing `∇`
-    /// closes the definition. The answer tells what is shown. `Defn` where the rules have nothing for the line; it leaves
-    /// the definition as it was, and so does `WantOfMemory`. It takes memory for a text that enters and for lines that are
-    /// shown.
+    /// closes the definition. The answer tells what is shown; the name stays. `Defn` where the rules have nothing for the
+    /// line; it leaves the definition as it was, and so does `WantOfMemory`. It takes memory for a text that enters and for
+    /// lines that are shown.
     pub fn feed(&mut self, line: &Line) -> Result<Fed, Fail>
         requires { self.old.closed ≡ false }
         ensures ok { IfOk result (λ done. fed self.old line.now.items ≡ Some (record { editor = self.new; shown = done.shown.items })) }
         ensures closed { IfOk result (λ done. done.closed ≡ self.new.closed) }
+        ensures name { self.new.header.name ≡ self.old.header.name }
         ensures refused { IfErr result (λ fail. IsRefused (fed self.old line.now.items) fail) }
         ensures err { OnErr result (self.new ≡ self.old) }
     {
@@ -120,7 +123,7 @@ impl Editor {
     /// A definition of a new function, without lines. No memory.
     pub(crate) fn new(alloc: Global, text: Line, header: Header) -> Editor
         requires header { header_of text.items ≡ Some header }
-        requires short { length text.items ≤ 1000 }
+        requires short { length text.items ≤ most_line_glyphs }
         ensures { result ≡ new_editor text.items header }
     {
         Editor {
@@ -330,7 +333,7 @@ fn numbered(
     alloc: Global,
     lines: &[Line],
 ) -> Result<(BTreeMap<LineNumber, LineText>, LineNumber), WantOfMemory>
-    requires { length lines.now ≤ 200 }
+    requires { length lines.now ≤ most_function_lines }
     ensures { IfOk result (λ found. (found.0.entries ≡ numbered 1 (map glyphs_in lines.now)) × (found.1 ≡ number_of (length lines.now + 1) 0)) }
 {
     let mut map = BTreeMap::new(alloc);

@@ -12,9 +12,9 @@ mod prompt;
 mod showing;
 
 pub use editor::{Editor, Fed};
-pub use laws::{lines_close_behind_a_del, numbers_go_on_in_tenths};
+pub use laws::{
+    brackets_ask_what_is_written, lines_close_behind_a_del, numbers_go_on_in_tenths,
+    whole_parts_are_as_defined,
+};
 pub use opening::Opened;
 pub use prompt::Prompt;
-
-#[cfg(test)]
-mod tests;

@@ -1,4 +1,4 @@
-ghost use Rattle.std.specs.Prelude.{◌≡◌, ◌<◌, ◌≤◌};
+ghost use Rattle.std.specs.Prelude.{◌≡◌, ◌+◌, ◌<◌, ◌≤◌};
 ghost use Rattle.fn_editor.specs.Number.{most_number, most_whole, next, number_of, tenth, whole};
 
 use std::marker::Model;
@@ -40,7 +40,7 @@ impl LineNumber {
     /// The whole part. No memory.
     pub fn whole(self) -> u16
         ensures value { result ≡ whole self }
-        ensures within { result ≤ 1000 }
+        ensures within { result ≤ most_whole + 1 }
         ensures limit { self ≤ most_number }
     {
         self.tenths / 10
@@ -54,7 +54,8 @@ impl LineNumber {
         (self.tenths % 10) as u8
     }
 
-    /// The number that comes next: after n comes n+1, after n.d comes n.(d+1), after n.9 comes n+1. No memory.
+    /// The number that comes next: one more, or behind a point a tenth more, and behind the ninth tenth the next whole
+    /// number. No memory.
     pub fn next(self) -> LineNumber
         requires { whole self ≤ most_whole }
         ensures { result ≡ next self }

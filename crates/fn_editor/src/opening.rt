@@ -1,6 +1,7 @@
-ghost use Rattle.std.specs.Prelude.{◌≡◌, Some, IfOk, IfErr};
+ghost use Rattle.std.specs.Prelude.{◌≡◌, false, Some, IfOk, IfErr};
 ghost use Rattle.std.specs.Option.{option_map};
 ghost use Rattle.apl_workspace.specs.Header.{header_of};
+ghost use Rattle.apl_workspace.specs.Meaning.{is_variable_meaning};
 ghost use Rattle.apl_workspace.specs.Workspace.{global_in};
 ghost use Rattle.apl_workspace.specs.declared.meaning.Meaning.{Meaning};
 ghost use Rattle.fn_editor.specs.Editing.{IsRefused, by_bracket, quietly};
@@ -8,10 +9,10 @@ ghost use Rattle.fn_editor.specs.Bracket.{bracket_in};
 ghost use Rattle.fn_editor.specs.Opening.{is_bare, name_with_bracket, opened, opened_as, opened_at, opened_by, opened_by_header};
 
 use crate::Editor;
-use crate::closing::{behind, split_close, without_blanks};
+use crate::closing::{behind, split_close};
 use crate::content::line_of;
-use apl_arrays::{Fail, Glyph, Line, LineList, Name, Report};
-use apl_workspace::{Header, LINE_GLYPH_LIMIT, Seen, Workspace};
+use apl_arrays::{Fail, Glyph, LINE_GLYPH_LIMIT, Line, LineList, Name, Report};
+use apl_workspace::{Header, Seen, Workspace, without_blanks};
 use std::alloc::Global;
 
 /// What a line opened: the definition, the lines that are shown, and whether the line closed it.
@@ -25,9 +26,11 @@ pub struct Opened {
 impl Editor {
     /// Opens a definition by a line that begins with `∇`: by a header whose name stands for nothing, or by the bare name
     /// of a function, which one bracket may follow; then a closing `∇` closes it. The answer tells what is shown. `Defn`
-    /// where the rules open nothing. It takes memory for the texts of the function, and for lines that are shown.
+    /// where the rules open nothing: the name of what is opened is no variable. It takes memory for the texts of the
+    /// function, and for lines that are shown.
     pub fn start(alloc: Global, line: &Line, ws: &Workspace) -> Result<Opened, Fail>
         ensures ok { IfOk result (λ done. opened ws.now line.now.items ≡ Some (record { editor = done.editor; shown = done.shown.items })) }
+        ensures no_variable { IfOk result (λ done. is_variable_meaning (global_in ws.now done.editor.header.name) ≡ false) }
         ensures closed { IfOk result (λ done. done.closed ≡ done.editor.closed) }
         ensures refused { IfErr result (λ fail. IsRefused (opened ws.now line.now.items) fail) }
     {
@@ -49,6 +52,7 @@ impl Editor {
 // Opens a definition by what stands behind the first ∇, without a closing one.
 fn open(alloc: Global, text: &[Glyph], ws: &Workspace) -> Result<(Editor, LineList), Fail>
     ensures ok { IfOk result (λ done. opened_by ws.now text.now ≡ Some (record { editor = done.0; shown = done.1.items })) }
+    ensures no_variable { IfOk result (λ done. is_variable_meaning (global_in ws.now done.0.header.name) ≡ false) }
     ensures refused { IfErr result (λ fail. IsRefused (opened_by ws.now text.now) fail) }
 {
     match name_with_bracket(text) {
@@ -76,6 +80,7 @@ fn open_at(
     ws: &Workspace,
 ) -> Result<(Editor, LineList), Fail>
     ensures ok { IfOk result (λ done. opened_at rest.now (global_in ws.now name.now) ≡ Some (record { editor = done.0; shown = done.1.items })) }
+    ensures no_variable { IfOk result (λ done. is_variable_meaning (global_in ws.now done.0.header.name) ≡ false) }
     ensures refused { IfErr result (λ fail. IsRefused (opened_at rest.now (global_in ws.now name.now)) fail) }
 {
     match ws.global(name) {
@@ -91,6 +96,7 @@ fn open_at(
 // Opens a definition by a header, or by the bare name of a function.
 fn open_by_header(alloc: Global, text: &[Glyph], ws: &Workspace) -> Result<(Editor, LineList), Fail>
     ensures ok { IfOk result (λ done. opened_by_header ws.now text.now (header_of text.now) ≡ Some (record { editor = done.0; shown = done.1.items })) }
+    ensures no_variable { IfOk result (λ done. is_variable_meaning (global_in ws.now done.0.header.name) ≡ false) }
     ensures refused { IfErr result (λ fail. IsRefused (opened_by_header ws.now text.now (header_of text.now)) fail) }
 {
     let text = line_of(alloc, text)?;
@@ -108,6 +114,7 @@ fn open_by_header(alloc: Global, text: &[Glyph], ws: &Workspace) -> Result<(Edit
 fn open_as(alloc: Global, text: Line, header: Header, ws: &Workspace) -> Result<Editor, Fail>
     requires { header_of text.items ≡ Some header }
     ensures ok { IfOk result (λ editor. opened_as text.items header (global_in ws.now header.name) ≡ Some (quietly editor)) }
+    ensures no_variable { IfOk result (λ editor. is_variable_meaning (global_in ws.now editor.header.name) ≡ false) }
     ensures refused { IfErr result (λ fail. IsRefused (opened_as text.items header (global_in ws.now header.name)) fail) }
 {
     match ws.global(&header.name) {
@@ -121,6 +128,7 @@ fn open_as(alloc: Global, text: Line, header: Header, ws: &Workspace) -> Result<
 fn open_new(alloc: Global, text: Line, header: Header) -> Result<Editor, Fail>
     requires { header_of text.items ≡ Some header }
     ensures ok { IfOk result (λ editor. opened_as text.items header Meaning.Nothing ≡ Some (quietly editor)) }
+    ensures name { IfOk result (λ editor. editor.header.name ≡ header.name) }
     ensures refused { IfErr result (λ fail. IsRefused (opened_as text.items header Meaning.Nothing) fail) }
 {
     if text.as_slice().len() > LINE_GLYPH_LIMIT {

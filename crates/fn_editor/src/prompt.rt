@@ -45,7 +45,7 @@ impl Prompt {
         &self.glyphs[..self.len as usize]
     }
 
-    /// The prompt of a number: `[`, the number, `]`, and blanks up to six glyphs, at least one. No memory.
+    /// The prompt of a number: the number in brackets, filled with one blank at least until it has six glyphs. No memory.
     #[tactic(auto, using(crate::proofs::Prompts::number_is_short, crate::proofs::Prompts::tenth_is_short))]
     pub fn of(number: LineNumber) -> Prompt
         ensures { result ≡ prompt_text number }
@@ -106,7 +106,7 @@ impl Prompt {
         }
     }
 
-    // Blanks up to six glyphs, at least one.
+    // The blanks that fill a prompt: one at least, and so many that it has six glyphs.
     fn fill(&mut self)
         requires { length self.old < 8 }
         ensures { self.new ≡ self.old ++ replicate (filling (length self.old)) blank }

@@ -10,8 +10,8 @@ use line_text::{add_blanks, add_glyphs};
 use std::alloc::Global;
 use std::collections::BTreeMap;
 
-/// What is shown of a header and lines: four blanks, ∇, a blank and the header; each line behind its prompt; four blanks
-/// and ∇. It takes memory for these lines.
+/// What is shown of a header and lines: a ∇ behind blanks begins and ends it, the header stands with the first, and the
+/// lines between, with their prompts. It takes memory for these lines.
 pub fn shown(
     alloc: Global,
     header: &[Glyph],

@@ -14,7 +14,7 @@ pub data PlainKind : Type 0 where
   system : SystemName → PlainKind
   sign : ℕ → PlainKind
 
--- a token, the place of its first glyph, and the place after its last
+-- what a token is, and from which glyph of its line up to which it stands
 pub record PlainToken : Type 0 where
   pub kind : PlainKind
   pub at : ℕ

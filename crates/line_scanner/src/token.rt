@@ -21,7 +21,7 @@ pub enum TokenKind {
     Sign(Glyph),
 }
 
-/// A token, the place of its first glyph, and the place after its last.
+/// What a token is, and from which glyph of its line up to which it stands; the one at `after` is no more of it.
 #[derive(Debug, Drop)]
 pub struct Token {
     pub kind: TokenKind,
@@ -29,7 +29,7 @@ pub struct Token {
     pub after: u64,
 }
 
-/// The tokens of a line, in order, and the length of the line.
+/// What a scan gives: the tokens from left to right, and how long the line is.
 #[derive(Debug, Drop)]
 pub struct Tokens {
     pub tokens: TokenList,

@@ -1,5 +1,6 @@
 pub mod AllMore
 pub mod Ascii
+pub mod Cuts
 pub mod Decimals
 pub mod GlyphTexts
 pub mod SameLines

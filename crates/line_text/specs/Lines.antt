@@ -1,5 +1,5 @@
 -- Lines as they are read and written.
-use Rattle.std.specs.Prelude.{ℕ, List, [], ◌∷◌, ◌++◌, map, codes, decimal}
+use Rattle.std.specs.Prelude.{ℕ, List, [], ◌∷◌, ◌++◌, ◌≢◌, All, map, codes, decimal}
 use Rattle.std.specs.List.{flat_map}
 use Rattle.apl_arrays.specs.Glyph.{bar, line_utf8}
 use Rattle.line_text.specs.Spaced.{spaced}
@@ -7,6 +7,10 @@ use Rattle.line_text.specs.Spaced.{spaced}
 -- the byte that ends each line
 abbrev pub line_feed : ℕ
 line_feed = 10
+
+-- no byte ends a line
+abbrev pub HasNoFeed : List ℕ → Type 0
+HasNoFeed bytes = All (λ byte. byte ≢ line_feed) bytes
 
 -- the heading of a user's lines
 abbrev pub heading : ℕ → List ℕ

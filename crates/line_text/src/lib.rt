@@ -9,7 +9,7 @@ pub mod worked;
 
 pub use lines::{
     a_text_tells_its_lines, add_content, add_contents, add_heading, add_line, add_user_lines,
-    add_word,
+    add_word, first_line,
 };
 pub use number::{a_text_tells_its_number, add_count, add_number, digit_count, number_width};
 pub use size::{heading_size, line_size};

@@ -1,8 +1,8 @@
-ghost use Rattle.std.specs.Prelude.{◌≡◌, ◌<◌, ◌^◌, All, ◌++◌, ℕ, List as ListOf, OnOk, IsTrue, map};
+ghost use Rattle.std.specs.Prelude.{◌≡◌, ◌<◌, ◌^◌, All, ◌∷◌, ◌++◌, ℕ, List as ListOf, OnOk, IsTrue, MatchOption, map};
 ghost use Rattle.std.specs.List.{list_all};
 ghost use Rattle.apl_arrays.specs.Glyph.{IsGlyph};
 ghost use Rattle.apl_arrays.specs.List.{glyphs_in};
-ghost use Rattle.line_text.specs.Lines.{heading, content, user_lines, line_text, lines_text};
+ghost use Rattle.line_text.specs.Lines.{heading, content, user_lines, line_feed, line_text, lines_text, HasNoFeed};
 ghost use Rattle.line_text.specs.Spaced.{is_plain};
 
 use crate::number::add_count;
@@ -83,6 +83,16 @@ pub fn add_user_lines(
 {
     add_heading(alloc, bytes, number)?;
     add_contents(alloc, bytes, lines)
+}
+
+/// The first line, up to its line feed, and what comes after that; or `None` where no line feed stands. No memory.
+#[tactic(auto, using(crate::proofs::Cuts::no_feed_found, crate::proofs::Cuts::feed_found))]
+pub fn first_line(bytes: &[u8]) -> Option<(&[u8], &[u8])>
+    ensures { MatchOption result (HasNoFeed bytes.now)
+        (λ found. (bytes.now ≡ found.0.now ++ line_feed ∷ found.1.now) × HasNoFeed found.0.now) }
+{
+    let place = bytes.iter().position(|byte| *byte == b'\n')?;
+    Some((&bytes[..place], &bytes[place + 1..]))
 }
 
 /// The bytes of lines of glyphs tell the lines. The call does nothing.

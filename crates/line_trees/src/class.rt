@@ -1,4 +1,4 @@
-ghost use Rattle.std.specs.Prelude.{◌≡◌, ◌-◌, ◌∷◌, ◌++◌, [], OnOk, OnErr, IsTrue, length, slice_get};
+ghost use Rattle.std.specs.Prelude.{◌≡◌, ◌+◌, ◌-◌, ◌<◌, ◌≤◌, ◌∷◌, ◌++◌, [], IsOk, OnOk, OnErr, IsTrue, length, slice_get};
 ghost use Rattle.line_trees.specs.Classes.{NamesAscend, is_before, come_before, first_not_before, arguments_where};
 ghost use Rattle.line_trees.specs.Symbols.{arguments_of};
 
@@ -13,21 +13,21 @@ pub struct Class {
     pub arguments: u8,
 }
 
-/// The classes of names, seen as a list: one for each name that is a function, the names ascending. Any other name is a
-/// value.
+/// The names that stand for functions, ascending, each with its class. A name that is not among them is that of a
+/// value. They are seen as a list and the room that is left.
 #[derive(Debug, Drop)]
 pub struct Classes {
     classes: List<Class>,
 }
 
 impl Model for Classes {
-    ghost use Rattle.std.specs.Prelude.{List};
+    ghost use Rattle.apl_arrays.specs.List.{Listed};
     ghost use Rattle.line_trees.specs.declared.class.Class.{Class};
     ghost use Rattle.line_trees.specs.Classes.{NamesAscend};
 
-    ghost Value = { List Class };
+    ghost Value = { Listed Class };
 
-    ghost view = { λ c. c.classes.items };
+    ghost view = { λ c. record { items = c.classes.items; room = c.classes.room } };
 
     ghost invariant = { λ c. NamesAscend c.classes.items };
 }
@@ -35,7 +35,7 @@ impl Model for Classes {
 impl Classes {
     /// No classes. No memory.
     pub fn new(alloc: Global) -> Self
-        ensures { result ≡ [] }
+        ensures { result.items ≡ [] }
     {
         Classes {
             classes: List::new(alloc),
@@ -44,7 +44,7 @@ impl Classes {
 
     /// The classes, the names ascending. No memory.
     pub fn as_slice(&self) -> &[Class]
-        ensures items { result.now ≡ self.now }
+        ensures items { result.now ≡ self.now.items }
         ensures ascending { NamesAscend result.now }
     {
         self.classes.as_slice()
@@ -52,7 +52,7 @@ impl Classes {
 
     /// Whether the names of all the classes come before a name. No memory.
     pub fn come_before(&self, name: &Name) -> bool
-        ensures { result ≡ come_before self.now name.now }
+        ensures { result ≡ come_before self.now.items name.now }
     {
         match last_of(self.as_slice()) {
             None => true,
@@ -60,13 +60,34 @@ impl Classes {
         }
     }
 
-    /// Adds a class whose name comes behind all the others. It takes memory where there is no room. `WantOfMemory`
-    /// leaves the classes as they were.
+    /// The classes as a `Vec`, the names ascending. No memory.
+    pub fn into_vec(self) -> Vec<Class>
+        ensures value { result.items ≡ self.items }
+        ensures ascending { NamesAscend result.items }
+    {
+        self.classes.into_vec()
+    }
+
+    /// Makes room for at least so many pushes, and takes memory for it. `WantOfMemory` leaves the classes as they were.
+    pub fn reserve(&mut self, room: usize) -> Result<(), WantOfMemory>
+        ensures items { self.new.items ≡ self.old.items }
+        ensures room { OnOk result (room ≤ self.new.room) }
+        ensures kept { self.old.room ≤ self.new.room }
+        ensures err { OnErr result (self.new ≡ self.old) }
+        ensures granted { room ≤ self.old.room → IsOk result }
+    {
+        self.classes.reserve(room)
+    }
+
+    /// Adds a class whose name comes behind all the others. Where there is room it is granted and takes no memory, else
+    /// it takes memory for more. `WantOfMemory` leaves the classes as they were.
     #[tactic(auto, using(crate::proofs::ClassesInOrder::one_behind))]
     pub fn push(&mut self, class: Class) -> Result<(), WantOfMemory>
-        requires { IsTrue (come_before self.old class.name) }
-        ensures ok { OnOk result (self.new ≡ self.old ++ class ∷ []) }
+        requires { IsTrue (come_before self.old.items class.name) }
+        ensures ok { OnOk result (self.new.items ≡ self.old.items ++ class ∷ []) }
         ensures err { OnErr result (self.new ≡ self.old) }
+        ensures granted { 0 < self.old.room → IsOk result }
+        ensures room { 0 < self.old.room → self.new.room + 1 ≡ self.old.room }
     {
         self.classes.push(class)
     }
@@ -74,7 +95,7 @@ impl Classes {
     /// How many arguments the function of this name takes, or `None` where it is no function. A search by halves. No
     /// memory.
     pub fn arguments_of(&self, name: &Name) -> Option<u8>
-        ensures { result ≡ arguments_of self.now name.now }
+        ensures { result ≡ arguments_of self.now.items name.now }
     {
         arguments_where(first_not_before(self.as_slice(), name), name)
     }

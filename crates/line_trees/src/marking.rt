@@ -32,8 +32,8 @@ pub fn marks_of(
     tokens: &Tokens,
     classes: &Classes,
 ) -> Result<List<Mark>, ParseRefused>
-    ensures marks { IfOk result (λ marks. marks_from classes.now tokens.now.length (Mode.Begins Before.Line) [] tokens.now.tokens.items ≡ Ok marks.items) }
-    ensures refused { IfErr result (λ refused. IsMarkRefusal refused (marks_from classes.now tokens.now.length (Mode.Begins Before.Line) [] tokens.now.tokens.items)) }
+    ensures marks { IfOk result (λ marks. marks_from classes.now.items tokens.now.length (Mode.Begins Before.Line) [] tokens.now.tokens.items ≡ Ok marks.items) }
+    ensures refused { IfErr result (λ refused. IsMarkRefusal refused (marks_from classes.now.items tokens.now.length (Mode.Begins Before.Line) [] tokens.now.tokens.items)) }
 {
     let mut marks = List::new(alloc);
     let mut brackets = Stack::new(alloc);

@@ -1,4 +1,4 @@
-ghost use Rattle.std.specs.Prelude.{◌≡◌, ◌+◌, ◌<◌, ◌∷◌, [], ◌++◌, IsOk, OnOk, OnErr, map, length};
+ghost use Rattle.std.specs.Prelude.{◌≡◌, ◌+◌, ◌<◌, ◌≤◌, ◌∷◌, [], ◌++◌, IsOk, OnOk, OnErr, map, length};
 ghost use Rattle.line_trees.specs.Nodes.{plain_node};
 
 use crate::Node;
@@ -37,6 +37,24 @@ impl NodeList {
         ensures { map plain_node result.now ≡ self.now.items }
     {
         self.nodes.as_slice()
+    }
+
+    /// The nodes as a `Vec`. No memory.
+    pub fn into_vec(self) -> Vec<Node>
+        ensures { map plain_node result.items ≡ self.items }
+    {
+        self.nodes.into_vec()
+    }
+
+    /// Makes room for at least so many pushes, and takes memory for it. `WantOfMemory` leaves the list as it was.
+    pub fn reserve(&mut self, room: usize) -> Result<(), WantOfMemory>
+        ensures items { self.new.items ≡ self.old.items }
+        ensures room { OnOk result (room ≤ self.new.room) }
+        ensures kept { self.old.room ≤ self.new.room }
+        ensures err { OnErr result (self.new ≡ self.old) }
+        ensures granted { room ≤ self.old.room → IsOk result }
+    {
+        self.nodes.reserve(room)
     }
 
     /// How many nodes there are. No memory.

@@ -22,7 +22,7 @@ fn built_from(
     tokens: &[Token],
 ) -> Result<Builder, WantOfMemory>
     requires { length marks.now ≡ length tokens.now }
-    ensures { IfOk result (λ b. plain_builder b ≡ built_from classes.now marks.now (map plain_token tokens.now)) }
+    ensures { IfOk result (λ b. plain_builder b ≡ built_from classes.now.items marks.now (map plain_token tokens.now)) }
 {
     let mut builder = Builder::new(alloc);
     let mut at = tokens.len();
@@ -34,13 +34,13 @@ fn built_from(
     Ok(builder)
 }
 
-/// The tree of the tokens of a line, by the classes of its names. `SyntaxError` has the place of the first token with
-/// which no line of the grammar goes on, or the length of the line where it ends too early. It takes memory for the
-/// nodes, and while it works for each token.
+/// The tree that the grammar gives to a line's tokens, where the names have these classes. `SyntaxError` tells the first
+/// token that cannot stand where it does, by its place, or the line's length where the line stops short. It takes memory
+/// for the nodes, and for each token while it works.
 #[tactic(auto, using(crate::proofs::Loops::same_length))]
 pub fn parse(alloc: Global, tokens: &Tokens, names: &Classes) -> Result<Tree, ParseRefused>
-    ensures tree { IfOk result (λ tree. parsed names.now tokens.now.tokens.items tokens.now.length ≡ Ok (plain_tree tree)) }
-    ensures refused { IfErr result (λ refused. IsRefusal refused (parsed names.now tokens.now.tokens.items tokens.now.length)) }
+    ensures tree { IfOk result (λ tree. parsed names.now.items tokens.now.tokens.items tokens.now.length ≡ Ok (plain_tree tree)) }
+    ensures refused { IfErr result (λ refused. IsRefusal refused (parsed names.now.items tokens.now.tokens.items tokens.now.length)) }
 {
     let marks = marks_of(alloc, tokens, names)?;
     let builder = built_from(alloc, names, marks.as_slice(), tokens.tokens.as_slice())?;

@@ -111,7 +111,7 @@ fn sign_symbol(glyph: Glyph) -> Symbol
 
 /// What a token of this kind is, by the classes of names.
 pub fn symbol_of(classes: &Classes, kind: &TokenKind) -> Symbol
-    ensures { result ≡ symbol_of classes.now (plain_kind kind.now) }
+    ensures { result ≡ symbol_of classes.now.items (plain_kind kind.now) }
 {
     match kind {
         TokenKind::Numbers(_) | TokenKind::Chars(_) => Symbol::Constant,

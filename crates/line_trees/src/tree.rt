@@ -17,7 +17,7 @@ pub type Places = List<Option<u64>>;
 /// A part of an expression. It names other nodes by their numbers.
 #[derive(Debug, Drop)]
 pub enum Node {
-    /// A constant: one item is a scalar, any other count a vector.
+    /// A constant: a lone item makes a scalar, all else a vector.
     Constant(Items),
     Value(Name),
     Niladic(Name),

@@ -19,7 +19,7 @@ same_control a b = same_element 1 && same_element 2 && same_element 3 && same_el
     same_element : ℕ → Bool
     same_element element = beq (has_element a element) (has_element b element)
 
--- a control read from the partner's side: the elements in the order 2 1 4 3
+-- a control as the partner counts: its first mark is the second there, its third the fourth, and the other way round
 abbrev pub swapped : Control → Control
 swapped control = four_elements (has_element control 2) (has_element control 1) (has_element control 4) (has_element control 3)
 

@@ -55,7 +55,7 @@ abbrev pub vector_by : Control → Control → Side → Control
 vector_by a b A = a
 vector_by a b B = b
 
--- the element of my access in my own view: set by me, use by me
+-- the number of an access as its own side counts: 1 of a set, 3 of a use
 abbrev pub my_element : Kind → ℕ
 my_element Set = 1
 my_element Use = 3

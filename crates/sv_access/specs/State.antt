@@ -46,7 +46,8 @@ own_unseen_vector = four_elements true false true false
 abbrev pub partners_unseen_vector : Control
 partners_unseen_vector = four_elements false true false true
 
--- the state's vector in a side's view: set by me, set by the partner, use by me, use by the partner
+-- which accesses come early in a state, as a side counts them: a set of its own, of the other side, a use of its own,
+-- of the other side
 abbrev pub vector_of_state : State → Side → Control
 vector_of_state Quiet side = quiet_vector
 vector_of_state UnseenA A = own_unseen_vector

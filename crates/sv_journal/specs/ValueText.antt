@@ -14,7 +14,7 @@ abbrev pub kind_text : PlainItems → List ℕ
 kind_text (numbers _) = codes "N"
 kind_text (chars _) = codes "C"
 
--- the items: numbers with one blank between, or characters in quotes
+-- the items in a journal line: numbers set apart by single blanks, characters between quotes
 abbrev pub items_text : PlainItems → List ℕ
 items_text (numbers list) = spaced (map number_text list)
 items_text (chars list) = quote ∷ (flat_map char_text list ++ quote ∷ [])

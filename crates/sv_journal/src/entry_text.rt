@@ -170,7 +170,7 @@ pub fn text_of(alloc: Global, place: u64, entry: &Entry) -> Result<Line, WantOfM
     Ok(line)
 }
 
-/// No two entries have one text: a text tells the place, and each part of the entry. The call does nothing.
+/// A text tells the place, and each part of its entry, so that no other entry has it. The call does nothing.
 pub fn an_entry_is_read_in_one_way()
     ensures { (place other : ℕ) (entry another : PlainEntry) → place < 2 ^ 64 → other < 2 ^ 64
         → IsPrintableEntry entry → IsPrintableEntry another

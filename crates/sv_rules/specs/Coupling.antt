@@ -42,7 +42,7 @@ degree_at coupled place = if is_coupled coupled place then 2 else 1
 abbrev pub is_open_match : List Made → Standing → Standing → Bool
 is_open_match coupled offer other = not (is_coupled coupled other.place) && is_match offer other
 
--- the open match of an offer, of the lowest place
+-- of the open matches of an offer the oldest
 abbrev pub open_match : List Standing → List Made → Standing → Option Standing
 open_match offers coupled offer = find (is_open_match coupled offer) offers
 

@@ -91,7 +91,7 @@ abbrev pub value_answer : Option PlainArray → PlainAnswer
 value_answer None = no_value
 value_answer (Some got) = value got
 
--- what a use gives: the last value set on either side of a coupling, else the party's own known value
+-- what a use gives: in a coupling the value of its newest set, whoever made it; without one what the party knows
 abbrev pub value_for : Entries → Standing → Option Coupling → Option PlainArray
 value_for journal offer None = known journal offer
 value_for journal offer (Some coupling) = last_value (story journal coupling)

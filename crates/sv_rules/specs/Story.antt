@@ -49,7 +49,7 @@ known_after (Some access) before = Some access.value
 abbrev pub handed_in : Act → Option PlainArray
 handed_in act = (act_row act).hands_in
 
--- the known value of an offer: the last value that its party set or got on it since, else the one in its entry
+-- what the party of an offer knows of the variable: its newest set or get there, or else what its entry handed in
 abbrev pub known : Entries → Standing → Option PlainArray
 known [] offer = None
 known (e ∷ journal) offer =

@@ -68,7 +68,7 @@ fn is_open_match(coupled: &[Made], offer: &Standing, other: &Standing) -> bool
     !is_coupled(coupled, other.place) && is_match(offer, other)
 }
 
-/// The open match of an offer, of the lowest place, if there is one. No memory.
+/// Of the open matches of an offer the oldest, if it has any. No memory.
 pub fn open_match(offers: &[Standing], coupled: &[Made], offer: &Standing) -> Option<Standing>
     ensures { result ≡ open_match offers.now coupled.now offer.now }
 {

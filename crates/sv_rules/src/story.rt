@@ -117,8 +117,8 @@ pub fn kind_on(offer: &Standing, entry: &Entry) -> Option<Kind>
     }
 }
 
-/// The known value of an offer: the last value that its party set or got on it, else the one handed in with it. No
-/// memory.
+/// What the party of an offer knows of the variable: its newest set or get there, or else what it brought along with the
+/// offer. No memory.
 pub fn known_value<'a>(entries: &'a [Entry], offer: &Standing) -> Option<&'a Array>
     ensures { option_copied result ≡ known (journal_of entries.now) offer.now }
 {

@@ -1,8 +1,8 @@
 ghost use Rattle.std.specs.Prelude.{◌≡◌, ◌≤◌, true, false, Some, IsOk, IsSome, OnOk, OnErr, IfErr, is_some};
 ghost use Rattle.apl_workspace.specs.Function.{IsFunction};
 ghost use Rattle.apl_workspace.specs.Limits.{most_weight};
-ghost use Rattle.apl_workspace.specs.Meaning.{IsWhole, is_shared_meaning, is_variable_meaning, meaning_in};
-ghost use Rattle.apl_workspace.specs.Workspace.{IsFull, IsNotAssigned, assigned, given, global_in, is_assignable, is_shared, look, with_global, without_global, workspace_weight};
+ghost use Rattle.apl_workspace.specs.Meaning.{IsGlobal, is_shared_meaning, is_variable_meaning, meaning_in};
+ghost use Rattle.apl_workspace.specs.Workspace.{IsFull, IsNotAssigned, assigned, global_in, is_assignable, is_shared, look, with_global, without_global, workspace_weight};
 
 use crate::frames::{innermost_place, put_innermost};
 use crate::limits::WEIGHT_LIMIT;
@@ -10,9 +10,9 @@ use crate::{Function, Meaning, Seen, Workspace};
 use apl_arrays::{Array, Fail, Name, Report};
 
 impl Workspace {
-    /// Gives a name a value: in the innermost frame that has the name, else globally. `Syntax` where the name is a label
-    /// or a function, else `WsFull` where the workspace would weigh more than it may; a refusal leaves the workspace as
-    /// it was. It takes memory for a new global name.
+    /// Gives a name a value where a look-up finds the name: in a frame, or as a global. `Syntax` where the name is a
+    /// label or a function, else `WsFull` where the workspace would weigh more than it may; a refusal leaves the
+    /// workspace as it was. It takes memory for a new global name.
     pub fn assign(&mut self, name: &Name, value: Array) -> Result<(), Fail>
         requires { is_shared_meaning (look self.old name.now) ≡ false }
         ensures ok { OnOk result (self.new ≡ assigned self.old name.now value) }
@@ -25,7 +25,7 @@ impl Workspace {
             discard(value);
             return Err(Fail::Report(Report::Syntax));
         }
-        self.give(name, Meaning::Value(value))
+        self.give(name, value)
     }
 
     /// Defines a function under its name, in place of one that is there. `WsFull` where the workspace would weigh more
@@ -59,21 +59,22 @@ impl Workspace {
         !matches!(self.look(name), Seen::Function(_) | Seen::Label(_))
     }
 
-    /// The name stands for this: in the innermost frame that has it, else globally. `WsFull` where the workspace would
-    /// weigh more than it may; it leaves the workspace as it was, and so does `WantOfMemory`.
-    fn give(&mut self, name: &Name, meaning: Meaning) -> Result<(), Fail>
-        requires { IsWhole name.now meaning }
-        ensures ok { OnOk result (self.new ≡ given self.old name.now meaning) }
-        ensures fits { OnOk result (workspace_weight (given self.old name.now meaning) ≤ most_weight) }
+    /// The name has this value: in the innermost frame that has the name, else globally. `WsFull` where the workspace
+    /// would weigh more than it may; it leaves the workspace as it was, and so does `WantOfMemory`.
+    fn give(&mut self, name: &Name, value: Array) -> Result<(), Fail>
+        requires { is_shared_meaning (look self.old name.now) ≡ false }
+        ensures ok { OnOk result (self.new ≡ assigned self.old name.now value) }
+        ensures fits { OnOk result (workspace_weight (assigned self.old name.now value) ≤ most_weight) }
         ensures err { OnErr result (self.new ≡ self.old) }
-        ensures full { IfErr result (IsFull (given self.old name.now meaning)) }
+        ensures full { IfErr result (IsFull (assigned self.old name.now value)) }
     {
+        let value = Meaning::Value(value);
         match innermost_place(&self.frames, name) {
-            None => self.put_global(*name, meaning),
+            None => self.put_global(*name, value),
             Some(at) => {
                 let most = WEIGHT_LIMIT - self.globals.weight();
                 let frames = &mut self.frames;
-                match put_innermost(frames, at, self.frames_weight, *name, meaning, most) {
+                match put_innermost(frames, at, self.frames_weight, *name, value, most) {
                     Ok(weight) => {
                         self.frames_weight = weight;
                         Ok(())
@@ -87,7 +88,8 @@ impl Workspace {
     /// The global name stands for this. `WsFull` where the workspace would weigh more than it may; it leaves the
     /// workspace as it was, and so does `WantOfMemory`.
     pub(super) fn put_global(&mut self, name: Name, meaning: Meaning) -> Result<(), Fail>
-        requires { IsWhole name meaning }
+        requires is_global { IsGlobal name meaning }
+        requires stays_shared { is_shared self.old name ≡ true → is_shared_meaning meaning ≡ true }
         ensures ok { OnOk result (self.new ≡ with_global self.old name meaning) }
         ensures fits { OnOk result (workspace_weight (with_global self.old name meaning) ≤ most_weight) }
         ensures err { OnErr result (self.new ≡ self.old) }

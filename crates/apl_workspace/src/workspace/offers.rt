@@ -1,7 +1,7 @@
 ghost use Rattle.std.specs.Prelude.{◌≡◌, ◌≤◌, true, false, Some, IsOk, OnOk, OnErr, IfErr, filter, vec_len};
 ghost use Rattle.apl_workspace.specs.Limits.{most_weight};
 ghost use Rattle.apl_workspace.specs.Meaning.{is_function_meaning};
-ghost use Rattle.apl_workspace.specs.Workspace.{IsFull, global_in, is_addressee, is_of_another, is_shared, marked, unmarked, with_global, workspace_weight};
+ghost use Rattle.apl_workspace.specs.Workspace.{IsFull, global_in, is_addressee, is_of_another, is_shared, marked, takes_offer, unmarked, with_global, workspace_weight};
 
 use crate::limits::{OFFER_LIMIT, WEIGHT_LIMIT};
 use crate::room::reserve_one;
@@ -9,9 +9,9 @@ use crate::{Meaning, Remake, Workspace};
 use apl_arrays::{Array, Fail, Name};
 
 impl Workspace {
-    /// Marks a global name as shared with its own copy of the value, and lists its offer last. Where the name is shared
-    /// already, or 64 offers are listed, the list stays as it is. `WsFull` where the workspace would weigh more than it
-    /// may; it leaves the workspace as it was, and so does `WantOfMemory`.
+    /// Marks a global name as shared with its own copy of the value, and lists its offer last. A name that was shared
+    /// before keeps the offer that it has, and a list of 64 offers takes no more. `WsFull` where the workspace would
+    /// weigh more than it may; it leaves the workspace as it was, and so does `WantOfMemory`.
     pub fn mark(
         &mut self,
         name: &Name,
@@ -27,9 +27,8 @@ impl Workspace {
         ensures full { IfErr result (IsFull (with_global self.old name.now (Meaning.Shared value))) }
     {
         let local = *name;
-        let stays = self.is_shared(name) || self.offers.len() >= OFFER_LIMIT;
         let most = WEIGHT_LIMIT - self.frames_weight;
-        if stays {
+        if !self.takes_offer(name) {
             return self.globals.put(local, Meaning::Shared(value), most);
         }
         reserve_one(&mut self.offers)?;
@@ -40,6 +39,13 @@ impl Workspace {
             to,
         });
         Ok(())
+    }
+
+    /// Whether an offer of the name is listed: the name is not shared yet, and fewer than 64 offers are listed.
+    fn takes_offer(&self, name: &Name) -> bool
+        ensures { result ≡ takes_offer self.now name.now }
+    {
+        !self.is_shared(name) && self.offers.len() < OFFER_LIMIT
     }
 
     /// Takes the mark of a shared name away, and its offer out of the list. The name then has the value handed in, or is
@@ -54,7 +60,7 @@ impl Workspace {
         unlist(&mut self.offers, name);
     }
 
-    /// The own copy of a shared variable is this value. `WsFull` where the workspace would weigh more than it may; it
+    /// A shared variable keeps this value as its copy. `WsFull` where the workspace would weigh more than it may; it
     /// leaves the workspace as it was. No memory.
     pub fn renew(&mut self, name: &Name, value: Array) -> Result<(), Fail>
         requires { is_shared self.old name.now ≡ true }

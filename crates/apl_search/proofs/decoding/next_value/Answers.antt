@@ -11,5 +11,5 @@ product_below a b x y z fits_a fits_b is_x is_y e =
 
 pub overflow_add-result : goal.overflow_add-result
 overflow_add-result c =
-    let below = product_below c.args.value c.args.base _ _ c.product.result c.ranges.value c.ranges.base (to_z-of_z w64 c.args.value c.ranges.value) (to_z-of_z w64 c.args.base c.ranges.base) c.product.ensures in
+    let below = product_below c.args.value c.args.base _ _ c.widened_product.result c.ranges.value c.ranges.base (to_z-of_z w64 c.args.value c.ranges.value) (to_z-of_z w64 c.args.base c.ranges.base) c.widened_product.ensures in
     omega (arith, ints)

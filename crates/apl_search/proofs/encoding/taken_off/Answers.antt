@@ -23,7 +23,7 @@ taken base rest left product x y z of_rest of_product is_product is_x is_y is_le
 
 pub returns-else-base-eq0-clause-digit : goal.returns-else-base-eq0-clause-digit
 returns-else-base-eq0-clause-digit c =
-    taken c.args.base c.args.rest c.floor_quotient-left.result c.product.result _ _ _ c.requires c.product.ensures.bound c.product.ensures.value
+    taken c.args.base c.args.rest c.floor_quotient-left.result c.wide_product.result _ _ _ c.requires c.wide_product.ensures.bound c.wide_product.ensures.value
     (wide c.args.base c.from-else-base-eq0.result c.ranges.base c.from-else-base-eq0.ensures) (to_z-of_z w128 c.floor_quotient-left.result (record { sfits = c.floor_quotient-left.type_inv }))
     (c.floor_quotient-left.ensures.value ∙ ap (λ (r : ℤ). floor_quotient (to_z w128 (of_z w128 c.from.result)) r) (to_z-of_z w128 c.args.rest c.ranges.rest))
     (wide c.args.base c.from.result c.ranges.base c.from.ensures)

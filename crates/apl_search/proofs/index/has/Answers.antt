@@ -5,4 +5,4 @@ use Rattle.apl_search.proofs.index.has.Goals as goal
 
 pub returns : goal.returns
 returns g c =
-    ap (λ place. nat_lt place (length c.args.list.now)) c.place_of.ensures.value ∙ place_tells (g.T.PartialEq.eq c.args.item.now) c.args.list.now
+    ap (λ place. nat_lt place (length c.args.list.now)) c.first_place.ensures.value ∙ place_tells (g.T.PartialEq.eq c.args.item.now) c.args.list.now

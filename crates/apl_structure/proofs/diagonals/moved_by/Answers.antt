@@ -3,9 +3,9 @@ use Rattle.apl_arrays.specs.Array.{element_count, item_count, plain_items}
 use Rattle.apl_items.specs.Shapes.{stride_of}
 use Rattle.apl_structure.specs.Diagonals.{axes_named}
 use Rattle.std.proofs.lemmas.List.{length-map}
-use Rattle.apl_structure.proofs.AxisLemmas.{axes_small}
+use Rattle.apl_selection.proofs.PickLemmas.{axes_small}
 use Rattle.apl_structure.proofs.DiagonalLemmas.{diagonal_is, diagonal_within, nothing_is, steps_same}
-use Rattle.apl_structure.proofs.MoveLemmas.{count_of_made}
+use Rattle.apl_selection.proofs.MoveLemmas.{count_of_made}
 use Rattle.apl_structure.proofs.diagonals.moved_by.Goals as goal
 
 pub shaped-requires-clause-whole : goal.shaped-requires-clause-whole

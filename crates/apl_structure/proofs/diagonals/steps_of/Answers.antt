@@ -1,6 +1,6 @@
 use Rattle.std.proofs.Common.{◌+◌, ℕ, ap, ◌∙◌}
 use Rattle.apl_structure.specs.Diagonals.{axes_named, step_of}
-use Rattle.apl_structure.proofs.MoveLemmas.{one_place_more}
+use Rattle.apl_selection.proofs.MoveLemmas.{one_place_more}
 use Rattle.apl_structure.proofs.diagonals.steps_of.Goals as goal
 
 pub loop-axis-preserved : goal.loop-axis-preserved

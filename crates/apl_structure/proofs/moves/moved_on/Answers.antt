@@ -1,5 +1,5 @@
 use Rattle.apl_arrays.specs.Array.{element_count, plain_items}
-use Rattle.apl_structure.proofs.MoveLemmas.{count_of_made, whole_source}
+use Rattle.apl_selection.proofs.MoveLemmas.{count_of_made, whole_source}
 use Rattle.apl_structure.proofs.moves.moved_on.Goals as goal
 
 pub moved_along-requires-clause-whole : goal.moved_along-requires-clause-whole

@@ -1,6 +1,6 @@
 use Rattle.std.proofs.Common.{◌∙◌, sym}
 use Rattle.apl_arrays.specs.Array.{plain_items}
-use Rattle.apl_structure.proofs.MoveLemmas.{count_of_made}
+use Rattle.apl_selection.proofs.MoveLemmas.{count_of_made}
 use Rattle.apl_structure.proofs.ReshapeLemmas.{reshaped_is}
 use Rattle.apl_structure.proofs.reshaping.reshaped.Goals as goal
 

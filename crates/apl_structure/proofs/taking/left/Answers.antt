@@ -1,7 +1,7 @@
 use Rattle.std.proofs.Common.{◌≡◌, ℕ, Option, pos, slice_index, slice_index_or, subst, sym, ap, ◌∙◌}
 use Rattle.std.proofs.lemmas.Result.{IfOk-weaker}
 use Rattle.apl_arrays.specs.Array.{FitsLimits, element_count, item_count, plain_items}
-use Rattle.apl_structure.specs.Picks.{picked}
+use Rattle.apl_selection.specs.Picks.{picked}
 use Rattle.apl_structure.specs.Taking.{left, left_from}
 use Rattle.apl_structure.proofs.TakeLemmas.{left_fits, left_is, source_fits, source_of}
 use Rattle.apl_structure.proofs.taking.left.Goals as goal

@@ -1,5 +1,5 @@
 use Rattle.std.proofs.Common.{◌-◌, ℕ, pos, slice_index, slice_index_or, unsigned_abs, ◌∙◌}
-use Rattle.apl_structure.proofs.MoveLemmas.{one_place_more}
+use Rattle.apl_selection.proofs.MoveLemmas.{one_place_more}
 use Rattle.apl_structure.proofs.taking.left_shape.Goals as goal
 
 pub loop-axis-preserved : goal.loop-axis-preserved

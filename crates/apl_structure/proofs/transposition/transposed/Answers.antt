@@ -1,8 +1,9 @@
 use Rattle.std.proofs.Common.{◌<◌, ℕ, List, get_or, length, sym, ap, subst, ◌∙◌, arith}
 use Rattle.apl_arrays.specs.Array.{element_count, item_count, plain_items}
 use Rattle.apl_items.specs.Shapes.{stride_of}
-use Rattle.apl_structure.proofs.AxisLemmas.{axes_small, count_transposed, fits_transposed, transposed_is, transposed_same, transposed_within}
-use Rattle.apl_structure.proofs.MoveLemmas.{count_of_made}
+use Rattle.apl_selection.proofs.PickLemmas.{axes_small}
+use Rattle.apl_structure.proofs.OppositeLemmas.{count_transposed, fits_transposed, transposed_is, transposed_same, transposed_within}
+use Rattle.apl_selection.proofs.MoveLemmas.{count_of_made}
 use Rattle.apl_structure.proofs.transposition.transposed.Goals as goal
 
 pub shaped-requires-clause-fits : goal.shaped-requires-clause-fits

@@ -1,4 +1,4 @@
-use Rattle.std.proofs.Common.{◌≡◌, ◌≤◌, take, filter}
+use Rattle.std.proofs.Common.{◌≡◌, take, filter}
 use Rattle.std.specs.Map.{keys_of}
 use Rattle.apl_workspace.specs.Listing.{is_wanted}
 use Rattle.apl_workspace.proofs.table.collected.Given as goal

@@ -8,4 +8,4 @@ use Rattle.line_trees.proofs.marking.marks_of.Given as goal
 -- the marks so far and those of the tokens to come are all
 abbrev pub invariant-loop-token : goal.invariant-loop-token
 invariant-loop-token l =
-    with_marks l.marks.items (marks_from l.classes l.tokens.length l.mode l.brackets (drop l.token-index l.tokens.tokens.items)) ≡ marks_from l.classes l.tokens.length (Begins before.Line) [] l.tokens.tokens.items
+    with_marks l.marks.items (marks_from l.classes.items l.tokens.length l.mode l.brackets (drop l.token-index l.tokens.tokens.items)) ≡ marks_from l.classes.items l.tokens.length (Begins before.Line) [] l.tokens.tokens.items

@@ -6,7 +6,7 @@ use Rattle.line_trees.proofs.parsing.built_from.Given as goal
 
 -- what the marks from a place on build
 abbrev pub invariant-loop-at : goal.invariant-loop-at
-invariant-loop-at l = (l.at ≤ length l.tokens) × (plain_builder l.builder ≡ built_from l.classes (drop l.at l.marks) (map plain_token (drop l.at l.tokens)))
+invariant-loop-at l = (l.at ≤ length l.tokens) × (plain_builder l.builder ≡ built_from l.classes.items (drop l.at l.marks) (map plain_token (drop l.at l.tokens)))
 
 -- the tokens that are left
 abbrev pub decreases-loop-at : goal.decreases-loop-at

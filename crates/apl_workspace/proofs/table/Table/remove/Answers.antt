@@ -1,4 +1,3 @@
-use Rattle.std.proofs.Common.{◌-◌}
 use Rattle.apl_workspace.proofs.InOrder.{taken_in_order}
 use Rattle.apl_workspace.proofs.Tables.{is_table_without}
 use Rattle.apl_workspace.proofs.table.Table.remove.Goals as goal

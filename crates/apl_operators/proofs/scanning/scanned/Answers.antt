@@ -1,0 +1,55 @@
+use Rattle.std.proofs.Common.{◌≡◌, ◌<◌, ◌∙◌, List, ℕ, sym, ap, arith}
+use Rattle.std.proofs.lemmas.Result.{err_from_is_err_and}
+use Rattle.apl_arrays.specs.Array.{PlainArray, PlainItems, chars, item_count, numbers, plain_items}
+use Rattle.apl_items.specs.Shapes.{split_at, split_count}
+use Rattle.apl_items.proofs.ShapeLemmas.{split_count_lem}
+use Rattle.apl_operators.specs.Scan.{scanned}
+use Rattle.apl_operators.proofs.LineLemmas.{numbers_are}
+use Rattle.apl_operators.proofs.NumberLemmas.{answers_through}
+use Rattle.apl_operators.proofs.ScanLemmas.{chars_refused, lone_chars_stay, scan_made, scan_refused}
+use Rattle.apl_operators.proofs.scanning.scanned.Goals as goal
+
+abbrev array_of : List ℕ → PlainItems → PlainArray
+array_of shape items = record { shape = shape; items = items }
+
+pub fronts-requires-clause-whole : goal.fronts-requires-clause-whole
+fronts-requires-clause-whole c =
+    let is : c.args.b.now.items ≡ numbers c.as_slice.result.now = sym c.items.ensures.value ∙ sym (numbers_are c.items.result.now c.in-Numbers.list c.as_slice.result.now c.in-Numbers.is c.as_slice.ensures) in
+    let split : c.at-split.result ≡ split_at c.args.b.now.shape c.args.axis = c.at-split.ensures ∙ ap (λ (s : List ℕ). split_at s c.args.axis) c.shape.ensures.value in
+    ap split_count split ∙ split_count_lem c.args.b.now.shape c.args.axis c.requires.axis ∙ c.items.ensures.array.whole ∙ ap item_count is
+
+pub fronts-requires-clause-some : goal.fronts-requires-clause-some
+fronts-requires-clause-some c =
+    let split : c.at-split.result ≡ split_at c.args.b.now.shape c.args.axis = c.at-split.ensures ∙ ap (λ (s : List ℕ). split_at s c.args.axis) c.shape.ensures.value in
+    let count : split_count c.at-split.result ≡ item_count c.args.b.now.items = ap split_count split ∙ split_count_lem c.args.b.now.shape c.args.axis c.requires.axis ∙ c.items.ensures.array.whole in
+    let some : 0 < item_count c.args.b.now.items = c.requires.some in
+    omega (arith, count, some)
+
+pub returns-in_err-items-in-Numbers : goal.returns-in_err-items-in-Numbers
+returns-in_err-items-in-Numbers c =
+    let split : c.at-split.result ≡ split_at c.args.b.now.shape c.args.axis = c.at-split.ensures ∙ ap (λ (s : List ℕ). split_at s c.args.axis) c.shape.ensures.value in
+    let is : c.args.b.now.items ≡ numbers c.as_slice.result.now = sym c.items.ensures.value ∙ sym (numbers_are c.items.result.now c.in-Numbers.list c.as_slice.result.now c.in-Numbers.is c.as_slice.ensures) in
+    let p = err_from_is_err_and c.from_residual.result c.from_residual.ensures.1 in
+    let same : p.0 ≡ c.in_err-items-in-Numbers.field-0.0 = cc p.2 in
+    answers_through c.from_residual.result c.in_err-items-in-Numbers.field-0.0 p.0 (scanned c.args.f c.args.b.now c.args.axis) p.1 same
+    (scan_refused c.args.f c.args.b.now c.args.axis c.as_slice.result.now c.at-split.result c.in_err-items-in-Numbers.field-0.0 c.items.ensures.array is split c.in_err-items-in-Numbers.ensures)
+
+pub returns-in_ok-items-in-Numbers : goal.returns-in_ok-items-in-Numbers
+returns-in_ok-items-in-Numbers c =
+    let split : c.at-split.result ≡ split_at c.args.b.now.shape c.args.axis = c.at-split.ensures ∙ ap (λ (s : List ℕ). split_at s c.args.axis) c.shape.ensures.value in
+    let is : c.args.b.now.items ≡ numbers c.as_slice.result.now = sym c.items.ensures.value ∙ sym (numbers_are c.items.result.now c.in-Numbers.list c.as_slice.result.now c.in-Numbers.is c.as_slice.ensures) in
+    scan_made c.args.f c.args.b.now c.shaped.result c.args.axis c.as_slice.result.now c.in_ok-items-in-Numbers.items.items c.at-split.result c.items.ensures.array is split c.in_ok-items-in-Numbers.ensures
+    (c.shaped.ensures ∙ ap (λ (shape : List ℕ). array_of shape (numbers c.in_ok-items-in-Numbers.items.items)) c.shape-in-Numbers.ensures.value)
+
+pub returns-in_ok-copy-in-Chars : goal.returns-in_ok-copy-in-Chars
+returns-in_ok-copy-in-Chars c =
+    let split : c.at-split.result ≡ split_at c.args.b.now.shape c.args.axis = c.at-split.ensures ∙ ap (λ (s : List ℕ). split_at s c.args.axis) c.shape.ensures.value in
+    let is : c.args.b.now.items ≡ chars c.in-Chars.field-0.items = sym c.items.ensures.value ∙ ap plain_items c.in-Chars.is in
+    lone_chars_stay c.args.f c.args.b.now c.in_ok-copy-in-Chars.field-0 c.args.axis c.in-Chars.field-0.items c.at-split.result c.items.ensures.array is split c.if-split-eq1.true c.requires.some
+    c.in_ok-copy-in-Chars.ensures
+
+pub returns-else-split-eq1 : goal.returns-else-split-eq1
+returns-else-split-eq1 c =
+    let split : c.at-split.result ≡ split_at c.args.b.now.shape c.args.axis = c.at-split.ensures ∙ ap (λ (s : List ℕ). split_at s c.args.axis) c.shape.ensures.value in
+    let is : c.args.b.now.items ≡ chars c.in-Chars.field-0.items = sym c.items.ensures.value ∙ ap plain_items c.in-Chars.is in
+    chars_refused c.args.f c.args.b.now c.args.axis c.in-Chars.field-0.items c.at-split.result c.items.ensures.array is split c.requires.axis c.if-split-eq1.false c.requires.some

@@ -1,0 +1,108 @@
+use Rattle.std.specs.Prelude.{ℤ, Bool, true, false, Option, Some, None, Err}
+use Rattle.apl_arrays.specs.declared.report.Report.TheVariants.{Syntax}
+use Rattle.apl_arrays.specs.declared.verb.Mix1.{Mix1}
+use Rattle.apl_arrays.specs.declared.verb.Mix1.TheVariants as one
+use Rattle.apl_arrays.specs.declared.verb.Mix2.{Mix2}
+use Rattle.apl_arrays.specs.declared.verb.Mix2.TheVariants as two
+use Rattle.apl_arrays.specs.declared.verb.Verb.{Verb}
+use Rattle.apl_arrays.specs.declared.verb.Verb.TheVariants.{One, Two, Mixed1, Mixed2, Reduce, Scan, Inner, Outer}
+use Rattle.apl_arrays.specs.Array.{PlainArray}
+use Rattle.apl_items.specs.Answers.{Answer}
+use Rattle.apl_display.specs.Format.{format_of}
+use Rattle.apl_operators.specs.Inner.{inner_product_of}
+use Rattle.apl_operators.specs.Outer.{outer_product_of}
+use Rattle.apl_operators.specs.Reduce.{reduce_of}
+use Rattle.apl_operators.specs.Scan.{scan_of}
+use Rattle.apl_scalar.specs.Scalar.{dyadic_of, monadic_of}
+use Rattle.apl_search.specs.Decode.{decode_of}
+use Rattle.apl_search.specs.Encode.{encode_of}
+use Rattle.apl_search.specs.Grade.{falling, grade_of, rising}
+use Rattle.apl_search.specs.Lookup.{index_of_of, member_of}
+use Rattle.apl_selection.specs.Catenation.{catenate_of}
+use Rattle.apl_selection.specs.Compression.{compress_of}
+use Rattle.apl_structure.specs.Counting.{iota_of}
+use Rattle.apl_structure.specs.Diagonals.{transpose_by_of}
+use Rattle.apl_selection.specs.Expansion.{expand_of}
+use Rattle.apl_structure.specs.Plain.{ravel_of, shape_of}
+use Rattle.apl_structure.specs.Reshaping.{reshape_of}
+use Rattle.apl_structure.specs.Reversal.{reverse_of}
+use Rattle.apl_structure.specs.Rotation.{rotate_of}
+use Rattle.apl_structure.specs.Taking.{drop_of, take_of}
+use Rattle.apl_structure.specs.Transposition.{transpose_of}
+
+-- the function has two arguments
+abbrev pub is_dyadic : Verb → Bool
+is_dyadic (One f) = false
+is_dyadic (Two f) = true
+is_dyadic (Mixed1 f) = false
+is_dyadic (Mixed2 f) = true
+is_dyadic (Reduce f way) = false
+is_dyadic (Scan f way) = false
+is_dyadic (Inner f g) = true
+is_dyadic (Outer f) = true
+
+-- of one argument: an axis may stand after ⌽ and ⊖
+abbrev pub one_takes_axis : Mix1 → Bool
+one_takes_axis (one.Reverse way) = true
+one_takes_axis _ = false
+
+-- of two: after , ⌽ ⊖ / ⌿ \ ⍀
+abbrev pub two_takes_axis : Mix2 → Bool
+two_takes_axis two.Catenate = true
+two_takes_axis (two.Rotate way) = true
+two_takes_axis (two.Compress way) = true
+two_takes_axis (two.Expand way) = true
+two_takes_axis _ = false
+
+-- an axis may stand after these, and after a reduction or a scan
+abbrev pub takes_axis : Verb → Bool
+takes_axis (One f) = false
+takes_axis (Two f) = false
+takes_axis (Mixed1 f) = one_takes_axis f
+takes_axis (Mixed2 f) = two_takes_axis f
+takes_axis (Reduce f way) = true
+takes_axis (Scan f way) = true
+takes_axis (Inner f g) = false
+takes_axis (Outer f) = false
+
+-- what a mixed function gives of one argument
+abbrev pub mixed_monadic_of : Mix1 → PlainArray → Option ℤ → Answer
+mixed_monadic_of one.Shape b axis = shape_of b
+mixed_monadic_of one.Iota b axis = iota_of b
+mixed_monadic_of one.Ravel b axis = ravel_of b
+mixed_monadic_of (one.Reverse way) b axis = reverse_of b way axis
+mixed_monadic_of one.Transpose b axis = transpose_of b
+mixed_monadic_of one.GradeUp b axis = grade_of rising b
+mixed_monadic_of one.GradeDown b axis = grade_of falling b
+mixed_monadic_of one.Format b axis = format_of b
+
+-- what a mixed function gives of two
+abbrev pub mixed_dyadic_of : Mix2 → PlainArray → PlainArray → Option ℤ → Answer
+mixed_dyadic_of two.Reshape a b axis = reshape_of a b
+mixed_dyadic_of two.Catenate a b axis = catenate_of a b axis
+mixed_dyadic_of two.Take a b axis = take_of a b
+mixed_dyadic_of two.Drop a b axis = drop_of a b
+mixed_dyadic_of (two.Rotate way) a b axis = rotate_of a b way axis
+mixed_dyadic_of two.TransposeBy a b axis = transpose_by_of a b
+mixed_dyadic_of (two.Compress way) a b axis = compress_of a b way axis
+mixed_dyadic_of (two.Expand way) a b axis = expand_of a b way axis
+mixed_dyadic_of two.IndexOf a b axis = index_of_of a b
+mixed_dyadic_of two.Member a b axis = member_of a b
+mixed_dyadic_of two.Encode a b axis = encode_of a b
+mixed_dyadic_of two.Decode a b axis = decode_of a b
+
+-- what is given of a left argument; a dyadic function has one
+abbrev pub of_left : Option PlainArray → (PlainArray → Answer) → Answer
+of_left None rule = Err Syntax
+of_left (Some a) rule = rule a
+
+-- what a function, or an operator with its operands, gives of its arguments
+abbrev pub applied : Verb → Option PlainArray → PlainArray → Option ℤ → Answer
+applied (One f) left b axis = monadic_of f b
+applied (Two f) left b axis = of_left left (λ a. dyadic_of f a b)
+applied (Mixed1 f) left b axis = mixed_monadic_of f b axis
+applied (Mixed2 f) left b axis = of_left left (λ a. mixed_dyadic_of f a b axis)
+applied (Reduce f way) left b axis = reduce_of f b way axis
+applied (Scan f way) left b axis = scan_of f b way axis
+applied (Inner f g) left b axis = of_left left (λ a. inner_product_of f g a b)
+applied (Outer f) left b axis = of_left left (λ a. outer_product_of f a b)

@@ -1,0 +1,169 @@
+ghost use Rattle.std.specs.Prelude.{◌≡◌, ◌<◌, length};
+ghost use Rattle.apl_arrays.specs.Array.{item_count};
+ghost use Rattle.apl_items.specs.Answers.{Answers};
+ghost use Rattle.apl_items.specs.Places.{MakesItems};
+ghost use Rattle.apl_items.specs.Shapes.{split_count};
+ghost use Rattle.apl_scalar.specs.Table.{dyadic_item, fits};
+ghost use Rattle.apl_operators.specs.Reduction.{Joins};
+ghost use Rattle.apl_operators.specs.Running.{Runs, front_at};
+ghost use Rattle.apl_operators.specs.Scan.{scan_of, scanned};
+
+use crate::lines::{LineAt, front_of_line};
+use crate::running::{known_number, running, runs};
+use apl_arrays::{Array, Dyad, Fail, Items, NumberList, Report, Way};
+use apl_items::{Split, axis_of, by_place, lacks_axis};
+use apl_scalar::dyadic_table;
+use std::alloc::Global;
+
+macro_rules! one_pass_of {
+    (($($argument:expr),*), $rule:expr, $identity:expr) => {
+        one_pass_by($($argument,)* $rule)
+    };
+}
+
+macro_rules! fronts_of {
+    (($($argument:expr),*), $rule:expr, $identity:expr) => {
+        fronts_by($($argument,)* $rule)
+    };
+}
+
+/// The scan of an array by a dyadic function, along an axis, the last or the first where none is named: each item is the
+/// reduction of the items of its line from the first up to it. A scalar, and an array without items, is unchanged. DOMAIN
+/// where two items have no value of 64 bits, or where there would be items of both kinds, else INDEX where the axis is not
+/// from 1 to the rank. It takes memory for the items. ISO 8485.
+pub fn scan(alloc: Global, f: Dyad, b: &Array, way: Way, axis: Option<i64>) -> Result<Array, Fail>
+    ensures { Answers result (scan_of f b.now way axis) }
+{
+    let rank = b.shape().len();
+    if lacks_axis(rank, axis) {
+        Err(Fail::Report(Report::Index))
+    } else if rank == 0 || b.items().is_empty() {
+        Ok(b.copy(alloc)?)
+    } else {
+        scanned(alloc, f, b, axis_of(rank, way, axis))
+    }
+}
+
+/// The scan of an array that has items. The kind is looked at once.
+fn scanned(alloc: Global, f: Dyad, b: &Array, axis: usize) -> Result<Array, Fail>
+    requires axis { axis < length b.now.shape }
+    requires some { 0 < item_count b.now.items }
+    ensures { Answers result (scanned f b.now axis) }
+{
+    let split = Split::at(b.shape(), axis);
+    match b.items() {
+        Items::Numbers(list) => {
+            let items = fronts(alloc, f, list.as_slice(), split)?;
+            Ok(Array::shaped(b.shape(), Items::Numbers(items)))
+        }
+        Items::Chars(_) => {
+            if split.along == 1 {
+                Ok(b.copy(alloc)?)
+            } else {
+                Err(Fail::Report(Report::Domain))
+            }
+        }
+    }
+}
+
+/// The reduction of each front of each line of numbers: in one pass where each follows from the one before, else each by
+/// itself, from the right.
+fn fronts(alloc: Global, f: Dyad, list: &[i64], split: Split) -> Result<NumberList, Fail>
+    requires whole { split_count split ≡ length list.now }
+    requires some { 0 < split_count split }
+    ensures { MakesItems result (length list.now) (front_at (dyadic_item f) list.now split) }
+{
+    if runs(f, list, split) {
+        one_pass(alloc, f, list, split)
+    } else {
+        each_front(alloc, f, list, split)
+    }
+}
+
+/// The reductions of fronts in one pass. The function is chosen once.
+fn one_pass(alloc: Global, f: Dyad, list: &[i64], split: Split) -> Result<NumberList, Fail>
+    requires whole { split_count split ≡ length list.now }
+    requires some { 0 < split_count split }
+    requires runs { Runs fits (dyadic_item f) list.now split (front_at (dyadic_item f) list.now split) }
+    ensures { MakesItems result (length list.now) (front_at (dyadic_item f) list.now split) }
+{
+    dyadic_table!(f, one_pass_of(alloc, f, list, split))
+}
+
+/// The reductions of fronts in one pass, by the rule of a function.
+fn one_pass_by<F: Fn(i64, i64) -> Option<i64>>(
+    alloc: Global,
+    f: Dyad,
+    list: &[i64],
+    split: Split,
+    rule: F,
+) -> Result<NumberList, Fail>
+    requires callable { F.IsAlwaysCallable rule }
+    requires rule { Joins (F.post rule) (dyadic_item f) }
+    requires whole { split_count split ≡ length list.now }
+    requires some { 0 < split_count split }
+    requires runs { Runs fits (dyadic_item f) list.now split (front_at (dyadic_item f) list.now split) }
+    ensures { MakesItems result (length list.now) (front_at (dyadic_item f) list.now split) }
+{
+    running(alloc, list, split, &rule, &known_number)
+}
+
+/// The reduction of each front by itself. The function is chosen once.
+fn each_front(alloc: Global, f: Dyad, list: &[i64], split: Split) -> Result<NumberList, Fail>
+    requires whole { split_count split ≡ length list.now }
+    requires some { 0 < split_count split }
+    ensures { MakesItems result (length list.now) (front_at (dyadic_item f) list.now split) }
+{
+    dyadic_table!(f, fronts_of(alloc, f, list, split))
+}
+
+/// The reduction of each front by itself, by the rule of a function.
+fn fronts_by<F: Fn(i64, i64) -> Option<i64>>(
+    alloc: Global,
+    f: Dyad,
+    list: &[i64],
+    split: Split,
+    rule: F,
+) -> Result<NumberList, Fail>
+    requires callable { F.IsAlwaysCallable rule }
+    requires rule { Joins (F.post rule) (dyadic_item f) }
+    requires whole { split_count split ≡ length list.now }
+    requires some { 0 < split_count split }
+    ensures { MakesItems result (length list.now) (front_at (dyadic_item f) list.now split) }
+{
+    by_place(
+        alloc,
+        list.len(),
+        |place: usize| -> Option<i64>
+            requires callable { F.IsAlwaysCallable rule }
+            requires rule { Joins (F.post rule) (dyadic_item f) }
+            requires whole { split_count split ≡ length list.now }
+            requires some { 0 < split_count split }
+            requires place { place < length list.now }
+            ensures { result ≡ front_at (dyadic_item f) list.entry.now split place }
+        { front_at(f, list, split, place, &rule) },
+    )
+}
+
+/// The reduction of the front of a line, up to a place.
+fn front_at<F: Fn(i64, i64) -> Option<i64>>(
+    f: Dyad,
+    list: &[i64],
+    split: Split,
+    place: usize,
+    rule: &F,
+) -> Option<i64>
+    requires callable { F.IsAlwaysCallable rule.now }
+    requires rule { Joins (F.post rule.now) (dyadic_item f) }
+    requires whole { split_count split ≡ length list.now }
+    requires some { 0 < split_count split }
+    requires place { place < length list.now }
+    ensures { result ≡ front_at (dyadic_item f) list.now split place }
+{
+    let row = place / split.inner;
+    let line = LineAt {
+        outer: row / split.along,
+        inner: place % split.inner,
+    };
+    front_of_line(f, list, split, line, row % split.along, rule)
+}

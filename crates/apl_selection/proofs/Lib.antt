@@ -1,0 +1,16 @@
+pub mod AssignLemmas
+pub mod CompressLemmas
+pub mod ExpandLemmas
+pub mod FaultLemmas
+pub mod GivenBackLemmas
+pub mod IndexLemmas
+pub mod JoinKindLemmas
+pub mod JoinLemmas
+pub mod JoinRowLemmas
+pub mod JoinShapeLemmas
+pub mod ListingLemmas
+pub mod MoveLemmas
+pub mod NamingLemmas
+pub mod OrderLemmas
+pub mod PickLemmas
+pub mod SubscriptLemmas

@@ -1,0 +1,14 @@
+use Rattle.std.proofs.Common.{refl, ap, ◌∙◌, arith}
+use Rattle.apl_selection.specs.Subscripts.{is_of_chars}
+use Rattle.apl_selection.proofs.SubscriptLemmas.{count_more, is_number, sub_read, whole_more}
+use Rattle.apl_selection.proofs.subscripts.named_counts.Goals as goal
+
+pub loop-axis-preserved : goal.loop-axis-preserved
+loop-axis-preserved c =
+    let shape = c.args.shape.now in let subs = c.args.subs.now in let axis = c.loop-axis.axis in let sub = c.index-subs-axis.result in
+    let read = sub_read subs axis sub (omega arith) c.index-subs-axis.is in record {
+      value = count_more shape subs axis _ c.named_count.result sub c.loop-axis.counts.items _ c.loop-axis.invariant.value refl read c.named_count.ensures.value c.in_ok-push.ensures.items;
+      whole = λ kind.
+          whole_more shape subs axis _ c.named_count.result sub c.loop-axis.counts.items _ (c.loop-axis.invariant.whole kind) refl read
+          (c.named_count.ensures.whole (ap is_of_chars read ∙ is_number subs axis (omega arith) kind)) c.in_ok-push.ensures.items;
+    }

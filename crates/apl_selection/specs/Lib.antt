@@ -1,0 +1,11 @@
+pub mod Assignment
+pub mod Catenation
+pub mod Compression
+pub mod Expansion
+pub mod Flags
+pub mod Indexing
+pub mod Listing
+pub mod Naming
+pub mod Picks
+pub mod SelectionLaws
+pub mod Subscripts

@@ -1,0 +1,104 @@
+ghost use Rattle.std.specs.Prelude.{◌≡◌, None, false, IfOk, slice_get};
+ghost use Rattle.apl_items.specs.Answers.{Answers, first_report};
+ghost use Rattle.apl_selection.specs.Indexing.{index_faults, selection_of, indexed};
+ghost use Rattle.apl_items.specs.Places.{places};
+ghost use Rattle.apl_selection.specs.Subscripts.{is_miscounted, selection_shape};
+
+use crate::picks::{Picks, filled, picked_items};
+use crate::strides::length_of;
+use crate::subscripts::{
+    Subs, are_of_chars, is_miscounted, named_counts, place_from_0, point_outside, selection_shape,
+};
+use apl_arrays::{Array, Fail, RANK_LIMIT, Report, WantOfMemory, count_of_elements, shape_fault};
+use std::alloc::Global;
+
+/// The items of B that subscripts select, one for each axis; the shapes of the subscripts stand one after another, and an
+/// omitted one selects the whole axis. RANK where there are not as many subscripts as axes, where B is a scalar, or where
+/// the result has over eight axes, else DOMAIN where a subscript is of characters, else INDEX where a number of one is
+/// not from 1 to the length of its axis, else WS FULL where the result is too large. It takes memory for the items, and
+/// for shapes and strides.
+pub fn index(alloc: Global, b: &Array, subs: &Subs) -> Result<Array, Fail>
+    ensures { Answers result (selection_of b.now subs.now.items) }
+{
+    let subs = subs.as_slice();
+    if is_miscounted(b.shape(), subs) {
+        return Err(Fail::Report(Report::Rank));
+    }
+    let shape = selection_shape(alloc, b.shape(), subs)?;
+    match index_report(b, subs, shape.as_slice()) {
+        Some(report) => Err(Fail::Report(report)),
+        None => Ok(indexed(alloc, b, subs, shape.as_slice())?),
+    }
+}
+
+/// The report on a selection of this shape, if there is one.
+fn index_report(b: &Array, subs: &[Option<Array>], shape: &[u32]) -> Option<Report>
+    requires counted { is_miscounted b.now.shape subs.now ≡ false }
+    requires shape { shape.now ≡ selection_shape b.now.shape subs.now }
+    ensures { result ≡ first_report (index_faults b.now subs.now) }
+{
+    if shape.len() > RANK_LIMIT {
+        Some(Report::Rank)
+    } else if are_of_chars(subs) {
+        Some(Report::Domain)
+    } else if point_outside(b.shape(), subs) {
+        Some(Report::Index)
+    } else if shape_fault(shape).is_some() {
+        Some(Report::WsFull)
+    } else {
+        None
+    }
+}
+
+/// The items of B that subscripts select.
+fn indexed(
+    alloc: Global,
+    b: &Array,
+    subs: &[Option<Array>],
+    shape: &[u32],
+) -> Result<Array, WantOfMemory>
+    requires fine { None ≡ first_report (index_faults b.now subs.now) }
+    requires shape { shape.now ≡ selection_shape b.now.shape subs.now }
+    ensures { IfOk result (λ array. array ≡ indexed b.now subs.now) }
+{
+    if count_of_elements(shape) == 0 {
+        return Ok(Array::shaped(shape, filled(alloc, b.items(), 0)?));
+    }
+    let counts = named_counts(alloc, b.shape(), subs)?;
+    let lengths = b.shape();
+    let picks = Named { lengths, subs };
+    let items = picked_items(alloc, b.items(), lengths, counts.as_slice(), &picks)?;
+    Ok(Array::shaped(shape, items))
+}
+
+/// The places that subscripts name along the axes.
+#[derive(Drop)]
+struct Named<'a> {
+    lengths: &'a [u32],
+    subs: &'a [Option<Array>],
+}
+
+impl Picks for Named<'_> {
+    ghost use Rattle.std.specs.Prelude.{slice_get};
+    ghost use Rattle.apl_selection.specs.Subscripts.{named_on};
+
+    ghost from = { λ n axis along. slice_get (named_on n.lengths.now n.subs.now axis) along };
+
+    fn from(&self, axis: usize, along: usize) -> Option<usize> {
+        match self.subs.get(axis) {
+            Some(Some(array)) => Some(place_from_0(*array.numbers().get(along)?)),
+            _ => place_on(length_of(self.lengths, axis), along),
+        }
+    }
+}
+
+/// The place along an axis, if there is one.
+fn place_on(length: u32, along: usize) -> Option<usize>
+    ensures { result ≡ slice_get (places length) along }
+{
+    if along < length as usize {
+        Some(along)
+    } else {
+        None
+    }
+}

@@ -1,0 +1,142 @@
+ghost use Rattle.std.specs.Prelude.{◌≡◌, ◌-◌, ◌≤◌, false, IfOk, length, unsigned_abs};
+ghost use Rattle.std.specs.List.{list_any};
+ghost use Rattle.apl_arrays.specs.Array.{element_count, item_count, numbers_in, plain_items};
+ghost use Rattle.apl_selection.specs.Subscripts.{axes_by, is_miscounted, is_of_chars, is_outside, named_by, named_counts, named_on, point_outside, points_outside, selection_shape};
+
+use apl_arrays::{Array, Items, List, WantOfMemory};
+use std::alloc::Global;
+use std::slice;
+
+/// Subscripts, one for each place between the brackets: an array of places from 1 on, or `None` where it is omitted.
+pub type Subs = List<Option<Array>>;
+
+/// Whether there are not as many subscripts as axes, or no axes.
+pub(crate) fn is_miscounted(shape: &[u32], subs: &[Option<Array>]) -> bool
+    ensures { result ≡ is_miscounted shape.now subs.now }
+{
+    shape.is_empty() || subs.len() != shape.len()
+}
+
+/// Whether a subscript is of characters.
+pub(crate) fn are_of_chars(subs: &[Option<Array>]) -> bool
+    ensures { result ≡ list_any is_of_chars subs.now }
+{
+    subs.iter().any(|sub| is_of_chars(sub))
+}
+
+fn is_of_chars(sub: &Option<Array>) -> bool
+    ensures { result ≡ is_of_chars sub.now }
+{
+    match sub {
+        None => false,
+        Some(array) => array.is_chars(),
+    }
+}
+
+/// Whether some subscript is outside its axis.
+pub(crate) fn point_outside(shape: &[u32], subs: &[Option<Array>]) -> bool
+    requires { length subs.now ≡ length shape.now }
+    ensures { result ≡ point_outside shape.now subs.now }
+{
+    for axis in 0..shape.len() {
+        if points_outside(shape[axis], &subs[axis]) {
+            return true;
+        }
+    }
+    false
+}
+
+/// Whether a number of a subscript is outside its axis.
+fn points_outside(length: u32, sub: &Option<Array>) -> bool
+    ensures { result ≡ points_outside length sub.now }
+{
+    match sub {
+        None => false,
+        Some(array) => are_outside(length, array.numbers()),
+    }
+}
+
+fn are_outside(length: u32, numbers: &[i64]) -> bool
+    ensures { result ≡ list_any (is_outside length) numbers.now }
+{
+    numbers.iter().any(|number| is_outside(length, *number))
+}
+
+/// Whether a number is not from 1 to the length of an axis.
+fn is_outside(length: u32, number: i64) -> bool
+    ensures { result ≡ is_outside length number }
+{
+    number < 0 || number.unsigned_abs() == 0 || number.unsigned_abs() > u64::from(length)
+}
+
+/// The shape of the selection. It takes memory for it.
+pub(crate) fn selection_shape(
+    alloc: Global,
+    shape: &[u32],
+    subs: &[Option<Array>],
+) -> Result<Vec<u32>, WantOfMemory>
+    requires { length subs.now ≡ length shape.now }
+    ensures { IfOk result (λ axes. axes.items ≡ selection_shape shape.now subs.now) }
+{
+    let mut axes = Vec::new(alloc);
+    for axis in 0..shape.len() {
+        axes.extend_from_slice(axes_by(&shape[axis], &subs[axis]))?;
+    }
+    Ok(axes)
+}
+
+/// The axes that a subscript gives to the selection.
+fn axes_by<'a>(length: &'a u32, sub: &'a Option<Array>) -> &'a [u32]
+    ensures { result.now ≡ axes_by length.now sub.now }
+{
+    match sub {
+        None => slice::from_ref(length),
+        Some(array) => array.shape(),
+    }
+}
+
+/// How many places are named along each axis. It takes memory for the numbers.
+pub(crate) fn named_counts(
+    alloc: Global,
+    shape: &[u32],
+    subs: &[Option<Array>],
+) -> Result<Vec<u32>, WantOfMemory>
+    requires { length subs.now ≡ length shape.now }
+    ensures value { IfOk result (λ counts. counts.items ≡ named_counts shape.now subs.now) }
+    ensures whole { IfOk result (λ counts. list_any is_of_chars subs.now ≡ false → element_count counts.items ≡ element_count (selection_shape shape.now subs.now)) }
+{
+    let mut counts = Vec::new(alloc);
+    for axis in 0..shape.len() {
+        counts.push(named_count(shape[axis], &subs[axis]))?;
+    }
+    Ok(counts)
+}
+
+/// How many places along its axis a subscript names.
+fn named_count(axis: u32, sub: &Option<Array>) -> u32
+    ensures value { result ≡ length (named_by axis sub.now) }
+    ensures whole { is_of_chars sub.now ≡ false → result ≡ element_count (axes_by axis sub.now) }
+{
+    match sub {
+        None => axis,
+        Some(array) => count_of_numbers(array.items()),
+    }
+}
+
+/// How many numbers there are, none where the items are characters.
+fn count_of_numbers(items: &Items) -> u32
+    requires { item_count (plain_items items.now) ≤ 16384 }
+    ensures { result ≡ length (numbers_in (plain_items items.now)) }
+{
+    match items {
+        Items::Numbers(list) => list.as_slice().len() as u32,
+        Items::Chars(_) => 0,
+    }
+}
+
+/// The place from 0 that a number names.
+pub(crate) fn place_from_0(number: i64) -> usize
+    ensures { result ≡ unsigned_abs number - 1 }
+{
+    (number.unsigned_abs() as usize).saturating_sub(1)
+}

@@ -1,0 +1,40 @@
+use anyhow::Result;
+use auxiliaries::Replier;
+use case_fields::{value_of, value_text};
+use std::alloc::Global;
+
+/// What stands between the steps of a session, and between their answers.
+pub const BETWEEN: &str = " / ";
+
+/// The user whose values the auxiliaries are given.
+const USER: u32 = 1001;
+
+// How often a part says that a value is given, and the value: `85 times 'A'`.
+fn times_of(part: &str) -> Result<(usize, &str)> {
+    match part.split_once(" times ") {
+        Some((times, value)) => Ok((times.parse()?, value)),
+        None => Ok((1, part)),
+    }
+}
+
+// The answer to a value. Of a value that is given more than once the last answer counts.
+fn answer<R: Replier>(alloc: Global, replier: &mut R, part: &str) -> Result<String> {
+    let (times, value) = times_of(part)?;
+    let value = value_of(alloc, value)?;
+    for _ in 1..times {
+        let _ = replier.reply(USER, &value)?;
+    }
+    value_text(alloc, &replier.reply(USER, &value)?)
+}
+
+/// The answers to the values that a field says, in the same form.
+pub fn answers<R: Replier>(alloc: Global, replier: &mut R, values: &str) -> Result<String> {
+    let mut text = String::new(alloc);
+    for (at, part) in values.split(BETWEEN).enumerate() {
+        if at > 0 {
+            text.push_str(BETWEEN)?;
+        }
+        text.push_str(answer(alloc, replier, part)?.as_str())?;
+    }
+    Ok(text)
+}

@@ -1,0 +1,52 @@
+use crate::devices::{done_text, read_text, store_of};
+use crate::sessions::BETWEEN;
+use anyhow::{Context, Result, bail};
+use apl_io::{MemoryText, TextStore};
+use case_tables::{Trial, bytes_of};
+use std::alloc::Global;
+
+/// Scripts of a text store in memory: a file that it has, the calls that are to fail, and the steps; what they give.
+#[derive(Clone, Copy, Debug)]
+pub struct Stores;
+
+fn replace(alloc: Global, store: &mut MemoryText, rest: &str) -> Result<String> {
+    let (name, text) = rest.split_once(" ").context("no bytes")?;
+    let bytes = bytes_of(alloc, text)?;
+    done_text(alloc, store.replace(name, &bytes))
+}
+
+// What a step gives: `place PLACE`, `read NAME`, `replace NAME BYTES`, or `faults`.
+fn step(alloc: Global, store: &mut MemoryText, text: &str) -> Result<String> {
+    let (word, rest) = text.split_once(" ").unwrap_or((text, ""));
+    match word {
+        "place" => {
+            store.set_place(rest)?;
+            Ok(String::from_str(alloc, "ok")?)
+        }
+        "read" => read_text(alloc, store.read(rest)),
+        "replace" => replace(alloc, store, rest),
+        "faults" => Ok(store.faults().to_string(alloc)?),
+        _ => bail!("no step: {text}"),
+    }
+}
+
+impl Trial for Stores {
+    fn given(&self) -> usize {
+        3
+    }
+
+    fn found(&self, alloc: Global, fields: &[&str]) -> Result<String> {
+        let [file, fails, steps, ..] = fields else {
+            bail!("a file, calls and steps are wanted");
+        };
+        let mut store = store_of(alloc, *file, *fails)?;
+        let mut text = String::new(alloc);
+        for (at, part) in steps.split(BETWEEN).enumerate() {
+            if at > 0 {
+                text.push_str(BETWEEN)?;
+            }
+            text.push_str(step(alloc, &mut store, part)?.as_str())?;
+        }
+        Ok(text)
+    }
+}

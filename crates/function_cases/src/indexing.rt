@@ -1,0 +1,56 @@
+use anyhow::{Result, bail};
+use apl_structure::{Subs, index, index_assign};
+use case_fields::{array_of, outcome_text};
+use case_tables::Trial;
+use std::alloc::Global;
+
+/// Indexing: the array, and the subscripts; the result.
+#[derive(Clone, Copy, Debug)]
+pub struct Indexings;
+
+/// Indexed assignment: the array, the subscripts, and the items; the array afterwards.
+#[derive(Clone, Copy, Debug)]
+pub struct Assignments;
+
+// Subscripts with `;` between them, a blank on each side; `-` stands for one that is omitted.
+fn subs_of(alloc: Global, field: &str) -> Result<Subs> {
+    let mut subs = Subs::new(alloc);
+    for part in field.split(" ; ") {
+        let sub = if part == "-" {
+            None
+        } else {
+            Some(array_of(alloc, part)?)
+        };
+        subs.push(sub)?;
+    }
+    Ok(subs)
+}
+
+impl Trial for Indexings {
+    fn given(&self) -> usize {
+        2
+    }
+
+    fn found(&self, alloc: Global, fields: &[&str]) -> Result<String> {
+        let [argument, subs, ..] = fields else {
+            bail!("an array and subscripts are wanted");
+        };
+        let argument = array_of(alloc, *argument)?;
+        outcome_text(alloc, index(alloc, &argument, &subs_of(alloc, *subs)?))
+    }
+}
+
+impl Trial for Assignments {
+    fn given(&self) -> usize {
+        3
+    }
+
+    fn found(&self, alloc: Global, fields: &[&str]) -> Result<String> {
+        let [argument, subs, items, ..] = fields else {
+            bail!("an array, subscripts and items are wanted");
+        };
+        let (argument, items) = (array_of(alloc, *argument)?, array_of(alloc, *items)?);
+        let subs = subs_of(alloc, *subs)?;
+        outcome_text(alloc, index_assign(alloc, &argument, &subs, &items))
+    }
+}
