@@ -1,4 +1,4 @@
-use Rattle.std.specs.Prelude.{◌≡◌, ◌≤◌, ℕ, not, List, [], ◌∷◌, count_by, Contains, IsTrue, Some}
+use Rattle.std.specs.Prelude.{◌≡◌, ◌≤◌, ℕ, false, not, List, [], ◌∷◌, count_by, All, Contains, IsTrue, Some}
 use Rattle.apl_arrays.specs.Limits.{most_offers}
 use Rattle.apl_arrays.specs.List.{Listed}
 use Rattle.sv_events.specs.declared.entry.Pair.{Pair}
@@ -6,8 +6,9 @@ use Rattle.sv_events.specs.declared.event.Act.{Act}
 use Rattle.sv_rules.specs.Entries.{Entries, has_left, is_leave}
 use Rattle.sv_rules.specs.Control.{side_at}
 use Rattle.sv_rules.specs.Coupling.{coupling_now}
-use Rattle.sv_rules.specs.Legal.{MayFollow, entry_for}
+use Rattle.sv_rules.specs.Legal.{IsLegal, MayFollow, entry_for}
 use Rattle.sv_rules.specs.Standing.{standing}
+use Rattle.sv_rules.specs.Work.{is_auxiliary}
 use Rattle.sv_rules.specs.declared.coupling.Coupling.{Coupling}
 use Rattle.sv_rules.specs.declared.standing.Standing.{Standing}
 use Rattle.sv_story_laws.specs.StoryLaws.{offer_on}
@@ -16,6 +17,10 @@ use Rattle.sv_story_laws.specs.StoryLaws.{offer_on}
 pub record PlainCore : Type 0 where
   pub users : List ℕ
   pub journal : Entries
+
+-- no user is an auxiliary
+abbrev pub ArePeople : List ℕ → Type 0
+ArePeople users = All (λ user. is_auxiliary user ≡ false) users
 
 -- how many users have not left
 abbrev pub present : List ℕ → Entries → ℕ
@@ -30,8 +35,9 @@ pub record IsSpare (pairs : Listed Pair) : Type 0 where
 abbrev pub core_after : PlainCore → ℕ → Act → PlainCore
 core_after core party act = record { users = core.users; journal = entry_for core.journal party act ∷ core.journal }
 
--- a party may make an act now, other than a leave
+-- a party may make an act now, other than a leave, after a legal journal
 pub record MayMake (core : PlainCore) (party : ℕ) (act : Act) : Type 0 where
+  pub legal : IsLegal core.users core.journal
   pub may : MayFollow core.users core.journal (entry_for core.journal party act)
   pub stays : IsTrue (not (is_leave act))
 

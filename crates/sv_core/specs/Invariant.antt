@@ -2,7 +2,7 @@ use Rattle.std.specs.Prelude.{◌≡◌, ◌≤◌, ℕ, List, All, length}
 use Rattle.apl_arrays.specs.List.{Listed}
 use Rattle.sv_cell_laws.specs.Fits.{FitCells}
 use Rattle.sv_cells.specs.declared.cells.Cells.{Cells}
-use Rattle.sv_core.specs.Core.{IsSpare, present}
+use Rattle.sv_core.specs.Core.{ArePeople, IsSpare, present}
 use Rattle.sv_core.specs.declared.processor.Core.TheInside.{Inside}
 use Rattle.sv_events.specs.declared.entry.Pair.{Pair}
 use Rattle.sv_rules.specs.Coupling.{couplings}
@@ -23,8 +23,9 @@ pub record Parts : Type 0 where
   pub cells : Cells
   pub spares : List (Listed Pair)
 
--- the journal is legal, the tables are those of the journal, and there is room for each leave
+-- no user is an auxiliary, the journal is legal, the tables are those of the journal, and there is room for each leave
 pub record IsKept (core : Parts) : Type 0 where
+  pub people : ArePeople core.users
   pub legal : IsLegal core.users core.journal
   pub stand : core.offers ≡ standing core.journal
   pub couple : core.coupled ≡ couplings core.journal

@@ -1,4 +1,4 @@
-ghost use Rattle.std.specs.Prelude.{◌≡◌, ◌<◌, Contains, IsOk, IfOk, OnOk, OnErr, Some, None, IsErr};
+ghost use Rattle.std.specs.Prelude.{◌≡◌, ◌<◌, [], Contains, IsOk, IfOk, OnOk, OnErr, Some, None, IsErr};
 ghost use Rattle.std.specs.Option.{option_copied};
 ghost use Rattle.sv_cell_laws.specs.Steps.{TouchesNothing};
 ghost use Rattle.sv_core.specs.Core.{MayMake, PlainCore, core_after};
@@ -7,7 +7,7 @@ ghost use Rattle.sv_events.specs.Row.{act_row};
 ghost use Rattle.sv_rules.specs.Coupling.{coupling_now};
 ghost use Rattle.sv_rules.specs.Legal.{entry_for};
 ghost use Rattle.sv_rules.specs.Outcome.{outcome, value_answer, value_for};
-ghost use Rattle.sv_rules.specs.Refused.{hold_on, waits};
+ghost use Rattle.sv_rules.specs.Refused.{hold_on};
 ghost use Rattle.sv_rules.specs.Standing.{own_offer, standing};
 
 use crate::Core;
@@ -66,6 +66,7 @@ impl Core {
         requires may { MayMake self.old party act }
         requires answer { plain_answer answer ≡ (outcome self.old.journal party act).answer }
         requires quiet { TouchesNothing self.old.journal (entry_for self.old.journal party act) }
+        requires none { (outcome self.old.journal party act).made ≡ [] }
         ensures answer { IfOk result (λ answer. plain_answer answer ≡ (outcome self.old.journal party act).answer) }
         ensures journal { OnOk result (self.new ≡ core_after self.old party act) }
         ensures err { OnErr result (self.new ≡ self.old) }
@@ -113,22 +114,23 @@ impl Core {
     {
         match self.own(party, &set.local) {
             None => self.enter_quiet(party, act, Answer::NotShared),
-            Some(offer) => self.set_control(offer, set, act),
+            Some(offer) => self.set_control(party, offer, set, act),
         }
     }
 
     // A control of a standing offer.
     fn set_control(
         &mut self,
+        party: u32,
         offer: Standing,
         set: Controlling,
         act: Act,
     ) -> Result<Answer, WantOfMemory>
-        requires may { MayMake self.old offer.party act }
+        requires may { MayMake self.old party act }
         requires row { (act_row act).row.controls ≡ Some set }
-        requires own { own_offer (standing self.old.journal) offer.party set.local ≡ Some offer }
-        ensures answer { IfOk result (λ answer. plain_answer answer ≡ (outcome self.old.journal offer.party act).answer) }
-        ensures journal { OnOk result (self.new ≡ core_after self.old offer.party act) }
+        requires own { own_offer (standing self.old.journal) party set.local ≡ Some offer }
+        ensures answer { IfOk result (λ answer. plain_answer answer ≡ (outcome self.old.journal party act).answer) }
+        ensures journal { OnOk result (self.new ≡ core_after self.old party act) }
         ensures err { OnErr result (self.new ≡ self.old) }
     {
         let vector = self.in_force_with(set.control, &offer);
@@ -140,7 +142,7 @@ impl Core {
             answer: Answer::Vector(vector),
             kept: Answer::Vector(vector),
         };
-        Ok(enter(&mut self.log, offer.party, act, told, List::new(self.alloc)))
+        Ok(enter(&mut self.log, party, act, told, List::new(self.alloc)))
     }
 
     fn make_access(
@@ -157,61 +159,71 @@ impl Core {
     {
         match self.own(party, &access.local) {
             None => self.enter_quiet(party, act, Answer::NotShared),
-            Some(offer) => match self.hold_on(&offer, access.kind) {
-                None => self.grant(offer, access, act),
-                Some(hold) => {
-                    let answer = refusal_answer(self.awaits(party), hold);
-                    self.enter_quiet(party, act, answer)
-                }
-            },
+            Some(offer) => self.make_own_access(party, offer, access, act),
         }
     }
 
-    // Whether a party waits: an auxiliary never does.
-    pub(crate) fn awaits(&self, party: u32) -> bool
-        ensures { result ≡ waits self.now.journal party }
+    // An access on a standing offer.
+    fn make_own_access(
+        &mut self,
+        party: u32,
+        offer: Standing,
+        access: Accessing,
+        act: Act,
+    ) -> Result<Answer, WantOfMemory>
+        requires may { MayMake self.old party act }
+        requires row { (act_row act).row.accesses ≡ Some access }
+        requires own { own_offer (standing self.old.journal) party access.local ≡ Some offer }
+        ensures answer { IfOk result (λ answer. plain_answer answer ≡ (outcome self.old.journal party act).answer) }
+        ensures journal { OnOk result (self.new ≡ core_after self.old party act) }
+        ensures err { OnErr result (self.new ≡ self.old) }
     {
-        match self.log.member(party) {
-            None => false,
-            Some(member) => member.waiting.is_some(),
+        match self.hold_on(&offer, access.kind) {
+            None => self.grant(party, offer, access, act),
+            Some(hold) => {
+                let answer = refusal_answer(self.waits(party), hold);
+                self.enter_quiet(party, act, answer)
+            }
         }
     }
 
     // An access that is not refused.
     fn grant(
         &mut self,
+        party: u32,
         offer: Standing,
         access: Accessing,
         act: Act,
     ) -> Result<Answer, WantOfMemory>
-        requires may { MayMake self.old offer.party act }
+        requires may { MayMake self.old party act }
         requires row { (act_row act).row.accesses ≡ Some access }
-        requires own { own_offer (standing self.old.journal) offer.party access.local ≡ Some offer }
+        requires own { own_offer (standing self.old.journal) party access.local ≡ Some offer }
         requires free { hold_on self.old.journal access.kind (Some offer) ≡ None }
-        ensures answer { IfOk result (λ answer. plain_answer answer ≡ (outcome self.old.journal offer.party act).answer) }
-        ensures journal { OnOk result (self.new ≡ core_after self.old offer.party act) }
+        ensures answer { IfOk result (λ answer. plain_answer answer ≡ (outcome self.old.journal party act).answer) }
+        ensures journal { OnOk result (self.new ≡ core_after self.old party act) }
         ensures err { OnErr result (self.new ≡ self.old) }
     {
         match access.kind {
-            Kind::Set => self.grant_set(offer, access, act),
-            Kind::Use => self.grant_use(offer, access, act),
+            Kind::Set => self.grant_set(party, offer, access, act),
+            Kind::Use => self.grant_use(party, offer, access, act),
         }
     }
 
     // A set that is not refused.
     fn grant_set(
         &mut self,
+        party: u32,
         offer: Standing,
         access: Accessing,
         act: Act,
     ) -> Result<Answer, WantOfMemory>
-        requires may { MayMake self.old offer.party act }
+        requires may { MayMake self.old party act }
         requires row { (act_row act).row.accesses ≡ Some access }
         requires kind { access.kind ≡ Kind.Set }
-        requires own { own_offer (standing self.old.journal) offer.party access.local ≡ Some offer }
+        requires own { own_offer (standing self.old.journal) party access.local ≡ Some offer }
         requires free { hold_on self.old.journal access.kind (Some offer) ≡ None }
-        ensures answer { IfOk result (λ answer. plain_answer answer ≡ (outcome self.old.journal offer.party act).answer) }
-        ensures journal { OnOk result (self.new ≡ core_after self.old offer.party act) }
+        ensures answer { IfOk result (λ answer. plain_answer answer ≡ (outcome self.old.journal party act).answer) }
+        ensures journal { OnOk result (self.new ≡ core_after self.old party act) }
         ensures err { OnErr result (self.new ≡ self.old) }
     {
         let value = match copy_value(self.alloc, act.hands_in()) {
@@ -227,34 +239,39 @@ impl Core {
             answer: Answer::Granted,
             kept: Answer::Granted,
         };
-        Ok(enter(&mut self.log, offer.party, act, told, List::new(self.alloc)))
+        Ok(enter(&mut self.log, party, act, told, List::new(self.alloc)))
     }
 
     // A use that is not refused.
     fn grant_use(
         &mut self,
+        party: u32,
         offer: Standing,
         access: Accessing,
         act: Act,
     ) -> Result<Answer, WantOfMemory>
-        requires may { MayMake self.old offer.party act }
+        requires may { MayMake self.old party act }
         requires row { (act_row act).row.accesses ≡ Some access }
         requires kind { access.kind ≡ Kind.Use }
-        requires own { own_offer (standing self.old.journal) offer.party access.local ≡ Some offer }
+        requires own { own_offer (standing self.old.journal) party access.local ≡ Some offer }
         requires free { hold_on self.old.journal access.kind (Some offer) ≡ None }
-        ensures answer { IfOk result (λ answer. plain_answer answer ≡ (outcome self.old.journal offer.party act).answer) }
-        ensures journal { OnOk result (self.new ≡ core_after self.old offer.party act) }
+        ensures answer { IfOk result (λ answer. plain_answer answer ≡ (outcome self.old.journal party act).answer) }
+        ensures journal { OnOk result (self.new ≡ core_after self.old party act) }
         ensures err { OnErr result (self.new ≡ self.old) }
     {
         let told = match self.use_told(&offer) {
             Ok(told) => told,
             Err(_) => return no_act(act),
         };
-        if self.log.reserve().is_err() || note_use(&self.offers, &mut self.cells, &offer).is_err() {
+        if self.log.reserve().is_err() {
             discard_told(told);
             return no_act(act);
         }
-        Ok(enter(&mut self.log, offer.party, act, told, List::new(self.alloc)))
+        if note_use(&self.offers, &mut self.cells, &offer).is_err() {
+            discard_told(told);
+            return no_act(act);
+        }
+        Ok(enter(&mut self.log, party, act, told, List::new(self.alloc)))
     }
 
     // What a use gives, twice.

@@ -1,6 +1,7 @@
 ghost use Rattle.std.specs.Prelude.{◌≡◌, IfOk};
 ghost use Rattle.sv_events.specs.Answer.{plain_answer};
 ghost use Rattle.sv_rules.specs.Control.{control_in_force, state_vector};
+ghost use Rattle.sv_rules.specs.Coupling.{couplings, is_coupled};
 ghost use Rattle.sv_rules.specs.Questions.{answer_to_question, degree_of};
 ghost use Rattle.sv_rules.specs.Standing.{own_offer, standing};
 
@@ -12,6 +13,20 @@ use sv_events::{Answer, Question};
 use sv_rules::Standing;
 
 impl Core {
+    // The offers that stand, by place.
+    pub(crate) fn standing(&self) -> &[Standing]
+        ensures { result.now ≡ standing self.now.journal }
+    {
+        self.offers.as_slice()
+    }
+
+    // Whether the offer at a place is coupled.
+    pub(crate) fn is_coupled(&self, place: u64) -> bool
+        ensures { result ≡ is_coupled (couplings self.now.journal) place }
+    {
+        self.offers.is_coupled(place)
+    }
+
     // The standing offer of a party of a local name, if there is one.
     pub(crate) fn own(&self, party: u32, local: &Name) -> Option<Standing>
         ensures { result ≡ own_offer (standing self.now.journal) party local.now }

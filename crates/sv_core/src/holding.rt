@@ -8,6 +8,7 @@ ghost use Rattle.sv_rules.specs.Refused.{hold_on};
 ghost use Rattle.sv_rules.specs.Standing.{standing};
 ghost use Rattle.sv_cell_laws.specs.Fits.{FitsShare};
 ghost use Rattle.sv_core.specs.Core.{IsFound};
+ghost use Rattle.sv_core.specs.Due.{is_partners_unseen};
 ghost use Rattle.sv_rules.specs.Story.{known, opening, story};
 ghost use Rattle.sv_rules.specs.Work.{has_unseen};
 ghost use Rattle.sv_story_laws.specs.StoryLaws.{offer_on};
@@ -188,10 +189,16 @@ impl Core {
         requires { coupling_now self.now.journal coupling.now.a.place ≡ Some coupling.now }
         ensures { result ≡ has_unseen self.now.journal offer.now coupling.now }
     {
-        let state = self.state(coupling);
-        match side_at(coupling, offer.place) {
-            Side::A => matches!(state, State::UnseenB),
-            Side::B => matches!(state, State::UnseenA),
-        }
+        is_partners_unseen(self.state(coupling), side_at(coupling, offer.place))
+    }
+}
+
+// Whether a set of the other side is unseen, by the state.
+fn is_partners_unseen(state: State, side: Side) -> bool
+    ensures { result ≡ is_partners_unseen state side }
+{
+    match side {
+        Side::A => matches!(state, State::UnseenB),
+        Side::B => matches!(state, State::UnseenA),
     }
 }

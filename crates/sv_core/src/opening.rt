@@ -15,7 +15,7 @@ ghost use Rattle.sv_rules.specs.Standing.{offer_count, own_offer, standing};
 ghost use Rattle.sv_rules.specs.Story.{handed_in, known};
 
 use crate::Core;
-use crate::telling::{Told, enter, no_act, told_twice};
+use crate::telling::{Told, discard_told, enter, no_act, told_twice};
 use crate::updating::{end_together, join};
 use apl_arrays::{List, Name, WantOfMemory};
 use std::alloc::Global;
@@ -127,41 +127,51 @@ impl Core {
     {
         match self.own(party, &local) {
             None => self.enter_quiet(party, act, Answer::NotShared),
-            Some(offer) => self.take_back(offer, act),
+            Some(offer) => self.take_back(party, local, offer, act),
         }
     }
 
     // Takes a standing offer back.
-    fn take_back(&mut self, offer: Standing, act: Act) -> Result<Answer, WantOfMemory>
-        requires may { MayMake self.old offer.party act }
-        requires row { (act_row act).row.ends ≡ Some (One offer.local) }
-        requires own { own_offer (standing self.old.journal) offer.party offer.local ≡ Some offer }
-        ensures answer { IfOk result (λ answer. plain_answer answer ≡ (outcome self.old.journal offer.party act).answer) }
-        ensures journal { OnOk result (self.new ≡ core_after self.old offer.party act) }
+    fn take_back(
+        &mut self,
+        party: u32,
+        local: Name,
+        offer: Standing,
+        act: Act,
+    ) -> Result<Answer, WantOfMemory>
+        requires may { MayMake self.old party act }
+        requires row { (act_row act).row.ends ≡ Some (One local) }
+        requires own { own_offer (standing self.old.journal) party local ≡ Some offer }
+        ensures answer { IfOk result (λ answer. plain_answer answer ≡ (outcome self.old.journal party act).answer) }
+        ensures journal { OnOk result (self.new ≡ core_after self.old party act) }
         ensures err { OnErr result (self.new ≡ self.old) }
     {
-        let mut made = List::new(self.alloc);
-        if made.reserve(1).is_err() || self.log.reserve().is_err() {
-            discard_pairs(made);
-            return no_act(act);
-        }
         let told = match self.kept(&offer) {
             Ok(told) => told,
+            Err(_) => return no_act(act),
+        };
+        let mut made = match one_pair(self.alloc) {
+            Ok(made) => made,
             Err(_) => {
-                discard_pairs(made);
+                discard_told(told);
                 return no_act(act);
             }
         };
+        if self.log.reserve().is_err() {
+            discard_told(told);
+            discard_pairs(made);
+            return no_act(act);
+        }
         let at = self.log.next_place();
         end_together(
             &mut self.offers,
             &mut self.cells,
             at,
-            offer.party,
-            Ending::One(offer.local),
+            party,
+            Ending::One(local),
             &mut made,
         );
-        Ok(enter(&mut self.log, offer.party, act, told, made))
+        Ok(enter(&mut self.log, party, act, told, made))
     }
 
     // The answer to the party that takes a standing offer back, twice.
@@ -177,6 +187,16 @@ impl Core {
 }
 
 fn discard_pairs(_made: PairList) {}
+
+// No pairs, with room for one. It takes memory for it.
+fn one_pair(alloc: Global) -> Result<PairList, WantOfMemory>
+    ensures none { IfOk result (λ made. made.items ≡ []) }
+    ensures room { IfOk result (λ made. 1 ≤ made.room) }
+{
+    let mut made = List::new(alloc);
+    made.reserve(1)?;
+    Ok(made)
+}
 
 // Room for the entry, the pair and the cell of a new offer, with the value that it is handed; then it stands, and is coupled in
 // the table with its match, which is answered. It takes memory; after `WantOfMemory` the table is as before.

@@ -1,13 +1,14 @@
-ghost use Rattle.std.specs.Prelude.{◌≡◌, ◌||◌, [], false, IsTrue, IsSome, Some, None, not, IfOk, OnOk, OnErr, reverse};
+ghost use Rattle.std.specs.Prelude.{◌≡◌, ◌||◌, ◌&&◌, [], IsTrue, Some, None, is_some, not, IfOk, OnOk, OnErr, reverse};
 ghost use Rattle.std.specs.Option.{option_copied};
-ghost use Rattle.sv_core.specs.Core.{core_after};
+ghost use Rattle.sv_core.specs.Core.{ArePeople, core_after};
 ghost use Rattle.sv_core.specs.Retry.{core_retried, plain_retry};
 ghost use Rattle.sv_events.specs.Answer.{plain_answer};
 ghost use Rattle.sv_rules.specs.Entries.{has_left, is_full, is_leave};
 ghost use Rattle.sv_rules.specs.Journal.{journal_of};
 ghost use Rattle.sv_rules.specs.Legal.{IsLegal, act_due, answer_to, is_user, journal_after, retried};
-ghost use Rattle.sv_rules.specs.Refused.{awaited, waits};
-ghost use Rattle.sv_rules.specs.Work.{is_auxiliary};
+ghost use Rattle.sv_rules.specs.Refused.{awaited, still_refused, waits};
+ghost use Rattle.sv_rules.specs.Work.{is_auxiliary, is_stuck};
+ghost use Rattle.sv_log.specs.Member.{waiting_at};
 
 use crate::leaves::spare_lists;
 use crate::updating::end_together;
@@ -46,6 +47,7 @@ impl Core {
     /// The processor of these users, with an empty journal. It takes memory for the users and for the room of all their
     /// leaves.
     pub fn new(alloc: Global, users: &[u32]) -> Result<Core, WantOfMemory>
+        requires people { ArePeople users.now }
         ensures { IfOk result (λ core. core ≡ record { users = users.now; journal = [] }) }
     {
         Ok(Core {
@@ -57,25 +59,40 @@ impl Core {
         })
     }
 
-    /// Whether a user has left. No memory.
-    pub fn has_left(&self, user: u32) -> bool
-        requires { IsTrue (is_user self.now.users user) }
-        ensures { result ≡ has_left self.now.journal user }
+    /// Whether a party has left. No memory.
+    pub fn has_left(&self, party: u32) -> bool
+        ensures { result ≡ has_left self.now.journal party }
     {
-        match self.log.member(user) {
+        match self.log.member(party) {
             None => false,
             Some(member) => member.has_left,
         }
     }
 
-    /// Whether a user waits. No memory.
-    pub fn waits(&self, user: u32) -> bool
-        requires { IsTrue (is_user self.now.users user) }
-        ensures { result ≡ waits self.now.journal user }
+    // The place of the entry by which a party waits, if it waits: an auxiliary never does.
+    fn waiting_at(&self, party: u32) -> Option<u64>
+        ensures { result ≡ waiting_at self.now.journal party }
     {
-        match self.log.member(user) {
-            None => false,
-            Some(member) => member.waiting.is_some(),
+        match self.log.member(party) {
+            None => None,
+            Some(member) => member.waiting,
+        }
+    }
+
+    /// Whether a party waits. No memory.
+    pub fn waits(&self, party: u32) -> bool
+        ensures { result ≡ waits self.now.journal party }
+    {
+        self.waiting_at(party).is_some()
+    }
+
+    // The act that a party waits for, if it waits.
+    pub(crate) fn awaited(&self, party: u32) -> Option<&Act>
+        ensures { option_copied result ≡ awaited self.now.journal party }
+    {
+        match self.waiting_at(party) {
+            None => None,
+            Some(place) => Some(&self.log.entries()[place as usize - 1].act),
         }
     }
 
@@ -116,62 +133,55 @@ impl Core {
         ensures journal { OnOk result (self.new ≡ record { users = self.old.users; journal = journal_after self.old.journal party act }) }
         ensures err { OnErr result (self.new ≡ self.old) }
     {
-        if self.is_full() {
+        if self.log.is_full() {
             discard_act(act);
             return Ok(Answer::Full);
         }
         self.make(party, act)
     }
 
-    /// The answer to a user that waits and tries again: its act is made where nothing refuses it now, and given up where
+    /// The answer to a party that waits and tries again: its act is made where nothing refuses it now, and given up where
     /// nobody can go on; a full journal answers `Full` and adds no entry. Where it is still held no entry is added, and no
     /// memory taken. After `WantOfMemory` all is as before.
-    pub fn retry(&mut self, user: u32) -> Result<Retry, WantOfMemory>
-        requires member { IsTrue (is_user self.old.users user) }
-        requires person { is_auxiliary user ≡ false }
-        requires present { IsTrue (not (has_left self.old.journal user)) }
-        requires waits { IsSome (awaited self.old.journal user) }
-        ensures answer { IfOk result (λ got. plain_retry got ≡ retried self.old.users self.old.journal user) }
-        ensures journal { OnOk result (self.new ≡ core_retried self.old user) }
+    pub fn retry(&mut self, party: u32) -> Result<Retry, WantOfMemory>
+        requires waits { IsTrue (waits self.old.journal party) }
+        ensures answer { IfOk result (λ got. plain_retry got ≡ retried self.old.users self.old.journal party) }
+        ensures journal { OnOk result (self.new ≡ core_retried self.old party) }
         ensures err { OnErr result (self.new ≡ self.old) }
     {
-        if self.is_full() {
+        if self.log.is_full() {
             return Ok(Retry::Now(Answer::Full));
         }
-        if self.is_refused_now(user) && !self.is_stuck() {
+        if self.is_kept_back(party) {
             return Ok(Retry::StillHeld);
         }
-        let act = self.awaited_act(user)?;
-        Ok(Retry::Now(self.make(user, act)?))
+        let act = self.awaited_act(party)?;
+        let answer = self.make(party, act)?;
+        Ok(Retry::Now(answer))
     }
 
-    // The act that a user waits for, in memory of its own.
-    fn awaited_act(&self, user: u32) -> Result<Act, WantOfMemory>
-        requires member { IsTrue (is_user self.now.users user) }
-        requires waits { IsSome (awaited self.now.journal user) }
-        ensures { IfOk result (λ act. awaited self.now.journal user ≡ Some act) }
+    // Whether something refuses the act that a party waits for, while somebody can go on.
+    fn is_kept_back(&self, party: u32) -> bool
+        ensures { result ≡ (is_some (still_refused self.now.journal party) && not (is_stuck self.now.users self.now.journal)) }
     {
-        match self.awaited(user) {
+        self.is_refused_now(party) && !self.is_stuck()
+    }
+
+    // The act that a party waits for, in memory of its own.
+    fn awaited_act(&self, party: u32) -> Result<Act, WantOfMemory>
+        requires { IsTrue (waits self.now.journal party) }
+        ensures { IfOk result (λ act. awaited self.now.journal party ≡ Some act) }
+    {
+        match self.awaited(party) {
             None => unreachable!(),
             Some(act) => act.copy(self.alloc),
         }
     }
 
-    // The act that a user waits for, if it waits.
-    pub(crate) fn awaited(&self, user: u32) -> Option<&Act>
-        requires { IsTrue (is_user self.now.users user) }
-        ensures { option_copied result ≡ awaited self.now.journal user }
-    {
-        let member = self.log.member(user)?;
-        let place = member.waiting?;
-        Some(&self.log.entries()[place as usize - 1].act)
-    }
-
-    /// The user leaves: its offers cease together, and those that this reopens are coupled again, by place, each with its
-    /// open match of the lowest place. No memory.
+    /// The user leaves: its offers cease together, and those that this reopens are coupled again, by place, each with the
+    /// oldest of its open matches. No memory.
     pub fn leave(&mut self, user: u32)
         requires member { IsTrue (is_user self.old.users user) }
-        requires person { is_auxiliary user ≡ false }
         requires present { IsTrue (not (has_left self.old.journal user)) }
         ensures { self.new ≡ core_after self.old user Act.Leave }
     {

@@ -1,18 +1,16 @@
-ghost use Rattle.std.specs.Prelude.{◌≡◌, false, not, Contains, IsTrue, Some, is_some, unwrap_or};
+ghost use Rattle.std.specs.Prelude.{◌≡◌, true, false, not, find, nat_lt, Contains, IsTrue, Some, is_some, unwrap_or};
 ghost use Rattle.std.specs.List.{list_all, list_any};
 ghost use Rattle.std.specs.Option.{option_copied, option_map_or};
-ghost use Rattle.sv_core.specs.Due.{command_of, customer_of, is_due};
-ghost use Rattle.sv_log.specs.Member.{member_of};
-ghost use Rattle.sv_rules.specs.Coupling.{coupling_now};
+ghost use Rattle.sv_core.specs.Due.{command_of, customer_of, is_due, is_due_to, is_own_open, partner_at, partner_of, served_by};
+ghost use Rattle.sv_rules.specs.Coupling.{coupling_now, open_to};
 ghost use Rattle.sv_rules.specs.Entries.{has_left};
-ghost use Rattle.sv_rules.specs.Legal.{is_user};
-ghost use Rattle.sv_rules.specs.Refused.{refused, still_refused};
-ghost use Rattle.sv_rules.specs.Standing.{standing};
-ghost use Rattle.sv_rules.specs.Work.{first_coupled, first_open, is_auxiliary, is_halted, is_idle, is_stuck, owes_reply, to_counter, work_due, work_of};
+ghost use Rattle.sv_rules.specs.Refused.{hold_of, refused, still_refused};
+ghost use Rattle.sv_rules.specs.Standing.{offer_count, standing};
+ghost use Rattle.sv_rules.specs.Work.{first_coupled, first_open, is_auxiliary, is_halted, is_idle, is_stuck, lacks_control, most_counters, owes_reply, to_counter, work_due, work_of};
 
 use crate::Core;
 use apl_arrays::Array;
-use sv_events::{Act, Work};
+use sv_events::{Accessing, Act, Work};
 use sv_log::Member;
 use sv_rules::{CLOCK_PARTY, Coupling, Standing, TEXT_PARTY, most_counters};
 
@@ -55,11 +53,24 @@ impl Core {
     fn first_open(&self, party: u32) -> Option<Standing>
         ensures { result ≡ first_open self.now.journal party }
     {
-        self.offers
-            .as_slice()
-            .iter()
-            .find(|offer| offer.party == party && !self.offers.is_coupled(offer.place))
-            .copied()
+        self.first_open_among(self.standing(), party)
+    }
+
+    fn first_open_among(&self, offers: &[Standing], party: u32) -> Option<Standing>
+        ensures { result ≡ find (is_own_open self.now.journal party) offers.now }
+    {
+        for offer in offers {
+            if self.is_own_open(party, offer) {
+                return Some(*offer);
+            }
+        }
+        None
+    }
+
+    fn is_own_open(&self, party: u32, offer: &Standing) -> bool
+        ensures { result ≡ is_own_open self.now.journal party offer.now }
+    {
+        offer.party == party && !self.is_coupled(offer.place)
     }
 
     // The coupled offer of a party of the lowest place on which this is due.
@@ -67,11 +78,33 @@ impl Core {
         requires { IsTrue (is_auxiliary party) }
         ensures { result ≡ first_coupled self.now.journal (is_due self.now.journal due) party }
     {
-        self.offers
-            .as_slice()
-            .iter()
-            .find(|offer| offer.party == party && self.is_due(offer, due))
-            .copied()
+        self.first_coupled_among(self.standing(), party, due)
+    }
+
+    fn first_coupled_among(&self, offers: &[Standing], party: u32, due: Due) -> Option<Standing>
+        requires stand { offers.now ≡ standing self.now.journal }
+        requires auxiliary { IsTrue (is_auxiliary party) }
+        ensures { result ≡ find (is_due_to self.now.journal party due) offers.now }
+    {
+        for offer in offers {
+            if self.is_due_to(party, offer, due) {
+                return Some(*offer);
+            }
+        }
+        None
+    }
+
+    // Whether the offer is the party's own and coupled, and this is due on it.
+    fn is_due_to(&self, party: u32, offer: &Standing, due: Due) -> bool
+        requires stands { Contains (standing self.now.journal) offer.now }
+        requires auxiliary { IsTrue (is_auxiliary party) }
+        ensures { result ≡ is_due_to self.now.journal party due offer.now }
+    {
+        if offer.party == party {
+            self.is_due(offer, due)
+        } else {
+            false
+        }
     }
 
     // Whether the offer is coupled, and this is due on it.
@@ -90,18 +123,39 @@ impl Core {
         requires stands { Contains (standing self.now.journal) offer.now }
         requires own { IsTrue (is_auxiliary offer.now.party) }
         requires now { coupling_now self.now.journal offer.now.place ≡ Some coupling.now }
+        requires at_a { coupling_now self.now.journal coupling.now.a.place ≡ Some coupling.now }
         ensures { result ≡ is_due self.now.journal due offer.now coupling.now }
     {
         match due {
-            Due::Control => self
-                .cells
-                .get(offer.place)
-                .is_some_and(|cell| cell.lacks_control),
-            Due::Reply => self
-                .cells
-                .get(offer.place)
-                .is_some_and(|cell| cell.owes_reply),
+            Due::Control => self.lacks_control(offer, coupling),
+            Due::Reply => self.owes_reply(offer, coupling),
             Due::Use => self.has_unseen(offer, coupling),
+        }
+    }
+
+    // Whether its party set no control on the offer since it was coupled.
+    fn lacks_control(&self, offer: &Standing, coupling: &Coupling) -> bool
+        requires stands { Contains (standing self.now.journal) offer.now }
+        requires own { IsTrue (is_auxiliary offer.now.party) }
+        requires now { coupling_now self.now.journal offer.now.place ≡ Some coupling.now }
+        ensures { result ≡ lacks_control self.now.journal offer.now coupling.now }
+    {
+        match self.cells.get(offer.place) {
+            None => false,
+            Some(cell) => cell.lacks_control,
+        }
+    }
+
+    // Whether its party got a value by its last access on the offer since it was coupled.
+    fn owes_reply(&self, offer: &Standing, coupling: &Coupling) -> bool
+        requires stands { Contains (standing self.now.journal) offer.now }
+        requires own { IsTrue (is_auxiliary offer.now.party) }
+        requires now { coupling_now self.now.journal offer.now.place ≡ Some coupling.now }
+        ensures { result ≡ owes_reply self.now.journal offer.now coupling.now }
+    {
+        match self.cells.get(offer.place) {
+            None => false,
+            Some(cell) => cell.owes_reply,
         }
     }
 
@@ -109,19 +163,25 @@ impl Core {
     fn to_counter(&self, party: u32) -> Option<Standing>
         ensures { result ≡ to_counter self.now.journal party }
     {
-        if self.offers.count(party) < most_counters(party) {
-            self.offers.oldest_to(party)
+        if self.may_counter(party) {
+            self.oldest_to(party)
         } else {
             None
         }
     }
 
-    // The offer on which a reply is owed.
-    fn replied(&self, party: u32) -> Option<Standing>
-        requires { IsTrue (is_auxiliary party) }
-        ensures { result ≡ first_coupled self.now.journal (owes_reply self.now.journal) party }
+    // Whether an auxiliary may have one offer more.
+    fn may_counter(&self, party: u32) -> bool
+        ensures { result ≡ nat_lt (offer_count (standing self.now.journal) party) (most_counters party) }
     {
-        self.first_coupled(party, Due::Reply)
+        self.offers.count(party) < most_counters(party)
+    }
+
+    // The open offer of the lowest place that is made to a party by its number.
+    fn oldest_to(&self, party: u32) -> Option<Standing>
+        ensures { result ≡ find (λ _. true) (open_to self.now.journal party) }
+    {
+        self.offers.oldest_to(party)
     }
 
     /// The value that an auxiliary is to reply to. No memory.
@@ -129,35 +189,51 @@ impl Core {
         requires { IsTrue (is_auxiliary party) }
         ensures { option_copied result ≡ command_of self.now.journal party }
     {
-        let offer = self.replied(party)?;
-        self.known(&offer)
+        match self.first_coupled(party, Due::Reply) {
+            None => None,
+            Some(offer) => self.known(&offer),
+        }
     }
 
-    /// The party of the other offer of the coupling on which an auxiliary is to reply or to set a control. No memory.
+    /// The party of the other offer of the coupling on which an auxiliary is to set a control, else to reply. No memory.
     pub fn customer(&self, party: u32) -> Option<u32>
         requires { IsTrue (is_auxiliary party) }
         ensures { result ≡ customer_of self.now.journal party }
     {
-        let offer = match self.first_coupled(party, Due::Control) {
-            None => self.replied(party)?,
-            Some(offer) => offer,
-        };
-        let coupling = self.coupling(offer.place)?;
-        Some(if coupling.a.place == offer.place {
-            coupling.b.party
-        } else {
-            coupling.a.party
-        })
+        match self.served_by(party) {
+            None => None,
+            Some(offer) => self.partner(offer.place),
+        }
     }
 
-    // Whether something refuses the act that a user waits for now.
-    pub(crate) fn is_refused_now(&self, user: u32) -> bool
-        requires { IsTrue (is_user self.now.users user) }
-        ensures { result ≡ is_some (still_refused self.now.journal user) }
+    // The coupled offer on which an auxiliary is to set a control, else the one on which it is to reply.
+    fn served_by(&self, party: u32) -> Option<Standing>
+        requires { IsTrue (is_auxiliary party) }
+        ensures { result ≡ served_by self.now.journal party }
     {
-        match self.awaited(user) {
+        match self.first_coupled(party, Due::Control) {
+            None => self.first_coupled(party, Due::Reply),
+            Some(offer) => Some(offer),
+        }
+    }
+
+    // The party of the other offer of the coupling of the offer at a place.
+    fn partner(&self, place: u64) -> Option<u32>
+        ensures { result ≡ partner_at self.now.journal place }
+    {
+        match self.coupling(place) {
+            None => None,
+            Some(coupling) => Some(partner_of(&coupling, place)),
+        }
+    }
+
+    // Whether something refuses the act that a party waits for now.
+    pub(crate) fn is_refused_now(&self, party: u32) -> bool
+        ensures { result ≡ is_some (still_refused self.now.journal party) }
+    {
+        match self.awaited(party) {
             None => false,
-            Some(act) => self.is_refused(user, act),
+            Some(act) => self.is_refused(party, act),
         }
     }
 
@@ -166,19 +242,25 @@ impl Core {
     {
         match act.row().accesses {
             None => false,
-            Some(access) => match self.own(party, &access.local) {
-                None => false,
-                Some(offer) => self.hold_on(&offer, access.kind).is_some(),
-            },
+            Some(access) => self.is_held(party, &access),
         }
     }
 
-    fn is_halted(&self, member: &Member) -> bool
-        requires member { IsTrue (is_user self.now.users member.now.party) }
-        requires is { member.now ≡ member_of self.now.journal member.now.party }
-        ensures { result ≡ is_halted self.now.journal member.now.party }
+    // Whether something refuses an access of a party.
+    fn is_held(&self, party: u32, access: &Accessing) -> bool
+        ensures { result ≡ is_some (hold_of self.now.journal party (Some access.now)) }
     {
-        member.has_left || self.is_refused_now(member.party)
+        match self.own(party, &access.local) {
+            None => false,
+            Some(offer) => self.hold_on(&offer, access.kind).is_some(),
+        }
+    }
+
+    // Whether a user has left, or waits and is refused now.
+    fn is_halted(&self, user: u32) -> bool
+        ensures { result ≡ is_halted self.now.journal user }
+    {
+        self.has_left(user) || self.is_refused_now(user)
     }
 
     /// Whether nobody can go on: some user has not left, each that has not waits and is refused now, and no auxiliary has
@@ -203,8 +285,14 @@ impl Core {
     fn all_halt(&self) -> bool
         ensures { result ≡ list_all (is_halted self.now.journal) self.now.users }
     {
-        for member in self.log.members() {
-            if !self.is_halted(member) {
+        self.halt(self.log.members())
+    }
+
+    fn halt(&self, members: &[Member]) -> bool
+        ensures { result ≡ list_all (λ member. is_halted self.now.journal member.party) members.now }
+    {
+        for member in members {
+            if !self.is_halted(member.party) {
                 return false;
             }
         }
@@ -217,6 +305,17 @@ impl Core {
         ensures { result ≡ is_idle (work_of self.now.journal party) }
     {
         matches!(self.work_of(party), Work::Idle)
+    }
+}
+
+// The party of the other offer of a coupling.
+fn partner_of(coupling: &Coupling, place: u64) -> u32
+    ensures { result ≡ partner_of coupling.now place }
+{
+    if coupling.a.place == place {
+        coupling.b.party
+    } else {
+        coupling.a.party
     }
 }
 

@@ -30,8 +30,8 @@ pub returns-clause-found : goal.returns-clause-found
 returns-clause-found c =
     let inside = c.self.inside in
     let now : coupling_now inside.log.journal c.args.place ≡ c.coupling.result =
-        ap (λ (o : List Standing). coupling_at o (couplings inside.log.journal) c.args.place) (sym c.self.invariant.stand)
-        ∙ ap (λ (m : List Made). coupling_at inside.offers.offers m c.args.place) (sym c.self.invariant.couple)
-        ∙ sym c.coupling.ensures in
+    ap (λ (o : List Standing). coupling_at o (couplings inside.log.journal) c.args.place) (sym c.self.invariant.stand)
+    ∙ ap (λ (m : List Made). coupling_at inside.offers.offers m c.args.place) (sym c.self.invariant.couple)
+    ∙ sym c.coupling.ensures in
     subst (λ (v : PlainCore). IfSome c.coupling.result (IsFound v.journal c.args.place)) c.self.view_is
     (found inside.log.users inside.log.journal c.self.invariant.legal c.args.place c.coupling.result now)
