@@ -10,6 +10,7 @@ use Rattle.sv_events.specs.Entry.{PlainEntry}
 use Rattle.sv_events.specs.Row.{act_row}
 use Rattle.sv_events.specs.declared.entry.Pair.{Pair}
 use Rattle.sv_events.specs.declared.event.Act.{Act}
+use Rattle.sv_events.specs.declared.event.Act.TheVariants.{Retract, Leave}
 use Rattle.sv_events.specs.declared.row.Ending.{Ending}
 use Rattle.sv_cells.specs.Cell.{coupled_with, known_alone, new_cell, no_control}
 use Rattle.sv_cells.specs.Cells.{CouplesAt, KeepsCells, PutsAt, cell_at}
@@ -18,6 +19,7 @@ use Rattle.sv_cells.specs.declared.cell.Held.TheVariants.{Shared, Lent}
 use Rattle.sv_cells.specs.declared.cells.Cells.{Cells}
 use Rattle.sv_cell_laws.specs.Fits.{FitCells}
 use Rattle.sv_cell_laws.specs.Steps.{OpensCells}
+use Rattle.sv_cell_laws.proofs.QuietSteps.{no_access_by_row, no_control_by_row, no_tries_by_row}
 use Rattle.sv_offers.specs.Table.{PlainOffers, after_ending}
 use Rattle.sv_offer_laws.specs.LegalLaws.{made_at}
 use Rattle.sv_offer_laws.proofs.EndingLemmas.{made_of_ending, standing_left}
@@ -34,13 +36,13 @@ use Rattle.sv_story.specs.Share.{share_of}
 use Rattle.sv_story_laws.proofs.StepLemmas.{steps_may_follow, work_may_follow}
 use Rattle.sv_core.specs.Core.{IsSpare, MayMake, PlainCore, present}
 use Rattle.sv_core.specs.Invariant.{Parts, IsKept}
-use Rattle.sv_core.specs.Updating.{Joined}
+use Rattle.sv_core.specs.Updating.{IsEnding, Joined}
 use Rattle.sv_core.proofs.Kept.{not_true, whole_core}
 
 -- a party that goes on may make the act that is due, where there is room
 pub may_step : (core : PlainCore) (party : ℕ) (act : Act) → IsLegal core.users core.journal → (is_user core.users party || is_auxiliary party) ≡ true → not (has_left core.journal party) ≡ true → awaited core.journal party ≡ None →
     act_due (is_auxiliary party) core.journal party act ≡ Some act → not (is_leave act) ≡ true → is_full core.journal ≡ false → MayMake core party act
-may_step core party act legal member here on due stays room = record { may = elim (cases_Bool (is_auxiliary party)) [ inl aux ↦ of_work aux | inr person ↦ of_user person ]; stays = stays }
+may_step core party act legal member here on due stays room = record { legal = legal; may = elim (cases_Bool (is_auxiliary party)) [ inl aux ↦ of_work aux | inr person ↦ of_user person ]; stays = stays }
   where
     of_work : is_auxiliary party ≡ true → MayFollow core.users core.journal (entry_for core.journal party act)
     of_work aux =
@@ -141,3 +143,31 @@ opens_cells old between new offer value (Some other) older puts couples x at_x a
     twice : (b : Bool) → (if b then Some high_cell else (if b then Some (new_cell value) else cell_at old at)) ≡ (if b then Some high_cell else cell_at old at)
     twice true = refl
     twice false = refl
+
+-- an act that ends offers does nothing else, and touches none
+ends_alone : (act : Act) (ending : Ending) → (act_row act).row.ends ≡ Some ending → ((act_row act).row.accesses ≡ None) × ((act_row act).row.controls ≡ None)
+ends_alone (Retract local) ending h = (refl, refl)
+ends_alone Leave ending h = (refl, refl)
+ends_alone _ ending h = absurd (none-some ending h)
+
+-- offers may end by the act of a party
+pub may_end : (users : List ℕ) (journal : Entries) (offers : PlainOffers) (cells : Cells) (at party : ℕ) (act : Act) (ending : Ending) → IsLegal users journal → offers.offers ≡ standing journal →
+    offers.coupled ≡ couplings journal → FitCells journal cells → MayFollow users journal (entry_for journal party act) → (act_row act).row.ends ≡ Some ending → at ≡ next_place journal →
+    IsEnding offers cells at party ending users journal (entry_for journal party act)
+may_end users journal offers cells at party act ending legal stand couple fit may ends place = record {
+  legal = (may, legal);
+  stand = stand;
+  couple = couple;
+  place = place;
+  own = refl;
+  ends = ends;
+  untouched = λ o has. record {
+    access = no_access_by_row e o (ends_alone act ending ends).0;
+    control = no_control_by_row e o (ends_alone act ending ends).1;
+    tries = λ auxiliary. no_tries_by_row e o (ends_alone act ending ends).0;
+  };
+  fit = fit;
+}
+  where
+    e : PlainEntry
+    e = entry_for journal party act

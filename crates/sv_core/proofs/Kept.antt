@@ -9,13 +9,18 @@ use Rattle.sv_cells.specs.declared.cells.Cells.{Cells}
 use Rattle.sv_cell_laws.specs.Fits.{FitCells}
 use Rattle.sv_cell_laws.specs.Steps.{Stays, TouchesNothing}
 use Rattle.sv_cell_laws.proofs.TouchSteps.{cells_stay}
+use Rattle.sv_events.specs.Answer.{PlainAnswer}
 use Rattle.sv_events.specs.Entry.{PlainEntry}
+use Rattle.sv_events.specs.declared.entry.Pair.{Pair}
+use Rattle.sv_events.specs.declared.event.Act.{Act}
+use Rattle.sv_log.specs.Log.{PlainLog}
 use Rattle.sv_rules.specs.Entries.{Entries, has_left, is_leave}
 use Rattle.sv_rules.specs.Coupling.{couplings}
-use Rattle.sv_rules.specs.Legal.{IsLegal, MayFollow}
+use Rattle.sv_rules.specs.Legal.{IsLegal, MayFollow, entry_for}
+use Rattle.sv_rules.specs.Outcome.{outcome}
 use Rattle.sv_rules.specs.Standing.{standing}
 use Rattle.sv_rules.specs.declared.standing.Standing.{Standing}
-use Rattle.sv_core.specs.Core.{IsSpare, present}
+use Rattle.sv_core.specs.Core.{ArePeople, IsSpare, PlainCore, core_after, present}
 use Rattle.sv_core.specs.Invariant.{Parts, IsKept}
 
 and-false : (b : Bool) → (b && false) ≡ false
@@ -47,6 +52,43 @@ pub not_true : (b : Bool) → not b ≡ true → b ≡ false
 not_true true h = sym h
 not_true false h = refl
 
+-- a log with one entry more, and room for a leave of each user
+pub record IsEntered (old new : PlainLog) (e : PlainEntry) : Type 0 where
+  pub users : new.users ≡ old.users
+  pub journal : new.journal ≡ e ∷ old.journal
+  pub room : length old.users ≤ new.room
+
+-- room was made, and then the entry was added
+pub entered : (old between new : PlainLog) (added e : PlainEntry) → between.users ≡ old.users → between.journal ≡ old.journal → length old.users + 1 ≤ between.room →
+    new.users ≡ between.users → new.journal ≡ added ∷ between.journal → new.room + 1 ≡ between.room → added ≡ e → IsEntered old new e
+entered old between new added e users journal room users' journal' room' is = record {
+  users = users' ∙ users;
+  journal = journal' ∙ ap (λ j. added ∷ j) journal ∙ ap (λ x. x ∷ old.journal) is;
+  room = omega (arith, room, room');
+}
+
+-- the entry of an act, by its answer and its pairs
+pub entry_is : (journal : Entries) (party : ℕ) (act : Act) (given : PlainAnswer) (made : List Pair) → given ≡ (outcome journal party act).answer → made ≡ (outcome journal party act).made →
+    (let e : PlainEntry = record { party = party; act = act; answer = given; made = made } in e) ≡ entry_for journal party act
+entry_is journal party act given made answer pairs =
+    ap (λ (a : PlainAnswer). let e : PlainEntry = record { party = party; act = act; answer = a; made = made } in e) answer
+    ∙ ap (λ (ps : List Pair). let e : PlainEntry = record { party = party; act = act; answer = (outcome journal party act).answer; made = ps } in e) pairs
+
+-- the core is the one after the act
+pub core_is : (core : PlainCore) (old new : PlainLog) (party : ℕ) (act : Act) → (let c : PlainCore = record { users = old.users; journal = old.journal } in c) ≡ core →
+    IsEntered old new (entry_for old.journal party act) → (let c : PlainCore = record { users = new.users; journal = new.journal } in c) ≡ core_after core party act
+core_is core old new party act is more =
+    ap (λ (us : List ℕ). let c : PlainCore = record { users = us; journal = new.journal } in c) more.users
+    ∙ ap (λ (j : Entries). let c : PlainCore = record { users = old.users; journal = j } in c) more.journal
+    ∙ ap (λ (c : PlainCore). core_after c party act) is
+
+-- the core is the same
+pub core_stays : (core : PlainCore) (old new : PlainLog) → (let c : PlainCore = record { users = old.users; journal = old.journal } in c) ≡ core → new.users ≡ old.users → new.journal ≡ old.journal →
+    (let c : PlainCore = record { users = new.users; journal = new.journal } in c) ≡ core
+core_stays core old new is users journal =
+    ap (λ (us : List ℕ). let c : PlainCore = record { users = us; journal = new.journal } in c) users
+    ∙ ap (λ (j : Entries). let c : PlainCore = record { users = old.users; journal = j } in c) journal ∙ is
+
 -- equal cells fit alike
 pub fit_kept : (journal : Entries) (cells cells' : Cells) → KeepsCells cells cells' → FitCells journal cells → FitCells journal cells'
 fit_kept journal cells cells' keeps fit offer has = let old = fit offer has in (old.0, keeps offer.place ∙ old.1, old.2)
@@ -58,6 +100,7 @@ pub whole_core : (core new : Parts) (e : PlainEntry) → IsKept core → MayFoll
 whole_core core new e k may users journal stand couple fit room count spare =
     let here : present new.users new.journal ≡ present core.users (e ∷ core.journal) = ap (λ us. present us new.journal) users ∙ ap (present core.users) journal in
     record {
+      people = subst ArePeople (sym users) k.people;
       legal = subst (λ us. IsLegal us new.journal) (sym users) (subst (IsLegal core.users) (sym journal) (may, k.legal));
       stand = stand ∙ ap standing (sym journal);
       couple = couple ∙ ap couplings (sym journal);
@@ -88,6 +131,7 @@ pub same_core : (core new : Parts) → IsKept core → new.users ≡ core.users 
 same_core core new k users journal offers coupled spares fit room =
     let here : present new.users new.journal ≡ present core.users core.journal = ap (λ us. present us new.journal) users ∙ ap (present core.users) journal in
     record {
+      people = subst ArePeople (sym users) k.people;
       legal = subst (λ us. IsLegal us new.journal) (sym users) (subst (IsLegal core.users) (sym journal) k.legal);
       stand = offers ∙ k.stand ∙ ap standing (sym journal);
       couple = coupled ∙ k.couple ∙ ap couplings (sym journal);

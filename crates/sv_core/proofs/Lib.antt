@@ -1,6 +1,11 @@
+mod AccessingLemmas
+mod DueLemmas
 mod EndingLemmas
 mod GoingLemmas
 mod HoldingLemmas
 mod Kept
 mod MakingLemmas
+mod OpeningLemmas
+mod OutcomeLemmas
 mod TogetherLemmas
+mod WaitingLemmas

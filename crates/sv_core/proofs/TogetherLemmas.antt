@@ -23,7 +23,7 @@ use Rattle.sv_rules.specs.declared.standing.Standing.{Standing}
 use Rattle.sv_core.specs.Updating.{CouplesAll, FitsSome, IsEnding, IsToCouple, IsToEnd, KeepsOthers, PartsAll}
 
 -- what holds of the offers and couplings of the journal holds of the table
-tables : (offers : PlainOffers) (journal : Entries) → offers.offers ≡ standing journal → offers.coupled ≡ couplings journal → (P : List Standing → List Made → Type 0) → P (standing journal) (couplings journal) → P offers.offers offers.coupled
+pub tables : (offers : PlainOffers) (journal : Entries) → offers.offers ≡ standing journal → offers.coupled ≡ couplings journal → (P : List Standing → List Made → Type 0) → P (standing journal) (couplings journal) → P offers.offers offers.coupled
 tables offers journal stand couple P h = subst (λ o. P o offers.coupled) (sym stand) (subst (P (standing journal)) (sym couple) h)
 
 -- the table is one
