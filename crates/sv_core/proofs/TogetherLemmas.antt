@@ -97,6 +97,7 @@ ready_to_couple offers cells c1 c2 at party ending users journal e is parts keep
 pub ends_all : (offers : PlainOffers) (cells c1 c2 c3 : Cells) (at party : ℕ) (ending : Ending) (pairs : List Pair) → PartsAll offers.offers offers.coupled party ending offers.offers cells c1 →
     KeepsOthers offers.offers party ending c1 c2 → CouplesAll pairs c2 c3 pairs → pairs ≡ pairs_made at offers party ending →
     (users : List ℕ) (journal : Entries) (e : PlainEntry) → IsEnding offers cells at party ending users journal e → FitCells (e ∷ journal) c3
+unfolding ready_to_couple
 ends_all offers cells c1 c2 c3 at party ending pairs parts keeps couples made users journal e is =
     let same : e.made ≡ pairs = ending_pairs offers cells at party ending users journal e is ∙ sym made in
     let ready = ready_to_couple offers cells c1 c2 at party ending users journal e is parts keeps pairs same in

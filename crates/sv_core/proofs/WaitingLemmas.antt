@@ -62,7 +62,7 @@ unheld users journal e legal aux true h =
 -- nor does it wait
 pub strangers_do_not_wait : (users : List ℕ) (journal : Entries) → IsLegal users journal → (party : ℕ) → is_user users party ≡ false → waiting_at journal party ≡ None
 strangers_do_not_wait users [] legal party stranger = refl
-strangers_do_not_wait users (e ∷ journal) legal party stranger = by (eqb e.party party) refl
+strangers_do_not_wait users (e ∷ journal) legal party stranger = by (strangers_do_not_wait users journal legal.1 party stranger) (eqb e.party party) refl
   where
     here : Option ℕ
     here = if is_held (kind_of e.answer) then Some (next_place journal) else None
@@ -71,9 +71,9 @@ strangers_do_not_wait users (e ∷ journal) legal party stranger = by (eqb e.par
     of_party own (inl user) = absurd (both_ways (is_user users party) stranger (ap (is_user users) (sym own) ∙ user))
     of_party own (inr aux) = aux
 
-    by : (b : Bool) → eqb e.party party ≡ b → waiting_at (e ∷ journal) party ≡ None
-    by false is = ap (λ (b : Bool). if b then here else waiting_at journal party) is ∙ strangers_do_not_wait users journal legal.1 party stranger
-    by true is =
+    by : waiting_at journal party ≡ None → (b : Bool) → eqb e.party party ≡ b → waiting_at (e ∷ journal) party ≡ None
+    by before false is = ap (λ (b : Bool). if b then here else waiting_at journal party) is ∙ before
+    by before true is =
         let aux = of_party (eqb-true e.party party is) (or_cases (is_user users e.party) (is_auxiliary e.party) legal.0.party) in
         ap (λ (b : Bool). if b then here else waiting_at journal party) is
         ∙ ap (λ (b : Bool). if b then Some (next_place journal) else None) (unheld users journal e legal aux (is_held (kind_of e.answer)) refl)
@@ -81,7 +81,7 @@ strangers_do_not_wait users (e ∷ journal) legal party stranger = by (eqb e.par
 -- nor does a party that has left
 pub leavers_do_not_wait : (users : List ℕ) (journal : Entries) → IsLegal users journal → (party : ℕ) → has_left journal party ≡ true → waiting_at journal party ≡ None
 leavers_do_not_wait users [] legal party left = refl
-leavers_do_not_wait users (e ∷ journal) legal party left = by (eqb e.party party) refl
+leavers_do_not_wait users (e ∷ journal) legal party left = by (leavers_do_not_wait users journal legal.1 party) (eqb e.party party) refl
   where
     here : Option ℕ
     here = if is_held (kind_of e.answer) then Some (next_place journal) else None
@@ -97,11 +97,11 @@ leavers_do_not_wait users (e ∷ journal) legal party left = by (eqb e.party par
         and_second true b h = h
         and_second false b h = cc
 
-    by : (b : Bool) → eqb e.party party ≡ b → waiting_at (e ∷ journal) party ≡ None
-    by false is =
+    by : (has_left journal party ≡ true → waiting_at journal party ≡ None) → (b : Bool) → eqb e.party party ≡ b → waiting_at (e ∷ journal) party ≡ None
+    by before false is =
         ap (λ (b : Bool). if b then here else waiting_at journal party) is
-        ∙ leavers_do_not_wait users journal legal.1 party (ap (λ (b : Bool). (b && is_leave e.act) || has_left journal party) (sym is) ∙ left)
-    by true is =
+        ∙ before (ap (λ (b : Bool). (b && is_leave e.act) || has_left journal party) (sym is) ∙ left)
+    by before true is =
         let act : e.act ≡ Leave = leave-is e.act (leaves (eqb-true e.party party is)) in
         ap (λ (b : Bool). if b then here else waiting_at journal party) is
         ∙ ap (λ (given : PlainAnswer). if is_held (kind_of given) then Some (next_place journal) else None) (legal.0.answer ∙ ap (λ (a : Act). (outcome journal e.party a).answer) act)
@@ -109,15 +109,15 @@ leavers_do_not_wait users (e ∷ journal) legal party left = by (eqb e.party par
 -- a party waits where it has a place of waiting
 pub waiting_is : (journal : Entries) (party : ℕ) → is_some (waiting_at journal party) ≡ waits journal party
 waiting_is [] party = refl
-waiting_is (e ∷ journal) party = by (eqb e.party party) refl
+waiting_is (e ∷ journal) party = by (waiting_is journal party) (eqb e.party party) refl
   where
     both : (b : Bool) → is_some (if b then Some (next_place journal) else None) ≡ is_some (if b then Some e.act else None)
     both true = refl
     both false = refl
 
-    by : (b : Bool) → eqb e.party party ≡ b → is_some (waiting_at (e ∷ journal) party) ≡ waits (e ∷ journal) party
-    by true is = rw is (both (is_held (kind_of e.answer)))
-    by false is = rw is (waiting_is journal party)
+    by : is_some (waiting_at journal party) ≡ waits journal party → (b : Bool) → eqb e.party party ≡ b → is_some (waiting_at (e ∷ journal) party) ≡ waits (e ∷ journal) party
+    by before true is = rw is (both (is_held (kind_of e.answer)))
+    by before false is = rw is before
 
 -- the entry there has the act that the party waits for
 pub waits_there : (journal : Entries) (party place : ℕ) → waiting_at journal party ≡ Some place →

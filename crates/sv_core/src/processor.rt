@@ -1,4 +1,4 @@
-ghost use Rattle.std.specs.Prelude.{◌≡◌, ◌||◌, ◌&&◌, [], IsTrue, Some, None, is_some, not, IfOk, OnOk, OnErr, reverse};
+ghost use Rattle.std.specs.Prelude.{◌≡◌, ◌≤◌, ◌||◌, ◌&&◌, [], length, IsTrue, Some, None, is_some, not, IfOk, OnOk, OnErr, reverse};
 ghost use Rattle.std.specs.Option.{option_copied};
 ghost use Rattle.sv_core.specs.Core.{ArePeople, core_after};
 ghost use Rattle.sv_core.specs.Retry.{core_retried, plain_retry};
@@ -92,7 +92,7 @@ impl Core {
     {
         match self.waiting_at(party) {
             None => None,
-            Some(place) => Some(&self.log.entries()[place as usize - 1].act),
+            Some(place) => Some(act_awaited(self.log.entries(), party, place)),
         }
     }
 
@@ -204,6 +204,16 @@ impl Core {
             made,
         });
     }
+}
+
+// The act that a party waits for, by the place of its entry.
+fn act_awaited(entries: &[Entry], party: u32, place: u64) -> &Act
+    requires from { 1 ≤ place }
+    requires to { place ≤ length entries.now }
+    requires at { waiting_at (journal_of entries.now) party ≡ Some place }
+    ensures { awaited (journal_of entries.now) party ≡ Some result.now }
+{
+    &entries[place as usize - 1].act
 }
 
 pub(crate) fn discard_act(_act: Act) {}

@@ -242,13 +242,13 @@ impl Core {
     {
         match act.row().accesses {
             None => false,
-            Some(access) => self.is_held(party, &access),
+            Some(access) => self.is_held(party, access),
         }
     }
 
     // Whether something refuses an access of a party.
-    fn is_held(&self, party: u32, access: &Accessing) -> bool
-        ensures { result ≡ is_some (hold_of self.now.journal party (Some access.now)) }
+    fn is_held(&self, party: u32, access: Accessing) -> bool
+        ensures { result ≡ is_some (hold_of self.now.journal party (Some access)) }
     {
         match self.own(party, &access.local) {
             None => false,

@@ -2,6 +2,7 @@ use Rattle.std.proofs.Common.{◌∙◌, ◌≡◌, ap, eqb, not, refl, true}
 use Rattle.std.specs.Prelude.{filter, find}
 use Rattle.sv_rules.specs.Coupling.{is_coupled, open_to}
 use Rattle.sv_rules.specs.declared.standing.Standing.{Standing}
+use Rattle.sv_core.proofs.TogetherLemmas.{tables}
 use Rattle.sv_core.specs.Core.{PlainCore}
 use Rattle.sv_core.proofs.processor.Core.oldest_to.Goals as goal
 

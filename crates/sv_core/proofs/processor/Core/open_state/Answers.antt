@@ -18,7 +18,7 @@ use Rattle.sv_rules.specs.Entries.{Entries}
 use Rattle.sv_rules.specs.Story.{known, opening}
 use Rattle.sv_rules.specs.declared.standing.Standing.{Standing}
 use Rattle.sv_story.specs.Share.{alone}
-use Rattle.sv_core.proofs.HoldingLemmas.{cell_fits, known_is, open_state}
+use Rattle.sv_core.proofs.HoldingLemmas.{cell_fits, cell_is, known_is, open_state}
 use Rattle.sv_core.proofs.processor.Core.open_state.Goals as goal
 
 -- whether the party of an open offer knows a value is told by what is kept of the offer
