@@ -1,5 +1,5 @@
 -- What a core keeps is kept by an entry more.
-use Rattle.std.proofs.Common.{◌≡◌, ◌≤◌, ◌<◌, ◌+◌, ℕ, Bool, true, false, not, ◌||◌, ◌&&◌, ◌==◌, List, ◌∷◌, length, count_by, cond, ap, sym, refl, ◌∙◌, arith, IsTrue, All, Result, Ok, Err, OnOk, is_ok, subst}
+use Rattle.std.proofs.Common.{◌≡◌, ◌≤◌, ◌<◌, ◌+◌, ℕ, Bool, true, false, not, ◌||◌, ◌&&◌, ◌==◌, List, [], ◌∷◌, length, count_by, cond, ap, sym, refl, ◌∙◌, arith, IsTrue, All, Result, Ok, Err, OnOk, is_ok, subst}
 use Rattle.std.specs.Prelude.{Contains}
 use Rattle.std.specs.List.{filter}
 use Rattle.std.proofs.lemmas.List.Elements.{filter_agree}
@@ -140,3 +140,17 @@ same_core core new k users journal offers coupled spares fit room =
       spare_count = omega (arith, here, k.spare_count, ap length spares);
       spare_room = subst (All IsSpare) (sym spares) k.spare_room;
     }
+
+-- what a core keeps that is new
+pub new_core : (core : Parts) (users : List ℕ) → ArePeople users → core.users ≡ users → core.journal ≡ [] → core.offers ≡ [] → core.coupled ≡ [] → length users ≤ core.room → length users ≤ length core.spares →
+    All IsSpare core.spares → IsKept core
+new_core core users people same none offers coupled room count spare = record {
+  people = subst ArePeople (sym same) people;
+  legal = subst (IsLegal core.users) (sym none) tt;
+  stand = offers ∙ ap standing (sym none);
+  couple = coupled ∙ ap couplings (sym none);
+  fit = subst (λ (j : Entries). FitCells j core.cells) (sym none) (λ offer has. absurd (omega (arith, has.1)));
+  entries_room = omega (arith, present-le-length core.users core.journal, ap length same, room);
+  spare_count = omega (arith, present-le-length core.users core.journal, ap length same, count);
+  spare_room = spare;
+}

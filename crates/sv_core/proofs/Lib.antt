@@ -7,5 +7,6 @@ mod Kept
 mod MakingLemmas
 mod OpeningLemmas
 mod OutcomeLemmas
+mod RetryLemmas
 mod TogetherLemmas
 mod WaitingLemmas

@@ -43,9 +43,9 @@ may_join journal e new (Some other) old between value fit opens puts =
     let cell = fit other has in (
       low,
       some_cell between other.place cell.0
-      (puts other.place ∙ ap (λ (b : Bool). if b then Some (new_cell value) else cell_at old other.place) (ne_eqb new.place other.place (λ same. omega (arith, low, same))) ∙ cell.1),
+          (puts other.place ∙ ap (λ (b : Bool). if b then Some (new_cell value) else cell_at old other.place) (ne_eqb new.place other.place (λ same. omega (arith, low, same))) ∙ cell.1),
       some_cell between new.place (new_cell value)
-      (puts new.place ∙ ap (λ (b : Bool). if b then Some (new_cell value) else cell_at old new.place) (eq-eqb new.place new.place refl)),
+          (puts new.place ∙ ap (λ (b : Bool). if b then Some (new_cell value) else cell_at old new.place) (eq-eqb new.place new.place refl)),
     )
 
 -- cells that differ at the next place alone fit alike

@@ -119,6 +119,14 @@ waiting_is (e ∷ journal) party = by (waiting_is journal party) (eqb e.party pa
     by before true is = rw is (both (is_held (kind_of e.answer)))
     by before false is = rw is before
 
+-- and where it has none, it waits for nothing
+none_there : (o : Option Act) → is_some o ≡ false → o ≡ None
+none_there None h = refl
+none_there (Some act) h = absurd (let no : true ≡ false = h in cc)
+
+pub waits_for_none : (journal : Entries) (party : ℕ) → waiting_at journal party ≡ None → awaited journal party ≡ None
+waits_for_none journal party none = none_there (awaited journal party) (sym (waiting_is journal party) ∙ ap (λ (o : Option ℕ). is_some o) none)
+
 -- the entry there has the act that the party waits for
 pub waits_there : (journal : Entries) (party place : ℕ) → waiting_at journal party ≡ Some place →
     (1 ≤ place) × (place ≤ length journal) × ((d : PlainEntry) → awaited journal party ≡ Some (get_or journal (length journal - place) d).act)

@@ -50,12 +50,14 @@ impl Core {
         requires people { ArePeople users.now }
         ensures { IfOk result (λ core. core ≡ record { users = users.now; journal = [] }) }
     {
+        let log = Log::new(alloc, users)?;
+        let spares = spare_lists(alloc, users.len())?;
         Ok(Core {
             alloc,
-            log: Log::new(alloc, users)?,
+            log,
             offers: Offers::new(alloc),
             cells: Cells::new(alloc),
-            spares: spare_lists(alloc, users.len())?,
+            spares,
         })
     }
 

@@ -1,11 +1,11 @@
-ghost use Rattle.std.specs.Prelude.{◌≡◌, true, false, not, find, nat_lt, Contains, IsTrue, Some, is_some, unwrap_or};
+ghost use Rattle.std.specs.Prelude.{◌≡◌, true, false, not, find, nat_lt, Contains, IsTrue, is_some, unwrap_or};
 ghost use Rattle.std.specs.List.{list_all, list_any};
 ghost use Rattle.std.specs.Option.{option_copied, option_map_or};
 ghost use Rattle.sv_core.specs.Due.{command_of, customer_of, is_due, is_due_to, is_own_open, partner_at, partner_of, served_by};
 ghost use Rattle.sv_rules.specs.Coupling.{coupling_now, open_to};
 ghost use Rattle.sv_rules.specs.Entries.{has_left};
-ghost use Rattle.sv_rules.specs.Refused.{hold_of, refused, still_refused};
-ghost use Rattle.sv_rules.specs.Standing.{offer_count, standing};
+ghost use Rattle.sv_rules.specs.Refused.{hold_of, hold_on, refused, still_refused};
+ghost use Rattle.sv_rules.specs.Standing.{offer_count, own_offer, standing};
 ghost use Rattle.sv_rules.specs.Work.{first_coupled, first_open, is_auxiliary, is_halted, is_idle, is_stuck, lacks_control, most_counters, owes_reply, to_counter, work_due, work_of};
 
 use crate::Core;
@@ -240,15 +240,22 @@ impl Core {
     fn is_refused(&self, party: u32, act: &Act) -> bool
         ensures { result ≡ is_some (refused self.now.journal party act.now) }
     {
-        match act.row().accesses {
+        self.refuses(party, act.row().accesses)
+    }
+
+    // Whether something refuses an access of a party, if it makes one.
+    fn refuses(&self, party: u32, access: Option<Accessing>) -> bool
+        ensures { result ≡ is_some (hold_of self.now.journal party access) }
+    {
+        match access {
             None => false,
             Some(access) => self.is_held(party, access),
         }
     }
 
-    // Whether something refuses an access of a party.
+    // Whether something refuses this access of a party.
     fn is_held(&self, party: u32, access: Accessing) -> bool
-        ensures { result ≡ is_some (hold_of self.now.journal party (Some access)) }
+        ensures { result ≡ is_some (hold_on self.now.journal access.kind (own_offer (standing self.now.journal) party access.local)) }
     {
         match self.own(party, &access.local) {
             None => false,

@@ -1,10 +1,3 @@
-use Rattle.std.proofs.Common.{◌∙◌, ◌≡◌, List, Option, Some, ap, sym, ℕ}
-use Rattle.sv_events.specs.declared.entry.Entry.{Entry}
-use Rattle.sv_log.specs.Member.{waiting_at}
-use Rattle.sv_rules.specs.Entries.{Entries}
-use Rattle.sv_rules.specs.Journal.{journal_of}
-use Rattle.sv_core.proofs.WaitingLemmas.{waits_within}
-use Rattle.sv_core.specs.Core.{PlainCore}
 use Rattle.sv_core.proofs.processor.Core.awaited.Goals as goal
 
 -- the party waits at the place of an entry
@@ -19,7 +12,8 @@ act_awaited-requires c =
     record { from = within.0; to = within.1; at = here }
 
 pub returns-in-None : goal.returns-in-None
-returns-in-None c = ?
+returns-in-None c = sym (waits_for_none c.args.self.now.journal c.args.party (sym c.waiting_at.ensures ∙ c.in-None.is))
 
 pub returns-in-Some : goal.returns-in-Some
-returns-in-Some c = ?
+returns-in-Some c =
+    sym c.act_awaited.ensures ∙ ap (λ (j : Entries). awaited j c.args.party) (c.entries.ensures ∙ ap (λ (v : PlainCore). v.journal) c.self.view_is)
