@@ -1,28 +1,30 @@
 -- The cells of an offer are ready for an access, and tell what a use gives.
-use Rattle.std.proofs.Common.{◌∙◌, ◌≡◌, List, None, Option, Some, ap, refl, sym, ℕ}
+use Rattle.std.proofs.Common.{◌∙◌, ◌≡◌, List, None, Option, Some, ap, refl, subst, sym, ℕ}
 use Rattle.std.proofs.lemmas.Option.{none-some, same_Some}
-use Rattle.std.specs.Prelude.{Contains, option_and_then}
+use Rattle.std.specs.Prelude.{Contains, IsSome, option_and_then}
+use Rattle.apl_arrays.specs.Array.{PlainArray}
 use Rattle.sv_cell_laws.specs.Fits.{FitCells, FitsHeld, FitsShare, is_coupled, is_open}
+use Rattle.sv_cell_laws.specs.Steps.{use_of}
 use Rattle.sv_cells.specs.Cell.{known_alone, share_in}
 use Rattle.sv_cells.specs.Cells.{cell_at}
 use Rattle.sv_cells.specs.declared.cell.Cell.{Cell}
 use Rattle.sv_cells.specs.declared.cell.Held.{Held}
 use Rattle.sv_cells.specs.declared.cell.Held.TheVariants.{Alone, Lent, Shared}
 use Rattle.sv_cells.specs.declared.cells.Cells.{Cells}
-use Rattle.sv_events.specs.Answer.{value}
-use Rattle.sv_offer_laws.proofs.ChangeLemmas.{alone}
-use Rattle.sv_rules.specs.Coupling.{coupling_now}
+use Rattle.sv_rules.specs.Coupling.{coupling_at, coupling_now}
 use Rattle.sv_rules.specs.Entries.{Entries}
 use Rattle.sv_rules.specs.Legal.{IsLegal}
 use Rattle.sv_rules.specs.Outcome.{value_for}
 use Rattle.sv_rules.specs.Standing.{standing}
-use Rattle.sv_rules.specs.Story.{known}
+use Rattle.sv_rules.specs.Story.{GrantedAccess, known}
 use Rattle.sv_rules.specs.declared.coupling.Coupling.{Coupling}
+use Rattle.sv_rules.specs.declared.coupling.Made.{Made}
 use Rattle.sv_rules.specs.declared.standing.Standing.{Standing}
 use Rattle.sv_story.specs.Share.{PlainShare, shared_value}
 use Rattle.sv_core.proofs.EndingLemmas.{some_cell}
 use Rattle.sv_core.proofs.HoldingLemmas.{a_stands, at_its_a, known_is, share_is}
-use Rattle.sv_core.specs.Updating.{IsReady, value_at}
+use Rattle.sv_core.specs.Invariant.{IsKept, Parts}
+use Rattle.sv_core.specs.Updating.{Answers, IsReady, value_at}
 
 -- what is held alone, and what is shared
 alone_is : (journal : Entries) (offer : Standing) (cell : Cell) → coupling_now journal offer.place ≡ None → FitsHeld journal offer cell (coupling_now journal offer.place) → cell.held ≡ Alone (known journal offer)

@@ -28,12 +28,20 @@ use Rattle.sv_rules.specs.Coupling.{couplings, couplings_among, kept_by_ending, 
 use Rattle.sv_rules.specs.Entries.{Entries, has_left, is_full, is_leave, next_place}
 use Rattle.sv_rules.specs.Legal.{IsLegal, MayFollow, act_due, entry_for, is_user, reply_in}
 use Rattle.sv_rules.specs.Refused.{awaited}
-use Rattle.sv_rules.specs.Standing.{standing, without_ended}
+use Rattle.sv_rules.specs.Standing.{own_offer, standing, without_ended}
 use Rattle.sv_rules.specs.Work.{is_auxiliary, work_of}
 use Rattle.sv_rules.specs.declared.coupling.Made.{Made}
 use Rattle.sv_rules.specs.declared.standing.Standing.{Standing}
 use Rattle.sv_story.specs.Share.{share_of}
-use Rattle.sv_story_laws.proofs.StepLemmas.{steps_may_follow, work_may_follow}
+use Rattle.sv_story_laws.proofs.StepLemmas.{leaves_may_follow, steps_may_follow, work_may_follow}
+use Rattle.sv_offer_laws.proofs.RowLemmas.{outcome_of_ending}
+use Rattle.sv_events.specs.Answer.{kept}
+use Rattle.sv_events.specs.declared.row.Ending.TheVariants.{One}
+use Rattle.sv_rules.specs.Outcome.{Outcome, outcome, retraction_outcome}
+use Rattle.sv_rules.specs.Questions.{degree_of}
+use Rattle.sv_rules.specs.Story.{known}
+use Rattle.sv_core.proofs.WaitingLemmas.{people_are}
+use Rattle.std.proofs.lemmas.Bool.{not-true}
 use Rattle.sv_core.specs.Core.{IsSpare, MayMake, PlainCore, present}
 use Rattle.sv_core.specs.Invariant.{Parts, IsKept}
 use Rattle.sv_core.specs.Updating.{IsEnding, Joined}
@@ -171,3 +179,17 @@ may_end users journal offers cells at party act ending legal stand couple fit ma
   where
     e : PlainEntry
     e = entry_for journal party act
+
+-- a user that has not left may leave, and one user fewer is present then
+pub leave_may : (core : Parts) → IsKept core → (user : ℕ) → is_user core.users user ≡ true → not (has_left core.journal user) ≡ true → MayFollow core.users core.journal (entry_for core.journal user Leave)
+leave_may core k user member here = leaves_may_follow core.users core.journal user (record { user = member; person = people_are core.users k.people user member; present = here })
+
+pub leave_falls : (core : Parts) (user : ℕ) → is_user core.users user ≡ true → not (has_left core.journal user) ≡ true →
+    present core.users (entry_for core.journal user Leave ∷ core.journal) + 1 ≤ present core.users core.journal
+leave_falls core user member here = present-falls core.users core.journal (entry_for core.journal user Leave) refl member (not-true (has_left core.journal user) here)
+
+-- the answer to a name that is taken back
+pub retraction_answer : (journal : Entries) (party : ℕ) (act : Act) (local : List ℕ) (offer : Standing) → (act_row act).row.ends ≡ Some (One local) → own_offer (standing journal) party local ≡ Some offer →
+    kept (degree_of journal (Some offer)) (known journal offer) ≡ (outcome journal party act).answer
+retraction_answer journal party act local offer row own =
+    sym (ap (λ (o : Outcome). o.answer) (outcome_of_ending journal party act (One local) row ∙ ap (retraction_outcome journal party local) own))

@@ -1,27 +1,25 @@
 -- What a core keeps is kept by an entry more.
-use Rattle.std.proofs.Common.{◌≡◌, ◌≤◌, ◌<◌, ◌+◌, ℕ, Bool, true, false, not, ◌||◌, ◌&&◌, ◌==◌, List, [], ◌∷◌, length, count_by, cond, ap, sym, refl, ◌∙◌, arith, IsTrue, All, Result, Ok, Err, OnOk, is_ok, subst}
-use Rattle.std.specs.Prelude.{Contains}
-use Rattle.std.specs.List.{filter}
+use Rattle.std.proofs.Common.{◌&&◌, ◌+◌, ◌||◌, ◌∙◌, ◌∷◌, ◌≡◌, ◌≤◌, Bool, Err, List, Ok, OnErr, OnOk, Result, [], ap, arith, false, is_ok, length, not, refl, subst, sym, true, ℕ}
 use Rattle.std.proofs.lemmas.List.Elements.{filter_agree}
-use Rattle.std.proofs.lemmas.List.Sums.{length-filter, count_by-le-length}
-use Rattle.sv_cells.specs.Cells.{KeepsCells, cell_at}
-use Rattle.sv_cells.specs.declared.cells.Cells.{Cells}
+use Rattle.std.proofs.lemmas.List.Sums.{count_by-le-length, length-filter}
+use Rattle.std.specs.Prelude.{◌==◌, All, count_by}
+use Rattle.sv_cell_laws.proofs.TouchSteps.{cells_stay}
 use Rattle.sv_cell_laws.specs.Fits.{FitCells}
 use Rattle.sv_cell_laws.specs.Steps.{Stays, TouchesNothing}
-use Rattle.sv_cell_laws.proofs.TouchSteps.{cells_stay}
+use Rattle.sv_cells.specs.Cells.{KeepsCells}
+use Rattle.sv_cells.specs.declared.cells.Cells.{Cells}
 use Rattle.sv_events.specs.Answer.{PlainAnswer}
 use Rattle.sv_events.specs.Entry.{PlainEntry}
 use Rattle.sv_events.specs.declared.entry.Pair.{Pair}
 use Rattle.sv_events.specs.declared.event.Act.{Act}
 use Rattle.sv_log.specs.Log.{PlainLog}
-use Rattle.sv_rules.specs.Entries.{Entries, has_left, is_leave}
 use Rattle.sv_rules.specs.Coupling.{couplings}
+use Rattle.sv_rules.specs.Entries.{Entries, has_left, is_leave}
 use Rattle.sv_rules.specs.Legal.{IsLegal, MayFollow, entry_for}
 use Rattle.sv_rules.specs.Outcome.{outcome}
 use Rattle.sv_rules.specs.Standing.{standing}
-use Rattle.sv_rules.specs.declared.standing.Standing.{Standing}
 use Rattle.sv_core.specs.Core.{ArePeople, IsSpare, PlainCore, core_after, present}
-use Rattle.sv_core.specs.Invariant.{Parts, IsKept}
+use Rattle.sv_core.specs.Invariant.{IsKept, Parts}
 
 and-false : (b : Bool) → (b && false) ≡ false
 and-false true = refl
@@ -35,6 +33,11 @@ has_left-stay journal e party h = ap (λ b. (e.party == party && b) || has_left 
 pub on_success : {T E : Type 0} (r : Result T E) (P : Type 0) → is_ok r ≡ true → OnOk r P → P
 on_success (Ok x) P ok h = h
 on_success (Err e) P ok h = cc
+
+-- and on failure where there was none
+pub on_failure : {T E : Type 0} (r : Result T E) (P : Type 0) → is_ok r ≡ false → OnErr r P → P
+on_failure (Ok x) P failed h = cc
+on_failure (Err e) P failed h = h
 
 -- no more users are present than there are
 pub present-le-length : (users : List ℕ) (journal : Entries) → present users journal ≤ length users
@@ -76,10 +79,10 @@ entry_is journal party act given made answer pairs =
 
 -- the core is the one after the act
 pub core_is : (core : PlainCore) (old new : PlainLog) (party : ℕ) (act : Act) → (let c : PlainCore = record { users = old.users; journal = old.journal } in c) ≡ core →
-    IsEntered old new (entry_for old.journal party act) → (let c : PlainCore = record { users = new.users; journal = new.journal } in c) ≡ core_after core party act
-core_is core old new party act is more =
-    ap (λ (us : List ℕ). let c : PlainCore = record { users = us; journal = new.journal } in c) more.users
-    ∙ ap (λ (j : Entries). let c : PlainCore = record { users = old.users; journal = j } in c) more.journal
+    new.users ≡ old.users → new.journal ≡ entry_for old.journal party act ∷ old.journal → (let c : PlainCore = record { users = new.users; journal = new.journal } in c) ≡ core_after core party act
+core_is core old new party act is users journal =
+    ap (λ (us : List ℕ). let c : PlainCore = record { users = us; journal = new.journal } in c) users
+    ∙ ap (λ (j : Entries). let c : PlainCore = record { users = old.users; journal = j } in c) journal
     ∙ ap (λ (c : PlainCore). core_after c party act) is
 
 -- the core is the same

@@ -61,7 +61,7 @@ access_core core new k e own access may leaves has makes users journal offers co
     (cells_answered core.users core.journal e own access (may, k.legal) has makes (coupling_now core.journal own.place) refl core.cells new.cells k.fit answers) room
 
 -- what becomes of an offer of a new name
-opens_out : (journal : Entries) (new : Standing) → leb 64 (offer_count (standing journal) new.party) ≡ false → (match : Option Standing) → open_match (standing journal) (couplings journal) new ≡ match →
+pub opens_out : (journal : Entries) (new : Standing) → leb 64 (offer_count (standing journal) new.party) ≡ false → (match : Option Standing) → open_match (standing journal) (couplings journal) new ≡ match →
     new_offer (standing journal) (couplings journal) new ≡ joined_to new match
 opens_out journal new few match is =
     ap (λ (b : Bool). cond b (answer_only offer_limit) (joined_to new (open_match (standing journal) (couplings journal) new))) few ∙ ap (joined_to new) is

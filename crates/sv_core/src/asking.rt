@@ -1,16 +1,17 @@
-ghost use Rattle.std.specs.Prelude.{◌≡◌, IfOk};
+ghost use Rattle.std.specs.Prelude.{◌≡◌, nat_le, Some, IfOk};
+ghost use Rattle.apl_arrays.specs.Limits.{most_offers};
 ghost use Rattle.sv_events.specs.Answer.{plain_answer};
 ghost use Rattle.sv_rules.specs.Control.{control_in_force, state_vector};
 ghost use Rattle.sv_rules.specs.Coupling.{couplings, is_coupled};
 ghost use Rattle.sv_rules.specs.Questions.{answer_to_question, degree_of};
-ghost use Rattle.sv_rules.specs.Standing.{own_offer, standing};
+ghost use Rattle.sv_rules.specs.Standing.{offer_count, own_offer, standing};
 
 use crate::Core;
 use apl_arrays::{Name, WantOfMemory};
 use sv_access::Control;
 use sv_cells::NO_CONTROL;
 use sv_events::{Answer, Question};
-use sv_rules::Standing;
+use sv_rules::{OFFER_LIMIT, Standing};
 
 impl Core {
     // The offers that stand, by place.
@@ -34,13 +35,27 @@ impl Core {
         self.offers.find(party, local)
     }
 
+    // Whether a party has as many offers as it may have.
+    pub(crate) fn has_most_offers(&self, party: u32) -> bool
+        ensures { result ≡ nat_le most_offers (offer_count (standing self.now.journal) party) }
+    {
+        self.offers.count(party) >= OFFER_LIMIT
+    }
+
+    // The degree of a standing offer.
+    pub(crate) fn degree_of(&self, offer: &Standing) -> u8
+        ensures { result ≡ degree_of self.now.journal (Some offer.now) }
+    {
+        self.offers.degree(offer.place)
+    }
+
     // The degree of a party's name.
     pub(crate) fn degree(&self, party: u32, local: &Name) -> u8
         ensures { result ≡ degree_of self.now.journal (own_offer (standing self.now.journal) party local.now) }
     {
         match self.own(party, local) {
             None => 0,
-            Some(offer) => self.offers.degree(offer.place),
+            Some(offer) => self.degree_of(&offer),
         }
     }
 

@@ -1,4 +1,4 @@
-ghost use Rattle.std.specs.Prelude.{◌≡◌, All, IfOk, vec_len};
+ghost use Rattle.std.specs.Prelude.{◌≡◌, ◌+◌, ◌<◌, All, IfOk, length, vec_len};
 ghost use Rattle.sv_core.specs.Core.{IsSpare};
 
 use apl_arrays::WantOfMemory;
@@ -25,4 +25,18 @@ fn spare_list(alloc: Global) -> Result<PairList, WantOfMemory>
     let mut pairs = PairList::new(alloc);
     pairs.reserve(OFFER_LIMIT)?;
     Ok(pairs)
+}
+
+/// Takes out one of such lists. No memory.
+pub fn take_spare(spares: &mut Vec<PairList>) -> PairList
+    requires some { 0 < vec_len spares.old }
+    requires room { All IsSpare spares.old.items }
+    ensures spare { IsSpare result }
+    ensures rest { All IsSpare spares.new.items }
+    ensures count { length spares.new.items + 1 ≡ length spares.old.items }
+{
+    let Some(made) = spares.pop() else {
+        unreachable!()
+    };
+    made
 }

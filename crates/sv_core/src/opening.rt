@@ -1,4 +1,5 @@
 ghost use Rattle.std.specs.Prelude.{◌≡◌, ◌+◌, ◌<◌, ◌≤◌, [], length, Contains, IfOk, OnOk, OnErr, Some, None};
+ghost use Rattle.apl_arrays.specs.Limits.{most_offers};
 ghost use Rattle.sv_cells.specs.Cell.{new_cell};
 ghost use Rattle.sv_cells.specs.Cells.{PutsAt};
 ghost use Rattle.sv_core.specs.Core.{MayMake, core_after};
@@ -23,7 +24,7 @@ use sv_cells::Cells;
 use sv_events::{Act, Answer, Ending, Opening, PairList, copy_value};
 use sv_log::Log;
 use sv_offers::Offers;
-use sv_rules::{OFFER_LIMIT, Standing};
+use sv_rules::Standing;
 
 impl Core {
     // The answer to an act that opens an offer.
@@ -41,7 +42,7 @@ impl Core {
     {
         match self.own(party, &opening.local) {
             Some(offer) => {
-                let degree = self.offers.degree(offer.place);
+                let degree = self.degree_of(&offer);
                 self.enter_quiet(party, act, Answer::Degree(degree))
             }
             None => self.make_new_offer(party, opening, act),
@@ -62,7 +63,7 @@ impl Core {
         ensures journal { OnOk result (self.new ≡ core_after self.old party act) }
         ensures err { OnErr result (self.new ≡ self.old) }
     {
-        if self.offers.count(party) >= OFFER_LIMIT {
+        if self.has_most_offers(party) {
             return self.enter_quiet(party, act, Answer::OfferLimit);
         }
         let new = Standing {
@@ -81,7 +82,7 @@ impl Core {
         requires row { (act_row act).row.opens ≡ Some (record { to = new.now.to; local = new.now.local; surrogate = new.now.surrogate }) }
         requires place { new.now.place ≡ next_place self.old.journal }
         requires fresh { own_offer (standing self.old.journal) new.now.party new.now.local ≡ None }
-        requires few { offer_count (standing self.old.journal) new.now.party < OFFER_LIMIT }
+        requires few { offer_count (standing self.old.journal) new.now.party < most_offers }
         ensures answer { IfOk result (λ answer. plain_answer answer ≡ (outcome self.old.journal new.now.party act).answer) }
         ensures journal { OnOk result (self.new ≡ core_after self.old new.now.party act) }
         ensures err { OnErr result (self.new ≡ self.old) }
@@ -150,14 +151,8 @@ impl Core {
             Ok(told) => told,
             Err(_) => return no_act(act),
         };
-        let mut made = match one_pair(self.alloc) {
-            Ok(made) => made,
-            Err(_) => {
-                discard_told(told);
-                return no_act(act);
-            }
-        };
-        if self.log.reserve().is_err() {
+        let mut made = List::new(self.alloc);
+        if room_for_pair(&mut self.log, &mut made).is_err() {
             discard_told(told);
             discard_pairs(made);
             return no_act(act);
@@ -181,21 +176,24 @@ impl Core {
         ensures kept { IfOk result (λ told. plain_answer told.kept ≡ kept (degree_of self.now.journal (Some offer.now)) (known self.now.journal offer.now)) }
     {
         let value = copy_value(self.alloc, self.known(offer))?;
-        let degree = self.offers.degree(offer.place);
+        let degree = self.degree_of(offer);
         told_twice(self.alloc, Answer::Kept { degree, value })
     }
 }
 
 fn discard_pairs(_made: PairList) {}
 
-// No pairs, with room for one. It takes memory for it.
-fn one_pair(alloc: Global) -> Result<PairList, WantOfMemory>
-    ensures none { IfOk result (λ made. made.items ≡ []) }
-    ensures room { IfOk result (λ made. 1 ≤ made.room) }
+// Room for an entry and for the pair that it makes. It takes memory; after `WantOfMemory` there is no less room than before.
+fn room_for_pair(log: &mut Log, made: &mut PairList) -> Result<(), WantOfMemory>
+    ensures none { made.new.items ≡ made.old.items }
+    ensures users { log.new.users ≡ log.old.users }
+    ensures journal { log.new.journal ≡ log.old.journal }
+    ensures kept { log.old.room ≤ log.new.room }
+    ensures room { OnOk result (length log.old.users + 1 ≤ log.new.room) }
+    ensures pair { OnOk result (1 ≤ made.new.room) }
 {
-    let mut made = List::new(alloc);
     made.reserve(1)?;
-    Ok(made)
+    log.reserve()
 }
 
 // Room for the entry, the pair and the cell of a new offer, with the value that it is handed; then it stands, and is coupled in
@@ -222,8 +220,7 @@ fn add_offer(
     ensures err { OnErr result (offers.new ≡ offers.old) }
     ensures kept { KeepsElsewhere cells.old cells.new new.now.place }
 {
-    made.reserve(1)?;
-    log.reserve()?;
+    room_for_pair(log, made)?;
     let value = copy_value(alloc, act.hands_in())?;
     cells.open(new.place, value)?;
     offers.add(new)

@@ -10,7 +10,7 @@ ghost use Rattle.sv_rules.specs.Refused.{awaited, still_refused, waits};
 ghost use Rattle.sv_rules.specs.Work.{is_auxiliary, is_stuck};
 ghost use Rattle.sv_log.specs.Member.{waiting_at};
 
-use crate::leaves::spare_lists;
+use crate::leaves::{spare_lists, take_spare};
 use crate::updating::end_together;
 use apl_arrays::WantOfMemory;
 use std::alloc::Global;
@@ -187,9 +187,7 @@ impl Core {
         requires present { IsTrue (not (has_left self.old.journal user)) }
         ensures { self.new ≡ core_after self.old user Act.Leave }
     {
-        let Some(mut made) = self.spares.pop() else {
-            unreachable!()
-        };
+        let mut made = take_spare(&mut self.spares);
         let at = self.log.next_place();
         end_together(
             &mut self.offers,
