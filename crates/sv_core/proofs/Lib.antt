@@ -9,4 +9,5 @@ mod OpeningLemmas
 mod OutcomeLemmas
 mod RetryLemmas
 mod TogetherLemmas
+mod UsingLemmas
 mod WaitingLemmas

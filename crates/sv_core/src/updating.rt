@@ -1,13 +1,18 @@
-ghost use Rattle.std.specs.Prelude.{◌≡◌, ◌≢◌, ◌≤◌, [], None, IsSome, OnOk, OnErr, length, option_and_then, option_map, option_to_list, if◌then◌else◌};
-ghost use Rattle.sv_cell_laws.specs.Steps.{made_with, set_of, use_of};
+ghost use Rattle.std.specs.Prelude.{◌≡◌, ◌≢◌, ◌≤◌, ℕ, [], Option, None, Some, IsSome, OnOk, OnErr, length, option_map};
+ghost use Rattle.apl_arrays.specs.Array.{PlainArray};
+ghost use Rattle.sv_cell_laws.specs.Steps.{answered_alone, made_with, set_of, shared_at, use_of};
+ghost use Rattle.sv_cells.specs.declared.cell.Cell.{Cell};
+ghost use Rattle.sv_cells.specs.declared.cell.Held.TheVariants.{Alone, Shared};
+ghost use Rattle.sv_story.specs.Share.{PlainShare, shared_value};
 ghost use Rattle.sv_cell_laws.specs.Ends.{IsTable, MayPart, Parts, share_at};
-ghost use Rattle.sv_cells.specs.Cells.{CouplesAt, KeepsCells, PartsAt, cell_at};
+ghost use Rattle.sv_cells.specs.Cells.{ChangesAt, CouplesAt, KeepsCells, PartsAt, cell_at};
 ghost use Rattle.sv_core.specs.Updating.{Answers, CouplesAll, EndsAll, FitsSome, IsReady, IsToCouple, IsToEnd, Joined, KeepsOthers, MayJoin, PartsAll, degree_with, value_at};
 ghost use Rattle.sv_offers.specs.Table.{after_ending, pairs_made};
 ghost use Rattle.sv_rules.specs.Coupling.{coupling_at, pair_of, reopened_by_ending};
 ghost use Rattle.sv_rules.specs.Standing.{is_ended};
 
 use apl_arrays::{Array, WantOfMemory};
+use sv_access::Side;
 use sv_cells::Cells;
 use sv_events::{Ending, Pair, PairList};
 use sv_offers::Offers;
@@ -140,14 +145,44 @@ pub fn note_use(offers: &Offers, cells: &mut Cells, offer: &Standing) -> Result<
         (coupling_at offers.now.offers offers.now.coupled offer.now.place)) }
     ensures err { OnErr result (KeepsCells cells.old cells.new) }
 {
-    let got = match offers.coupling(offer.place) {
-        None => cells.knows(offer.place),
+    match offers.coupling(offer.place) {
+        None => {
+            use_alone(cells, offer.place);
+            Ok(())
+        }
         Some(coupling) => {
             let side = side_at(&coupling, offer.place);
-            cells.use_value(coupling.a.place, side)?
+            use_shared(cells, coupling.a.place, offer.place, side)
         }
-    };
-    cells.answered(offer.place, got);
+    }
+}
+
+// The party of an open offer uses what it knows. No memory.
+fn use_alone(cells: &mut Cells, place: u64)
+    requires { IsSome (cell_at cells.old place) }
+    ensures { (cell : Cell) (value : Option PlainArray) → cell_at cells.old place ≡ Some cell → cell.held ≡ Alone value →
+        ChangesAt cells.old cells.new place (answered_alone (use_of value)) }
+{
+    let got = cells.knows(place);
+    cells.answered(place, got);
+}
+
+// A side of a coupling, with its offer at a place, uses what is shared at home. It takes memory for what the side comes to
+// know; after `WantOfMemory` the cells are as before.
+fn use_shared(
+    cells: &mut Cells,
+    home: u64,
+    place: u64,
+    side: Side,
+) -> Result<(), WantOfMemory>
+    requires home { IsSome (share_at cells.old home) }
+    requires own { IsSome (cell_at cells.old place) }
+    ensures ok { (cell : Cell) (share : PlainShare) → cell_at cells.old home ≡ Some cell → cell.held ≡ Shared share →
+        OnOk result ((at : ℕ) → cell_at cells.new at ≡ option_map (shared_at home place side (use_of (shared_value share)) at) (cell_at cells.old at)) }
+    ensures err { OnErr result (KeepsCells cells.old cells.new) }
+{
+    let got = cells.use_value(home, side)?;
+    cells.answered(place, got);
     Ok(())
 }
 
