@@ -3,12 +3,14 @@ use Rattle.std.proofs.Common.{◌&&◌, ◌∙◌, ◌∷◌, ◌≡◌, Bool, L
 use Rattle.std.specs.Prelude.{if◌then◌else◌, is_some, option_map}
 use Rattle.sv_events.specs.Answer.{full}
 use Rattle.sv_events.specs.declared.event.Act.{Act}
-use Rattle.sv_rules.specs.Entries.{Entries, is_full}
-use Rattle.sv_rules.specs.Legal.{answer_to, entry_for, is_still_held, retried}
+use Rattle.sv_rules.specs.Entries.{Entries, is_full, is_leave}
+use Rattle.sv_rules.specs.Legal.{IsLegal, MayFollow, answer_to, entry_for, is_still_held, retried}
 use Rattle.sv_rules.specs.Outcome.{outcome}
 use Rattle.sv_rules.specs.Refused.{awaited, still_refused, waits}
 use Rattle.sv_rules.specs.Work.{is_stuck}
-use Rattle.sv_core.specs.Core.{PlainCore, core_after}
+use Rattle.sv_story_laws.proofs.StepLemmas.{retries_may_follow}
+use Rattle.sv_core.proofs.WaitingLemmas.{no_wait_to_leave, waiters_are_present}
+use Rattle.sv_core.specs.Core.{ArePeople, MayMake, PlainCore, core_after}
 use Rattle.sv_core.specs.Retry.{core_retried, journal_retried}
 
 -- a core is its users and its journal
@@ -65,3 +67,19 @@ goes_on core party act room free waits_for =
           ∙ ap (λ (o : Option Act). let c : PlainCore = record { users = core.users; journal = journal_retried core.journal party o } in c) waits_for
           ∙ ap (λ (b : Bool). let c : PlainCore = record { users = core.users; journal = if b then core.journal else entry_for core.journal party act ∷ core.journal } in c) room,
     )
+
+-- it may make its act
+pub may_retry : (core : PlainCore) (party : ℕ) (act : Act) → IsLegal core.users core.journal → ArePeople core.users → is_full core.journal ≡ false →
+    (is_some (still_refused core.journal party) && not (is_stuck core.users core.journal)) ≡ false → waits core.journal party ≡ true → awaited core.journal party ≡ Some act → MayMake core party act
+may_retry core party act legal people room free waiting waits_for = record {
+  legal = legal;
+  may = may;
+  stays = stays (is_leave act) refl;
+}
+  where
+    may : MayFollow core.users core.journal (entry_for core.journal party act)
+    may = retries_may_follow core.users core.journal party act (waiters_are_present core.users core.journal legal people party waiting) waits_for room (goes_on core party act room free waits_for).0
+
+    stays : (b : Bool) → is_leave act ≡ b → not (is_leave act) ≡ true
+    stays false is = ap not is
+    stays true is = absurd (no_wait_to_leave core.users core.journal legal party act waits_for is)

@@ -1,18 +1,22 @@
 -- The cells after a use: what its party gets is known to it.
-use Rattle.std.proofs.Common.{◌∙◌, ◌≡◌, Bool, None, Option, Some, ap, eqb, false, refl, sym, true, ℕ}
+use Rattle.std.proofs.Common.{◌∙◌, ◌≡◌, Bool, None, OnOk, Option, Result, Some, ap, eqb, false, refl, subst, sym, true, ℕ}
 use Rattle.std.proofs.lemmas.Bool.{eqb-true}
-use Rattle.std.specs.Prelude.{if◌then◌else◌, is_some, option_map}
+use Rattle.std.specs.Prelude.{if◌then◌else◌, is_some, option_and_then, option_map}
 use Rattle.apl_arrays.specs.Array.{PlainArray}
 use Rattle.sv_access.specs.declared.access.Side.{Side}
-use Rattle.sv_cell_laws.specs.Steps.{answered_alone, is_use, shared_at, use_of, with_access, with_access_in}
-use Rattle.sv_cells.specs.Cell.{after_use_in, answered, holding, known_alone}
+use Rattle.sv_cell_laws.specs.Steps.{AnswersOpen, AnswersShared, answered_alone, is_use, shared_at, use_of, with_access, with_access_in}
+use Rattle.sv_cells.specs.Cell.{after_use_in, answered, holding, known_alone, share_in}
 use Rattle.sv_cells.specs.Cells.{ChangesAt, cell_at}
 use Rattle.sv_cells.specs.declared.cell.Cell.{Cell}
 use Rattle.sv_cells.specs.declared.cell.Held.{Held}
 use Rattle.sv_cells.specs.declared.cell.Held.TheVariants.{Alone, Shared}
 use Rattle.sv_cells.specs.declared.cells.Cells.{Cells}
+use Rattle.sv_rules.specs.Control.{side_at}
 use Rattle.sv_rules.specs.Story.{known_after}
+use Rattle.sv_rules.specs.declared.coupling.Coupling.{Coupling}
+use Rattle.sv_rules.specs.declared.standing.Standing.{Standing}
 use Rattle.sv_story.specs.Share.{PlainShare, after_get, shared_value}
+use Rattle.sv_core.specs.Updating.{HasShareAt, HoldsAlone, value_at}
 
 -- what an option has, unchanged
 kept_alike : (o : Option Cell) → option_map (λ (c : Cell). c) o ≡ o
@@ -101,3 +105,20 @@ uses_shared old mid new home own side cell share there held first second at = by
         ∙ ap (λ (t : Bool). if t then option_map (λ (c : Cell). answered c (is_some (shared_value share))) (cell_at mid own) else cell_at mid at) is
         ∙ before
         ∙ ap (λ (t : Bool). option_map (λ (c : Cell). g t (f c)) (cell_at old at)) (sym is)
+
+-- the cells of an open offer after a use
+pub note_alone : (old new : Cells) (own : Standing) → HoldsAlone old own.place →
+    ((cell : Cell) (value : Option PlainArray) → cell_at old own.place ≡ Some cell → cell.held ≡ Alone value → ChangesAt old new own.place (answered_alone (use_of value))) → AnswersOpen old new own (use_of (value_at old own None))
+note_alone old new own ready uses =
+    subst (λ (v : Option PlainArray). ChangesAt old new own.place (answered_alone (use_of v)))
+    (sym (ap (λ (o : Option Cell). option_and_then (λ (cell : Cell). known_alone cell.held) o) ready.at ∙ ap known_alone ready.held)) (uses ready.cell ready.value ready.at ready.held)
+
+-- and of a coupled one
+pub note_shared : {T E : Type 0} (r : Result T E) (old new : Cells) (own : Standing) (coupling : Coupling) (side : Side) → side ≡ side_at coupling own.place → HasShareAt old coupling.a.place →
+    ((cell : Cell) (share : PlainShare) → cell_at old coupling.a.place ≡ Some cell → cell.held ≡ Shared share →
+    OnOk r ((at : ℕ) → cell_at new at ≡ option_map (shared_at coupling.a.place own.place side (use_of (shared_value share)) at) (cell_at old at))) →
+    OnOk r (AnswersShared old new coupling own (use_of (value_at old own (Some coupling))))
+note_shared r old new own coupling side is ready uses =
+    subst (λ (v : Option PlainArray). OnOk r (AnswersShared old new coupling own (use_of v)))
+    (sym (ap (λ (o : Option Cell). option_and_then shared_value (option_and_then (λ (cell : Cell). share_in cell.held) o)) ready.at ∙ ap (λ (h : Held). option_and_then shared_value (share_in h)) ready.held))
+    (subst (λ (s : Side). OnOk r ((at : ℕ) → cell_at new at ≡ option_map (shared_at coupling.a.place own.place s (use_of (shared_value ready.share)) at) (cell_at old at))) is (uses ready.cell ready.share ready.at ready.held))

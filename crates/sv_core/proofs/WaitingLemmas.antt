@@ -208,3 +208,16 @@ waiters_are_present users journal legal people party waiting = record { user = u
 pub some_member : (journal : Entries) (users : List ℕ) → list_any (λ (m : Member). not m.has_left) (map (member_of journal) users) ≡ list_any (λ user. not (has_left journal user)) users
 some_member journal [] = refl
 some_member journal (user ∷ users) = ap (λ b. not (has_left journal user) || b) (some_member journal users)
+
+-- nobody waits for a leave: it is done at once
+pub no_wait_to_leave : (users : List ℕ) (journal : Entries) → IsLegal users journal → (party : ℕ) (act : Act) → awaited journal party ≡ Some act → is_leave act ≡ true → ⊥
+no_wait_to_leave users [] legal party act h leaves = none-some act h
+no_wait_to_leave users (e ∷ journal) legal party act h leaves = elim (cases_Bool (eqb e.party party)) [
+  | inl own ↦
+      let parts = cond_some (is_held (kind_of e.answer)) e.act act (rw own at h) in
+      let is : e.act ≡ Leave = leave-is e.act (ap is_leave parts.1 ∙ leaves) in
+      let done : is_held (kind_of e.answer) ≡ false = ap (λ (given : PlainAnswer). is_held (kind_of given)) (legal.0.answer ∙ ap (λ (a : Act). (outcome journal e.party a).answer) is) in
+      both_ways (is_held (kind_of e.answer)) done parts.0
+  | inr other ↦ no_wait_to_leave users journal legal.1 party act (rw other at h) leaves
+]
+

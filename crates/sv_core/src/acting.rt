@@ -21,7 +21,7 @@ use sv_rules::{Standing, refusal_answer};
 impl Core {
     // The answer to an act that its party may make, other than a leave, where there is room; its entry is added.
     pub(crate) fn make(&mut self, party: u32, act: Act) -> Result<Answer, WantOfMemory>
-        requires may { MayMake self.old party act }
+        requires { MayMake self.old party act }
         ensures answer { IfOk result (λ answer. plain_answer answer ≡ (outcome self.old.journal party act).answer) }
         ensures journal { OnOk result (self.new ≡ core_after self.old party act) }
         ensures err { OnErr result (self.new ≡ self.old) }

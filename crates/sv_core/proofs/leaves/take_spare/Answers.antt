@@ -1,11 +1,6 @@
 use Rattle.std.proofs.Common.{Some}
-use Rattle.std.specs.Prelude.{All}
 use Rattle.sv_core.specs.Core.{IsSpare}
 use Rattle.sv_core.proofs.leaves.take_spare.Goals as goal
-
--- what is taken is one, and the others are
-popped : (c : goal.In-Some) → All IsSpare c.pop.new.self.items × IsSpare c.in-Some.made
-popped c = All-pop IsSpare c.args.spares.now.items c.pop.new.self.items (Some c.in-Some.made) c.in-Some.ensures.items c.requires.room
 
 pub returns-clause-spare : goal.returns-clause-spare
 returns-clause-spare c = (All-pop IsSpare c.args.spares.now.items c.pop.new.self.items (Some c.in-Some.made) c.in-Some.ensures.items c.requires.room).1

@@ -1,15 +1,19 @@
-use Rattle.std.proofs.Common.{◌<◌, ◌∙◌, ◌≡◌, None, OnErr, OnOk, Some, ap, refl, subst, sym}
+use Rattle.std.proofs.Common.{◌++◌, ◌+◌, ◌<◌, ◌∙◌, ◌≡◌, ◌≤◌, None, OnErr, OnOk, Option, Some, ap, length, refl, subst, sym}
+use Rattle.std.proofs.lemmas.Bool.{not-true}
+use Rattle.std.specs.Prelude.{option_map, option_to_list}
 use Rattle.sv_cell_laws.specs.Steps.{OpensOffer}
 use Rattle.sv_cells.specs.Cell.{new_cell}
 use Rattle.sv_cells.specs.Cells.{PutsAt}
-use Rattle.sv_offers.specs.Table.{PlainOffers}
-use Rattle.sv_rules.specs.Coupling.{open_match}
-use Rattle.sv_rules.specs.Entries.{next_place}
+use Rattle.sv_offers.specs.Table.{PlainOffers, after_offer}
+use Rattle.sv_rules.specs.Coupling.{open_match, pair_of}
+use Rattle.sv_rules.specs.Entries.{is_leave, next_place}
 use Rattle.sv_rules.specs.Legal.{MayFollow, entry_for}
 use Rattle.sv_rules.specs.Standing.{offer_count, own_offer, standing}
 use Rattle.sv_rules.specs.Story.{handed_in}
-use Rattle.sv_core.proofs.Kept.{same_core}
-use Rattle.sv_core.proofs.OpeningLemmas.{fit_elsewhere, may_join, opens_in}
+use Rattle.sv_rules.specs.declared.coupling.Made.{Made}
+use Rattle.sv_rules.specs.declared.standing.Standing.{Standing}
+use Rattle.sv_core.proofs.Kept.{IsEntered, entered, same_core}
+use Rattle.sv_core.proofs.OpeningLemmas.{fit_elsewhere, may_join, open_core, opening_entry, opens_in}
 use Rattle.sv_core.specs.Core.{PlainCore}
 use Rattle.sv_core.specs.Invariant.{parts_of}
 use Rattle.sv_core.proofs.processor.Core.open.Goals as goal
@@ -52,5 +56,24 @@ join-degree-requires-clause-ready c =
     may_join c.self.inside.log.journal (entry_for c.self.inside.log.journal c.args.new.now.party c.args.act) c.args.new.now c.in-Ok.other c.self.inside.cells c.add_offer-added.new.cells (handed_in c.args.act)
     c.self.invariant.fit (opens d) (put d)
 
+-- the log with the entry of the act
+more : (c : goal.After-enter) → IsEntered c.self.inside.log c.enter.new.log (entry_for c.self.inside.log.journal c.args.new.now.party c.args.act)
+more c =
+    let d = c.After-add_offer-added in
+    let room = subst (λ r. OnOk r (length c.self.inside.log.users + 1 ≤ c.add_offer-added.new.log.room)) c.in-Ok.is c.add_offer-added.ensures.room in
+    entered c.self.inside.log c.add_offer-added.new.log c.enter.new.log _ _ c.add_offer-added.ensures.users c.add_offer-added.ensures.journal room
+    c.enter.ensures.users c.enter.ensures.journal c.enter.ensures.room
+    (opening_entry (parts_of c.self.inside) c.self.invariant c.args.act c.args.new.now c.requires.row (place d) (fresh d) (few d) c.in-Ok.other c.in-Ok.ensures c.join-degree.result c.join-degree.new.made.items
+    c.join-degree.ensures.degree c.join-degree.ensures.made)
+
 pub invariant_of-self-2 : goal.invariant_of-self-2
-invariant_of-self-2 c = ?
+invariant_of-self-2 c =
+    let a = (goal.at.invariant_of-self-2 c).After-add_offer-added in
+    let d = (goal.at.invariant_of-self-2 c).In-Ok in
+    let m = more (goal.at.invariant_of-self-2 c).After-enter in
+    let table = subst (λ r. OnOk r (c.add_offer-added.new.offers ≡ after_offer c.self.inside.offers c.args.new.now)) c.in-Ok.is c.add_offer-added.ensures.table in
+    open_core (parts_of c.self.inside) _ c.self.invariant c.args.act c.args.new.now c.in-Ok.other (may a) (not-true (is_leave c.args.act) c.requires.may.stays) (opens d) m.users m.journal
+    (ap (λ (t : PlainOffers). t.offers) table)
+    (ap (λ (t : PlainOffers). t.coupled) table
+    ∙ ap (λ (o : Option Standing). c.self.inside.offers.coupled ++ option_to_list (option_map (λ (other : Standing). let made : Made = record { pair = pair_of other c.args.new.now; at = c.args.new.now.place } in made) o)) (sym c.in-Ok.ensures))
+    refl c.add_offer-added.new.cells (put d) c.join-degree.ensures.cells m.room
