@@ -20,7 +20,7 @@ use Rattle.sv_cells.specs.declared.cells.Cells.{Cells}
 use Rattle.sv_cell_laws.specs.Fits.{FitCells}
 use Rattle.sv_cell_laws.specs.Steps.{OpensCells}
 use Rattle.sv_cell_laws.proofs.QuietSteps.{no_access_by_row, no_control_by_row, no_tries_by_row}
-use Rattle.sv_offers.specs.Table.{PlainOffers, after_ending}
+use Rattle.sv_offers.specs.Table.{PlainOffers, after_ending, pairs_made}
 use Rattle.sv_offer_laws.specs.LegalLaws.{made_at}
 use Rattle.sv_offer_laws.proofs.EndingLemmas.{made_of_ending, standing_left}
 use Rattle.sv_offer_laws.proofs.LegalLemmas.{couplings_go_on, ending_again}
@@ -35,7 +35,8 @@ use Rattle.sv_rules.specs.declared.standing.Standing.{Standing}
 use Rattle.sv_story.specs.Share.{share_of}
 use Rattle.sv_story_laws.proofs.StepLemmas.{leaves_may_follow, steps_may_follow, work_may_follow}
 use Rattle.sv_offer_laws.proofs.RowLemmas.{outcome_of_ending}
-use Rattle.sv_events.specs.Answer.{kept}
+use Rattle.sv_events.specs.Answer.{done, kept}
+use Rattle.sv_events.specs.declared.row.Ending.TheVariants as how
 use Rattle.sv_events.specs.declared.row.Ending.TheVariants.{One}
 use Rattle.sv_rules.specs.Outcome.{Outcome, outcome, retraction_outcome}
 use Rattle.sv_rules.specs.Questions.{degree_of}
@@ -45,7 +46,8 @@ use Rattle.std.proofs.lemmas.Bool.{not-true}
 use Rattle.sv_core.specs.Core.{IsSpare, MayMake, PlainCore, present}
 use Rattle.sv_core.specs.Invariant.{Parts, IsKept}
 use Rattle.sv_core.specs.Updating.{IsEnding, Joined}
-use Rattle.sv_core.proofs.Kept.{not_true, whole_core}
+use Rattle.sv_core.proofs.Kept.{entry_is, whole_core}
+use Rattle.sv_core.proofs.TogetherLemmas.{ending_pairs}
 
 -- a party that goes on may make the act that is due, where there is room
 pub may_step : (core : PlainCore) (party : ℕ) (act : Act) → IsLegal core.users core.journal → (is_user core.users party || is_auxiliary party) ≡ true → not (has_left core.journal party) ≡ true → awaited core.journal party ≡ None →
@@ -193,3 +195,16 @@ pub retraction_answer : (journal : Entries) (party : ℕ) (act : Act) (local : L
     kept (degree_of journal (Some offer)) (known journal offer) ≡ (outcome journal party act).answer
 retraction_answer journal party act local offer row own =
     sym (ap (λ (o : Outcome). o.answer) (outcome_of_ending journal party act (One local) row ∙ ap (retraction_outcome journal party local) own))
+
+-- its offers end by the leave
+pub leave_ends : (core : Parts) → IsKept core → (offers : PlainOffers) (at user : ℕ) → offers.offers ≡ core.offers → offers.coupled ≡ core.coupled → at ≡ next_place core.journal → is_user core.users user ≡ true → not (has_left core.journal user) ≡ true →
+    IsEnding offers core.cells at user how.All core.users core.journal (entry_for core.journal user Leave)
+leave_ends core k offers at user offered coupled place member here =
+    may_end core.users core.journal offers core.cells at user Leave how.All k.legal (offered ∙ k.stand) (coupled ∙ k.couple) k.fit (leave_may core k user member here) refl place
+
+-- the entry of the leave has the pairs that are made
+pub leave_entry : (core : Parts) (offers : PlainOffers) (at user : ℕ) → IsEnding offers core.cells at user how.All core.users core.journal (entry_for core.journal user Leave) → (made : List Pair) → made ≡ pairs_made at offers user how.All →
+    (let e : PlainEntry = record { party = user; act = Leave; answer = done; made = made } in e) ≡ entry_for core.journal user Leave
+leave_entry core offers at user ends made pairs =
+    entry_is core.journal user Leave done made refl (pairs ∙ sym (ending_pairs offers core.cells at user how.All core.users core.journal (entry_for core.journal user Leave) ends))
+
