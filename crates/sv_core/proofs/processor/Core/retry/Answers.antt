@@ -1,14 +1,10 @@
-use Rattle.std.proofs.Common.{◌∙◌, ◌≡◌, Bool, Some, ap, subst, sym}
+use Rattle.std.proofs.Common.{◌∙◌, Some, ap, subst, sym}
 use Rattle.sv_events.specs.Answer.{PlainAnswer}
 use Rattle.sv_rules.specs.Entries.{is_full}
 use Rattle.sv_rules.specs.Legal.{IsLegal}
 use Rattle.sv_core.proofs.RetryLemmas.{full_again, goes_on, kept_back, may_retry}
 use Rattle.sv_core.specs.Core.{ArePeople, PlainCore}
 use Rattle.sv_core.proofs.processor.Core.retry.Goals as goal
-
--- whether the journal is full
-full_is : (c : goal.After-is_full) (b : Bool) → c.is_full.result ≡ b → is_full c.args.self.now.journal ≡ b
-full_is c b is = sym (ap (λ (v : PlainCore). is_full v.journal) c.self.view_is) ∙ sym c.is_full.ensures ∙ is
 
 pub returns-then-is_full-clause-answer : goal.returns-then-is_full-clause-answer
 returns-then-is_full-clause-answer c =

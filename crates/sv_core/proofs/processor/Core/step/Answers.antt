@@ -1,16 +1,12 @@
-use Rattle.std.proofs.Common.{◌∙◌, ◌≡◌, ap, false, subst, sym}
+use Rattle.std.proofs.Common.{◌∙◌, ap, subst, sym}
 use Rattle.sv_rules.specs.Entries.{is_full}
 use Rattle.sv_rules.specs.Legal.{IsLegal}
 use Rattle.sv_core.proofs.GoingLemmas.{may_step}
 use Rattle.sv_core.specs.Core.{PlainCore}
 use Rattle.sv_core.proofs.processor.Core.step.Goals as goal
 
--- there is room
-room : (c : goal.Else-is_full) → is_full c.args.self.now.journal ≡ false
-room c = sym (ap (λ (v : PlainCore). is_full v.journal) c.self.view_is) ∙ sym c.is_full.ensures ∙ c.if-is_full.false
-
 pub make-requires : goal.make-requires
 make-requires c =
-    let d = (goal.at.make-requires c).Else-is_full in
+    let room = sym (ap (λ (v : PlainCore). is_full v.journal) c.self.view_is) ∙ sym c.is_full.ensures ∙ c.if-is_full.false in
     let legal = subst (λ (v : PlainCore). IsLegal v.users v.journal) c.self.view_is c.self.invariant.legal in
-    may_step c.args.self.now c.args.party c.args.act legal c.requires.member c.requires.present c.requires.goes_on c.requires.due c.requires.stays (room d)
+    may_step c.args.self.now c.args.party c.args.act legal c.requires.member c.requires.present c.requires.goes_on c.requires.due c.requires.stays room
