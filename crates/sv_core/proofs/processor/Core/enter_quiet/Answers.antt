@@ -1,8 +1,6 @@
 use Rattle.std.proofs.Common.{◌∙◌, ap, refl, subst, sym}
 use Rattle.std.proofs.lemmas.Bool.{not-true}
-use Rattle.apl_arrays.specs.List.{Listed}
 use Rattle.sv_cell_laws.specs.Steps.{TouchesNothing}
-use Rattle.sv_events.specs.declared.entry.Pair.{Pair}
 use Rattle.sv_rules.specs.Entries.{is_leave}
 use Rattle.sv_rules.specs.Legal.{MayFollow, entry_for}
 use Rattle.sv_rules.specs.Outcome.{outcome}
@@ -24,7 +22,7 @@ more : (c : goal.After-enter) → IsEntered c.self.inside.log c.enter.new.log (e
 more c =
     let journal = c.self.inside.log.journal in
     entered c.self.inside.log c.reserve.new.self c.enter.new.log _ _ c.reserve.ensures.users c.reserve.ensures.journal (on_success c.reserve.result _ c.if-is_err.ensures.negation c.reserve.ensures.room)
-    c.enter.ensures.users c.enter.ensures.journal c.enter.ensures.room (entry_is journal c.args.party c.args.act _ _ (c.in-Ok.ensures.kept ∙ c.requires.answer ∙ sym (ap (λ (v : PlainCore). (outcome v.journal c.args.party c.args.act).answer) c.self.view_is)) (ap (λ (l : Listed Pair). l.items) c.new.ensures ∙ sym (ap (λ (v : PlainCore). (outcome v.journal c.args.party c.args.act).made) c.self.view_is ∙ c.requires.none)))
+    c.enter.ensures.users c.enter.ensures.journal c.enter.ensures.room (entry_is journal c.args.party c.args.act _ _ (c.in-Ok.ensures.kept ∙ c.requires.answer ∙ sym (ap (λ (v : PlainCore). (outcome v.journal c.args.party c.args.act).answer) c.self.view_is)) (c.new.ensures ∙ sym (ap (λ (v : PlainCore). (outcome v.journal c.args.party c.args.act).made) c.self.view_is ∙ c.requires.none)))
 
 pub invariant_of-self-2 : goal.invariant_of-self-2
 invariant_of-self-2 c =

@@ -1,11 +1,9 @@
 use Rattle.std.proofs.Common.{◌∙◌, ◌≡◌, None, Some, ap, refl, subst, sym}
 use Rattle.std.proofs.lemmas.Bool.{not-true}
 use Rattle.std.specs.Prelude.{Contains}
-use Rattle.apl_arrays.specs.List.{Listed}
 use Rattle.sv_cell_laws.proofs.QuietSteps.{set_makes_access}
 use Rattle.sv_cell_laws.specs.Steps.{set_of}
 use Rattle.sv_events.specs.Row.{act_row}
-use Rattle.sv_events.specs.declared.entry.Pair.{Pair}
 use Rattle.sv_offer_laws.proofs.OwnLemmas.{own_offer-parts}
 use Rattle.sv_rules.specs.Entries.{is_leave}
 use Rattle.sv_rules.specs.Legal.{MayFollow, entry_for}
@@ -50,7 +48,7 @@ more : (c : goal.After-enter) → IsEntered c.self.inside.log c.enter.new.log (e
 more c =
     let journal = c.self.inside.log.journal in
     entered c.self.inside.log c.reserve.new.self c.enter.new.log _ _ c.reserve.ensures.users c.reserve.ensures.journal (on_success c.reserve.result _ c.if-is_err.ensures.negation c.reserve.ensures.room)
-    c.enter.ensures.users c.enter.ensures.journal c.enter.ensures.room (entry_is journal c.args.party c.args.act _ _ (access_granted journal c.args.party c.args.act c.args.access c.args.offer c.requires.row c.requires.kind (own c) (free c)) (ap (λ (l : Listed Pair). l.items) c.new.ensures ∙ sym (ap (λ (o : Outcome). o.made) (outcome_of_access journal c.args.party c.args.act c.args.access c.requires.row))))
+    c.enter.ensures.users c.enter.ensures.journal c.enter.ensures.room (entry_is journal c.args.party c.args.act _ _ (access_granted journal c.args.party c.args.act c.args.access c.args.offer c.requires.row c.requires.kind (own c) (free c)) (c.new.ensures ∙ sym (ap (λ (o : Outcome). o.made) (outcome_of_access journal c.args.party c.args.act c.args.access c.requires.row))))
 
 pub invariant_of-self-2 : goal.invariant_of-self-2
 invariant_of-self-2 c =

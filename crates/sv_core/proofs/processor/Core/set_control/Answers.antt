@@ -1,9 +1,7 @@
 use Rattle.std.proofs.Common.{◌∙◌, ◌≡◌, Some, ap, refl, subst, sym}
 use Rattle.std.proofs.lemmas.Bool.{not-true}
 use Rattle.std.specs.Prelude.{Contains}
-use Rattle.apl_arrays.specs.List.{Listed}
 use Rattle.sv_events.specs.Answer.{vector}
-use Rattle.sv_events.specs.declared.entry.Pair.{Pair}
 use Rattle.sv_offer_laws.proofs.OwnLemmas.{own_offer-parts}
 use Rattle.sv_rules.specs.Control.{in_force_with}
 use Rattle.sv_rules.specs.Entries.{is_leave}
@@ -43,7 +41,7 @@ more : (c : goal.After-enter) → IsEntered c.self.inside.log c.enter.new.log (e
 more c =
     let journal = c.self.inside.log.journal in
     entered c.self.inside.log c.reserve.new.self c.enter.new.log _ _ c.reserve.ensures.users c.reserve.ensures.journal (on_success c.reserve.result _ c.if-is_err.ensures.negation c.reserve.ensures.room)
-    c.enter.ensures.users c.enter.ensures.journal c.enter.ensures.room (entry_is journal c.args.party c.args.act _ _ (ap vector c.in_force_with-vector.ensures ∙ ap (λ (v : PlainCore). vector (in_force_with v.journal c.args.set.control c.args.offer)) (sym c.self.view_is) ∙ control_answered journal c.args.party c.args.act c.args.set c.args.offer c.requires.row (own c)) (ap (λ (l : Listed Pair). l.items) c.new.ensures ∙ sym (ap (λ (o : Outcome). o.made) (outcome_of_control journal c.args.party c.args.act c.args.set c.requires.row))))
+    c.enter.ensures.users c.enter.ensures.journal c.enter.ensures.room (entry_is journal c.args.party c.args.act _ _ (ap vector c.in_force_with-vector.ensures ∙ ap (λ (v : PlainCore). vector (in_force_with v.journal c.args.set.control c.args.offer)) (sym c.self.view_is) ∙ control_answered journal c.args.party c.args.act c.args.set c.args.offer c.requires.row (own c)) (c.new.ensures ∙ sym (ap (λ (o : Outcome). o.made) (outcome_of_control journal c.args.party c.args.act c.args.set c.requires.row))))
 
 pub invariant_of-self-2 : goal.invariant_of-self-2
 invariant_of-self-2 c =

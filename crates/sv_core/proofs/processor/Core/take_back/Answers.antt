@@ -1,8 +1,6 @@
 use Rattle.std.proofs.Common.{◌∙◌, ◌≡◌, ◌≤◌, Some, ap, arith, length, refl, subst, sym}
 use Rattle.std.proofs.lemmas.Bool.{not-true}
-use Rattle.apl_arrays.specs.List.{Listed}
 use Rattle.sv_events.specs.Answer.{kept}
-use Rattle.sv_events.specs.declared.entry.Pair.{Pair}
 use Rattle.sv_events.specs.declared.row.Ending.TheVariants.{One}
 use Rattle.sv_offer_laws.proofs.EndingLemmas.{retractions_reopen_one}
 use Rattle.sv_offer_laws.proofs.OwnLemmas.{own_offer-parts}
@@ -35,7 +33,7 @@ end_together-requires-clause-ready c =
     (c.self.inside.log.users, c.self.inside.log.journal, entry_for c.self.inside.log.journal c.args.party c.args.act, ends)
 
 pub end_together-requires-clause-none : goal.end_together-requires-clause-none
-end_together-requires-clause-none c = c.room_for_pair.ensures.none ∙ ap (λ (l : Listed Pair). l.items) c.new-made.ensures
+end_together-requires-clause-none c = c.room_for_pair.ensures.none ∙ c.new-made.ensures
 
 pub end_together-requires-clause-room : goal.end_together-requires-clause-room
 end_together-requires-clause-room c =
