@@ -1,3 +1,5 @@
 pub mod Core
+pub mod Due
 pub mod Invariant
-pub mod Table
+pub mod Retry
+pub mod Updating
