@@ -1,5 +1,10 @@
+pub mod ActReading
+pub mod ActWord
+pub mod AnswerReading
+pub mod EntryReading
 pub mod EntryText
+pub mod HoldReading
 pub mod Output
 pub mod Printable
-pub mod ValueText
+pub mod WordReading
 pub mod WorkedOutput

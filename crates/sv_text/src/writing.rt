@@ -1,12 +1,13 @@
-ghost use Rattle.std.specs.Prelude.{◌≡◌, All, IfSome, ◌∷◌, [], ◌++◌, OnOk, length};
+ghost use Rattle.std.specs.Prelude.{◌≡◌, All, IfOk, IfSome, ◌∷◌, [], ◌++◌, OnOk, length};
 ghost use Rattle.std.specs.List.{flat_map};
 ghost use Rattle.apl_arrays.specs.Array.{plain_items};
 ghost use Rattle.apl_arrays.specs.Glyph.{IsGlyph};
-ghost use Rattle.sv_journal.specs.Printable.{ArePrintableItems, IsPrintableArray};
-ghost use Rattle.sv_journal.specs.ValueText.{char_text, kind_text, items_text, array_text, value_text};
+ghost use Rattle.sv_text.specs.Printable.{ArePrintableItems, IsPrintableArray};
+ghost use Rattle.sv_text.specs.ValueText.{char_text, kind_text, items_text, array_text, value_text};
 
-use apl_arrays::{Array, Glyph, Items, Line, WantOfMemory};
+use apl_arrays::{Array, Glyph, Items, Line, List, WantOfMemory};
 use line_text::{add_counts, add_numbers, add_text};
+use std::alloc::Global;
 
 // Adds a character as it stands between quotes.
 fn add_char(line: &mut Line, glyph: Glyph) -> Result<(), WantOfMemory>
@@ -79,4 +80,13 @@ pub fn add_value(line: &mut Line, value: &Option<Array>) -> Result<(), WantOfMem
         None => add_text(line, "none"),
         Some(array) => add_array(line, array),
     }
+}
+
+/// The text of an array: its kind, its axes, its items. It takes memory for the line.
+pub fn value_text(alloc: Global, array: &Array) -> Result<Line, WantOfMemory>
+    ensures { IfOk result (λ line. line.items ≡ array_text array.now) }
+{
+    let mut line = List::new(alloc);
+    add_array(&mut line, array)?;
+    Ok(line)
 }

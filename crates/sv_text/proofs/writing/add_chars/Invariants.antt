@@ -1,8 +1,8 @@
 use Rattle.std.proofs.Common.{◌≡◌, ◌++◌, take}
 use Rattle.std.specs.List.{All, flat_map}
 use Rattle.apl_arrays.specs.Glyph.{IsGlyph}
-use Rattle.sv_journal.specs.ValueText.{char_text}
-use Rattle.sv_journal.proofs.value_text.add_chars.Given as goal
+use Rattle.sv_text.specs.ValueText.{char_text}
+use Rattle.sv_text.proofs.writing.add_chars.Given as goal
 
 abbrev pub invariant-loop-glyph : goal.invariant-loop-glyph
 invariant-loop-glyph l = record {

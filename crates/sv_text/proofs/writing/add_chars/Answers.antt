@@ -2,7 +2,7 @@ use Rattle.std.proofs.Common.{arith}
 use Rattle.std.proofs.lemmas.Grind.{common_steps}
 use Rattle.apl_arrays.specs.Glyph.{IsGlyph}
 use Rattle.line_text.proofs.AllMore.{all_more}
-use Rattle.sv_journal.proofs.value_text.add_chars.Goals as goal
+use Rattle.sv_text.proofs.writing.add_chars.Goals as goal
 
 pub loop-glyph-preserved : goal.loop-glyph-preserved
 loop-glyph-preserved c = record {

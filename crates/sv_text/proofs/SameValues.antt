@@ -8,9 +8,9 @@ use Rattle.std.specs.List.{flat_map, AllByRecursion}
 use Rattle.apl_arrays.specs.Array.{PlainItems, numbers, chars, PlainArray}
 use Rattle.line_text.specs.Number.{number_text}
 use Rattle.line_text.specs.Spaced.{spaced}
-use Rattle.sv_journal.specs.Printable.{ArePrintableItems, IsPrintableArray}
+use Rattle.sv_text.specs.Printable.{ArePrintableItems, IsPrintableArray}
 use Rattle.apl_arrays.specs.Glyph.{quote}
-use Rattle.sv_journal.specs.ValueText.{char_text, kind_text, items_text, array_text, value_text}
+use Rattle.sv_text.specs.ValueText.{char_text, kind_text, items_text, array_text, value_text}
 use Rattle.line_text.proofs.SameNumbers.{Fits64, Count64, ends_numbers, same_spaced, counts_are_like_numbers, numbers_are_like_numbers}
 use Rattle.apl_arrays.specs.Run.{begins}
 use Rattle.line_text.proofs.Spans.{Reads, same_list}

@@ -1,0 +1,36 @@
+-- Reading what refuses an access, and controls.
+use Rattle.std.specs.Prelude.{◌==◌, ◌∷◌, [], ℕ, Bool, List, Result, Ok, Err, codes}
+use Rattle.sv_access.specs.declared.control.Control.{Control}
+use Rattle.sv_access.specs.declared.verdict.Owners.{Owners}
+use Rattle.sv_access.specs.declared.verdict.Owners.TheVariants.{Mine, Partner, Both}
+use Rattle.sv_access.specs.Control.{four_elements}
+use Rattle.sv_events.specs.declared.event.Hold.{Hold}
+use Rattle.sv_text.specs.Reading.{Reader, Reading, ◌>>=◌, literal_at}
+use Rattle.sv_text.specs.NumberReading.{number_at}
+use Rattle.sv_journal.specs.EntryText.{owners_text}
+use Rattle.sv_journal.specs.WordReading.{word_at}
+
+-- an element of a control or of a state, behind a blank
+unfoldable pub bit_at : Reader Bool
+bit_at line = do
+  rest ← literal_at (codes " ") line
+  bit ← number_at 0 1 rest
+  Ok (bit.0 == 1, bit.1)
+
+-- the four elements of a control or of a state
+unfoldable pub control_at : Reader Control
+control_at line = do
+  first ← bit_at line
+  second ← bit_at first.1
+  third ← bit_at second.1
+  fourth ← bit_at third.1
+  Ok (four_elements first.0 second.0 third.0 fourth.0, fourth.1)
+
+-- what refuses an access, behind a blank
+unfoldable pub hold_at : Reader Hold
+hold_at line = do
+  rest ← literal_at (codes " ") line
+  element ← number_at 1 4 rest
+  behind ← literal_at (codes " ") element.1
+  owners ← word_at owners_text 0 (Mine ∷ Partner ∷ Both ∷ []) behind
+  Ok (record { element = element.0; owners = owners.0 }, owners.1)

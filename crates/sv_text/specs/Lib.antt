@@ -1,0 +1,5 @@
+pub mod Printable
+pub mod Reading
+pub mod NumberReading
+pub mod ValueReading
+pub mod ValueText
