@@ -2,4 +2,3 @@ pub mod GlyphTexts
 pub mod Numbered
 pub mod SameEntries
 pub mod SameOutput
-pub mod SameValues

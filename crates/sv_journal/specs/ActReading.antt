@@ -1,8 +1,10 @@
 -- Reading acts.
-use Rattle.std.specs.Prelude.{◌^◌, ◌-◌, ℕ, List, Result, Ok, Err, codes}
+use Rattle.std.specs.Prelude.{◌^◌, ◌-◌, ℕ, List, Option, Result, Ok, Err, codes}
+use Rattle.apl_arrays.specs.Array.{PlainArray}
+use Rattle.sv_access.specs.declared.control.Control.{Control}
 use Rattle.sv_events.specs.declared.event.Act.{Act}
 use Rattle.sv_events.specs.declared.event.Act.TheVariants as act
-use Rattle.sv_text.specs.Reading.{Reader, Reading, ◌>>=◌, literal_at, name_at}
+use Rattle.sv_text.specs.Reading.{Reader, Reading, ◌>>=◌, as_read, literal_at, name_at}
 use Rattle.sv_text.specs.NumberReading.{number_at}
 use Rattle.sv_text.specs.ValueReading.{array_at, value_at}
 use Rattle.sv_journal.specs.declared.act_word.ActWord.{ActWord}
@@ -23,34 +25,45 @@ party_at line = do
   rest ← literal_at (codes " ") line
   number_at 0 (2 ^ 32 - 1) rest
 
--- what is read, made into something else
-abbrev pub as_read : {A B : Type 0} → (A → B) → Reading A → Reading B
-as_read make read = read >>= λ found. Ok (make found.0, found.1)
-
 -- to whom an offer is made, its names and the value that is handed in
-unfoldable pub offer_at : Reader Act
-offer_at line = do
+abbrev pub OfferParts : Type 0
+OfferParts = ℕ × List ℕ × List ℕ × Option PlainArray
+
+abbrev pub make_offer : OfferParts → Act
+make_offer parts = act.Offer parts.0 parts.1 parts.2 parts.3
+
+unfoldable pub offer_parts_at : Reader OfferParts
+offer_parts_at line = do
   to ← party_at line
   local ← local_at to.1
   surrogate ← local_at local.1
   rest ← literal_at (codes " ") surrogate.1
   handed ← value_at rest
-  Ok (act.Offer to.0 local.0 surrogate.0 handed.0, handed.1)
+  Ok ((to.0, local.0, surrogate.0, handed.0), handed.1)
+
+abbrev pub offer_at : Reader Act
+offer_at line = as_read make_offer (offer_parts_at line)
 
 -- the name whose control is set, and the control
-unfoldable pub set_control_at : Reader Act
-set_control_at line = do
+unfoldable pub set_control_parts_at : Reader (List ℕ × Control)
+set_control_parts_at line = do
   local ← local_at line
   control ← control_at local.1
-  Ok (act.SetControl local.0 control.0, control.1)
+  Ok ((local.0, control.0), control.1)
+
+abbrev pub set_control_at : Reader Act
+set_control_at line = as_read (λ parts. act.SetControl parts.0 parts.1) (set_control_parts_at line)
 
 -- the name that is set, and the value
-unfoldable pub set_at : Reader Act
-set_at line = do
+unfoldable pub set_parts_at : Reader (List ℕ × PlainArray)
+set_parts_at line = do
   local ← local_at line
   rest ← literal_at (codes " ") local.1
   new ← array_at rest
-  Ok (act.Set local.0 new.0, new.1)
+  Ok ((local.0, new.0), new.1)
+
+abbrev pub set_at : Reader Act
+set_at line = as_read (λ parts. act.Set parts.0 parts.1) (set_parts_at line)
 
 -- what stands behind the word of an act
 abbrev pub act_behind : ActWord → Reader Act

@@ -5,10 +5,10 @@ use Rattle.apl_arrays.specs.Glyph.{blank, plus}
 use Rattle.sv_events.specs.Answer.{PlainAnswer, degree, granted, value, no_value, held, abandoned, not_shared, offer_limit, full, vector, parties, names, kept, done}
 use Rattle.sv_events.specs.declared.row.AnswerKind.{AnswerKind}
 use Rattle.sv_events.specs.declared.row.AnswerKind.TheVariants.{Degree, Granted, Value, NoValue, Held, Abandoned, NotShared, OfferLimit, Full, Vector, Parties, Names, Kept, Done}
-use Rattle.sv_text.specs.Reading.{Reader, Reading, ◌>>=◌, begins_with, behind_first, literal_at, name_at}
+use Rattle.sv_text.specs.Reading.{Reader, Reading, ◌>>=◌, as_read, begins_with, behind_first, list_at, literal_at, name_at}
 use Rattle.sv_text.specs.NumberReading.{number_at}
 use Rattle.sv_text.specs.ValueReading.{array_at, value_at}
-use Rattle.sv_journal.specs.ActReading.{as_read, local_at, party_at}
+use Rattle.sv_journal.specs.ActReading.{local_at, party_at}
 use Rattle.sv_journal.specs.HoldReading.{control_at, hold_at}
 use Rattle.sv_journal.specs.WordReading.{word_at}
 
@@ -42,34 +42,27 @@ told_at line = do
   array_at rest
 
 -- the degree before a retraction, and the value that is kept
-unfoldable pub kept_at : Reader PlainAnswer
-kept_at line = do
+unfoldable pub kept_parts_at : Reader (ℕ × Option PlainArray)
+kept_parts_at line = do
   before ← degree_at line
   rest ← literal_at (codes " ") before.1
   known ← value_at rest
-  Ok (kept before.0 known.0, known.1)
+  Ok ((before.0, known.0), known.1)
+
+abbrev pub kept_at : Reader PlainAnswer
+kept_at line = as_read (λ parts. kept parts.0 parts.1) (kept_parts_at line)
 
 -- whether a list goes on: a blank stands there, and no pair begins with it
 abbrev pub goes_on : List ℕ → Bool
 goes_on line = begins_with blank line && not (begins_with plus (behind_first line))
 
--- so long as a list goes on, at most so many of its items
-unfoldable pub list_at : {A : Type 0} → Reader A → ℕ → Reader (List A)
-list_at item zero line = Ok ([], line)
-list_at item (suc most) line =
-    if goes_on line then (do
-      first ← item line
-      others ← list_at item most first.1
-      Ok (first.0 ∷ others.0, others.1))
-    else Ok ([], line)
-
 -- parties, up to the pairs or the end
 abbrev pub parties_at : Reader (List ℕ)
-parties_at line = list_at party_at (length line) line
+parties_at line = list_at goes_on party_at (length line) line
 
 -- names, up to the pairs or the end
 abbrev pub names_at : Reader (List (List ℕ))
-names_at line = list_at local_at (length line) line
+names_at line = list_at goes_on local_at (length line) line
 
 -- what stands behind the word of an answer
 abbrev pub answer_behind : AnswerKind → Reader PlainAnswer

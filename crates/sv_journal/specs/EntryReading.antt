@@ -1,8 +1,8 @@
 -- Reading entries.
-use Rattle.std.specs.Prelude.{◌^◌, ◌+◌, ◌-◌, ◌∷◌, [], ℕ, zero, suc, List, Result, Ok, Err, codes, length}
+use Rattle.std.specs.Prelude.{◌^◌, ◌+◌, ◌-◌, ◌∷◌, [], ℕ, Bool, true, false, List, Result, Ok, Err, codes, length}
 use Rattle.sv_events.specs.Entry.{PlainEntry}
 use Rattle.sv_events.specs.declared.entry.Pair.{Pair}
-use Rattle.sv_text.specs.Reading.{Reader, Reading, ◌>>=◌, literal_at}
+use Rattle.sv_text.specs.Reading.{Reader, Reading, ◌>>=◌, list_at, literal_at}
 use Rattle.sv_text.specs.NumberReading.{number_at}
 use Rattle.sv_journal.specs.ActReading.{act_at, party_at}
 use Rattle.sv_journal.specs.ActWord.{word_of, answers_to}
@@ -17,18 +17,14 @@ pair_at line = do
   b ← number_at (a.0 + 1) (2 ^ 64 - 1) behind
   Ok (record { a = a.0; b = b.0 }, b.1)
 
--- pairs to the end of the line, at most so many
-unfoldable pub pairs_by : ℕ → Reader (List Pair)
-pairs_by zero line = Ok ([], line)
-pairs_by (suc most) [] = Ok ([], [])
-pairs_by (suc most) (first ∷ rest) = do
-  pair ← pair_at (first ∷ rest)
-  others ← pairs_by most pair.1
-  Ok (pair.0 ∷ others.0, others.1)
+-- the line is not at its end
+abbrev pub is_left : List ℕ → Bool
+is_left [] = false
+is_left (first ∷ rest) = true
 
 -- pairs to the end of the line
 abbrev pub pairs_at : Reader (List Pair)
-pairs_at line = pairs_by (length line) line
+pairs_at line = list_at is_left pair_at (length line) line
 
 -- an entry to the end of the line, and its place
 unfoldable pub entry_at : Reader (ℕ × PlainEntry)

@@ -11,6 +11,7 @@ use sv_events::Act;
 use sv_text::{Cursor, Unread, read_array, read_value};
 
 /// Reads an act. It takes memory for its value.
+#[tactic(auto, unfolding(crate::specs::ActReading::act_at))]
 pub(crate) fn read_act(alloc: Global, cursor: &mut Cursor<'_>) -> Result<Act, Unread>
     ensures { Gives (λ act. (act, cursor.new)) result (act_at cursor.old) }
 {
@@ -38,6 +39,7 @@ fn read_act_behind(alloc: Global, cursor: &mut Cursor<'_>, word: ActWord) -> Res
 }
 
 // Reads to whom an offer is made, its names and the value that is handed in.
+#[tactic(auto, unfolding(crate::specs::ActReading::offer_parts_at))]
 fn read_offer(alloc: Global, cursor: &mut Cursor<'_>) -> Result<Act, Unread>
     ensures { Gives (λ act. (act, cursor.new)) result (offer_at cursor.old) }
 {
@@ -55,6 +57,7 @@ fn read_offer(alloc: Global, cursor: &mut Cursor<'_>) -> Result<Act, Unread>
 }
 
 // Reads the name whose control is set, and the control.
+#[tactic(auto, unfolding(crate::specs::ActReading::set_control_parts_at))]
 fn read_set_control(cursor: &mut Cursor<'_>) -> Result<Act, Unread>
     ensures { Gives (λ act. (act, cursor.new)) result (set_control_at cursor.old) }
 {
@@ -63,6 +66,7 @@ fn read_set_control(cursor: &mut Cursor<'_>) -> Result<Act, Unread>
 }
 
 // Reads the name that is set, and the value.
+#[tactic(auto, unfolding(crate::specs::ActReading::set_parts_at))]
 fn read_set(alloc: Global, cursor: &mut Cursor<'_>) -> Result<Act, Unread>
     ensures { Gives (λ act. (act, cursor.new)) result (set_at cursor.old) }
 {
@@ -73,6 +77,7 @@ fn read_set(alloc: Global, cursor: &mut Cursor<'_>) -> Result<Act, Unread>
 }
 
 /// Reads a name behind a blank. No memory.
+#[tactic(auto, unfolding(crate::specs::ActReading::local_at))]
 pub(crate) fn read_local(cursor: &mut Cursor<'_>) -> Result<Name, Unread>
     ensures { Gives (λ name. (name, cursor.new)) result (local_at cursor.old) }
 {
@@ -81,6 +86,7 @@ pub(crate) fn read_local(cursor: &mut Cursor<'_>) -> Result<Name, Unread>
 }
 
 /// Reads a party behind a blank. No memory.
+#[tactic(auto, unfolding(crate::specs::ActReading::party_at))]
 pub(crate) fn read_party(cursor: &mut Cursor<'_>) -> Result<u32, Unread>
     ensures { Gives (λ party. (party, cursor.new)) result (party_at cursor.old) }
 {

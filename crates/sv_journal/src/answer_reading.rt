@@ -37,6 +37,7 @@ impl Word for AnswerKind {
 }
 
 /// Reads an answer of one of these kinds. It takes memory for its value or its list.
+#[tactic(auto, unfolding(crate::specs::AnswerReading::answer_at))]
 pub(crate) fn read_answer(
     alloc: Global,
     cursor: &mut Cursor<'_>,
@@ -75,6 +76,7 @@ fn read_answer_behind(
 }
 
 // Reads a degree behind a blank.
+#[tactic(auto, unfolding(crate::specs::AnswerReading::degree_at))]
 fn read_degree(cursor: &mut Cursor<'_>) -> Result<u8, Unread>
     ensures { Gives (λ degree. (degree, cursor.new)) result (degree_at cursor.old) }
 {
@@ -84,6 +86,7 @@ fn read_degree(cursor: &mut Cursor<'_>) -> Result<u8, Unread>
 }
 
 // Reads a value that is told, behind a blank.
+#[tactic(auto, unfolding(crate::specs::AnswerReading::told_at))]
 fn read_told(alloc: Global, cursor: &mut Cursor<'_>) -> Result<Array, Unread>
     ensures { Gives (λ value. (value, cursor.new)) result (told_at cursor.old) }
 {
@@ -92,6 +95,7 @@ fn read_told(alloc: Global, cursor: &mut Cursor<'_>) -> Result<Array, Unread>
 }
 
 // Reads the degree before a retraction, and the value that is kept.
+#[tactic(auto, unfolding(crate::specs::AnswerReading::kept_parts_at))]
 fn read_kept(alloc: Global, cursor: &mut Cursor<'_>) -> Result<Answer, Unread>
     ensures { Gives (λ answer. (plain_answer answer, cursor.new)) result (kept_at cursor.old) }
 {

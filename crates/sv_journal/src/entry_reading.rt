@@ -47,6 +47,7 @@ pub fn read(alloc: Global, line: &Line) -> Result<(u64, Entry), EntryRefused> {
 }
 
 // Reads an entry to the end of the line.
+#[tactic(auto, unfolding(crate::specs::EntryReading::entry_at))]
 fn read_entry(alloc: Global, cursor: &mut Cursor<'_>) -> Result<(u64, Entry), Unread>
     ensures { Gives (λ found. ((found.0, plain_entry found.1), cursor.new)) result (entry_at cursor.old) }
 {
@@ -80,6 +81,7 @@ fn read_pairs(alloc: Global, cursor: &mut Cursor<'_>) -> Result<PairList, Unread
 }
 
 // Reads a pair, the lower place first.
+#[tactic(auto, unfolding(crate::specs::EntryReading::pair_at))]
 fn read_pair(cursor: &mut Cursor<'_>) -> Result<Pair, Unread>
     ensures { Gives (λ pair. (pair, cursor.new)) result (pair_at cursor.old) }
 {

@@ -25,6 +25,7 @@ impl Word for Owners {
 }
 
 /// Reads the four elements of a control or of a state, each behind a blank. No memory.
+#[tactic(auto, unfolding(crate::specs::HoldReading::bits_at))]
 pub(crate) fn read_control(cursor: &mut Cursor<'_>) -> Result<Control, Unread>
     ensures { Gives (λ control. (control, cursor.new)) result (control_at cursor.old) }
 {
@@ -36,6 +37,7 @@ pub(crate) fn read_control(cursor: &mut Cursor<'_>) -> Result<Control, Unread>
 }
 
 // Reads an element behind a blank.
+#[tactic(auto, unfolding(crate::specs::HoldReading::bit_at))]
 fn read_bit(cursor: &mut Cursor<'_>) -> Result<bool, Unread>
     ensures { Gives (λ bit. (bit, cursor.new)) result (bit_at cursor.old) }
 {
@@ -45,6 +47,7 @@ fn read_bit(cursor: &mut Cursor<'_>) -> Result<bool, Unread>
 }
 
 /// Reads what refuses an access behind a blank: the element, and whose 1 it is. No memory.
+#[tactic(auto, unfolding(crate::specs::HoldReading::hold_at))]
 pub(crate) fn read_hold(cursor: &mut Cursor<'_>) -> Result<Hold, Unread>
     ensures { Gives (λ hold. (hold, cursor.new)) result (hold_at cursor.old) }
 {

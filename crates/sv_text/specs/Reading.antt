@@ -1,5 +1,5 @@
 -- Reading from left to right: a value and what follows it, or how many glyphs are left where nothing goes on so.
-use Rattle.std.specs.Prelude.{◌≡◌, ◌+◌, ◌++◌, ◌==◌, ◌∷◌, [], ℕ, Bool, false, List, Option, Some, None, Result, Ok, Err, length, min, take, drop, if◌then◌else◌}
+use Rattle.std.specs.Prelude.{◌≡◌, ◌+◌, ◌++◌, ◌==◌, ◌∷◌, [], ℕ, Bool, true, false, zero, suc, List, Option, Some, None, Result, Ok, Err, length, min, take, drop, if◌then◌else◌}
 use Rattle.std.specs.List.{prefix_len}
 use Rattle.apl_arrays.specs.Limits.{most_name_glyphs}
 use Rattle.apl_arrays.specs.Name.{goes_on, is_name}
@@ -33,6 +33,23 @@ Gives view (Err why) read = Stops why read
 -- a list that is read, with others in front of it
 abbrev pub read_behind : {V : Type 0} → List V → Reading (List V) → Reading (List V)
 read_behind front read = read >>= λ found. Ok (front ++ found.0, found.1)
+
+-- what is read, made into something else
+abbrev pub as_read : {A B : Type 0} → (A → B) → Reading A → Reading B
+as_read make read = read >>= λ found. Ok (make found.0, found.1)
+
+-- any line
+abbrev pub always : List ℕ → Bool
+always line = true
+
+-- so long as a list goes on, at most so many of its items
+unfoldable pub list_at : {A : Type 0} → (List ℕ → Bool) → Reader A → ℕ → Reader (List A)
+list_at goes_on item zero line = Ok ([], line)
+list_at goes_on item (suc most) line =
+    if goes_on line then (do
+      first ← item line
+      read_behind (first.0 ∷ []) (list_at goes_on item most first.1))
+    else Ok ([], line)
 
 -- the first glyph
 abbrev pub first_of : List ℕ → Option ℕ

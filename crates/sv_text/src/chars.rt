@@ -1,6 +1,6 @@
 ghost use Rattle.std.specs.Prelude.{◌≡◌, IfOk, length};
-ghost use Rattle.sv_text.specs.Reading.{Gives};
-ghost use Rattle.sv_text.specs.ValueReading.{char_at, chars_at, quoted_at};
+ghost use Rattle.sv_text.specs.Reading.{Gives, always, list_at};
+ghost use Rattle.sv_text.specs.ValueReading.{behind_char, char_at, quoted_at};
 
 use crate::cursor::Cursor;
 use crate::unread::Unread;
@@ -8,6 +8,7 @@ use apl_arrays::{Glyph, Line, List};
 use std::alloc::Global;
 
 /// Reads so many characters between quotes; a quote among them is written twice. It takes memory for them.
+#[tactic(auto, unfolding(crate::specs::ValueReading::quoted_at))]
 pub(crate) fn read_quoted(
     alloc: Global,
     cursor: &mut Cursor<'_>,
@@ -24,17 +25,19 @@ pub(crate) fn read_quoted(
 
 // Reads so many characters as they stand between quotes.
 fn read_chars(alloc: Global, cursor: &mut Cursor<'_>, count: usize) -> Result<Line, Unread>
-    ensures value { Gives (λ chars. (chars.items, cursor.new)) result (chars_at count cursor.old) }
+    ensures value { Gives (λ chars. (chars.items, cursor.new)) result (list_at always char_at count cursor.old) }
     ensures count { IfOk result (λ chars. length chars.items ≡ count) }
 {
     let mut chars = List::new(alloc);
     for _ in 0..count {
-        chars.push(read_char(cursor)?)?;
+        let char = read_char(cursor)?;
+        chars.push(char)?;
     }
     Ok(chars)
 }
 
 // Reads a character as it stands between quotes.
+#[tactic(auto, unfolding(crate::specs::ValueReading::char_at))]
 fn read_char(cursor: &mut Cursor<'_>) -> Result<Glyph, Unread>
     ensures { Gives (λ char. (char, cursor.new)) result (char_at cursor.old) }
 {
@@ -42,10 +45,19 @@ fn read_char(cursor: &mut Cursor<'_>) -> Result<Glyph, Unread>
         None => Err(cursor.stops()),
         Some(char) => {
             cursor.skip();
-            if char == Glyph::QUOTE {
-                cursor.text(b"'")?;
-            }
-            Ok(char)
+            read_second(cursor, char)
         }
+    }
+}
+
+// Reads the second quote where a character is a quote.
+fn read_second(cursor: &mut Cursor<'_>, char: Glyph) -> Result<Glyph, Unread>
+    ensures { Gives (λ char. (char, cursor.new)) result (behind_char char cursor.old) }
+{
+    if char == Glyph::QUOTE {
+        cursor.text(b"'")?;
+        Ok(char)
+    } else {
+        Ok(char)
     }
 }

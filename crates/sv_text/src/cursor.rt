@@ -1,4 +1,4 @@
-ghost use Rattle.std.specs.Prelude.{◌≡◌, ◌≤◌, length};
+ghost use Rattle.std.specs.Prelude.{◌≡◌, ◌≤◌, IfOk, length};
 ghost use Rattle.sv_text.specs.Reading.{Gives, first_of, behind_first, literal_at, name_at, shared_length};
 ghost use Rattle.sv_text.specs.NumberReading.{number_at};
 
@@ -92,7 +92,10 @@ impl<'a> Cursor<'a> {
     /// Reads a number in decimal digits without a leading zero, from `low` to `high`. It goes on as long as some number
     /// in this range begins with its digits. No memory.
     pub fn number(&mut self, low: u64, high: u64) -> Result<u64, Unread>
-        ensures { Gives (λ number. (number, self.new)) result (number_at low high self.old) }
+        requires { low ≤ high }
+        ensures value { Gives (λ number. (number, self.new)) result (number_at low high self.old) }
+        ensures least { IfOk result (λ number. low ≤ number) }
+        ensures most { IfOk result (λ number. number ≤ high) }
     {
         let (number, rest) = number_in(low, high, self.rest)?;
         self.rest = rest;

@@ -28,6 +28,7 @@ pub fn value_of(alloc: Global, line: &Line) -> Result<Array, ValueRefused> {
 }
 
 /// Reads a value, which is an array or `none`. It takes memory for the array.
+#[tactic(auto, unfolding(crate::specs::ValueReading::value_at))]
 pub fn read_value(alloc: Global, cursor: &mut Cursor<'_>) -> Result<Option<Array>, Unread>
     ensures { Gives (λ value. (value, cursor.new)) result (value_at cursor.old) }
 {
@@ -41,6 +42,7 @@ pub fn read_value(alloc: Global, cursor: &mut Cursor<'_>) -> Result<Option<Array
 }
 
 /// Reads an array. It takes memory for it.
+#[tactic(auto, unfolding(crate::specs::ValueReading::array_at))]
 pub fn read_array(alloc: Global, cursor: &mut Cursor<'_>) -> Result<Array, Unread>
     ensures { Gives (λ array. (array, cursor.new)) result (array_at cursor.old) }
 {
@@ -52,6 +54,7 @@ pub fn read_array(alloc: Global, cursor: &mut Cursor<'_>) -> Result<Array, Unrea
 }
 
 // Reads an array of numbers.
+#[tactic(auto, unfolding(crate::specs::ValueReading::numbers_array_at))]
 fn read_number_array(alloc: Global, cursor: &mut Cursor<'_>) -> Result<Array, Unread>
     ensures { Gives (λ array. (array, cursor.new)) result (numbers_array_at cursor.old) }
 {
@@ -62,6 +65,7 @@ fn read_number_array(alloc: Global, cursor: &mut Cursor<'_>) -> Result<Array, Un
 }
 
 // Reads an array of characters.
+#[tactic(auto, unfolding(crate::specs::ValueReading::chars_array_at))]
 fn read_char_array(alloc: Global, cursor: &mut Cursor<'_>) -> Result<Array, Unread>
     ensures { Gives (λ array. (array, cursor.new)) result (chars_array_at cursor.old) }
 {

@@ -10,6 +10,7 @@ use std::alloc::Global;
 
 /// Reads axes, with one blank between each two, and the parenthesis that closes them. Where an axis may follow it may be
 /// 0, so the product is looked at where the shape is closed. It takes memory for the axes.
+#[tactic(auto, unfolding(crate::specs::ValueReading::shape_at))]
 pub(crate) fn read_shape(alloc: Global, cursor: &mut Cursor<'_>) -> Result<List<u32>, Unread>
     ensures value { Gives (λ shape. (shape.items, cursor.new)) result (shape_at cursor.old) }
     ensures fits { IfOk result (λ shape. FitsLimits shape.items) }
@@ -17,10 +18,11 @@ pub(crate) fn read_shape(alloc: Global, cursor: &mut Cursor<'_>) -> Result<List<
     let mut shape = List::new(alloc);
     if cursor.first() == Some(Glyph::RIGHT_PARENTHESIS) {
         cursor.skip();
+        Ok(shape)
     } else {
         add_axes(cursor, &mut shape, RANK_LIMIT, 1)?;
+        Ok(shape)
     }
-    Ok(shape)
 }
 
 // Reads the axes, at most so many and at least one, behind others of this product, up to where the shape is closed.
