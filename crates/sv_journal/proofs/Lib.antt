@@ -1,4 +1,12 @@
+pub mod ActForms
+pub mod AnswerForms
+pub mod EntryForms
+pub mod FitForms
 pub mod GlyphTexts
+pub mod Listed
 pub mod Numbered
+pub mod ReadLaws
 pub mod SameEntries
 pub mod SameOutput
+pub mod WhileForms
+pub mod WordForms

@@ -347,7 +347,7 @@ entry_of : ℕ → Act → PlainAnswer → List Pair → PlainEntry
 entry_of party act answer made = record { party = party; act = act; answer = answer; made = made }
 
 -- what stands after the party of an entry, with its blank
-pub after_party : PlainEntry → List ℕ
+unfoldable pub after_party : PlainEntry → List ℕ
 after_party e = act_text e.act ++ (32 ∷ 58 ∷ 32 ∷ (answer_text e.answer ++ flat_map pair_text e.made))
 
 pub entry_parts : (place : ℕ) (e : PlainEntry) → entry_text place e ≡ decimal place ++ (32 ∷ (decimal e.party ++ (32 ∷ after_party e)))

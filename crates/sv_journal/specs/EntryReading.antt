@@ -1,8 +1,8 @@
 -- Reading entries.
-use Rattle.std.specs.Prelude.{◌^◌, ◌+◌, ◌-◌, ◌∷◌, [], ℕ, Bool, true, false, List, Result, Ok, Err, codes, length}
+use Rattle.std.specs.Prelude.{◌^◌, ◌+◌, ◌-◌, ◌∷◌, [], ℕ, Bool, is_some, List, Result, Ok, Err, codes, length}
 use Rattle.sv_events.specs.Entry.{PlainEntry}
 use Rattle.sv_events.specs.declared.entry.Pair.{Pair}
-use Rattle.sv_text.specs.Reading.{Reader, Reading, ◌>>=◌, list_at, literal_at}
+use Rattle.sv_text.specs.Reading.{Reader, Reading, ◌>>=◌, first_of, list_at, literal_at}
 use Rattle.sv_text.specs.NumberReading.{number_at}
 use Rattle.sv_journal.specs.ActReading.{act_at, party_at}
 use Rattle.sv_journal.specs.ActWord.{word_of, answers_to}
@@ -19,8 +19,7 @@ pair_at line = do
 
 -- the line is not at its end
 abbrev pub is_left : List ℕ → Bool
-is_left [] = false
-is_left (first ∷ rest) = true
+is_left line = is_some (first_of line)
 
 -- pairs to the end of the line
 abbrev pub pairs_at : Reader (List Pair)

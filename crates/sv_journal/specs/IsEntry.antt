@@ -63,7 +63,7 @@ pub record IsEntry (place : ℕ) (entry : PlainEntry) : Type 0 where
   pub party : IsPartyNumber entry.party
   pub act : IsAct entry.act
   pub answer : IsAnswer entry.answer
-  pub fits : fits entry.act entry.answer ≡ true
+  pub answered : fits entry.act entry.answer ≡ true
   pub made : All IsPair entry.made
 
 -- a text that is an entry's

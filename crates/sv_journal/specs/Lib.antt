@@ -4,7 +4,9 @@ pub mod AnswerReading
 pub mod EntryReading
 pub mod EntryText
 pub mod HoldReading
+pub mod IsEntry
 pub mod Output
 pub mod Printable
+pub mod ReadsEntry
 pub mod WordReading
 pub mod WorkedOutput

@@ -1,6 +1,7 @@
 ghost use Rattle.std.specs.Prelude.{◌≡◌};
 ghost use Rattle.sv_events.specs.Answer.{plain_answer};
-ghost use Rattle.sv_text.specs.Reading.{Gives};
+ghost use Rattle.sv_text.specs.Reading.{Gives, step_at};
+ghost use Rattle.sv_journal.specs.ActReading.{local_at, party_at};
 ghost use Rattle.sv_journal.specs.AnswerReading.{answer_at, answer_behind, degree_at, kept_at, parties_at, names_at, told_at, goes_on};
 
 use crate::act_reading::{read_local, read_party};
@@ -110,12 +111,24 @@ fn read_parties(alloc: Global, cursor: &mut Cursor<'_>) -> Result<PartyList, Unr
     ensures { Gives (λ list. (list.items, cursor.new)) result (parties_at cursor.old) }
 {
     let mut parties = List::new(alloc);
-    for _ in 0..cursor.left() {
-        if goes_on(cursor) {
-            parties.push(read_party(cursor)?)?;
-        }
+    let most = cursor.left();
+    for _ in 0..most {
+        add_party(cursor, &mut parties)?;
     }
     Ok(parties)
+}
+
+// Reads a party more, where the list goes on.
+fn add_party(cursor: &mut Cursor<'_>, parties: &mut PartyList) -> Result<(), Unread>
+    ensures { Gives (λ _. (parties.new.items, cursor.new)) result (step_at goes_on party_at parties.old.items cursor.old) }
+{
+    if goes_on(cursor) {
+        let party = read_party(cursor)?;
+        parties.push(party)?;
+        Ok(())
+    } else {
+        Ok(())
+    }
 }
 
 // Reads names, each behind a blank, up to the pairs or the end.
@@ -123,12 +136,24 @@ fn read_names(alloc: Global, cursor: &mut Cursor<'_>) -> Result<NameList, Unread
     ensures { Gives (λ list. (list.items, cursor.new)) result (names_at cursor.old) }
 {
     let mut names = List::new(alloc);
-    for _ in 0..cursor.left() {
-        if goes_on(cursor) {
-            names.push(read_local(cursor)?)?;
-        }
+    let most = cursor.left();
+    for _ in 0..most {
+        add_name(cursor, &mut names)?;
     }
     Ok(names)
+}
+
+// Reads a name more, where the list goes on.
+fn add_name(cursor: &mut Cursor<'_>, names: &mut NameList) -> Result<(), Unread>
+    ensures { Gives (λ _. (names.new.items, cursor.new)) result (step_at goes_on local_at names.old.items cursor.old) }
+{
+    if goes_on(cursor) {
+        let name = read_local(cursor)?;
+        names.push(name)?;
+        Ok(())
+    } else {
+        Ok(())
+    }
 }
 
 // Whether a list goes on: a blank stands there, and no pair begins with it.

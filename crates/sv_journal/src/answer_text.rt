@@ -95,8 +95,7 @@ fn add_parties(line: &mut Line, list: &[u32]) -> Result<(), WantOfMemory>
 {
     add_text(line, "parties")?;
     for party in list {
-        add_blank(line)?;
-        add_count(line, u64::from(*party))?;
+        add_party(line, *party)?;
     }
     Ok(())
 }
@@ -108,10 +107,27 @@ fn add_names(line: &mut Line, list: &[Name]) -> Result<(), WantOfMemory>
 {
     add_text(line, "names")?;
     for name in list {
-        add_blank(line)?;
-        add_glyphs(line, name.glyphs())?;
+        add_name(line, name)?;
     }
     Ok(())
+}
+
+// Adds a party behind a blank.
+fn add_party(line: &mut Line, party: u32) -> Result<(), WantOfMemory>
+    ensures text { OnOk result (line.new.items ≡ line.old.items ++ (blank ∷ decimal party)) }
+    ensures printable { party < 2 ^ 64 }
+{
+    add_blank(line)?;
+    add_count(line, u64::from(party))
+}
+
+// Adds a name behind a blank.
+fn add_name(line: &mut Line, name: &Name) -> Result<(), WantOfMemory>
+    ensures text { OnOk result (line.new.items ≡ line.old.items ++ (blank ∷ name.now)) }
+    ensures printable { OnOk result (IsName name.now) }
+{
+    add_blank(line)?;
+    add_glyphs(line, name.glyphs())
 }
 
 // Adds the answer to a retraction.

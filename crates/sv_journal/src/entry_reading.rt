@@ -1,7 +1,9 @@
-ghost use Rattle.std.specs.Prelude.{◌≡◌, ◌<◌, ◌^◌, ◌++◌};
+ghost use Rattle.std.specs.Prelude.{◌≡◌, ◌-◌, All, length};
+ghost use Rattle.apl_arrays.specs.Glyph.{IsGlyph};
+ghost use Rattle.sv_journal.specs.ReadsEntry.{ReadsEntry};
 ghost use Rattle.sv_events.specs.Entry.{plain_entry};
-ghost use Rattle.sv_text.specs.Reading.{Gives};
-ghost use Rattle.sv_journal.specs.EntryReading.{entry_at, pair_at, pairs_at};
+ghost use Rattle.sv_text.specs.Reading.{Gives, step_at};
+ghost use Rattle.sv_journal.specs.EntryReading.{entry_at, is_left, pair_at, pairs_at};
 
 use crate::act_reading::{read_act, read_party};
 use crate::act_word::ActWord;
@@ -36,14 +38,22 @@ impl Error for EntryRefused {}
 
 /// The place and the entry whose text a line is. `BadEntry` where it is no entry's text, else `WantOfMemory`. It takes
 /// memory for the values and lists of the entry.
-pub fn read(alloc: Global, line: &Line) -> Result<(u64, Entry), EntryRefused> {
-    let glyphs = line.as_slice();
-    let mut cursor = Cursor::new(glyphs);
+pub fn read(alloc: Global, line: &Line) -> Result<(u64, Entry), EntryRefused>
+    ensures { All IsGlyph line.now.items → ReadsEntry result line.now.items }
+{
+    let mut cursor = Cursor::new(line.as_slice());
     match read_entry(alloc, &mut cursor) {
         Ok(found) => Ok(found),
-        Err(Unread::Left(left)) => Err(EntryRefused::BadEntry((glyphs.len() - left) as u64)),
+        Err(Unread::Left(left)) => Err(EntryRefused::BadEntry(read_part(line, left))),
         Err(Unread::WantOfMemory) => Err(EntryRefused::WantOfMemory),
     }
+}
+
+// How long the part of a line is in front of so many glyphs that are left.
+fn read_part(line: &Line, left: usize) -> u64
+    ensures { result ≡ length line.now.items - left }
+{
+    line.as_slice().len().saturating_sub(left) as u64
 }
 
 // Reads an entry to the end of the line.
@@ -72,12 +82,24 @@ fn read_pairs(alloc: Global, cursor: &mut Cursor<'_>) -> Result<PairList, Unread
     ensures { Gives (λ pairs. (pairs.items, cursor.new)) result (pairs_at cursor.old) }
 {
     let mut pairs = List::new(alloc);
-    for _ in 0..cursor.left() {
-        if cursor.left() > 0 {
-            pairs.push(read_pair(cursor)?)?;
-        }
+    let most = cursor.left();
+    for _ in 0..most {
+        add_pair(cursor, &mut pairs)?;
     }
     Ok(pairs)
+}
+
+// Reads a pair more, where the line is not at its end.
+fn add_pair(cursor: &mut Cursor<'_>, pairs: &mut PairList) -> Result<(), Unread>
+    ensures { Gives (λ _. (pairs.new.items, cursor.new)) result (step_at is_left pair_at pairs.old.items cursor.old) }
+{
+    if cursor.first().is_some() {
+        let pair = read_pair(cursor)?;
+        pairs.push(pair)?;
+        Ok(())
+    } else {
+        Ok(())
+    }
 }
 
 // Reads a pair, the lower place first.

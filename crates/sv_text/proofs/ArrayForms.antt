@@ -1,5 +1,6 @@
 -- Reading arrays and values.
 use Rattle.std.proofs.Common.{◌≡◌, ℕ, ℤ, pos, ◌+◌, ◌<◌, ◌≤◌, Bool, true, false, cond, eqb, List, [], ◌∷◌, ◌++◌, Option, Some, None, Ok, Err, map, codes, length, ◌⊎◌, inl, inr, refl, sym, ap, ◌∙◌, subst, append-nil, append_assoc, arith}
+use Rattle.std.specs.Option.{option_map_or}
 use Rattle.std.proofs.lemmas.Bool.Decides.{nat_tests}
 use Rattle.std.proofs.lemmas.List.Elements.{recursion_from_All, All-from_recursion}
 use Rattle.std.specs.Fmt.{decimal}
@@ -23,10 +24,10 @@ HasNumbers : PlainItems → Type 0
 HasNumbers (numbers list) = Unit {0}
 HasNumbers (chars list) = ⊥
 
-abbrev NumberArray : PlainArray → Type 0
+abbrev pub NumberArray : PlainArray → Type 0
 NumberArray a = IsValue a × HasNumbers a.items
 
-abbrev number_items : PlainArray → List ℤ
+abbrev pub number_items : PlainArray → List ℤ
 number_items a = numbers_in a.items
 
 array_of : List ℕ → PlainItems → PlainArray
@@ -56,7 +57,7 @@ numbers_again s a h = numbers_again_in s a.shape a.items h.0 h.1.1
 numbers_there : (s : List ℕ) → FitsLimits s → (list : List ℤ) → AreSoMany Fits64 (element_count s) list → (s ≡ s) × NumberArray (number_array s list)
 unfolding HasNumbers
 numbers_there s fits list h =
-    (refl, record { array = record { fits = fits; whole = sym h.many }; items = All-from_recursion Fits64 list h.each }, tt)
+    (refl, (record { array = record { fits = fits; whole = sym h.many }; items = All-from_recursion Fits64 list h.each }, tt))
 
 numbers_behind : (s : List ℕ) → FitsLimits s → IsReader (λ a. numbers_text (number_items a)) (λ a. (a.shape ≡ s) × NumberArray a) NoDigit SameFirst (λ line. as_read (number_array s) (numbers_at (element_count s) line))
 numbers_behind s fits =
@@ -99,10 +100,10 @@ HasChars : PlainItems → Type 0
 HasChars (numbers list) = ⊥
 HasChars (chars list) = Unit {0}
 
-abbrev CharArray : PlainArray → Type 0
+abbrev pub CharArray : PlainArray → Type 0
 CharArray a = IsValue a × HasChars a.items
 
-abbrev char_items : PlainArray → List ℕ
+abbrev pub char_items : PlainArray → List ℕ
 char_items a = chars_in a.items
 
 some_chars_in : (s shape : List ℕ) (items : PlainItems) → shape ≡ s → IsValue (array_of shape items) → HasChars items → AreSoMany IsGlyph (element_count s) (chars_in items)
@@ -129,7 +130,7 @@ chars_again s a h = chars_again_in s a.shape a.items h.0 h.1.1
 chars_there : (s : List ℕ) → FitsLimits s → (list : List ℕ) → AreSoMany IsGlyph (element_count s) list → (s ≡ s) × CharArray (char_array s list)
 unfolding HasChars
 chars_there s fits list h =
-    (refl, record { array = record { fits = fits; whole = sym h.many }; items = All-from_recursion IsGlyph list h.each }, tt)
+    (refl, (record { array = record { fits = fits; whole = sym h.many }; items = All-from_recursion IsGlyph list h.each }, tt))
 
 chars_behind : (s : List ℕ) → FitsLimits s → IsReader (λ a. chars_text (char_items a)) (λ a. (a.shape ≡ s) × CharArray a) Anything SameFirst (λ line. as_read (char_array s) (quoted_at (element_count s) line))
 chars_behind s fits =
@@ -184,13 +185,13 @@ number_or_other : (line : List ℕ) → first_of line ≡ Some 78 → (e : Plain
 number_or_other line first e behind h follow =
     elim (kind_cases e h) [
       | inl mine ↦ inl mine
-      | inr other ↦ inr (λ same. let wrong : Some 67 ≡ Some 78 = sym (char_first e behind other) ∙ (same ∙ first) in cc wrong)
+      | inr other ↦ inr (λ same. let wrong : Some 67 ≡ Some 78 = sym (char_first e behind other) ∙ (same ∙ first) in omega (arith, ap (λ o. option_map_or (λ n. n) o 0) wrong))
     ]
 
 char_or_other : (line : List ℕ) → first_of line ≡ Some 67 → (e : PlainArray) (behind : List ℕ) → IsValue e → NoDigit behind → CharArray e ⊎ (SameFirst (array_text e ++ behind) line → ⊥)
 char_or_other line first e behind h follow =
     elim (kind_cases e h) [
-      | inl other ↦ inr (λ same. let wrong : Some 78 ≡ Some 67 = sym (number_first e behind other) ∙ (same ∙ first) in cc wrong)
+      | inl other ↦ inr (λ same. let wrong : Some 78 ≡ Some 67 = sym (number_first e behind other) ∙ (same ∙ first) in omega (arith, ap (λ o. option_map_or (λ n. n) o 0) wrong))
       | inr mine ↦ inl mine
     ]
 
@@ -280,8 +281,8 @@ unfolding IsNone
 none_or_other line first None behind h follow = inl refl
 none_or_other line first (Some a) behind h follow =
     inr (λ same. elim (kind_cases a h) [
-      | inl one ↦ let wrong : Some 78 ≡ Some 110 = sym (number_first a behind one) ∙ (same ∙ first) in cc wrong
-      | inr other ↦ let wrong : Some 67 ≡ Some 110 = sym (char_first a behind other) ∙ (same ∙ first) in cc wrong
+      | inl one ↦ let wrong : Some 78 ≡ Some 110 = sym (number_first a behind one) ∙ (same ∙ first) in omega (arith, ap (λ o. option_map_or (λ n. n) o 0) wrong)
+      | inr other ↦ let wrong : Some 67 ≡ Some 110 = sym (char_first a behind other) ∙ (same ∙ first) in omega (arith, ap (λ o. option_map_or (λ n. n) o 0) wrong)
     ])
 
 none_text : (v : Option PlainArray) → IsNone v → codes "none" ++ [] ≡ value_text v

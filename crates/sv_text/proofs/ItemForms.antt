@@ -25,11 +25,11 @@ Fits64 number = FitsSigned w64 number
 
 -- numbers
 
-abbrev Negative : ℤ → Type 0
+abbrev pub Negative : ℤ → Type 0
 Negative (pos n) = ⊥
 Negative (negsuc n) = Fits64 (negsuc n)
 
-abbrev Positive : ℤ → Type 0
+abbrev pub Positive : ℤ → Type 0
 Positive (pos n) = Fits64 (pos n)
 Positive (negsuc n) = ⊥
 
@@ -141,7 +141,7 @@ reads_integer [] a = positive_read [] a (λ e. let none : ⊥ = cc in none)
 reads_integer (x ∷ rest) a = sign_read x rest a (eqb x overbar) refl
 
 -- a number behind a blank
-abbrev next_text : ℤ → List ℕ
+abbrev pub next_text : ℤ → List ℕ
 next_text number = 32 ∷ number_text number
 
 pub fits_nought : Fits64 (pos 0)
@@ -214,8 +214,8 @@ quote_or_other rest e behind h follow =
     elim (bool_cases (eqb e quote)) [
       | inl same ↦ inl (grind (arith, nat_tests, same))
       | inr other ↦ inr (λ first.
-          let equal : e ≡ quote = cc (char_first e behind, first) in
-          grind (arith, nat_tests, other, equal))
+        let equal : e ≡ quote = cc (char_first e behind, first) in
+        grind (arith, nat_tests, other, equal))
     ]
 
 quote_reads : IsReader (λ e. quote ∷ []) IsQuote Anything SameFirst (λ line. literal_at (codes "'") line >>= λ rest. Ok (quote, rest))
@@ -238,8 +238,8 @@ char_read x rest a false h = record {
   fits = a.0;
   whole = ap (λ t. t ++ rest) (sym (other_text x h));
   only = λ w behind z fit follow e agree.
-      let firsts : Some w ≡ Some x = sym (char_first w behind) ∙ (ap first_of e ∙ char_first x z) in
-      cc firsts;
+    let firsts : Some w ≡ Some x = sym (char_first w behind) ∙ (ap first_of e ∙ char_first x z) in
+    cc firsts;
 }
 
 pub reads_char : IsReader char_text IsGlyph Anything SameFirst char_at

@@ -8,4 +8,6 @@ pub mod NumberForms
 pub mod Readers
 pub mod SameValues
 pub mod ShapeForms
+pub mod Told
 pub mod ValueGlyphs
+pub mod ValueLaws

@@ -9,15 +9,15 @@ pub record AreSoMany {A : Type 0} (ok : A → Type 0) (count : ℕ) (list : List
   pub each : AllByRecursion ok list
   pub many : length list ≡ count
 
-pub head_or : {A : Type 0} → A → List A → A
+unfoldable pub head_or : {A : Type 0} → A → List A → A
 head_or x [] = x
 head_or x (y ∷ ys) = y
 
-pub rest_of : {A : Type 0} → List A → List A
+unfoldable pub rest_of : {A : Type 0} → List A → List A
 rest_of [] = []
 rest_of (y ∷ ys) = ys
 
-pub copies : {A : Type 0} → ℕ → A → List A
+unfoldable pub copies : {A : Type 0} → ℕ → A → List A
 copies zero x = []
 copies (suc n) x = x ∷ copies n x
 

@@ -1,5 +1,6 @@
 -- Reading a shape, up to the parenthesis that closes it.
-use Rattle.std.proofs.Common.{◌≡◌, ℕ, zero, suc, ◌+◌, ◌*◌, ◌/◌, ◌<◌, ◌≤◌, ◌^◌, min, Bool, true, false, ◌&&◌, cond, eqb, leb, ltb, List, [], ◌∷◌, ◌++◌, Some, Ok, Err, map, length, ◌⊎◌, inl, inr, refl, sym, ap, ◌∙◌, subst, append_assoc, arith}
+use Rattle.std.proofs.Common.{◌≡◌, ℕ, zero, suc, ◌+◌, ◌*◌, ◌/◌, ◌<◌, ◌≤◌, ◌^◌, min, Bool, true, false, ◌&&◌, cond, eqb, leb, ltb, List, [], ◌∷◌, ◌++◌, Some, Ok, Err, map, length, get_or, ◌⊎◌, inl, inr, refl, sym, ap, ◌∙◌, subst, append_assoc, arith}
+use Rattle.std.specs.Option.{option_map_or}
 use Rattle.std.proofs.Math.Nat.{le-div_iff_mul-le, div-le_self}
 use Rattle.std.proofs.lemmas.Bool.{false≢true, and_from, and_parts}
 use Rattle.std.proofs.lemmas.Bool.Decides.{nat_tests}
@@ -18,13 +19,14 @@ use Rattle.sv_text.specs.ValueReading.{capped, greatest_axis, goes_on_behind, mo
 use Rattle.sv_text.proofs.ListForms.{head_or, rest_of}
 use Rattle.sv_text.proofs.Lists.{begun}
 use Rattle.sv_text.proofs.NumberForms.{InRange, NoDigit, number_reads, reads_number}
+use Rattle.sv_text.proofs.Told.{tell, first_told, bind_ok}
 use Rattle.sv_text.proofs.Readers.{SameFirst, Anything, Found, Stopped, Reads, IsReader, AreGlyphs, reformed_reading, retexted, respelled, behind_glyph, then_read, made, widened, no_further}
 
 product_of : List ℕ → ℕ
 product_of [] = 1
 product_of (x ∷ xs) = x * product_of xs
 
-abbrev Small : ℕ → Type 0
+abbrev pub Small : ℕ → Type 0
 Small axis = axis ≤ 16384
 
 -- axes that may follow others of this product, at most so many
@@ -43,7 +45,7 @@ tail_text : List ℕ → List ℕ
 tail_text [] = 41 ∷ []
 tail_text (x ∷ xs) = 32 ∷ (decimal x ++ tail_text xs)
 
-abbrev axes_text : List ℕ → List ℕ
+abbrev pub axes_text : List ℕ → List ℕ
 axes_text axes = decimal (head_or 0 axes) ++ tail_text (rest_of axes)
 
 -- the product is looked at up to its limit alone
@@ -51,14 +53,14 @@ axes_text axes = decimal (head_or 0 axes) ++ tail_text (rest_of axes)
 capped_fits : (m k : ℕ) → m * k ≤ 16384 → capped m * k ≤ 16384
 capped_fits m zero h = omega (arith, h)
 capped_fits m (suc k) h =
-    let more : m ≤ m * suc k = grind arith in
+    let more : m ≤ m * suc k = omega arith in
     let same : capped m ≡ m = omega (arith, h, more) in
     subst (λ n. n * suc k ≤ 16384) (sym same) h
 
 uncapped_fits : (m k : ℕ) → capped m * k ≤ 16384 → m * k ≤ 16384
 uncapped_fits m zero h = omega arith
 uncapped_fits m (suc k) h =
-    let more : capped m ≤ capped m * suc k = grind arith in
+    let more : capped m ≤ capped m * suc k = omega arith in
     let same : capped m ≡ m = omega (arith, h, more) in
     subst (λ n. n * suc k ≤ 16384) same h
 
@@ -72,7 +74,7 @@ no_digit_behind (x ∷ xs) behind = refl
 only_closed : (w behind z : List ℕ) → tail_text w ++ behind ≡ 41 ∷ z → w ≡ []
 unfolding tail_text
 only_closed [] behind z e = refl
-only_closed (x ∷ xs) behind z e = absurd (let none : ⊥ = cc in none)
+only_closed (x ∷ xs) behind z e = absurd (omega (arith, ap (λ t. get_or t 0 0) e))
 
 tail_closed : (more product : ℕ) (rest : List ℕ) → product ≤ 16384 → Reads tail_text (TailFit more product) Anything SameFirst (41 ∷ rest) (Ok ([], rest))
 unfolding tail_text product_of
@@ -89,7 +91,7 @@ tail_spelled most product (x ∷ xs) h = refl
 
 tail_or_other : (more product : ℕ) (rest : List ℕ) (e behind : List ℕ) → TailFit more product e → Anything behind → AxesFit more product e ⊎ (SameFirst (tail_text e ++ behind) (32 ∷ rest) → ⊥)
 unfolding tail_text
-tail_or_other more product rest [] behind h follow = inr (λ same. let none : ⊥ = cc in none)
+tail_or_other more product rest [] behind h follow = inr (λ same. omega (arith, ap (λ o. option_map_or (λ n. n) o 0) same))
 tail_or_other more product rest (x ∷ xs) behind h follow = inl (record { some = omega arith; tail = h })
 
 tail_more : (more product : ℕ) (rest : List ℕ) (read : Reading (List ℕ)) → Reads axes_text (AxesFit more product) Anything SameFirst rest read → Reads tail_text (TailFit more product) Anything SameFirst (32 ∷ rest) read
@@ -98,7 +100,7 @@ tail_more more product rest read h =
     (retexted (λ e. 32 ∷ axes_text e) tail_text (AxesFit more product) Anything (32 ∷ rest) read (tail_spelled more product) (behind_glyph 32 axes_text (AxesFit more product) Anything SameFirst rest read h))
 
 -- one of the two may come
-abbrev MayGoOn : ℕ → ℕ → Type 0
+abbrev pub MayGoOn : ℕ → ℕ → Type 0
 MayGoOn more product = (product ≤ 16384) ⊎ (0 < more)
 
 a_tail : (more product : ℕ) → MayGoOn more product → (e : List ℕ) × TailFit more product e
@@ -164,8 +166,8 @@ last_axis product some = record {
   small = div-le_self 16384 product;
   above = above_last product some;
   room = λ x h.
-      let fits : x * product ≤ 16384 = (le-div_iff_mul-le {k = product} {x = x} {y = 16384} some).0 h in
-      inl (omega (arith, fits));
+    let fits : x * product ≤ 16384 = (le-div_iff_mul-le {k = product} {x = x} {y = 16384} some).0 h in
+    inl (omega (arith, fits));
 }
 
 any_axis : (more product : ℕ) → (0 < more) ⊎ (product ≡ 0) → Greatest more product 16384
@@ -173,9 +175,11 @@ any_axis more product free = record {
   small = omega arith;
   above = λ x xs h. h.tail.each.0;
   room = λ x h. elim free [
-    | inl some ↦ inr some
-    | inr none ↦ inl (omega (arith, none))
-  ];
+      | inl some ↦ inr some
+      | inr none ↦
+        let nought : product * x ≡ 0 = ap (λ n. n * x) none ∙ (let gone : 0 * x ≡ 0 = omega arith in gone) in
+        inl (omega (arith, nought))
+    ];
 }
 
 greatest_by : (more product : ℕ) (b : Bool) → (eqb (suc more) 1 && ltb 0 product) ≡ b → Greatest more product (cond b (16384 / product) 16384)
@@ -223,10 +227,10 @@ axes_behind : (more product x : ℕ) → x ≤ 16384 → MayGoOn more (capped (p
 unfolding rest_of
 axes_behind more product x small may axes inner =
     let tail : Reader (List ℕ) = λ line. goes_on_behind (leb (capped (product * x)) 16384) (ltb 1 (suc more)) line >>= λ follows. more_axes follows axes in
-    let with : IsReader (λ e. tail_text (rest_of e)) (λ e. (head_or 0 e ≡ x) × AxesFit (suc more) product e) Anything SameFirst (λ line. as_read (λ ys. x ∷ ys) (tail line)) =
+    let joined : IsReader (λ e. tail_text (rest_of e)) (λ e. (head_or 0 e ≡ x) × AxesFit (suc more) product e) Anything SameFirst (λ line. as_read (λ ys. x ∷ ys) (tail line)) =
     made tail_text (TailFit more (capped (product * x))) Anything SameFirst tail (λ ys. x ∷ ys) rest_of (λ e. (head_or 0 e ≡ x) × AxesFit (suc more) product e) (reads_tail more (capped (product * x)) may axes inner) (axes_rest more product x) (axes_again more product x) (axes_there more product x small) (λ ys h. refl) in
     respelled (λ e. tail_text (rest_of e)) (λ e. (head_or 0 e ≡ x) × AxesFit (suc more) product e) Anything SameFirst (λ line. as_read (λ ys. x ∷ ys) (tail line)) (λ line. goes_on_behind (leb (capped (product * x)) 16384) (ltb 1 (suc more)) line >>= λ follows. (more_axes follows axes >>= λ others. Ok (x ∷ others.0, others.1)))
-    (λ line. assoc_bind (goes_on_behind (leb (capped (product * x)) 16384) (ltb 1 (suc more)) line) (λ follows. more_axes follows axes) (λ others. Ok (x ∷ others.0, others.1))) with
+    (λ line. assoc_bind (goes_on_behind (leb (capped (product * x)) 16384) (ltb 1 (suc more)) line) (λ follows. more_axes follows axes) (λ others. Ok (x ∷ others.0, others.1))) joined
 
 axes_by : (more product greatest : ℕ) → Greatest more product greatest → ((x : ℕ) → 0 < more → IsReader axes_text (AxesFit more (capped (product * x))) Anything SameFirst (axes_at more (capped (product * x)))) → IsReader axes_text (AxesFit (suc more) product) Anything SameFirst (λ line. number_at 0 greatest line >>= λ axis. (goes_on_behind (leb (capped (product * axis.0)) 16384) (ltb 1 (suc more)) axis.1 >>= λ follows. (more_axes follows (axes_at more (capped (product * axis.0))) >>= λ others. Ok (axis.0 ∷ others.0, others.1))))
 axes_by more product greatest g inner =
@@ -278,22 +282,6 @@ axes_make_shape e h = record {
 }
 
 -- what is read as axes fits, of whatever the line is
-
-abbrev tell : {A : Type 0} → A → List ℕ → Reading A
-tell x rest = Ok (x, rest)
-
-pair : {A : Type 0} → A → List ℕ → A × List ℕ
-pair x rest = (x, rest)
-
-first_told : {A : Type 0} (x : A) (rest : List ℕ) (y : A) (left : List ℕ) → tell x rest ≡ tell y left → x ≡ y
-unfolding pair
-first_told x rest y left e =
-    let same : pair x rest ≡ pair y left = cc in
-    ap (λ p. p.0) same
-
-bind_ok : {A B : Type 0} (read : Reading A) (f : A × List ℕ → Reading B) (y : B × List ℕ) → (read >>= f) ≡ Ok y → (x : A × List ℕ) × (read ≡ Ok x) × (f x ≡ Ok y)
-bind_ok (Ok x) f y e = (x, refl, e)
-bind_ok (Err left) f y e = absurd (let none : ⊥ = cc in none)
 
 axis_fits : (greatest : ℕ) (line : List ℕ) (axis : ℕ × List ℕ) → greatest ≤ 16384 → number_at 0 greatest line ≡ Ok axis → axis.0 ≤ greatest
 axis_fits greatest line axis small e =

@@ -51,6 +51,11 @@ list_at goes_on item (suc most) line =
       read_behind (first.0 ∷ []) (list_at goes_on item most first.1))
     else Ok ([], line)
 
+-- one thing more, where the list goes on
+abbrev pub step_at : {A : Type 0} → (List ℕ → Bool) → Reader A → List A → Reader (List A)
+step_at goes_on item front line =
+    if goes_on line then (item line >>= λ found. Ok (front ++ found.0 ∷ [], found.1)) else Ok (front, line)
+
 -- the first glyph
 abbrev pub first_of : List ℕ → Option ℕ
 first_of [] = None

@@ -1,4 +1,6 @@
-ghost use Rattle.std.specs.Prelude.{◌≡◌, IfOk};
+ghost use Rattle.std.specs.Prelude.{◌≡◌, All, length};
+ghost use Rattle.apl_arrays.specs.Glyph.{IsGlyph};
+ghost use Rattle.sv_text.specs.ReadsValue.{ReadsValue};
 ghost use Rattle.sv_text.specs.Reading.{Gives};
 ghost use Rattle.sv_text.specs.ValueReading.{array_at, value_at, numbers_array_at, chars_array_at};
 
@@ -12,18 +14,26 @@ use std::alloc::Global;
 
 /// The array whose text a line is. `BadValue` where it is no array's text, else `WantOfMemory`. It takes memory for the
 /// array.
-pub fn value_of(alloc: Global, line: &Line) -> Result<Array, ValueRefused> {
+pub fn value_of(alloc: Global, line: &Line) -> Result<Array, ValueRefused>
+    ensures { All IsGlyph line.now.items → ReadsValue result line.now.items }
+{
     let mut cursor = Cursor::new(line.as_slice());
     match read_array(alloc, &mut cursor) {
         Err(Unread::WantOfMemory) => Err(ValueRefused::WantOfMemory),
         Err(Unread::Left(_)) => Err(ValueRefused::BadValue),
-        Ok(array) => {
-            if cursor.left() == 0 {
-                Ok(array)
-            } else {
-                Err(ValueRefused::BadValue)
-            }
-        }
+        Ok(array) => whole_value(&cursor, array),
+    }
+}
+
+// The array that was read, where nothing is left behind it.
+fn whole_value(cursor: &Cursor<'_>, array: Array) -> Result<Array, ValueRefused>
+    ensures whole { length cursor.now ≡ 0 → result ≡ Ok array }
+    ensures more { (length cursor.now ≡ 0 → ⊥) → result ≡ Err ValueRefused.BadValue }
+{
+    if cursor.left() == 0 {
+        Ok(array)
+    } else {
+        Err(ValueRefused::BadValue)
     }
 }
 
