@@ -91,48 +91,48 @@ same_set k l u v more other p q e =
     let rest : List ℕ = 32 ∷ 58 ∷ more in
     let left : List ℕ = 32 ∷ 58 ∷ other in
     let inner : (k ++ 32 ∷ array_text u) ++ rest ≡ (l ++ 32 ∷ array_text v) ++ left = cc in
-    let names = same_name k l (array_text u ++ rest) (array_text v ++ left) p.0 q.0 (sym (append_assoc k (32 ∷ array_text u) rest) ∙ (inner ∙ append_assoc l (32 ∷ array_text v) left)) in
-    let values = same_array u v rest left p.1 q.1 (ends_act more) (ends_act other) names.1 in
-    (cc (names.0, values.0), let after : more ≡ other = cc values.1 in after)
+    let called = same_name k l (array_text u ++ rest) (array_text v ++ left) p.0 q.0 (sym (append_assoc k (32 ∷ array_text u) rest) ∙ (inner ∙ append_assoc l (32 ∷ array_text v) left)) in
+    let values = same_array u v rest left p.1 q.1 (ends_act more) (ends_act other) called.1 in
+    (cc (called.0, values.0), let after : more ≡ other = cc values.1 in after)
 
 same_retract : (k l : List ℕ) (more other : List ℕ) → IsName k → IsName l → act_text (Retract k) ++ (32 ∷ 58 ∷ more) ≡ act_text (Retract l) ++ (32 ∷ 58 ∷ other) → (Retract k ≡ Retract l) × (more ≡ other)
 same_retract k l more other p q e =
     let inner : k ++ (32 ∷ 58 ∷ more) ≡ l ++ (32 ∷ 58 ∷ other) = cc in
-    let names = same_name k l (58 ∷ more) (58 ∷ other) p q inner in
-    (cc names.0, let after : more ≡ other = cc names.1 in after)
+    let called = same_name k l (58 ∷ more) (58 ∷ other) p q inner in
+    (cc called.0, let after : more ≡ other = cc called.1 in after)
 
 same_ask_control : (k l : List ℕ) (more other : List ℕ) → IsName k → IsName l → act_text (AskControl k) ++ (32 ∷ 58 ∷ more) ≡ act_text (AskControl l) ++ (32 ∷ 58 ∷ other) → (AskControl k ≡ AskControl l) × (more ≡ other)
 same_ask_control k l more other p q e =
     let inner : k ++ (32 ∷ 58 ∷ more) ≡ l ++ (32 ∷ 58 ∷ other) = cc in
-    let names = same_name k l (58 ∷ more) (58 ∷ other) p q inner in
-    (cc names.0, let after : more ≡ other = cc names.1 in after)
+    let called = same_name k l (58 ∷ more) (58 ∷ other) p q inner in
+    (cc called.0, let after : more ≡ other = cc called.1 in after)
 
 same_ask_state : (k l : List ℕ) (more other : List ℕ) → IsName k → IsName l → act_text (AskState k) ++ (32 ∷ 58 ∷ more) ≡ act_text (AskState l) ++ (32 ∷ 58 ∷ other) → (AskState k ≡ AskState l) × (more ≡ other)
 same_ask_state k l more other p q e =
     let inner : k ++ (32 ∷ 58 ∷ more) ≡ l ++ (32 ∷ 58 ∷ other) = cc in
-    let names = same_name k l (58 ∷ more) (58 ∷ other) p q inner in
-    (cc names.0, let after : more ≡ other = cc names.1 in after)
+    let called = same_name k l (58 ∷ more) (58 ∷ other) p q inner in
+    (cc called.0, let after : more ≡ other = cc called.1 in after)
 
 same_ask_degree : (k l : List ℕ) (more other : List ℕ) → IsName k → IsName l → act_text (AskDegree k) ++ (32 ∷ 58 ∷ more) ≡ act_text (AskDegree l) ++ (32 ∷ 58 ∷ other) → (AskDegree k ≡ AskDegree l) × (more ≡ other)
 same_ask_degree k l more other p q e =
     let inner : k ++ (32 ∷ 58 ∷ more) ≡ l ++ (32 ∷ 58 ∷ other) = cc in
-    let names = same_name k l (58 ∷ more) (58 ∷ other) p q inner in
-    (cc names.0, let after : more ≡ other = cc names.1 in after)
+    let called = same_name k l (58 ∷ more) (58 ∷ other) p q inner in
+    (cc called.0, let after : more ≡ other = cc called.1 in after)
 
 same_use : (k l : List ℕ) (more other : List ℕ) → IsName k → IsName l → act_text (Use k) ++ (32 ∷ 58 ∷ more) ≡ act_text (Use l) ++ (32 ∷ 58 ∷ other) → (Use k ≡ Use l) × (more ≡ other)
 same_use k l more other p q e =
     let inner : k ++ (32 ∷ 58 ∷ more) ≡ l ++ (32 ∷ 58 ∷ other) = cc in
-    let names = same_name k l (58 ∷ more) (58 ∷ other) p q inner in
-    (cc names.0, let after : more ≡ other = cc names.1 in after)
+    let called = same_name k l (58 ∷ more) (58 ∷ other) p q inner in
+    (cc called.0, let after : more ≡ other = cc called.1 in after)
 
 same_set_control : (k l : List ℕ) (c d : Control) (more other : List ℕ) → IsName k → IsName l → act_text (SetControl k c) ++ (32 ∷ 58 ∷ more) ≡ act_text (SetControl l d) ++ (32 ∷ 58 ∷ other) → (SetControl k c ≡ SetControl l d) × (more ≡ other)
 same_set_control k l c d more other p q e =
     let rest : List ℕ = 32 ∷ 58 ∷ more in
     let left : List ℕ = 32 ∷ 58 ∷ other in
     let inner : (k ++ 32 ∷ control_text c) ++ rest ≡ (l ++ 32 ∷ control_text d) ++ left = cc in
-    let names = same_name k l (control_text c ++ rest) (control_text d ++ left) p q (sym (append_assoc k (32 ∷ control_text c) rest) ∙ (inner ∙ append_assoc l (32 ∷ control_text d) left)) in
-    let controls = same_control c d rest left refl refl names.1 in
-    (cc (names.0, controls.0), let after : more ≡ other = cc controls.1 in after)
+    let called = same_name k l (control_text c ++ rest) (control_text d ++ left) p q (sym (append_assoc k (32 ∷ control_text c) rest) ∙ (inner ∙ append_assoc l (32 ∷ control_text d) left)) in
+    let controls = same_control c d rest left refl refl called.1 in
+    (cc (called.0, controls.0), let after : more ≡ other = cc controls.1 in after)
 
 same_ask_names : (m n : ℕ) (more other : List ℕ) → m < 2 ^ 64 → n < 2 ^ 64 → act_text (AskNames m) ++ (32 ∷ 58 ∷ more) ≡ act_text (AskNames n) ++ (32 ∷ 58 ∷ other) → (AskNames m ≡ AskNames n) × (more ≡ other)
 same_ask_names m n more other p q e =

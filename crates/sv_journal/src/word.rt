@@ -1,6 +1,6 @@
-ghost use Rattle.std.specs.Prelude.{◌≡◌, ℕ, List, length};
+ghost use Rattle.std.specs.Prelude.{◌≡◌, ◌≤◌, ℕ, List, length};
 ghost use Rattle.sv_text.specs.Reading.{Gives};
-ghost use Rattle.sv_journal.specs.WordReading.{word_at, shared_length};
+ghost use Rattle.sv_journal.specs.WordReading.{word_at};
 
 use apl_arrays::Glyph;
 use sv_text::{Cursor, Unread};
@@ -18,15 +18,29 @@ pub(crate) trait Word: Copy {
 pub(crate) fn read_word<W: Word>(cursor: &mut Cursor<'_>, words: &[W]) -> Result<W, Unread>
     ensures { Gives (λ word. (word, cursor.new)) result (word_at W.text 0 words.now cursor.old) }
 {
-    let mut shared = 0;
-    for word in words {
-        let text = word.text();
-        let length = cursor.shared(text);
-        if length == text.len() {
-            cursor.text(text)?;
-            return Ok(*word);
+    read_one_of(cursor, words, 0)
+}
+
+// Reads the word of one of these, where so many glyphs stand there that another word begins with.
+fn read_one_of<W: Word>(
+    cursor: &mut Cursor<'_>,
+    words: &[W],
+    shared: usize,
+) -> Result<W, Unread>
+    requires { shared ≤ length cursor.old }
+    ensures { Gives (λ word. (word, cursor.new)) result (word_at W.text shared words.now cursor.old) }
+{
+    match words {
+        [] => Err(Unread::Left(cursor.left() - shared)),
+        [word, others @ ..] => {
+            let text = word.text();
+            let length = cursor.shared(text);
+            if length == text.len() {
+                cursor.text(text)?;
+                Ok(*word)
+            } else {
+                read_one_of(cursor, others, shared.max(length))
+            }
         }
-        shared = shared.max(length);
     }
-    Err(Unread::Left(cursor.left() - shared))
 }

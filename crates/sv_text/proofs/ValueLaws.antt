@@ -1,9 +1,12 @@
 -- What is read of a line is the array whose text it is.
-use Rattle.std.proofs.Common.{◌≡◌, ℕ, ◌+◌, ◌<◌, ◌≤◌, List, [], ◌∷◌, ◌++◌, Ok, Err, length, refl, sym, ap, ◌∙◌, subst, append-nil, arith, length-append}
+use Rattle.std.proofs.Common.{◌≡◌, ℕ, ◌+◌, ◌<◌, ◌≤◌, List, [], ◌∷◌, ◌++◌, Result, Ok, Err, length, refl, sym, ap, ◌∙◌, subst, append-nil, arith, length-append}
 use Rattle.std.proofs.lemmas.List.Elements.{recursion_from_All}
 use Rattle.std.specs.List.{All}
 use Rattle.apl_arrays.specs.Array.{PlainArray}
 use Rattle.apl_arrays.specs.Glyph.{IsGlyph}
+use Rattle.sv_text.specs.declared.unread.ValueRefused.{ValueRefused}
+use Rattle.sv_text.specs.declared.unread.ValueRefused.TheVariants.{BadValue}
+use Rattle.sv_text.specs.ReadsValue.{ReadsValue}
 use Rattle.sv_text.specs.Value.{IsValue}
 use Rattle.sv_text.specs.ValueReading.{array_at}
 use Rattle.sv_text.specs.ValueText.{array_text}
@@ -37,3 +40,11 @@ pub stopped_is_no_value : (line : List ℕ) → All IsGlyph line → (left : ℕ
 stopped_is_no_value line glyphs left e b fits text =
     let h = subst (Reads array_text IsValue NoDigit SameFirst line) e (reads_array line (recursion_from_All IsGlyph line glyphs)) in
     h.none b [] h.rest fits refl (append-nil (array_text b) ∙ (sym text ∙ h.whole)) refl
+
+-- so what a call says of the rest is right
+pub whole_is_read : (line : List ℕ) → All IsGlyph line → (a : PlainArray) (rest : List ℕ) → array_at line ≡ Ok (a, rest) → (result : Result PlainArray ValueRefused) → (length rest ≡ 0 → result ≡ Ok a) → ((length rest ≡ 0 → ⊥) → result ≡ Err BadValue) → ReadsValue result line
+whole_is_read line glyphs a [] e result whole more =
+    subst (λ r. ReadsValue r line) (sym (whole refl)) (value_is_read line glyphs a [] e refl)
+whole_is_read line glyphs a (x ∷ xs) e result whole more =
+    let some : length (x ∷ xs) ≡ 0 → ⊥ = λ n. omega (arith, n) in
+    subst (λ r. ReadsValue r line) (sym (more some)) (more_is_no_value line glyphs a (x ∷ xs) e some)
