@@ -1,72 +1,31 @@
 -- Reading acts.
-use Rattle.std.proofs.Common.{◌≡◌, ℕ, zero, suc, ◌+◌, ◌-◌, ◌*◌, ◌<◌, ◌≤◌, ◌^◌, Bool, true, false, eqb, cond, List, [], ◌∷◌, ◌++◌, Option, Some, None, Ok, Err, codes, map, length, get_or, ◌⊎◌, inl, inr, refl, sym, ap, ◌∙◌, subst, append-nil, append_assoc, arith}
-use Rattle.std.proofs.lemmas.Bool.Decides.{nat_tests}
-use Rattle.std.proofs.lemmas.Fmt.{decimal_digit}
+use Rattle.std.proofs.Common.{◌≡◌, ℕ, ◌+◌, ◌-◌, true, eqb, List, [], ◌∷◌, ◌++◌, Option, None, Ok, codes, get_or, inl, inr, refl, sym, ap, ◌∙◌, subst, arith}
 use Rattle.std.specs.Prelude.{if◌then◌else◌}
-use Rattle.std.specs.Fmt.{decimal}
 use Rattle.apl_arrays.specs.Array.{PlainArray}
-use Rattle.apl_arrays.specs.Name.{IsName, goes_on}
-use Rattle.apl_arrays.specs.Run.{begins}
+use Rattle.apl_arrays.specs.Name.{IsName}
 use Rattle.sv_access.specs.declared.control.Control.{Control}
 use Rattle.sv_access.specs.Control.{four_elements}
 use Rattle.sv_events.specs.declared.event.Act.{Act}
 use Rattle.sv_events.specs.declared.event.Act.TheVariants as act
-use Rattle.sv_text.specs.Reading.{Reader, Reading, ◌>>=◌, as_read, literal_at, name_at}
-use Rattle.sv_text.specs.NumberReading.{number_at}
+use Rattle.sv_text.specs.Reading.{Reader, ◌>>=◌, as_read, literal_at}
 use Rattle.sv_text.specs.Value.{IsValue, IsValueOrNone}
 use Rattle.sv_text.specs.ValueReading.{array_at, value_at}
 use Rattle.sv_text.specs.ValueText.{array_text, value_text}
 use Rattle.sv_text.proofs.ArrayForms.{reads_array, reads_value, a_value}
-use Rattle.sv_text.proofs.NameForms.{NoName, itself, reads_name}
-use Rattle.sv_text.proofs.NumberForms.{InRange, NoDigit, reads_number}
-use Rattle.sv_text.proofs.Readers.{SameFirst, Anything, Reads, IsReader, reformed, after_text, then_read, made, made_of, nothing_more, no_further}
+use Rattle.sv_text.proofs.NameForms.{NoName}
+use Rattle.sv_text.proofs.NumberForms.{NoDigit}
+use Rattle.sv_text.proofs.Readers.{SameFirst, Anything, IsReader, reformed, after_text, then_read, made, made_of, nothing_more, no_further}
 use Rattle.sv_journal.specs.declared.act_word.ActWord.{ActWord}
 use Rattle.sv_journal.specs.declared.act_word.ActWord.TheVariants.{Offer, Retract, SetControl, AskControl, AskState, AskDegree, AskParties, AskNames, Set, Use, Leave}
 use Rattle.sv_journal.specs.ActReading.{local_at, party_at, OfferParts, make_offer, offer_parts_at, set_control_parts_at, set_parts_at, act_behind, act_at}
 use Rattle.sv_journal.specs.ActWord.{act_words, act_word, word_of}
-use Rattle.sv_journal.specs.EntryText.{bit_text, control_text, act_text}
-use Rattle.sv_journal.specs.HoldReading.{Bits, control_of, bit_at, bits_at, control_at}
+use Rattle.sv_journal.specs.EntryText.{act_text}
+use Rattle.sv_journal.specs.HoldReading.{control_at}
 use Rattle.sv_journal.specs.IsEntry.{IsPartyNumber, IsControl, IsAct}
 use Rattle.sv_journal.specs.WordReading.{word_at}
 use Rattle.sv_journal.proofs.WordForms.{Member, AreApart, reads_word}
-
--- what stands behind a field does not go on with a digit, nor as a name does
-pub record Ends (behind : List ℕ) : Type 0 where
-  pub digits : NoDigit behind
-  pub names : NoName behind
-
-ends_blank : (behind : List ℕ) → Ends (32 ∷ behind)
-ends_blank behind = record { digits = refl; names = refl }
-
--- parties and names behind a blank
-
-abbrev pub party_text : ℕ → List ℕ
-party_text party = 32 ∷ decimal party
-
-abbrev pub local_text : List ℕ → List ℕ
-local_text local = 32 ∷ local
-
-in_range : (n : ℕ) → IsPartyNumber n → InRange 0 (2 ^ 32 - 1) n
-in_range n h = record { least = omega arith; most = omega (arith, h) }
-
-is_party : (n : ℕ) → InRange 0 (2 ^ 32 - 1) n → IsPartyNumber n
-is_party n h = omega (arith, h.most)
-
--- a number of a range, which a predicate says too
-as_party : IsReader decimal IsPartyNumber NoDigit SameFirst (number_at 0 (2 ^ 32 - 1))
-as_party =
-    reformed decimal decimal (InRange 0 (2 ^ 32 - 1)) IsPartyNumber NoDigit NoDigit SameFirst (number_at 0 (2 ^ 32 - 1)) in_range is_party (λ e h. refl) (λ behind h. h) (reads_number 0 (2 ^ 32 - 1) (omega arith) (omega arith))
-
-pub reads_party : IsReader party_text IsPartyNumber NoDigit SameFirst party_at
-unfolding party_at
-reads_party = after_text (codes " ") decimal IsPartyNumber NoDigit SameFirst (number_at 0 (2 ^ 32 - 1)) 0 (omega arith) as_party
-
-pub a_name : IsName (65 ∷ [])
-a_name = refl
-
-pub reads_local : IsReader local_text IsName NoName SameFirst local_at
-unfolding local_at
-reads_local = after_text (codes " ") itself IsName NoName SameFirst name_at (65 ∷ []) a_name reads_name
+use Rattle.sv_journal.proofs.FieldForms.{Ends, party_text, local_text, reads_party, a_name, reads_local}
+use Rattle.sv_journal.proofs.ControlForms.{control_behind_text, reads_control, some_control, some_control_is}
 
 -- offers
 
@@ -169,139 +128,6 @@ reads_offer_parts : IsReader offer_parts_text OfferOk NoDigit SameFirst offer_pa
 unfolding offer_parts_at local_and_more_at surrogate_at handed_at parts_of AtParty
 reads_offer_parts =
     then_read party_text IsPartyNumber NoDigit (λ p. p.0) local_part OfferOk NoDigit SameFirst party_at local_and_more_at no_further reads_party reads_local_part party_fits (λ e behind h follow. refl) some_party
-
--- controls
-
-abbrev pub AnyBit : Bool → Type 0
-AnyBit bit = Unit {0}
-
-bit_number : Bool → ℕ
-bit_number true = 1
-bit_number false = 0
-
-bit_behind_text : Bool → List ℕ
-bit_behind_text bit = 32 ∷ bit_text bit
-
-bit_small : (b : Bool) → AnyBit b → InRange 0 1 (bit_number b)
-unfolding bit_number
-bit_small true h = record { least = omega arith; most = omega arith }
-bit_small false h = record { least = omega arith; most = omega arith }
-
-bit_again : (b : Bool) → AnyBit b → eqb (bit_number b) 1 ≡ b
-unfolding bit_number
-bit_again true h = refl
-bit_again false h = refl
-
-bit_back : (n : ℕ) → InRange 0 1 n → bit_number (eqb n 1) ≡ n
-unfolding bit_number
-bit_back zero h = refl
-bit_back (suc zero) h = refl
-bit_back (suc (suc n)) h = absurd (omega (arith, h.most))
-
-bit_spelled : (b : Bool) → AnyBit b → codes " " ++ decimal (bit_number b) ≡ bit_behind_text b
-unfolding bit_number bit_behind_text
-bit_spelled true h = ap (λ t. 32 ∷ t) (decimal_digit 1 (omega arith))
-bit_spelled false h = ap (λ t. 32 ∷ t) (decimal_digit 0 (omega arith))
-
-reads_bit : IsReader bit_behind_text AnyBit NoDigit SameFirst bit_at
-unfolding bit_at
-reads_bit line a =
-    reformed (λ b. codes " " ++ decimal (bit_number b)) bit_behind_text AnyBit AnyBit NoDigit NoDigit SameFirst (λ line. literal_at (codes " ") line >>= λ rest. as_read (λ n. eqb n 1) (number_at 0 1 rest)) (λ e h. h) (λ e h. h) bit_spelled (λ behind h. h)
-    (after_text (codes " ") (λ b. decimal (bit_number b)) AnyBit NoDigit SameFirst (λ rest. as_read (λ n. eqb n 1) (number_at 0 1 rest)) true tt
-    (made decimal (InRange 0 1) NoDigit SameFirst (number_at 0 1) (λ n. eqb n 1) bit_number AnyBit (reads_number 0 1 (omega arith) (omega arith)) bit_small bit_again (λ n h. tt) bit_back)) line a
-
-bits_of : Bool → Bool → Bool → Bool → Bits
-bits_of first second third fourth = (first, second, third, fourth)
-
-abbrev pub AnyBits : Bits → Type 0
-AnyBits bits = Unit {0}
-
-abbrev pub bits_text : Bits → List ℕ
-bits_text bits = bit_behind_text bits.0 ++ (bit_behind_text bits.1 ++ (bit_behind_text bits.2 ++ bit_behind_text bits.3))
-
-fourth_at : Bool → Bool → Bool → Reader Bits
-fourth_at first second third line = as_read (bits_of first second third) (bit_at line)
-
-bits_again : (first second third : Bool) (b : Bits) → (b.2 ≡ third) × ((b.1 ≡ second) × ((b.0 ≡ first) × AnyBits b)) → bits_of first second third b.3 ≡ b
-unfolding bits_of
-bits_again first second third b h =
-    ap (λ x. bits_of x second third b.3) (sym h.1.1.0) ∙ (ap (λ x. bits_of b.0 x third b.3) (sym h.1.0) ∙ ap (λ x. bits_of b.0 b.1 x b.3) (sym h.0))
-
-no_digit_bit : (bit : Bool) (rest : List ℕ) → NoDigit (bit_behind_text bit ++ rest)
-unfolding bit_behind_text
-no_digit_bit bit rest = refl
-
-reads_fourth : (first second third : Bool) → IsReader (λ b. bit_behind_text b.3) (λ b. (b.2 ≡ third) × ((b.1 ≡ second) × ((b.0 ≡ first) × AnyBits b))) NoDigit SameFirst (fourth_at first second third)
-unfolding fourth_at bits_of
-reads_fourth first second third =
-    made bit_behind_text AnyBit NoDigit SameFirst bit_at (bits_of first second third) (λ b. b.3) (λ b. (b.2 ≡ third) × ((b.1 ≡ second) × ((b.0 ≡ first) × AnyBits b))) reads_bit (λ e h. tt) (bits_again first second third) (λ v h. (refl, (refl, (refl, tt)))) (λ v h. refl)
-
-third_at : Bool → Bool → Reader Bits
-third_at first second line = bit_at line >>= λ found. fourth_at first second found.0 found.1
-
-reads_third : (first second : Bool) → IsReader (λ b. bit_behind_text b.2 ++ bit_behind_text b.3) (λ b. (b.1 ≡ second) × ((b.0 ≡ first) × AnyBits b)) NoDigit SameFirst (third_at first second)
-unfolding third_at
-reads_third first second =
-    then_read bit_behind_text AnyBit NoDigit (λ b. b.2) (λ b. bit_behind_text b.3) (λ b. (b.1 ≡ second) × ((b.0 ≡ first) × AnyBits b)) NoDigit SameFirst bit_at (fourth_at first second) no_further reads_bit (λ x h. reads_fourth first second x) (λ e h. tt) (λ e behind h follow. no_digit_bit e.3 behind) (λ x h. ((first, second, x, true), refl, (refl, (refl, tt))))
-
-second_at : Bool → Reader Bits
-second_at first line = bit_at line >>= λ found. third_at first found.0 found.1
-
-no_digit_two : (one two : Bool) (rest : List ℕ) → NoDigit ((bit_behind_text one ++ bit_behind_text two) ++ rest)
-unfolding bit_behind_text
-no_digit_two one two rest = refl
-
-no_digit_three : (one two three : Bool) (rest : List ℕ) → NoDigit ((bit_behind_text one ++ (bit_behind_text two ++ bit_behind_text three)) ++ rest)
-unfolding bit_behind_text
-no_digit_three one two three rest = refl
-
-reads_second : (first : Bool) → IsReader (λ b. bit_behind_text b.1 ++ (bit_behind_text b.2 ++ bit_behind_text b.3)) (λ b. (b.0 ≡ first) × AnyBits b) NoDigit SameFirst (second_at first)
-unfolding second_at
-reads_second first =
-    then_read bit_behind_text AnyBit NoDigit (λ b. b.1) (λ b. bit_behind_text b.2 ++ bit_behind_text b.3) (λ b. (b.0 ≡ first) × AnyBits b) NoDigit SameFirst bit_at (third_at first) no_further reads_bit (λ x h. reads_third first x) (λ e h. tt) (λ e behind h follow. no_digit_two e.2 e.3 behind) (λ x h. ((first, x, true, true), refl, (refl, tt)))
-
-reads_bits : IsReader bits_text AnyBits NoDigit SameFirst bits_at
-unfolding bits_at second_at third_at fourth_at bits_of
-reads_bits =
-    then_read bit_behind_text AnyBit NoDigit (λ b. b.0) (λ b. bit_behind_text b.1 ++ (bit_behind_text b.2 ++ bit_behind_text b.3)) AnyBits NoDigit SameFirst bit_at second_at no_further reads_bit (λ x h. reads_second x) (λ e h. tt) (λ e behind h follow. no_digit_three e.1 e.2 e.3 behind) (λ x h. ((x, true, true, true), refl, tt))
-
-abbrev pub control_behind_text : Control → List ℕ
-control_behind_text control = 32 ∷ control_text control
-
-bits_spelled : (bits : Bits) → AnyBits bits → bits_text bits ≡ control_behind_text (control_of bits)
-unfolding bit_behind_text
-bits_spelled bits h = refl
-
-control_in : List Bool → Control
-control_in list = record { 0 = list }
-
-bits_in : (list : List Bool) → length list ≡ 4 → (bits : Bits) × (control_in list ≡ control_of bits) × AnyBits bits
-unfolding control_in
-bits_in [] h = absurd (omega (arith, h))
-bits_in (a ∷ []) h = absurd (omega (arith, h))
-bits_in (a ∷ b ∷ []) h = absurd (omega (arith, h))
-bits_in (a ∷ b ∷ c ∷ []) h = absurd (omega (arith, h))
-bits_in (a ∷ b ∷ c ∷ d ∷ []) h = ((a, b, c, d), refl, tt)
-bits_in (a ∷ b ∷ c ∷ d ∷ e ∷ list) h = absurd (omega (arith, h))
-
-bits_of_control : (c : Control) → IsControl c → (bits : Bits) × (c ≡ control_of bits) × AnyBits bits
-unfolding control_in
-bits_of_control c h = bits_in c.0 h
-
-is_control : (c : Control) → (bits : Bits) × (c ≡ control_of bits) × AnyBits bits → IsControl c
-is_control c h = ap (λ k. length k.0) h.1
-
-pub reads_control : IsReader control_behind_text IsControl NoDigit SameFirst control_at
-reads_control =
-    reformed control_behind_text control_behind_text (λ c. (bits : Bits) × (c ≡ control_of bits) × AnyBits bits) IsControl NoDigit NoDigit SameFirst control_at bits_of_control is_control (λ e h. refl) (λ behind h. h)
-    (made_of bits_text AnyBits NoDigit SameFirst bits_at control_of control_behind_text bits_spelled reads_bits)
-
-some_control : Control
-some_control = four_elements true true true true
-
-some_control_is : IsControl some_control
-unfolding some_control
-some_control_is = refl
 
 -- a name and a control
 

@@ -10,7 +10,8 @@ use Rattle.sv_text.proofs.Readers.{SameFirst, Found, Stopped, Reads, AreGlyphs, 
 use Rattle.sv_journal.specs.EntryReading.{entry_at}
 use Rattle.sv_journal.specs.EntryText.{entry_text}
 use Rattle.sv_journal.specs.IsEntry.{IsEntry, IsEntryText, BeginsEntry, DepartsAt}
-use Rattle.sv_journal.proofs.EntryForms.{Placed, Nothing, EntryOk, reads_entry, entry_ends}
+use Rattle.sv_journal.proofs.EntryForms.{Placed, EntryOk, reads_entry, entry_ends}
+use Rattle.sv_journal.proofs.PairForms.{Nothing}
 use Rattle.sv_journal.proofs.FitForms.{entry_is_ok, ok_is_entry}
 
 abbrev pub placed : Placed → List ℕ
