@@ -2,7 +2,6 @@ ghost use Rattle.std.specs.Prelude.{◌≡◌, ◌≤◌, ℕ, List, length};
 ghost use Rattle.sv_text.specs.Reading.{Gives};
 ghost use Rattle.sv_journal.specs.WordReading.{word_at};
 
-use apl_arrays::Glyph;
 use sv_text::{Cursor, Unread};
 
 /// What has a word of its own in the texts of entries.
