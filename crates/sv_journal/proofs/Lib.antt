@@ -1,5 +1,16 @@
+pub mod ActForms
+pub mod AnswerForms
+pub mod ControlForms
+pub mod EntryForms
+pub mod FieldForms
+pub mod FitForms
 pub mod GlyphTexts
+pub mod Listed
+pub mod ListedForms
 pub mod Numbered
+pub mod PairForms
+pub mod ReadLaws
 pub mod SameEntries
 pub mod SameOutput
-pub mod SameValues
+pub mod WhileForms
+pub mod WordForms
