@@ -3,7 +3,7 @@ use Rattle.std.proofs.Common.{◌≡◌, refl, sym, ap, ◌∙◌, ℕ, Bool, tr
 use Rattle.std.specs.Prelude.{option_map}
 use Rattle.std.specs.Option.{option_map_or}
 use Rattle.apl_arrays.specs.Array.{PlainArray}
-use Rattle.sv_access.specs.Control.{has_element, joined}
+use Rattle.sv_access.specs.Control.{combined, has_element}
 use Rattle.sv_access.specs.Story.{Story, is_early, refused_element, state_of_story, verdict_of_story}
 use Rattle.sv_access.specs.Table.{element_of, owners_of, verdict_of}
 use Rattle.sv_access.specs.declared.access.Kind.{Kind}
@@ -28,18 +28,18 @@ hold_of_element own None = refl
 hold_of_element own (Some element) = refl
 
 hold_by_verdict : (a b : Control) (state : State) (side : Side) (kind : Kind) (told : Story PlainArray) → state_of_story told ≡ state →
-    hold_in (owners_of a b side) (verdict_of (joined a b) state side kind) ≡ hold_under (record { story = told; a = a; b = b; side = side }) kind
+    hold_in (owners_of a b side) (verdict_of (combined a b) state side kind) ≡ hold_under (record { story = told; a = a; b = b; side = side }) kind
 hold_by_verdict a b state side kind told is =
-    ap (λ (s : State). hold_in (owners_of a b side) (verdict_of (joined a b) s side kind)) (sym is)
-    ∙ ap (hold_in (owners_of a b side)) (verdict_by_state (joined a b) told side kind)
-    ∙ hold_of_element (owners_of a b side) (refused_element (joined a b) told side kind)
+    ap (λ (s : State). hold_in (owners_of a b side) (verdict_of (combined a b) s side kind)) (sym is)
+    ∙ ap (hold_in (owners_of a b side)) (verdict_by_state (combined a b) told side kind)
+    ∙ hold_of_element (owners_of a b side) (refused_element (combined a b) told side kind)
 
 -- where the verdict grants nothing refuses, and where it holds its element does
-pub hold_where_granted : (a b : Control) (state : State) (side : Side) (kind : Kind) → Granted ≡ verdict_of (joined a b) state side kind →
+pub hold_where_granted : (a b : Control) (state : State) (side : Side) (kind : Kind) → Granted ≡ verdict_of (combined a b) state side kind →
     (told : Story PlainArray) → state_of_story told ≡ state → None ≡ hold_under (record { story = told; a = a; b = b; side = side }) kind
 hold_where_granted a b state side kind verdict told is = ap (hold_in (owners_of a b side)) verdict ∙ hold_by_verdict a b state side kind told is
 
-pub hold_where_held : (a b : Control) (state : State) (side : Side) (kind : Kind) (element : ℕ) → Held element ≡ verdict_of (joined a b) state side kind →
+pub hold_where_held : (a b : Control) (state : State) (side : Side) (kind : Kind) (element : ℕ) → Held element ≡ verdict_of (combined a b) state side kind →
     (told : Story PlainArray) → state_of_story told ≡ state →
     Some (record { element = element; owners = owners_of a b side element }) ≡ hold_under (record { story = told; a = a; b = b; side = side }) kind
 hold_where_held a b state side kind element verdict told is = ap (hold_in (owners_of a b side)) verdict ∙ hold_by_verdict a b state side kind told is

@@ -1,6 +1,6 @@
 use Rattle.std.specs.Prelude.{ℕ, Bool, false, ◌==◌, nat_lt, List, [], ◌∷◌, Option, Some, None, unwrap_or, if◌then◌else◌}
 use Rattle.apl_arrays.specs.Array.{PlainArray}
-use Rattle.sv_access.specs.Control.{four_elements, joined}
+use Rattle.sv_access.specs.Control.{combined, four_elements}
 use Rattle.sv_access.specs.Story.{Story, vector_of_story}
 use Rattle.sv_access.specs.declared.access.Side.{Side}
 use Rattle.sv_access.specs.declared.access.Side.TheVariants.{A, B}
@@ -67,7 +67,7 @@ partners_vector journal place (Some coupling) = vector_of journal (if coupling.a
 -- the control in force with a vector of the party's own, in its own view: 1 wherever its own has it, or the partner's
 -- read from its side
 abbrev pub in_force_with : Entries → Control → Standing → Control
-in_force_with journal own offer = joined own (partners_vector journal offer.place (coupling_now journal offer.place))
+in_force_with journal own offer = combined own (partners_vector journal offer.place (coupling_now journal offer.place))
 
 -- the control in force, in the party's own view: none without an offer
 abbrev pub control_in_force : Entries → Option Standing → Control

@@ -1,5 +1,5 @@
 use Rattle.std.specs.Prelude.{ℕ, ◌==◌, find, Option, Some, None, is_some, Bool, option_map, option_and_then, if◌then◌else◌}
-use Rattle.sv_access.specs.Control.{joined}
+use Rattle.sv_access.specs.Control.{combined}
 use Rattle.sv_access.specs.Story.{refused_element}
 use Rattle.sv_access.specs.Table.{owners_of}
 use Rattle.sv_access.specs.declared.access.Kind.{Kind}
@@ -17,7 +17,7 @@ use Rattle.sv_rules.specs.declared.standing.Standing.{Standing}
 abbrev pub hold_under : Sharing → Kind → Option Hold
 hold_under shared kind =
     option_map (λ element. record { element = element; owners = owners_of shared.a shared.b shared.side element })
-    (refused_element (joined shared.a shared.b) shared.story shared.side kind)
+    (refused_element (combined shared.a shared.b) shared.story shared.side kind)
 
 -- what refuses an access of its party on an offer: nothing where there is no offer
 abbrev pub hold_on : Entries → Kind → Option Standing → Option Hold

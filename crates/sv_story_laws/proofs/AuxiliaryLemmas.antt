@@ -7,7 +7,7 @@ use Rattle.std.proofs.lemmas.List.{append_assoc}
 use Rattle.std.proofs.lemmas.Option.{none-some, same_Some}
 use Rattle.apl_arrays.specs.Array.{PlainArray}
 use Rattle.sv_access.specs.Access.{Access, is_set, other_side, same_side}
-use Rattle.sv_access.specs.Control.{has_element, joined}
+use Rattle.sv_access.specs.Control.{combined, has_element}
 use Rattle.sv_access.specs.Story.{Story, last_set, is_last_setter, has_used_since, is_unseen, is_early}
 use Rattle.sv_access.specs.Table.{element_of}
 use Rattle.sv_access.specs.declared.access.Side.{Side}
@@ -131,8 +131,8 @@ reply_due journal party local h = elim (cases_Bool (is_full journal)) [
 -- an access that comes in time is not refused, whatever the control
 in_time : (shared : Sharing) (k : Kind) → is_early shared.story shared.side k ≡ false → hold_under shared k ≡ None
 in_time shared k early =
-    let not_both : (has_element (joined shared.a shared.b) (element_of shared.side k) && is_early shared.story shared.side k) ≡ false =
-    and_right (has_element (joined shared.a shared.b) (element_of shared.side k)) (is_early shared.story shared.side k) early in rw not_both refl
+    let not_both : (has_element (combined shared.a shared.b) (element_of shared.side k) && is_early shared.story shared.side k) ≡ false =
+    and_right (has_element (combined shared.a shared.b) (element_of shared.side k)) (is_early shared.story shared.side k) early in rw not_both refl
 
 -- nor is that of a party on its offer, where the coupling is known
 not_refused : (journal : Entries) (holds : Standing → Coupling → Bool) (party : ℕ) (local : List ℕ) (offer : Standing) (k : Kind) (so : IsCoupledSo journal holds party local offer) →

@@ -9,7 +9,7 @@ use Rattle.std.proofs.lemmas.List.Elements.{All-head, All-tail}
 use Rattle.std.proofs.lemmas.Option.{cond_some, none-some, same_Some}
 use Rattle.apl_arrays.specs.Array.{PlainArray}
 use Rattle.sv_access.specs.Access.{other_side}
-use Rattle.sv_access.specs.Control.{has_element, in_view, joined}
+use Rattle.sv_access.specs.Control.{combined, has_element, in_view}
 use Rattle.sv_access.specs.State.{vector_of_state}
 use Rattle.sv_access.specs.Story.{Story, is_early, refused_element, state_of_story}
 use Rattle.sv_access.specs.Table.{element_of, owners_among, owners_of, verdict_of}
@@ -142,7 +142,7 @@ table_by (Some found) element own at = (((λ h. cc), (λ h. cc)), λ hold. (ther
 -- an access is held exactly where the table over the story holds it
 pub holds_are_those_of_the_table : (journal : Entries) (kind : Kind) (offer : Standing) →
     let shared = sharing journal offer in
-    let joint = joined shared.a shared.b in
+    let joint = combined shared.a shared.b in
     ((hold_on journal kind (Some offer) ≡ None) ↔ (verdict_of joint (state_of_story shared.story) shared.side kind ≡ Granted))
     × ((hold : Hold) →
     (hold_on journal kind (Some offer) ≡ Some hold) ↔
@@ -150,7 +150,7 @@ pub holds_are_those_of_the_table : (journal : Entries) (kind : Kind) (offer : St
     × (hold.owners ≡ owners_of shared.a shared.b shared.side (element_of shared.side kind))))
 holds_are_those_of_the_table journal kind offer =
     let shared = sharing journal offer in
-    let joint = joined shared.a shared.b in
+    let joint = combined shared.a shared.b in
     rw (verdict_by_state joint shared.story shared.side kind)
     (table_by (refused_element joint shared.story shared.side kind) (element_of shared.side kind) (owners_of shared.a shared.b shared.side)
     (λ found h. sym (cond_some (has_element joint (element_of shared.side kind) && is_early shared.story shared.side kind) (element_of shared.side kind) found h).1))
@@ -160,7 +160,7 @@ or-false true = refl
 or-false false = refl
 
 -- a vector joined with none is itself
-joined_with_none : (elements : List Bool) → length elements ≡ 4 → let own : Control = record { 0 = elements } in joined own no_control ≡ own
+joined_with_none : (elements : List Bool) → length elements ≡ 4 → let own : Control = record { 0 = elements } in combined own no_control ≡ own
 joined_with_none (a ∷ b ∷ c ∷ d ∷ []) size = rw (or-false a, or-false b, or-false c, or-false d) refl
 joined_with_none [] size = absurd (omega arith)
 joined_with_none (a ∷ []) size = absurd (omega arith)
@@ -171,7 +171,7 @@ joined_with_none (a ∷ b ∷ c ∷ d ∷ e ∷ more) size = absurd (omega arith
 pub control_of_an_open_offer_is_its_vector : (journal : Entries) (offer : Standing) → coupling_now journal offer.place ≡ None → length (vector_of journal offer).0 ≡ 4 →
     control_in_force journal (Some offer) ≡ vector_of journal offer
 control_of_an_open_offer_is_its_vector journal offer alone size =
-    ap (λ (c : Option Coupling). joined (vector_of journal offer) (partners_vector journal offer.place c)) alone
+    ap (λ (c : Option Coupling). combined (vector_of journal offer) (partners_vector journal offer.place c)) alone
     ∙ joined_with_none (vector_of journal offer).0 size
 
 -- where no entry sets a control no vector has a 1
@@ -190,7 +190,7 @@ vector_none (e ∷ journal) offer none =
       | inr before ↦ rw before refl
     ]
 
-no_element : (side : Side) (kind : Kind) → has_element (joined no_control no_control) (element_of side kind) ≡ false
+no_element : (side : Side) (kind : Kind) → has_element (combined no_control no_control) (element_of side kind) ≡ false
 no_element A Set = refl
 no_element A Use = refl
 no_element B Set = refl
@@ -217,9 +217,9 @@ nothing_is_refused_without_control journal party act none = by_access (act_row a
 -- the control in force of a coupled offer is the joint one, as its side sees it
 pub control_of_a_coupled_offer_is_the_joint_one : (users : List ℕ) (journal : Entries) → IsLegal users journal → (offer : Standing) (coupling : Coupling) → Contains (standing journal) offer →
     coupling_now journal offer.place ≡ Some coupling →
-    control_in_force journal (Some offer) ≡ in_view (side_at coupling offer.place) (joined (vector_of journal coupling.a) (vector_of journal coupling.b))
+    control_in_force journal (Some offer) ≡ in_view (side_at coupling offer.place) (combined (vector_of journal coupling.a) (vector_of journal coupling.b))
 control_of_a_coupled_offer_is_the_joint_one users journal legal offer coupling has now =
-    ap (λ (c : Option Coupling). joined (vector_of journal offer) (partners_vector journal offer.place c)) now ∙ by_side
+    ap (λ (c : Option Coupling). combined (vector_of journal offer) (partners_vector journal offer.place c)) now ∙ by_side
   where
     is : IsCouplingOf journal offer.place coupling
     is = found_as_made users journal legal offer.place coupling now
@@ -233,11 +233,11 @@ control_of_a_coupled_offer_is_the_joint_one users journal legal offer coupling h
     of_b : Control
     of_b = vector_of journal coupling.b
 
-    by_side : joined (vector_of journal offer) (partners_vector journal offer.place (Some coupling)) ≡ in_view (side_at coupling offer.place) (joined of_a of_b)
+    by_side : combined (vector_of journal offer) (partners_vector journal offer.place (Some coupling)) ≡ in_view (side_at coupling offer.place) (combined of_a of_b)
     by_side = elim (cases_Bool (eqb coupling.a.place offer.place)) [
-      | inl low ↦ rw low (ap (λ (o : Standing). joined (vector_of journal o) of_b) (sym (one coupling.a is.has_a (eqb-true coupling.a.place offer.place low))))
+      | inl low ↦ rw low (ap (λ (o : Standing). combined (vector_of journal o) of_b) (sym (one coupling.a is.has_a (eqb-true coupling.a.place offer.place low))))
       | inr not_low ↦ elim is.here [
         | inl low ↦ absurd (eqb-false coupling.a.place offer.place not_low low)
-        | inr high ↦ rw not_low (ap (λ (o : Standing). joined (vector_of journal o) of_a) (sym (one coupling.b is.has_b high)) ∙ sym (joined_alike of_a of_b))
+        | inr high ↦ rw not_low (ap (λ (o : Standing). combined (vector_of journal o) of_a) (sym (one coupling.b is.has_b high)) ∙ sym (joined_alike of_a of_b))
       ]
     ]

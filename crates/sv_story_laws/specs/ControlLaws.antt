@@ -1,7 +1,7 @@
 use Rattle.std.specs.Prelude.{◌≡◌, ◌↔◌, ◌⊎◌, ℕ, List, ◌∷◌, ◌++◌, All, Contains, Some, None, IsTrue, IsSome, length}
 use Rattle.std.specs.Option.{IfSome}
 use Rattle.sv_access.specs.Access.{is_set}
-use Rattle.sv_access.specs.Control.{has_element, in_view, joined}
+use Rattle.sv_access.specs.Control.{combined, has_element, in_view}
 use Rattle.sv_access.specs.State.{vector_of_state}
 use Rattle.sv_access.specs.Story.{state_of_story}
 use Rattle.sv_access.specs.Table.{element_of, verdict_of, owners_of}
@@ -57,14 +57,14 @@ ControlOfACoupledOfferIsTheJointOne =
     (users : List ℕ) (journal : Entries) → IsLegal users journal → (offer : Standing) (coupling : Coupling) → Contains (standing journal) offer →
     coupling_now journal offer.place ≡ Some coupling →
     control_in_force journal (Some offer) ≡
-    in_view (side_at coupling offer.place) (joined (vector_of journal coupling.a) (vector_of journal coupling.b))
+    in_view (side_at coupling offer.place) (combined (vector_of journal coupling.a) (vector_of journal coupling.b))
 
 -- an access is granted exactly where the access table over the plain story allows it, and else held by its element in
 -- A's view, with the owners of the 1 as the refused party sees them
 abbrev pub HoldsAreThoseOfTheTable : Type 0
 HoldsAreThoseOfTheTable =
     (journal : Entries) (kind : Kind) (offer : Standing) →
-    let shared = sharing journal offer in let joint = joined shared.a shared.b in
+    let shared = sharing journal offer in let joint = combined shared.a shared.b in
     ((hold_on journal kind (Some offer) ≡ None) ↔ (verdict_of joint (state_of_story shared.story) shared.side kind ≡ Granted))
     × ((hold : Hold) →
     (hold_on journal kind (Some offer) ≡ Some hold) ↔
