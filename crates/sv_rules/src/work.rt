@@ -5,8 +5,8 @@ ghost use Rattle.apl_arrays.specs.Name.{same_name};
 ghost use Rattle.sv_rules.specs.Work.{is_auxiliary, most_counters, tries};
 
 use crate::Standing;
-use crate::limits::{CLOCK_PARTY, OFFER_LIMIT, TEXT_PARTY};
-use apl_arrays::Name;
+use crate::limits::{CLOCK_PARTY, TEXT_PARTY};
+use apl_arrays::{Name, OFFER_LIMIT};
 use sv_events::{Accessing, Entry};
 
 /// Whether the party is the clock or the text files. No memory.
