@@ -17,7 +17,7 @@ round-requires t c =
         others_users (participants_of c.args.sessions.now) (participant_of c.in-Some.session.now) (participants_of c.in-Some.others.now) c.args.core.now.users c.turn.new.core.users (search rules) c.requires.users same,
         (
           subst ArePeople (sym same) c.requires.people,
-          after_turn c.args.core.now.journal c.turn.new.core.journal (participant_of c.in-Some.session.now) (participant_of c.turn.new.session) c.in_ok-turn.ensures.turn c.requires.unhindered,
+          after_turn c.args.core.now.journal c.turn.new.core.journal (participant_of c.in-Some.session.now) (participant_of c.turn.new.session) c.in_ok-turn-in-Some.ensures.turn c.requires.unhindered,
         ),
       ),
     )

@@ -10,7 +10,7 @@ use Rattle.aplsv_replay.proofs.driver.replay.Goals as goal
 pub new-requires : goal.new-requires
 new-requires c =
     let numbers : map (λ user. user.number) c.as_slice.result.now ≡ map (λ user. user.number) c.args.bundle.users = plain_numbers c.as_slice.result.now c.args.bundle.users (c.as_slice.ensures.value ∙ c.into_users-users.ensures.value) in
-    subst ArePeople (sym (c.deref.ensures.value ∙ (c.in_ok-numbers.ensures ∙ numbers))) (users_are_people c.args.bundle.users c.into_users-users.ensures.bundle.each)
+    record { people = subst ArePeople (sym (c.deref.ensures.value ∙ (c.in_ok-numbers.ensures ∙ numbers))) (users_are_people c.args.bundle.users c.into_users-users.ensures.bundle.each) }
 
 pub loop-round-init : goal.loop-round-init
 loop-round-init c =
