@@ -5,7 +5,9 @@ mod GoingLemmas
 mod HoldingLemmas
 mod Kept
 mod MakingLemmas
+pub mod NoControlLemmas
 mod OpeningLemmas
+mod OpeningMore
 mod OutcomeLemmas
 mod RetryLemmas
 mod TogetherLemmas
