@@ -7,7 +7,6 @@ mod Kept
 mod MakingLemmas
 pub mod NoControlLemmas
 mod OpeningLemmas
-mod OpeningMore
 mod OutcomeLemmas
 mod RetryLemmas
 mod TogetherLemmas
