@@ -1,4 +1,5 @@
 mod AccessingLemmas
+mod ActingMore
 mod DueLemmas
 mod EndingLemmas
 mod GoingLemmas
