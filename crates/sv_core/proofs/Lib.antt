@@ -1,5 +1,4 @@
 mod AccessingLemmas
-mod ActingMore
 mod DueLemmas
 mod EndingLemmas
 mod GoingLemmas

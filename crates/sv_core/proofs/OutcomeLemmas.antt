@@ -2,11 +2,10 @@
 use Rattle.std.proofs.Common.{◌∙◌, ◌≡◌, None, Some, ap, sym, ℕ}
 use Rattle.std.proofs.lemmas.Option.{none-some, same_Some}
 use Rattle.sv_access.specs.declared.access.Kind.{Kind}
-use Rattle.sv_access.specs.declared.access.Kind.TheVariants.{Set, Use}
 use Rattle.sv_events.specs.Answer.{granted, value, vector}
 use Rattle.sv_events.specs.Row.{act_row}
 use Rattle.sv_events.specs.declared.event.Act.{Act}
-use Rattle.sv_events.specs.declared.event.Act.TheVariants.{AskControl, AskDegree, AskNames, AskParties, AskState, Offer, SetControl}
+use Rattle.sv_events.specs.declared.event.Act.TheVariants.{AskControl, AskDegree, AskNames, AskParties, AskState, Offer, Set, SetControl, Use}
 use Rattle.sv_events.specs.declared.row.Accessing.{Accessing}
 use Rattle.sv_events.specs.declared.row.Controlling.{Controlling}
 use Rattle.sv_events.specs.declared.row.Opening.{Opening}
