@@ -131,12 +131,11 @@ present-falls (user ∷ users) journal e leaves is here =
       | inr later ↦ omega (arith, after, before, counts_fewer (eqb e.party user && is_leave e.act) (has_left journal user), present-falls users journal e leaves later here)
     ]
 
--- the cells with that of a new offer, and those of its match, are as they must be
-pub opens_cells : (old between new : Cells) (offer : Standing) (value : Option PlainArray) (match : Option Standing) → ((other : Standing) → match ≡ Some other → other.place < offer.place) →
-    PutsAt old between offer.place (Some (new_cell value)) → Joined between new offer match → OpensCells old new offer value match
-opens_cells old between new offer value None older puts keeps at = keeps at ∙ puts at
-opens_cells old between new offer value (Some other) older puts couples x at_x at =
-    couples x (new_cell value) (at_place other.place false (ne_eqb offer.place other.place (λ same. let low = older other refl in omega (arith, low, same))) ∙ at_x)
+-- the cells of a new offer and its match, once they are coupled
+opens_coupled : (old between new : Cells) (offer other : Standing) (value : Option PlainArray) → other.place < offer.place → PutsAt old between offer.place (Some (new_cell value)) →
+    CouplesAt between new other.place offer.place → OpensCells old new offer value (Some other)
+opens_coupled old between new offer other value low puts couples x at_x at =
+    couples x (new_cell value) (at_place other.place false (ne_eqb offer.place other.place (λ same. omega (arith, low, same))) ∙ at_x)
     (at_place offer.place true (eq-eqb offer.place offer.place refl)) at
     ∙ ap (λ (o : Option Cell). if eqb other.place at then Some low_cell else o)
     (ap (λ (o : Option Cell). if eqb offer.place at then Some high_cell else o) (puts at) ∙ twice (eqb offer.place at))
@@ -153,6 +152,12 @@ opens_cells old between new offer value (Some other) older puts couples x at_x a
     twice : (b : Bool) → (if b then Some high_cell else (if b then Some (new_cell value) else cell_at old at)) ≡ (if b then Some high_cell else cell_at old at)
     twice true = refl
     twice false = refl
+
+-- the cells with that of a new offer, and those of its match, are as they must be
+pub opens_cells : (old between new : Cells) (offer : Standing) (value : Option PlainArray) (match : Option Standing) → ((other : Standing) → match ≡ Some other → other.place < offer.place) →
+    PutsAt old between offer.place (Some (new_cell value)) → Joined between new offer match → OpensCells old new offer value match
+opens_cells old between new offer value None older puts keeps = λ at. keeps at ∙ puts at
+opens_cells old between new offer value (Some other) older puts couples = opens_coupled old between new offer other value (older other refl) puts couples
 
 -- an act that ends offers does nothing else, and touches none
 ends_alone : (act : Act) (ending : Ending) → (act_row act).row.ends ≡ Some ending → ((act_row act).row.accesses ≡ None) × ((act_row act).row.controls ≡ None)

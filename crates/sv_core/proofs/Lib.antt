@@ -5,6 +5,7 @@ mod GoingLemmas
 mod HoldingLemmas
 mod Kept
 mod MakingLemmas
+pub mod NoControlLemmas
 mod OpeningLemmas
 mod OutcomeLemmas
 mod RetryLemmas

@@ -2,11 +2,10 @@
 use Rattle.std.proofs.Common.{◌∙◌, ◌≡◌, None, Some, ap, sym, ℕ}
 use Rattle.std.proofs.lemmas.Option.{none-some, same_Some}
 use Rattle.sv_access.specs.declared.access.Kind.{Kind}
-use Rattle.sv_access.specs.declared.access.Kind.TheVariants.{Set, Use}
-use Rattle.sv_events.specs.Answer.{granted, value, vector}
+use Rattle.sv_events.specs.Answer.{granted, vector}
 use Rattle.sv_events.specs.Row.{act_row}
 use Rattle.sv_events.specs.declared.event.Act.{Act}
-use Rattle.sv_events.specs.declared.event.Act.TheVariants.{AskControl, AskDegree, AskNames, AskParties, AskState, Offer, SetControl}
+use Rattle.sv_events.specs.declared.event.Act.TheVariants.{AskControl, AskDegree, AskNames, AskParties, AskState, Offer, Set, SetControl, Use}
 use Rattle.sv_events.specs.declared.row.Accessing.{Accessing}
 use Rattle.sv_events.specs.declared.row.Controlling.{Controlling}
 use Rattle.sv_events.specs.declared.row.Opening.{Opening}
@@ -29,7 +28,7 @@ outcome_of_control journal party (SetControl local control) set h = ap (control_
 outcome_of_control journal party _ set h = absurd (none-some set h)
 
 pub outcome_of_access : (journal : Entries) (party : ℕ) (act : Act) (access : Accessing) → (act_row act).row.accesses ≡ Some access → outcome journal party act ≡ access_outcome journal party access
-outcome_of_access journal party (Set local value) access h = ap (access_outcome journal party) (same_Some _ access h)
+outcome_of_access journal party (Set local new) access h = ap (access_outcome journal party) (same_Some _ access h)
 outcome_of_access journal party (Use local) access h = ap (access_outcome journal party) (same_Some _ access h)
 outcome_of_access journal party _ access h = absurd (none-some access h)
 

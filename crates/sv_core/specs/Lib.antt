@@ -1,5 +1,6 @@
 pub mod Core
 pub mod Due
 pub mod Invariant
+pub mod NoControl
 pub mod Retry
 pub mod Updating

@@ -4,6 +4,7 @@
 mod acting;
 mod asking;
 mod holding;
+mod laws;
 mod leaves;
 mod opening;
 mod processor;
@@ -13,4 +14,5 @@ mod tests;
 mod updating;
 mod working;
 
+pub use laws::no_control_law;
 pub use processor::Core;

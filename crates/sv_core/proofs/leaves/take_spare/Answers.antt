@@ -1,4 +1,5 @@
 use Rattle.std.proofs.Common.{Some}
+use Rattle.std.proofs.lemmas.List.Elements.{All-pop}
 use Rattle.sv_core.specs.Core.{IsSpare}
 use Rattle.sv_core.proofs.leaves.take_spare.Goals as goal
 

@@ -1,3 +1,11 @@
+use Rattle.std.proofs.Common.{◌∙◌, ◌≡◌, List, Option, Some, ap, sym, ℕ}
+use Rattle.sv_events.specs.declared.entry.Entry.{Entry}
+use Rattle.sv_log.specs.Member.{waiting_at}
+use Rattle.sv_rules.specs.Entries.{Entries}
+use Rattle.sv_rules.specs.Journal.{journal_of}
+use Rattle.sv_rules.specs.Refused.{awaited}
+use Rattle.sv_core.proofs.WaitingLemmas.{waits_for_none, waits_within}
+use Rattle.sv_core.specs.Core.{PlainCore}
 use Rattle.sv_core.proofs.processor.Core.awaited.Goals as goal
 
 -- the party waits at the place of an entry

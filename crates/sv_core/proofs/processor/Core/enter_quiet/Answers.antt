@@ -8,17 +8,18 @@ use Rattle.sv_core.proofs.Kept.{IsEntered, entered, entry_is, on_success, quiet_
 use Rattle.sv_core.specs.Core.{PlainCore}
 use Rattle.sv_core.specs.Invariant.{parts_of}
 use Rattle.sv_core.proofs.processor.Core.enter_quiet.Goals as goal
+use Rattle.sv_core.proofs.processor.Core.enter_quiet.Goals.{After-enter}
 
 pub invariant_of-self : goal.invariant_of-self
 invariant_of-self c =
     same_core (parts_of c.self.inside) _ c.self.invariant c.reserve.ensures.users c.reserve.ensures.journal refl refl refl c.self.invariant.fit c.reserve.ensures.kept
 
 -- the act may be made after the journal as it was
-may : (c : goal.After-enter) → MayFollow c.self.inside.log.users c.self.inside.log.journal (entry_for c.self.inside.log.journal c.args.party c.args.act)
+may : (c : After-enter) → MayFollow c.self.inside.log.users c.self.inside.log.journal (entry_for c.self.inside.log.journal c.args.party c.args.act)
 may c = subst (λ (v : PlainCore). MayFollow v.users v.journal (entry_for v.journal c.args.party c.args.act)) (sym c.self.view_is) c.requires.may.may
 
 -- the log with the entry of the act
-more : (c : goal.After-enter) → IsEntered c.self.inside.log c.enter.new.log (entry_for c.self.inside.log.journal c.args.party c.args.act)
+more : (c : After-enter) → IsEntered c.self.inside.log c.enter.new.log (entry_for c.self.inside.log.journal c.args.party c.args.act)
 more c =
     let journal = c.self.inside.log.journal in
     entered c.self.inside.log c.reserve.new.self c.enter.new.log _ _ c.reserve.ensures.users c.reserve.ensures.journal (on_success c.reserve.result _ c.if-is_err.ensures.negation c.reserve.ensures.room)

@@ -17,6 +17,7 @@ use Rattle.sv_core.proofs.OutcomeLemmas.{access_granted, outcome_of_access}
 use Rattle.sv_core.specs.Core.{PlainCore}
 use Rattle.sv_core.specs.Invariant.{parts_of}
 use Rattle.sv_core.proofs.processor.Core.grant_set.Goals as goal
+use Rattle.sv_core.proofs.processor.Core.grant_set.Goals.{After-enter}
 
 pub invariant_of-self : goal.invariant_of-self
 invariant_of-self c =
@@ -28,23 +29,23 @@ note_set-requires c =
     ready_in (parts_of c.self.inside) c.self.invariant c.args.offer has
 
 -- the act may be made after the journal as it was
-may : (c : goal.After-enter) → MayFollow c.self.inside.log.users c.self.inside.log.journal (entry_for c.self.inside.log.journal c.args.party c.args.act)
+may : (c : After-enter) → MayFollow c.self.inside.log.users c.self.inside.log.journal (entry_for c.self.inside.log.journal c.args.party c.args.act)
 may c = subst (λ (v : PlainCore). MayFollow v.users v.journal (entry_for v.journal c.args.party c.args.act)) (sym c.self.view_is) c.requires.may.may
 
 -- the offer is the party's own
-own : (c : goal.After-enter) → own_offer (standing c.self.inside.log.journal) c.args.party c.args.access.local ≡ Some c.args.offer
+own : (c : After-enter) → own_offer (standing c.self.inside.log.journal) c.args.party c.args.access.local ≡ Some c.args.offer
 own c = subst (λ (v : PlainCore). own_offer (standing v.journal) c.args.party c.args.access.local ≡ Some c.args.offer) (sym c.self.view_is) c.requires.own
 
 -- nothing refuses it
-free : (c : goal.After-enter) → hold_on c.self.inside.log.journal c.args.access.kind (Some c.args.offer) ≡ None
+free : (c : After-enter) → hold_on c.self.inside.log.journal c.args.access.kind (Some c.args.offer) ≡ None
 free c = subst (λ (v : PlainCore). hold_on v.journal c.args.access.kind (Some c.args.offer) ≡ None) (sym c.self.view_is) c.requires.free
 
 -- the value that is set
-handed : (c : goal.After-enter) → (act_row c.args.act).hands_in ≡ Some c.in-Ok-Some.value
+handed : (c : After-enter) → (act_row c.args.act).hands_in ≡ Some c.in-Ok-Some.value
 handed c = sym c.hands_in.ensures ∙ sym (rw c.in-Ok-Some.field-0-is at c.in-Ok-Some.ensures)
 
 -- the log with the entry of the act
-more : (c : goal.After-enter) → IsEntered c.self.inside.log c.enter.new.log (entry_for c.self.inside.log.journal c.args.party c.args.act)
+more : (c : After-enter) → IsEntered c.self.inside.log c.enter.new.log (entry_for c.self.inside.log.journal c.args.party c.args.act)
 more c =
     let journal = c.self.inside.log.journal in
     entered c.self.inside.log c.reserve.new.self c.enter.new.log _ _ c.reserve.ensures.users c.reserve.ensures.journal (on_success c.reserve.result _ c.if-is_err.ensures.negation c.reserve.ensures.room)

@@ -20,7 +20,7 @@ use Rattle.sv_core.proofs.processor.Core.open.Goals as goal
 pub invariant_of-self : goal.invariant_of-self
 invariant_of-self c =
     let place = c.requires.place ∙ sym (ap (λ (v : PlainCore). next_place v.journal) c.self.view_is) in
-    let table = subst (λ r. OnErr r (c.add_offer-added.new.offers ≡ c.self.inside.offers)) c.in-Err.is c.add_offer-added.ensures.err in
+    let table = c.in-Err.ensures.err in
     same_core (parts_of c.self.inside) _ c.self.invariant c.add_offer-added.ensures.users c.add_offer-added.ensures.journal (ap (λ (t : PlainOffers). t.offers) table) (ap (λ (t : PlainOffers). t.coupled) table) refl
     (fit_elsewhere c.self.inside.log.journal c.self.inside.cells c.add_offer-added.new.cells c.args.new.now.place place c.add_offer-added.ensures.kept c.self.invariant.fit) c.add_offer-added.ensures.entries
 
@@ -29,26 +29,26 @@ join-degree-requires-clause-ready c =
     let place = c.requires.place ∙ sym (ap (λ (v : PlainCore). next_place v.journal) c.self.view_is) in
     let fresh = ap (λ (v : PlainCore). own_offer (standing v.journal) c.args.new.now.party c.args.new.now.local) c.self.view_is ∙ c.requires.fresh in
     let few = subst (λ (v : PlainCore). offer_count (standing v.journal) c.args.new.now.party < 64) (sym c.self.view_is) c.requires.few in
-    let put = subst (λ r. OnOk r (PutsAt c.self.inside.cells c.add_offer-added.new.cells c.args.new.now.place (Some (new_cell (handed_in c.args.act))))) c.in-Ok.is c.add_offer-added.ensures.cell in
-    let opens = opens_in (parts_of c.self.inside) c.self.invariant c.args.act c.args.new.now c.requires.row place fresh few c.in-Ok.other c.in-Ok.ensures in
+    let put = c.in-Ok.ensures.cell in
+    let opens = opens_in (parts_of c.self.inside) c.self.invariant c.args.act c.args.new.now c.requires.row place fresh few c.in-Ok.other c.in-Ok.ensures.other in
     may_join c.self.inside.log.journal (entry_for c.self.inside.log.journal c.args.new.now.party c.args.act) c.args.new.now c.in-Ok.other c.self.inside.cells c.add_offer-added.new.cells (handed_in c.args.act) c.self.invariant.fit opens put
 
-pub invariant_of-self-2 : goal.invariant_of-self-2
-invariant_of-self-2 c =
+pub invariant_of-self-in-Ok : goal.invariant_of-self-in-Ok
+invariant_of-self-in-Ok c =
     let core = parts_of c.self.inside in
     let may = subst (λ (v : PlainCore). MayFollow v.users v.journal (entry_for v.journal c.args.new.now.party c.args.act)) (sym c.self.view_is) c.requires.may.may in
     let place = c.requires.place ∙ sym (ap (λ (v : PlainCore). next_place v.journal) c.self.view_is) in
     let fresh = ap (λ (v : PlainCore). own_offer (standing v.journal) c.args.new.now.party c.args.new.now.local) c.self.view_is ∙ c.requires.fresh in
     let few = subst (λ (v : PlainCore). offer_count (standing v.journal) c.args.new.now.party < 64) (sym c.self.view_is) c.requires.few in
-    let put = subst (λ r. OnOk r (PutsAt c.self.inside.cells c.add_offer-added.new.cells c.args.new.now.place (Some (new_cell (handed_in c.args.act))))) c.in-Ok.is c.add_offer-added.ensures.cell in
-    let opens = opens_in (parts_of c.self.inside) c.self.invariant c.args.act c.args.new.now c.requires.row place fresh few c.in-Ok.other c.in-Ok.ensures in
-    let table = subst (λ r. OnOk r (c.add_offer-added.new.offers ≡ after_offer c.self.inside.offers c.args.new.now)) c.in-Ok.is c.add_offer-added.ensures.table in
-    let room = subst (λ r. OnOk r (length c.self.inside.log.users + 1 ≤ c.add_offer-added.new.log.room)) c.in-Ok.is c.add_offer-added.ensures.room in
-    let entry = opening_entry core c.self.invariant c.args.act c.args.new.now c.requires.row place fresh few c.in-Ok.other c.in-Ok.ensures c.join-degree.result c.join-degree.new.made.items c.join-degree.ensures.degree c.join-degree.ensures.made in
+    let put = c.in-Ok.ensures.cell in
+    let opens = opens_in (parts_of c.self.inside) c.self.invariant c.args.act c.args.new.now c.requires.row place fresh few c.in-Ok.other c.in-Ok.ensures.other in
+    let table = c.in-Ok.ensures.table in
+    let room = c.in-Ok.ensures.room in
+    let entry = opening_entry core c.self.invariant c.args.act c.args.new.now c.requires.row place fresh few c.in-Ok.other c.in-Ok.ensures.other c.join-degree.result c.join-degree.new.made.items c.join-degree.ensures.degree c.join-degree.ensures.made in
     let more = entered c.self.inside.log c.add_offer-added.new.log c.enter.new.log _ (entry_for core.journal c.args.new.now.party c.args.act) c.add_offer-added.ensures.users c.add_offer-added.ensures.journal room
     c.enter.ensures.users c.enter.ensures.journal c.enter.ensures.room entry in
     open_core core _ c.self.invariant c.args.act c.args.new.now c.in-Ok.other may (not-true (is_leave c.args.act) c.requires.may.stays) opens more.users more.journal
     (ap (λ (t : PlainOffers). t.offers) table)
     (ap (λ (t : PlainOffers). t.coupled) table
-    ∙ ap (λ (o : Option Standing). c.self.inside.offers.coupled ++ option_to_list (option_map (λ (other : Standing). let made : Made = record { pair = pair_of other c.args.new.now; at = c.args.new.now.place } in made) o)) (sym c.in-Ok.ensures))
+    ∙ ap (λ (o : Option Standing). c.self.inside.offers.coupled ++ option_to_list (option_map (λ (other : Standing). let made : Made = record { pair = pair_of other c.args.new.now; at = c.args.new.now.place } in made) o)) (sym c.in-Ok.ensures.other))
     refl c.add_offer-added.new.cells put c.join-degree.ensures.cells more.room

@@ -15,6 +15,7 @@ use Rattle.sv_core.proofs.OutcomeLemmas.{control_answered, outcome_of_control}
 use Rattle.sv_core.specs.Core.{PlainCore}
 use Rattle.sv_core.specs.Invariant.{parts_of}
 use Rattle.sv_core.proofs.processor.Core.set_control.Goals as goal
+use Rattle.sv_core.proofs.processor.Core.set_control.Goals.{After-enter}
 
 pub in_force_with-vector-requires : goal.in_force_with-vector-requires
 in_force_with-vector-requires c = (own_offer-parts (standing c.args.self.now.journal) c.args.party c.args.set.local c.args.offer c.requires.own).2
@@ -29,15 +30,15 @@ control-requires c =
     some_cell_in (parts_of c.self.inside) c.self.invariant c.args.offer has
 
 -- the act may be made after the journal as it was
-may : (c : goal.After-enter) → MayFollow c.self.inside.log.users c.self.inside.log.journal (entry_for c.self.inside.log.journal c.args.party c.args.act)
+may : (c : After-enter) → MayFollow c.self.inside.log.users c.self.inside.log.journal (entry_for c.self.inside.log.journal c.args.party c.args.act)
 may c = subst (λ (v : PlainCore). MayFollow v.users v.journal (entry_for v.journal c.args.party c.args.act)) (sym c.self.view_is) c.requires.may.may
 
 -- the offer is the party's own
-own : (c : goal.After-enter) → own_offer (standing c.self.inside.log.journal) c.args.party c.args.set.local ≡ Some c.args.offer
+own : (c : After-enter) → own_offer (standing c.self.inside.log.journal) c.args.party c.args.set.local ≡ Some c.args.offer
 own c = subst (λ (v : PlainCore). own_offer (standing v.journal) c.args.party c.args.set.local ≡ Some c.args.offer) (sym c.self.view_is) c.requires.own
 
 -- the log with the entry of the act
-more : (c : goal.After-enter) → IsEntered c.self.inside.log c.enter.new.log (entry_for c.self.inside.log.journal c.args.party c.args.act)
+more : (c : After-enter) → IsEntered c.self.inside.log c.enter.new.log (entry_for c.self.inside.log.journal c.args.party c.args.act)
 more c =
     let journal = c.self.inside.log.journal in
     entered c.self.inside.log c.reserve.new.self c.enter.new.log _ _ c.reserve.ensures.users c.reserve.ensures.journal (on_success c.reserve.result _ c.if-is_err.ensures.negation c.reserve.ensures.room)
