@@ -1,5 +1,5 @@
 -- Reading the items of arrays.
-use Rattle.std.proofs.Common.{◌≡◌, ℕ, ℤ, pos, negsuc, zero, suc, ◌+◌, ◌<◌, ◌≤◌, ◌^◌, Bool, true, false, cond, eqb, List, [], ◌∷◌, ◌++◌, Option, Some, None, Ok, Err, map, codes, length, FitsSigned, w64, ◌⊎◌, inl, inr, refl, sym, ap, ◌∙◌, subst, append_assoc, arith}
+use Rattle.std.proofs.Common.{◌≡◌, ℕ, ℤ, pos, negsuc, zero, suc, ◌+◌, ◌-◌, ◌<◌, ◌≤◌, ◌^◌, Bool, true, false, cond, eqb, List, [], ◌∷◌, ◌++◌, Option, Some, None, Ok, Err, map, codes, length, FitsSigned, w64, ◌⊎◌, inl, inr, refl, sym, ap, ◌∙◌, subst, append_assoc, arith}
 use Rattle.std.specs.Prelude.{neg_ℤ}
 use Rattle.std.proofs.lemmas.Bool.{false≢true}
 use Rattle.std.proofs.lemmas.Bool.Decides.{nat_tests}
@@ -11,7 +11,8 @@ use Rattle.line_text.specs.Number.{number_text}
 use Rattle.line_text.specs.Spaced.{spaced}
 use Rattle.line_text.proofs.SameNumbers.{begins_count}
 use Rattle.line_text.proofs.Spaced.{spaced_is}
-use Rattle.sv_text.specs.Reading.{Reader, Reading, ◌>>=◌, always, as_read, begins_with, behind_first, first_of, list_at, literal_at, read_behind}
+use Rattle.apl_arrays.specs.List.{first_of, others_of}
+use Rattle.sv_text.specs.Reading.{Reader, Reading, ◌>>=◌, always, as_read, begins_with, list_at, literal_at, read_behind}
 use Rattle.sv_text.specs.NumberReading.{number_at}
 use Rattle.sv_text.specs.ValueReading.{negative_at, positive_at, integer_at, next_integer_at, numbers_at, behind_char, char_at, quoted_at}
 use Rattle.sv_text.specs.ValueText.{char_text}
@@ -214,8 +215,8 @@ quote_or_other rest e behind h follow =
     elim (bool_cases (eqb e quote)) [
       | inl same ↦ inl (grind (arith, nat_tests, same))
       | inr other ↦ inr (λ first.
-        let equal : e ≡ quote = cc (char_first e behind, first) in
-        grind (arith, nat_tests, other, equal))
+          let equal : e ≡ quote = cc (char_first e behind, first) in
+          grind (arith, nat_tests, other, equal))
     ]
 
 quote_reads : IsReader (λ e. quote ∷ []) IsQuote Anything SameFirst (λ line. literal_at (codes "'") line >>= λ rest. Ok (quote, rest))
@@ -238,8 +239,8 @@ char_read x rest a false h = record {
   fits = a.0;
   whole = ap (λ t. t ++ rest) (sym (other_text x h));
   only = λ w behind z fit follow e agree.
-    let firsts : Some w ≡ Some x = sym (char_first w behind) ∙ (ap first_of e ∙ char_first x z) in
-    cc firsts;
+      let firsts : Some w ≡ Some x = sym (char_first w behind) ∙ (ap first_of e ∙ char_first x z) in
+      cc firsts;
 }
 
 pub reads_char : IsReader char_text IsGlyph Anything SameFirst char_at

@@ -12,7 +12,8 @@ use Rattle.apl_arrays.specs.Run.{begins}
 use Rattle.line_text.proofs.Decimals.{digits_are_digits}
 use Rattle.line_text.proofs.SameNumbers.{begins_count, same_count}
 use Rattle.line_text.proofs.Spans.{both}
-use Rattle.sv_text.specs.Reading.{Reader, Reading, first_of}
+use Rattle.apl_arrays.specs.List.{first_of}
+use Rattle.sv_text.specs.Reading.{Reader, Reading}
 use Rattle.sv_text.specs.NumberReading.{reaches, with_digit, number_ends, going_on, digits_at, number_behind, number_at, most_digits}
 use Rattle.sv_text.proofs.Readers.{SameFirst, Found, Stopped, Reads, IsReader, same_end}
 
@@ -130,9 +131,9 @@ reached (suc k) value low high some range fits e =
     elim (either_true (leb low value) (reaches k value (max low 10 / 10) (high / 10)) parts.1) [
       | inl h ↦ record { number = value; within = record { least = grind (arith, nat_tests, h); most = most }; heads = record { others = []; whole = sym (append-nil (decimal value)) } }
       | inr h ↦
-        let fewer : value ≤ high / 10 = reaches_most k value (max low 10 / 10) (high / 10) h in
-        let tens : 10 ≤ high = omega (arith, fewer, some) in
-        extended value low high tens range fits (reached k value (max low 10 / 10) (high / 10) some (omega (arith, tens, range)) (omega (arith, fits)) h)
+          let fewer : value ≤ high / 10 = reaches_most k value (max low 10 / 10) (high / 10) h in
+          let tens : 10 ≤ high = omega (arith, fewer, some) in
+          extended value low high tens range fits (reached k value (max low 10 / 10) (high / 10) some (omega (arith, tens, range)) (omega (arith, fits)) h)
     ]
 
 and_is : (a b : Bool) → a ≡ true → b ≡ true → (a && b) ≡ true
@@ -246,9 +247,9 @@ ended_read low high value most r line only false h = record {
   fits = r.within;
   goes_on = r.heads.whole;
   none = λ w behind z within nothing e agree.
-    let same : w ≡ value = only w behind z within nothing e agree in
-    let less : value < low = grind (arith, nat_tests, h) in
-    omega (arith, same, less, within.least);
+      let same : w ≡ value = only w behind z within nothing e agree in
+      let less : value < low = grind (arith, nat_tests, h) in
+      omega (arith, same, less, within.least);
 }
 
 digit_read : (low high value : ℕ) → high < 2 ^ 64 → 0 < value → value ≤ high → Reached value low high → low ≤ high → (x : ℕ) (xs : List ℕ) (d : IsDigit x) → ((longer : ℕ) → 0 < longer → longer ≤ high → Reached longer low high → Reads decimal (InRange low high) NoDigit SameFirst (decimal longer ++ xs) (digits_at low high longer xs)) → (b : Bool) → reaches most_digits (value * 10 + d.value) low high ≡ b → Reads decimal (InRange low high) NoDigit SameFirst (decimal value ++ x ∷ xs) (going_on (cond b (Some (value * 10 + d.value)) None) (λ longer. digits_at low high longer xs) (number_ends low value (x ∷ xs)))
@@ -266,11 +267,11 @@ digits_read low high value fits range some most r [] =
 digits_read low high value fits range some most r (x ∷ xs) =
     elim (digit_or_not x) [
       | inl d ↦
-        subst (λ told. Reads decimal (InRange low high) NoDigit SameFirst (decimal value ++ x ∷ xs) (going_on (with_digit low high value told) (λ longer. digits_at low high longer xs) (number_ends low value (x ∷ xs)))) (sym d.told)
-        (digit_read low high value fits some most r range x xs d (λ longer p q s. digits_read low high longer fits range p q s xs) (reaches most_digits (value * 10 + d.value) low high) refl)
+          subst (λ told. Reads decimal (InRange low high) NoDigit SameFirst (decimal value ++ x ∷ xs) (going_on (with_digit low high value told) (λ longer. digits_at low high longer xs) (number_ends low value (x ∷ xs)))) (sym d.told)
+          (digit_read low high value fits some most r range x xs d (λ longer p q s. digits_read low high longer fits range p q s xs) (reaches most_digits (value * 10 + d.value) low high) refl)
       | inr n ↦
-        subst (λ told. Reads decimal (InRange low high) NoDigit SameFirst (decimal value ++ x ∷ xs) (going_on (with_digit low high value told) (λ longer. digits_at low high longer xs) (number_ends low value (x ∷ xs)))) (sym n.told)
-        (ended_read low high value most r (x ∷ xs) (same_here low high value fits most (x ∷ xs) n.is) (leb low value) refl)
+          subst (λ told. Reads decimal (InRange low high) NoDigit SameFirst (decimal value ++ x ∷ xs) (going_on (with_digit low high value told) (λ longer. digits_at low high longer xs) (number_ends low value (x ∷ xs)))) (sym n.told)
+          (ended_read low high value most r (x ∷ xs) (same_here low high value fits most (x ∷ xs) n.is) (leb low value) refl)
     ]
 
 -- no number of the range begins as the line does
@@ -317,12 +318,15 @@ nought_read low high fits range rest false h =
     let some : 0 < low = grind (arith, nat_tests, h) in
     omega (arith, some, within.least, only_nought low high fits w behind z rest within e agree))
 
+digit_glyph : (value : ℕ) → value < 10 → is_digit (48 + value) ≡ true
+digit_glyph value small = grind (arith, nat_tests, small)
+
 -- a first digit with which no number of the range begins
 none_begins : (low high value : ℕ) → high < 2 ^ 64 → 0 < value → value < 10 → (rest : List ℕ) → reaches most_digits value low high ≡ false → (w : ℕ) (behind z : List ℕ) → InRange low high w → NoDigit behind → decimal w ++ behind ≡ z → SameFirst z ((48 + value) ∷ rest) → ⊥
 none_begins low high value fits some small rest never w behind [] within nothing e agree = let none : ⊥ = cc in none
 none_begins low high value fits some small rest never w behind (y ∷ z) within nothing e agree =
     let head : y ≡ 48 + value = cc in
-    let digit : is_digit (48 + value) ≡ true = grind (arith, nat_tests, small) in
+    let digit : is_digit (48 + value) ≡ true = digit_glyph value small in
     let whole : decimal w ++ behind ≡ ((48 + value) ∷ []) ++ z = e ∙ ap (λ g. g ∷ z) head in
     let more = begins_within is_digit (decimal w) ((48 + value) ∷ []) behind z (ap (λ b. b && true) digit) nothing whole in
     let heads : decimal w ≡ decimal value ++ more.0 = more.1 ∙ ap (λ t. t ++ more.0) (sym (decimal_digit value small)) in
@@ -347,12 +351,12 @@ number_reads low high fits range [] =
 number_reads low high fits range (x ∷ rest) =
     elim (digit_or_not x) [
       | inl d ↦
-        subst (λ told. Reads decimal (InRange low high) NoDigit SameFirst (x ∷ rest) (number_behind low high told rest (length (x ∷ rest)))) (sym d.told)
-        (subst (λ g. Reads decimal (InRange low high) NoDigit SameFirst (g ∷ rest) (number_behind low high (Some d.value) rest (length (g ∷ rest)))) (sym d.is)
-        (behind_read low high d.value fits range d.small rest))
+          subst (λ told. Reads decimal (InRange low high) NoDigit SameFirst (x ∷ rest) (number_behind low high told rest (length (x ∷ rest)))) (sym d.told)
+          (subst (λ g. Reads decimal (InRange low high) NoDigit SameFirst (g ∷ rest) (number_behind low high (Some d.value) rest (length (g ∷ rest)))) (sym d.is)
+          (behind_read low high d.value fits range d.small rest))
       | inr n ↦
-        subst (λ told. Reads decimal (InRange low high) NoDigit SameFirst (x ∷ rest) (number_behind low high told rest (length (x ∷ rest)))) (sym n.told)
-        (stops_first low high range (x ∷ rest) (λ w behind z within nothing e agree. false≢true (sym n.is ∙ number_begins low high fits w behind z (x ∷ rest) within e agree)))
+          subst (λ told. Reads decimal (InRange low high) NoDigit SameFirst (x ∷ rest) (number_behind low high told rest (length (x ∷ rest)))) (sym n.told)
+          (stops_first low high range (x ∷ rest) (λ w behind z within nothing e agree. false≢true (sym n.is ∙ number_begins low high fits w behind z (x ∷ rest) within e agree)))
     ]
 
 -- a number of the range is read

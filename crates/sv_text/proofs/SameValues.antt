@@ -157,3 +157,9 @@ same_value (Some a) None rest left p q stop halt e = absurd (none_is_no_array a 
 same_value (Some a) (Some b) rest left p q stop halt e =
     let same = same_array a b rest left p q stop halt e in
     (ap Some same.0, same.1)
+
+-- the text of an array is no other array's
+pub same_text : (a b : PlainArray) → IsPrintableArray a → IsPrintableArray b → array_text a ≡ array_text b → a ≡ b
+same_text a b p q e =
+    let ends : EndsValue [] = record { numbers = refl; quotes = refl } in
+    (same_array a b [] [] p q ends ends (ap (λ text. text ++ []) e)).0
