@@ -1,6 +1,6 @@
 -- Reading lists up to pairs or the end of a line.
 use Rattle.std.proofs.Common.{◌≡◌, ℕ, ◌+◌, ◌-◌, Bool, true, false, not, ◌&&◌, eqb, List, [], ◌∷◌, ◌++◌, Some, length, ◌⊎◌, inl, inr, refl, sym, ap, ◌∙◌, subst, arith}
-use Rattle.std.proofs.lemmas.Bool.{false≢true, and_parts}
+use Rattle.std.proofs.lemmas.Bool.{false≢true, and_parts, cases_Bool}
 use Rattle.std.proofs.lemmas.Bool.Decides.{nat_tests}
 use Rattle.std.specs.Fmt.{decimal}
 use Rattle.std.specs.List.{flat_map, AllByRecursion}
@@ -11,7 +11,7 @@ use Rattle.line_text.proofs.SameNumbers.{begins_count}
 use Rattle.apl_arrays.specs.List.{first_of, others_of}
 use Rattle.sv_text.specs.Reading.{Reader, begins_with}
 use Rattle.sv_text.proofs.NameForms.{NoName}
-use Rattle.sv_text.proofs.NumberForms.{NoDigit, bool_cases}
+use Rattle.sv_text.proofs.NumberForms.{NoDigit}
 use Rattle.sv_text.proofs.Readers.{SameFirst, Stopped, IsReader, same_behind}
 use Rattle.sv_journal.specs.ActReading.{local_at, party_at}
 use Rattle.sv_journal.specs.AnswerReading.{goes_on, parties_at, names_at}
@@ -53,7 +53,7 @@ blank_first (x ∷ xs) e = ap Some (let same : x ≡ 32 = grind (arith, nat_test
 no_plus : (p : ℕ → Bool) → p 43 ≡ false → (line : List ℕ) → begins p line ≡ true → begins_with 43 line ≡ false
 no_plus p never [] e = refl
 no_plus p never (x ∷ xs) e =
-    elim (bool_cases (eqb x 43)) [
+    elim (cases_Bool (eqb x 43)) [
       | inl h ↦ absurd (false≢true (sym never ∙ (ap p (let same : 43 ≡ x = grind (arith, nat_tests, h) in same) ∙ e)))
       | inr h ↦ h
     ]

@@ -1,5 +1,6 @@
 -- What is read of a line is its entry, and where the reading stops no entry's text goes on as the line does.
 use Rattle.std.proofs.Common.{◌≡◌, ℕ, zero, suc, ◌+◌, ◌-◌, ◌<◌, ◌≤◌, Bool, true, false, leb, ltb, List, [], ◌∷◌, ◌++◌, Ok, Err, length, take, drop, ◌⊎◌, inl, inr, refl, sym, ap, ◌∙◌, subst, append-nil, append_assoc, arith, length-append}
+use Rattle.std.proofs.lemmas.Bool.{cases_Bool}
 use Rattle.std.proofs.Math.Seq.{take-append_seam}
 use Rattle.std.proofs.lemmas.Bool.Decides.{nat_tests}
 use Rattle.std.proofs.lemmas.List.{take-append-drop}
@@ -8,7 +9,6 @@ use Rattle.apl_arrays.specs.List.{first_of}
 use Rattle.sv_text.specs.declared.unread.Unread.{Unread}
 use Rattle.sv_text.specs.declared.unread.Unread.TheVariants.{Left, WantOfMemory}
 use Rattle.sv_text.specs.Reading.{Reading, Stops}
-use Rattle.sv_text.proofs.NumberForms.{bool_cases}
 use Rattle.sv_text.proofs.Readers.{SameFirst, Found, Stopped, Reads, AreGlyphs, same_behind, again}
 use Rattle.sv_text.proofs.Told.{tell, first_told}
 use Rattle.sv_journal.specs.EntryReading.{entry_at}
@@ -52,7 +52,7 @@ first_of_more (x ∷ more) other some = refl
 no_longer : (line : List ℕ) (left : ℕ) → Stopped placed EntryOk Nothing line left → (longer : ℕ) → longer ≤ length line → BeginsEntry (take longer line) → longer ≤ length line - left
 no_longer line left h longer within b =
     let at : length line - left ≡ length h.part = omega (arith, ap length h.whole, length-append h.part h.rest, h.left_is) in
-    elim (bool_cases (leb longer (length h.part))) [
+    elim (cases_Bool (leb longer (length h.part))) [
       | inl short ↦ let less : longer ≤ length h.part = grind (arith, nat_tests, short) in omega (arith, less, at)
       | inr long ↦
           let more : length h.part < longer = grind (arith, nat_tests, long) in

@@ -13,7 +13,8 @@ use Rattle.sv_text.specs.Reading.{Reader, Reading, ◌>>=◌, as_read, literal_a
 use Rattle.sv_text.specs.Value.{IsValue, IsValueOrNone}
 use Rattle.sv_text.specs.ValueReading.{shape_at, numbers_at, quoted_at, numbers_array_at, chars_array_at, array_at, value_at}
 use Rattle.sv_text.specs.ValueText.{items_text, array_text, value_text}
-use Rattle.sv_text.proofs.ItemForms.{Fits64, numbers_text, chars_text, reads_numbers, reads_quoted, fits_nought, blank_glyph}
+use Rattle.line_text.proofs.SameNumbers.{Fits64}
+use Rattle.sv_text.proofs.ItemForms.{numbers_text, chars_text, reads_numbers, reads_quoted, fits_nought, blank_glyph}
 use Rattle.sv_text.proofs.ListForms.{AreSoMany, copies, copies_fit}
 use Rattle.sv_text.proofs.NumberForms.{NoDigit}
 use Rattle.sv_text.proofs.Readers.{SameFirst, Anything, Reads, IsReader, AreGlyphs, reformed, retexted, behind_glyph, stops_here, after_text, then_read, made, widened, nothing_more, no_further}

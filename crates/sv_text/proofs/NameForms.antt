@@ -1,6 +1,6 @@
 -- Reading a name: it goes on as long as a name may.
 use Rattle.std.proofs.Common.{◌≡◌, ℕ, zero, suc, ◌+◌, ◌-◌, ◌<◌, ◌≤◌, min, Bool, true, false, cond, leb, ◌&&◌, List, [], ◌∷◌, ◌++◌, Some, Ok, Err, length, take, drop, ◌⊎◌, inl, inr, refl, sym, ap, ◌∙◌, subst, append-nil, append_assoc, arith, length-append}
-use Rattle.std.proofs.lemmas.Bool.{false≢true, and_parts, and_from}
+use Rattle.std.proofs.lemmas.Bool.{false≢true, and_parts, and_from, cases_Bool}
 use Rattle.std.proofs.lemmas.Bool.Decides.{nat_tests}
 use Rattle.std.proofs.lemmas.List.{take-append-drop, length-take}
 use Rattle.std.proofs.lemmas.List.Folds.{list_all-append}
@@ -13,7 +13,7 @@ use Rattle.apl_arrays.proofs.Runs.{run_passes, run_stops, run_fits}
 use Rattle.apl_arrays.specs.List.{first_of}
 use Rattle.sv_text.specs.Reading.{name_span, name_at}
 use Rattle.sv_text.proofs.Readers.{SameFirst, Found, Stopped, Reads, IsReader, cancelled}
-use Rattle.sv_text.proofs.NumberForms.{begins_same, bool_cases, begins_within}
+use Rattle.sv_text.proofs.NumberForms.{begins_same, begins_within}
 
 -- what follows does not go on as a name does
 abbrev pub NoName : List ℕ → Type 0
@@ -50,7 +50,7 @@ longer_name line w g more behind z right whole next agree =
     let parts = and_parts (list_all goes_on (take (name_span line) line)) (goes_on g && list_all goes_on more) (sym (list_all-append goes_on (take (name_span line) line) (g ∷ more)) ∙ all) in
     let here : goes_on g ≡ true = (and_parts (goes_on g) (list_all goes_on more) parts.1).0 in
     let going : begins goes_on (drop (name_span line) line) ≡ true = sym (begins_same goes_on z (drop (name_span line) line) agree) ∙ (ap (begins goes_on) next ∙ here) in
-    elim (bool_cases (leb (prefix_len goes_on line) 32)) [
+    elim (cases_Bool (leb (prefix_len goes_on line) 32)) [
       | inl h ↦
           let short : prefix_len goes_on line ≤ 32 = grind (arith, nat_tests, h) in
           let all_of_it : name_span line ≡ prefix_len goes_on line = omega (arith, short) in

@@ -1,6 +1,6 @@
 -- Reading a number of a range: it goes on exactly as long as a number of the range begins with its digits.
 use Rattle.std.proofs.Common.{◌≡◌, ℕ, zero, suc, ◌+◌, ◌-◌, ◌*◌, ◌/◌, ◌%◌, ◌<◌, ◌≤◌, ◌^◌, max, Bool, true, false, ◌&&◌, ◌||◌, cond, leb, ltb, eqb, List, [], ◌∷◌, ◌++◌, Option, Some, None, Ok, Err, length, get_or, ◌⊎◌, inl, inr, refl, sym, ap, ◌∙◌, subst, append-nil, append_assoc, arith, lit<}
-use Rattle.std.proofs.lemmas.Bool.{false≢true}
+use Rattle.std.proofs.lemmas.Bool.{false≢true, cases_Bool}
 use Rattle.std.proofs.lemmas.Bool.Decides.{nat_tests}
 use Rattle.std.proofs.lemmas.List.Folds.{list_all-append}
 use Rattle.std.proofs.lemmas.Fmt.{decimal_digit, decimal_step, decimal_step_wide, decimal_is_IsNumeral_wide, decimal_nonempty, first_decimal}
@@ -37,10 +37,6 @@ pub record Reached (value low high : ℕ) : Type 0 where
   pub within : InRange low high number
   pub heads : Heads value number
 
-pub bool_cases : (b : Bool) → (b ≡ true) ⊎ (b ≡ false)
-bool_cases true = inl refl
-bool_cases false = inr refl
-
 same_wide : (m n : ℕ) → m < 10 ^ 64 → n < 10 ^ 64 → decimal m ≡ decimal n → m ≡ n
 same_wide m n p q e = sym (decimal_is_IsNumeral_wide m p).1 ∙ (ap (digits_value 10) e ∙ (decimal_is_IsNumeral_wide n q).1)
 
@@ -68,7 +64,7 @@ one_glyph x (y ∷ z ∷ ys) (o ∷ others) some more e = cc
 -- digits behind others: the number has two at least, and begins so without its last one too
 shorter : (value n : ℕ) (others : List ℕ) → value < 10 ^ 64 → n < 10 ^ 64 → 0 < length others → decimal n ≡ decimal value ++ others → (10 ≤ n) × Heads value (n / 10)
 shorter value n others small fits more e =
-    let large : 10 ≤ n = elim (bool_cases (leb 10 n)) [
+    let large : 10 ≤ n = elim (cases_Bool (leb 10 n)) [
       | inl h ↦ grind (arith, nat_tests, h)
       | inr h ↦ absurd (one_glyph (48 + n) (decimal value) others (some_digits value small) more (sym (decimal_digit n (grind (arith, nat_tests, h))) ∙ e))
     ] in
@@ -178,7 +174,7 @@ pub record IsNoDigit (glyph : ℕ) : Type 0 where
 
 pub digit_or_not : (glyph : ℕ) → IsDigit glyph ⊎ IsNoDigit glyph
 digit_or_not glyph =
-    elim (bool_cases (is_digit glyph)) [
+    elim (cases_Bool (is_digit glyph)) [
       | inl h ↦ inl (record { value = glyph - 48; small = grind (arith, nat_tests, h); is = grind (arith, nat_tests, h); told = ap (λ b. cond b (Some (glyph - 48)) None) h })
       | inr h ↦ inr (record { is = h; told = ap (λ b. cond b (Some (glyph - 48)) None) h })
     ]
@@ -302,7 +298,7 @@ only_nought : (low high : ℕ) → high < 2 ^ 64 → (w : ℕ) (behind z rest : 
 only_nought low high fits w behind z rest within e agree =
     let small : w < 2 ^ 64 = omega (arith, fits, within.most) in
     let first : get_or (decimal w) 0 0 ≡ 48 = first_glyph 48 (decimal w) behind rest (decimal_nonempty w small) (ap first_of e ∙ agree) in
-    elim (bool_cases (eqb w 0)) [
+    elim (cases_Bool (eqb w 0)) [
       | inl h ↦ grind (arith, nat_tests, h)
       | inr h ↦ absurd (let some : 0 < w = grind (arith, nat_tests, h) in omega (arith, first, first_decimal w some small))
     ]
