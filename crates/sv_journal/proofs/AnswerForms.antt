@@ -296,7 +296,7 @@ listed_there kinds kind h a fits =
 listed_back : (kinds : List AnswerKind) (kind : AnswerKind) (a : PlainAnswer) → (kind_of a ≡ kind) × Listed kinds a → AnswerOk kind a
 listed_back kinds kind a h = answer_back kind a (h.0, h.1.ranged)
 
-some_listed : (kinds : List AnswerKind) (kind : AnswerKind) → Member kind kinds → (a : PlainAnswer) × (kind_of a ≡ kind) × Listed kinds a
+pub some_listed : (kinds : List AnswerKind) (kind : AnswerKind) → Member kind kinds → (a : PlainAnswer) × (kind_of a ≡ kind) × Listed kinds a
 some_listed kinds kind h =
     let some = some_answer kind in
     (some.0, some.1, record { kind = subst (λ k. Member k kinds) (sym some.1) h; ranged = some.2 })

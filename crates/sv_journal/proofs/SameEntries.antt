@@ -270,6 +270,39 @@ record EndsAnswer (text : List ℕ) : Type 0 where
   value : EndsValue text
   name : EndsNames text
 
+-- an answer's word
+abbrev word_of : PlainAnswer → List ℕ
+word_of (degree d) = codes "degree"
+word_of granted = codes "granted"
+word_of (value got) = codes "value"
+word_of no_value = codes "novalue"
+word_of (held hold) = codes "held"
+word_of (abandoned hold) = codes "abandoned"
+word_of not_shared = codes "notshared"
+word_of offer_limit = codes "limit"
+word_of full = codes "full"
+word_of (vector control) = codes "vector"
+word_of (parties list) = codes "parties"
+word_of (names list) = codes "names"
+word_of (kept d known) = codes "kept"
+word_of done = codes "done"
+
+letters_of_word : (a : PlainAnswer) (rest : List ℕ) → first_letters (answer_text a ++ rest) ≡ first_letters (word_of a)
+letters_of_word (degree d) rest = refl
+letters_of_word granted rest = refl
+letters_of_word (value got) rest = refl
+letters_of_word no_value rest = refl
+letters_of_word (held hold) rest = refl
+letters_of_word (abandoned hold) rest = refl
+letters_of_word not_shared rest = refl
+letters_of_word offer_limit rest = refl
+letters_of_word full rest = refl
+letters_of_word (vector control) rest = refl
+letters_of_word (parties list) rest = ap (λ text. first_letters (text ++ rest)) (listed (codes "parties") decimal list)
+letters_of_word (names list) rest = ap (λ text. first_letters (text ++ rest)) (names_listed list)
+letters_of_word (kept d known) rest = refl
+letters_of_word done rest = refl
+
 same_answer : (a b : PlainAnswer) (rest left : List ℕ) → IsPrintableAnswer a → IsPrintableAnswer b → EndsAnswer rest → EndsAnswer left → answer_text a ++ rest ≡ answer_text b ++ left → (a ≡ b) × (rest ≡ left)
 same_answer (degree m) (degree n) rest left p q stop halt e =
     let inner : decimal m ++ rest ≡ decimal n ++ left = cc in
@@ -304,7 +337,9 @@ same_answer not_shared not_shared rest left p q stop halt e = (refl, cc)
 same_answer offer_limit offer_limit rest left p q stop halt e = (refl, cc)
 same_answer full full rest left p q stop halt e = (refl, cc)
 same_answer done done rest left p q stop halt e = (refl, cc)
-same_answer a b rest left p q stop halt e = absurd (omega (arith, ap first_letters e))
+same_answer a b rest left p q stop halt e =
+    let letters : first_letters (word_of a) ≡ first_letters (word_of b) = sym (letters_of_word a rest) ∙ (ap first_letters e ∙ letters_of_word b left) in
+    absurd (omega (arith, letters))
 
 -- pairs, up to the end of the line
 
