@@ -163,7 +163,7 @@ unfolding set_parts_at SetOk set_parts
 reads_set_parts =
     then_read local_text IsName NoName (λ p. p.0) (λ p. codes " " ++ array_text p.1) SetOk NoDigit SameFirst local_at (λ l line. literal_at (codes " ") line >>= λ rest. as_read (set_parts l) (array_at rest)) no_further reads_local
     (λ l h. after_text (codes " ") (λ p. array_text p.1) (λ p. (p.0 ≡ l) × SetOk p) NoDigit SameFirst (λ rest. as_read (set_parts l) (array_at rest)) (l, a_value.0) (refl, (h, a_value.1))
-      (made array_text IsValue NoDigit SameFirst array_at (set_parts l) (λ p. p.1) (λ p. (p.0 ≡ l) × SetOk p) reads_array (λ e f. f.1.1) (λ e f. ap (λ x. set_parts x e.1) (sym f.0)) (λ c f. (refl, (h, f))) (λ c f. refl)))
+    (made array_text IsValue NoDigit SameFirst array_at (set_parts l) (λ p. p.1) (λ p. (p.0 ≡ l) × SetOk p) reads_array (λ e f. f.1.1) (λ e f. ap (λ x. set_parts x e.1) (sym f.0)) (λ c f. (refl, (h, f))) (λ c f. refl)))
     (λ e h. h.0) (λ e behind h follow. refl) (λ l h. ((l, a_value.0), refl, (h, a_value.1)))
 
 -- what stands behind the word of an act

@@ -101,7 +101,7 @@ unfolding kept_parts_at kept_parts
 reads_kept_parts =
     then_read degree_behind_text IsDegree NoDigit (λ p. p.0) (λ p. codes " " ++ value_text p.1) KeptOk NoDigit SameFirst degree_at (λ d line. literal_at (codes " ") line >>= λ rest. as_read (kept_parts d) (value_at rest)) no_further reads_degree
     (λ d h. after_text (codes " ") (λ p. value_text p.1) (λ p. (p.0 ≡ d) × KeptOk p) NoDigit SameFirst (λ rest. as_read (kept_parts d) (value_at rest)) (d, None) (refl, (h, tt))
-      (made value_text IsValueOrNone NoDigit SameFirst value_at (kept_parts d) (λ p. p.1) (λ p. (p.0 ≡ d) × KeptOk p) reads_value (λ e f. f.1.1) (λ e f. ap (λ x. kept_parts x e.1) (sym f.0)) (λ v f. (refl, (h, f))) (λ v f. refl)))
+    (made value_text IsValueOrNone NoDigit SameFirst value_at (kept_parts d) (λ p. p.1) (λ p. (p.0 ≡ d) × KeptOk p) reads_value (λ e f. f.1.1) (λ e f. ap (λ x. kept_parts x e.1) (sym f.0)) (λ v f. (refl, (h, f))) (λ v f. refl)))
     (λ e h. h.0) (λ e behind h follow. refl) (λ d h. ((d, None), refl, (h, tt)))
 
 -- answers by their kinds
@@ -296,7 +296,7 @@ listed_there kinds kind h a fits =
 listed_back : (kinds : List AnswerKind) (kind : AnswerKind) (a : PlainAnswer) → (kind_of a ≡ kind) × Listed kinds a → AnswerOk kind a
 listed_back kinds kind a h = answer_back kind a (h.0, h.1.ranged)
 
-some_listed : (kinds : List AnswerKind) (kind : AnswerKind) → Member kind kinds → (a : PlainAnswer) × (kind_of a ≡ kind) × Listed kinds a
+pub some_listed : (kinds : List AnswerKind) (kind : AnswerKind) → Member kind kinds → (a : PlainAnswer) × (kind_of a ≡ kind) × Listed kinds a
 some_listed kinds kind h =
     let some = some_answer kind in
     (some.0, some.1, record { kind = subst (λ k. Member k kinds) (sym some.1) h; ranged = some.2 })

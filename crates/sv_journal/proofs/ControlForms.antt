@@ -21,7 +21,7 @@ bit_number : Bool → ℕ
 bit_number true = 1
 bit_number false = 0
 
-bit_behind_text : Bool → List ℕ
+pub bit_behind_text : Bool → List ℕ
 bit_behind_text bit = 32 ∷ bit_text bit
 
 bit_small : (b : Bool) → AnyBit b → InRange 0 1 (bit_number b)

@@ -8,7 +8,8 @@ use Rattle.sv_events.specs.declared.event.Act.{Act}
 use Rattle.sv_events.specs.declared.entry.Pair.{Pair}
 use Rattle.sv_events.specs.declared.row.AnswerKind.{AnswerKind}
 use Rattle.sv_events.specs.declared.row.AnswerKind.TheVariants as told
-use Rattle.sv_text.specs.Reading.{Reader, Reading, ◌>>=◌, as_read, begins_with, behind_first, first_of, literal_at}
+use Rattle.apl_arrays.specs.List.{first_of, others_of}
+use Rattle.sv_text.specs.Reading.{Reader, Reading, ◌>>=◌, as_read, begins_with, literal_at}
 use Rattle.sv_text.specs.NumberReading.{number_at}
 use Rattle.sv_text.proofs.NumberForms.{InRange, NoDigit, reads_number}
 use Rattle.sv_text.proofs.Told.{second_told}
@@ -31,7 +32,7 @@ use Rattle.sv_journal.proofs.PairForms.{Nothing, pair_of, first_pair, pairs_text
 
 -- an answer, and pairs behind it
 
-far_part : (part z rest : List ℕ) → SameFirst z rest → (begins_with 32 (part ++ rest) ≡ true → part ≡ [] → ⊥) → begins_with 32 (part ++ rest) ≡ true → SameFirst (behind_first (part ++ z)) (behind_first (part ++ rest))
+far_part : (part z rest : List ℕ) → SameFirst z rest → (begins_with 32 (part ++ rest) ≡ true → part ≡ [] → ⊥) → begins_with 32 (part ++ rest) ≡ true → SameFirst (others_of (part ++ z)) (others_of (part ++ rest))
 far_part [] z rest same takes blank = absurd (takes blank refl)
 far_part (c ∷ part) z rest same takes blank = same_behind part z rest same
 
@@ -45,15 +46,15 @@ far_found text ok first others right part_fits follow line v rest h (Ok found) g
   fits = g.fits.1;
   whole = h.whole ∙ (ap (λ t. text v ++ t) g.whole ∙ (sym (append_assoc (text v) (others found.0) found.1) ∙ ap (λ x. (text x ++ others found.0) ++ found.1) (sym g.fits.0)));
   only = λ w behind z fit next e agree.
-    let whole : text (first w) ++ (others w ++ behind) ≡ text v ++ (others found.0 ++ z) =
-    sym (append_assoc (text (first w)) (others w) behind) ∙ (e ∙ (ap (λ x. (text x ++ others found.0) ++ z) g.fits.0 ∙ append_assoc (text v) (others found.0) z)) in
-    let none : found.1 ≡ [] = ends found.0 found.1 refl in
-    let nothing : z ≡ found.1 = same_end z (agree ∙ ap first_of none) ∙ sym none in
-    let equal : others found.0 ++ z ≡ rest = ap (λ t. others found.0 ++ t) nothing ∙ sym g.whole in
-    let agreed : Farther (others found.0 ++ z) rest = subst (λ t. Farther t rest) (sym equal) (same_farther rest) in
-    let same : first w ≡ v = h.only (first w) (others w ++ behind) (others found.0 ++ z) (part_fits w fit) (follow w behind fit next) whole agreed in
-    let inner : others w ++ behind ≡ others found.0 ++ z = cancelled (text v) (others w ++ behind) (others found.0 ++ z) (ap (λ x. text x ++ (others w ++ behind)) (sym same) ∙ whole) in
-    g.only w behind z (same, fit) next inner agree;
+      let whole : text (first w) ++ (others w ++ behind) ≡ text v ++ (others found.0 ++ z) =
+      sym (append_assoc (text (first w)) (others w) behind) ∙ (e ∙ (ap (λ x. (text x ++ others found.0) ++ z) g.fits.0 ∙ append_assoc (text v) (others found.0) z)) in
+      let none : found.1 ≡ [] = ends found.0 found.1 refl in
+      let nothing : z ≡ found.1 = same_end z (agree ∙ ap first_of none) ∙ sym none in
+      let equal : others found.0 ++ z ≡ rest = ap (λ t. others found.0 ++ t) nothing ∙ sym g.whole in
+      let agreed : Farther (others found.0 ++ z) rest = subst (λ t. Farther t rest) (sym equal) (same_farther rest) in
+      let same : first w ≡ v = h.only (first w) (others w ++ behind) (others found.0 ++ z) (part_fits w fit) (follow w behind fit next) whole agreed in
+      let inner : others w ++ behind ≡ others found.0 ++ z = cancelled (text v) (others w ++ behind) (others found.0 ++ z) (ap (λ x. text x ++ (others w ++ behind)) (sym same) ∙ whole) in
+      g.only w behind z (same, fit) next inner agree;
 }
 far_found text ok first others right part_fits follow line v rest h (Err left) g ends takes = record {
   part = text v ++ g.part;
@@ -65,12 +66,12 @@ far_found text ok first others right part_fits follow line v rest h (Err left) g
   fits = g.fits.1;
   goes_on = ap (λ x. text x ++ others g.value) g.fits.0 ∙ (ap (λ t. text v ++ t) g.goes_on ∙ sym (append_assoc (text v) g.part g.more));
   none = λ w behind z fit next e agree.
-    let whole : text (first w) ++ (others w ++ behind) ≡ text v ++ (g.part ++ z) =
-    sym (append_assoc (text (first w)) (others w) behind) ∙ (e ∙ append_assoc (text v) g.part z) in
-    let agreed : Farther (g.part ++ z) rest = far_agreed g.part z g.rest rest g.whole agree (λ blank none. takes left g blank none) in
-    let same : first w ≡ v = h.only (first w) (others w ++ behind) (g.part ++ z) (part_fits w fit) (follow w behind fit next) whole agreed in
-    let inner : others w ++ behind ≡ g.part ++ z = cancelled (text v) (others w ++ behind) (g.part ++ z) (ap (λ x. text x ++ (others w ++ behind)) (sym same) ∙ whole) in
-    g.none w behind z (same, fit) next inner agree;
+      let whole : text (first w) ++ (others w ++ behind) ≡ text v ++ (g.part ++ z) =
+      sym (append_assoc (text (first w)) (others w) behind) ∙ (e ∙ append_assoc (text v) g.part z) in
+      let agreed : Farther (g.part ++ z) rest = far_agreed g.part z g.rest rest g.whole agree (λ blank none. takes left g blank none) in
+      let same : first w ≡ v = h.only (first w) (others w ++ behind) (g.part ++ z) (part_fits w fit) (follow w behind fit next) whole agreed in
+      let inner : others w ++ behind ≡ g.part ++ z = cancelled (text v) (others w ++ behind) (g.part ++ z) (ap (λ x. text x ++ (others w ++ behind)) (sym same) ∙ whole) in
+      g.none w behind z (same, fit) next inner agree;
 }
 
 -- entries

@@ -92,6 +92,17 @@ listed_fits (act.Use local) kind (inr (inr (inl e))) = ap (fits_kind (act_row (a
 listed_fits (act.Use local) kind (inr (inr (inr (inl e)))) = ap (fits_kind (act_row (act.Use local)).row) e
 listed_fits (act.Use local) kind (inr (inr (inr (inr (inl e))))) = ap (fits_kind (act_row (act.Use local)).row) e
 listed_fits act.Leave kind (inl e) = ap (fits_kind (act_row act.Leave).row) e
+listed_fits (act.Offer to local surrogate handed) kind (inr (inr none)) = absurd none
+listed_fits (act.Retract local) kind (inr (inr none)) = absurd none
+listed_fits (act.SetControl local control) kind (inr (inr none)) = absurd none
+listed_fits (act.AskControl local) kind (inr none) = absurd none
+listed_fits (act.AskState local) kind (inr none) = absurd none
+listed_fits (act.AskDegree local) kind (inr none) = absurd none
+listed_fits act.AskParties kind (inr none) = absurd none
+listed_fits (act.AskNames party) kind (inr none) = absurd none
+listed_fits (act.Set local new) kind (inr (inr (inr (inr none)))) = absurd none
+listed_fits (act.Use local) kind (inr (inr (inr (inr (inr none))))) = absurd none
+listed_fits act.Leave kind (inr none) = absurd none
 
 -- and is not Full
 listed_not_full : (a : Act) (kind : AnswerKind) → Member kind (answers_to (word_of a)) → NotFull kind
@@ -117,6 +128,17 @@ listed_not_full (act.Use local) kind (inr (inr (inl e))) = ap is_full e
 listed_not_full (act.Use local) kind (inr (inr (inr (inl e)))) = ap is_full e
 listed_not_full (act.Use local) kind (inr (inr (inr (inr (inl e))))) = ap is_full e
 listed_not_full act.Leave kind (inl e) = ap is_full e
+listed_not_full (act.Offer to local surrogate handed) kind (inr (inr none)) = absurd none
+listed_not_full (act.Retract local) kind (inr (inr none)) = absurd none
+listed_not_full (act.SetControl local control) kind (inr (inr none)) = absurd none
+listed_not_full (act.AskControl local) kind (inr none) = absurd none
+listed_not_full (act.AskState local) kind (inr none) = absurd none
+listed_not_full (act.AskDegree local) kind (inr none) = absurd none
+listed_not_full act.AskParties kind (inr none) = absurd none
+listed_not_full (act.AskNames party) kind (inr none) = absurd none
+listed_not_full (act.Set local new) kind (inr (inr (inr (inr none)))) = absurd none
+listed_not_full (act.Use local) kind (inr (inr (inr (inr (inr none))))) = absurd none
+listed_not_full act.Leave kind (inr none) = absurd none
 
 -- ranges
 

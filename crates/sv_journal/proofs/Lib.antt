@@ -10,6 +10,7 @@ pub mod ListedForms
 pub mod Numbered
 pub mod PairForms
 pub mod ReadLaws
+pub mod SameActs
 pub mod SameEntries
 pub mod SameOutput
 pub mod WhileForms

@@ -9,11 +9,11 @@ use Rattle.sv_journal.specs.EntryText.{answer_text}
 use Rattle.sv_journal.proofs.SameEntries.{listed, names_listed}
 
 -- one thing more
-pub one_listed : {A : Type 0} (f : A → List ℕ) (list : List A) (index : ℕ) (x : A) (old word before after : List ℕ) → index < length list → x ≡ get_or list index x → before ≡ old ++ (word ++ flat_map f (take index list)) → after ≡ before ++ f x → after ≡ old ++ (word ++ flat_map f (take (index + 1) list))
-one_listed f list index x old word before after within is so_far added =
+pub one_listed : {A : Type 0} (f : A → List ℕ) (list : List A) (index : ℕ) (x none : A) (old word before after : List ℕ) → index < length list → x ≡ get_or list index none → before ≡ old ++ (word ++ flat_map f (take index list)) → after ≡ before ++ f x → after ≡ old ++ (word ++ flat_map f (take (index + 1) list))
+one_listed f list index x none old word before after within is so_far added =
     let front : List ℕ = flat_map f (take index list) in
     let more : flat_map f (take (index + 1) list) ≡ front ++ f x =
-    ap (flat_map f) (take_more list index x within ∙ ap (λ last. take index list ++ last ∷ []) (sym is)) ∙ (flat_map-append f (take index list) (x ∷ []) ∙ ap (λ end. front ++ end) (append-nil (f x))) in
+    ap (flat_map f) (take_more list index none within ∙ ap (λ last. take index list ++ last ∷ []) (sym is)) ∙ (flat_map-append f (take index list) (x ∷ []) ∙ ap (λ end. front ++ end) (append-nil (f x))) in
     added
     ∙ (ap (λ line. line ++ f x) so_far
     ∙ (append_assoc old (word ++ front) (f x)

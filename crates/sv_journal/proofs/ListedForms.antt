@@ -1,6 +1,6 @@
 -- Reading lists up to pairs or the end of a line.
 use Rattle.std.proofs.Common.{◌≡◌, ℕ, ◌+◌, ◌-◌, Bool, true, false, not, ◌&&◌, eqb, List, [], ◌∷◌, ◌++◌, Some, length, ◌⊎◌, inl, inr, refl, sym, ap, ◌∙◌, subst, arith}
-use Rattle.std.proofs.lemmas.Bool.{false≢true, and_parts}
+use Rattle.std.proofs.lemmas.Bool.{false≢true, and_parts, cases_Bool}
 use Rattle.std.proofs.lemmas.Bool.Decides.{nat_tests}
 use Rattle.std.specs.Fmt.{decimal}
 use Rattle.std.specs.List.{flat_map, AllByRecursion}
@@ -8,9 +8,10 @@ use Rattle.apl_arrays.specs.Glyph.{is_digit, is_letter}
 use Rattle.apl_arrays.specs.Name.{IsName}
 use Rattle.apl_arrays.specs.Run.{begins}
 use Rattle.line_text.proofs.SameNumbers.{begins_count}
-use Rattle.sv_text.specs.Reading.{Reader, begins_with, behind_first, first_of}
+use Rattle.apl_arrays.specs.List.{first_of, others_of}
+use Rattle.sv_text.specs.Reading.{Reader, begins_with}
 use Rattle.sv_text.proofs.NameForms.{NoName}
-use Rattle.sv_text.proofs.NumberForms.{NoDigit, bool_cases}
+use Rattle.sv_text.proofs.NumberForms.{NoDigit}
 use Rattle.sv_text.proofs.Readers.{SameFirst, Stopped, IsReader, same_behind}
 use Rattle.sv_journal.specs.ActReading.{local_at, party_at}
 use Rattle.sv_journal.specs.AnswerReading.{goes_on, parties_at, names_at}
@@ -26,7 +27,7 @@ PairsBehind behind = (behind ≡ []) ⊎ ((more : List ℕ) × (behind ≡ 32 �
 -- two lines go on with the same glyph, and behind a blank with the same one again
 pub record Farther (one other : List ℕ) : Type 0 where
   pub first : SameFirst one other
-  pub second : begins_with 32 other ≡ true → SameFirst (behind_first one) (behind_first other)
+  pub second : begins_with 32 other ≡ true → SameFirst (others_of one) (others_of other)
 
 pub no_farther : (one other : List ℕ) → Farther one other → SameFirst one other
 no_farther one other h = h.first
@@ -52,7 +53,7 @@ blank_first (x ∷ xs) e = ap Some (let same : x ≡ 32 = grind (arith, nat_test
 no_plus : (p : ℕ → Bool) → p 43 ≡ false → (line : List ℕ) → begins p line ≡ true → begins_with 43 line ≡ false
 no_plus p never [] e = refl
 no_plus p never (x ∷ xs) e =
-    elim (bool_cases (eqb x 43)) [
+    elim (cases_Bool (eqb x 43)) [
       | inl h ↦ absurd (false≢true (sym never ∙ (ap p (let same : 43 ≡ x = grind (arith, nat_tests, h) in same) ∙ e)))
       | inr h ↦ h
     ]
@@ -77,20 +78,20 @@ unlike_pairs text ok follows item s behind more x (inr p) h same =
 ends_spaced : {A : Type 0} (text : A → List ℕ) (ok : A → Type 0) (follows : List ℕ → Type 0) (item : Reader A) → Spaced text ok follows item → (line more z : List ℕ) (x : A) → goes_on line ≡ false → ok x → (32 ∷ text x) ++ more ≡ z → Farther z line → ⊥
 ends_spaced text ok follows item s line more z x never h e agree =
     let blank : begins_with 32 line ≡ true = sym (begins_with_same 32 z line agree.first) ∙ ap (begins_with 32) (sym e) in
-    let plus : begins_with 43 (behind_first line) ≡ false = sym (begins_with_same 43 (behind_first z) (behind_first line) (agree.second blank)) ∙ (ap (λ t. begins_with 43 (behind_first t)) (sym e) ∙ no_plus s.begin s.plus (text x ++ more) (s.begun x more h)) in
-    let going : goes_on line ≡ true = ap (λ b. b && not (begins_with 43 (behind_first line))) blank ∙ ap (λ b. true && not b) plus in
+    let plus : begins_with 43 (others_of line) ≡ false = sym (begins_with_same 43 (others_of z) (others_of line) (agree.second blank)) ∙ (ap (λ t. begins_with 43 (others_of t)) (sym e) ∙ no_plus s.begin s.plus (text x ++ more) (s.begun x more h)) in
+    let going : goes_on line ≡ true = ap (λ b. b && not (begins_with 43 (others_of line))) blank ∙ ap (λ b. true && not b) plus in
     false≢true (sym never ∙ going)
 
 none_in : (first : List ℕ) (line part rest : List ℕ) → goes_on line ≡ true → line ≡ part ++ rest → ((z : List ℕ) → 32 ∷ first ≡ part ++ z → SameFirst z rest → ⊥) → (behind z : List ℕ) → PairsBehind behind → behind ≡ part ++ z → SameFirst z rest → ⊥
 none_in first line [] rest going whole never behind z follow e same =
-    let blank : begins_with 32 line ≡ true = (and_parts (begins_with 32 line) (not (begins_with 43 (behind_first line))) going).0 in
+    let blank : begins_with 32 line ≡ true = (and_parts (begins_with 32 line) (not (begins_with 43 (others_of line))) going).0 in
     never (32 ∷ first) refl (sym (ap first_of (sym whole) ∙ blank_first line blank))
 none_in first line (c ∷ part) rest going whole never behind z (inl none) e same = let empty : ⊥ = cc in empty
 none_in first line (c ∷ part) rest going whole never behind z (inr p) e same =
     let inner : 43 ∷ p.0 ≡ part ++ z = cc (p.1, e) in
     let plus : begins_with 43 (part ++ rest) ≡ true = sym (begins_with_same 43 (part ++ z) (part ++ rest) (same_behind part z rest same)) ∙ ap (begins_with 43) (sym inner) in
-    let second : begins_with 43 (behind_first line) ≡ true = ap (λ t. begins_with 43 (behind_first t)) whole ∙ plus in
-    let other : not (begins_with 43 (behind_first line)) ≡ true = (and_parts (begins_with 32 line) (not (begins_with 43 (behind_first line))) going).1 in
+    let second : begins_with 43 (others_of line) ≡ true = ap (λ t. begins_with 43 (others_of t)) whole ∙ plus in
+    let other : not (begins_with 43 (others_of line)) ≡ true = (and_parts (begins_with 32 line) (not (begins_with 43 (others_of line))) going).1 in
     false≢true (sym (ap not second) ∙ other)
 
 none_spaced : {A : Type 0} (text : A → List ℕ) (ok : A → Type 0) (follows : List ℕ → Type 0) (item : Reader A) → Spaced text ok follows item → (line : List ℕ) (left : ℕ) (behind z : List ℕ) → goes_on line ≡ true → (h : Stopped (λ x. 32 ∷ text x) ok follows line left) → PairsBehind behind → behind ≡ h.part ++ z → SameFirst z h.rest → ⊥

@@ -6,7 +6,8 @@ use Rattle.std.specs.List.{flat_map, AllByRecursion}
 use Rattle.apl_arrays.specs.Glyph.{is_digit}
 use Rattle.apl_arrays.specs.Run.{begins}
 use Rattle.sv_events.specs.declared.entry.Pair.{Pair}
-use Rattle.sv_text.specs.Reading.{◌>>=◌, as_read, begins_with, first_of, literal_at}
+use Rattle.apl_arrays.specs.List.{first_of}
+use Rattle.sv_text.specs.Reading.{◌>>=◌, as_read, begins_with, literal_at}
 use Rattle.sv_text.specs.NumberReading.{number_at}
 use Rattle.sv_text.proofs.NumberForms.{InRange, NoDigit, reads_number}
 use Rattle.sv_text.proofs.Readers.{SameFirst, Stopped, IsReader, AreGlyphs, same_end, after_text, then_read, made, no_further}

@@ -1,9 +1,9 @@
 -- Reading a list as long as it goes on.
 use Rattle.std.proofs.Common.{◌≡◌, ℕ, zero, suc, ◌+◌, ◌<◌, ◌≤◌, Bool, true, false, cond, List, [], ◌∷◌, ◌++◌, Ok, Err, length, ◌⊎◌, inl, inr, refl, sym, ap, ◌∙◌, subst, append-nil, append_assoc, arith, length-append}
-use Rattle.std.proofs.lemmas.Bool.{false≢true}
+use Rattle.std.proofs.lemmas.Bool.{false≢true, cases_Bool}
 use Rattle.std.specs.List.{flat_map, AllByRecursion}
-use Rattle.sv_text.specs.Reading.{Reader, Reading, ◌>>=◌, first_of, list_at, read_behind}
-use Rattle.sv_text.proofs.NumberForms.{bool_cases}
+use Rattle.apl_arrays.specs.List.{first_of}
+use Rattle.sv_text.specs.Reading.{Reader, Reading, ◌>>=◌, list_at, read_behind}
 use Rattle.sv_text.proofs.Told.{second_told}
 use Rattle.sv_text.proofs.Readers.{SameFirst, Found, Stopped, Reads, IsReader, AreGlyphs, glyphs_behind, same_behind, cancelled}
 

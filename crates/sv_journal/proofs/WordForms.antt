@@ -1,9 +1,10 @@
 -- Reading one of several words, none of which begins another one.
 use Rattle.std.proofs.Common.{◌≡◌, ℕ, zero, suc, ◌+◌, ◌-◌, ◌<◌, ◌≤◌, max, Bool, true, false, cond, eqb, leb, List, [], ◌∷◌, ◌++◌, Some, Ok, Err, length, take, drop, ◌⊎◌, inl, inr, refl, sym, ap, ◌∙◌, subst, arith, length-drop}
+use Rattle.std.proofs.lemmas.Bool.{cases_Bool}
 use Rattle.std.proofs.lemmas.Bool.Decides.{nat_tests}
 use Rattle.std.proofs.lemmas.List.{take-append-drop}
-use Rattle.sv_text.specs.Reading.{Reader, Reading, ◌>>=◌, first_of, literal_at, shared_length}
-use Rattle.sv_text.proofs.NumberForms.{bool_cases}
+use Rattle.apl_arrays.specs.List.{first_of}
+use Rattle.sv_text.specs.Reading.{Reader, Reading, ◌>>=◌, literal_at, shared_length}
 use Rattle.sv_text.proofs.Readers.{SameFirst, Anything, Found, Stopped, Reads, IsReader, AreGlyphs}
 use Rattle.sv_journal.specs.WordReading.{word_at}
 
@@ -21,7 +22,7 @@ shared_within [] line = (omega arith, omega arith)
 shared_within (glyph ∷ text) [] = (omega arith, omega arith)
 shared_within (glyph ∷ text) (first ∷ rest) =
     let inner = shared_within text rest in
-    elim (bool_cases (eqb first glyph)) [
+    elim (cases_Bool (eqb first glyph)) [
       | inl h ↦ (omega (arith, inner.0, shared_by glyph first text rest true h), omega (arith, inner.1, shared_by glyph first text rest true h))
       | inr h ↦ (omega (arith, shared_by glyph first text rest false h), omega (arith, shared_by glyph first text rest false h))
     ]
@@ -32,11 +33,11 @@ shared_front zero text line h = refl
 shared_front (suc n) [] line h = absurd (omega (arith, h))
 shared_front (suc n) (glyph ∷ text) [] h = absurd (omega (arith, h))
 shared_front (suc n) (glyph ∷ text) (first ∷ rest) h =
-    elim (bool_cases (eqb first glyph)) [
+    elim (cases_Bool (eqb first glyph)) [
       | inl e ↦
-        let same : glyph ≡ first = grind (arith, nat_tests, e) in
-        let inner = shared_front n text rest (omega (arith, h, shared_by glyph first text rest true e)) in
-        cc (same, inner)
+          let same : glyph ≡ first = grind (arith, nat_tests, e) in
+          let inner = shared_front n text rest (omega (arith, h, shared_by glyph first text rest true e)) in
+          cc (same, inner)
       | inr e ↦ absurd (omega (arith, h, shared_by glyph first text rest false e))
     ]
 
@@ -46,20 +47,20 @@ departs n [] line behind z most less within e agree = omega (arith, less)
 departs zero (glyph ∷ text) [] behind z most less within e agree = let none : ⊥ = cc (ap first_of e, agree) in none
 departs (suc n) (glyph ∷ text) [] behind z most less within e agree = omega (arith, within)
 departs zero (glyph ∷ text) (first ∷ rest) behind z most less within e agree =
-    elim (bool_cases (eqb first glyph)) [
+    elim (cases_Bool (eqb first glyph)) [
       | inl h ↦ omega (arith, most, shared_by glyph first text rest true h)
       | inr h ↦
-        let same : glyph ≡ first = cc (ap first_of e, agree) in
-        grind (arith, nat_tests, h, same)
+          let same : glyph ≡ first = cc (ap first_of e, agree) in
+          grind (arith, nat_tests, h, same)
     ]
 departs (suc n) (glyph ∷ text) (first ∷ rest) behind z most less within e agree =
-    elim (bool_cases (eqb first glyph)) [
+    elim (cases_Bool (eqb first glyph)) [
       | inl h ↦
-        let inner : text ++ behind ≡ take n rest ++ z = cc in
-        departs n text rest behind z (omega (arith, most, shared_by glyph first text rest true h)) (omega (arith, less, shared_by glyph first text rest true h)) (omega (arith, within)) inner agree
+          let inner : text ++ behind ≡ take n rest ++ z = cc in
+          departs n text rest behind z (omega (arith, most, shared_by glyph first text rest true h)) (omega (arith, less, shared_by glyph first text rest true h)) (omega (arith, within)) inner agree
       | inr h ↦
-        let same : glyph ≡ first = cc in
-        grind (arith, nat_tests, h, same)
+          let same : glyph ≡ first = cc in
+          grind (arith, nat_tests, h, same)
     ]
 
 -- a text that is shared whole stands at the front
@@ -72,11 +73,11 @@ stands_there : (text line : List ℕ) → shared_length text line ≡ length tex
 stands_there [] line e = record { rest = line; read = refl; whole = refl }
 stands_there (glyph ∷ text) [] e = absurd (omega (arith, e))
 stands_there (glyph ∷ text) (first ∷ rest) e =
-    elim (bool_cases (eqb first glyph)) [
+    elim (cases_Bool (eqb first glyph)) [
       | inl h ↦
-        let same : first ≡ glyph = grind (arith, nat_tests, h) in
-        let inner = stands_there text rest (omega (arith, e, shared_by glyph first text rest true h)) in
-        record { rest = inner.rest; read = ap (λ b. cond b (literal_at text rest) (Err (length (first ∷ rest)))) h ∙ inner.read; whole = cc (same, inner.whole) }
+          let same : first ≡ glyph = grind (arith, nat_tests, h) in
+          let inner = stands_there text rest (omega (arith, e, shared_by glyph first text rest true h)) in
+          record { rest = inner.rest; read = ap (λ b. cond b (literal_at text rest) (Err (length (first ∷ rest)))) h ∙ inner.read; whole = cc (same, inner.whole) }
       | inr h ↦ absurd (omega (arith, e, shared_by glyph first text rest false h))
     ]
 
@@ -123,27 +124,27 @@ of_two text all line shared word best this here long false e =
 
 word_reads : {W : Type 0} (text : W → List ℕ) (all : List W) → AreApart text → (line : List ℕ) (words : List W) (shared : ℕ) → ((w : W) → Member w words → Member w all) → ((w : W) → Member w all → Member w words ⊎ IsPast text shared line w) → (best : W) → Member best all → shared ≤ shared_length (text best) line → Reads text (λ w. Member w all) Anything SameFirst line (word_at text shared words line)
 word_reads text all apart line [] shared among past best here long =
-    word_stopped text all line shared best here long (λ w fit. elim (past w fit) [ | inl none ↦ absurd none | inr p ↦ p ])
+    word_stopped text all line shared best here long (λ w fit. elim (past w fit) [ inl none ↦ absurd none | inr p ↦ p ])
 word_reads {W} text all apart line (word ∷ words) shared among past best here long =
-    elim (bool_cases (eqb (shared_length (text word) line) (length (text word)))) [
+    elim (cases_Bool (eqb (shared_length (text word) line) (length (text word)))) [
       | inl h ↦
-        let same : shared_length (text word) line ≡ length (text word) = grind (arith, nat_tests, h) in
-        subst (λ b. Reads text (λ w. Member w all) Anything SameFirst line (cond b (literal_at (text word) line >>= λ rest. Ok (word, rest)) (word_at text (max shared (shared_length (text word) line)) words line))) (sym h)
-        (word_found text all apart line word (among word (inl refl)) (stands_there (text word) line same))
+          let same : shared_length (text word) line ≡ length (text word) = grind (arith, nat_tests, h) in
+          subst (λ b. Reads text (λ w. Member w all) Anything SameFirst line (cond b (literal_at (text word) line >>= λ rest. Ok (word, rest)) (word_at text (max shared (shared_length (text word) line)) words line))) (sym h)
+          (word_found text all apart line word (among word (inl refl)) (stands_there (text word) line same))
       | inr h ↦
-        let count : ℕ = shared_length (text word) line in
-        let fewer : count < length (text word) = let other : count ≡ length (text word) → ⊥ = λ e. grind (arith, nat_tests, h, e) in omega (arith, other, (shared_within (text word) line).0) in
-        let next = of_two text all line shared word best (among word (inl refl)) here long (leb count shared) refl in
-        subst (λ b. Reads text (λ w. Member w all) Anything SameFirst line (cond b (literal_at (text word) line >>= λ rest. Ok (word, rest)) (word_at text (max shared count) words line))) (sym h)
-        (word_reads text all apart line words (max shared count) (λ w fit. among w (inr fit))
-        (λ w fit. elim (past w fit) [
-          | inl there ↦ elim there [
+          let count : ℕ = shared_length (text word) line in
+          let fewer : count < length (text word) = let other : count ≡ length (text word) → ⊥ = λ e. grind (arith, nat_tests, h, e) in omega (arith, other, (shared_within (text word) line).0) in
+          let next = of_two text all line shared word best (among word (inl refl)) here long (leb count shared) refl in
+          subst (λ b. Reads text (λ w. Member w all) Anything SameFirst line (cond b (literal_at (text word) line >>= λ rest. Ok (word, rest)) (word_at text (max shared count) words line))) (sym h)
+          (word_reads text all apart line words (max shared count) (λ w fit. among w (inr fit))
+          (λ w fit. elim (past w fit) [
+            | inl there ↦ elim there [
               | inl is ↦ inr (subst (IsPast text (max shared count) line) (sym is) (record { most = omega arith; less = fewer }))
               | inr more ↦ inl more
             ]
-          | inr p ↦ inr (record { most = omega (arith, p.most); less = p.less })
-        ])
-        next.word next.here next.long)
+            | inr p ↦ inr (record { most = omega (arith, p.most); less = p.less })
+          ])
+          next.word next.here next.long)
     ]
 
 -- one of the words is read

@@ -5,7 +5,8 @@ use Rattle.apl_arrays.specs.Glyph.{blank, plus}
 use Rattle.sv_events.specs.Answer.{PlainAnswer, degree, granted, value, no_value, held, abandoned, not_shared, offer_limit, full, vector, parties, names, kept, done}
 use Rattle.sv_events.specs.declared.row.AnswerKind.{AnswerKind}
 use Rattle.sv_events.specs.declared.row.AnswerKind.TheVariants.{Degree, Granted, Value, NoValue, Held, Abandoned, NotShared, OfferLimit, Full, Vector, Parties, Names, Kept, Done}
-use Rattle.sv_text.specs.Reading.{Reader, Reading, ◌>>=◌, as_read, begins_with, behind_first, list_at, literal_at, name_at}
+use Rattle.apl_arrays.specs.List.{others_of}
+use Rattle.sv_text.specs.Reading.{Reader, Reading, ◌>>=◌, as_read, begins_with, list_at, literal_at, name_at}
 use Rattle.sv_text.specs.NumberReading.{number_at}
 use Rattle.sv_text.specs.ValueReading.{array_at, value_at}
 use Rattle.sv_journal.specs.ActReading.{local_at, party_at}
@@ -54,7 +55,7 @@ kept_at line = as_read (λ parts. kept parts.0 parts.1) (kept_parts_at line)
 
 -- whether a list goes on: a blank stands there, and no pair begins with it
 abbrev pub goes_on : List ℕ → Bool
-goes_on line = begins_with blank line && not (begins_with plus (behind_first line))
+goes_on line = begins_with blank line && not (begins_with plus (others_of line))
 
 -- parties, up to the pairs or the end
 abbrev pub parties_at : Reader (List ℕ)

@@ -2,7 +2,8 @@
 use Rattle.std.specs.Prelude.{◌^◌, ◌+◌, ◌-◌, ◌∷◌, [], ℕ, Bool, is_some, List, Result, Ok, Err, codes, length}
 use Rattle.sv_events.specs.Entry.{PlainEntry}
 use Rattle.sv_events.specs.declared.entry.Pair.{Pair}
-use Rattle.sv_text.specs.Reading.{Reader, Reading, ◌>>=◌, first_of, list_at, literal_at}
+use Rattle.apl_arrays.specs.List.{first_of}
+use Rattle.sv_text.specs.Reading.{Reader, Reading, ◌>>=◌, list_at, literal_at}
 use Rattle.sv_text.specs.NumberReading.{number_at}
 use Rattle.sv_journal.specs.ActReading.{act_at, party_at}
 use Rattle.sv_journal.specs.ActWord.{word_of, answers_to}

@@ -1,9 +1,10 @@
-ghost use Rattle.std.specs.Prelude.{◌≡◌, ◌-◌, All, length};
-ghost use Rattle.apl_arrays.specs.Glyph.{IsGlyph};
-ghost use Rattle.sv_journal.specs.ReadsEntry.{ReadsEntry};
-ghost use Rattle.sv_events.specs.Entry.{plain_entry};
+ghost use Rattle.std.specs.Prelude.{◌≡◌, ◌-◌, ℕ, length};
+ghost use Rattle.sv_events.specs.Entry.{PlainEntry, plain_entry};
 ghost use Rattle.sv_text.specs.Reading.{Gives, step_at};
 ghost use Rattle.sv_journal.specs.EntryReading.{entry_at, is_left, pair_at, pairs_at};
+ghost use Rattle.sv_journal.specs.EntryText.{entry_text};
+ghost use Rattle.sv_journal.specs.IsEntry.{IsEntry};
+ghost use Rattle.sv_journal.specs.ReadsEntry.{ReadsEntry, ReadsThis, refusal};
 
 use crate::act_reading::{read_act, read_party};
 use crate::act_word::ActWord;
@@ -39,13 +40,23 @@ impl Error for EntryRefused {}
 /// The place and the entry whose text a line is. `BadEntry` where it is no entry's text, else `WantOfMemory`. It takes
 /// memory for the values and lists of the entry.
 pub fn read(alloc: Global, line: &Line) -> Result<(u64, Entry), EntryRefused>
-    ensures { All IsGlyph line.now.items → ReadsEntry result line.now.items }
+    ensures value { ReadsEntry result line.now.items }
+    ensures again { (place : ℕ) (entry : PlainEntry) → IsEntry place entry → line.now.items ≡ entry_text place entry → ReadsThis result place entry }
 {
     let mut cursor = Cursor::new(line.as_slice());
     match read_entry(alloc, &mut cursor) {
         Ok(found) => Ok(found),
-        Err(Unread::Left(left)) => Err(EntryRefused::BadEntry(read_part(line, left))),
-        Err(Unread::WantOfMemory) => Err(EntryRefused::WantOfMemory),
+        Err(why) => Err(refused(line, why)),
+    }
+}
+
+// Why the line is refused, where the reading stops so.
+fn refused(line: &Line, why: Unread) -> EntryRefused
+    ensures { result ≡ refusal (length line.now.items) why }
+{
+    match why {
+        Unread::Left(left) => EntryRefused::BadEntry(read_part(line, left)),
+        Unread::WantOfMemory => EntryRefused::WantOfMemory,
     }
 }
 

@@ -21,11 +21,7 @@ pub(crate) fn read_word<W: Word>(cursor: &mut Cursor<'_>, words: &[W]) -> Result
 }
 
 // Reads the word of one of these, where so many glyphs stand there that another word begins with.
-fn read_one_of<W: Word>(
-    cursor: &mut Cursor<'_>,
-    words: &[W],
-    shared: usize,
-) -> Result<W, Unread>
+fn read_one_of<W: Word>(cursor: &mut Cursor<'_>, words: &[W], shared: usize) -> Result<W, Unread>
     requires { shared ≤ length cursor.old }
     ensures { Gives (λ word. (word, cursor.new)) result (word_at W.text shared words.now cursor.old) }
 {

@@ -8,11 +8,13 @@ use Rattle.std.specs.List.{AllByRecursion}
 use Rattle.apl_arrays.specs.Array.{PlainItems, numbers, chars, numbers_in, chars_in, PlainArray, number_array, char_array, element_count, FitsLimits, IsArray}
 use Rattle.apl_arrays.specs.Glyph.{IsGlyph}
 use Rattle.line_text.specs.Spaced.{spaced}
-use Rattle.sv_text.specs.Reading.{Reader, Reading, ◌>>=◌, as_read, first_of, literal_at}
+use Rattle.apl_arrays.specs.List.{first_of}
+use Rattle.sv_text.specs.Reading.{Reader, Reading, ◌>>=◌, as_read, literal_at}
 use Rattle.sv_text.specs.Value.{IsValue, IsValueOrNone}
 use Rattle.sv_text.specs.ValueReading.{shape_at, numbers_at, quoted_at, numbers_array_at, chars_array_at, array_at, value_at}
 use Rattle.sv_text.specs.ValueText.{items_text, array_text, value_text}
-use Rattle.sv_text.proofs.ItemForms.{Fits64, numbers_text, chars_text, reads_numbers, reads_quoted, fits_nought, blank_glyph}
+use Rattle.line_text.proofs.SameNumbers.{Fits64}
+use Rattle.sv_text.proofs.ItemForms.{numbers_text, chars_text, reads_numbers, reads_quoted, fits_nought, blank_glyph}
 use Rattle.sv_text.proofs.ListForms.{AreSoMany, copies, copies_fit}
 use Rattle.sv_text.proofs.NumberForms.{NoDigit}
 use Rattle.sv_text.proofs.Readers.{SameFirst, Anything, Reads, IsReader, AreGlyphs, reformed, retexted, behind_glyph, stops_here, after_text, then_read, made, widened, nothing_more, no_further}
@@ -20,7 +22,7 @@ use Rattle.sv_text.proofs.ShapeForms.{shape_text, reads_shape}
 
 -- arrays of numbers
 
-HasNumbers : PlainItems → Type 0
+pub HasNumbers : PlainItems → Type 0
 HasNumbers (numbers list) = Unit {0}
 HasNumbers (chars list) = ⊥
 
@@ -96,7 +98,7 @@ reads_number_array line a =
 
 -- arrays of characters
 
-HasChars : PlainItems → Type 0
+pub HasChars : PlainItems → Type 0
 HasChars (numbers list) = ⊥
 HasChars (chars list) = Unit {0}
 

@@ -1,7 +1,7 @@
 -- Reading the items of arrays.
-use Rattle.std.proofs.Common.{◌≡◌, ℕ, ℤ, pos, negsuc, zero, suc, ◌+◌, ◌<◌, ◌≤◌, ◌^◌, Bool, true, false, cond, eqb, List, [], ◌∷◌, ◌++◌, Option, Some, None, Ok, Err, map, codes, length, FitsSigned, w64, ◌⊎◌, inl, inr, refl, sym, ap, ◌∙◌, subst, append_assoc, arith}
+use Rattle.std.proofs.Common.{◌≡◌, ℕ, ℤ, pos, negsuc, zero, suc, ◌+◌, ◌-◌, ◌<◌, ◌≤◌, ◌^◌, Bool, true, false, cond, eqb, List, [], ◌∷◌, ◌++◌, Option, Some, None, Ok, Err, map, codes, length, ◌⊎◌, inl, inr, refl, sym, ap, ◌∙◌, subst, append_assoc, arith}
 use Rattle.std.specs.Prelude.{neg_ℤ}
-use Rattle.std.proofs.lemmas.Bool.{false≢true}
+use Rattle.std.proofs.lemmas.Bool.{false≢true, cases_Bool}
 use Rattle.std.proofs.lemmas.Bool.Decides.{nat_tests}
 use Rattle.std.specs.Fmt.{decimal}
 use Rattle.std.specs.List.{flat_map, AllByRecursion}
@@ -9,19 +9,16 @@ use Rattle.apl_arrays.specs.Glyph.{IsGlyph, is_digit, overbar, quote}
 use Rattle.apl_arrays.specs.Run.{begins}
 use Rattle.line_text.specs.Number.{number_text}
 use Rattle.line_text.specs.Spaced.{spaced}
-use Rattle.line_text.proofs.SameNumbers.{begins_count}
+use Rattle.line_text.proofs.SameNumbers.{Fits64, begins_count}
 use Rattle.line_text.proofs.Spaced.{spaced_is}
-use Rattle.sv_text.specs.Reading.{Reader, Reading, ◌>>=◌, always, as_read, begins_with, behind_first, first_of, list_at, literal_at, read_behind}
+use Rattle.apl_arrays.specs.List.{first_of, others_of}
+use Rattle.sv_text.specs.Reading.{Reader, Reading, ◌>>=◌, always, as_read, begins_with, list_at, literal_at, read_behind}
 use Rattle.sv_text.specs.NumberReading.{number_at}
 use Rattle.sv_text.specs.ValueReading.{negative_at, positive_at, integer_at, next_integer_at, numbers_at, behind_char, char_at, quoted_at}
 use Rattle.sv_text.specs.ValueText.{char_text}
 use Rattle.sv_text.proofs.ListForms.{AreSoMany, head_or, rest_of, copies, copies_fit, no_more, reads_list, list_of_first}
-use Rattle.sv_text.proofs.NumberForms.{InRange, NoDigit, reads_number, begins_same, bool_cases}
+use Rattle.sv_text.proofs.NumberForms.{InRange, NoDigit, reads_number, begins_same}
 use Rattle.sv_text.proofs.Readers.{SameFirst, Anything, Found, Reads, IsReader, AreGlyphs, reformed, retexted, behind_glyph, after_text, then_read, made, widened, nothing_more, no_further}
-
--- a number of 64 bits
-abbrev pub Fits64 : ℤ → Type 0
-Fits64 number = FitsSigned w64 number
 
 -- numbers
 
@@ -211,11 +208,11 @@ quote_fits e h = subst IsGlyph (sym h) quote_glyph
 quote_or_other : (rest : List ℕ) (e : ℕ) (behind : List ℕ) → IsGlyph e → Anything behind → IsQuote e ⊎ (SameFirst (char_text e ++ behind) (quote ∷ rest) → ⊥)
 unfolding IsQuote
 quote_or_other rest e behind h follow =
-    elim (bool_cases (eqb e quote)) [
+    elim (cases_Bool (eqb e quote)) [
       | inl same ↦ inl (grind (arith, nat_tests, same))
       | inr other ↦ inr (λ first.
-        let equal : e ≡ quote = cc (char_first e behind, first) in
-        grind (arith, nat_tests, other, equal))
+          let equal : e ≡ quote = cc (char_first e behind, first) in
+          grind (arith, nat_tests, other, equal))
     ]
 
 quote_reads : IsReader (λ e. quote ∷ []) IsQuote Anything SameFirst (λ line. literal_at (codes "'") line >>= λ rest. Ok (quote, rest))
@@ -238,8 +235,8 @@ char_read x rest a false h = record {
   fits = a.0;
   whole = ap (λ t. t ++ rest) (sym (other_text x h));
   only = λ w behind z fit follow e agree.
-    let firsts : Some w ≡ Some x = sym (char_first w behind) ∙ (ap first_of e ∙ char_first x z) in
-    cc firsts;
+      let firsts : Some w ≡ Some x = sym (char_first w behind) ∙ (ap first_of e ∙ char_first x z) in
+      cc firsts;
 }
 
 pub reads_char : IsReader char_text IsGlyph Anything SameFirst char_at

@@ -50,11 +50,15 @@ is_done goes_on item front count i line total le so_far =
     let one : read_behind front (list_at goes_on item (count - i) line) ≡ Ok (front, line) = rw k (ap (λ list. Ok (list, line)) (append-nil front)) in
     sym so_far ∙ one
 
+-- a thing behind others
+abbrev pub added : {A : Type 0} → List A → A × List ℕ → Reading (List A)
+added front found = Ok (front ++ found.0 ∷ [], found.1)
+
 -- the list goes on as it is told, or has ended
 
-step_by : {A : Type 0} (goes_on : List ℕ → Bool) (item : Reader A) (front more : List A) (count i : ℕ) (line after : List ℕ) (total : Reading (List A)) → i < count → (b : Bool) → goes_on line ≡ b → cond b (item line >>= λ found. Ok (front ++ found.0 ∷ [], found.1)) (Ok (front, line)) ≡ Ok (more, after) → read_behind front (list_at goes_on item (count - i) line) ≡ total → read_behind more (list_at goes_on item (count - (i + 1)) after) ≡ total
+step_by : {A : Type 0} (goes_on : List ℕ → Bool) (item : Reader A) (front more : List A) (count i : ℕ) (line after : List ℕ) (total : Reading (List A)) → i < count → (b : Bool) → goes_on line ≡ b → cond b (item line >>= added front) (Ok (front, line)) ≡ Ok (more, after) → read_behind front (list_at goes_on item (count - i) line) ≡ total → read_behind more (list_at goes_on item (count - (i + 1)) after) ≡ total
 step_by goes_on item front more count i line after total lt true going read so_far =
-    let first = bind_ok (item line) (λ found. Ok (front ++ found.0 ∷ [], found.1)) (more, after) read in
+    let first = bind_ok (item line) (added front) (more, after) read in
     let next = one_more goes_on item front count i line first.0.0 first.0.1 total lt going first.1 so_far in
     let longer : front ++ first.0.0 ∷ [] ≡ more = first_told (front ++ first.0.0 ∷ []) first.0.1 more after first.2 in
     let rest : first.0.1 ≡ after = second_told (front ++ first.0.0 ∷ []) first.0.1 more after first.2 in
@@ -68,11 +72,11 @@ pub step_more : {A : Type 0} (goes_on : List ℕ → Bool) (item : Reader A) (fr
 step_more goes_on item front more count i line after total lt read so_far =
     step_by goes_on item front more count i line after total lt (goes_on line) refl read so_far
 
-bind_err : {A : Type 0} (read : Reading A) (front : List A) (left : ℕ) → (read >>= λ found. Ok (front ++ found.0 ∷ [], found.1)) ≡ Err left → read ≡ Err left
+bind_err : {A : Type 0} (read : Reading A) (front : List A) (left : ℕ) → (read >>= added front) ≡ Err left → read ≡ Err left
 bind_err (Ok found) front left e = absurd (let none : ⊥ = cc in none)
 bind_err (Err gone) front left e = ap (λ n. Err n) (let same : gone ≡ left = cc in same)
 
-stops_by : {A : Type 0} (goes_on : List ℕ → Bool) (item : Reader A) (left : ℕ) (front : List A) (line : List ℕ) (b : Bool) → goes_on line ≡ b → cond b (item line >>= λ found. Ok (front ++ found.0 ∷ [], found.1)) (Ok (front, line)) ≡ Err left → (goes_on line ≡ true) × (item line ≡ Err left)
+stops_by : {A : Type 0} (goes_on : List ℕ → Bool) (item : Reader A) (left : ℕ) (front : List A) (line : List ℕ) (b : Bool) → goes_on line ≡ b → cond b (item line >>= added front) (Ok (front, line)) ≡ Err left → (goes_on line ≡ true) × (item line ≡ Err left)
 stops_by goes_on item left front line true going e = (going, bind_err (item line) front left e)
 stops_by goes_on item left front line false never e = absurd (let none : ⊥ = cc in none)
 

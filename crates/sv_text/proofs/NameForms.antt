@@ -1,6 +1,6 @@
 -- Reading a name: it goes on as long as a name may.
 use Rattle.std.proofs.Common.{◌≡◌, ℕ, zero, suc, ◌+◌, ◌-◌, ◌<◌, ◌≤◌, min, Bool, true, false, cond, leb, ◌&&◌, List, [], ◌∷◌, ◌++◌, Some, Ok, Err, length, take, drop, ◌⊎◌, inl, inr, refl, sym, ap, ◌∙◌, subst, append-nil, append_assoc, arith, length-append}
-use Rattle.std.proofs.lemmas.Bool.{false≢true, and_parts, and_from}
+use Rattle.std.proofs.lemmas.Bool.{false≢true, and_parts, and_from, cases_Bool}
 use Rattle.std.proofs.lemmas.Bool.Decides.{nat_tests}
 use Rattle.std.proofs.lemmas.List.{take-append-drop, length-take}
 use Rattle.std.proofs.lemmas.List.Folds.{list_all-append}
@@ -10,9 +10,10 @@ use Rattle.apl_arrays.specs.Name.{IsName, goes_on, is_name}
 use Rattle.apl_arrays.specs.Run.{begins}
 use Rattle.apl_arrays.proofs.Names.{letter_goes_on, name_parts, name_goes_on}
 use Rattle.apl_arrays.proofs.Runs.{run_passes, run_stops, run_fits}
-use Rattle.sv_text.specs.Reading.{first_of, name_span, name_at}
+use Rattle.apl_arrays.specs.List.{first_of}
+use Rattle.sv_text.specs.Reading.{name_span, name_at}
 use Rattle.sv_text.proofs.Readers.{SameFirst, Found, Stopped, Reads, IsReader, cancelled}
-use Rattle.sv_text.proofs.NumberForms.{begins_same, bool_cases, begins_within}
+use Rattle.sv_text.proofs.NumberForms.{begins_same, begins_within}
 
 -- what follows does not go on as a name does
 abbrev pub NoName : List ℕ → Type 0
@@ -49,16 +50,16 @@ longer_name line w g more behind z right whole next agree =
     let parts = and_parts (list_all goes_on (take (name_span line) line)) (goes_on g && list_all goes_on more) (sym (list_all-append goes_on (take (name_span line) line) (g ∷ more)) ∙ all) in
     let here : goes_on g ≡ true = (and_parts (goes_on g) (list_all goes_on more) parts.1).0 in
     let going : begins goes_on (drop (name_span line) line) ≡ true = sym (begins_same goes_on z (drop (name_span line) line) agree) ∙ (ap (begins goes_on) next ∙ here) in
-    elim (bool_cases (leb (prefix_len goes_on line) 32)) [
+    elim (cases_Bool (leb (prefix_len goes_on line) 32)) [
       | inl h ↦
-        let short : prefix_len goes_on line ≤ 32 = grind (arith, nat_tests, h) in
-        let all_of_it : name_span line ≡ prefix_len goes_on line = omega (arith, short) in
-        false≢true (sym (run_stops goes_on line) ∙ (ap (λ n. begins goes_on (drop n line)) (sym all_of_it) ∙ going))
+          let short : prefix_len goes_on line ≤ 32 = grind (arith, nat_tests, h) in
+          let all_of_it : name_span line ≡ prefix_len goes_on line = omega (arith, short) in
+          false≢true (sym (run_stops goes_on line) ∙ (ap (λ n. begins goes_on (drop n line)) (sym all_of_it) ∙ going))
       | inr h ↦
-        let long : 32 < prefix_len goes_on line = grind (arith, nat_tests, h) in
-        let full : name_span line ≡ 32 = omega (arith, long) in
-        let count : length (take (name_span line) line) ≡ 32 = omega (arith, full, long, length-take (name_span line) line, run_fits goes_on line) in
-        omega (arith, name_is_short w right, ap length whole, length-append (take (name_span line) line) (g ∷ more), count)
+          let long : 32 < prefix_len goes_on line = grind (arith, nat_tests, h) in
+          let full : name_span line ≡ 32 = omega (arith, long) in
+          let count : length (take (name_span line) line) ≡ 32 = omega (arith, full, long, length-take (name_span line) line, run_fits goes_on line) in
+          omega (arith, name_is_short w right, ap length whole, length-append (take (name_span line) line) (g ∷ more), count)
     ]
 
 only_name : (line w : List ℕ) (behind z : List ℕ) → IsName w → NoName behind → w ++ behind ≡ take (name_span line) line ++ z → SameFirst z (drop (name_span line) line) → (more : List ℕ) → w ≡ take (name_span line) line ++ more → w ≡ take (name_span line) line
@@ -93,8 +94,8 @@ name_read line true h = record {
   fits = h;
   whole = sym (take-append-drop (name_span line) line);
   only = λ w behind z right nothing e agree.
-    let more = begins_within goes_on w (take (name_span line) line) behind z (front_goes_on line) nothing e in
-    only_name line w behind z right nothing e agree more.0 more.1;
+      let more = begins_within goes_on w (take (name_span line) line) behind z (front_goes_on line) nothing e in
+      only_name line w behind z right nothing e agree more.0 more.1;
 }
 name_read line false h = record {
   part = [];

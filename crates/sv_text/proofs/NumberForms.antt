@@ -1,6 +1,6 @@
 -- Reading a number of a range: it goes on exactly as long as a number of the range begins with its digits.
 use Rattle.std.proofs.Common.{◌≡◌, ℕ, zero, suc, ◌+◌, ◌-◌, ◌*◌, ◌/◌, ◌%◌, ◌<◌, ◌≤◌, ◌^◌, max, Bool, true, false, ◌&&◌, ◌||◌, cond, leb, ltb, eqb, List, [], ◌∷◌, ◌++◌, Option, Some, None, Ok, Err, length, get_or, ◌⊎◌, inl, inr, refl, sym, ap, ◌∙◌, subst, append-nil, append_assoc, arith, lit<}
-use Rattle.std.proofs.lemmas.Bool.{false≢true}
+use Rattle.std.proofs.lemmas.Bool.{false≢true, cases_Bool}
 use Rattle.std.proofs.lemmas.Bool.Decides.{nat_tests}
 use Rattle.std.proofs.lemmas.List.Folds.{list_all-append}
 use Rattle.std.proofs.lemmas.Fmt.{decimal_digit, decimal_step, decimal_step_wide, decimal_is_IsNumeral_wide, decimal_nonempty, first_decimal}
@@ -12,7 +12,8 @@ use Rattle.apl_arrays.specs.Run.{begins}
 use Rattle.line_text.proofs.Decimals.{digits_are_digits}
 use Rattle.line_text.proofs.SameNumbers.{begins_count, same_count}
 use Rattle.line_text.proofs.Spans.{both}
-use Rattle.sv_text.specs.Reading.{Reader, Reading, first_of}
+use Rattle.apl_arrays.specs.List.{first_of}
+use Rattle.sv_text.specs.Reading.{Reader, Reading}
 use Rattle.sv_text.specs.NumberReading.{reaches, with_digit, number_ends, going_on, digits_at, number_behind, number_at, most_digits}
 use Rattle.sv_text.proofs.Readers.{SameFirst, Found, Stopped, Reads, IsReader, same_end}
 
@@ -35,10 +36,6 @@ pub record Reached (value low high : ℕ) : Type 0 where
   pub number : ℕ
   pub within : InRange low high number
   pub heads : Heads value number
-
-pub bool_cases : (b : Bool) → (b ≡ true) ⊎ (b ≡ false)
-bool_cases true = inl refl
-bool_cases false = inr refl
 
 same_wide : (m n : ℕ) → m < 10 ^ 64 → n < 10 ^ 64 → decimal m ≡ decimal n → m ≡ n
 same_wide m n p q e = sym (decimal_is_IsNumeral_wide m p).1 ∙ (ap (digits_value 10) e ∙ (decimal_is_IsNumeral_wide n q).1)
@@ -67,7 +64,7 @@ one_glyph x (y ∷ z ∷ ys) (o ∷ others) some more e = cc
 -- digits behind others: the number has two at least, and begins so without its last one too
 shorter : (value n : ℕ) (others : List ℕ) → value < 10 ^ 64 → n < 10 ^ 64 → 0 < length others → decimal n ≡ decimal value ++ others → (10 ≤ n) × Heads value (n / 10)
 shorter value n others small fits more e =
-    let large : 10 ≤ n = elim (bool_cases (leb 10 n)) [
+    let large : 10 ≤ n = elim (cases_Bool (leb 10 n)) [
       | inl h ↦ grind (arith, nat_tests, h)
       | inr h ↦ absurd (one_glyph (48 + n) (decimal value) others (some_digits value small) more (sym (decimal_digit n (grind (arith, nat_tests, h))) ∙ e))
     ] in
@@ -130,9 +127,9 @@ reached (suc k) value low high some range fits e =
     elim (either_true (leb low value) (reaches k value (max low 10 / 10) (high / 10)) parts.1) [
       | inl h ↦ record { number = value; within = record { least = grind (arith, nat_tests, h); most = most }; heads = record { others = []; whole = sym (append-nil (decimal value)) } }
       | inr h ↦
-        let fewer : value ≤ high / 10 = reaches_most k value (max low 10 / 10) (high / 10) h in
-        let tens : 10 ≤ high = omega (arith, fewer, some) in
-        extended value low high tens range fits (reached k value (max low 10 / 10) (high / 10) some (omega (arith, tens, range)) (omega (arith, fits)) h)
+          let fewer : value ≤ high / 10 = reaches_most k value (max low 10 / 10) (high / 10) h in
+          let tens : 10 ≤ high = omega (arith, fewer, some) in
+          extended value low high tens range fits (reached k value (max low 10 / 10) (high / 10) some (omega (arith, tens, range)) (omega (arith, fits)) h)
     ]
 
 and_is : (a b : Bool) → a ≡ true → b ≡ true → (a && b) ≡ true
@@ -177,7 +174,7 @@ pub record IsNoDigit (glyph : ℕ) : Type 0 where
 
 pub digit_or_not : (glyph : ℕ) → IsDigit glyph ⊎ IsNoDigit glyph
 digit_or_not glyph =
-    elim (bool_cases (is_digit glyph)) [
+    elim (cases_Bool (is_digit glyph)) [
       | inl h ↦ inl (record { value = glyph - 48; small = grind (arith, nat_tests, h); is = grind (arith, nat_tests, h); told = ap (λ b. cond b (Some (glyph - 48)) None) h })
       | inr h ↦ inr (record { is = h; told = ap (λ b. cond b (Some (glyph - 48)) None) h })
     ]
@@ -246,9 +243,9 @@ ended_read low high value most r line only false h = record {
   fits = r.within;
   goes_on = r.heads.whole;
   none = λ w behind z within nothing e agree.
-    let same : w ≡ value = only w behind z within nothing e agree in
-    let less : value < low = grind (arith, nat_tests, h) in
-    omega (arith, same, less, within.least);
+      let same : w ≡ value = only w behind z within nothing e agree in
+      let less : value < low = grind (arith, nat_tests, h) in
+      omega (arith, same, less, within.least);
 }
 
 digit_read : (low high value : ℕ) → high < 2 ^ 64 → 0 < value → value ≤ high → Reached value low high → low ≤ high → (x : ℕ) (xs : List ℕ) (d : IsDigit x) → ((longer : ℕ) → 0 < longer → longer ≤ high → Reached longer low high → Reads decimal (InRange low high) NoDigit SameFirst (decimal longer ++ xs) (digits_at low high longer xs)) → (b : Bool) → reaches most_digits (value * 10 + d.value) low high ≡ b → Reads decimal (InRange low high) NoDigit SameFirst (decimal value ++ x ∷ xs) (going_on (cond b (Some (value * 10 + d.value)) None) (λ longer. digits_at low high longer xs) (number_ends low value (x ∷ xs)))
@@ -266,11 +263,11 @@ digits_read low high value fits range some most r [] =
 digits_read low high value fits range some most r (x ∷ xs) =
     elim (digit_or_not x) [
       | inl d ↦
-        subst (λ told. Reads decimal (InRange low high) NoDigit SameFirst (decimal value ++ x ∷ xs) (going_on (with_digit low high value told) (λ longer. digits_at low high longer xs) (number_ends low value (x ∷ xs)))) (sym d.told)
-        (digit_read low high value fits some most r range x xs d (λ longer p q s. digits_read low high longer fits range p q s xs) (reaches most_digits (value * 10 + d.value) low high) refl)
+          subst (λ told. Reads decimal (InRange low high) NoDigit SameFirst (decimal value ++ x ∷ xs) (going_on (with_digit low high value told) (λ longer. digits_at low high longer xs) (number_ends low value (x ∷ xs)))) (sym d.told)
+          (digit_read low high value fits some most r range x xs d (λ longer p q s. digits_read low high longer fits range p q s xs) (reaches most_digits (value * 10 + d.value) low high) refl)
       | inr n ↦
-        subst (λ told. Reads decimal (InRange low high) NoDigit SameFirst (decimal value ++ x ∷ xs) (going_on (with_digit low high value told) (λ longer. digits_at low high longer xs) (number_ends low value (x ∷ xs)))) (sym n.told)
-        (ended_read low high value most r (x ∷ xs) (same_here low high value fits most (x ∷ xs) n.is) (leb low value) refl)
+          subst (λ told. Reads decimal (InRange low high) NoDigit SameFirst (decimal value ++ x ∷ xs) (going_on (with_digit low high value told) (λ longer. digits_at low high longer xs) (number_ends low value (x ∷ xs)))) (sym n.told)
+          (ended_read low high value most r (x ∷ xs) (same_here low high value fits most (x ∷ xs) n.is) (leb low value) refl)
     ]
 
 -- no number of the range begins as the line does
@@ -301,7 +298,7 @@ only_nought : (low high : ℕ) → high < 2 ^ 64 → (w : ℕ) (behind z rest : 
 only_nought low high fits w behind z rest within e agree =
     let small : w < 2 ^ 64 = omega (arith, fits, within.most) in
     let first : get_or (decimal w) 0 0 ≡ 48 = first_glyph 48 (decimal w) behind rest (decimal_nonempty w small) (ap first_of e ∙ agree) in
-    elim (bool_cases (eqb w 0)) [
+    elim (cases_Bool (eqb w 0)) [
       | inl h ↦ grind (arith, nat_tests, h)
       | inr h ↦ absurd (let some : 0 < w = grind (arith, nat_tests, h) in omega (arith, first, first_decimal w some small))
     ]
@@ -317,12 +314,15 @@ nought_read low high fits range rest false h =
     let some : 0 < low = grind (arith, nat_tests, h) in
     omega (arith, some, within.least, only_nought low high fits w behind z rest within e agree))
 
+digit_glyph : (value : ℕ) → value < 10 → is_digit (48 + value) ≡ true
+digit_glyph value small = grind (arith, nat_tests, small)
+
 -- a first digit with which no number of the range begins
 none_begins : (low high value : ℕ) → high < 2 ^ 64 → 0 < value → value < 10 → (rest : List ℕ) → reaches most_digits value low high ≡ false → (w : ℕ) (behind z : List ℕ) → InRange low high w → NoDigit behind → decimal w ++ behind ≡ z → SameFirst z ((48 + value) ∷ rest) → ⊥
 none_begins low high value fits some small rest never w behind [] within nothing e agree = let none : ⊥ = cc in none
 none_begins low high value fits some small rest never w behind (y ∷ z) within nothing e agree =
     let head : y ≡ 48 + value = cc in
-    let digit : is_digit (48 + value) ≡ true = grind (arith, nat_tests, small) in
+    let digit : is_digit (48 + value) ≡ true = digit_glyph value small in
     let whole : decimal w ++ behind ≡ ((48 + value) ∷ []) ++ z = e ∙ ap (λ g. g ∷ z) head in
     let more = begins_within is_digit (decimal w) ((48 + value) ∷ []) behind z (ap (λ b. b && true) digit) nothing whole in
     let heads : decimal w ≡ decimal value ++ more.0 = more.1 ∙ ap (λ t. t ++ more.0) (sym (decimal_digit value small)) in
@@ -347,12 +347,12 @@ number_reads low high fits range [] =
 number_reads low high fits range (x ∷ rest) =
     elim (digit_or_not x) [
       | inl d ↦
-        subst (λ told. Reads decimal (InRange low high) NoDigit SameFirst (x ∷ rest) (number_behind low high told rest (length (x ∷ rest)))) (sym d.told)
-        (subst (λ g. Reads decimal (InRange low high) NoDigit SameFirst (g ∷ rest) (number_behind low high (Some d.value) rest (length (g ∷ rest)))) (sym d.is)
-        (behind_read low high d.value fits range d.small rest))
+          subst (λ told. Reads decimal (InRange low high) NoDigit SameFirst (x ∷ rest) (number_behind low high told rest (length (x ∷ rest)))) (sym d.told)
+          (subst (λ g. Reads decimal (InRange low high) NoDigit SameFirst (g ∷ rest) (number_behind low high (Some d.value) rest (length (g ∷ rest)))) (sym d.is)
+          (behind_read low high d.value fits range d.small rest))
       | inr n ↦
-        subst (λ told. Reads decimal (InRange low high) NoDigit SameFirst (x ∷ rest) (number_behind low high told rest (length (x ∷ rest)))) (sym n.told)
-        (stops_first low high range (x ∷ rest) (λ w behind z within nothing e agree. false≢true (sym n.is ∙ number_begins low high fits w behind z (x ∷ rest) within e agree)))
+          subst (λ told. Reads decimal (InRange low high) NoDigit SameFirst (x ∷ rest) (number_behind low high told rest (length (x ∷ rest)))) (sym n.told)
+          (stops_first low high range (x ∷ rest) (λ w behind z within nothing e agree. false≢true (sym n.is ∙ number_begins low high fits w behind z (x ∷ rest) within e agree)))
     ]
 
 -- a number of the range is read

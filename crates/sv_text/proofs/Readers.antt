@@ -4,7 +4,8 @@ use Rattle.std.proofs.Common.{◌≡◌, ℕ, Bool, true, false, eqb, cond, suc,
 use Rattle.std.proofs.lemmas.Bool.Decides.{nat_tests}
 use Rattle.std.specs.List.{AllByRecursion}
 use Rattle.apl_arrays.specs.Glyph.{IsGlyph}
-use Rattle.sv_text.specs.Reading.{Reader, Reading, ◌>>=◌, as_read, first_of, literal_at}
+use Rattle.apl_arrays.specs.List.{first_of}
+use Rattle.sv_text.specs.Reading.{Reader, Reading, ◌>>=◌, as_read, literal_at}
 
 -- two lines go on with the same glyph, or both end
 abbrev pub SameFirst : List ℕ → List ℕ → Type 0
@@ -152,6 +153,7 @@ after_glyph glyph front text ok follows agrees reader e fits first rest is true 
     subst (λ c. Reads (λ e. glyph ∷ (front ++ text e)) ok follows agrees (c ∷ rest) (literal_at front rest >>= reader)) equal (behind_glyph glyph (λ e. front ++ text e) ok follows agrees rest (literal_at front rest >>= reader) is)
 after_glyph glyph front text ok follows agrees reader e fits first rest is false same =
     stops_here glyph (λ e. front ++ text e) ok follows e fits (first ∷ rest) (another glyph first rest same)
+
 pub after_text : {E : Type 0} (front : List ℕ) (text : E → List ℕ) (ok : E → Type 0) (follows : List ℕ → Type 0) (agrees : List ℕ → List ℕ → Type 0) (reader : Reader E) (e : E) → ok e → IsReader text ok follows agrees reader → IsReader (λ e. front ++ text e) ok follows agrees (λ line. literal_at front line >>= reader)
 after_text [] text ok follows agrees reader e fits is line a = is line a
 after_text (glyph ∷ front) text ok follows agrees reader e fits is [] a =
@@ -166,12 +168,12 @@ then_found text ok follows first others right after agrees ahead part_fits follo
   fits = g.fits.1;
   whole = h.whole ∙ (ap (λ t. text v ++ t) g.whole ∙ (sym (append_assoc (text v) (others found.0) found.1) ∙ ap (λ x. (text x ++ others found.0) ++ found.1) (sym g.fits.0)));
   only = λ w behind z fit next e agree.
-    let whole : text (first w) ++ (others w ++ behind) ≡ text v ++ (others found.0 ++ z) =
-    sym (append_assoc (text (first w)) (others w) behind) ∙ (e ∙ (ap (λ x. (text x ++ others found.0) ++ z) g.fits.0 ∙ append_assoc (text v) (others found.0) z)) in
-    let agreed : SameFirst (others found.0 ++ z) rest = same_behind (others found.0) z found.1 (ahead z found.1 agree) ∙ ap first_of (sym g.whole) in
-    let same : first w ≡ v = h.only (first w) (others w ++ behind) (others found.0 ++ z) (part_fits w fit) (follow w behind fit next) whole agreed in
-    let inner : others w ++ behind ≡ others found.0 ++ z = cancelled (text v) (others w ++ behind) (others found.0 ++ z) (ap (λ x. text x ++ (others w ++ behind)) (sym same) ∙ whole) in
-    g.only w behind z (same, fit) next inner agree;
+      let whole : text (first w) ++ (others w ++ behind) ≡ text v ++ (others found.0 ++ z) =
+      sym (append_assoc (text (first w)) (others w) behind) ∙ (e ∙ (ap (λ x. (text x ++ others found.0) ++ z) g.fits.0 ∙ append_assoc (text v) (others found.0) z)) in
+      let agreed : SameFirst (others found.0 ++ z) rest = same_behind (others found.0) z found.1 (ahead z found.1 agree) ∙ ap first_of (sym g.whole) in
+      let same : first w ≡ v = h.only (first w) (others w ++ behind) (others found.0 ++ z) (part_fits w fit) (follow w behind fit next) whole agreed in
+      let inner : others w ++ behind ≡ others found.0 ++ z = cancelled (text v) (others w ++ behind) (others found.0 ++ z) (ap (λ x. text x ++ (others w ++ behind)) (sym same) ∙ whole) in
+      g.only w behind z (same, fit) next inner agree;
 }
 then_found text ok follows first others right after agrees ahead part_fits follow line v rest h (Err left) g = record {
   part = text v ++ g.part;
@@ -183,12 +185,12 @@ then_found text ok follows first others right after agrees ahead part_fits follo
   fits = g.fits.1;
   goes_on = ap (λ x. text x ++ others g.value) g.fits.0 ∙ (ap (λ t. text v ++ t) g.goes_on ∙ sym (append_assoc (text v) g.part g.more));
   none = λ w behind z fit next e agree.
-    let whole : text (first w) ++ (others w ++ behind) ≡ text v ++ (g.part ++ z) =
-    sym (append_assoc (text (first w)) (others w) behind) ∙ (e ∙ append_assoc (text v) g.part z) in
-    let agreed : SameFirst (g.part ++ z) rest = same_behind g.part z g.rest agree ∙ ap first_of (sym g.whole) in
-    let same : first w ≡ v = h.only (first w) (others w ++ behind) (g.part ++ z) (part_fits w fit) (follow w behind fit next) whole agreed in
-    let inner : others w ++ behind ≡ g.part ++ z = cancelled (text v) (others w ++ behind) (g.part ++ z) (ap (λ x. text x ++ (others w ++ behind)) (sym same) ∙ whole) in
-    g.none w behind z (same, fit) next inner agree;
+      let whole : text (first w) ++ (others w ++ behind) ≡ text v ++ (g.part ++ z) =
+      sym (append_assoc (text (first w)) (others w) behind) ∙ (e ∙ append_assoc (text v) g.part z) in
+      let agreed : SameFirst (g.part ++ z) rest = same_behind g.part z g.rest agree ∙ ap first_of (sym g.whole) in
+      let same : first w ≡ v = h.only (first w) (others w ++ behind) (g.part ++ z) (part_fits w fit) (follow w behind fit next) whole agreed in
+      let inner : others w ++ behind ≡ g.part ++ z = cancelled (text v) (others w ++ behind) (g.part ++ z) (ap (λ x. text x ++ (others w ++ behind)) (sym same) ∙ whole) in
+      g.none w behind z (same, fit) next inner agree;
 }
 
 pub then_stopped : {V E : Type 0} (text : V → List ℕ) (ok : V → Type 0) (follows : List ℕ → Type 0) (first : E → V) (others : E → List ℕ) (right : E → Type 0) (after : List ℕ → Type 0) → ((e : E) → right e → ok (first e)) → ((e : E) (behind : List ℕ) → right e → after behind → follows (others e ++ behind)) → ((v : V) → ok v → (e : E) × (first e ≡ v) × right e) → (line : List ℕ) (left : ℕ) → Stopped text ok follows line left → Stopped (λ e. text (first e) ++ others e) right after line left
@@ -224,8 +226,8 @@ made_reading text ok follows agrees make first right part whole_is there back li
   fits = there found.0 h.fits;
   whole = h.whole ∙ ap (λ v. text v ++ found.1) (sym (back found.0 h.fits));
   only = λ w behind z fit follow e ahead.
-    let same : first w ≡ found.0 = h.only (first w) behind z (part w fit) follow (e ∙ ap (λ v. text v ++ z) (back found.0 h.fits)) ahead in
-    sym (whole_is w fit) ∙ ap make same;
+      let same : first w ≡ found.0 = h.only (first w) behind z (part w fit) follow (e ∙ ap (λ v. text v ++ z) (back found.0 h.fits)) ahead in
+      sym (whole_is w fit) ∙ ap make same;
 }
 made_reading text ok follows agrees make first right part whole_is there back line (Err left) h = record {
   part = h.part;
@@ -248,8 +250,8 @@ made_of_reading text ok follows agrees make other same line (Ok found) h = recor
   fits = (found.0, refl, h.fits);
   whole = h.whole ∙ ap (λ t. t ++ found.1) (same found.0 h.fits);
   only = λ w behind z fit follow e ahead.
-    let is : fit.0 ≡ found.0 = h.only fit.0 behind z fit.2 follow (ap (λ t. t ++ behind) (same fit.0 fit.2 ∙ ap other (sym fit.1)) ∙ (e ∙ ap (λ t. t ++ z) (sym (same found.0 h.fits)))) ahead in
-    fit.1 ∙ ap make is;
+      let is : fit.0 ≡ found.0 = h.only fit.0 behind z fit.2 follow (ap (λ t. t ++ behind) (same fit.0 fit.2 ∙ ap other (sym fit.1)) ∙ (e ∙ ap (λ t. t ++ z) (sym (same found.0 h.fits)))) ahead in
+      fit.1 ∙ ap make is;
 }
 made_of_reading text ok follows agrees make other same line (Err left) h = record {
   part = h.part;
@@ -275,9 +277,9 @@ widened text ok right follows agrees ahead there line other (Ok found) h = recor
   fits = there found.0 h.fits;
   whole = h.whole;
   only = λ w behind z fit follow e agree. elim (other w behind fit follow) [
-      | inl mine ↦ h.only w behind z mine follow e agree
-      | inr not ↦ absurd (not (ap first_of e ∙ (same_behind (text found.0) z found.1 (ahead z found.1 agree) ∙ ap first_of (sym h.whole))))
-    ];
+    | inl mine ↦ h.only w behind z mine follow e agree
+    | inr not ↦ absurd (not (ap first_of e ∙ (same_behind (text found.0) z found.1 (ahead z found.1 agree) ∙ ap first_of (sym h.whole))))
+  ];
 }
 widened text ok right follows agrees ahead there line other (Err left) h = record {
   part = h.part;
@@ -289,9 +291,9 @@ widened text ok right follows agrees ahead there line other (Err left) h = recor
   fits = there h.value h.fits;
   goes_on = h.goes_on;
   none = λ w behind z fit follow e agree. elim (other w behind fit follow) [
-      | inl mine ↦ h.none w behind z mine follow e agree
-      | inr not ↦ not (ap first_of e ∙ (same_behind h.part z h.rest agree ∙ ap first_of (sym h.whole)))
-    ];
+    | inl mine ↦ h.none w behind z mine follow e agree
+    | inr not ↦ not (ap first_of e ∙ (same_behind h.part z h.rest agree ∙ ap first_of (sym h.whole)))
+  ];
 }
 
 -- a reader may say less of what stands farther ahead

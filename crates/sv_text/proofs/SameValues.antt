@@ -1,6 +1,6 @@
 -- The texts of values are read in one way.
 use Rattle.std.proofs.Common.{◌≡◌, ℕ, Bool, true, false, eqb, Option, Some, None, IfSome, List, [], ◌∷◌, ◌++◌, map, codes, get_or, cond, ⊎_elim, inl, inr, ◌⊎◌, refl, sym, ap, ◌∙◌, append_assoc, arith}
-use Rattle.std.proofs.lemmas.Bool.{false≢true}
+use Rattle.std.proofs.lemmas.Bool.{false≢true, cases_Bool}
 use Rattle.std.proofs.lemmas.Bool.Decides.{nat_tests}
 use Rattle.std.proofs.lemmas.List.Elements.{recursion_from_All}
 use Rattle.std.specs.Fmt.{decimal}
@@ -32,15 +32,11 @@ pub record ClosesQuotes (text : List ℕ) : Type 0 where
 abbrev Anything : List ℕ → Type 0
 Anything text = Unit {0}
 
-bool_cases : (b : Bool) → (b ≡ true) ⊎ (b ≡ false)
-bool_cases true = inl refl
-bool_cases false = inr refl
-
 pub char_cases : (glyph : ℕ) → ((glyph ≡ quote) × (char_text glyph ≡ quote ∷ quote ∷ [])) ⊎ ((eqb glyph quote ≡ false) × (char_text glyph ≡ glyph ∷ []))
 char_cases glyph =
     ⊎_elim (λ h. inl (grind (arith, nat_tests), ap (λ b. cond b (quote ∷ quote ∷ []) (glyph ∷ [])) h))
     (λ h. inr (h, ap (λ b. cond b (quote ∷ quote ∷ []) (glyph ∷ [])) h))
-    (bool_cases (eqb glyph quote))
+    (cases_Bool (eqb glyph quote))
 
 unlike_quote : (x : ℕ) (rest left : List ℕ) → ClosesQuotes left → char_text x ++ rest ≡ left → ⊥
 unlike_quote x rest left stop e =
@@ -157,3 +153,9 @@ same_value (Some a) None rest left p q stop halt e = absurd (none_is_no_array a 
 same_value (Some a) (Some b) rest left p q stop halt e =
     let same = same_array a b rest left p q stop halt e in
     (ap Some same.0, same.1)
+
+-- the text of an array is no other array's
+pub same_text : (a b : PlainArray) → IsPrintableArray a → IsPrintableArray b → array_text a ≡ array_text b → a ≡ b
+same_text a b p q e =
+    let ends : EndsValue [] = record { numbers = refl; quotes = refl } in
+    (same_array a b [] [] p q ends ends (ap (λ text. text ++ []) e)).0

@@ -13,7 +13,8 @@ use Rattle.apl_arrays.specs.Run.{begins}
 use Rattle.apl_items.proofs.ShapeLemmas.{element_count-cons}
 use Rattle.line_text.specs.Spaced.{spaced}
 use Rattle.line_text.proofs.SameNumbers.{begins_count}
-use Rattle.sv_text.specs.Reading.{Reader, Reading, ◌>>=◌, as_read, first_of, read_behind}
+use Rattle.apl_arrays.specs.List.{first_of}
+use Rattle.sv_text.specs.Reading.{Reader, Reading, ◌>>=◌, as_read, read_behind}
 use Rattle.sv_text.specs.NumberReading.{number_at}
 use Rattle.sv_text.specs.ValueReading.{capped, greatest_axis, goes_on_behind, more_axes, axes_at, shape_at}
 use Rattle.sv_text.proofs.ListForms.{head_or, rest_of}
@@ -41,7 +42,7 @@ record AxesFit (most product : ℕ) (axes : List ℕ) : Type 0 where
   tail : TailFit most product axes
 
 -- axes behind a first one, and the parenthesis
-tail_text : List ℕ → List ℕ
+pub tail_text : List ℕ → List ℕ
 tail_text [] = 41 ∷ []
 tail_text (x ∷ xs) = 32 ∷ (decimal x ++ tail_text xs)
 
@@ -166,8 +167,8 @@ last_axis product some = record {
   small = div-le_self 16384 product;
   above = above_last product some;
   room = λ x h.
-    let fits : x * product ≤ 16384 = (le-div_iff_mul-le {k = product} {x = x} {y = 16384} some).0 h in
-    inl (omega (arith, fits));
+      let fits : x * product ≤ 16384 = (le-div_iff_mul-le {k = product} {x = x} {y = 16384} some).0 h in
+      inl (omega (arith, fits));
 }
 
 any_axis : (more product : ℕ) → (0 < more) ⊎ (product ≡ 0) → Greatest more product 16384
@@ -175,11 +176,11 @@ any_axis more product free = record {
   small = omega arith;
   above = λ x xs h. h.tail.each.0;
   room = λ x h. elim free [
-      | inl some ↦ inr some
-      | inr none ↦
+    | inl some ↦ inr some
+    | inr none ↦
         let nought : product * x ≡ 0 = ap (λ n. n * x) none ∙ (let gone : 0 * x ≡ 0 = omega arith in gone) in
         inl (omega (arith, nought))
-    ];
+  ];
 }
 
 greatest_by : (more product : ℕ) (b : Bool) → (eqb (suc more) 1 && ltb 0 product) ≡ b → Greatest more product (cond b (16384 / product) 16384)

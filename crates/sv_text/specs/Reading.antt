@@ -56,20 +56,10 @@ abbrev pub step_at : {A : Type 0} → (List ℕ → Bool) → Reader A → List 
 step_at goes_on item front line =
     if goes_on line then (item line >>= λ found. Ok (front ++ found.0 ∷ [], found.1)) else Ok (front, line)
 
--- the first glyph
-abbrev pub first_of : List ℕ → Option ℕ
-first_of [] = None
-first_of (first ∷ rest) = Some first
-
 -- this glyph stands at the front
 abbrev pub begins_with : ℕ → List ℕ → Bool
 begins_with glyph [] = false
 begins_with glyph (first ∷ rest) = first == glyph
-
--- what stands behind the first glyph
-abbrev pub behind_first : List ℕ → List ℕ
-behind_first [] = []
-behind_first (first ∷ rest) = rest
 
 -- what stands behind a fixed text
 abbrev pub literal_at : List ℕ → List ℕ → Result (List ℕ) ℕ

@@ -3,7 +3,8 @@ use Rattle.std.specs.Prelude.{◌+◌, ◌-◌, ◌*◌, ◌/◌, ◌^◌, ◌==
 use Rattle.apl_arrays.specs.Array.{PlainArray, number_array, char_array, element_count}
 use Rattle.apl_arrays.specs.Glyph.{blank, overbar, quote, right_parenthesis}
 use Rattle.apl_arrays.specs.Limits.{most_axes, most_elements}
-use Rattle.sv_text.specs.Reading.{Reader, Reading, ◌>>=◌, always, as_read, begins_with, behind_first, list_at, literal_at, read_behind}
+use Rattle.apl_arrays.specs.List.{others_of}
+use Rattle.sv_text.specs.Reading.{Reader, Reading, ◌>>=◌, always, as_read, begins_with, list_at, literal_at, read_behind}
 use Rattle.sv_text.specs.NumberReading.{number_at}
 
 -- the magnitude of a negative number
@@ -16,7 +17,7 @@ positive_at line = as_read pos (number_at 0 (2 ^ 63 - 1) line)
 
 -- a number of 64 bits, behind ¯ where it is negative
 abbrev pub integer_at : Reader ℤ
-integer_at line = if begins_with overbar line then negative_at (behind_first line) else positive_at line
+integer_at line = if begins_with overbar line then negative_at (others_of line) else positive_at line
 
 -- a number behind a blank
 unfoldable pub next_integer_at : Reader ℤ
@@ -81,7 +82,7 @@ axes_at (suc more) product line = do
 -- a shape, and the parenthesis that closes it
 unfoldable pub shape_at : Reader (List ℕ)
 shape_at line =
-    if begins_with right_parenthesis line then Ok ([], behind_first line)
+    if begins_with right_parenthesis line then Ok ([], others_of line)
     else axes_at most_axes 1 line
 
 -- the axes and the numbers of an array

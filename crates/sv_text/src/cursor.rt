@@ -1,5 +1,7 @@
-ghost use Rattle.std.specs.Prelude.{◌≡◌, ◌≤◌, IfOk, length};
-ghost use Rattle.sv_text.specs.Reading.{Gives, first_of, behind_first, literal_at, name_at, shared_length};
+ghost use Rattle.std.specs.Prelude.{◌≡◌, ◌≤◌, All, IfOk, length};
+ghost use Rattle.apl_arrays.specs.Glyph.{IsGlyph};
+ghost use Rattle.apl_arrays.specs.List.{first_of, others_of};
+ghost use Rattle.sv_text.specs.Reading.{Gives, literal_at, name_at, shared_length};
 ghost use Rattle.sv_text.specs.NumberReading.{number_at};
 
 use crate::literal::{behind, shared_length};
@@ -22,11 +24,22 @@ impl<'a> Model for Cursor<'a> {
     ghost view = { λ cursor. cursor.rest.now };
 }
 
+// What the type of a line's items says of each of them. It looks at them, and does nothing else.
+fn look_over(line: &[Glyph])
+    ensures { All IsGlyph line.now }
+{
+    for glyph in line {
+        let _code = glyph.code();
+    }
+}
+
 impl<'a> Cursor<'a> {
     /// A line of which nothing is read yet. No memory.
     pub fn new(line: &'a [Glyph]) -> Cursor<'a>
-        ensures { result ≡ line.now }
+        ensures value { result ≡ line.now }
+        ensures glyphs { All IsGlyph line.now }
     {
+        look_over(line);
         Cursor { rest: line }
     }
 
@@ -56,7 +69,7 @@ impl<'a> Cursor<'a> {
 
     /// The glyph behind the next one, if there is one. No memory.
     pub fn second(&self) -> Option<Glyph>
-        ensures { result ≡ first_of (behind_first self.now) }
+        ensures { result ≡ first_of (others_of self.now) }
     {
         match self.rest {
             [] | [_] => None,
@@ -74,7 +87,7 @@ impl<'a> Cursor<'a> {
 
     /// Goes on behind the next glyph, if there is one. No memory.
     pub fn skip(&mut self)
-        ensures { self.new ≡ behind_first self.old }
+        ensures { self.new ≡ others_of self.old }
     {
         if let [_, rest @ ..] = self.rest {
             self.rest = rest;

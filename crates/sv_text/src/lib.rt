@@ -17,4 +17,4 @@ mod writing;
 pub use cursor::Cursor;
 pub use reading::{read_array, read_value, value_of};
 pub use unread::{Unread, ValueRefused};
-pub use writing::{add_array, add_value, value_text};
+pub use writing::{a_text_tells_its_array, add_array, add_value, value_text};

@@ -1,10 +1,10 @@
-ghost use Rattle.std.specs.Prelude.{◌≡◌, ◌≤◌, ◌^◌, ◌+◌, ◌++◌, ◌∷◌, [], IfOk, OnOk, length, pos, neg_ℤ};
-ghost use Rattle.sv_text.specs.Reading.{Gives, always, list_at, read_behind};
+ghost use Rattle.std.specs.Prelude.{◌≡◌, ◌≤◌, ◌^◌, ◌+◌, IfOk, OnOk, length, pos, neg_ℤ};
+ghost use Rattle.sv_text.specs.Reading.{Gives, always, list_at, read_behind, step_at};
 ghost use Rattle.sv_text.specs.ValueReading.{integer_at, negative_at, next_integer_at, numbers_at, positive_at};
 
 use crate::cursor::Cursor;
 use crate::unread::Unread;
-use apl_arrays::{Glyph, List, NumberList, WantOfMemory};
+use apl_arrays::{Glyph, List, NumberList};
 use std::alloc::Global;
 
 /// Reads so many numbers, with one blank between each two. It takes memory for them.
@@ -38,17 +38,19 @@ fn add_numbers(
     ensures count { OnOk result (length numbers.new.items ≡ length numbers.old.items + count) }
 {
     for _ in 0..count {
-        let number = read_next_integer(cursor)?;
-        push_number(numbers, number)?;
+        add_number(cursor, numbers)?;
     }
     Ok(())
 }
 
-// Adds a number.
-fn push_number(numbers: &mut NumberList, number: i64) -> Result<(), WantOfMemory>
-    ensures { OnOk result (numbers.new.items ≡ numbers.old.items ++ number ∷ []) }
+// Reads a number more, behind a blank.
+fn add_number(cursor: &mut Cursor<'_>, numbers: &mut NumberList) -> Result<(), Unread>
+    ensures value { Gives (λ _. (numbers.new.items, cursor.new)) result (step_at always next_integer_at numbers.old.items cursor.old) }
+    ensures one { OnOk result (length numbers.new.items ≡ length numbers.old.items + 1) }
 {
-    numbers.push(number)
+    let number = read_next_integer(cursor)?;
+    numbers.push(number)?;
+    Ok(())
 }
 
 // Reads a number behind a blank.

@@ -1,8 +1,10 @@
-ghost use Rattle.std.specs.Prelude.{◌≡◌, All, length};
-ghost use Rattle.apl_arrays.specs.Glyph.{IsGlyph};
-ghost use Rattle.sv_text.specs.ReadsValue.{ReadsValue};
+ghost use Rattle.std.specs.Prelude.{◌≡◌, length};
+ghost use Rattle.apl_arrays.specs.Array.{PlainArray};
+ghost use Rattle.sv_text.specs.ReadsValue.{ReadsValue, ReadsThis, refusal};
 ghost use Rattle.sv_text.specs.Reading.{Gives};
+ghost use Rattle.sv_text.specs.Value.{IsValue};
 ghost use Rattle.sv_text.specs.ValueReading.{array_at, value_at, numbers_array_at, chars_array_at};
+ghost use Rattle.sv_text.specs.ValueText.{array_text};
 
 use crate::chars::read_quoted;
 use crate::cursor::Cursor;
@@ -15,13 +17,23 @@ use std::alloc::Global;
 /// The array whose text a line is. `BadValue` where it is no array's text, else `WantOfMemory`. It takes memory for the
 /// array.
 pub fn value_of(alloc: Global, line: &Line) -> Result<Array, ValueRefused>
-    ensures { All IsGlyph line.now.items → ReadsValue result line.now.items }
+    ensures value { ReadsValue result line.now.items }
+    ensures again { (array : PlainArray) → IsValue array → line.now.items ≡ array_text array → ReadsThis result array }
 {
     let mut cursor = Cursor::new(line.as_slice());
     match read_array(alloc, &mut cursor) {
-        Err(Unread::WantOfMemory) => Err(ValueRefused::WantOfMemory),
-        Err(Unread::Left(_)) => Err(ValueRefused::BadValue),
         Ok(array) => whole_value(&cursor, array),
+        Err(why) => Err(refused(why)),
+    }
+}
+
+// Why the line is refused, where the reading stops so.
+fn refused(why: Unread) -> ValueRefused
+    ensures { result ≡ refusal why }
+{
+    match why {
+        Unread::Left(_) => ValueRefused::BadValue,
+        Unread::WantOfMemory => ValueRefused::WantOfMemory,
     }
 }
 

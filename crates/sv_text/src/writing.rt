@@ -1,6 +1,6 @@
 ghost use Rattle.std.specs.Prelude.{◌≡◌, All, IfOk, IfSome, ◌∷◌, [], ◌++◌, OnOk, length};
 ghost use Rattle.std.specs.List.{flat_map};
-ghost use Rattle.apl_arrays.specs.Array.{plain_items};
+ghost use Rattle.apl_arrays.specs.Array.{PlainArray, plain_items};
 ghost use Rattle.apl_arrays.specs.Glyph.{IsGlyph};
 ghost use Rattle.sv_text.specs.Printable.{ArePrintableItems, IsPrintableArray};
 ghost use Rattle.sv_text.specs.ValueText.{char_text, kind_text, items_text, array_text, value_text};
@@ -81,6 +81,11 @@ pub fn add_value(line: &mut Line, value: &Option<Array>) -> Result<(), WantOfMem
         Some(array) => add_array(line, array),
     }
 }
+
+/// The text of an array tells the array: no other has it. The call does nothing.
+pub fn a_text_tells_its_array()
+    ensures { (array other : PlainArray) → IsPrintableArray array → IsPrintableArray other → array_text array ≡ array_text other → array ≡ other }
+{}
 
 /// The text of an array: its kind, its axes, its items. It takes memory for the line.
 pub fn value_text(alloc: Global, array: &Array) -> Result<Line, WantOfMemory>

@@ -7,7 +7,7 @@ use Rattle.sv_journal.proofs.answer_text.add_names.Goals as goal
 
 pub loop-name-preserved : goal.loop-name-preserved
 loop-name-preserved c = record {
-  text = one_listed (λ name. 32 ∷ name) c.args.list.now c.loop-name.name-index c.name-item.result c.args.line.now.items (codes "names") c.loop-name.line.items c.add_name.new.line.items (omega arith) c.name-item.is c.loop-name.invariant.text c.in_ok-add_name.ensures.text;
+  text = one_listed (λ name. 32 ∷ name) c.args.list.now c.loop-name.name-index c.name-item.result c.name-item.result c.args.line.now.items (codes "names") c.loop-name.line.items c.add_name.new.line.items (omega arith) c.name-item.is c.loop-name.invariant.text c.in_ok-add_name.ensures.text;
   printable = all_more IsName c.args.list.now c.loop-name.name-index c.name-item.result (omega arith) c.name-item.is c.in_ok-add_name.ensures.printable c.loop-name.invariant.printable;
 }
 
