@@ -5,7 +5,7 @@ use Rattle.std.proofs.lemmas.List.Sums.{sum_by-cons}
 use Rattle.std.specs.Prelude.{None}
 use Rattle.sv_events.specs.Answer.{full}
 use Rattle.sv_events.specs.Entry.{PlainEntry}
-use Rattle.sv_rules.specs.Entries.{Entries, is_leave, has_left, entry_elements, counted_entries, held_elements, is_full}
+use Rattle.sv_rules.specs.Entries.{Entries, is_leave, has_left, entry_weight, counted_entries, held_elements, is_full}
 use Rattle.apl_session.specs.Run.{entries_of, acts_in, answers_in, before_leave, IsPart}
 use Rattle.apl_session.specs.Session.{Evaluated, evaluated}
 use Rattle.bundle_text.specs.User.{PlainUser}
@@ -61,7 +61,7 @@ more_is_enough limit small more large sum enough = let least : limit ≤ small =
 pub full_stays : (e : PlainEntry) (journal : Entries) → IsTrue (is_full journal) → IsTrue (is_full (e ∷ journal))
 full_stays e journal h = elim (or_cases (leb 200000 (counted_entries journal)) (leb 4194304 (held_elements journal)) h) [
   | inl many ↦ or_left _ _ (more_is_enough 200000 (counted_entries journal) (cond (not (is_leave e.act)) 1 0) (counted_entries (e ∷ journal)) (sum_by-cons (λ (o : PlainEntry). cond (not (is_leave o.act)) 1 0) e journal) many)
-  | inr large ↦ or_right _ _ (more_is_enough 4194304 (held_elements journal) (entry_elements e) (held_elements (e ∷ journal)) (sum_by-cons entry_elements e journal) large)
+  | inr large ↦ or_right _ _ (more_is_enough 4194304 (held_elements journal) (entry_weight e) (held_elements (e ∷ journal)) (sum_by-cons entry_weight e journal) large)
 ]
 
 -- a user's part stays true when an entry of another follows

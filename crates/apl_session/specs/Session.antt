@@ -1,15 +1,18 @@
 -- What a user's lines do: what is printed, and which acts are asked, given the answers to those asked before.
-use Rattle.std.specs.Prelude.{ℕ, pos, List, [], ◌∷◌, ◌++◌, replicate, Option, Some, None, option_and_then, if◌then◌else◌}
+use Rattle.std.specs.Prelude.{ℕ, pos, List, [], ◌∷◌, ◌++◌, replicate, Option, Some, None, option_and_then, unwrap_or, if◌then◌else◌}
 use Rattle.apl_arrays.specs.Array.{PlainArray, scalar}
 use Rattle.apl_arrays.specs.Glyph.{blank}
 use Rattle.apl_arrays.specs.Report.{report_text}
 use Rattle.apl_arrays.specs.declared.report.Report.{Report}
-use Rattle.apl_arrays.specs.declared.report.Report.TheVariants.{Syntax, Value, SvFull, SvLimit}
+use Rattle.apl_arrays.specs.declared.report.Report.TheVariants.{Syntax, Value, SvFull, SvInterrupt, SvLimit}
 use Rattle.apl_display.specs.Display.{display_lines}
-use Rattle.sv_events.specs.Answer.{PlainAnswer, degree, granted, value, no_value, not_shared, offer_limit, full, done}
+use Rattle.sv_events.specs.Answer.{PlainAnswer}
+use Rattle.sv_events.specs.Row.{answer_row}
 use Rattle.sv_events.specs.declared.event.Act.{Act}
 use Rattle.sv_events.specs.declared.event.Act.TheVariants as act
-use Rattle.sv_rules.specs.Entries.{value_got}
+use Rattle.sv_events.specs.declared.row.AnswerKind.{AnswerKind}
+use Rattle.sv_events.specs.declared.row.AnswerKind.TheVariants as kind
+use Rattle.sv_rules.specs.Entries.{kind_of, value_got}
 use Rattle.apl_session.specs.Statement.{statement_in}
 use Rattle.apl_session.specs.Workspace.{Names, copy_of, is_shared, with_value, with_share}
 use Rattle.apl_session.specs.declared.statement.Statement.{Statement}
@@ -45,27 +48,18 @@ statement_alone names line (Assign name number) = record { names = with_value na
 statement_alone names line (Offer to name) = record { names = names; printed = [] }
 statement_alone names line (Reference name) = record { names = names; printed = looked_up line (copy_of names name) }
 
--- the report that an answer is, if it is one
-abbrev pub report_in : PlainAnswer → Option Report
-report_in (degree _) = None
-report_in granted = None
-report_in (value _) = None
-report_in no_value = Some Value
-report_in not_shared = Some Value
-report_in offer_limit = Some SvLimit
-report_in full = Some SvFull
-report_in done = None
+-- the report that an answer of a kind is, if it is one
+abbrev pub report_of : AnswerKind → Option Report
+report_of kind.NoValue = Some Value
+report_of kind.NotShared = Some Value
+report_of kind.Abandoned = Some SvInterrupt
+report_of kind.OfferLimit = Some SvLimit
+report_of kind.Full = Some SvFull
+report_of _ = None
 
 -- the degree that an answer tells, 0 where it tells none
 abbrev pub degree_in : PlainAnswer → ℕ
-degree_in (degree d) = d
-degree_in granted = 0
-degree_in (value _) = 0
-degree_in no_value = 0
-degree_in not_shared = 0
-degree_in offer_limit = 0
-degree_in full = 0
-degree_in done = 0
+degree_in answer = unwrap_or (answer_row answer).row.degree 0
 
 -- a value that was got is printed, and is the name's own copy from then on
 abbrev pub got : Names → List ℕ → Option PlainArray → Effect
@@ -85,7 +79,7 @@ statement_answered_by names line statement answer None = accepted names statemen
 
 -- what a statement does whose act was answered
 abbrev pub statement_answered : Names → List ℕ → Statement → PlainAnswer → Effect
-statement_answered names line statement answer = statement_answered_by names line statement answer (report_in answer)
+statement_answered names line statement answer = statement_answered_by names line statement answer (report_of (kind_of answer))
 
 -- the act that a line asks, if it asks one
 abbrev pub asked_by : Names → List ℕ → Option Act

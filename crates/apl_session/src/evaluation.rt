@@ -3,9 +3,10 @@ ghost use Rattle.std.specs.Option.{option_copied, option_map};
 ghost use Rattle.apl_arrays.specs.Array.{scalar};
 ghost use Rattle.apl_display.specs.Display.{display_lines};
 ghost use Rattle.sv_events.specs.Answer.{plain_answer};
+ghost use Rattle.sv_rules.specs.Entries.{value_got};
 ghost use Rattle.apl_session.specs.Workspace.{copy_of, with_value};
 ghost use Rattle.apl_session.specs.Progress.{started, with_line};
-ghost use Rattle.apl_session.specs.Session.{echo, report_lines, act_of, asked_by, looked_up, statement_alone, report_in, degree_in, accepted, statement_answered, line_answered};
+ghost use Rattle.apl_session.specs.Session.{echo, report_lines, act_of, asked_by, looked_up, statement_alone, report_of, degree_in, accepted, statement_answered, line_answered};
 
 use crate::statement::{Statement, statement_of};
 use crate::workspace::Workspace;
@@ -14,7 +15,8 @@ use apl_display::lines_of;
 use line_text::{add_glyphs, add_text};
 use std::alloc::Global;
 use std::marker::Model;
-use sv_events::{Act, Answer, copy_value};
+use sv_events::{Act, Answer, AnswerKind, copy_value};
+use sv_rules::is_value;
 
 /// What a user's lines work on: the names, and what was read and printed.
 #[derive(Drop)]
@@ -139,7 +141,7 @@ impl Evaluation {
         ensures { OnOk result (self.new ≡ with_line self.old line.now (statement_answered self.old.names line.now statement (plain_answer answer.now))) }
     {
         self.echo(line)?;
-        match report_of(answer) {
+        match report_of(answer.row().kind) {
             Some(report) => self.report(report, line),
             None => self.accept(statement, answer),
         }
@@ -156,9 +158,9 @@ impl Evaluation {
                 self.names.share(self.alloc, name)?;
                 self.print(&Array::scalar(self.alloc, degree_in(answer))?)
             }
-            Statement::Reference(name) => match answer {
-                Answer::Value(value) => self.get(name, value),
-                _ => Ok(()),
+            Statement::Reference(name) => match value_got(answer) {
+                Some(value) => self.get(name, value),
+                None => Ok(()),
             },
         }
     }
@@ -240,14 +242,15 @@ fn shown(alloc: Global, value: Option<&Array>) -> Result<Option<LineList>, WantO
     }
 }
 
-// The report that an answer is, if it is one.
-fn report_of(answer: &Answer) -> Option<Report>
-    ensures { result ≡ report_in (plain_answer answer.now) }
+// The report that an answer of a kind is, if it is one.
+fn report_of(kind: AnswerKind) -> Option<Report>
+    ensures { result ≡ report_of kind }
 {
-    match answer {
-        Answer::NoValue | Answer::NotShared => Some(Report::Value),
-        Answer::OfferLimit => Some(Report::SvLimit),
-        Answer::Full => Some(Report::SvFull),
+    match kind {
+        AnswerKind::NoValue | AnswerKind::NotShared => Some(Report::Value),
+        AnswerKind::Abandoned => Some(Report::SvInterrupt),
+        AnswerKind::OfferLimit => Some(Report::SvLimit),
+        AnswerKind::Full => Some(Report::SvFull),
         _ => None,
     }
 }
@@ -256,9 +259,17 @@ fn report_of(answer: &Answer) -> Option<Report>
 fn degree_in(answer: &Answer) -> i64
     ensures { result ≡ pos (degree_in (plain_answer answer.now)) }
 {
-    match answer {
-        Answer::Degree(degree) => i64::from(*degree),
-        _ => 0,
+    i64::from(answer.row().degree.unwrap_or(0))
+}
+
+// The value that a use gets, if it gets one.
+fn value_got(answer: &Answer) -> Option<&Array>
+    ensures { option_copied result ≡ value_got (plain_answer answer.now) }
+{
+    if is_value(answer.row().kind) {
+        answer.value()
+    } else {
+        None
     }
 }
 

@@ -3,4 +3,5 @@ pub mod OneJournal
 pub mod Replays
 pub mod Rounds
 pub mod RunEnds
+pub mod Unhindered
 pub mod UserTurns

@@ -123,7 +123,7 @@ asking_turn true act count journal participant at_limit waits stays many h =
 asking_turn false act count journal participant room waits stays many h =
     let more : suc count ≤ length participant.lines = omega (arith, many, (lines_take_answers participant.lines).few [] participant.answers act waits) in
     let e : PlainEntry = entry_for journal participant.number act in
-    let no_leave : is_leave act ≡ false = (lines_take_answers participant.lines).stays [] participant.answers act waits in
+    let no_leave : is_leave act ≡ false = ((lines_take_answers participant.lines).asks [] participant.answers act waits).stays in
     present (own_act_stays e journal participant.number refl no_leave ∙ stays) (one_more participant.answers e.answer count many) more
     (subst (λ entries. AreGiven (e ∷ journal) entries participant.lines (participant.answers ++ e.answer ∷ [])) (sym (own_act_is_newest e journal participant.number refl no_leave))
     (entry_taken journal (entries_of journal participant.number) participant.lines participant.answers e room waits h))

@@ -1,6 +1,9 @@
 -- What holds of turns.
 use Rattle.std.specs.Prelude.{◌≡◌, ◌<◌, ℕ, map, length, All, None, IsTrue}
+use Rattle.sv_events.specs.declared.event.Act.{Act}
 use Rattle.sv_rules.specs.Entries.{Entries, has_left}
+use Rattle.sv_rules.specs.Refused.{awaited, refused}
+use Rattle.sv_story_laws.specs.WaitLaws.{SetNoControl}
 use Rattle.bundle_text.specs.Bundle.{PlainBundle}
 use Rattle.apl_arrays.specs.Ascending.{AscendBy}
 use Rattle.apl_session.specs.Session.{evaluated}
@@ -32,3 +35,13 @@ RoundsEnd =
 -- the journal of a bundle's turns is one
 abbrev pub TurnsMakeOneJournal : Type 0
 TurnsMakeOneJournal = (bundle : PlainBundle) (journal other : Entries) → IsJournalOfTurns bundle journal → IsJournalOfTurns bundle other → journal ≡ other
+
+-- no entry sets a control, so nothing is refused, and nobody waits to make an act again
+pub record IsUnhindered (journal : Entries) : Type 0 where
+  pub unset : SetNoControl journal
+  pub granted : (party : ℕ) (act : Act) → refused journal party act ≡ None
+  pub waits : (party : ℕ) → awaited journal party ≡ None
+
+-- so it is in the turns of a bundle, since no line sets a control
+abbrev pub TurnsAreUnhindered : Type 0
+TurnsAreUnhindered = (bundle : PlainBundle) (count : ℕ) → IsUnhindered (rounds count (beginning bundle)).journal

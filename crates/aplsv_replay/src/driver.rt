@@ -1,11 +1,12 @@
 ghost use Rattle.std.specs.Prelude.{◌≡◌, ◌<◌, IsTrue, IfOk, OnOk, All, length, map, reverse};
+ghost use Rattle.sv_core.specs.Core.{ArePeople};
 ghost use Rattle.sv_rules.specs.Legal.{is_user};
 ghost use Rattle.apl_arrays.specs.Ascending.{Ascend};
 ghost use Rattle.bundle_text.specs.User.{plain_user};
 ghost use Rattle.apl_session.specs.Run.{IsRun};
 ghost use Rattle.apl_session.specs.Transcripts.{plain_transcript};
 ghost use Rattle.aplsv_replay.specs.Participants.{participant_of, participants_of};
-ghost use Rattle.aplsv_replay.specs.TurnLaws.{IsDone, transcript_of};
+ghost use Rattle.aplsv_replay.specs.TurnLaws.{IsDone, IsUnhindered, transcript_of};
 ghost use Rattle.aplsv_replay.specs.Turns.{newcomer, turn, round, IsJournalOfTurns};
 
 use crate::turn_laws::rounds_end;
@@ -95,6 +96,8 @@ fn transcripts_of(alloc: Global, sessions: Vec<Session>) -> Result<Transcripts, 
 // A turn for each session, in their order.
 fn round(core: &mut Core, sessions: &mut [Session]) -> Result<(), WantOfMemory>
     requires users { All (λ participant. IsTrue (is_user core.old.users participant.number)) (participants_of sessions.old) }
+    requires people { ArePeople core.old.users }
+    requires unhindered { IsUnhindered core.old.journal }
     ensures turns { OnOk result (record { journal = core.new.journal; participants = participants_of sessions.new } ≡ round core.old.journal (participants_of sessions.old)) }
     ensures users { core.new.users ≡ core.old.users }
 {
@@ -107,9 +110,12 @@ fn round(core: &mut Core, sessions: &mut [Session]) -> Result<(), WantOfMemory>
     }
 }
 
-// A user that has not left makes its next act, or leaves where its lines are done.
+// A user that has not left makes its next act, or leaves where its lines are done. No act is to be made again: where no
+// entry sets a control nothing is refused.
 fn turn(core: &mut Core, session: &mut Session) -> Result<(), WantOfMemory>
-    requires { IsTrue (is_user core.old.users session.old.user) }
+    requires user { IsTrue (is_user core.old.users session.old.user) }
+    requires people { ArePeople core.old.users }
+    requires unhindered { IsUnhindered core.old.journal }
     ensures turn { OnOk result (record { journal = core.new.journal; participant = participant_of session.new } ≡ turn core.old.journal (participant_of session.old)) }
     ensures users { core.new.users ≡ core.old.users }
 {

@@ -5,4 +5,4 @@ mod driver;
 mod turn_laws;
 
 pub use driver::replay;
-pub use turn_laws::{one_journal_of_turns, rounds_end};
+pub use turn_laws::{one_journal_of_turns, rounds_end, turns_are_unhindered};

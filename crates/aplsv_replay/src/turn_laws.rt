@@ -1,4 +1,4 @@
-ghost use Rattle.aplsv_replay.specs.TurnLaws.{RoundsEnd, TurnsMakeOneJournal};
+ghost use Rattle.aplsv_replay.specs.TurnLaws.{RoundsEnd, TurnsAreUnhindered, TurnsMakeOneJournal};
 
 /// After more rounds than any user has lines all users have left, and each has its part of a run. The call does
 /// nothing.
@@ -9,4 +9,10 @@ pub fn rounds_end()
 /// A bundle has one journal of its turns. The call does nothing.
 pub fn one_journal_of_turns()
     ensures { TurnsMakeOneJournal }
+{}
+
+/// In the turns of a bundle no entry sets a control, so nothing is refused and nobody waits: no act is to be made again.
+/// The call does nothing.
+pub fn turns_are_unhindered()
+    ensures { TurnsAreUnhindered }
 {}

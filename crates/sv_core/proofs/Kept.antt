@@ -1,17 +1,25 @@
 -- What a core keeps is kept by an entry more.
-use Rattle.std.proofs.Common.{◌≡◌, ◌≤◌, ◌<◌, ◌+◌, ℕ, Bool, true, false, not, leb, ◌||◌, ◌&&◌, ◌==◌, List, ◌∷◌, ◌++◌, length, map, filter, count_by, cond, ap, sym, refl, ◌∙◌, arith, add_comm, IsTrue, Result, Ok, Err, OnOk, is_ok, subst}
-use Rattle.std.proofs.lemmas.List.{append-nil}
-use Rattle.std.proofs.lemmas.Bool.{or_parts, leb-false}
+use Rattle.std.proofs.Common.{◌&&◌, ◌+◌, ◌||◌, ◌∙◌, ◌∷◌, ◌≡◌, ◌≤◌, Bool, Err, List, Ok, OnErr, OnOk, Result, [], ap, arith, false, is_ok, length, not, refl, subst, sym, true, ℕ}
 use Rattle.std.proofs.lemmas.List.Elements.{filter_agree}
-use Rattle.std.proofs.lemmas.List.Sums.{length-filter, sum_by-cons, count_by-le-length}
+use Rattle.std.proofs.lemmas.List.Sums.{count_by-le-length, length-filter}
+use Rattle.std.specs.Prelude.{◌==◌, All, count_by}
+use Rattle.sv_cell_laws.proofs.TouchSteps.{cells_stay}
+use Rattle.sv_cell_laws.specs.Fits.{FitCells}
+use Rattle.sv_cell_laws.specs.Steps.{Stays, TouchesNothing}
+use Rattle.sv_cells.specs.Cells.{KeepsCells}
+use Rattle.sv_cells.specs.declared.cells.Cells.{Cells}
+use Rattle.sv_events.specs.Answer.{PlainAnswer}
 use Rattle.sv_events.specs.Entry.{PlainEntry}
-use Rattle.sv_rules.specs.declared.coupling.Made.{Made}
-use Rattle.sv_rules.specs.declared.standing.Standing.{Standing}
-use Rattle.sv_rules.specs.Entries.{Entries, has_left, is_leave, is_full, counted_entries, held_elements, entry_elements, next_place}
+use Rattle.sv_events.specs.declared.entry.Pair.{Pair}
+use Rattle.sv_events.specs.declared.event.Act.{Act}
+use Rattle.sv_log.specs.Log.{PlainLog}
+use Rattle.sv_rules.specs.Coupling.{couplings}
+use Rattle.sv_rules.specs.Entries.{Entries, has_left, is_leave}
+use Rattle.sv_rules.specs.Legal.{IsLegal, MayFollow, entry_for}
+use Rattle.sv_rules.specs.Outcome.{outcome}
 use Rattle.sv_rules.specs.Standing.{standing}
-use Rattle.sv_rules.specs.Coupling.{couplings, made_in, both_stand}
-use Rattle.sv_rules.specs.Legal.{MayFollow}
-use Rattle.sv_core.specs.Core.{present, Parts, IsKept, IsQuiet}
+use Rattle.sv_core.specs.Core.{ArePeople, IsSpare, PlainCore, core_after, present}
+use Rattle.sv_core.specs.Invariant.{IsKept, Parts}
 
 and-false : (b : Bool) → (b && false) ≡ false
 and-false true = refl
@@ -26,6 +34,11 @@ pub on_success : {T E : Type 0} (r : Result T E) (P : Type 0) → is_ok r ≡ tr
 on_success (Ok x) P ok h = h
 on_success (Err e) P ok h = cc
 
+-- and on failure where there was none
+pub on_failure : {T E : Type 0} (r : Result T E) (P : Type 0) → is_ok r ≡ false → OnErr r P → P
+on_failure (Ok x) P failed h = cc
+on_failure (Err e) P failed h = h
+
 -- no more users are present than there are
 pub present-le-length : (users : List ℕ) (journal : Entries) → present users journal ≤ length users
 present-le-length users journal = count_by-le-length (λ user. not (has_left journal user)) users
@@ -38,80 +51,109 @@ pub present-stay : (users : List ℕ) (journal : Entries) (e : PlainEntry) → i
 present-stay users journal e h =
     count_by_agree (λ user. not (has_left (e ∷ journal) user)) (λ user. not (has_left journal user)) (λ user. ap not (has_left-stay journal e user h)) users
 
--- an entry that couples nothing, after which the same offers stand, leaves the couplings
-pub couplings-quiet : (journal : Entries) (e : PlainEntry) → IsQuiet journal e → couplings (e ∷ journal) ≡ couplings journal
-couplings-quiet journal e q =
-    let both : List Standing → Made → Bool = λ offers made. both_stand offers made.pair in
-    ap (λ pairs. filter (both (standing (e ∷ journal))) (made_in journal ++ map (λ pair. record { pair = pair; at = next_place journal }) pairs)) q.alone
-    ∙ ap (filter (both (standing (e ∷ journal)))) (append-nil (made_in journal))
-    ∙ ap (λ offers. filter (both offers) (made_in journal)) q.offers
-
--- a journal that is not full is below both limits
-pub below_limits : (journal : Entries) → is_full journal ≡ false → (counted_entries journal < 200000) × (held_elements journal < 4194304)
-below_limits journal h =
-    let parts = or_parts (leb 200000 (counted_entries journal)) (leb 4194304 (held_elements journal)) h in
-    (leb-false _ _ parts.0, leb-false _ _ parts.1)
-
--- an entry that is no leave counts
-pub counted-more : (journal : Entries) (e : PlainEntry) → is_leave e.act ≡ false → counted_entries (e ∷ journal) ≡ counted_entries journal + 1
-counted-more journal e h =
-    sum_by-cons (λ x. cond (not (is_leave x.act)) 1 0) e journal ∙ ap (λ b. cond (not b) 1 0 + counted_entries journal) h ∙ add_comm 1 (counted_entries journal)
-
-pub held-more : (journal : Entries) (e : PlainEntry) → held_elements (e ∷ journal) ≡ held_elements journal + entry_elements e
-held-more journal e = sum_by-cons entry_elements e journal ∙ add_comm (entry_elements e) (held_elements journal)
-
 pub not_true : (b : Bool) → not b ≡ true → b ≡ false
 not_true true h = sym h
 not_true false h = refl
 
-pub not_full : (journal : Entries) (e : PlainEntry) → is_leave e.act ≡ false → IsTrue (is_leave e.act || not (is_full journal)) → is_full journal ≡ false
-not_full journal e h room = not_true (is_full journal) (rw h at room)
+-- a log with one entry more, and room for a leave of each user
+pub record IsEntered (old new : PlainLog) (e : PlainEntry) : Type 0 where
+  pub users : new.users ≡ old.users
+  pub journal : new.journal ≡ e ∷ old.journal
+  pub room : length old.users ≤ new.room
 
--- a quiet entry keeps all
-pub kept_quiet : (core : Parts) → IsKept core → (e : PlainEntry) → MayFollow core.users core.journal e → IsQuiet core.journal e → (more : ℕ) → present core.users core.journal ≤ more →
-    (held : ℕ) → held ≡ entry_elements e → held ≤ 32768 →
-    IsKept (record core { journal = e ∷ core.journal; entries_room = more; counted = core.counted + 1; elements = core.elements + held })
-kept_quiet core k e may quiet more fits held is small =
-    let below = below_limits core.journal (not_full core.journal e quiet.stays may.room) in
-    let stay = present-stay core.users core.journal e quiet.stays in
+-- room was made, and then the entry was added
+pub entered : (old between new : PlainLog) (added e : PlainEntry) → between.users ≡ old.users → between.journal ≡ old.journal → length old.users + 1 ≤ between.room →
+    new.users ≡ between.users → new.journal ≡ added ∷ between.journal → new.room + 1 ≡ between.room → added ≡ e → IsEntered old new e
+entered old between new added e users journal room users' journal' room' is = record {
+  users = users' ∙ users;
+  journal = journal' ∙ ap (λ j. added ∷ j) journal ∙ ap (λ x. x ∷ old.journal) is;
+  room = omega (arith, room, room');
+}
+
+-- the entry of an act, by its answer and its pairs
+pub entry_is : (journal : Entries) (party : ℕ) (act : Act) (given : PlainAnswer) (made : List Pair) → given ≡ (outcome journal party act).answer → made ≡ (outcome journal party act).made →
+    (let e : PlainEntry = record { party = party; act = act; answer = given; made = made } in e) ≡ entry_for journal party act
+entry_is journal party act given made answer pairs =
+    ap (λ (a : PlainAnswer). let e : PlainEntry = record { party = party; act = act; answer = a; made = made } in e) answer
+    ∙ ap (λ (ps : List Pair). let e : PlainEntry = record { party = party; act = act; answer = (outcome journal party act).answer; made = ps } in e) pairs
+
+-- the core is the one after the act
+pub core_is : (core : PlainCore) (old new : PlainLog) (party : ℕ) (act : Act) → (let c : PlainCore = record { users = old.users; journal = old.journal } in c) ≡ core →
+    new.users ≡ old.users → new.journal ≡ entry_for old.journal party act ∷ old.journal → (let c : PlainCore = record { users = new.users; journal = new.journal } in c) ≡ core_after core party act
+core_is core old new party act is users journal =
+    ap (λ (us : List ℕ). let c : PlainCore = record { users = us; journal = new.journal } in c) users
+    ∙ ap (λ (j : Entries). let c : PlainCore = record { users = old.users; journal = j } in c) journal
+    ∙ ap (λ (c : PlainCore). core_after c party act) is
+
+-- the core is the same
+pub core_stays : (core : PlainCore) (old new : PlainLog) → (let c : PlainCore = record { users = old.users; journal = old.journal } in c) ≡ core → new.users ≡ old.users → new.journal ≡ old.journal →
+    (let c : PlainCore = record { users = new.users; journal = new.journal } in c) ≡ core
+core_stays core old new is users journal =
+    ap (λ (us : List ℕ). let c : PlainCore = record { users = us; journal = new.journal } in c) users
+    ∙ ap (λ (j : Entries). let c : PlainCore = record { users = old.users; journal = j } in c) journal ∙ is
+
+-- equal cells fit alike
+pub fit_kept : (journal : Entries) (cells cells' : Cells) → KeepsCells cells cells' → FitCells journal cells → FitCells journal cells'
+fit_kept journal cells cells' keeps fit offer has = let old = fit offer has in (old.0, keeps offer.place ∙ old.1, old.2)
+
+-- what a core keeps, after an entry more
+pub whole_core : (core new : Parts) (e : PlainEntry) → IsKept core → MayFollow core.users core.journal e → new.users ≡ core.users → new.journal ≡ e ∷ core.journal →
+    new.offers ≡ standing (e ∷ core.journal) → new.coupled ≡ couplings (e ∷ core.journal) → FitCells (e ∷ core.journal) new.cells →
+    present core.users (e ∷ core.journal) ≤ new.room → present core.users (e ∷ core.journal) ≤ length new.spares → All IsSpare new.spares → IsKept new
+whole_core core new e k may users journal stand couple fit room count spare =
+    let here : present new.users new.journal ≡ present core.users (e ∷ core.journal) = ap (λ us. present us new.journal) users ∙ ap (present core.users) journal in
     record {
-      legal = (may, k.legal);
-      stand = k.stand ∙ sym quiet.offers;
-      couple = k.couple ∙ sym (couplings-quiet core.journal e quiet);
-      count = ap (λ n. n + 1) k.count ∙ sym (counted-more core.journal e quiet.stays);
-      hold = ap (λ n. n + held) k.hold ∙ ap (λ n. held_elements core.journal + n) is ∙ sym (held-more core.journal e);
-      few = omega (arith, below.0, k.count);
-      small = omega (arith, below.1, k.hold, small);
-      gone = λ party. k.gone party ∙ sym (has_left-stay core.journal e party quiet.stays);
-      entries_room = omega (arith, stay, fits);
-      left_room = omega (arith, stay, k.left_room);
-      spare_count = omega (arith, stay, k.spare_count);
-      spare_room = k.spare_room;
-      scratch_room = k.scratch_room;
+      people = subst ArePeople (sym users) k.people;
+      legal = subst (λ us. IsLegal us new.journal) (sym users) (subst (IsLegal core.users) (sym journal) (may, k.legal));
+      stand = stand ∙ ap standing (sym journal);
+      couple = couple ∙ ap couplings (sym journal);
+      fit = subst (λ j. FitCells j new.cells) (sym journal) fit;
+      entries_room = omega (arith, here, room);
+      spare_count = omega (arith, here, count);
+      spare_room = spare;
     }
 
--- what is kept of equal parts
-pub kept_same : (core : Parts) {journal : Entries} {offers : List Standing} {coupled : List Made} → core.journal ≡ journal → core.offers ≡ offers → core.coupled ≡ coupled →
-    IsKept core → IsKept (record core { journal = journal; offers = offers; coupled = coupled })
-kept_same core {journal} {offers} {coupled} j o c k =
-    subst (λ x. IsKept (record core { journal = journal; offers = offers; coupled = x })) c
-    (subst (λ x. IsKept (record core { journal = journal; offers = x })) o
-    (subst (λ x. IsKept (record core { journal = x })) j k))
+-- after an entry that is no leave, and opens and ends no offers
+pub entry_core : (core new : Parts) (e : PlainEntry) → IsKept core → MayFollow core.users core.journal e → is_leave e.act ≡ false → Stays core.journal e → new.users ≡ core.users → new.journal ≡ e ∷ core.journal →
+    new.offers ≡ core.offers → new.coupled ≡ core.coupled → new.spares ≡ core.spares → FitCells (e ∷ core.journal) new.cells → length core.users ≤ new.room → IsKept new
+entry_core core new e k may leaves stays users journal offers coupled spares fit room =
+    let stay = present-stay core.users core.journal e leaves in
+    whole_core core new e k may users journal (offers ∙ k.stand ∙ sym stays.offers) (coupled ∙ k.couple ∙ sym stays.coupled) fit
+    (omega (arith, stay, present-le-length core.users core.journal, room)) (omega (arith, stay, k.spare_count, ap length spares)) (subst (All IsSpare) (sym spares) k.spare_room)
 
--- what is kept is kept with more room
-pub kept_wider : (core : Parts) → IsKept core → (room scratch : ℕ) → core.entries_room ≤ room → core.scratch ≤ scratch → IsKept (record core { entries_room = room; scratch = scratch })
-kept_wider core k room scratch roomy wide = record {
-  legal = k.legal;
-  stand = k.stand;
-  couple = k.couple;
-  count = k.count;
-  hold = k.hold;
-  few = k.few;
-  small = k.small;
-  gone = k.gone;
-  entries_room = omega (arith, k.entries_room, roomy);
-  left_room = k.left_room;
-  spare_count = k.spare_count;
-  spare_room = k.spare_room;
-  scratch_room = omega (arith, k.scratch_room, wide);
+-- after an entry that touches nothing
+pub quiet_core : (core new : Parts) (e : PlainEntry) → IsKept core → MayFollow core.users core.journal e → is_leave e.act ≡ false → TouchesNothing core.journal e → new.users ≡ core.users → new.journal ≡ e ∷ core.journal →
+    new.offers ≡ core.offers → new.coupled ≡ core.coupled → new.spares ≡ core.spares → KeepsCells core.cells new.cells → length core.users ≤ new.room → IsKept new
+quiet_core core new e k may leaves nothing users journal offers coupled spares cells room =
+    entry_core core new e k may leaves nothing.stays users journal offers coupled spares
+    (cells_stay core.users core.journal e (may, k.legal) nothing new.cells (fit_kept core.journal core.cells new.cells cells k.fit)) room
+
+-- where nothing was entered
+pub same_core : (core new : Parts) → IsKept core → new.users ≡ core.users → new.journal ≡ core.journal → new.offers ≡ core.offers → new.coupled ≡ core.coupled → new.spares ≡ core.spares →
+    FitCells core.journal new.cells → core.room ≤ new.room → IsKept new
+same_core core new k users journal offers coupled spares fit room =
+    let here : present new.users new.journal ≡ present core.users core.journal = ap (λ us. present us new.journal) users ∙ ap (present core.users) journal in
+    record {
+      people = subst ArePeople (sym users) k.people;
+      legal = subst (λ us. IsLegal us new.journal) (sym users) (subst (IsLegal core.users) (sym journal) k.legal);
+      stand = offers ∙ k.stand ∙ ap standing (sym journal);
+      couple = coupled ∙ k.couple ∙ ap couplings (sym journal);
+      fit = subst (λ j. FitCells j new.cells) (sym journal) fit;
+      entries_room = omega (arith, here, k.entries_room, room);
+      spare_count = omega (arith, here, k.spare_count, ap length spares);
+      spare_room = subst (All IsSpare) (sym spares) k.spare_room;
+    }
+
+-- what a core keeps that is new
+pub new_core : (core : Parts) (users : List ℕ) → ArePeople users → core.users ≡ users → core.journal ≡ [] → core.offers ≡ [] → core.coupled ≡ [] → length users ≤ core.room → length users ≤ length core.spares →
+    All IsSpare core.spares → IsKept core
+new_core core users people same none offers coupled room count spare = record {
+  people = subst ArePeople (sym same) people;
+  legal = subst (IsLegal core.users) (sym none) tt;
+  stand = offers ∙ ap standing (sym none);
+  couple = coupled ∙ ap couplings (sym none);
+  fit = subst (λ (j : Entries). FitCells j core.cells) (sym none) (λ offer has. absurd (omega (arith, has.1)));
+  entries_room = omega (arith, present-le-length core.users core.journal, ap length same, room);
+  spare_count = omega (arith, present-le-length core.users core.journal, ap length same, count);
+  spare_room = spare;
 }

@@ -1,5 +1,14 @@
-pub mod Kept
-pub mod Left
-pub mod Offered
-pub mod Opened
-pub mod Reopened
+mod AccessingLemmas
+mod DueLemmas
+mod EndingLemmas
+mod GoingLemmas
+mod HoldingLemmas
+mod Kept
+mod MakingLemmas
+pub mod NoControlLemmas
+mod OpeningLemmas
+mod OutcomeLemmas
+mod RetryLemmas
+mod TogetherLemmas
+mod UsingLemmas
+mod WaitingLemmas

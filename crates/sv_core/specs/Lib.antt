@@ -1,3 +1,6 @@
 pub mod Core
+pub mod Due
 pub mod Invariant
-pub mod Table
+pub mod NoControl
+pub mod Retry
+pub mod Updating

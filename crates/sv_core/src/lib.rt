@@ -1,14 +1,18 @@
 //! The processor: it answers acts, and keeps the one legal journal of what happened.
 #![tactic(auto)]
 
+mod acting;
+mod asking;
+mod holding;
+mod laws;
+mod leaves;
+mod opening;
 mod processor;
-mod room;
-#[cfg(test)]
-mod samples;
-#[cfg(test)]
-mod shown;
-mod table;
+mod telling;
 #[cfg(test)]
 mod tests;
+mod updating;
+mod working;
 
+pub use laws::no_control_law;
 pub use processor::Core;

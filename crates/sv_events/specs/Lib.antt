@@ -1,2 +1,5 @@
 pub mod Answer
 pub mod Entry
+pub mod Fits
+pub mod Row
+pub mod Work

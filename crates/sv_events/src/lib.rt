@@ -3,10 +3,19 @@
 
 mod entry;
 mod event;
+mod fitting;
 mod journal;
+mod row;
 #[cfg(test)]
 mod tests;
+mod weight;
+mod work;
 
 pub use entry::{Entry, Pair, PairList};
-pub use event::{Act, Answer, copy_value};
+pub use event::{Act, Answer, Hold, Retry, copy_value};
 pub use journal::Journal;
+pub use row::{
+    Accessing, ActRow, AnswerKind, AnswerRow, Controlling, Ending, Opening, Question, fits,
+};
+pub use weight::LISTED_WEIGHT;
+pub use work::{Work, act_of};

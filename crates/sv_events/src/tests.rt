@@ -1,8 +1,9 @@
-use crate::{Act, Answer, Entry, Journal, Pair, PairList, copy_value};
-use apl_arrays::{Array, GlyphRefused, List, Name, WantOfMemory, glyphs_of};
+use crate::{Act, Answer, Entry, Hold, Journal, Pair, PairList, copy_value, fits};
+use apl_arrays::{Array, GlyphRefused, List, Name, PartyList, WantOfMemory, glyphs_of};
 use std::alloc::Global;
 use std::process::Abort;
 use std::test::Fail;
+use sv_access::{Control, Owners};
 
 const BAD_SAMPLE: GlyphRefused = GlyphRefused::BadGlyph(0);
 
@@ -19,6 +20,22 @@ fn offer(alloc: Global, to: u32, value: Option<Array>) -> Result<Act, GlyphRefus
     })
 }
 
+const SET_BY_ME: Control = Control([true, false, false, false]);
+
+const USE_BY_ME: Control = Control([false, false, true, false]);
+
+fn hold(element: u8, owners: Owners) -> Hold {
+    Hold { element, owners }
+}
+
+fn parties(alloc: Global, numbers: &[u32]) -> Result<PartyList, WantOfMemory> {
+    let mut list = List::new(alloc);
+    for number in numbers {
+        list.push(*number)?;
+    }
+    Ok(list)
+}
+
 // Acts of every kind, each unlike the others.
 fn acts(alloc: Global) -> Result<List<Act>, GlyphRefused> {
     let mut acts = List::new(alloc);
@@ -30,6 +47,15 @@ fn acts(alloc: Global) -> Result<List<Act>, GlyphRefused> {
     acts.push(Act::Set(name(alloc, "B")?, Array::scalar(alloc, 3)?))?;
     acts.push(Act::Use(name(alloc, "A")?))?;
     acts.push(Act::Use(name(alloc, "B")?))?;
+    acts.push(Act::Retract(name(alloc, "A")?))?;
+    acts.push(Act::SetControl(name(alloc, "A")?, SET_BY_ME))?;
+    acts.push(Act::SetControl(name(alloc, "A")?, USE_BY_ME))?;
+    acts.push(Act::AskControl(name(alloc, "A")?))?;
+    acts.push(Act::AskState(name(alloc, "A")?))?;
+    acts.push(Act::AskDegree(name(alloc, "A")?))?;
+    acts.push(Act::AskParties)?;
+    acts.push(Act::AskNames(1002))?;
+    acts.push(Act::AskNames(1003))?;
     acts.push(Act::Leave)?;
     Ok(acts)
 }
@@ -43,10 +69,33 @@ fn answers(alloc: Global) -> Result<List<Answer>, GlyphRefused> {
     answers.push(Answer::Value(Array::scalar(alloc, 3)?))?;
     answers.push(Answer::Value(Array::scalar(alloc, 4)?))?;
     answers.push(Answer::NoValue)?;
+    answers.push(Answer::Held(hold(1, Owners::Mine)))?;
+    answers.push(Answer::Held(hold(2, Owners::Mine)))?;
+    answers.push(Answer::Held(hold(1, Owners::Both)))?;
+    answers.push(Answer::Abandoned(hold(1, Owners::Mine)))?;
     answers.push(Answer::NotShared)?;
     answers.push(Answer::OfferLimit)?;
+    answers.push(Answer::Vector(SET_BY_ME))?;
+    answers.push(Answer::Vector(USE_BY_ME))?;
+    answers.push(Answer::Parties(parties(alloc, &[])?))?;
+    answers.push(Answer::Parties(parties(alloc, &[1002])?))?;
+    answers.push(Answer::Names(List::new(alloc)))?;
+    answers.push(Answer::Kept {
+        degree: 1,
+        value: None,
+    })?;
+    answers.push(Answer::Kept {
+        degree: 2,
+        value: None,
+    })?;
+    answers.push(Answer::Kept {
+        degree: 2,
+        value: Some(Array::scalar(alloc, 3)?),
+    })?;
     answers.push(Answer::Full)?;
     answers.push(Answer::Done)?;
+    answers.push(Answer::Degree(3))?;
+    answers.push(Answer::Held(hold(0, Owners::Mine)))?;
     Ok(answers)
 }
 
@@ -75,6 +124,26 @@ fn answers_are_copied(rt: &impl Abort, alloc: Global) -> Result<(), GlyphRefused
                 "{at} and {other}"
             );
         }
+    }
+    Ok(())
+}
+
+// How many of these acts each answer fits, in the order of the answers.
+const FITTED: [usize; 24] = [
+    4, 4, 3, 2, 2, 2, 5, 5, 5, 5, 8, 3, 4, 4, 1, 1, 2, 1, 1, 1, 17, 1, 0, 0,
+];
+
+fn answers_fit(rt: &impl Abort, alloc: Global) -> Result<(), GlyphRefused> {
+    let acts = acts(alloc)?;
+    let answers = answers(alloc)?;
+    for (at, answer) in answers.as_slice().iter().enumerate() {
+        let mut fitted = 0usize;
+        for act in acts.as_slice() {
+            if fits(act, answer) {
+                fitted = fitted.saturating_add(1);
+            }
+        }
+        assert_eq!(rt; Some(&fitted), FITTED.get(at), "answer {at}");
     }
     Ok(())
 }
@@ -172,6 +241,7 @@ fn place_is_reserved(rt: &impl Abort, alloc: Global) -> Result<(), GlyphRefused>
 fn all_calls(rt: &impl Abort, alloc: Global) -> Result<(), GlyphRefused> {
     acts_are_copied(rt, alloc)?;
     answers_are_copied(rt, alloc)?;
+    answers_fit(rt, alloc)?;
     values_are_copied(rt, alloc)?;
     pairs_are_kept(rt, alloc)?;
     entries_are_compared(rt, alloc)?;

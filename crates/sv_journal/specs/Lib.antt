@@ -1,5 +1,12 @@
+pub mod ActReading
+pub mod ActWord
+pub mod AnswerReading
+pub mod EntryReading
 pub mod EntryText
+pub mod HoldReading
+pub mod IsEntry
 pub mod Output
 pub mod Printable
-pub mod ValueText
+pub mod ReadsEntry
+pub mod WordReading
 pub mod WorkedOutput

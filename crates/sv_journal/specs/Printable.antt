@@ -1,43 +1,50 @@
 -- What the text of an output tells apart: numbers of 64 bits, names, arrays and lines of glyphs.
-use Rattle.std.specs.Prelude.{◌<◌, ◌^◌, List, All, IfSome, FitsSigned, length}
-use Rattle.std.specs.Int.{w64}
-use Rattle.apl_arrays.specs.Array.{PlainItems, numbers, chars, PlainArray}
+use Rattle.std.specs.Prelude.{◌≡◌, ◌<◌, ◌^◌, List, All, IfSome, length}
 use Rattle.apl_arrays.specs.Glyph.{IsGlyph}
 use Rattle.apl_arrays.specs.Name.{IsName}
-use Rattle.sv_events.specs.Answer.{PlainAnswer, degree, granted, value, no_value, not_shared, offer_limit, full, done}
+use Rattle.sv_access.specs.declared.control.Control.{Control}
+use Rattle.sv_events.specs.Answer.{PlainAnswer, degree, granted, value, no_value, held, abandoned, not_shared, offer_limit, full, vector, parties, names, kept, done}
 use Rattle.sv_events.specs.Entry.{PlainEntry}
 use Rattle.sv_events.specs.declared.event.Act.{Act}
-use Rattle.sv_events.specs.declared.event.Act.TheVariants.{Offer, Set, Use, Leave}
+use Rattle.sv_events.specs.declared.event.Act.TheVariants.{Offer, Retract, SetControl, AskControl, AskState, AskDegree, AskParties, AskNames, Set, Use, Leave}
 use Rattle.sv_events.specs.declared.entry.Pair.{Pair}
+use Rattle.sv_text.specs.Printable.{IsPrintableArray}
 use Rattle.sv_journal.specs.Output.{PlainTranscript}
 
--- numbers of 64 bits, or glyphs
-abbrev pub ArePrintableItems : PlainItems → Type 0
-ArePrintableItems (numbers list) = All (λ number. FitsSigned w64 number) list
-ArePrintableItems (chars list) = All IsGlyph list
-
--- an array of such items, and its axes
-pub record IsPrintableArray (array : PlainArray) : Type 0 where
-  pub axes : All (λ axis. axis < 2 ^ 64) array.shape
-  pub items : ArePrintableItems array.items
+-- four elements
+abbrev pub IsPrintableControl : Control → Type 0
+IsPrintableControl control = length control.0 ≡ 4
 
 -- an act on names and such arrays
 abbrev pub IsPrintableAct : Act → Type 0
 IsPrintableAct (Offer to local surrogate handed) =
     (to < 2 ^ 64) × IsName local × IsName surrogate × IfSome handed (λ array. IsPrintableArray array)
-IsPrintableAct (Set name new) = IsName name × IsPrintableArray new
-IsPrintableAct (Use name) = IsName name
+IsPrintableAct (Retract local) = IsName local
+IsPrintableAct (SetControl local control) = IsName local × IsPrintableControl control
+IsPrintableAct (AskControl local) = IsName local
+IsPrintableAct (AskState local) = IsName local
+IsPrintableAct (AskDegree local) = IsName local
+IsPrintableAct AskParties = Unit {0}
+IsPrintableAct (AskNames party) = party < 2 ^ 64
+IsPrintableAct (Set local new) = IsName local × IsPrintableArray new
+IsPrintableAct (Use local) = IsName local
 IsPrintableAct Leave = Unit {0}
 
--- an answer that tells such an array, or a degree
+-- an answer that tells such an array, or such names or numbers
 abbrev pub IsPrintableAnswer : PlainAnswer → Type 0
 IsPrintableAnswer (degree d) = d < 2 ^ 64
 IsPrintableAnswer (value got) = IsPrintableArray got
 IsPrintableAnswer granted = Unit {0}
 IsPrintableAnswer no_value = Unit {0}
+IsPrintableAnswer (held hold) = hold.element < 2 ^ 64
+IsPrintableAnswer (abandoned hold) = hold.element < 2 ^ 64
 IsPrintableAnswer not_shared = Unit {0}
 IsPrintableAnswer offer_limit = Unit {0}
 IsPrintableAnswer full = Unit {0}
+IsPrintableAnswer (vector control) = IsPrintableControl control
+IsPrintableAnswer (parties list) = All (λ party. party < 2 ^ 64) list
+IsPrintableAnswer (names list) = All IsName list
+IsPrintableAnswer (kept d known) = (d < 2 ^ 64) × IfSome known (λ array. IsPrintableArray array)
 IsPrintableAnswer done = Unit {0}
 
 -- two places

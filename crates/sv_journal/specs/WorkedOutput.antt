@@ -1,13 +1,15 @@
 -- Worked outputs: transcripts and entries, and what is written of them.
-use Rattle.std.specs.Prelude.{ℕ, ℤ, pos, negsuc, List, [], ◌∷◌, ◌++◌, codes, Some, None}
+use Rattle.std.specs.Prelude.{ℕ, ℤ, pos, negsuc, true, false, List, [], ◌∷◌, ◌++◌, codes, Some, None}
 use Rattle.std.specs.List.{flat_map}
 use Rattle.apl_arrays.specs.Array.{char_array, number_array, scalar}
 use Rattle.apl_arrays.specs.Glyph.{bar, blank, delta, left_arrow, quad, quote, rho}
 use Rattle.line_text.specs.Lines.{line_feed}
-use Rattle.sv_events.specs.Answer.{PlainAnswer, degree, granted, value, no_value, not_shared, offer_limit, full, done}
+use Rattle.sv_access.specs.declared.verdict.Owners.TheVariants.{Mine, Partner, Both}
+use Rattle.sv_access.specs.Control.{four_elements}
+use Rattle.sv_events.specs.Answer.{PlainAnswer, degree, granted, value, no_value, held, abandoned, not_shared, offer_limit, full, vector, parties, names, kept, done}
 use Rattle.sv_events.specs.Entry.{PlainEntry}
 use Rattle.sv_events.specs.declared.event.Act.{Act}
-use Rattle.sv_events.specs.declared.event.Act.TheVariants.{Offer, Set, Use, Leave}
+use Rattle.sv_events.specs.declared.event.Act.TheVariants.{Offer, Retract, SetControl, AskControl, AskState, AskDegree, AskParties, AskNames, Set, Use, Leave}
 use Rattle.sv_events.specs.declared.entry.Pair.{Pair}
 use Rattle.sv_journal.specs.Output.{PlainTranscript}
 
@@ -96,6 +98,19 @@ every_kind_entries =
     ∷ uncoupled 1002 (Use (codes "B")) not_shared
     ∷ making 4294967295 Leave done (record { a = 1; b = 3 } ∷ record { a = 10; b = 18446744073709551615 } ∷ [])
     ∷ uncoupled 0 Leave full
+    ∷ uncoupled 1001 (Retract (codes "A")) (kept 0 None)
+    ∷ uncoupled 1001 (Retract (codes "A")) (kept 2 (Some (number_array (0 ∷ []) [])))
+    ∷ uncoupled 1001 (SetControl (codes "A") (four_elements true false false true)) (vector (four_elements true true true true))
+    ∷ uncoupled 1001 (AskControl (codes "A")) (vector (four_elements false false false false))
+    ∷ uncoupled 1001 (AskState (codes "A")) (vector (four_elements false false true true))
+    ∷ uncoupled 1001 (AskDegree (codes "A")) (degree 2)
+    ∷ uncoupled 10 AskParties (parties [])
+    ∷ making 20 AskParties (parties (10 ∷ 1001 ∷ 4294967295 ∷ [])) (record { a = 1; b = 2 } ∷ [])
+    ∷ uncoupled 1002 (AskNames 4294967295) (names [])
+    ∷ uncoupled 1002 (AskNames 1001) (names (codes "A" ∷ (delta ∷ codes "b_9") ∷ []))
+    ∷ uncoupled 1001 (Set (codes "A") (char_array (0 ∷ []) [])) (held (record { element = 1; owners = Mine }))
+    ∷ making 1001 (Set (codes "A") (char_array (0 ∷ []) [])) (abandoned (record { element = 4; owners = Both })) (record { a = 1; b = 2 } ∷ [])
+    ∷ uncoupled 1002 (Use (codes "A")) (held (record { element = 3; owners = Partner }))
     ∷ []
 
 -- users who saw next to nothing
@@ -140,5 +155,18 @@ every_kind_output =
     ∷ codes "14 1002 use B : notshared"
     ∷ codes "15 4294967295 leave : done + 1 3 + 10 18446744073709551615"
     ∷ codes "16 0 leave : full"
+    ∷ codes "17 1001 retract A : kept 0 none"
+    ∷ codes "18 1001 retract A : kept 2 N(0)"
+    ∷ codes "19 1001 control A 1 0 0 1 : vector 1 1 1 1"
+    ∷ codes "20 1001 askcontrol A : vector 0 0 0 0"
+    ∷ codes "21 1001 askstate A : vector 0 0 1 1"
+    ∷ codes "22 1001 askdegree A : degree 2"
+    ∷ codes "23 10 askparties : parties"
+    ∷ codes "24 20 askparties : parties 10 1001 4294967295 + 1 2"
+    ∷ codes "25 1002 asknames 4294967295 : names"
+    ∷ (codes "26 1002 asknames 1001 : names A " ++ (delta_utf8 ++ codes "b_9"))
+    ∷ codes "27 1001 set A C(0)'' : held 1 mine"
+    ∷ codes "28 1001 set A C(0)'' : abandoned 4 both + 1 2"
+    ∷ codes "29 1002 use A : held 3 partner"
     ∷ codes "end"
     ∷ [])

@@ -1,6 +1,9 @@
+pub mod FirstWork
 pub mod PlainOutcome
-pub mod Rows
-pub mod ChangedRows
-pub mod MatchRows
-pub mod ValueRows
-pub mod LeaveRows
+pub mod Placing
+pub mod SetOf
+pub mod Told
+pub mod Worked
+pub mod WorkedControl
+pub mod WorkedShares
+pub mod WorkedAuxiliary

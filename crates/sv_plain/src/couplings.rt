@@ -1,13 +1,13 @@
 ghost use Rattle.std.specs.Prelude.{◌≡◌, ◌++◌, IfOk};
-ghost use Rattle.sv_rules.specs.Coupling.{made_in, couplings, reopened_among, recoupled, made_by_leave};
+ghost use Rattle.sv_rules.specs.Coupling.{made_in, couplings, reopened_among, recoupled, made_by_ending};
 ghost use Rattle.sv_rules.specs.Journal.{journal_of};
-ghost use Rattle.sv_rules.specs.LegalLaws.{made_at};
+ghost use Rattle.sv_offer_laws.specs.LegalLaws.{made_at};
 
-use crate::offers::standing_offers;
+use crate::offers::{end, standing_offers};
 use apl_arrays::WantOfMemory;
 use std::alloc::Global;
-use sv_events::{Entry, Pair};
-use sv_rules::{Made, Standing, end_offers, is_coupled, keep_couplings, rejoined};
+use sv_events::{Ending, Entry, Pair};
+use sv_rules::{Made, Standing, is_coupled, keep_couplings, rejoined};
 
 fn push_made(made: &mut Vec<Made>, at: u64, pairs: &[Pair]) -> Result<(), WantOfMemory>
     ensures { IfOk result (λ _. made.new.items ≡ made.old.items ++ made_at at pairs.now) }
@@ -71,19 +71,20 @@ fn recoupled(
     Ok(made)
 }
 
-/// The pairs that a party's leave makes at a place. It takes memory for copies of the offers and of the couplings, and
-/// for the pairs.
-pub fn made_by_leave(
+/// The pairs that an ending of a party's offers makes at a place. It takes memory for copies of the offers and of the
+/// couplings, and for the pairs.
+pub fn made_by_ending(
     alloc: Global,
     at: u64,
     offers: &[Standing],
     coupled: &[Made],
     party: u32,
+    ending: Ending,
 ) -> Result<Vec<Made>, WantOfMemory>
-    ensures { IfOk result (λ made. made.items ≡ made_by_leave at offers.now coupled.now party) }
+    ensures { IfOk result (λ made. made.items ≡ made_by_ending at offers.now coupled.now party ending) }
 {
     let mut left = Vec::from_slice(alloc, offers)?;
-    end_offers(&mut left, party);
+    end(&mut left, party, Some(ending));
     let mut kept = Vec::from_slice(alloc, coupled)?;
     keep_couplings(&mut kept, &left);
     let reopened = reopened_among(alloc, &left, coupled, &kept)?;

@@ -2,19 +2,23 @@
 //! journals, that are legal or not by the definitions.
 #![tactic(auto)]
 
-pub mod changed_rows;
+mod asking;
 mod couplings;
-pub mod leave_rows;
+mod holding;
 mod legal;
-pub mod match_rows;
 mod offers;
 mod outcome;
 mod room;
-pub mod rows;
-pub mod value_rows;
+mod stories;
+mod vectors;
+mod waiting;
+pub mod worked;
+mod working;
 
-pub use couplings::{couplings_of, made_by_leave};
+pub use couplings::{couplings_of, made_by_ending};
 pub use legal::is_legal;
 pub use offers::standing_offers;
 pub use outcome::{Outcome, outcome_of};
 pub use room::is_full;
+pub use waiting::{is_stuck, refused};
+pub use working::work_of;

@@ -1,18 +1,26 @@
-ghost use Rattle.std.specs.Prelude.{◌≡◌, IfOk};
+ghost use Rattle.std.specs.Prelude.{◌≡◌, IfOk, if◌then◌else◌};
 ghost use Rattle.sv_events.specs.Answer.{plain_answer};
-ghost use Rattle.sv_rules.specs.Entries.{is_degree};
+ghost use Rattle.sv_events.specs.Row.{act_row};
+ghost use Rattle.sv_rules.specs.Entries.{kind_of, is_degree};
 ghost use Rattle.sv_rules.specs.Journal.{journal_of};
-ghost use Rattle.sv_rules.specs.Standing.{standing, standing_after, with_offer};
+ghost use Rattle.sv_rules.specs.Standing.{standing, standing_after, with_ended, with_offer, with_opened, offer_made};
 
 use apl_arrays::WantOfMemory;
 use std::alloc::Global;
-use sv_events::{Act, Answer, Entry};
-use sv_rules::{Standing, end_offers, own_offer};
+use sv_events::{AnswerKind, Ending, Entry, Opening};
+use sv_rules::{Standing, end_offer, end_offers, is_degree, own_offer};
 
-fn is_degree(answer: &Answer) -> bool
-    ensures { result ≡ is_degree (plain_answer answer.now) }
+/// The offer that an act of a party opens at a place. No memory.
+pub fn offer_made(place: u64, party: u32, opening: Opening) -> Standing
+    ensures { result ≡ offer_made place party opening }
 {
-    matches!(answer, Answer::Degree(_))
+    Standing {
+        place,
+        party,
+        to: opening.to,
+        local: opening.local,
+        surrogate: opening.surrogate,
+    }
 }
 
 fn add_offer(offers: &mut Vec<Standing>, new: Standing) -> Result<(), WantOfMemory>
@@ -24,30 +32,59 @@ fn add_offer(offers: &mut Vec<Standing>, new: Standing) -> Result<(), WantOfMemo
     Ok(())
 }
 
-fn stand_after(offers: &mut Vec<Standing>, place: u64, entry: &Entry) -> Result<(), WantOfMemory>
-    ensures { IfOk result (λ _. offers.new.items ≡ standing_after offers.old.items place entry.now.party (plain_answer entry.now.answer) entry.now.act) }
+// Adds an offer that is answered with a degree.
+fn add_answered(
+    offers: &mut Vec<Standing>,
+    kind: AnswerKind,
+    new: Standing,
+) -> Result<(), WantOfMemory>
+    ensures { IfOk result (λ _. offers.new.items ≡ (if is_degree kind then with_offer offers.old.items new else offers.old.items)) }
 {
-    match &entry.act {
-        Act::Offer {
-            to,
-            local,
-            surrogate,
-            ..
-        } => {
-            if is_degree(&entry.answer) {
-                let new = Standing {
-                    place,
-                    party: entry.party,
-                    to: *to,
-                    local: *local,
-                    surrogate: *surrogate,
-                };
-                add_offer(offers, new)?;
-            }
-        }
-        Act::Leave => end_offers(offers, entry.party),
-        _ => (),
+    if is_degree(kind) {
+        add_offer(offers, new)?;
     }
+    Ok(())
+}
+
+fn add_opened(
+    offers: &mut Vec<Standing>,
+    place: u64,
+    party: u32,
+    kind: AnswerKind,
+    opens: Option<Opening>,
+) -> Result<(), WantOfMemory>
+    ensures { IfOk result (λ _. offers.new.items ≡ with_opened offers.old.items place party kind opens) }
+{
+    match opens {
+        None => Ok(()),
+        Some(opening) => add_answered(offers, kind, offer_made(place, party, opening)),
+    }
+}
+
+/// Takes the offers out that an act of a party ends, if it ends any. No memory.
+pub fn end(offers: &mut Vec<Standing>, party: u32, ends: Option<Ending>)
+    ensures { offers.new.items ≡ with_ended offers.old.items party ends }
+{
+    match ends {
+        None => (),
+        Some(Ending::One(local)) => end_offer(offers, party, &local),
+        Some(Ending::All) => end_offers(offers, party),
+    }
+}
+
+fn stand_after(offers: &mut Vec<Standing>, place: u64, entry: &Entry) -> Result<(), WantOfMemory>
+    ensures { IfOk result
+        (λ _. offers.new.items ≡ standing_after offers.old.items place entry.now.party (kind_of (plain_answer entry.now.answer)) (act_row entry.now.act).row) }
+{
+    let row = entry.act.row();
+    add_opened(
+        offers,
+        place,
+        entry.party,
+        entry.answer.row().kind,
+        row.opens,
+    )?;
+    end(offers, entry.party, row.ends);
     Ok(())
 }
 

@@ -1,20 +1,27 @@
-ghost use Rattle.std.specs.Prelude.{◌≡◌, ◌+◌, map, IfOk};
+ghost use Rattle.std.specs.Prelude.{◌≡◌, Some, IfOk, map};
 ghost use Rattle.std.specs.Option.{option_copied};
 ghost use Rattle.sv_events.specs.Answer.{plain_answer, done};
-ghost use Rattle.sv_rules.specs.Entries.{next_place};
-ghost use Rattle.sv_rules.specs.Coupling.{couplings, coupling_at, made_by_leave};
-ghost use Rattle.sv_rules.specs.Journal.{journal_of};
-ghost use Rattle.sv_rules.specs.Outcome.{answer_only, outcome, joined_to, new_offer, offer_outcome, set_outcome, value_answer, value_for, use_outcome};
 ghost use Rattle.sv_plain.specs.PlainOutcome.{plain_outcome};
-ghost use Rattle.sv_rules.specs.Standing.{own_offer, standing};
+ghost use Rattle.sv_rules.specs.Coupling.{couplings};
+ghost use Rattle.sv_rules.specs.Journal.{journal_of};
+ghost use Rattle.sv_rules.specs.Outcome.{access_answer, access_outcome, answer_only, control_answer, ending_outcome, granted_answer, joined_to, new_offer, offer_outcome, opening_outcome, outcome, outcome_of_row, pairs_by_ending, question_outcome, retraction_outcome, unless_refused, value_answer, value_for};
+ghost use Rattle.sv_rules.specs.Standing.{standing, own_offer};
 
-use crate::{couplings_of, made_by_leave, standing_offers};
+use crate::asking::{answer_to_question, degree_of};
+use crate::holding::{hold_on, in_force_with};
+use crate::offers::offer_made;
+use crate::stories::story_value;
+use crate::waiting::waits;
+use crate::{couplings_of, made_by_ending, standing_offers};
 use apl_arrays::{Array, List, Name, WantOfMemory};
 use std::alloc::Global;
-use sv_events::{Act, Answer, Entry, PairList};
+use sv_access::{Control, Kind};
+use sv_events::{
+    Accessing, Act, ActRow, Answer, Controlling, Ending, Entry, Hold, Opening, PairList, Question,
+};
 use sv_rules::{
-    Coupling, Made, OFFER_LIMIT, Standing, coupling_at, degree_at, known_value, last_value,
-    offer_count, open_match, own_offer, pair_of,
+    Coupling, Made, OFFER_LIMIT, Standing, coupling_at, degree_at, known_value, offer_count,
+    open_match, own_offer, pair_of, refusal_answer,
 };
 
 /// What becomes of an act: its answer, and the pairs that it couples.
@@ -82,12 +89,107 @@ fn offer_outcome(
     }
 }
 
-fn set_outcome(alloc: Global, own: Option<Standing>) -> Outcome
-    ensures { plain_outcome result ≡ set_outcome own }
+fn pairs_of(alloc: Global, made: &[Made]) -> Result<PairList, WantOfMemory>
+    ensures { IfOk result (λ pairs. pairs.items ≡ map (λ one. one.pair) made.now) }
+{
+    let mut pairs = List::new(alloc);
+    for one in made {
+        pairs.push(one.pair)?;
+    }
+    Ok(pairs)
+}
+
+// The pairs that reopened offers make where an act ends offers.
+fn pairs_by_ending(
+    alloc: Global,
+    entries: &[Entry],
+    offers: &[Standing],
+    coupled: &[Made],
+    party: u32,
+    ending: Ending,
+) -> Result<PairList, WantOfMemory>
+    requires offers { offers.now ≡ standing (journal_of entries.now) }
+    requires coupled { coupled.now ≡ couplings (journal_of entries.now) }
+    ensures { IfOk result (λ pairs. pairs.items ≡ pairs_by_ending (journal_of entries.now) party ending) }
+{
+    let at = entries.len() as u64 + 1;
+    let made = made_by_ending(alloc, at, offers, coupled, party, ending)?;
+    pairs_of(alloc, &made)
+}
+
+// A name that is taken back.
+fn retraction_outcome(
+    alloc: Global,
+    entries: &[Entry],
+    offers: &[Standing],
+    coupled: &[Made],
+    party: u32,
+    local: &Name,
+) -> Result<Outcome, WantOfMemory>
+    requires offers { offers.now ≡ standing (journal_of entries.now) }
+    requires coupled { coupled.now ≡ couplings (journal_of entries.now) }
+    ensures { IfOk result
+        (λ got. plain_outcome got ≡ retraction_outcome (journal_of entries.now) party local.now (own_offer offers.now party local.now)) }
+{
+    match own_offer(offers, party, local) {
+        None => Ok(answer_only(alloc, Answer::NotShared)),
+        Some(offer) => {
+            let made = pairs_by_ending(
+                alloc,
+                entries,
+                offers,
+                coupled,
+                party,
+                Ending::One(*local),
+            )?;
+            let value = sv_events::copy_value(alloc, known_value(entries, &offer))?;
+            let degree = degree_of(coupled, Some(offer));
+            Ok(Outcome {
+                answer: Answer::Kept { degree, value },
+                made,
+            })
+        }
+    }
+}
+
+fn ending_outcome(
+    alloc: Global,
+    entries: &[Entry],
+    offers: &[Standing],
+    coupled: &[Made],
+    party: u32,
+    ending: Ending,
+) -> Result<Outcome, WantOfMemory>
+    requires offers { offers.now ≡ standing (journal_of entries.now) }
+    requires coupled { coupled.now ≡ couplings (journal_of entries.now) }
+    ensures { IfOk result (λ got. plain_outcome got ≡ ending_outcome (journal_of entries.now) party ending) }
+{
+    match ending {
+        Ending::One(local) => retraction_outcome(alloc, entries, offers, coupled, party, &local),
+        Ending::All => {
+            let made = pairs_by_ending(alloc, entries, offers, coupled, party, Ending::All)?;
+            Ok(Outcome {
+                answer: Answer::Done,
+                made,
+            })
+        }
+    }
+}
+
+fn control_answer(
+    entries: &[Entry],
+    offers: &[Standing],
+    coupled: &[Made],
+    control: Control,
+    own: Option<Standing>,
+) -> Answer
+    requires offers { offers.now ≡ standing (journal_of entries.now) }
+    requires coupled { coupled.now ≡ couplings (journal_of entries.now) }
+    ensures { plain_answer result ≡ control_answer (journal_of entries.now) control own }
 {
     match own {
-        None => answer_only(alloc, Answer::NotShared),
-        Some(_) => answer_only(alloc, Answer::Granted),
+        None => Answer::NotShared,
+        Some(offer) => Answer::Vector(in_force_with(entries, offers, coupled, control, &offer)),
     }
 }
 
@@ -100,69 +202,98 @@ fn value_answer(alloc: Global, value: Option<&Array>) -> Result<Answer, WantOfMe
     }
 }
 
+// What a use gives: the last value set on either side of a coupling, else the party's own known value.
 fn value_for<'a>(
+    alloc: Global,
     entries: &'a [Entry],
     offer: &Standing,
     coupling: Option<Coupling>,
-) -> Option<&'a Array>
-    ensures { option_copied result ≡ value_for (journal_of entries.now) offer.now coupling }
+) -> Result<Option<&'a Array>, WantOfMemory>
+    ensures { IfOk result (λ got. option_copied got ≡ value_for (journal_of entries.now) offer.now coupling) }
 {
     match coupling {
-        None => known_value(entries, offer),
-        Some(coupling) => last_value(entries, &coupling),
+        None => Ok(known_value(entries, offer)),
+        Some(coupling) => story_value(alloc, entries, &coupling),
     }
 }
 
-fn use_outcome(
+fn granted_answer(
     alloc: Global,
     entries: &[Entry],
     offers: &[Standing],
     coupled: &[Made],
-    own: Option<Standing>,
-) -> Result<Outcome, WantOfMemory>
+    offer: &Standing,
+    kind: Kind,
+) -> Result<Answer, WantOfMemory>
     requires offers { offers.now ≡ standing (journal_of entries.now) }
     requires coupled { coupled.now ≡ couplings (journal_of entries.now) }
-    ensures { IfOk result (λ got. plain_outcome got ≡ use_outcome (journal_of entries.now) own) }
+    ensures { IfOk result (λ answer. plain_answer answer ≡ granted_answer (journal_of entries.now) offer.now kind) }
 {
-    match own {
-        None => Ok(answer_only(alloc, Answer::NotShared)),
-        Some(offer) => {
+    match kind {
+        Kind::Set => Ok(Answer::Granted),
+        Kind::Use => {
             let coupling = coupling_at(offers, coupled, offer.place);
-            let answer = value_answer(alloc, value_for(entries, &offer, coupling))?;
-            Ok(answer_only(alloc, answer))
+            value_answer(alloc, value_for(alloc, entries, offer, coupling)?)
         }
     }
 }
 
-fn pairs_of(alloc: Global, made: &[Made]) -> Result<PairList, WantOfMemory>
-    ensures { IfOk result (λ pairs. pairs.items ≡ map (λ one. one.pair) made.now) }
-{
-    let mut pairs = List::new(alloc);
-    for one in made {
-        pairs.push(one.pair)?;
-    }
-    Ok(pairs)
-}
-
-fn leave_outcome(
+fn access_answer(
     alloc: Global,
-    at: u64,
+    entries: &[Entry],
     offers: &[Standing],
     coupled: &[Made],
     party: u32,
-) -> Result<Outcome, WantOfMemory>
+    access: &Accessing,
+) -> Result<Answer, WantOfMemory>
+    requires offers { offers.now ≡ standing (journal_of entries.now) }
+    requires coupled { coupled.now ≡ couplings (journal_of entries.now) }
     ensures { IfOk result
-        (λ got. plain_outcome got ≡ record { answer = done; made = map (λ one. one.pair) (made_by_leave at offers.now coupled.now party) }) }
+        (λ answer. plain_answer answer ≡ access_answer (journal_of entries.now) party access.now.kind (own_offer offers.now party access.now.local)) }
 {
-    let made = made_by_leave(alloc, at, offers, coupled, party)?;
-    Ok(Outcome {
-        answer: Answer::Done,
-        made: pairs_of(alloc, &made)?,
-    })
+    match own_offer(offers, party, &access.local) {
+        None => Ok(Answer::NotShared),
+        Some(offer) => match hold_on(alloc, entries, offers, coupled, &offer, access.kind)? {
+            None => granted_answer(alloc, entries, offers, coupled, &offer, access.kind),
+            Some(hold) => Ok(refusal_answer(waits(entries, party), hold)),
+        },
+    }
+}
+
+fn outcome_of_row(
+    alloc: Global,
+    entries: &[Entry],
+    offers: &[Standing],
+    coupled: &[Made],
+    party: u32,
+    row: &ActRow,
+) -> Result<Outcome, WantOfMemory>
+    requires offers { offers.now ≡ standing (journal_of entries.now) }
+    requires coupled { coupled.now ≡ couplings (journal_of entries.now) }
+    ensures { IfOk result (λ got. plain_outcome got ≡ outcome_of_row (journal_of entries.now) party row.now) }
+{
+    if let Some(opening) = row.opens {
+        let new = offer_made(entries.len() as u64 + 1, party, opening);
+        offer_outcome(alloc, offers, coupled, &new)
+    } else if let Some(ending) = row.ends {
+        ending_outcome(alloc, entries, offers, coupled, party, ending)
+    } else if let Some(set) = row.controls {
+        let own = own_offer(offers, party, &set.local);
+        let answer = control_answer(entries, offers, coupled, set.control, own);
+        Ok(answer_only(alloc, answer))
+    } else if let Some(access) = row.accesses {
+        let answer = access_answer(alloc, entries, offers, coupled, party, &access)?;
+        Ok(answer_only(alloc, answer))
+    } else if let Some(asked) = row.asks {
+        let answer = answer_to_question(alloc, entries, offers, coupled, party, &asked)?;
+        Ok(answer_only(alloc, answer))
+    } else {
+        Ok(answer_only(alloc, Answer::Done))
+    }
 }
 
 /// What becomes of an act of a party after some entries that leave room for it. The entries are gone over anew. It
-/// takes memory for the standing offers, for the pairs that the entries made, and for the outcome.
+/// takes memory for the offers and the couplings of each entry in turn, and for the outcome.
 pub fn outcome_of(
     alloc: Global,
     entries: &[Entry],
@@ -173,28 +304,5 @@ pub fn outcome_of(
 {
     let offers = standing_offers(alloc, entries)?;
     let coupled = couplings_of(alloc, entries)?;
-    let place = entries.len() as u64 + 1;
-    match act {
-        Act::Offer {
-            to,
-            local,
-            surrogate,
-            ..
-        } => {
-            let new = Standing {
-                place,
-                party,
-                to: *to,
-                local: *local,
-                surrogate: *surrogate,
-            };
-            offer_outcome(alloc, &offers, &coupled, &new)
-        }
-        Act::Set(name, _) => Ok(set_outcome(alloc, own_offer(&offers, party, name))),
-        Act::Use(name) => {
-            let own = own_offer(&offers, party, name);
-            use_outcome(alloc, entries, &offers, &coupled, own)
-        }
-        Act::Leave => leave_outcome(alloc, place, &offers, &coupled, party),
-    }
+    outcome_of_row(alloc, entries, &offers, &coupled, party, &act.row())
 }

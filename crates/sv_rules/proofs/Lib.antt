@@ -1,15 +1,2 @@
+pub mod HoldLemmas
 pub mod JournalLemmas
-pub mod StoryLemmas
-pub mod Members
-pub mod StandingLemmas
-pub mod PlaceLemmas
-pub mod ChangeLemmas
-pub mod MatchLemmas
-pub mod RecoupledLemmas
-pub mod LegalLemmas
-pub mod OpenLemmas
-pub mod LeaveLemmas
-pub mod FewLemmas
-pub mod LookupLemmas
-pub mod AccessLemmas
-pub mod CouplingLemmas

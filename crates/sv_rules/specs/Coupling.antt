@@ -5,7 +5,9 @@ use Rattle.sv_rules.specs.Entries.{Entries, next_place}
 use Rattle.sv_rules.specs.declared.standing.Standing.{Standing}
 use Rattle.sv_rules.specs.declared.coupling.Made.{Made}
 use Rattle.sv_rules.specs.declared.coupling.Coupling.{Coupling}
-use Rattle.sv_rules.specs.Standing.{standing, is_match, without_party}
+use Rattle.sv_events.specs.declared.row.Ending.{Ending}
+use Rattle.sv_events.specs.declared.row.Ending.TheVariants.{All}
+use Rattle.sv_rules.specs.Standing.{standing, is_match, without_ended}
 
 -- the pairs that were ever made, in order
 abbrev pub made_in : Entries → List Made
@@ -70,18 +72,29 @@ abbrev pub reopened_among : List Standing → List Made → List Made → List S
 reopened_among offers before now =
     filter (λ offer. is_coupled before offer.place && not (is_coupled now offer.place)) offers
 
--- the couplings that are left where a party's offers cease together
-abbrev pub kept_by_leave : List Standing → List Made → ℕ → List Made
-kept_by_leave offers coupled party = couplings_among (without_party offers party) coupled
+-- the couplings that are left where an act of a party ends offers together
+abbrev pub kept_by_ending : List Standing → List Made → ℕ → Ending → List Made
+kept_by_ending offers coupled party ending = couplings_among (without_ended offers party ending) coupled
 
 -- the offers that this reopens, by place
-abbrev pub reopened_by_leave : List Standing → List Made → ℕ → List Standing
-reopened_by_leave offers coupled party = reopened_among (without_party offers party) coupled (kept_by_leave offers coupled party)
+abbrev pub reopened_by_ending : List Standing → List Made → ℕ → Ending → List Standing
+reopened_by_ending offers coupled party ending =
+    reopened_among (without_ended offers party ending) coupled (kept_by_ending offers coupled party ending)
 
--- the pairs that a leave at a place makes: each offer that it reopens takes its open match, by place
+-- the pairs that an ending at a place makes: each offer that it reopens takes its open match, by place
+abbrev pub made_by_ending : ℕ → List Standing → List Made → ℕ → Ending → List Made
+made_by_ending at offers coupled party ending =
+    recoupled at (without_ended offers party ending) (kept_by_ending offers coupled party ending) (reopened_by_ending offers coupled party ending)
+
+-- the same of a leave: what it keeps, reopens and makes
+abbrev pub kept_by_leave : List Standing → List Made → ℕ → List Made
+kept_by_leave offers coupled party = kept_by_ending offers coupled party All
+
+abbrev pub reopened_by_leave : List Standing → List Made → ℕ → List Standing
+reopened_by_leave offers coupled party = reopened_by_ending offers coupled party All
+
 abbrev pub made_by_leave : ℕ → List Standing → List Made → ℕ → List Made
-made_by_leave at offers coupled party =
-    recoupled at (without_party offers party) (kept_by_leave offers coupled party) (reopened_by_leave offers coupled party)
+made_by_leave at offers coupled party = made_by_ending at offers coupled party All
 
 -- the offer at a place
 abbrev pub offer_at : List Standing → ℕ → Option Standing
@@ -95,3 +108,15 @@ coupling_of offers made =
 -- the coupling of the offer at a place
 abbrev pub coupling_at : List Standing → List Made → ℕ → Option Coupling
 coupling_at offers coupled place = option_and_then (coupling_of offers) (find (has_place place) coupled)
+
+-- the coupling of the standing offer at a place, as the journal has it
+abbrev pub coupling_now : Entries → ℕ → Option Coupling
+coupling_now journal place = coupling_at (standing journal) (couplings journal) place
+
+-- the open offers, by place
+abbrev pub open_offers : Entries → List Standing
+open_offers journal = filter (λ offer. not (is_coupled (couplings journal) offer.place)) (standing journal)
+
+-- the open offers made to a party by its number, by place
+abbrev pub open_to : Entries → ℕ → List Standing
+open_to journal party = filter (λ offer. offer.to == party) (open_offers journal)

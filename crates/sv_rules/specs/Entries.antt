@@ -1,12 +1,14 @@
-use Rattle.std.specs.Prelude.{ℕ, ◌+◌, Bool, true, false, ◌||◌, ◌&&◌, ◌==◌, not, nat_le, List, length, count_by, sum_by, Option, Some, None}
+use Rattle.std.specs.Prelude.{ℕ, ◌+◌, Bool, true, false, ◌||◌, ◌&&◌, ◌==◌, not, nat_le, nat_lt, List, [], ◌∷◌, length, count_by, sum_by, Option, None, if◌then◌else◌}
 use Rattle.std.specs.List.{list_any}
-use Rattle.std.specs.Option.{option_map_or}
-use Rattle.apl_arrays.specs.Array.{PlainArray, item_count}
+use Rattle.apl_arrays.specs.Array.{PlainArray}
 use Rattle.apl_arrays.specs.Limits.{most_entries, most_journal_elements}
-use Rattle.sv_events.specs.Answer.{PlainAnswer, degree, granted, value, no_value, not_shared, offer_limit, full, done}
+use Rattle.sv_events.specs.Answer.{PlainAnswer}
 use Rattle.sv_events.specs.Entry.{PlainEntry}
+use Rattle.sv_events.specs.Fits.{ends_all}
+use Rattle.sv_events.specs.Row.{act_row, answer_row, act_weight, answer_weight}
 use Rattle.sv_events.specs.declared.event.Act.{Act}
-use Rattle.sv_events.specs.declared.event.Act.TheVariants.{Offer, Set, Use, Leave}
+use Rattle.sv_events.specs.declared.row.AnswerKind.{AnswerKind}
+use Rattle.sv_events.specs.declared.row.AnswerKind.TheVariants as answer
 
 -- a journal, the newest entry first
 abbrev pub Entries : Type 0
@@ -16,76 +18,60 @@ Entries = List PlainEntry
 abbrev pub next_place : Entries → ℕ
 next_place journal = length journal + 1
 
--- the act is a leave
+-- the entries that follow a place
+abbrev pub since : ℕ → Entries → Entries
+since place [] = []
+since place (e ∷ journal) = if nat_lt place (next_place journal) then e ∷ since place journal else []
+
+-- the act is a leave: it ends all offers of its party
 abbrev pub is_leave : Act → Bool
-is_leave (Offer to local surrogate handed) = false
-is_leave (Set name new) = false
-is_leave (Use name) = false
-is_leave Leave = true
+is_leave act = ends_all (act_row act).row.ends
 
--- the answer tells a degree
-abbrev pub is_degree : PlainAnswer → Bool
-is_degree (degree _) = true
-is_degree granted = false
-is_degree (value _) = false
-is_degree no_value = false
-is_degree not_shared = false
-is_degree offer_limit = false
-is_degree full = false
-is_degree done = false
+-- the kind of an answer
+abbrev pub kind_of : PlainAnswer → AnswerKind
+kind_of given = (answer_row given).row.kind
 
--- the set was granted
-abbrev pub is_granted : PlainAnswer → Bool
-is_granted (degree _) = false
-is_granted granted = true
-is_granted (value _) = false
-is_granted no_value = false
-is_granted not_shared = false
-is_granted offer_limit = false
-is_granted full = false
-is_granted done = false
+-- a degree, a grant, a value, a hold
+abbrev pub is_degree : AnswerKind → Bool
+is_degree answer.Degree = true
+is_degree _ = false
 
--- the value that the answer gives, if it gives one
+abbrev pub is_granted : AnswerKind → Bool
+is_granted answer.Granted = true
+is_granted _ = false
+
+abbrev pub is_value : AnswerKind → Bool
+is_value answer.Value = true
+is_value _ = false
+
+abbrev pub is_held : AnswerKind → Bool
+is_held answer.Held = true
+is_held _ = false
+
+-- the wait is given up
+abbrev pub is_abandoned : AnswerKind → Bool
+is_abandoned answer.Abandoned = true
+is_abandoned _ = false
+
+-- the value that a use gets, if it gets one
 abbrev pub value_got : PlainAnswer → Option PlainArray
-value_got (degree _) = None
-value_got granted = None
-value_got (value got) = Some got
-value_got no_value = None
-value_got not_shared = None
-value_got offer_limit = None
-value_got full = None
-value_got done = None
+value_got given = if is_value (kind_of given) then (answer_row given).value else None
 
 -- the party has left
 abbrev pub has_left : Entries → ℕ → Bool
 has_left journal party = list_any (λ e. e.party == party && is_leave e.act) journal
 
--- how many elements a value has, none where there is no value
-abbrev pub elements_of : Option PlainArray → ℕ
-elements_of handed = option_map_or (λ array. item_count array.items) handed 0
-
--- the elements that an act holds
-abbrev pub act_elements : Act → ℕ
-act_elements (Offer to local surrogate handed) = elements_of handed
-act_elements (Set name new) = item_count new.items
-act_elements (Use name) = 0
-act_elements Leave = 0
-
--- the elements that an answer holds
-abbrev pub answer_elements : PlainAnswer → ℕ
-answer_elements answer = elements_of (value_got answer)
-
--- the elements of an entry: those of its act and those of its answer
-abbrev pub entry_elements : PlainEntry → ℕ
-entry_elements e = act_elements e.act + answer_elements e.answer
+-- an entry weighs what its act and its answer weigh
+abbrev pub entry_weight : PlainEntry → ℕ
+entry_weight e = act_weight e.act + answer_weight e.answer
 
 -- how many entries are no leaves
 abbrev pub counted_entries : Entries → ℕ
 counted_entries journal = count_by (λ e. not (is_leave e.act)) journal
 
--- how many elements the entries hold
+-- how many elements the entries weigh
 abbrev pub held_elements : Entries → ℕ
-held_elements journal = sum_by entry_elements journal
+held_elements journal = sum_by entry_weight journal
 
 -- the journal takes no more entries but leaves: 200,000 others, or 4,194,304 elements
 abbrev pub is_full : Entries → Bool

@@ -3,10 +3,9 @@ pub mod Journal
 pub mod Standing
 pub mod Coupling
 pub mod Story
+pub mod Control
+pub mod Refused
+pub mod Work
+pub mod Questions
 pub mod Outcome
 pub mod Legal
-pub mod StandingLaws
-pub mod CouplingLaws
-pub mod LegalLaws
-pub mod LeaveLaws
-pub mod StoryLaws

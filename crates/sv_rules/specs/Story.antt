@@ -1,17 +1,19 @@
-use Rattle.std.specs.Prelude.{ℕ, ◌&&◌, ◌==◌, nat_lt, List, [], ◌∷◌, ◌++◌, Option, Some, None, option_map, if◌then◌else◌}
-use Rattle.std.specs.Option.{option_or}
+use Rattle.std.specs.Prelude.{ℕ, Bool, true, false, ◌&&◌, ◌||◌, ◌==◌, not, nat_lt, List, [], ◌∷◌, ◌++◌, Option, Some, None, option_map, if◌then◌else◌}
 use Rattle.apl_arrays.specs.Array.{PlainArray}
 use Rattle.sv_access.specs.declared.access.Side.{Side}
 use Rattle.sv_access.specs.declared.access.Side.TheVariants.{A, B}
 use Rattle.sv_access.specs.declared.access.Kind.{Kind}
 use Rattle.sv_access.specs.declared.access.Kind.TheVariants as kind
-use Rattle.sv_access.specs.Story.{Story, last_value}
+use Rattle.sv_access.specs.Story.{Story}
 use Rattle.sv_events.specs.Answer.{PlainAnswer}
 use Rattle.sv_events.specs.Entry.{PlainEntry}
+use Rattle.sv_events.specs.Row.{act_row}
 use Rattle.sv_events.specs.declared.event.Act.{Act}
-use Rattle.sv_events.specs.declared.event.Act.TheVariants.{Offer, Set, Use, Leave}
 use Rattle.apl_arrays.specs.Name.{same_name}
-use Rattle.sv_rules.specs.Entries.{Entries, next_place, is_granted, value_got}
+use Rattle.sv_events.specs.declared.row.Accessing.{Accessing}
+use Rattle.sv_rules.specs.Coupling.{couplings, couplings_among, is_coupled}
+use Rattle.sv_rules.specs.Entries.{Entries, next_place, kind_of, is_granted, value_got}
+use Rattle.sv_rules.specs.Standing.{standing}
 use Rattle.sv_rules.specs.declared.standing.Standing.{Standing}
 use Rattle.sv_rules.specs.declared.coupling.Coupling.{Coupling}
 
@@ -20,12 +22,20 @@ pub record GrantedAccess : Type 0 where
   pub kind : Kind
   pub value : PlainArray
 
+-- the access of a kind, where its answer grants it: a set of the value handed in, or a use that got a value
+abbrev pub granted_as : Kind → Option PlainArray → PlainAnswer → Option GrantedAccess
+granted_as kind.Set handed given =
+    if is_granted (kind_of given) then option_map (λ new. record { kind = kind.Set; value = new }) handed else None
+granted_as kind.Use handed given = option_map (λ got. record { kind = kind.Use; value = got }) (value_got given)
+
+-- the same, where it is on a local name
+abbrev pub granted_on : List ℕ → Option PlainArray → PlainAnswer → Option Accessing → Option GrantedAccess
+granted_on local handed given None = None
+granted_on local handed given (Some access) = if same_name access.local local then granted_as access.kind handed given else None
+
 -- the access that an act and its answer make on a local name: a set that was granted, or a use that got a value
 abbrev pub access_to : List ℕ → PlainAnswer → Act → Option GrantedAccess
-access_to local answer (Offer to offered surrogate handed) = None
-access_to local answer (Set name new) = if same_name name local && is_granted answer then Some (record { kind = kind.Set; value = new }) else None
-access_to local answer (Use name) = if same_name name local then option_map (λ got. record { kind = kind.Use; value = got }) (value_got answer) else None
-access_to local answer Leave = None
+access_to local given act = granted_on local (act_row act).hands_in given (act_row act).row.accesses
 
 -- the access that an entry makes on an offer: its party's, on its local name
 abbrev pub access_on : Standing → PlainEntry → Option GrantedAccess
@@ -36,12 +46,9 @@ abbrev pub known_after : Option GrantedAccess → Option PlainArray → Option P
 known_after None before = before
 known_after (Some access) before = Some access.value
 
--- the value that an offer hands in
+-- the value that an act hands in
 abbrev pub handed_in : Act → Option PlainArray
-handed_in (Offer to local surrogate handed) = handed
-handed_in (Set name new) = None
-handed_in (Use name) = None
-handed_in Leave = None
+handed_in act = (act_row act).hands_in
 
 -- what the party of an offer knows of the variable: its newest set or get there, or else what its entry handed in
 abbrev pub known : Entries → Standing → Option PlainArray
@@ -53,32 +60,45 @@ known (e ∷ journal) offer =
 abbrev pub one_set : Side → PlainArray → Story PlainArray
 one_set side new = record { side = side; kind = kind.Set; value = new } ∷ []
 
--- the story at coupling: a set of A's known value by A, else of B's by B, else nothing
-abbrev pub opening_story : Option PlainArray → Option PlainArray → Story PlainArray
-opening_story (Some a) b = one_set A a
-opening_story None (Some b) = one_set B b
-opening_story None None = []
+-- a story begins with a set of the value that is known, if one is
+abbrev pub first_set : Side → Option PlainArray → Story PlainArray
+first_set side None = []
+first_set side (Some value) = one_set side value
 
 -- an access of a side, as what it adds to a story
 abbrev pub story_part : Side → Option GrantedAccess → Story PlainArray
 story_part side None = []
 story_part side (Some access) = record { side = side; kind = access.kind; value = access.value } ∷ []
 
--- the value of an access, where it is a set
-abbrev pub set_value : Option GrantedAccess → Option PlainArray
-set_value access = last_value (story_part A access)
+-- by the newest entry the coupling of the offer at a place ends, while this offer stands
+abbrev pub coupling_ends : PlainEntry → Entries → ℕ → Bool
+coupling_ends e journal place =
+    is_coupled (couplings journal) place && not (is_coupled (couplings_among (standing (e ∷ journal)) (couplings journal)) place)
 
--- the value that an entry sets on an offer
-abbrev pub set_on : Standing → PlainEntry → Option PlainArray
-set_on offer e = set_value (access_on offer e)
+-- an offer opens at its own entry, and again where its coupling ends
+abbrev pub opens_at : PlainEntry → Entries → Standing → Bool
+opens_at e journal offer = offer.place == next_place journal || coupling_ends e journal offer.place
 
--- the value that an entry sets on either side of a coupling
-abbrev pub set_by_either : Coupling → PlainEntry → Option PlainArray
-set_by_either coupling e = option_or (set_on coupling.a e) (set_on coupling.b e)
+-- the story of an offer since it last opened, newest first, with its party on a side: the value that was known then,
+-- and the accesses since
+abbrev pub opening : Side → Entries → Standing → Story PlainArray
+opening side [] offer = []
+opening side (e ∷ journal) offer =
+    elim (opens_at e journal offer) [
+      | true ↦ first_set side (known (e ∷ journal) offer)
+      | false ↦ story_part side (access_on offer e) ++ opening side journal offer
+    ]
 
--- the story of a coupling, newest first: the known values when it was made, and the accesses since
+-- the story at coupling is the giver's: that of A's offer where A knows a value, else that of B's
+abbrev pub giver_story : Entries → Coupling → Option PlainArray → Story PlainArray
+giver_story journal coupling (Some known_to_a) = opening A journal coupling.a
+giver_story journal coupling None = opening B journal coupling.b
+
+-- the story of a coupling, newest first: the giver's up to the entry that made it, and the accesses since
 abbrev pub story : Entries → Coupling → Story PlainArray
 story [] coupling = []
 story (e ∷ journal) coupling =
-    if nat_lt coupling.at (next_place journal) then story_part A (access_on coupling.a e) ++ story_part B (access_on coupling.b e) ++ story journal coupling
-    else opening_story (known (e ∷ journal) coupling.a) (known (e ∷ journal) coupling.b)
+    elim (nat_lt coupling.at (next_place journal)) [
+      | true ↦ story_part A (access_on coupling.a e) ++ story_part B (access_on coupling.b e) ++ story journal coupling
+      | false ↦ giver_story (e ∷ journal) coupling (known (e ∷ journal) coupling.a)
+    ]

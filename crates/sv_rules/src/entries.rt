@@ -1,17 +1,14 @@
-ghost use Rattle.std.specs.Prelude.{◌≡◌, ◌≤◌};
-ghost use Rattle.apl_arrays.specs.Array.{item_count};
-ghost use Rattle.sv_events.specs.Answer.{plain_answer};
-ghost use Rattle.sv_rules.specs.Entries.{is_leave, has_left, elements_of, act_elements, answer_elements};
+ghost use Rattle.std.specs.Prelude.{◌≡◌};
+ghost use Rattle.sv_rules.specs.Entries.{has_left, is_abandoned, is_degree, is_granted, is_held, is_leave, is_value};
 ghost use Rattle.sv_rules.specs.Journal.{journal_of};
 
-use apl_arrays::{Array, ELEMENT_LIMIT};
-use sv_events::{Act, Answer, Entry};
+use sv_events::{Act, AnswerKind, Ending, Entry};
 
-/// Whether the act is a leave. No memory.
+/// Whether the act is a leave: it ends all offers of its party. No memory.
 pub fn is_leave(act: &Act) -> bool
     ensures { result ≡ is_leave act.now }
 {
-    matches!(act, Act::Leave)
+    matches!(act.row().ends, Some(Ending::All))
 }
 
 /// Whether the party has left. No memory.
@@ -23,42 +20,37 @@ pub fn has_left(entries: &[Entry], party: u32) -> bool
         .any(|entry| entry.party == party && is_leave(&entry.act))
 }
 
-fn element_count(value: &Array) -> u64
-    ensures count { result ≡ item_count value.now.items }
-    ensures limit { result ≤ ELEMENT_LIMIT }
+/// Whether the answer is a degree. No memory.
+pub fn is_degree(kind: AnswerKind) -> bool
+    ensures { result ≡ is_degree kind }
 {
-    value.items().len() as u64
+    matches!(kind, AnswerKind::Degree)
 }
 
-fn elements_of(value: &Option<Array>) -> u64
-    ensures count { result ≡ elements_of value.now }
-    ensures limit { result ≤ ELEMENT_LIMIT }
+/// Whether a set was granted. No memory.
+pub fn is_granted(kind: AnswerKind) -> bool
+    ensures { result ≡ is_granted kind }
 {
-    match value {
-        None => 0,
-        Some(array) => element_count(array),
-    }
+    matches!(kind, AnswerKind::Granted)
 }
 
-/// How many elements an act holds. No memory.
-pub fn act_elements(act: &Act) -> u64
-    ensures count { result ≡ act_elements act.now }
-    ensures limit { result ≤ ELEMENT_LIMIT }
+/// Whether a use got a value. No memory.
+pub fn is_value(kind: AnswerKind) -> bool
+    ensures { result ≡ is_value kind }
 {
-    match act {
-        Act::Offer { value, .. } => elements_of(value),
-        Act::Set(_, value) => element_count(value),
-        _ => 0,
-    }
+    matches!(kind, AnswerKind::Value)
 }
 
-/// How many elements an answer holds. No memory.
-pub fn answer_elements(answer: &Answer) -> u64
-    ensures count { result ≡ answer_elements (plain_answer answer.now) }
-    ensures limit { result ≤ ELEMENT_LIMIT }
+/// Whether the party waits. No memory.
+pub fn is_held(kind: AnswerKind) -> bool
+    ensures { result ≡ is_held kind }
 {
-    match answer {
-        Answer::Value(value) => element_count(value),
-        _ => 0,
-    }
+    matches!(kind, AnswerKind::Held)
+}
+
+/// Whether the wait is given up. No memory.
+pub fn is_abandoned(kind: AnswerKind) -> bool
+    ensures { result ≡ is_abandoned kind }
+{
+    matches!(kind, AnswerKind::Abandoned)
 }

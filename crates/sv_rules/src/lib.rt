@@ -1,20 +1,22 @@
-//! Which entry may follow a journal. The definitions stand in `specs/`; here are their laws and the look-ups.
+//! Which entry may follow a journal. The definitions stand in `specs/`; here are the look-ups that compute them.
 #![tactic(auto)]
 
+mod control;
 mod coupling;
 mod entries;
-mod laws;
 mod limits;
 mod standing;
 mod story;
+mod work;
 
 pub use apl_arrays::OFFER_LIMIT;
+pub use control::{control_on, hold_by_state, refusal_answer, side_at};
 pub use coupling::{
     Coupling, Made, both_stand, coupling_at, degree_at, is_coupled, keep_couplings, open_match,
     pair_of, rejoined,
 };
-pub use entries::{act_elements, answer_elements, has_left, is_leave};
-pub use laws::{coupling_law, leave_law, legal_law, standing_law, story_law};
-pub use limits::{ENTRY_LIMIT, HELD_LIMIT, limits_are_as_defined};
-pub use standing::{Standing, end_offers, is_match, offer_count, own_offer};
-pub use story::{known_value, last_value};
+pub use entries::{has_left, is_abandoned, is_degree, is_granted, is_held, is_leave, is_value};
+pub use limits::{CLOCK_PARTY, ENTRY_LIMIT, HELD_LIMIT, TEXT_PARTY, limits_are_as_defined};
+pub use standing::{Standing, end_offer, end_offers, is_match, offer_count, own_offer};
+pub use story::{kind_on, known_value, value_on};
+pub use work::{is_auxiliary, most_counters, tries};

@@ -1,5 +1,5 @@
 ghost use Rattle.std.specs.Prelude.{◌≡◌, ◌≤◌, vec_len, vec_capacity};
-ghost use Rattle.sv_rules.specs.Standing.{own_offer, offer_count, without_party, is_match};
+ghost use Rattle.sv_rules.specs.Standing.{own_offer, offer_count, without_name, without_party, is_match};
 
 use apl_arrays::Name;
 
@@ -38,6 +38,15 @@ pub fn end_offers(offers: &mut Vec<Standing>, party: u32)
     ensures capacity { vec_capacity offers.new ≡ vec_capacity offers.old }
 {
     offers.retain(|offer| offer.party != party);
+}
+
+/// Takes the party's offer of a local name out. No memory.
+pub fn end_offer(offers: &mut Vec<Standing>, party: u32, local: &Name)
+    ensures items { offers.new.items ≡ without_name offers.old.items party local.now }
+    ensures len { vec_len offers.new ≤ vec_len offers.old }
+    ensures capacity { vec_capacity offers.new ≡ vec_capacity offers.old }
+{
+    offers.retain(|offer| !(offer.party == party && offer.local == *local));
 }
 
 /// Whether two offers are of different parties under one surrogate, each made to the other's party or to any, and not

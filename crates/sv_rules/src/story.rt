@@ -1,112 +1,119 @@
-ghost use Rattle.std.specs.Prelude.{◌≡◌, option_map};
+ghost use Rattle.std.specs.Prelude.{◌≡◌, None, option_map, if◌then◌else◌};
 ghost use Rattle.std.specs.Option.{option_copied};
-ghost use Rattle.sv_access.specs.Story.{last_value};
 ghost use Rattle.sv_events.specs.Answer.{plain_answer};
 ghost use Rattle.sv_events.specs.Entry.{plain_entry};
-ghost use Rattle.sv_rules.specs.Entries.{is_granted, value_got};
+ghost use Rattle.sv_events.specs.Row.{answer_row};
+ghost use Rattle.sv_rules.specs.Entries.{is_granted, is_value, value_got};
 ghost use Rattle.sv_rules.specs.Journal.{journal_of};
-ghost use Rattle.sv_rules.specs.Story.{access_to, access_on, set_value, set_on, set_by_either, handed_in, known, opening_story, story};
+ghost use Rattle.sv_rules.specs.Story.{access_on, granted_as, granted_on, handed_in, known};
 
-use crate::{Coupling, Standing};
+use crate::Standing;
+use crate::entries::{is_granted, is_value};
 use apl_arrays::{Array, Name};
-use sv_events::{Act, Answer, Entry};
+use sv_access::Kind;
+use sv_events::{Accessing, Act, Answer, Entry};
 
-fn is_granted(answer: &Answer) -> bool
-    ensures { result ≡ is_granted (plain_answer answer.now) }
-{
-    matches!(answer, Answer::Granted)
-}
-
+// The value that a use gets, if it gets one.
 fn value_got(answer: &Answer) -> Option<&Array>
     ensures { option_copied result ≡ value_got (plain_answer answer.now) }
 {
-    match answer {
-        Answer::Value(value) => Some(value),
-        _ => None,
-    }
-}
-
-fn value_to<'a>(local: &Name, entry: &'a Entry) -> Option<&'a Array>
-    ensures { option_copied result ≡ option_map (λ access. access.value) (access_to local.now (plain_answer entry.now.answer) entry.now.act) }
-{
-    match &entry.act {
-        Act::Set(name, value) => {
-            if name == local && is_granted(&entry.answer) {
-                Some(value)
-            } else {
-                None
-            }
-        }
-        Act::Use(name) => {
-            if name == local {
-                value_got(&entry.answer)
-            } else {
-                None
-            }
-        }
-        _ => None,
-    }
-}
-
-fn value_set_to<'a>(local: &Name, entry: &'a Entry) -> Option<&'a Array>
-    ensures { option_copied result ≡ set_value (access_to local.now (plain_answer entry.now.answer) entry.now.act) }
-{
-    match &entry.act {
-        Act::Set(name, value) => {
-            if name == local && is_granted(&entry.answer) {
-                Some(value)
-            } else {
-                None
-            }
-        }
-        _ => None,
-    }
-}
-
-fn set_on<'a>(offer: &Standing, entry: &'a Entry) -> Option<&'a Array>
-    ensures { option_copied result ≡ set_on offer.now (plain_entry entry.now) }
-{
-    if entry.party == offer.party {
-        value_set_to(&offer.local, entry)
+    if is_value(answer.row().kind) {
+        answer.value()
     } else {
         None
     }
 }
 
-fn set_by_either<'a>(coupling: &Coupling, entry: &'a Entry) -> Option<&'a Array>
-    ensures { option_copied result ≡ set_by_either coupling.now (plain_entry entry.now) }
+// The value handed in, where the answer grants it.
+fn value_granted<'a>(act: &'a Act, answer: &Answer) -> Option<&'a Array>
+    ensures { option_copied result ≡ (if is_granted (answer_row (plain_answer answer.now)).row.kind then handed_in act.now else None) }
 {
-    match set_on(&coupling.a, entry) {
-        Some(value) => Some(value),
-        None => set_on(&coupling.b, entry),
+    if is_granted(answer.row().kind) {
+        act.hands_in()
+    } else {
+        None
     }
 }
 
-fn value_on<'a>(offer: &Standing, entry: &'a Entry) -> Option<&'a Array>
+// The value of an access of a kind, where its answer grants it.
+fn value_as<'a>(kind: Kind, act: &'a Act, answer: &'a Answer) -> Option<&'a Array>
+    ensures { option_copied result ≡ option_map (λ access. access.value) (granted_as kind (handed_in act.now) (plain_answer answer.now)) }
+{
+    match kind {
+        Kind::Set => value_granted(act, answer),
+        Kind::Use => value_got(answer),
+    }
+}
+
+// The value of an access, where it is on a local name.
+fn value_in<'a>(
+    local: &Name,
+    access: Option<Accessing>,
+    act: &'a Act,
+    answer: &'a Answer,
+) -> Option<&'a Array>
+    ensures { option_copied result ≡ option_map (λ access. access.value) (granted_on local.now (handed_in act.now) (plain_answer answer.now) access) }
+{
+    let access = access?;
+    if access.local == *local {
+        value_as(access.kind, act, answer)
+    } else {
+        None
+    }
+}
+
+/// The value of the access that an entry makes on an offer: its party's, on its local name. No memory.
+pub fn value_on<'a>(offer: &Standing, entry: &'a Entry) -> Option<&'a Array>
     ensures { option_copied result ≡ option_map (λ access. access.value) (access_on offer.now (plain_entry entry.now)) }
 {
     if entry.party == offer.party {
-        value_to(&offer.local, entry)
+        value_in(
+            &offer.local,
+            entry.act.row().accesses,
+            &entry.act,
+            &entry.answer,
+        )
     } else {
         None
     }
 }
 
-fn opening_value<'a>(entries: &'a [Entry], coupling: &Coupling) -> Option<&'a Array>
-    ensures { option_copied result ≡ last_value (opening_story (known (journal_of entries.now) coupling.now.a) (known (journal_of entries.now) coupling.now.b)) }
+// The kind of an access, where its answer grants it.
+fn kind_as(kind: Kind, act: &Act, answer: &Answer) -> Option<Kind>
+    ensures { result ≡ option_map (λ access. access.kind) (granted_as kind (handed_in act.now) (plain_answer answer.now)) }
 {
-    match known_value(entries, &coupling.a) {
-        Some(value) => Some(value),
-        None => known_value(entries, &coupling.b),
+    if value_as(kind, act, answer).is_some() {
+        Some(kind)
+    } else {
+        None
     }
 }
 
-fn handed_in(act: &Act) -> Option<&Array>
-    ensures { option_copied result ≡ handed_in act.now }
+// The kind of an access, where it is on a local name.
+fn kind_in(local: &Name, access: Option<Accessing>, act: &Act, answer: &Answer) -> Option<Kind>
+    ensures { result ≡ option_map (λ access. access.kind) (granted_on local.now (handed_in act.now) (plain_answer answer.now) access) }
 {
-    match act {
-        Act::Offer { value, .. } => value.as_ref(),
-        _ => None,
+    let access = access?;
+    if access.local == *local {
+        kind_as(access.kind, act, answer)
+    } else {
+        None
+    }
+}
+
+/// The kind of the access that an entry makes on an offer: its party's, on its local name. No memory.
+pub fn kind_on(offer: &Standing, entry: &Entry) -> Option<Kind>
+    ensures { result ≡ option_map (λ access. access.kind) (access_on offer.now (plain_entry entry.now)) }
+{
+    if entry.party == offer.party {
+        kind_in(
+            &offer.local,
+            entry.act.row().accesses,
+            &entry.act,
+            &entry.answer,
+        )
+    } else {
+        None
     }
 }
 
@@ -119,26 +126,9 @@ pub fn known_value<'a>(entries: &'a [Entry], offer: &Standing) -> Option<&'a Arr
     while left > 0 {
         let entry = &entries[left - 1];
         if offer.place >= left as u64 {
-            return handed_in(&entry.act);
+            return entry.act.hands_in();
         }
         if let Some(value) = value_on(offer, entry) {
-            return Some(value);
-        }
-        left -= 1;
-    }
-    None
-}
-
-/// The last value set on either side of a coupling, the initial value included. No memory.
-pub fn last_value<'a>(entries: &'a [Entry], coupling: &Coupling) -> Option<&'a Array>
-    ensures { option_copied result ≡ last_value (story (journal_of entries.now) coupling.now) }
-{
-    let mut left = entries.len();
-    while left > 0 {
-        if coupling.at >= left as u64 {
-            return opening_value(&entries[..left], coupling);
-        }
-        if let Some(value) = set_by_either(coupling, &entries[left - 1]) {
             return Some(value);
         }
         left -= 1;

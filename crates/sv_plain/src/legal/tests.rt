@@ -11,7 +11,8 @@ use std::alloc::Global;
 use std::process::Abort;
 use std::str::SplitWhitespace;
 use std::test::Fail;
-use sv_events::{Act, Answer, Entry, Pair};
+use sv_access::{Control, Owners};
+use sv_events::{Act, Answer, Entry, Hold, Pair};
 
 fn number(word: Option<&str>) -> u32 {
     match word {
@@ -30,6 +31,15 @@ fn name(rt: &impl Abort, alloc: Global, word: Option<&str>) -> Result<Name, Want
 
 fn value(alloc: Global, word: Option<&str>) -> Result<Array, WantOfMemory> {
     Array::scalar(alloc, i64::from(number(word)))
+}
+
+// Four marks, each 1 or 0.
+fn control(word: Option<&str>) -> Control {
+    let mut marks = [false; 4];
+    for (mark, byte) in marks.iter_mut().zip(word.unwrap_or("").bytes()) {
+        *mark = byte == b'1';
+    }
+    Control(marks)
 }
 
 fn read_offer(
@@ -63,13 +73,78 @@ fn read_act(
         Some("offer") => read_offer(rt, alloc, words),
         Some("set") => Ok(Act::Set(name(rt, alloc, words.next())?, value(alloc, words.next())?)),
         Some("use") => Ok(Act::Use(name(rt, alloc, words.next())?)),
+        Some("retract") => Ok(Act::Retract(name(rt, alloc, words.next())?)),
+        Some("control") => Ok(Act::SetControl(
+            name(rt, alloc, words.next())?,
+            control(words.next()),
+        )),
+        Some("askcontrol") => Ok(Act::AskControl(name(rt, alloc, words.next())?)),
+        Some("askstate") => Ok(Act::AskState(name(rt, alloc, words.next())?)),
+        Some("askdegree") => Ok(Act::AskDegree(name(rt, alloc, words.next())?)),
+        Some("askparties") => Ok(Act::AskParties),
+        Some("asknames") => Ok(Act::AskNames(number(words.next()))),
         _ => Ok(Act::Leave),
     }
 }
 
-fn read_answer(alloc: Global, words: &mut SplitWhitespace<'_>) -> Result<Answer, WantOfMemory> {
+fn degree(word: Option<&str>) -> u8 {
+    word.unwrap_or("").parse().unwrap_or(0)
+}
+
+fn hold(words: &mut SplitWhitespace<'_>) -> Hold {
+    let element = degree(words.next());
+    let owners = match words.next() {
+        Some("mine") => Owners::Mine,
+        Some("partner") => Owners::Partner,
+        _ => Owners::Both,
+    };
+    Hold { element, owners }
+}
+
+fn kept(alloc: Global, words: &mut SplitWhitespace<'_>) -> Result<Answer, WantOfMemory> {
+    let degree = degree(words.next());
+    let word = words.next();
+    let value = if word == Some("-") {
+        None
+    } else {
+        Some(value(alloc, word)?)
+    };
+    Ok(Answer::Kept { degree, value })
+}
+
+fn parties(alloc: Global, word: Option<&str>) -> Result<Answer, WantOfMemory> {
+    let mut list = List::new(alloc);
+    for party in word.unwrap_or("").split(',') {
+        if party != "-" {
+            list.push(number(Some(party)))?;
+        }
+    }
+    Ok(Answer::Parties(list))
+}
+
+fn names(rt: &impl Abort, alloc: Global, word: Option<&str>) -> Result<Answer, WantOfMemory> {
+    let mut list = List::new(alloc);
+    for one in word.unwrap_or("").split(',') {
+        if one != "-" {
+            list.push(name(rt, alloc, Some(one))?)?;
+        }
+    }
+    Ok(Answer::Names(list))
+}
+
+fn read_answer(
+    rt: &impl Abort,
+    alloc: Global,
+    words: &mut SplitWhitespace<'_>,
+) -> Result<Answer, WantOfMemory> {
     match words.next() {
-        Some("degree") => Ok(Answer::Degree(words.next().unwrap_or("").parse().unwrap_or(0))),
+        Some("degree") => Ok(Answer::Degree(degree(words.next()))),
+        Some("held") => Ok(Answer::Held(hold(words))),
+        Some("abandoned") => Ok(Answer::Abandoned(hold(words))),
+        Some("vector") => Ok(Answer::Vector(control(words.next()))),
+        Some("kept") => kept(alloc, words),
+        Some("parties") => parties(alloc, words.next()),
+        Some("names") => names(rt, alloc, words.next()),
         Some("granted") => Ok(Answer::Granted),
         Some("value") => Ok(Answer::Value(value(alloc, words.next())?)),
         Some("none") => Ok(Answer::NoValue),
@@ -84,7 +159,7 @@ fn read_entry(rt: &impl Abort, alloc: Global, line: &str) -> Result<Entry, WantO
     let mut words = line.split_whitespace();
     let party = number(words.next());
     let act = read_act(rt, alloc, &mut words)?;
-    let answer = read_answer(alloc, &mut words)?;
+    let answer = read_answer(rt, alloc, &mut words)?;
     let mut made = List::new(alloc);
     for word in words {
         if let Some((a, b)) = word.split_once('-') {
@@ -172,8 +247,8 @@ fn judge_table(rt: &impl Abort, alloc: Global, journals: &str) -> Result<(u32, u
 }
 
 fn judge_all(rt: &impl Abort, alloc: Global) -> Result<(), WantOfMemory> {
-    assert_eq!(rt; judge_table(rt, alloc, LEGAL)?, (32, 0));
-    assert_eq!(rt; judge_table(rt, alloc, ILLEGAL)?, (0, 48));
+    assert_eq!(rt; judge_table(rt, alloc, LEGAL)?, (51, 0));
+    assert_eq!(rt; judge_table(rt, alloc, ILLEGAL)?, (0, 75));
     Ok(())
 }
 

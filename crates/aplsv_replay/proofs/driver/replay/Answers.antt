@@ -1,9 +1,16 @@
-use Rattle.std.proofs.Common.{rules, ◌≡◌, ◌∙◌, ◌++◌, map, take, drop, length, ap, refl}
+use Rattle.std.proofs.Common.{rules, ◌≡◌, ◌∙◌, ◌++◌, map, take, drop, length, ap, refl, subst, sym}
 use Rattle.bundle_text.specs.User.{plain_user}
+use Rattle.sv_core.specs.Core.{ArePeople}
 use Rattle.aplsv_replay.specs.Participants.{participants_of}
 use Rattle.aplsv_replay.proofs.Replays.{plain_numbers, is_over, begins, each_begins, round_more, all_done, all_ascend, ends, of_turns}
 use Rattle.aplsv_replay.proofs.Rounds.{each_more}
+use Rattle.aplsv_replay.proofs.Unhindered.{after_rounds, users_are_people}
 use Rattle.aplsv_replay.proofs.driver.replay.Goals as goal
+
+pub new-requires : goal.new-requires
+new-requires c =
+    let numbers : map (λ user. user.number) c.as_slice.result.now ≡ map (λ user. user.number) c.args.bundle.users = plain_numbers c.as_slice.result.now c.args.bundle.users (c.as_slice.ensures.value ∙ c.into_users-users.ensures.value) in
+    record { people = subst ArePeople (sym (c.deref.ensures.value ∙ (c.in_ok-numbers.ensures ∙ numbers))) (users_are_people c.args.bundle.users c.into_users-users.ensures.bundle.each) }
 
 pub loop-round-init : goal.loop-round-init
 loop-round-init c =
@@ -15,6 +22,15 @@ loop-round-init c =
       users = refl;
       each = each_begins c.args.bundle c.into_vec.result.items c.in_ok-core.core.users c.in_ok-sessions.sessions.items kept users c.in_ok-sessions.ensures;
     }
+
+pub round-requires-clause-people : goal.round-requires-clause-people
+round-requires-clause-people c =
+    let numbers : map (λ user. user.number) c.as_slice.result.now ≡ map (λ user. user.number) c.args.bundle.users = plain_numbers c.as_slice.result.now c.args.bundle.users (c.as_slice.ensures.value ∙ c.into_users-users.ensures.value) in
+    let users : c.loop-round.core.users ≡ map (λ user. user.number) c.args.bundle.users = c.loop-round.invariant.users ∙ (ap (λ core. core.users) c.in_ok-core.ensures ∙ (c.deref.ensures.value ∙ (c.in_ok-numbers.ensures ∙ numbers))) in
+    subst ArePeople (sym users) (users_are_people c.args.bundle.users c.into_users-users.ensures.bundle.each)
+
+pub round-requires-clause-unhindered : goal.round-requires-clause-unhindered
+round-requires-clause-unhindered c = after_rounds c.args.bundle c.loop-round._round c.loop-round.core.journal (participants_of c.loop-round.sessions.items) c.loop-round.invariant.turns
 
 pub loop-round-preserved : goal.loop-round-preserved
 loop-round-preserved c =

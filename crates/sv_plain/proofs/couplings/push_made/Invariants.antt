@@ -1,5 +1,5 @@
 use Rattle.std.proofs.Common.{◌≡◌, ◌++◌, take}
-use Rattle.sv_rules.specs.LegalLaws.{made_at}
+use Rattle.sv_offer_laws.specs.LegalLaws.{made_at}
 use Rattle.sv_plain.proofs.couplings.push_made.Given as goal
 
 -- the pairs so far were added

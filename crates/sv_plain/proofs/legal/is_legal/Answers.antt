@@ -1,5 +1,5 @@
 use Rattle.std.proofs.Common.{arith}
-use Rattle.sv_rules.proofs.LegalLemmas.{MayFollow-from_take}
+use Rattle.sv_offer_laws.proofs.LegalLemmas.{MayFollow-from_take}
 use Rattle.sv_plain.proofs.legal.is_legal.Goals as goal
 
 pub returns-then-not-branch : goal.returns-then-not-branch

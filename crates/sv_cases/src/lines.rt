@@ -1,0 +1,39 @@
+use anyhow::{Result, bail};
+use apl_arrays::{Line, utf8_of};
+use case_fields::{line_of, unescaped};
+use case_tables::Trial;
+use std::alloc::Global;
+use std::str;
+use sv_journal::{EntryRefused, read, text_of};
+
+/// Lines that are read as entries of a journal: `again` where an entry with this text is read, else how long the part
+/// of the line is with which some entry's text begins.
+#[derive(Clone, Copy, Debug)]
+pub struct JournalLines;
+
+// How a line that was read compares with what is written of what was read.
+pub(crate) fn compared(alloc: Global, line: &Line, written: &Line) -> Result<String> {
+    if line == written {
+        return Ok(String::from_str(alloc, "again")?);
+    }
+    let bytes = utf8_of(alloc, written)?;
+    Ok(String::from_str(alloc, str::from_utf8(bytes.as_slice())?)?)
+}
+
+impl Trial for JournalLines {
+    fn given(&self) -> usize {
+        1
+    }
+
+    fn found(&self, alloc: Global, fields: &[&str]) -> Result<String> {
+        let [field, ..] = fields else {
+            bail!("a line is wanted");
+        };
+        let line = line_of(alloc, unescaped(alloc, *field)?.as_str())?;
+        match read(alloc, &line) {
+            Ok((place, entry)) => compared(alloc, &line, &text_of(alloc, place, &entry)?),
+            Err(EntryRefused::BadEntry(at)) => Ok(format!(in alloc; "{at}")?),
+            Err(EntryRefused::WantOfMemory) => bail!("out of memory"),
+        }
+    }
+}

@@ -1,0 +1,5 @@
+pub mod Ends
+pub mod Entries
+pub mod Fits
+pub mod Steps
+pub mod Laws

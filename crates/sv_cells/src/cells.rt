@@ -1,0 +1,188 @@
+ghost use Rattle.std.specs.Prelude.{◌≡◌, ◌≢◌, ℕ, None, Some, IsSome, is_some, IfOk, OnOk, OnErr, option_and_then, option_map};
+ghost use Rattle.std.specs.Option.{option_copied};
+ghost use Rattle.sv_cells.specs.Cell.{after_set_in, after_use_in, answered, controlled, holding, known_alone, new_cell, share_in};
+ghost use Rattle.sv_cells.specs.Cells.{CouplesAt, ChangesAt, KeepsCells, PartsAt, PutsAt, cell_at};
+ghost use Rattle.sv_story.specs.Share.{shared_value};
+
+use crate::cell::{Cell, Held, Parted, Used, coupled_with, part_cells};
+use apl_arrays::{Array, WantOfMemory};
+use std::alloc::Global;
+use std::collections::HashMap;
+use sv_access::{Control, Side};
+use sv_story::Share;
+
+/// What is kept of standing offers, by their places.
+#[derive(Drop)]
+pub struct Cells {
+    alloc: Global,
+    cells: HashMap<u64, Cell>,
+}
+
+impl Cells {
+    /// No cells. No memory.
+    pub fn new(alloc: Global) -> Cells
+        ensures { (at : ℕ) → cell_at result at ≡ None }
+    {
+        Cells {
+            alloc,
+            cells: HashMap::new(alloc),
+        }
+    }
+
+    /// The cell at a place, if there is one. No memory.
+    pub fn get(&self, place: u64) -> Option<&Cell>
+        ensures { option_copied result ≡ cell_at self.now place }
+    {
+        self.cells.get(&place)
+    }
+
+    /// Whether the party of the open offer at a place knows a value. No memory.
+    pub fn knows(&self, place: u64) -> bool
+        ensures { result ≡ is_some (option_and_then (λ cell. known_alone cell.held) (cell_at self.now place)) }
+    {
+        match self.get(place) {
+            None => false,
+            Some(cell) => cell.held.known().is_some(),
+        }
+    }
+
+    /// Whether the cell at a place has a share. No memory.
+    pub fn shares(&self, place: u64) -> bool
+        ensures { result ≡ is_some (option_and_then (λ cell. share_in cell.held) (cell_at self.now place)) }
+    {
+        match self.get(place) {
+            None => false,
+            Some(cell) => cell.held.share().is_some(),
+        }
+    }
+
+    /// The cell of a new offer that was handed a value. It takes memory; after `WantOfMemory` all is as before.
+    pub fn open(&mut self, place: u64, value: Option<Array>) -> Result<(), WantOfMemory>
+        ensures ok { OnOk result (PutsAt self.old self.new place (Some (new_cell value))) }
+        ensures err { OnErr result (KeepsCells self.old self.new) }
+    {
+        self.cells.insert(place, Cell::new(value))?;
+        Ok(())
+    }
+
+    /// The cell at a place goes. No memory.
+    pub fn close(&mut self, place: u64)
+        ensures { PutsAt self.old self.new place None }
+    {
+        self.cells.remove(&place);
+    }
+
+    // Puts a cell in place of one, which is answered. No memory.
+    fn replace(&mut self, place: u64, cell: Cell) -> Cell
+        requires { IsSome (cell_at self.old place) }
+        ensures value { cell_at self.old place ≡ Some result }
+        ensures cells { PutsAt self.old self.new place (Some cell) }
+    {
+        match self.cells.insert(place, cell) {
+            Ok(Some(old)) => old,
+            Ok(None) | Err(_) => unreachable!(),
+        }
+    }
+
+    // Takes the cell at a place out, and leaves an empty one. No memory.
+    fn take(&mut self, place: u64) -> Cell
+        requires { IsSome (cell_at self.old place) }
+        ensures value { cell_at self.old place ≡ Some result }
+        ensures cells { PutsAt self.old self.new place (Some (new_cell None)) }
+    {
+        self.replace(place, Cell::new(None))
+    }
+
+    // Puts a cell in place of one that is not wanted. No memory.
+    fn put(&mut self, place: u64, cell: Cell)
+        requires { IsSome (cell_at self.old place) }
+        ensures { PutsAt self.old self.new place (Some cell) }
+    {
+        discard(self.replace(place, cell));
+    }
+
+    /// The party of the offer at a place sets a control. No memory.
+    pub fn control(&mut self, place: u64, control: Control)
+        requires { IsSome (cell_at self.old place) }
+        ensures { ChangesAt self.old self.new place (λ cell. controlled cell control) }
+    {
+        let cell = self.take(place);
+        self.put(place, cell.controlled(control));
+    }
+
+    /// The party of the offer at a place set or used, and got a value or did not. No memory.
+    pub fn answered(&mut self, place: u64, got: bool)
+        requires { IsSome (cell_at self.old place) }
+        ensures { ChangesAt self.old self.new place (λ cell. answered cell got) }
+    {
+        let cell = self.take(place);
+        self.put(place, cell.answered(got));
+    }
+
+    /// The party of the open offer at a place knows a value. No memory.
+    pub fn learn(&mut self, place: u64, value: Array)
+        requires { IsSome (cell_at self.old place) }
+        ensures { ChangesAt self.old self.new place (λ cell. holding cell (Held.Alone (Some value))) }
+    {
+        let cell = self.take(place);
+        self.put(place, cell.holding(Held::Alone(Some(value))));
+    }
+
+    /// A side of the coupling whose lower offer is at a place sets a value, which moves in. No memory.
+    pub fn set(&mut self, place: u64, side: Side, value: Array)
+        requires { IsSome (cell_at self.old place) }
+        ensures { ChangesAt self.old self.new place (λ cell. holding cell (after_set_in cell.held side value)) }
+    {
+        let cell = self.take(place);
+        self.put(place, cell.with_set(side, value));
+    }
+
+    /// A side of the coupling whose lower offer is at a place uses the value, if there is one, and comes to know it. It takes
+    /// memory for the value; after `WantOfMemory` all is as before.
+    pub fn use_value(&mut self, place: u64, side: Side) -> Result<bool, WantOfMemory>
+        requires { IsSome (option_and_then (λ cell. share_in cell.held) (cell_at self.old place)) }
+        ensures got { IfOk result (λ got. got ≡ is_some (option_and_then shared_value (option_and_then (λ cell. share_in cell.held) (cell_at self.old place)))) }
+        ensures ok { OnOk result (ChangesAt self.old self.new place (λ cell. holding cell (after_use_in cell.held side))) }
+        ensures err { OnErr result (KeepsCells self.old self.new) }
+    {
+        let cell = self.take(place);
+        let Used { cell, got } = cell.with_use(side);
+        self.put(place, cell);
+        got
+    }
+
+    /// Two open offers are coupled: what their parties know is shared, and the lower offer's cell has the share. No memory.
+    pub fn couple(&mut self, a: u64, b: u64)
+        requires apart { a ≢ b }
+        requires a { IsSome (cell_at self.old a) }
+        requires b { IsSome (cell_at self.old b) }
+        ensures { CouplesAt self.old self.new a b }
+    {
+        let of_a = self.take(a);
+        let of_b = self.take(b);
+        let vector_a = of_a.vector;
+        let vector_b = of_b.vector;
+        let share = Share::new(self.alloc, of_a.held.into_known(), of_b.held.into_known());
+        self.put(a, coupled_with(vector_a, Held::Shared(share)));
+        self.put(b, coupled_with(vector_b, Held::Lent));
+    }
+
+    /// The coupling of two offers ends: each cell holds again what its party knows. No memory.
+    pub fn part(&mut self, a: u64, b: u64)
+        requires apart { a ≢ b }
+        requires a { IsSome (option_and_then (λ cell. share_in cell.held) (cell_at self.old a)) }
+        requires b { IsSome (cell_at self.old b) }
+        ensures { PartsAt self.old self.new a b }
+    {
+        let of_a = self.take(a);
+        let of_b = self.take(b);
+        let Parted {
+            a: cell_a,
+            b: cell_b,
+        } = part_cells(of_a, of_b);
+        self.put(a, cell_a);
+        self.put(b, cell_b);
+    }
+}
+
+fn discard(_cell: Cell) {}

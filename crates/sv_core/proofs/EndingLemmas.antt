@@ -1,0 +1,94 @@
+-- The cells while offers end together, one offer and one pair after another.
+use Rattle.std.proofs.Common.{◌≡◌, refl, sym, ap, ◌∙◌, subst, ℕ, ◌<◌, Bool, true, false, ◌&&◌, ◌||◌, eqb, List, [], ◌∷◌, ◌++◌, Option, Some, None, arith}
+use Rattle.std.specs.Prelude.{Contains, IsTrue, IsSome, if◌then◌else◌}
+use Rattle.std.specs.List.{list_any}
+use Rattle.std.proofs.lemmas.Bool.{or_parts, and_from}
+use Rattle.sv_cells.specs.Cells.{PutsAt, cell_at}
+use Rattle.sv_cells.specs.declared.cell.Cell.{Cell}
+use Rattle.sv_cells.specs.declared.cells.Cells.{Cells}
+use Rattle.sv_cell_laws.specs.Ends.{CellsIn, FitsIn, IsTable, Joins, MayPart, Parts, coupled_without, taken_now, unless_ended}
+use Rattle.sv_cell_laws.proofs.EndJournal.{cells_join, pair_coupling}
+use Rattle.sv_cell_laws.proofs.EndSteps.{cells_alike, cells_part, list_any-more, parts_none}
+use Rattle.sv_events.specs.declared.entry.Pair.{Pair}
+use Rattle.sv_events.specs.declared.row.Ending.{Ending}
+use Rattle.sv_offer_laws.proofs.LookupLemmas.{found_as_made}
+use Rattle.sv_rules.specs.Coupling.{coupling_at}
+use Rattle.sv_rules.specs.Entries.{Entries}
+use Rattle.sv_rules.specs.Standing.{is_ended, standing}
+use Rattle.sv_rules.specs.declared.coupling.Coupling.{Coupling}
+use Rattle.sv_rules.specs.declared.coupling.Made.{Made}
+use Rattle.sv_rules.specs.declared.standing.Standing.{Standing}
+use Rattle.sv_core.specs.Updating.{CouplesAll, FitsSome, IsToCouple, KeepsOthers, PartsAll}
+
+-- before the first offer nothing has changed
+pub parts_begin : (offers : List Standing) (coupled : List Made) (party : ℕ) (ending : Ending) (cells : Cells) → PartsAll offers coupled party ending [] cells cells
+parts_begin offers coupled party ending cells journal fit =
+    cells_alike journal (Contains offers) (coupling_at offers coupled) (coupled_without offers coupled [] party ending) cells (λ place. by (coupling_at offers coupled place)) fit
+  where
+    by : (c : Option Coupling) → c ≡ unless_ended [] party ending c
+    by None = refl
+    by (Some c) = refl
+
+-- a cell is there
+pub some_cell : (cells : Cells) (place : ℕ) (cell : Cell) → cell_at cells place ≡ Some cell → IsSome (cell_at cells place)
+some_cell cells place cell at = subst (λ (c : Option Cell). IsSome c) (sym at) refl
+
+-- the offers of a coupling may part
+pub may_part : (offers : List Standing) (coupled : List Made) (party : ℕ) (ending : Ending) (gone : List Standing) (old cells : Cells) → IsTable offers coupled → FitsSome offers coupled old →
+    PartsAll offers coupled party ending gone old cells → (place : ℕ) (coupling : Option Coupling) → coupling_at offers coupled place ≡ coupling → MayPart cells coupling
+may_part offers coupled party ending gone old cells table fits parts place None at = tt
+may_part offers coupled party ending gone old cells table fits parts place (Some c) at =
+    let cell = parts fits.0 fits.1 c.b (table.has_b place c at) in
+    ((λ same. let lower = table.lower place c at in omega arith), some_cell cells c.b.place cell.0 cell.1)
+
+-- an offer that ends and its partner part
+pub parts_more : (offers : List Standing) (coupled : List Made) (party : ℕ) (ending : Ending) (gone : List Standing) (o : Standing) (old cells cells' : Cells) → IsTable offers coupled → is_ended party ending o ≡ true →
+    PartsAll offers coupled party ending gone old cells → (coupling : Option Coupling) → coupling_at offers coupled o.place ≡ coupling → Parts cells cells' coupling →
+    PartsAll offers coupled party ending (gone ++ o ∷ []) old cells'
+parts_more offers coupled party ending gone o old cells cells' table ends so_far coupling at parts journal fit =
+    cells_part journal offers coupled table gone party ending o ends coupling at cells cells' (so_far journal fit) parts
+
+-- another leaves all
+pub parts_others : (offers : List Standing) (coupled : List Made) (party : ℕ) (ending : Ending) (gone : List Standing) (o : Standing) (old cells : Cells) → is_ended party ending o ≡ false →
+    PartsAll offers coupled party ending gone old cells → PartsAll offers coupled party ending (gone ++ o ∷ []) old cells
+parts_others offers coupled party ending gone o old cells stays so_far journal fit =
+    cells_alike journal (Contains offers) (coupled_without offers coupled gone party ending) (coupled_without offers coupled (gone ++ o ∷ []) party ending) cells
+    (parts_none offers coupled gone party ending o stays) (so_far journal fit)
+
+-- the cell of an offer that ends goes
+pub keeps_more : (gone : List Standing) (party : ℕ) (ending : Ending) (o : Standing) (old cells cells' : Cells) → is_ended party ending o ≡ true → KeepsOthers gone party ending old cells → PutsAt cells cells' o.place None →
+    KeepsOthers (gone ++ o ∷ []) party ending old cells'
+keeps_more gone party ending o old cells cells' ends so_far puts at h =
+    let parts = or_parts (list_any (λ (x : Standing). is_ended party ending x && eqb x.place at) gone) (is_ended party ending o && eqb o.place at)
+    (sym (list_any-more (λ (x : Standing). is_ended party ending x && eqb x.place at) gone o) ∙ h) in
+    let other : eqb o.place at ≡ false = ap (λ (b : Bool). b && eqb o.place at) (sym ends) ∙ parts.1 in
+    puts at ∙ ap (λ (b : Bool). if b then None else cell_at cells at) other ∙ so_far at parts.0
+
+pub keeps_others : (gone : List Standing) (party : ℕ) (ending : Ending) (o : Standing) (old cells : Cells) → KeepsOthers gone party ending old cells → KeepsOthers (gone ++ o ∷ []) party ending old cells
+keeps_others gone party ending o old cells so_far at h =
+    so_far at (or_parts (list_any (λ (x : Standing). is_ended party ending x && eqb x.place at) gone) (is_ended party ending o && eqb o.place at)
+    (sym (list_any-more (λ (x : Standing). is_ended party ending x && eqb x.place at) gone o) ∙ h)).0
+
+-- before the first pair
+pub couples_begin : (pairs : List Pair) (cells : Cells) → CouplesAll pairs cells cells []
+couples_begin pairs cells ready = ready.fit
+
+-- the offers of a pair may be coupled
+pub may_couple : (pairs taken : List Pair) (pair : Pair) (old cells : Cells) → IsToCouple old pairs → Contains pairs pair → CouplesAll pairs old cells taken →
+    (¬ (pair.a ≡ pair.b)) × IsSome (cell_at cells pair.a) × IsSome (cell_at cells pair.b)
+may_couple pairs taken pair old cells ready has so_far =
+    let known = pair_coupling ready.users ready.journal ready.e ready.legal pair (subst (λ ps. Contains ps pair) (sym ready.made) has) in
+    let c = known.0 in
+    let is = found_as_made ready.users (ready.e ∷ ready.journal) ready.legal pair.a c known.1 in
+    let fit = so_far ready in
+    let of_a = fit c.a is.has_a in
+    let of_b = fit c.b is.has_b in (
+      (λ same. omega (arith, is.lower_first, known.2, known.3, same)),
+      subst (λ (p : ℕ). IsSome (cell_at cells p)) known.2 (some_cell cells c.a.place of_a.0 of_a.1),
+      subst (λ (p : ℕ). IsSome (cell_at cells p)) known.3 (some_cell cells c.b.place of_b.0 of_b.1),
+    )
+
+-- one pair more
+pub couples_more : (pairs taken : List Pair) (pair : Pair) (old cells cells' : Cells) → Contains pairs pair → CouplesAll pairs old cells taken → Joins cells cells' pair → CouplesAll pairs old cells' (taken ++ pair ∷ [])
+couples_more pairs taken pair old cells cells' has so_far joins ready =
+    cells_join ready.users ready.journal ready.e ready.legal taken pair (subst (λ ps. Contains ps pair) (sym ready.made) has) cells cells' (so_far ready) joins

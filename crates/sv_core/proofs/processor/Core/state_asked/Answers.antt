@@ -1,0 +1,13 @@
+use Rattle.std.proofs.Common.{◌≡◌, ap, sym, ◌∙◌, subst, Some, None, Option}
+use Rattle.std.specs.Prelude.{Contains, IfSome, is_some}
+use Rattle.std.specs.Option.{option_copied}
+use Rattle.sv_cells.specs.Cells.{cell_at}
+use Rattle.sv_core.specs.Core.{PlainCore}
+use Rattle.sv_rules.specs.Legal.{IsLegal}
+use Rattle.sv_rules.specs.Standing.{standing}
+use Rattle.sv_rules.specs.Coupling.{coupling_now}
+use Rattle.sv_offer_laws.proofs.OwnLemmas.{own_offer-parts}
+use Rattle.sv_core.proofs.processor.Core.state_asked.Goals as goal
+
+pub state_vector-requires : goal.state_vector-requires
+state_vector-requires c = (own_offer-parts (standing c.args.self.now.journal) c.args.party c.args.local.now c.in-Some.offer (sym c.own.ensures ∙ c.in-Some.is)).2

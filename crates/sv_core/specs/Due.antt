@@ -1,0 +1,56 @@
+-- What an auxiliary may have to do on a coupled offer of its own, and for whom.
+use Rattle.std.specs.Prelude.{ℕ, Bool, true, false, ◌&&◌, ◌==◌, not, Option, option_and_then, option_map, if◌then◌else◌}
+use Rattle.std.specs.Option.{option_map_or, option_or}
+use Rattle.apl_arrays.specs.Array.{PlainArray}
+use Rattle.sv_access.specs.declared.access.Side.{Side}
+use Rattle.sv_access.specs.declared.access.Side.TheVariants.{A, B}
+use Rattle.sv_access.specs.declared.state.State.{State}
+use Rattle.sv_access.specs.declared.state.State.TheVariants.{UnseenA, UnseenB}
+use Rattle.sv_core.specs.declared.working.Due.{Due}
+use Rattle.sv_core.specs.declared.working.Due.TheVariants as due
+use Rattle.sv_rules.specs.Coupling.{coupling_now, couplings, is_coupled}
+use Rattle.sv_rules.specs.Entries.{Entries}
+use Rattle.sv_rules.specs.Story.{known}
+use Rattle.sv_rules.specs.Work.{first_coupled, has_unseen, lacks_control, owes_reply}
+use Rattle.sv_rules.specs.declared.coupling.Coupling.{Coupling}
+use Rattle.sv_rules.specs.declared.standing.Standing.{Standing}
+
+-- the fact on a coupled offer
+abbrev pub is_due : Entries → Due → Standing → Coupling → Bool
+is_due journal due.Control = lacks_control journal
+is_due journal due.Reply = owes_reply journal
+is_due journal due.Use = has_unseen journal
+
+-- the value to reply to: what is known of the first offer on which a reply is owed
+abbrev pub command_of : Entries → ℕ → Option PlainArray
+command_of journal party = option_and_then (known journal) (first_coupled journal (owes_reply journal) party)
+
+-- the party of the other offer of a coupling
+abbrev pub partner_of : Coupling → ℕ → ℕ
+partner_of coupling place = if coupling.a.place == place then coupling.b.party else coupling.a.party
+
+-- by the state, a set of the other side is unseen
+abbrev pub is_partners_unseen : State → Side → Bool
+is_partners_unseen UnseenB A = true
+is_partners_unseen UnseenA B = true
+is_partners_unseen _ _ = false
+
+-- the offer is a party's own, it is coupled, and this is due on it
+abbrev pub is_due_to : Entries → ℕ → Due → Standing → Bool
+is_due_to journal party due offer = offer.party == party && option_map_or (is_due journal due offer) (coupling_now journal offer.place) false
+
+-- the offer is a party's own, and open
+abbrev pub is_own_open : Entries → ℕ → Standing → Bool
+is_own_open journal party offer = offer.party == party && not (is_coupled (couplings journal) offer.place)
+
+-- the coupled offer on which a party has to set a control, else the one on which it has to reply
+abbrev pub served_by : Entries → ℕ → Option Standing
+served_by journal party = option_or (first_coupled journal (lacks_control journal) party) (first_coupled journal (owes_reply journal) party)
+
+-- the party of the other offer of the coupling of the offer at a place
+abbrev pub partner_at : Entries → ℕ → Option ℕ
+partner_at journal place = option_map (λ coupling. partner_of coupling place) (coupling_now journal place)
+
+-- the partner on that offer
+abbrev pub customer_of : Entries → ℕ → Option ℕ
+customer_of journal party = option_and_then (λ offer. partner_at journal offer.place) (served_by journal party)

@@ -1,0 +1,335 @@
+ghost use Rattle.std.specs.Prelude.{◌≡◌, true, false, not, find, nat_lt, Contains, IsTrue, is_some, unwrap_or};
+ghost use Rattle.std.specs.List.{list_all, list_any};
+ghost use Rattle.std.specs.Option.{option_copied, option_map_or};
+ghost use Rattle.sv_core.specs.Due.{command_of, customer_of, is_due, is_due_to, is_own_open, partner_at, partner_of, served_by};
+ghost use Rattle.sv_rules.specs.Coupling.{coupling_now, open_to};
+ghost use Rattle.sv_rules.specs.Entries.{has_left};
+ghost use Rattle.sv_rules.specs.Refused.{hold_of, hold_on, refused, still_refused};
+ghost use Rattle.sv_rules.specs.Standing.{offer_count, own_offer, standing};
+ghost use Rattle.sv_rules.specs.Work.{first_coupled, first_open, is_auxiliary, is_halted, is_idle, is_stuck, lacks_control, most_counters, owes_reply, to_counter, work_due, work_of};
+
+use crate::Core;
+use apl_arrays::Array;
+use sv_events::{Accessing, Act, Work};
+use sv_log::Member;
+use sv_rules::{CLOCK_PARTY, Coupling, Standing, TEXT_PARTY, most_counters};
+
+impl Core {
+    /// The work of an auxiliary: none where the journal is full. No memory.
+    pub fn work_of(&self, party: u32) -> Work
+        requires { IsTrue (is_auxiliary party) }
+        ensures { result ≡ work_of self.now.journal party }
+    {
+        if self.is_full() {
+            Work::Idle
+        } else {
+            self.work_due(party)
+        }
+    }
+
+    fn work_due(&self, party: u32) -> Work
+        requires { IsTrue (is_auxiliary party) }
+        ensures { result ≡ unwrap_or (work_due self.now.journal party) Work.Idle }
+    {
+        if let Some(offer) = self.first_open(party) {
+            Work::Retract(offer.local)
+        } else if let Some(offer) = self.first_coupled(party, Due::Control) {
+            Work::Control(offer.local)
+        } else if let Some(offer) = self.first_coupled(party, Due::Reply) {
+            Work::Reply(offer.local)
+        } else if let Some(offer) = self.to_counter(party) {
+            Work::Counter {
+                to: offer.party,
+                surrogate: offer.surrogate,
+            }
+        } else if let Some(offer) = self.first_coupled(party, Due::Use) {
+            Work::Use(offer.local)
+        } else {
+            Work::Idle
+        }
+    }
+
+    // The open offer of a party of the lowest place.
+    fn first_open(&self, party: u32) -> Option<Standing>
+        ensures { result ≡ first_open self.now.journal party }
+    {
+        self.first_open_among(self.standing(), party)
+    }
+
+    fn first_open_among(&self, offers: &[Standing], party: u32) -> Option<Standing>
+        ensures { result ≡ find (is_own_open self.now.journal party) offers.now }
+    {
+        for offer in offers {
+            if self.is_own_open(party, offer) {
+                return Some(*offer);
+            }
+        }
+        None
+    }
+
+    fn is_own_open(&self, party: u32, offer: &Standing) -> bool
+        ensures { result ≡ is_own_open self.now.journal party offer.now }
+    {
+        offer.party == party && !self.is_coupled(offer.place)
+    }
+
+    // The coupled offer of a party of the lowest place on which this is due.
+    fn first_coupled(&self, party: u32, due: Due) -> Option<Standing>
+        requires { IsTrue (is_auxiliary party) }
+        ensures { result ≡ first_coupled self.now.journal (is_due self.now.journal due) party }
+    {
+        self.first_coupled_among(self.standing(), party, due)
+    }
+
+    fn first_coupled_among(&self, offers: &[Standing], party: u32, due: Due) -> Option<Standing>
+        requires stand { offers.now ≡ standing self.now.journal }
+        requires auxiliary { IsTrue (is_auxiliary party) }
+        ensures { result ≡ find (is_due_to self.now.journal party due) offers.now }
+    {
+        for offer in offers {
+            if self.is_due_to(party, offer, due) {
+                return Some(*offer);
+            }
+        }
+        None
+    }
+
+    // Whether the offer is the party's own and coupled, and this is due on it.
+    fn is_due_to(&self, party: u32, offer: &Standing, due: Due) -> bool
+        requires stands { Contains (standing self.now.journal) offer.now }
+        requires auxiliary { IsTrue (is_auxiliary party) }
+        ensures { result ≡ is_due_to self.now.journal party due offer.now }
+    {
+        if offer.party == party {
+            self.is_due(offer, due)
+        } else {
+            false
+        }
+    }
+
+    // Whether the offer is coupled, and this is due on it.
+    fn is_due(&self, offer: &Standing, due: Due) -> bool
+        requires stands { Contains (standing self.now.journal) offer.now }
+        requires own { IsTrue (is_auxiliary offer.now.party) }
+        ensures { result ≡ option_map_or (is_due self.now.journal due offer.now) (coupling_now self.now.journal offer.now.place) false }
+    {
+        match self.coupling(offer.place) {
+            None => false,
+            Some(coupling) => self.is_due_in(offer, &coupling, due),
+        }
+    }
+
+    fn is_due_in(&self, offer: &Standing, coupling: &Coupling, due: Due) -> bool
+        requires stands { Contains (standing self.now.journal) offer.now }
+        requires own { IsTrue (is_auxiliary offer.now.party) }
+        requires now { coupling_now self.now.journal offer.now.place ≡ Some coupling.now }
+        requires at_a { coupling_now self.now.journal coupling.now.a.place ≡ Some coupling.now }
+        ensures { result ≡ is_due self.now.journal due offer.now coupling.now }
+    {
+        match due {
+            Due::Control => self.lacks_control(offer, coupling),
+            Due::Reply => self.owes_reply(offer, coupling),
+            Due::Use => self.has_unseen(offer, coupling),
+        }
+    }
+
+    // Whether its party set no control on the offer since it was coupled.
+    fn lacks_control(&self, offer: &Standing, coupling: &Coupling) -> bool
+        requires stands { Contains (standing self.now.journal) offer.now }
+        requires own { IsTrue (is_auxiliary offer.now.party) }
+        requires now { coupling_now self.now.journal offer.now.place ≡ Some coupling.now }
+        ensures { result ≡ lacks_control self.now.journal offer.now coupling.now }
+    {
+        match self.cells.get(offer.place) {
+            None => false,
+            Some(cell) => cell.lacks_control,
+        }
+    }
+
+    // Whether its party got a value by its last access on the offer since it was coupled.
+    fn owes_reply(&self, offer: &Standing, coupling: &Coupling) -> bool
+        requires stands { Contains (standing self.now.journal) offer.now }
+        requires own { IsTrue (is_auxiliary offer.now.party) }
+        requires now { coupling_now self.now.journal offer.now.place ≡ Some coupling.now }
+        ensures { result ≡ owes_reply self.now.journal offer.now coupling.now }
+    {
+        match self.cells.get(offer.place) {
+            None => false,
+            Some(cell) => cell.owes_reply,
+        }
+    }
+
+    // The open offer that an auxiliary is to counter.
+    fn to_counter(&self, party: u32) -> Option<Standing>
+        ensures { result ≡ to_counter self.now.journal party }
+    {
+        if self.may_counter(party) {
+            self.oldest_to(party)
+        } else {
+            None
+        }
+    }
+
+    // Whether an auxiliary may have one offer more.
+    fn may_counter(&self, party: u32) -> bool
+        ensures { result ≡ nat_lt (offer_count (standing self.now.journal) party) (most_counters party) }
+    {
+        self.offers.count(party) < most_counters(party)
+    }
+
+    // The open offer of the lowest place that is made to a party by its number.
+    fn oldest_to(&self, party: u32) -> Option<Standing>
+        ensures { result ≡ find (λ _. true) (open_to self.now.journal party) }
+    {
+        self.offers.oldest_to(party)
+    }
+
+    /// The value that an auxiliary is to reply to. No memory.
+    pub fn command(&self, party: u32) -> Option<&Array>
+        requires { IsTrue (is_auxiliary party) }
+        ensures { option_copied result ≡ command_of self.now.journal party }
+    {
+        match self.first_coupled(party, Due::Reply) {
+            None => None,
+            Some(offer) => self.known(&offer),
+        }
+    }
+
+    /// The party of the other offer of the coupling on which an auxiliary is to set a control, else to reply. No memory.
+    pub fn customer(&self, party: u32) -> Option<u32>
+        requires { IsTrue (is_auxiliary party) }
+        ensures { result ≡ customer_of self.now.journal party }
+    {
+        match self.served_by(party) {
+            None => None,
+            Some(offer) => self.partner(offer.place),
+        }
+    }
+
+    // The coupled offer on which an auxiliary is to set a control, else the one on which it is to reply.
+    fn served_by(&self, party: u32) -> Option<Standing>
+        requires { IsTrue (is_auxiliary party) }
+        ensures { result ≡ served_by self.now.journal party }
+    {
+        match self.first_coupled(party, Due::Control) {
+            None => self.first_coupled(party, Due::Reply),
+            Some(offer) => Some(offer),
+        }
+    }
+
+    // The party of the other offer of the coupling of the offer at a place.
+    fn partner(&self, place: u64) -> Option<u32>
+        ensures { result ≡ partner_at self.now.journal place }
+    {
+        match self.coupling(place) {
+            None => None,
+            Some(coupling) => Some(partner_of(&coupling, place)),
+        }
+    }
+
+    // Whether something refuses the act that a party waits for now.
+    pub(crate) fn is_refused_now(&self, party: u32) -> bool
+        ensures { result ≡ is_some (still_refused self.now.journal party) }
+    {
+        match self.awaited(party) {
+            None => false,
+            Some(act) => self.is_refused(party, act),
+        }
+    }
+
+    fn is_refused(&self, party: u32, act: &Act) -> bool
+        ensures { result ≡ is_some (refused self.now.journal party act.now) }
+    {
+        self.refuses(party, act.row().accesses)
+    }
+
+    // Whether something refuses an access of a party, if it makes one.
+    fn refuses(&self, party: u32, access: Option<Accessing>) -> bool
+        ensures { result ≡ is_some (hold_of self.now.journal party access) }
+    {
+        match access {
+            None => false,
+            Some(access) => self.is_held(party, access),
+        }
+    }
+
+    // Whether something refuses this access of a party.
+    fn is_held(&self, party: u32, access: Accessing) -> bool
+        ensures { result ≡ is_some (hold_on self.now.journal access.kind (own_offer (standing self.now.journal) party access.local)) }
+    {
+        match self.own(party, &access.local) {
+            None => false,
+            Some(offer) => self.hold_on(&offer, access.kind).is_some(),
+        }
+    }
+
+    // Whether a user has left, or waits and is refused now.
+    fn is_halted(&self, user: u32) -> bool
+        ensures { result ≡ is_halted self.now.journal user }
+    {
+        self.has_left(user) || self.is_refused_now(user)
+    }
+
+    /// Whether nobody can go on: some user has not left, each that has not waits and is refused now, and no auxiliary has
+    /// work. It looks once at what each user waits for. No memory.
+    pub fn is_stuck(&self) -> bool
+        ensures { result ≡ is_stuck self.now.users self.now.journal }
+    {
+        self.some_stays()
+            && self.all_halt()
+            && self.is_idle(CLOCK_PARTY)
+            && self.is_idle(TEXT_PARTY)
+    }
+
+    // Whether some user has not left.
+    fn some_stays(&self) -> bool
+        ensures { result ≡ list_any (λ user. not (has_left self.now.journal user)) self.now.users }
+    {
+        self.log.members().iter().any(|member| !member.has_left)
+    }
+
+    // Whether all users have left, or wait and are refused now.
+    fn all_halt(&self) -> bool
+        ensures { result ≡ list_all (is_halted self.now.journal) self.now.users }
+    {
+        self.halt(self.log.members())
+    }
+
+    fn halt(&self, members: &[Member]) -> bool
+        ensures { result ≡ list_all (λ member. is_halted self.now.journal member.party) members.now }
+    {
+        for member in members {
+            if !self.is_halted(member.party) {
+                return false;
+            }
+        }
+        true
+    }
+
+    // Whether an auxiliary has no work.
+    fn is_idle(&self, party: u32) -> bool
+        requires { IsTrue (is_auxiliary party) }
+        ensures { result ≡ is_idle (work_of self.now.journal party) }
+    {
+        matches!(self.work_of(party), Work::Idle)
+    }
+}
+
+// The party of the other offer of a coupling.
+fn partner_of(coupling: &Coupling, place: u64) -> u32
+    ensures { result ≡ partner_of coupling.now place }
+{
+    if coupling.a.place == place {
+        coupling.b.party
+    } else {
+        coupling.a.party
+    }
+}
+
+/// What an auxiliary may have to do on a coupled offer.
+#[derive(Clone, Copy, Debug, PartialEq, Eq)]
+pub enum Due {
+    Control,
+    Reply,
+    Use,
+}

@@ -1,0 +1,62 @@
+ghost use Rattle.std.specs.Prelude.{◌≡◌};
+ghost use Rattle.sv_text.specs.Reading.{Gives};
+ghost use Rattle.sv_journal.specs.HoldReading.{bit_at, control_at, hold_at};
+
+use crate::word::{Word, read_word};
+use sv_access::{Control, Owners};
+use sv_events::Hold;
+use sv_text::{Cursor, Unread};
+
+// Whose 1 it may be.
+const OWNERS: [Owners; 3] = [Owners::Mine, Owners::Partner, Owners::Both];
+
+impl Word for Owners {
+    ghost use Rattle.sv_journal.specs.EntryText.{owners_text};
+
+    ghost text = { owners_text };
+
+    fn text(self) -> &'static [u8] {
+        match self {
+            Owners::Mine => b"mine",
+            Owners::Partner => b"partner",
+            Owners::Both => b"both",
+        }
+    }
+}
+
+/// Reads the four elements of a control or of a state, each behind a blank. No memory.
+#[tactic(auto, unfolding(crate::specs::HoldReading::bits_at))]
+pub(crate) fn read_control(cursor: &mut Cursor<'_>) -> Result<Control, Unread>
+    ensures { Gives (λ control. (control, cursor.new)) result (control_at cursor.old) }
+{
+    let first = read_bit(cursor)?;
+    let second = read_bit(cursor)?;
+    let third = read_bit(cursor)?;
+    let fourth = read_bit(cursor)?;
+    Ok(Control([first, second, third, fourth]))
+}
+
+// Reads an element behind a blank.
+#[tactic(auto, unfolding(crate::specs::HoldReading::bit_at))]
+fn read_bit(cursor: &mut Cursor<'_>) -> Result<bool, Unread>
+    ensures { Gives (λ bit. (bit, cursor.new)) result (bit_at cursor.old) }
+{
+    cursor.text(b" ")?;
+    let bit = cursor.number(0, 1)?;
+    Ok(bit == 1)
+}
+
+/// Reads what refuses an access behind a blank: the element, and whose 1 it is. No memory.
+#[tactic(auto, unfolding(crate::specs::HoldReading::hold_at))]
+pub(crate) fn read_hold(cursor: &mut Cursor<'_>) -> Result<Hold, Unread>
+    ensures { Gives (λ hold. (hold, cursor.new)) result (hold_at cursor.old) }
+{
+    cursor.text(b" ")?;
+    let element = cursor.number(1, 4)?;
+    cursor.text(b" ")?;
+    let owners = read_word(cursor, &OWNERS)?;
+    Ok(Hold {
+        element: element as u8,
+        owners,
+    })
+}

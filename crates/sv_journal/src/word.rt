@@ -1,0 +1,41 @@
+ghost use Rattle.std.specs.Prelude.{◌≡◌, ◌≤◌, ℕ, List, length};
+ghost use Rattle.sv_text.specs.Reading.{Gives};
+ghost use Rattle.sv_journal.specs.WordReading.{word_at};
+
+use sv_text::{Cursor, Unread};
+
+/// What has a word of its own in the texts of entries.
+pub(crate) trait Word: Copy {
+    ghost text: { Self → List ℕ };
+
+    /// Its word. No memory.
+    fn text(self) -> &'static [u8]
+        ensures { result.now ≡ text self };
+}
+
+/// Reads the word of one of these, none of whose words begins another one's. No memory.
+pub(crate) fn read_word<W: Word>(cursor: &mut Cursor<'_>, words: &[W]) -> Result<W, Unread>
+    ensures { Gives (λ word. (word, cursor.new)) result (word_at W.text 0 words.now cursor.old) }
+{
+    read_one_of(cursor, words, 0)
+}
+
+// Reads the word of one of these, where so many glyphs stand there that another word begins with.
+fn read_one_of<W: Word>(cursor: &mut Cursor<'_>, words: &[W], shared: usize) -> Result<W, Unread>
+    requires { shared ≤ length cursor.old }
+    ensures { Gives (λ word. (word, cursor.new)) result (word_at W.text shared words.now cursor.old) }
+{
+    match words {
+        [] => Err(Unread::Left(cursor.left() - shared)),
+        [word, others @ ..] => {
+            let text = word.text();
+            let length = cursor.shared(text);
+            if length == text.len() {
+                cursor.text(text)?;
+                Ok(*word)
+            } else {
+                read_one_of(cursor, others, shared.max(length))
+            }
+        }
+    }
+}

@@ -1,0 +1,15 @@
+pub mod Members
+pub mod RowLemmas
+pub mod StandingLemmas
+pub mod OwnLemmas
+pub mod PlaceLemmas
+pub mod ChangeLemmas
+pub mod MatchLemmas
+pub mod RecoupledLemmas
+pub mod LegalLemmas
+pub mod OpenLemmas
+pub mod EndingLemmas
+pub mod FewLemmas
+pub mod LookupLemmas
+pub mod NowLemmas
+pub mod CouplingLemmas

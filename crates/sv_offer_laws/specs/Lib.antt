@@ -1,0 +1,4 @@
+pub mod StandingLaws
+pub mod CouplingLaws
+pub mod LegalLaws
+pub mod EndingLaws

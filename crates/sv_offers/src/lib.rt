@@ -1,0 +1,8 @@
+//! The table of standing offers and of their couplings.
+#![tactic(auto)]
+
+mod listing;
+mod room;
+mod table;
+
+pub use table::Offers;

@@ -1,0 +1,155 @@
+ghost use Rattle.std.specs.Prelude.{◌≡◌, ◌+◌, ◌≤◌, [], ◌++◌, true, map, find, length, IfOk, OnOk, OnErr, option_map};
+ghost use Rattle.sv_offers.specs.Table.{after_ending, after_offer, open_among, pairs_made, parties_of, surrogates_of};
+ghost use Rattle.sv_rules.specs.Coupling.{coupling_at, degree_at, is_coupled, kept_by_ending, open_match, reopened_by_ending};
+ghost use Rattle.sv_rules.specs.Standing.{offer_count, own_offer};
+
+use crate::listing::{first_to, names_of, open_to, parties_of};
+use crate::room::{end_together, join, keep_open, note_coupled, recouple};
+use apl_arrays::{Name, NameList, PartyList, WantOfMemory};
+use std::alloc::Global;
+use std::marker::Model;
+use sv_events::{Ending, PairList};
+use sv_rules::{
+    Coupling, Made, Standing, coupling_at, degree_at, is_coupled, keep_couplings, offer_count,
+    open_match, own_offer,
+};
+
+/// The offers that stand, by place, and the couplings, in the order in which they were made.
+#[derive(Drop)]
+pub struct Offers {
+    offers: Vec<Standing>,
+    coupled: Vec<Made>,
+    // Room to note the offers that an ending reopens.
+    reopened: Vec<Standing>,
+}
+
+impl Model for Offers {
+    ghost use Rattle.std.specs.Prelude.{◌≤◌, vec_len, vec_capacity};
+    ghost use Rattle.sv_offers.specs.Table.{PlainOffers};
+
+    ghost Value = { PlainOffers };
+
+    ghost view = { λ t. record { offers = t.offers.items; coupled = t.coupled.items } };
+
+    ghost invariant = { λ t. vec_len t.offers ≤ vec_capacity t.reopened };
+}
+
+impl Offers {
+    /// No offers. No memory.
+    pub fn new(alloc: Global) -> Offers
+        ensures { result ≡ record { offers = []; coupled = [] } }
+    {
+        Offers {
+            offers: Vec::new(alloc),
+            coupled: Vec::new(alloc),
+            reopened: Vec::new(alloc),
+        }
+    }
+
+    /// The offers that stand, by place. No memory.
+    pub fn as_slice(&self) -> &[Standing]
+        ensures { result.now ≡ self.now.offers }
+    {
+        &self.offers
+    }
+
+    /// The offer of a party of a local name, if it stands. No memory.
+    pub fn find(&self, party: u32, local: &Name) -> Option<Standing>
+        ensures { result ≡ own_offer self.now.offers party local.now }
+    {
+        own_offer(&self.offers, party, local)
+    }
+
+    /// How many offers of a party stand. No memory.
+    pub fn count(&self, party: u32) -> usize
+        ensures { result ≡ offer_count self.now.offers party }
+    {
+        offer_count(&self.offers, party)
+    }
+
+    /// 2 where the offer at a place is coupled, else 1. No memory.
+    pub fn degree(&self, place: u64) -> u8
+        ensures { result ≡ degree_at self.now.coupled place }
+    {
+        degree_at(&self.coupled, place)
+    }
+
+    /// Whether the offer at a place is coupled. No memory.
+    pub fn is_coupled(&self, place: u64) -> bool
+        ensures { result ≡ is_coupled self.now.coupled place }
+    {
+        is_coupled(&self.coupled, place)
+    }
+
+    /// The coupling of the offer at a place, if it has one. No memory.
+    pub fn coupling(&self, place: u64) -> Option<Coupling>
+        ensures { result ≡ coupling_at self.now.offers self.now.coupled place }
+    {
+        coupling_at(&self.offers, &self.coupled, place)
+    }
+
+    /// The open match of an offer, of the lowest place, if there is one. No memory.
+    pub fn oldest_match(&self, offer: &Standing) -> Option<Standing>
+        ensures { result ≡ open_match self.now.offers self.now.coupled offer.now }
+    {
+        open_match(&self.offers, &self.coupled, offer)
+    }
+
+    /// The open offer of the lowest place that is made to a party by its number, if there is one. No memory.
+    pub fn oldest_to(&self, party: u32) -> Option<Standing>
+        ensures { result ≡ find (λ _. true) (open_among self.now party) }
+    {
+        first_to(&self.offers, &self.coupled, party)
+    }
+
+    /// The parties with open offers made to a party by its number, ascending, each once. It takes memory for them.
+    pub fn parties_to(&self, alloc: Global, party: u32) -> Result<PartyList, WantOfMemory>
+        ensures { IfOk result (λ list. list.items ≡ parties_of (open_among self.now party)) }
+    {
+        let opened = open_to(alloc, &self.offers, &self.coupled, party)?;
+        parties_of(alloc, &opened)
+    }
+
+    /// The surrogates of the open offers of a party that are made to another by its number, by place. It takes memory
+    /// for them.
+    pub fn names_to(&self, alloc: Global, from: u32, to: u32) -> Result<NameList, WantOfMemory>
+        ensures { IfOk result (λ list. list.items ≡ surrogates_of (open_among self.now to) from) }
+    {
+        let opened = open_to(alloc, &self.offers, &self.coupled, to)?;
+        names_of(alloc, &opened, from)
+    }
+
+    /// A new offer stands, and is coupled with its open match of the lowest place, which is answered. It takes memory;
+    /// after `WantOfMemory` all is as before.
+    pub fn add(&mut self, new: &Standing) -> Result<Option<Standing>, WantOfMemory>
+        ensures ok { OnOk result (self.new ≡ after_offer self.old new.now) }
+        ensures partner { IfOk result (λ other. other ≡ open_match self.old.offers self.old.coupled new.now) }
+        ensures err { OnErr result (self.new ≡ self.old) }
+    {
+        self.offers.reserve(1)?;
+        self.coupled.reserve(1)?;
+        self.reopened.reserve(self.offers.len() + 1)?;
+        let other = open_match(&self.offers, &self.coupled, new);
+        join(&mut self.coupled, &other, new);
+        self.offers.push_reserved(*new);
+        Ok(other)
+    }
+
+    /// Offers of a party end together by its act at a place: that of one local name, or all. Each offer that this reopens
+    /// takes its open match of the lowest place, by place, where it is still open then; these pairs go last in `made`, in
+    /// this order. No memory.
+    pub fn end(&mut self, at: u64, party: u32, ending: Ending, made: &mut PairList)
+        requires room { length (reopened_by_ending self.old.offers self.old.coupled party ending) ≤ made.old.room }
+        requires no_more { length (kept_by_ending self.old.offers self.old.coupled party ending) + length (reopened_by_ending self.old.offers self.old.coupled party ending)
+            ≤ length self.old.coupled }
+        ensures table { self.new ≡ after_ending at self.old party ending }
+        ensures made { made.new.items ≡ made.old.items ++ pairs_made at self.old party ending }
+    {
+        self.reopened.clear();
+        end_together(&mut self.offers, party, ending);
+        note_coupled(&mut self.reopened, &self.offers, &self.coupled);
+        keep_couplings(&mut self.coupled, &self.offers);
+        keep_open(&mut self.reopened, &self.coupled);
+        recouple(at, &self.offers, &mut self.coupled, &self.reopened, made);
+    }
+}

@@ -1,0 +1,30 @@
+-- The work that is due, by the offers that are found.
+use Rattle.std.proofs.Common.{◌≡◌, refl, sym, ap, ◌∙◌, ℕ, Bool, true, false, not, cond, List, [], ◌∷◌, Option, Some, None}
+use Rattle.std.specs.Prelude.{find, unwrap_or}
+use Rattle.std.specs.Option.{option_map_or}
+use Rattle.sv_events.specs.declared.work.Work.{Work}
+use Rattle.sv_events.specs.declared.work.Work.TheVariants.{Idle}
+use Rattle.sv_plain.specs.FirstWork.{first_work}
+use Rattle.sv_rules.specs.Coupling.{couplings, coupling_at, is_coupled}
+use Rattle.sv_rules.specs.Entries.{Entries}
+use Rattle.sv_rules.specs.Standing.{standing}
+use Rattle.sv_rules.specs.Work.{has_unseen, lacks_control, own_offers, owes_reply, to_counter, work_due}
+use Rattle.sv_rules.specs.declared.coupling.Made.{Made}
+use Rattle.sv_rules.specs.declared.standing.Standing.{Standing}
+
+pub work_by_offers : (journal : Entries) (party : ℕ) (offers : List Standing) (coupled : List Made) (own : List Standing) (open' lacking owing waiting unseen : Option Standing) →
+    offers ≡ standing journal → coupled ≡ couplings journal → own ≡ own_offers journal party →
+    open' ≡ find (λ offer. not (is_coupled coupled offer.place)) own →
+    lacking ≡ find (λ offer. option_map_or (lacks_control journal offer) (coupling_at offers coupled offer.place) false) own →
+    owing ≡ find (λ offer. option_map_or (owes_reply journal offer) (coupling_at offers coupled offer.place) false) own →
+    waiting ≡ to_counter journal party →
+    unseen ≡ find (λ offer. option_map_or (has_unseen journal offer) (coupling_at offers coupled offer.place) false) own →
+    first_work open' lacking owing waiting unseen ≡ unwrap_or (work_due journal party) Idle
+work_by_offers journal party offers coupled own open' lacking owing waiting unseen stand now mine is_open is_lacking is_owing is_waiting is_unseen =
+    rw (is_open, is_lacking, is_owing, is_waiting, is_unseen, stand, now, mine) refl
+
+-- the first of some offers, where one more may be had
+pub first_where : (b : Bool) (offers : List Standing) → find (λ _. b) offers ≡ cond b (find (λ _. true) offers) None
+first_where true offers = refl
+first_where false [] = refl
+first_where false (o ∷ offers) = first_where false offers

@@ -1,0 +1,14 @@
+use Rattle.std.proofs.Common.{◌≡◌, ◌≤◌, length, take}
+use Rattle.sv_rules.specs.Journal.{journal_of}
+use Rattle.sv_rules.specs.Refused.{awaited}
+use Rattle.sv_plain.proofs.waiting.awaited.Given as goal
+
+-- no entry past those left says another
+abbrev pub invariant-loop-left : goal.invariant-loop-left
+invariant-loop-left l = record {
+  within : l.left ≤ length l.entries;
+  same : awaited (journal_of (take l.left l.entries)) l.party ≡ awaited (journal_of l.entries) l.party;
+}
+
+abbrev pub decreases-loop-left : goal.decreases-loop-left
+decreases-loop-left l = l.left

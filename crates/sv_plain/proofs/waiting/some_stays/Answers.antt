@@ -1,0 +1,10 @@
+use Rattle.std.proofs.Common.{not, rules, tests}
+use Rattle.std.proofs.lemmas.Iterator.{YieldsList-from_slice}
+use Rattle.std.proofs.lemmas.Iterator.Search.{any_from_yields_List}
+use Rattle.sv_rules.specs.Entries.{has_left}
+use Rattle.sv_rules.specs.Journal.{journal_of}
+use Rattle.sv_plain.proofs.waiting.some_stays.Goals as goal
+
+pub returns : goal.returns
+returns c =
+    any_from_yields_List (λ user. not (has_left (journal_of c.args.entries.now) user)) _ _ c.any.result c.any.ensures.ran (YieldsList-from_slice c.args.users.now cc) (λ x b q k. search (rules, tests))

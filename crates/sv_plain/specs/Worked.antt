@@ -1,0 +1,94 @@
+-- How worked journals are written: with the oldest entry first.
+use Rattle.std.specs.Prelude.{ℕ, ◌==◌, Bool, true, false, pos, List, [], ◌∷◌, ◌++◌, reverse, codes, Option, Some, None, if◌then◌else◌}
+use Rattle.apl_arrays.specs.Array.{PlainArray, scalar, numbers, chars}
+use Rattle.sv_access.specs.Control.{four_elements}
+use Rattle.sv_access.specs.declared.control.Control.{Control}
+use Rattle.sv_access.specs.declared.verdict.Owners.{Owners}
+use Rattle.sv_events.specs.Answer.{PlainAnswer, degree, value, held, abandoned, vector, done}
+use Rattle.sv_events.specs.Entry.{PlainEntry}
+use Rattle.sv_events.specs.declared.entry.Pair.{Pair}
+use Rattle.sv_events.specs.declared.event.Act.{Act}
+use Rattle.sv_events.specs.declared.event.Act.TheVariants.{Offer, Set, Use, Leave}
+use Rattle.sv_rules.specs.Entries.{Entries, next_place}
+
+-- the two users of most journals
+abbrev pub two_users : List ℕ
+two_users = 1001 ∷ 1002 ∷ []
+
+-- those of others
+abbrev pub three_users : List ℕ
+three_users = 1001 ∷ 1002 ∷ 1003 ∷ []
+
+abbrev pub one_user : List ℕ
+one_user = 1001 ∷ []
+
+-- the number as a value
+abbrev pub number : ℕ → PlainArray
+number n = scalar (pos n)
+
+-- a control of four bits
+abbrev pub bits : ℕ → ℕ → ℕ → ℕ → Control
+bits a b c d = four_elements (a == 1) (b == 1) (c == 1) (d == 1)
+
+-- an entry that couples nothing
+abbrev pub lone : ℕ → Act → PlainAnswer → PlainEntry
+lone party act answer = record { party = party; act = act; answer = answer; made = [] }
+
+-- one pair
+abbrev pub pair : ℕ → ℕ → List Pair
+pair a b = record { a = a; b = b } ∷ []
+
+-- an entry that couples one pair
+abbrev pub joining : ℕ → Act → PlainAnswer → ℕ → ℕ → PlainEntry
+joining party act answer a b = record { party = party; act = act; answer = answer; made = pair a b }
+
+-- X
+abbrev pub x : List ℕ
+x = codes "X"
+
+-- an offer of X as X
+abbrev pub offer_x : ℕ → Option PlainArray → Act
+offer_x to handed = Offer to x x handed
+
+-- a set and a use of X, and a leave
+abbrev pub set_x : ℕ → ℕ → PlainAnswer → PlainEntry
+set_x party n answer = lone party (Set x (number n)) answer
+
+abbrev pub use_x : ℕ → PlainAnswer → PlainEntry
+use_x party answer = lone party (Use x) answer
+
+abbrev pub left : ℕ → PlainEntry
+left party = lone party Leave done
+
+-- a value, a hold, and a hold that is given up
+abbrev pub got : ℕ → PlainAnswer
+got n = value (number n)
+
+abbrev pub holds : ℕ → Owners → PlainAnswer
+holds element owners = held (record { element = element; owners = owners })
+
+abbrev pub gives_up : ℕ → Owners → PlainAnswer
+gives_up element owners = abandoned (record { element = element; owners = owners })
+
+-- two users share X: the end differs
+abbrev pub shared_x : Option PlainArray → Option PlainArray → List PlainEntry → Entries
+shared_x first second entries =
+    reverse (lone 1001 (offer_x 1002 first) (degree 1) ∷ joining 1002 (offer_x 1001 second) (degree 2) 1 2 ∷ entries)
+
+-- the journal with another answer at a place
+abbrev pub with_answer : ℕ → PlainAnswer → Entries → Entries
+with_answer place answer [] = []
+with_answer place answer (e ∷ journal) =
+    if place == next_place journal then record e { answer = answer } ∷ journal else e ∷ with_answer place answer journal
+
+-- with another act
+abbrev pub with_act : ℕ → Act → Entries → Entries
+with_act place act [] = []
+with_act place act (e ∷ journal) =
+    if place == next_place journal then record e { act = act } ∷ journal else e ∷ with_act place act journal
+
+-- with other pairs
+abbrev pub with_made : ℕ → List Pair → Entries → Entries
+with_made place made [] = []
+with_made place made (e ∷ journal) =
+    if place == next_place journal then record e { made = made } ∷ journal else e ∷ with_made place made journal

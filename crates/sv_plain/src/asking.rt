@@ -1,0 +1,138 @@
+ghost use Rattle.std.specs.Prelude.{◌≡◌, ◌==◌, IfOk, map, filter};
+ghost use Rattle.sv_events.specs.Answer.{plain_answer};
+ghost use Rattle.sv_plain.specs.Placing.{GoesOver};
+ghost use Rattle.sv_rules.specs.Coupling.{couplings, open_to};
+ghost use Rattle.sv_rules.specs.Entries.{Entries};
+ghost use Rattle.sv_rules.specs.Journal.{journal_of};
+ghost use Rattle.sv_rules.specs.Questions.{answer_to_question, ascending, degree_of, with_number};
+ghost use Rattle.sv_rules.specs.Standing.{standing};
+
+use crate::holding::{control_in_force, state_vector};
+use apl_arrays::{List, NameList, PartyList, WantOfMemory};
+use std::alloc::Global;
+use sv_events::{Answer, Entry, Question};
+use sv_rules::{Made, Standing, degree_at, is_coupled, own_offer};
+
+/// The degree of a name: 0 without an offer, 2 where it is coupled, else 1. No memory.
+pub fn degree_of(coupled: &[Made], own: Option<Standing>) -> u8
+    ensures { (journal : Entries) → coupled.now ≡ couplings journal → result ≡ degree_of journal own }
+{
+    match own {
+        None => 0,
+        Some(offer) => degree_at(coupled, offer.place),
+    }
+}
+
+/// The open offers made to a party by its number, by place. It takes memory for them.
+pub fn open_to(
+    alloc: Global,
+    entries: &[Entry],
+    offers: &[Standing],
+    coupled: &[Made],
+    party: u32,
+) -> Result<Vec<Standing>, WantOfMemory>
+    requires offers { offers.now ≡ standing (journal_of entries.now) }
+    requires coupled { coupled.now ≡ couplings (journal_of entries.now) }
+    ensures { IfOk result (λ list. list.items ≡ open_to (journal_of entries.now) party) }
+{
+    let mut opened = Vec::from_slice(alloc, offers)?;
+    opened.retain(|offer| !is_coupled(coupled, offer.place));
+    opened.retain(|offer| offer.to == party);
+    Ok(opened)
+}
+
+// One number of an ascending list, with a new one before it where that has its place there; whether the new one is placed.
+fn place_at(
+    numbers: &mut PartyList,
+    placed: bool,
+    new: u32,
+    number: u32,
+) -> Result<bool, WantOfMemory>
+    ensures { IfOk result (λ now. GoesOver numbers.old.items placed numbers.new.items now new number) }
+{
+    if !placed && new < number {
+        numbers.push(new)?;
+    }
+    numbers.push(number)?;
+    Ok(placed || new <= number)
+}
+
+// Ascending numbers with one more, each once.
+fn with_number(alloc: Global, new: u32, numbers: &[u32]) -> Result<PartyList, WantOfMemory>
+    ensures { IfOk result (λ list. list.items ≡ with_number new numbers.now) }
+{
+    let mut list = List::new(alloc);
+    let mut placed = false;
+    for number in numbers {
+        placed = place_at(&mut list, placed, new, *number)?;
+    }
+    if !placed {
+        list.push(new)?;
+    }
+    Ok(list)
+}
+
+// The parties of some offers, ascending, each once.
+fn parties_of(alloc: Global, offers: &[Standing]) -> Result<PartyList, WantOfMemory>
+    ensures { IfOk result (λ list. list.items ≡ ascending (map (λ offer. offer.party) offers.now)) }
+{
+    let mut list = List::new(alloc);
+    let mut left = offers.len();
+    while left > 0 {
+        left -= 1;
+        list = with_number(alloc, offers[left].party, list.as_slice())?;
+    }
+    Ok(list)
+}
+
+// The surrogates of a party's offers among some, in their order.
+fn names_of(alloc: Global, offers: &[Standing], from: u32) -> Result<NameList, WantOfMemory>
+    ensures { IfOk result (λ list. list.items ≡ map (λ offer. offer.surrogate) (filter (λ offer. offer.party == from) offers.now)) }
+{
+    let mut list = List::new(alloc);
+    for offer in offers {
+        if offer.party == from {
+            list.push(offer.surrogate)?;
+        }
+    }
+    Ok(list)
+}
+
+/// What a question of a party is answered. It takes memory for the answer, and for a state for the offers and the couplings
+/// of each entry in turn.
+pub fn answer_to_question(
+    alloc: Global,
+    entries: &[Entry],
+    offers: &[Standing],
+    coupled: &[Made],
+    party: u32,
+    question: &Question,
+) -> Result<Answer, WantOfMemory>
+    requires offers { offers.now ≡ standing (journal_of entries.now) }
+    requires coupled { coupled.now ≡ couplings (journal_of entries.now) }
+    ensures { IfOk result (λ answer. plain_answer answer ≡ answer_to_question (journal_of entries.now) party question.now) }
+{
+    match question {
+        Question::Control(local) => {
+            let own = own_offer(offers, party, local);
+            Ok(Answer::Vector(control_in_force(entries, offers, coupled, own)))
+        }
+        Question::State(local) => {
+            let own = own_offer(offers, party, local);
+            let vector = state_vector(alloc, entries, offers, coupled, own)?;
+            Ok(Answer::Vector(vector))
+        }
+        Question::Degree(local) => {
+            let own = own_offer(offers, party, local);
+            Ok(Answer::Degree(degree_of(coupled, own)))
+        }
+        Question::Parties => {
+            let opened = open_to(alloc, entries, offers, coupled, party)?;
+            Ok(Answer::Parties(parties_of(alloc, &opened)?))
+        }
+        Question::Names(from) => {
+            let opened = open_to(alloc, entries, offers, coupled, party)?;
+            Ok(Answer::Names(names_of(alloc, &opened, *from)?))
+        }
+    }
+}

@@ -1,0 +1,9 @@
+pub mod StoryLemmas
+pub mod AccessLemmas
+pub mod AnswerLemmas
+pub mod OpeningLemmas
+pub mod ControlLemmas
+pub mod WaitLemmas
+pub mod AuxiliaryLemmas
+pub mod WorkLemmas
+pub mod StepLemmas

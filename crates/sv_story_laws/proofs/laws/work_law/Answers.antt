@@ -1,0 +1,23 @@
+use Rattle.sv_story_laws.proofs.WorkLemmas.{first_open_is_lowest, first_coupled_is_lowest, control_is_lacking, replies_are_owed_to_uses, since_are_the_newest, full_journals_leave_no_work, questions_tell_parties}
+use Rattle.sv_story_laws.proofs.laws.work_law.Goals as goal
+
+pub returns-clause-opened : goal.returns-clause-opened
+returns-clause-opened c = first_open_is_lowest
+
+pub returns-clause-coupled : goal.returns-clause-coupled
+returns-clause-coupled c = first_coupled_is_lowest
+
+pub returns-clause-lacking : goal.returns-clause-lacking
+returns-clause-lacking c = control_is_lacking
+
+pub returns-clause-owed : goal.returns-clause-owed
+returns-clause-owed c = replies_are_owed_to_uses
+
+pub returns-clause-since : goal.returns-clause-since
+returns-clause-since c = since_are_the_newest
+
+pub returns-clause-full : goal.returns-clause-full
+returns-clause-full c = full_journals_leave_no_work
+
+pub returns-clause-parties : goal.returns-clause-parties
+returns-clause-parties c = questions_tell_parties

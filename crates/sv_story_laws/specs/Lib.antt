@@ -1,0 +1,5 @@
+pub mod StoryLaws
+pub mod ControlLaws
+pub mod WaitLaws
+pub mod WorkLaws
+pub mod StepLaws

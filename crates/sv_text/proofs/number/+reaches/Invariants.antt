@@ -1,0 +1,4 @@
+use Rattle.sv_text.proofs.number.+reaches.Given as goal
+
+abbrev pub decreases-reaches : goal.decreases-reaches
+decreases-reaches l = l.digits

@@ -1,0 +1,103 @@
+ghost use Rattle.std.specs.Prelude.{◌≡◌, ◌≤◌, ◌^◌, ◌+◌, IfOk, OnOk, length, pos, neg_ℤ};
+ghost use Rattle.sv_text.specs.Reading.{Gives, always, list_at, read_behind, step_at};
+ghost use Rattle.sv_text.specs.ValueReading.{integer_at, negative_at, next_integer_at, numbers_at, positive_at};
+
+use crate::cursor::Cursor;
+use crate::unread::Unread;
+use apl_arrays::{Glyph, List, NumberList};
+use std::alloc::Global;
+
+/// Reads so many numbers, with one blank between each two. It takes memory for them.
+#[tactic(auto, unfolding(crate::specs::ValueReading::numbers_at))]
+pub(crate) fn read_numbers(
+    alloc: Global,
+    cursor: &mut Cursor<'_>,
+    count: usize,
+) -> Result<NumberList, Unread>
+    ensures value { Gives (λ list. (list.items, cursor.new)) result (numbers_at count cursor.old) }
+    ensures count { IfOk result (λ list. length list.items ≡ count) }
+{
+    let mut numbers = List::new(alloc);
+    if count == 0 {
+        Ok(numbers)
+    } else {
+        let first = read_integer(cursor)?;
+        numbers.push(first)?;
+        add_numbers(cursor, &mut numbers, count - 1)?;
+        Ok(numbers)
+    }
+}
+
+// Reads so many numbers more, each behind a blank.
+fn add_numbers(
+    cursor: &mut Cursor<'_>,
+    numbers: &mut NumberList,
+    count: usize,
+) -> Result<(), Unread>
+    ensures value { Gives (λ _. (numbers.new.items, cursor.new)) result (read_behind numbers.old.items (list_at always next_integer_at count cursor.old)) }
+    ensures count { OnOk result (length numbers.new.items ≡ length numbers.old.items + count) }
+{
+    for _ in 0..count {
+        add_number(cursor, numbers)?;
+    }
+    Ok(())
+}
+
+// Reads a number more, behind a blank.
+fn add_number(cursor: &mut Cursor<'_>, numbers: &mut NumberList) -> Result<(), Unread>
+    ensures value { Gives (λ _. (numbers.new.items, cursor.new)) result (step_at always next_integer_at numbers.old.items cursor.old) }
+    ensures one { OnOk result (length numbers.new.items ≡ length numbers.old.items + 1) }
+{
+    let number = read_next_integer(cursor)?;
+    numbers.push(number)?;
+    Ok(())
+}
+
+// Reads a number behind a blank.
+#[tactic(auto, unfolding(crate::specs::ValueReading::next_integer_at))]
+fn read_next_integer(cursor: &mut Cursor<'_>) -> Result<i64, Unread>
+    ensures { Gives (λ number. (number, cursor.new)) result (next_integer_at cursor.old) }
+{
+    cursor.text(b" ")?;
+    read_integer(cursor)
+}
+
+// Reads a number, behind ¯ where it is negative.
+fn read_integer(cursor: &mut Cursor<'_>) -> Result<i64, Unread>
+    ensures { Gives (λ number. (number, cursor.new)) result (integer_at cursor.old) }
+{
+    if cursor.first() == Some(Glyph::OVERBAR) {
+        cursor.skip();
+        read_negative(cursor)
+    } else {
+        read_positive(cursor)
+    }
+}
+
+// Reads the magnitude of a negative number.
+fn read_negative(cursor: &mut Cursor<'_>) -> Result<i64, Unread>
+    ensures { Gives (λ number. (number, cursor.new)) result (negative_at cursor.old) }
+{
+    let magnitude = cursor.number(1, 1 << 63)?;
+    Ok(negative(magnitude))
+}
+
+// Reads a number that is not negative.
+fn read_positive(cursor: &mut Cursor<'_>) -> Result<i64, Unread>
+    ensures { Gives (λ number. (number, cursor.new)) result (positive_at cursor.old) }
+{
+    let magnitude = cursor.number(0, (1 << 63) - 1)?;
+    Ok(magnitude as i64)
+}
+
+// The negative number of a magnitude.
+fn negative(magnitude: u64) -> i64
+    requires { magnitude ≤ 2 ^ 63 }
+    ensures { result ≡ neg_ℤ (pos magnitude) }
+{
+    if magnitude < 1 << 63 {
+        -(magnitude as i64)
+    } else {
+        i64::MIN
+    }
+}

@@ -1,0 +1,98 @@
+ghost use Rattle.std.specs.Prelude.{◌≡◌, length};
+ghost use Rattle.apl_arrays.specs.Array.{PlainArray};
+ghost use Rattle.sv_text.specs.ReadsValue.{ReadsValue, ReadsThis, refusal};
+ghost use Rattle.sv_text.specs.Reading.{Gives};
+ghost use Rattle.sv_text.specs.Value.{IsValue};
+ghost use Rattle.sv_text.specs.ValueReading.{array_at, value_at, numbers_array_at, chars_array_at};
+ghost use Rattle.sv_text.specs.ValueText.{array_text};
+
+use crate::chars::read_quoted;
+use crate::cursor::Cursor;
+use crate::numbers::read_numbers;
+use crate::shape::read_shape;
+use crate::unread::{Unread, ValueRefused};
+use apl_arrays::{Array, Items, Line, count_of_elements};
+use std::alloc::Global;
+
+/// The array whose text a line is. `BadValue` where it is no array's text, else `WantOfMemory`. It takes memory for the
+/// array.
+pub fn value_of(alloc: Global, line: &Line) -> Result<Array, ValueRefused>
+    ensures value { ReadsValue result line.now.items }
+    ensures again { (array : PlainArray) → IsValue array → line.now.items ≡ array_text array → ReadsThis result array }
+{
+    let mut cursor = Cursor::new(line.as_slice());
+    match read_array(alloc, &mut cursor) {
+        Ok(array) => whole_value(&cursor, array),
+        Err(why) => Err(refused(why)),
+    }
+}
+
+// Why the line is refused, where the reading stops so.
+fn refused(why: Unread) -> ValueRefused
+    ensures { result ≡ refusal why }
+{
+    match why {
+        Unread::Left(_) => ValueRefused::BadValue,
+        Unread::WantOfMemory => ValueRefused::WantOfMemory,
+    }
+}
+
+// The array that was read, where nothing is left behind it.
+fn whole_value(cursor: &Cursor<'_>, array: Array) -> Result<Array, ValueRefused>
+    ensures whole { length cursor.now ≡ 0 → result ≡ Ok array }
+    ensures more { (length cursor.now ≡ 0 → ⊥) → result ≡ Err ValueRefused.BadValue }
+{
+    if cursor.left() == 0 {
+        Ok(array)
+    } else {
+        Err(ValueRefused::BadValue)
+    }
+}
+
+/// Reads a value, which is an array or `none`. It takes memory for the array.
+#[tactic(auto, unfolding(crate::specs::ValueReading::value_at))]
+pub fn read_value(alloc: Global, cursor: &mut Cursor<'_>) -> Result<Option<Array>, Unread>
+    ensures { Gives (λ value. (value, cursor.new)) result (value_at cursor.old) }
+{
+    match cursor.first() {
+        Some(first) if first.code() == b'n' => {
+            cursor.text(b"none")?;
+            Ok(None)
+        }
+        _ => Ok(Some(read_array(alloc, cursor)?)),
+    }
+}
+
+/// Reads an array. It takes memory for it.
+#[tactic(auto, unfolding(crate::specs::ValueReading::array_at))]
+pub fn read_array(alloc: Global, cursor: &mut Cursor<'_>) -> Result<Array, Unread>
+    ensures { Gives (λ array. (array, cursor.new)) result (array_at cursor.old) }
+{
+    match cursor.first() {
+        Some(first) if first.code() == b'N' => read_number_array(alloc, cursor),
+        Some(first) if first.code() == b'C' => read_char_array(alloc, cursor),
+        _ => Err(cursor.stops()),
+    }
+}
+
+// Reads an array of numbers.
+#[tactic(auto, unfolding(crate::specs::ValueReading::numbers_array_at))]
+fn read_number_array(alloc: Global, cursor: &mut Cursor<'_>) -> Result<Array, Unread>
+    ensures { Gives (λ array. (array, cursor.new)) result (numbers_array_at cursor.old) }
+{
+    cursor.text(b"N(")?;
+    let shape = read_shape(alloc, cursor)?;
+    let numbers = read_numbers(alloc, cursor, count_of_elements(shape.as_slice()))?;
+    Ok(Array::shaped(shape.as_slice(), Items::Numbers(numbers)))
+}
+
+// Reads an array of characters.
+#[tactic(auto, unfolding(crate::specs::ValueReading::chars_array_at))]
+fn read_char_array(alloc: Global, cursor: &mut Cursor<'_>) -> Result<Array, Unread>
+    ensures { Gives (λ array. (array, cursor.new)) result (chars_array_at cursor.old) }
+{
+    cursor.text(b"C(")?;
+    let shape = read_shape(alloc, cursor)?;
+    let chars = read_quoted(alloc, cursor, count_of_elements(shape.as_slice()))?;
+    Ok(Array::shaped(shape.as_slice(), Items::Chars(chars)))
+}
