@@ -2,7 +2,7 @@
 use Rattle.std.proofs.Common.{◌≡◌, refl, sym, ap, ◌∙◌, subst, ℕ, ◌<◌, Bool, true, false, ◌&&◌, ◌||◌, eqb, List, [], ◌∷◌, ◌++◌, Option, Some, None, arith}
 use Rattle.std.specs.Prelude.{Contains, IsTrue, IsSome, if◌then◌else◌}
 use Rattle.std.specs.List.{list_any}
-use Rattle.std.proofs.lemmas.Bool.{or_parts, and_from}
+use Rattle.std.proofs.lemmas.Bool.{or_right}
 use Rattle.sv_cells.specs.Cells.{PutsAt, cell_at}
 use Rattle.sv_cells.specs.declared.cell.Cell.{Cell}
 use Rattle.sv_cells.specs.declared.cells.Cells.{Cells}
@@ -18,7 +18,11 @@ use Rattle.sv_rules.specs.Standing.{is_ended, standing}
 use Rattle.sv_rules.specs.declared.coupling.Coupling.{Coupling}
 use Rattle.sv_rules.specs.declared.coupling.Made.{Made}
 use Rattle.sv_rules.specs.declared.standing.Standing.{Standing}
-use Rattle.sv_core.specs.Updating.{CouplesAll, FitsSome, IsToCouple, KeepsOthers, PartsAll}
+use Rattle.sv_core.specs.Updating.{CouplesAll, FitsSome, IsToCouple, Closes, PartsAll}
+
+or_false : (b : Bool) → (b || false) ≡ b
+or_false true = refl
+or_false false = refl
 
 -- before the first offer nothing has changed
 pub parts_begin : (offers : List Standing) (coupled : List Made) (party : ℕ) (ending : Ending) (cells : Cells) → PartsAll offers coupled party ending [] cells cells
@@ -55,23 +59,30 @@ parts_others offers coupled party ending gone o old cells stays so_far journal f
     cells_alike journal (Contains offers) (coupled_without offers coupled gone party ending) (coupled_without offers coupled (gone ++ o ∷ []) party ending) cells
     (parts_none offers coupled gone party ending o stays) (so_far journal fit)
 
--- the cell of an offer that ends goes
-pub keeps_more : (gone : List Standing) (party : ℕ) (ending : Ending) (o : Standing) (old cells cells' : Cells) → is_ended party ending o ≡ true → KeepsOthers gone party ending old cells → PutsAt cells cells' o.place None →
-    KeepsOthers (gone ++ o ∷ []) party ending old cells'
-keeps_more gone party ending o old cells cells' ends so_far puts at h =
-    let parts = or_parts (list_any (λ (x : Standing). is_ended party ending x && eqb x.place at) gone) (is_ended party ending o && eqb o.place at)
-    (sym (list_any-more (λ (x : Standing). is_ended party ending x && eqb x.place at) gone o) ∙ h) in
-    let other : eqb o.place at ≡ false = ap (λ (b : Bool). b && eqb o.place at) (sym ends) ∙ parts.1 in
-    puts at ∙ ap (λ (b : Bool). if b then None else cell_at cells at) other ∙ so_far at parts.0
+-- an offer that ends goes, with its cell
+pub closes_more : (gone : List Standing) (party : ℕ) (ending : Ending) (o : Standing) (old cells cells' : Cells) → is_ended party ending o ≡ true → Closes gone party ending old cells → PutsAt cells cells' o.place None →
+    Closes (gone ++ o ∷ []) party ending old cells'
+closes_more gone party ending o old cells cells' ends so_far puts at =
+    puts at ∙ by (eqb o.place at) (so_far at) ∙ ap (λ (b : Bool). if b then None else cell_at old at) (sym more)
+  where
+    before : Bool
+    before = list_any (λ (x : Standing). is_ended party ending x && eqb x.place at) gone
 
-pub keeps_others : (gone : List Standing) (party : ℕ) (ending : Ending) (o : Standing) (old cells : Cells) → KeepsOthers gone party ending old cells → KeepsOthers (gone ++ o ∷ []) party ending old cells
-keeps_others gone party ending o old cells so_far at h =
-    so_far at (or_parts (list_any (λ (x : Standing). is_ended party ending x && eqb x.place at) gone) (is_ended party ending o && eqb o.place at)
-    (sym (list_any-more (λ (x : Standing). is_ended party ending x && eqb x.place at) gone o) ∙ h)).0
+    more : list_any (λ (x : Standing). is_ended party ending x && eqb x.place at) (gone ++ o ∷ []) ≡ (before || eqb o.place at)
+    more = list_any-more (λ (x : Standing). is_ended party ending x && eqb x.place at) gone o ∙ ap (λ (b : Bool). before || (b && eqb o.place at)) ends
 
--- before the first pair
-pub couples_begin : (pairs : List Pair) (cells : Cells) → CouplesAll pairs cells cells []
-couples_begin pairs cells ready = ready.fit
+    by : (here : Bool) → cell_at cells at ≡ (if before then None else cell_at old at) → (if here then None else cell_at cells at) ≡ (if before || here then None else cell_at old at)
+    by true h = ap (λ (b : Bool). if b then None else cell_at old at) (sym (or_right before true refl))
+    by false h = h ∙ ap (λ (b : Bool). if b then None else cell_at old at) (sym (or_false before))
+
+-- another stays
+pub closes_others : (gone : List Standing) (party : ℕ) (ending : Ending) (o : Standing) (old cells : Cells) → is_ended party ending o ≡ false → Closes gone party ending old cells → Closes (gone ++ o ∷ []) party ending old cells
+closes_others gone party ending o old cells stays so_far at =
+    so_far at
+    ∙ ap (λ (b : Bool). if b then None else cell_at old at)
+    (sym (list_any-more (λ (x : Standing). is_ended party ending x && eqb x.place at) gone o
+    ∙ ap (λ (b : Bool). list_any (λ (x : Standing). is_ended party ending x && eqb x.place at) gone || (b && eqb o.place at)) stays
+    ∙ or_false (list_any (λ (x : Standing). is_ended party ending x && eqb x.place at) gone)))
 
 -- the offers of a pair may be coupled
 pub may_couple : (pairs taken : List Pair) (pair : Pair) (old cells : Cells) → IsToCouple old pairs → Contains pairs pair → CouplesAll pairs old cells taken →

@@ -80,11 +80,6 @@ open_state users journal legal offer has none =
     by true = refl
     by false = refl
 
--- what a side of a coupling knows
-pub side_knows : (journal : Entries) (coupling : Coupling) (share : PlainShare) → FitsShare journal coupling share → (side : Side) → known_to share side ≡ known journal (offer_on coupling side)
-side_knows journal coupling share fits A = fits.a
-side_knows journal coupling share fits B = fits.b
-
 -- the offer of a coupling that has a place is that of its side
 pub on_its_side : (users : List ℕ) (journal : Entries) → IsLegal users journal → (offer : Standing) → Contains (standing journal) offer → (coupling : Coupling) → coupling_now journal offer.place ≡ Some coupling →
     offer_on coupling (side_at coupling offer.place) ≡ offer
@@ -105,10 +100,6 @@ on_its_side users journal legal offer has coupling now = by (eqb coupling.a.plac
 pub copied_some : {X : Type 0} (o : Option (Bor X)) (x : X) → option_copied o ≡ Some x → IsSome o
 copied_some None x h = absurd (none-some x h)
 copied_some (Some b) x h = refl
-
-pub copied_is : {X : Type 0} (o : Option (Bor X)) → is_some (option_copied o) ≡ is_some o
-copied_is None = refl
-copied_is (Some b) = refl
 
 -- the lower offer of a coupling has it
 pub at_its_a : (users : List ℕ) (journal : Entries) → IsLegal users journal → (place : ℕ) (coupling : Coupling) → coupling_now journal place ≡ Some coupling → coupling_now journal coupling.a.place ≡ Some coupling

@@ -51,10 +51,6 @@ pub present-stay : (users : List ℕ) (journal : Entries) (e : PlainEntry) → i
 present-stay users journal e h =
     count_by_agree (λ user. not (has_left (e ∷ journal) user)) (λ user. not (has_left journal user)) (λ user. ap not (has_left-stay journal e user h)) users
 
-pub not_true : (b : Bool) → not b ≡ true → b ≡ false
-not_true true h = sym h
-not_true false h = refl
-
 -- a log with one entry more, and room for a leave of each user
 pub record IsEntered (old new : PlainLog) (e : PlainEntry) : Type 0 where
   pub users : new.users ≡ old.users
@@ -84,13 +80,6 @@ core_is core old new party act is users journal =
     ap (λ (us : List ℕ). let c : PlainCore = record { users = us; journal = new.journal } in c) users
     ∙ ap (λ (j : Entries). let c : PlainCore = record { users = old.users; journal = j } in c) journal
     ∙ ap (λ (c : PlainCore). core_after c party act) is
-
--- the core is the same
-pub core_stays : (core : PlainCore) (old new : PlainLog) → (let c : PlainCore = record { users = old.users; journal = old.journal } in c) ≡ core → new.users ≡ old.users → new.journal ≡ old.journal →
-    (let c : PlainCore = record { users = new.users; journal = new.journal } in c) ≡ core
-core_stays core old new is users journal =
-    ap (λ (us : List ℕ). let c : PlainCore = record { users = us; journal = new.journal } in c) users
-    ∙ ap (λ (j : Entries). let c : PlainCore = record { users = old.users; journal = j } in c) journal ∙ is
 
 -- equal cells fit alike
 pub fit_kept : (journal : Entries) (cells cells' : Cells) → KeepsCells cells cells' → FitCells journal cells → FitCells journal cells'

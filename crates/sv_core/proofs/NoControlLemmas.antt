@@ -12,7 +12,7 @@ use Rattle.sv_events.specs.declared.event.Hold.{Hold}
 use Rattle.sv_rules.specs.Entries.{Entries, is_abandoned, is_full, is_held, kind_of}
 use Rattle.sv_rules.specs.Legal.{IsLegal, answer_to}
 use Rattle.sv_rules.specs.Outcome.{outcome}
-use Rattle.sv_rules.specs.Refused.{awaited, waits}
+use Rattle.sv_rules.specs.Refused.{waits}
 use Rattle.sv_story_laws.proofs.AnswerLemmas.{Answered, answered, given_up, held_first, unrefused}
 use Rattle.sv_story_laws.proofs.ControlLemmas.{nothing_is_refused_without_control}
 use Rattle.sv_story_laws.specs.WaitLaws.{SetNoControl}
@@ -63,11 +63,3 @@ nobody_waits users (e ∷ journal) legal none party = by (nobody_waits users jou
     by : waits journal party ≡ false → (b : Bool) → eqb e.party party ≡ b → waits (e ∷ journal) party ≡ false
     by before true is = rw is (ap (λ (b : Bool). is_some (if b then Some e.act else None)) (entry_is_plain users journal e legal none).0)
     by before false is = rw is before
-
-none_there : (o : Option Act) → is_some o ≡ false → o ≡ None
-none_there None h = refl
-none_there (Some act) h = absurd (let no : true ≡ false = h in cc)
-
--- no act is waited for
-pub nothing_is_awaited : (users : List ℕ) (journal : Entries) → IsLegal users journal → SetNoControl journal → (party : ℕ) → awaited journal party ≡ None
-nothing_is_awaited users journal legal none party = none_there (awaited journal party) (nobody_waits users journal legal none party)

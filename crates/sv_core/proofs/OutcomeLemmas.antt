@@ -32,14 +32,6 @@ outcome_of_access journal party (Set local new) access h = ap (access_outcome jo
 outcome_of_access journal party (Use local) access h = ap (access_outcome journal party) (same_Some _ access h)
 outcome_of_access journal party _ access h = absurd (none-some access h)
 
-pub outcome_of_question : (journal : Entries) (party : ℕ) (act : Act) (asked : Question) → (act_row act).row.asks ≡ Some asked → outcome journal party act ≡ question_outcome journal party asked
-outcome_of_question journal party (AskControl local) asked h = ap (question_outcome journal party) (same_Some _ asked h)
-outcome_of_question journal party (AskState local) asked h = ap (question_outcome journal party) (same_Some _ asked h)
-outcome_of_question journal party (AskDegree local) asked h = ap (question_outcome journal party) (same_Some _ asked h)
-outcome_of_question journal party AskParties asked h = ap (question_outcome journal party) (same_Some _ asked h)
-outcome_of_question journal party (AskNames from) asked h = ap (question_outcome journal party) (same_Some _ asked h)
-outcome_of_question journal party _ asked h = absurd (none-some asked h)
-
 -- the answer to a control of a standing offer
 pub control_answered : (journal : Entries) (party : ℕ) (act : Act) (set : Controlling) (offer : Standing) → (act_row act).row.controls ≡ Some set → own_offer (standing journal) party set.local ≡ Some offer →
     vector (in_force_with journal set.control offer) ≡ (outcome journal party act).answer

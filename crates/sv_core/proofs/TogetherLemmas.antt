@@ -1,6 +1,6 @@
 -- Where offers end together, the steps one after another keep the cells.
 use Rattle.std.proofs.Common.{◌≡◌, refl, sym, ap, ◌∙◌, subst, ℕ, ◌+◌, ◌≤◌, Bool, true, false, ◌&&◌, eqb, List, [], ◌∷◌, ◌++◌, length, map, Option, Some, None, arith}
-use Rattle.std.specs.Prelude.{Contains, IsTrue}
+use Rattle.std.specs.Prelude.{Contains, IsTrue, if◌then◌else◌}
 use Rattle.std.specs.List.{list_any}
 use Rattle.std.proofs.lemmas.Bool.{cases_Bool, and_parts, both_ways, eqb-true}
 use Rattle.std.proofs.lemmas.List.Folds.{Any-from_list_any}
@@ -20,7 +20,7 @@ use Rattle.sv_rules.specs.Entries.{Entries}
 use Rattle.sv_rules.specs.Standing.{is_ended, standing}
 use Rattle.sv_rules.specs.declared.coupling.Made.{Made}
 use Rattle.sv_rules.specs.declared.standing.Standing.{Standing}
-use Rattle.sv_core.specs.Updating.{CouplesAll, FitsSome, IsEnding, IsToCouple, IsToEnd, KeepsOthers, PartsAll}
+use Rattle.sv_core.specs.Updating.{CouplesAll, FitsSome, IsEnding, IsToCouple, IsToEnd, Closes, PartsAll}
 
 -- what holds of the offers and couplings of the journal holds of the table
 pub tables : (offers : PlainOffers) (journal : Entries) → offers.offers ≡ standing journal → offers.coupled ≡ couplings journal → (P : List Standing → List Made → Type 0) → P (standing journal) (couplings journal) → P offers.offers offers.coupled
@@ -59,7 +59,7 @@ ending_pairs offers cells at party ending users journal e is =
 
 -- once the offers that end are parted and gone, the cells fit but for the new pairs
 pub ready_to_couple : (offers : PlainOffers) (cells c1 c2 : Cells) (at party : ℕ) (ending : Ending) (users : List ℕ) (journal : Entries) (e : PlainEntry) → IsEnding offers cells at party ending users journal e →
-    PartsAll offers.offers offers.coupled party ending offers.offers cells c1 → KeepsOthers offers.offers party ending c1 c2 → (pairs : List Pair) → e.made ≡ pairs → IsToCouple c2 pairs
+    PartsAll offers.offers offers.coupled party ending offers.offers cells c1 → Closes offers.offers party ending c1 c2 → (pairs : List Pair) → e.made ≡ pairs → IsToCouple c2 pairs
 ready_to_couple offers cells c1 c2 at party ending users journal e is parts keeps pairs made = record {
   users = users;
   journal = journal;
@@ -91,11 +91,11 @@ ready_to_couple offers cells c1 c2 at party ending users journal e is parts keep
         ∙ ap (λ ms. coupled_without (standing journal) ms (standing journal) party ending q.place) is.couple
         ∙ ap (λ p. coupled_without (standing journal) (couplings journal) (standing journal) p ending q.place) (sym is.own)
         ∙ without_is_older users journal e ending is.legal is.ends q has ∙ none_taken (e ∷ journal) q.place in
-        (old.0, keeps q.place (none_there q left.0 stays _ refl) ∙ old.1, subst (FitsIn (e ∷ journal) q old.0) same old.2)
+        (old.0, keeps q.place ∙ ap (λ (b : Bool). if b then None else cell_at c1 q.place) (none_there q left.0 stays _ refl) ∙ old.1, subst (FitsIn (e ∷ journal) q old.0) same old.2)
 
 -- and once these are coupled, they fit
 pub ends_all : (offers : PlainOffers) (cells c1 c2 c3 : Cells) (at party : ℕ) (ending : Ending) (pairs : List Pair) → PartsAll offers.offers offers.coupled party ending offers.offers cells c1 →
-    KeepsOthers offers.offers party ending c1 c2 → CouplesAll pairs c2 c3 pairs → pairs ≡ pairs_made at offers party ending →
+    Closes offers.offers party ending c1 c2 → CouplesAll pairs c2 c3 pairs → pairs ≡ pairs_made at offers party ending →
     (users : List ℕ) (journal : Entries) (e : PlainEntry) → IsEnding offers cells at party ending users journal e → FitCells (e ∷ journal) c3
 unfolding ready_to_couple
 ends_all offers cells c1 c2 c3 at party ending pairs parts keeps couples made users journal e is =

@@ -1,5 +1,5 @@
 -- What becomes of the cells of a party's offer, by its coupling.
-use Rattle.std.specs.Prelude.{◌≡◌, ◌<◌, ℕ, ◌==◌, ◌&&◌, false, List, [], ◌∷◌, Contains, Option, Some, None, IsSome, option_and_then}
+use Rattle.std.specs.Prelude.{◌≡◌, ◌<◌, ℕ, ◌==◌, ◌&&◌, List, [], ◌∷◌, Contains, Option, Some, None, IsSome, option_and_then, if◌then◌else◌}
 use Rattle.std.specs.List.{list_any}
 use Rattle.apl_arrays.specs.Array.{PlainArray}
 use Rattle.sv_cells.specs.Cell.{known_alone, share_in}
@@ -63,9 +63,9 @@ abbrev pub PartsAll : List Standing → List Made → ℕ → Ending → List St
 PartsAll offers coupled party ending gone old new =
     (journal : Entries) → CellsIn journal (Contains offers) (coupling_at offers coupled) old → CellsIn journal (Contains offers) (coupled_without offers coupled gone party ending) new
 
--- the cells are the same but at the places of those of these offers that end
-abbrev pub KeepsOthers : List Standing → ℕ → Ending → Cells → Cells → Type 0
-KeepsOthers gone party ending old new = (at : ℕ) → list_any (λ offer. is_ended party ending offer && offer.place == at) gone ≡ false → cell_at new at ≡ cell_at old at
+-- the cells of those of these offers that end are gone, and the others are the same
+abbrev pub Closes : List Standing → ℕ → Ending → Cells → Cells → Type 0
+Closes gone party ending old new = (at : ℕ) → cell_at new at ≡ (if list_any (λ offer. is_ended party ending offer && offer.place == at) gone then None else cell_at old at)
 
 -- the cells fit a journal but for the pairs that its newest entry makes
 pub record IsToCouple (cells : Cells) (pairs : List Pair) : Type 0 where

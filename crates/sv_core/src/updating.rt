@@ -6,7 +6,7 @@ ghost use Rattle.sv_cells.specs.declared.cell.Held.TheVariants.{Alone, Shared};
 ghost use Rattle.sv_story.specs.Share.{PlainShare, shared_value};
 ghost use Rattle.sv_cell_laws.specs.Ends.{IsTable, MayPart, Parts, share_at};
 ghost use Rattle.sv_cells.specs.Cells.{ChangesAt, CouplesAt, KeepsCells, PartsAt, cell_at};
-ghost use Rattle.sv_core.specs.Updating.{Answers, CouplesAll, EndsAll, FitsSome, IsReady, IsToCouple, IsToEnd, Joined, KeepsOthers, MayJoin, PartsAll, degree_with, value_at};
+ghost use Rattle.sv_core.specs.Updating.{Answers, CouplesAll, EndsAll, FitsSome, IsReady, IsToCouple, IsToEnd, Joined, Closes, MayJoin, PartsAll, degree_with, value_at};
 ghost use Rattle.sv_offers.specs.Table.{after_ending, pairs_made};
 ghost use Rattle.sv_rules.specs.Coupling.{coupling_at, pair_of, reopened_by_ending};
 ghost use Rattle.sv_rules.specs.Standing.{is_ended};
@@ -66,7 +66,7 @@ fn part_all(offers: &Offers, cells: &mut Cells, party: u32, ending: &Ending)
 
 // The cells of the offers that an act of a party ends go. No memory.
 fn close_all(offers: &[Standing], cells: &mut Cells, party: u32, ending: &Ending)
-    ensures { KeepsOthers offers.now party ending.now cells.old cells.new }
+    ensures { Closes offers.now party ending.now cells.old cells.new }
 {
     for offer in offers {
         if is_ended(party, ending, offer) {

@@ -2,7 +2,7 @@ use Rattle.std.proofs.Common.{◌≡◌, ap, sym, ◌∙◌, subst, ◌++◌, Li
 use Rattle.sv_events.specs.declared.entry.Pair.{Pair}
 use Rattle.sv_rules.specs.declared.standing.Standing.{Standing}
 use Rattle.sv_offers.specs.Table.{pairs_made}
-use Rattle.sv_core.specs.Updating.{KeepsOthers}
+use Rattle.sv_core.specs.Updating.{Closes}
 use Rattle.sv_core.proofs.TogetherLemmas.{ending_fits, ending_no_more, ending_pairs, ending_table, ends_all, ready_to_couple}
 use Rattle.sv_core.proofs.updating.end_together.Goals.{After-as_slice-2}
 use Rattle.sv_core.proofs.updating.end_together.Goals as goal
@@ -23,8 +23,8 @@ pairs_are c =
     ∙ ap (λ (xs : List Pair). xs ++ pairs_made c.args.at c.args.offers.now c.args.party c.args.ending) c.requires.none
 
 -- the cells of the other offers stay
-keeps : (c : After-as_slice-2) → KeepsOthers c.args.offers.now.offers c.args.party c.args.ending c.part_all.new.cells c.close_all.new.cells
-keeps c = subst (λ (os : List Standing). KeepsOthers os c.args.party c.args.ending c.part_all.new.cells c.close_all.new.cells) c.as_slice.ensures c.close_all.ensures
+keeps : (c : After-as_slice-2) → Closes c.args.offers.now.offers c.args.party c.args.ending c.part_all.new.cells c.close_all.new.cells
+keeps c = subst (λ (os : List Standing). Closes os c.args.party c.args.ending c.part_all.new.cells c.close_all.new.cells) c.as_slice.ensures c.close_all.ensures
 
 pub couple_all-requires : goal.couple_all-requires
 couple_all-requires c =
