@@ -1,5 +1,5 @@
-// Runs the tables of the folder that it is started in against the texts of entries and of values, and prints how each
-// came out.
+// Runs the tables of the folder that it is started in against the texts of entries and of values, the plain rules and the
+// processor, and prints how each came out.
 #![tactic(auto)]
 
 mod journals;

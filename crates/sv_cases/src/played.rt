@@ -1,3 +1,11 @@
+ghost use Rattle.std.specs.Prelude.{◌≡◌, ◌×◌, Bool, None, Some, IsTrue, IfOk, IfSome, not, false, true};
+ghost use Rattle.sv_core.specs.Core.{ArePeople};
+ghost use Rattle.sv_events.specs.Row.{act_row};
+ghost use Rattle.sv_rules.specs.Entries.{has_left, is_leave};
+ghost use Rattle.sv_rules.specs.Legal.{act_for, is_user};
+ghost use Rattle.sv_rules.specs.Refused.{awaited};
+ghost use Rattle.sv_rules.specs.Work.{is_auxiliary};
+
 use crate::journals::{entries_of, users_of, verdict};
 use anyhow::{Result, bail};
 use apl_arrays::Array;
@@ -13,7 +21,10 @@ use sv_rules::{is_auxiliary, is_leave};
 pub struct Played;
 
 // The act of some work, where its reply is the value that this act hands in.
-fn act_due(alloc: Global, work: Work, place: u64, act: &Act) -> Result<Option<Act>> {
+fn act_due(alloc: Global, work: Work, place: u64, act: &Act) -> Result<Option<Act>>
+    ensures due { IfOk result (λ due. IfSome due (λ new. act_for work place (act_row new).hands_in ≡ Some new)) }
+    ensures stays { IfOk result (λ due. IfSome due (λ new. IsTrue (not (is_leave new)))) }
+{
     match work {
         Work::Idle => Ok(None),
         Work::Reply(_) => reply_due(alloc, work, place, act.hands_in()),
@@ -31,7 +42,12 @@ fn reply_due(alloc: Global, work: Work, place: u64, reply: Option<&Array>) -> Re
 }
 
 // An auxiliary does its work, if it has any.
-fn work(alloc: Global, core: &mut Core, entry: &Entry) -> Result<()> {
+fn work(alloc: Global, core: &mut Core, entry: &Entry) -> Result<()>
+    requires auxiliary { is_auxiliary entry.now.party ≡ true }
+    requires present { IsTrue (not (has_left core.old.journal entry.now.party)) }
+    requires goes_on { awaited core.old.journal entry.now.party ≡ None }
+    ensures { core.new.users ≡ core.old.users }
+{
     let place = core.journal().len() as u64 + 1;
     let due = act_due(alloc, core.work_of(entry.party), place, &entry.act)?;
     if let Some(act) = due {
@@ -40,8 +56,13 @@ fn work(alloc: Global, core: &mut Core, entry: &Entry) -> Result<()> {
     Ok(())
 }
 
-// A user does what an entry says, if it may.
-fn act(alloc: Global, core: &mut Core, entry: &Entry) -> Result<()> {
+// A user does what an entry says, or what it waits for.
+fn act(alloc: Global, core: &mut Core, entry: &Entry) -> Result<()>
+    requires user { IsTrue (is_user core.old.users entry.now.party) }
+    requires person { is_auxiliary entry.now.party ≡ false }
+    requires present { IsTrue (not (has_left core.old.journal entry.now.party)) }
+    ensures { core.new.users ≡ core.old.users }
+{
     if is_leave(&entry.act) {
         core.leave(entry.party);
     } else if core.waits(entry.party) {
@@ -53,12 +74,18 @@ fn act(alloc: Global, core: &mut Core, entry: &Entry) -> Result<()> {
 }
 
 // Whether the processor makes this entry next.
-fn makes(alloc: Global, core: &mut Core, users: &[u32], entry: &Entry) -> Result<bool> {
+fn makes(alloc: Global, core: &mut Core, users: &[u32], entry: &Entry) -> Result<bool>
+    requires { core.old.users ≡ users.now }
+    ensures { core.new.users ≡ core.old.users }
+{
     let before = core.journal().len();
     if core.has_left(entry.party) {
         return Ok(false);
     }
     if is_auxiliary(entry.party) {
+        if core.waits(entry.party) {
+            return Ok(false);
+        }
         work(alloc, core, entry)?;
     } else if users.contains(&entry.party) {
         act(alloc, core, entry)?;
@@ -68,7 +95,9 @@ fn makes(alloc: Global, core: &mut Core, users: &[u32], entry: &Entry) -> Result
 }
 
 // How many of the entries the processor makes, from the first on.
-fn made_count(alloc: Global, users: &[u32], entries: &[Entry]) -> Result<usize> {
+fn made_count(alloc: Global, users: &[u32], entries: &[Entry]) -> Result<usize>
+    requires { ArePeople users.now }
+{
     let mut core = Core::new(alloc, users)?;
     for (count, entry) in entries.iter().enumerate() {
         if !makes(alloc, &mut core, users, entry)? {
@@ -76,6 +105,13 @@ fn made_count(alloc: Global, users: &[u32], entries: &[Entry]) -> Result<usize> 
         }
     }
     Ok(entries.len())
+}
+
+// Whether no user is an auxiliary.
+fn are_people(users: &[u32]) -> bool
+    ensures { IsTrue result → ArePeople users.now }
+{
+    users.iter().all(|user| !is_auxiliary(*user))
 }
 
 impl Trial for Played {
@@ -89,7 +125,7 @@ impl Trial for Played {
         };
         let users = users_of(alloc, *users)?;
         let entries = entries_of(alloc, *journal)?;
-        if users.iter().any(|user| is_auxiliary(*user)) {
+        if !are_people(&users) {
             bail!("an auxiliary is no user");
         }
         let made = made_count(alloc, &users, &entries)?;

@@ -6,6 +6,7 @@ pub mod Told
 pub mod Worked
 pub mod WorkedValues
 pub mod WorkedControl
+pub mod WorkedMatches
 pub mod WorkedShares
 pub mod WorkedAuxiliary
 pub mod WorkedCopy

@@ -2,12 +2,13 @@
 
 ghost use Rattle.std.specs.Prelude.{[], ◌∷◌, codes, Some, None};
 ghost use Rattle.sv_access.specs.declared.verdict.Owners.TheVariants.{Mine, Partner, Both};
-ghost use Rattle.sv_events.specs.Answer.{degree, granted, no_value, not_shared, value, vector, parties, names, kept};
-ghost use Rattle.sv_events.specs.declared.event.Act.TheVariants.{Offer, SetControl, Use};
+ghost use Rattle.sv_events.specs.Answer.{degree, done, granted, no_value, not_shared, offer_limit, value, vector, parties, names, kept};
+ghost use Rattle.sv_events.specs.declared.event.Act.TheVariants.{Leave, Offer, SetControl, Use};
 ghost use Rattle.sv_rules.specs.Legal.{IsLegal};
-ghost use Rattle.sv_plain.specs.Worked.{one_user, two_users, three_users, number, bits, pair, x, set_x, left, got, holds, gives_up, with_answer, with_act, with_made};
+ghost use Rattle.sv_plain.specs.Worked.{one_user, two_users, three_users, number, bits, pair, x, offer_x, set_x, left, got, holds, gives_up, with_answer, with_act, with_made};
 ghost use Rattle.sv_plain.specs.WorkedValues.{b, value_is_shared, use_without_a_value, shared_by_surrogates, offered_again};
 ghost use Rattle.sv_plain.specs.WorkedControl.{second_set_is_held, held_by_the_partner, view_is_swapped, both_hold, second_set_before_a_partner, set_over_unseen, given_up_too_soon, acts_while_it_waits, set_without_an_offer};
+ghost use Rattle.sv_plain.specs.WorkedMatches.{two_general_offers, two_open_matches, offered_twice, leave_of_two, two_open_matches_left, one_more_offer, last_of_64, back_again};
 ghost use Rattle.sv_plain.specs.WorkedShares.{matched_again, matched_after_a_retraction, reopened_compete, each_keeps_its_own, older_value_unseen, three, item_is_set, asked_who_offers, asked_among_many, reopened_is_unseen, vector_begins_anew};
 ghost use Rattle.sv_plain.specs.WorkedAuxiliary.{s2, countered, text_files_answer, clock_answers, counter_offer_taken_back, second_control, use_of_a_seen_value, second_reply, counter_couples_with_an_older_one, second_counter};
 ghost use Rattle.sv_plain.specs.WorkedCopy.{file_is_copied};
@@ -96,6 +97,40 @@ pub fn waits_are_not_given_up_too_soon()
     ensures leaves { IsLegal two_users (acts_while_it_waits (left 1001)) }
     ensures no_offer { IsLegal two_users (set_without_an_offer not_shared) }
     ensures controlled { ¬ IsLegal two_users (set_without_an_offer (vector (bits 1 1 1 1))) }
+{}
+
+/// Which offers match: not two to any, and of two that do the older.
+pub fn older_matches_are_coupled()
+    ensures general { IsLegal two_users two_general_offers }
+    ensures coupled { ¬ IsLegal two_users (with_made 2 (pair 1 2) (with_answer 2 (degree 2) two_general_offers)) }
+    ensures older { IsLegal three_users two_open_matches }
+    ensures newer { ¬ IsLegal three_users (with_made 3 (pair 2 3) two_open_matches) }
+    ensures turned { ¬ IsLegal three_users (with_made 3 (pair 3 1) two_open_matches) }
+    ensures again { IsLegal two_users offered_twice }
+    ensures open_again { ¬ IsLegal two_users (with_answer 4 (degree 1) offered_twice) }
+{}
+
+/// A leave couples what it reopens, one after the other, each with its oldest match.
+pub fn leaves_couple_again()
+    ensures two { IsLegal three_users (leave_of_two (record { a = 1; b = 5 } ∷ record { a = 3; b = 6 } ∷ [])) }
+    ensures turned { ¬ IsLegal three_users (leave_of_two (record { a = 3; b = 6 } ∷ record { a = 1; b = 5 } ∷ [])) }
+    ensures one { ¬ IsLegal three_users (leave_of_two (pair 1 5)) }
+    ensures oldest { IsLegal three_users two_open_matches_left }
+    ensures newest { ¬ IsLegal three_users (with_made 5 (pair 1 4) two_open_matches_left) }
+{}
+
+/// A party has at most 64 offers.
+pub fn offers_are_at_most_64()
+    ensures more { IsLegal two_users (one_more_offer offer_limit) }
+    ensures taken { ¬ IsLegal two_users (one_more_offer (degree 1)) }
+    ensures last { IsLegal two_users (last_of_64 (degree 1)) }
+    ensures early { ¬ IsLegal two_users (last_of_64 offer_limit) }
+{}
+
+/// A party that has left makes no entry.
+pub fn no_entry_follows_a_leave()
+    ensures offer { ¬ IsLegal two_users (back_again (offer_x 1002 None) (degree 1)) }
+    ensures leave { ¬ IsLegal two_users (back_again Leave done) }
 {}
 
 /// A general offer is matched again, after a leave and after a retraction.
