@@ -1,6 +1,7 @@
 -- Worked journals of offers that match, and of how many there may be, written with the oldest entry first.
-use Rattle.std.specs.Prelude.{ℕ, ◌+◌, ◌/◌, ◌%◌, nat_lt, List, [], ◌∷◌, ◌++◌, reverse, map, codes, Some, None, if◌then◌else◌}
+use Rattle.std.specs.Prelude.{ℕ, ◌/◌, ◌%◌, nat_lt, List, [], ◌∷◌, ◌++◌, reverse, map, codes, Some, None, if◌then◌else◌}
 use Rattle.std.specs.List.{range_with_len}
+use Rattle.apl_arrays.specs.Glyph.{digit}
 use Rattle.sv_events.specs.Answer.{PlainAnswer, degree, done}
 use Rattle.sv_events.specs.Entry.{PlainEntry}
 use Rattle.sv_events.specs.declared.entry.Pair.{Pair}
@@ -44,7 +45,7 @@ two_open_matches_left =
 
 -- A and a number in decimal
 abbrev pub numbered_name : ℕ → List ℕ
-numbered_name n = 65 ∷ (if nat_lt n 10 then (48 + n) ∷ [] else (48 + n / 10) ∷ (48 + n % 10) ∷ [])
+numbered_name n = codes "A" ++ (if nat_lt n 10 then digit n ∷ [] else digit (n / 10) ∷ digit (n % 10) ∷ [])
 
 -- an offer of such a name to 1002
 abbrev pub numbered_offer : ℕ → PlainAnswer → PlainEntry
