@@ -125,7 +125,17 @@ same_name_decides : (one other : List ℕ) → Decides (pointwise eqb one other)
 same_name_decides one other = bytes_eq-Decides one other
 
 pub same_act_decides : (one other : Act) → Decides (act_eq.eq-value.it one other) (one ≡ other)
-same_act_decides (Offer to local surrogate handed) (Offer of here under brought) = ?
+same_act_decides (Offer to local surrogate handed) (Offer of here under brought) =
+    Decides-like (eqb to of && (pointwise eqb local here && (pointwise eqb surrogate under && option_eq same_array handed brought)))
+    (λ h.
+    ap (λ t. Offer t local surrogate handed) h.0 ∙ ap (λ l. Offer of l surrogate handed) (h.1).0
+    ∙ ap (λ s. Offer of here s handed) ((h.1).1).0 ∙ ap (λ v. Offer of here under v) ((h.1).1).1)
+    (λ same. (cc, (cc, (cc, cc))))
+    (Decides-and (eqb to of) (pointwise eqb local here && (pointwise eqb surrogate under && option_eq same_array handed brought))
+    (Decides-eqb to of)
+    (Decides-and (pointwise eqb local here) (pointwise eqb surrogate under && option_eq same_array handed brought)
+    (same_name_decides local here)
+    (Decides-and (pointwise eqb surrogate under) (option_eq same_array handed brought) (same_name_decides surrogate under) (same_value_decides handed brought))))
 same_act_decides (Retract one) (Retract other) =
     Decides-like (pointwise eqb one other) (λ h. ap Retract h) (λ same. cc) (same_name_decides one other)
 same_act_decides (SetControl one marks) (SetControl other bits) =

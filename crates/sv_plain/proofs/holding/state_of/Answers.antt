@@ -9,9 +9,9 @@ use Rattle.sv_rules.specs.Journal.{journal_of}
 use Rattle.sv_rules.specs.Story.{story}
 use Rattle.sv_plain.proofs.holding.state_of.Goals as goal
 
-pub returns-in-Some : goal.returns-in-Some
-returns-in-Some c =
+pub returns-in_ok-state-in-Some : goal.returns-in_ok-state-in-Some
+returns-in_ok-state-in-Some c =
     let told = story (journal_of c.args.entries.now) c.in-Some.coupling in
-    c.view.ensures ∙ ap (λ (s : State). vector_of_state s c.side_at-side.result) c.in_ok-state.ensures
+    c.view.ensures ∙ ap (λ (s : State). vector_of_state s c.side_at-side.result) c.in_ok-state-in-Some.ensures
     ∙ ap (λ (side : Side). vector_of_state (state_of_story told) side) c.side_at-side.ensures
     ∙ vector_by_state told (side_at c.in-Some.coupling c.args.place)
