@@ -14,6 +14,7 @@ returns-in_ok-opened-in-None c =
     let told = opening A (journal_of c.args.entries.now) c.args.offer.now in
     c.hold_by_state-alone.ensures told (sym c.in_ok-opened-in-None.ensures)
     ∙ ap (λ (own : Control). let s : Sharing = record { story = told; a = own; b = no_control; side = A } in hold_under s c.args.kind) c.vector_of-own.ensures
+    ∙ ap (λ (k : Option Coupling). hold_under (sharing_of (journal_of c.args.entries.now) c.args.offer.now k) c.args.kind) (sym c.in-None.is)
 
 pub returns-in_ok-shared-in-Some : goal.returns-in_ok-shared-in-Some
 returns-in_ok-shared-in-Some c =
@@ -25,3 +26,4 @@ returns-in_ok-shared-in-Some c =
     ∙ ap (λ (a : Control). let s : Sharing = record { story = told; a = a; b = c.vector_of-of_b.result; side = c.side_at-side.result } in hold_under s c.args.kind) c.vector_of-of_a.ensures
     ∙ ap (λ (b : Control). let s : Sharing = record { story = told; a = of_a; b = b; side = c.side_at-side.result } in hold_under s c.args.kind) c.vector_of-of_b.ensures
     ∙ ap (λ (side : Side). let s : Sharing = record { story = told; a = of_a; b = of_b; side = side } in hold_under s c.args.kind) c.side_at-side.ensures
+    ∙ ap (λ (k : Option Coupling). hold_under (sharing_of (journal_of c.args.entries.now) c.args.offer.now k) c.args.kind) (sym c.in-Some.is)
