@@ -1,3 +1,4 @@
 pub mod SameLemmas
+pub mod ScanLemmas
 pub mod ToldLemmas
 pub mod WorkLemmas

@@ -1,5 +1,8 @@
 -- The work that is due, by the offers that are found.
-use Rattle.std.proofs.Common.{◌≡◌, refl, sym, ap, ◌∙◌, ℕ, Bool, true, false, not, cond, List, [], ◌∷◌, Option, Some, None}
+use Rattle.std.proofs.Common.{◌≡◌, refl, sym, ap, ◌∙◌, ℕ, suc, ◌+◌, ◌<◌, Bool, true, false, not, cond, List, [], ◌∷◌, ◌++◌, length, get_or, take, drop, drop-cons, Option, Some, None}
+use Rattle.std.specs.Option.{option_or}
+use Rattle.std.proofs.lemmas.List.{take-append-drop, take_more}
+use Rattle.std.proofs.lemmas.List.Folds.{find-append}
 use Rattle.std.specs.Prelude.{find, unwrap_or}
 use Rattle.std.specs.Option.{option_map_or}
 use Rattle.sv_events.specs.declared.work.Work.{Work}
@@ -28,3 +31,17 @@ pub first_where : (b : Bool) (offers : List Standing) → find (λ _. b) offers 
 first_where true offers = refl
 first_where false [] = refl
 first_where false (o ∷ offers) = first_where false offers
+
+-- the first of a list that passes, where none before it does
+pub found_here : {X : Type 0} (p : X → Bool) (xs : List X) (i : ℕ) (x : X) → i < length xs → x ≡ get_or xs i x → find p (take i xs) ≡ None → p x ≡ true →
+    find p xs ≡ Some x
+found_here p xs i x within is none passes =
+    ap (find p) (sym (take-append-drop i xs)) ∙ find-append p (take i xs) (drop i xs) ∙ ap (λ o. option_or o (find p (drop i xs))) none
+    ∙ ap (find p) (drop-cons xs i x within ∙ ap (λ y. y ∷ drop (suc i) xs) (sym is)) ∙ ap (λ b. cond b (Some x) (find p (drop (suc i) xs))) passes
+
+-- none passes among the first, nor among these and one that does not
+pub none_more : {X : Type 0} (p : X → Bool) (xs : List X) (i : ℕ) (x : X) → i < length xs → x ≡ get_or xs i x → find p (take i xs) ≡ None → p x ≡ false →
+    find p (take (i + 1) xs) ≡ None
+none_more p xs i x within is none fails =
+    ap (find p) (take_more xs i x within ∙ ap (λ y. take i xs ++ y ∷ []) (sym is)) ∙ find-append p (take i xs) (x ∷ [])
+    ∙ ap (λ o. option_or o (cond (p x) (Some x) None)) none ∙ ap (λ b. cond b (Some x) None) fails

@@ -4,6 +4,9 @@ pub mod Placing
 pub mod SetOf
 pub mod Told
 pub mod Worked
+pub mod WorkedValues
 pub mod WorkedControl
+pub mod WorkedMatches
 pub mod WorkedShares
 pub mod WorkedAuxiliary
+pub mod WorkedCopy

@@ -1,6 +1,6 @@
 -- Worked journals of the text files and the clock, written with the oldest entry first.
-use Rattle.std.specs.Prelude.{ℕ, List, [], ◌∷◌, ◌++◌, reverse, codes, pos, length, Some, None}
-use Rattle.apl_arrays.specs.Array.{PlainArray, chars}
+use Rattle.std.specs.Prelude.{ℕ, List, [], ◌∷◌, ◌++◌, reverse, codes, negsuc, length, None, Some}
+use Rattle.apl_arrays.specs.Array.{PlainArray, scalar, chars}
 use Rattle.sv_access.specs.declared.verdict.Owners.TheVariants.{Mine, Both}
 use Rattle.sv_events.specs.Answer.{PlainAnswer, degree, granted, value, vector, kept, done}
 use Rattle.sv_events.specs.Entry.{PlainEntry}
@@ -16,6 +16,10 @@ text glyphs = record { shape = length glyphs ∷ []; items = chars glyphs }
 abbrev pub s2 : List ℕ
 s2 = codes "S2"
 
+-- the clock sets S2
+abbrev pub set_s2 : PlainArray → PlainEntry
+set_s2 new = lone 10 (Set s2 new) granted
+
 -- 1001 offers X to an auxiliary, which counters and sets its control: the rest differs
 abbrev pub countered : ℕ → List PlainEntry → Entries
 countered aux entries =
@@ -30,6 +34,16 @@ text_files_answer reply =
     countered 20
     (lone 1001 (Set x (text (codes "READ GONE"))) granted ∷ lone 20 (Use s2) (value (text (codes "READ GONE")))
     ∷ use_x 1001 (holds 3 Both) ∷ lone 20 (Set s2 reply) granted ∷ use_x 1001 (value reply) ∷ left 1001 ∷ [])
+
+-- a reading of the clock, none as there are no more, and none as 7 asks for nothing
+abbrev pub clock_answers : Entries
+clock_answers =
+    countered 10
+    (set_x 1001 0 granted ∷ lone 10 (Use s2) (got 0) ∷ use_x 1001 (holds 3 Both) ∷ set_s2 (number 100) ∷ use_x 1001 (got 100)
+    ∷ set_x 1001 0 granted ∷ lone 10 (Use s2) (got 0) ∷ use_x 1001 (holds 3 Both) ∷ set_s2 (scalar (negsuc 1))
+    ∷ use_x 1001 (value (scalar (negsuc 1)))
+    ∷ set_x 1001 7 granted ∷ lone 10 (Use s2) (got 7) ∷ use_x 1001 (holds 3 Both) ∷ set_s2 (scalar (negsuc 0))
+    ∷ use_x 1001 (value (scalar (negsuc 0))) ∷ left 1001 ∷ [])
 
 -- once its partner has left, the auxiliary takes its offer back
 abbrev pub counter_offer_taken_back : Entries

@@ -26,6 +26,15 @@ matched_after_a_retraction =
     (lone 1001 (offer_x 0 None) (degree 1) ∷ joining 1002 (offer_x 1001 None) (degree 2) 1 2 ∷ lone 1003 (offer_x 1001 None) (degree 1)
     ∷ joining 1002 (Retract x) (kept 2 None) 1 3 ∷ asked_degree 1002 0 ∷ lone 1002 (offer_x 1001 None) (degree 1) ∷ [])
 
+-- two offers to any of 1002 are reopened by a leave, and one offer waits for 1002: it is the first's
+abbrev pub reopened_compete : Entries
+reopened_compete =
+    reverse
+    (lone 1002 (Offer 0 (codes "A") x None) (degree 1) ∷ lone 1002 (Offer 0 (codes "B") x None) (degree 1)
+    ∷ joining 1001 (Offer 1002 (codes "C") x None) (degree 2) 1 3 ∷ joining 1001 (Offer 1002 (codes "D") x None) (degree 2) 2 4
+    ∷ lone 1003 (offer_x 1002 None) (degree 1) ∷ joining 1001 Leave done 1 5 ∷ lone 1002 (AskDegree (codes "B")) (degree 1)
+    ∷ lone 1002 (AskDegree (codes "A")) (degree 2) ∷ [])
+
 -- X is taken back
 abbrev pub retract_x : ℕ → PlainAnswer → PlainEntry
 retract_x party answer = lone party (Retract x) answer

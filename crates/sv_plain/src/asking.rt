@@ -1,7 +1,7 @@
-ghost use Rattle.std.specs.Prelude.{◌≡◌, ◌==◌, IfOk, map, filter};
+ghost use Rattle.std.specs.Prelude.{◌≡◌, ◌==◌, IfOk, map, filter, not};
 ghost use Rattle.sv_events.specs.Answer.{plain_answer};
 ghost use Rattle.sv_plain.specs.Placing.{GoesOver};
-ghost use Rattle.sv_rules.specs.Coupling.{couplings, open_to};
+ghost use Rattle.sv_rules.specs.Coupling.{couplings, is_coupled, open_to};
 ghost use Rattle.sv_rules.specs.Entries.{Entries};
 ghost use Rattle.sv_rules.specs.Journal.{journal_of};
 ghost use Rattle.sv_rules.specs.Questions.{answer_to_question, ascending, degree_of, with_number};
@@ -23,6 +23,20 @@ pub fn degree_of(coupled: &[Made], own: Option<Standing>) -> u8
     }
 }
 
+// Keeps the offers that are not coupled.
+fn keep_open(offers: &mut Vec<Standing>, coupled: &[Made])
+    ensures { offers.new.items ≡ filter (λ offer. not (is_coupled coupled.now offer.place)) offers.old.items }
+{
+    offers.retain(|offer| !is_coupled(coupled, offer.place));
+}
+
+// Keeps the offers made to a party by its number.
+fn keep_made_to(offers: &mut Vec<Standing>, party: u32)
+    ensures { offers.new.items ≡ filter (λ offer. offer.to == party) offers.old.items }
+{
+    offers.retain(|offer| offer.to == party);
+}
+
 /// The open offers made to a party by its number, by place. It takes memory for them.
 pub fn open_to(
     alloc: Global,
@@ -36,8 +50,8 @@ pub fn open_to(
     ensures { IfOk result (λ list. list.items ≡ open_to (journal_of entries.now) party) }
 {
     let mut opened = Vec::from_slice(alloc, offers)?;
-    opened.retain(|offer| !is_coupled(coupled, offer.place));
-    opened.retain(|offer| offer.to == party);
+    keep_open(&mut opened, coupled);
+    keep_made_to(&mut opened, party);
     Ok(opened)
 }
 

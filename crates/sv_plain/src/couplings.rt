@@ -3,7 +3,7 @@ ghost use Rattle.sv_rules.specs.Coupling.{made_in, couplings, reopened_among, re
 ghost use Rattle.sv_rules.specs.Journal.{journal_of};
 ghost use Rattle.sv_offer_laws.specs.LegalLaws.{made_at};
 
-use crate::offers::{end, standing_offers};
+use crate::offers::{end_together, standing_offers};
 use apl_arrays::WantOfMemory;
 use std::alloc::Global;
 use sv_events::{Ending, Entry, Pair};
@@ -84,7 +84,7 @@ pub fn made_by_ending(
     ensures { IfOk result (λ made. made.items ≡ made_by_ending at offers.now coupled.now party ending) }
 {
     let mut left = Vec::from_slice(alloc, offers)?;
-    end(&mut left, party, Some(ending));
+    end_together(&mut left, party, ending);
     let mut kept = Vec::from_slice(alloc, coupled)?;
     keep_couplings(&mut kept, &left);
     let reopened = reopened_among(alloc, &left, coupled, &kept)?;

@@ -161,6 +161,3 @@ pub fn is_legal(alloc: Global, users: &[u32], entries: &[Entry]) -> Result<bool,
     }
     Ok(true)
 }
-
-#[cfg(test)]
-mod tests;

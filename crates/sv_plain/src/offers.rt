@@ -3,7 +3,7 @@ ghost use Rattle.sv_events.specs.Answer.{plain_answer};
 ghost use Rattle.sv_events.specs.Row.{act_row};
 ghost use Rattle.sv_rules.specs.Entries.{kind_of, is_degree};
 ghost use Rattle.sv_rules.specs.Journal.{journal_of};
-ghost use Rattle.sv_rules.specs.Standing.{standing, standing_after, with_ended, with_offer, with_opened, offer_made};
+ghost use Rattle.sv_rules.specs.Standing.{standing, standing_after, with_ended, with_offer, with_opened, without_ended, offer_made};
 
 use apl_arrays::WantOfMemory;
 use std::alloc::Global;
@@ -61,14 +61,23 @@ fn add_opened(
     }
 }
 
-/// Takes the offers out that an act of a party ends, if it ends any. No memory.
-pub fn end(offers: &mut Vec<Standing>, party: u32, ends: Option<Ending>)
+/// Takes the offers out that an act of a party ends. No memory.
+pub fn end_together(offers: &mut Vec<Standing>, party: u32, ending: Ending)
+    ensures { offers.new.items ≡ without_ended offers.old.items party ending }
+{
+    match ending {
+        Ending::One(local) => end_offer(offers, party, &local),
+        Ending::All => end_offers(offers, party),
+    }
+}
+
+// The same, if the act ends any.
+fn end(offers: &mut Vec<Standing>, party: u32, ends: Option<Ending>)
     ensures { offers.new.items ≡ with_ended offers.old.items party ends }
 {
     match ends {
         None => (),
-        Some(Ending::One(local)) => end_offer(offers, party, &local),
-        Some(Ending::All) => end_offers(offers, party),
+        Some(ending) => end_together(offers, party, ending),
     }
 }
 

@@ -2,13 +2,46 @@
 
 ghost use Rattle.std.specs.Prelude.{[], ◌∷◌, codes, Some, None};
 ghost use Rattle.sv_access.specs.declared.verdict.Owners.TheVariants.{Mine, Partner, Both};
-ghost use Rattle.sv_events.specs.Answer.{degree, granted, no_value, not_shared, value, vector, parties, names, kept};
-ghost use Rattle.sv_events.specs.declared.event.Act.TheVariants.{Offer, SetControl};
+ghost use Rattle.sv_events.specs.Answer.{degree, done, granted, no_value, not_shared, offer_limit, value, vector, parties, names, kept};
+ghost use Rattle.sv_events.specs.declared.event.Act.TheVariants.{Leave, Offer, SetControl, Use};
 ghost use Rattle.sv_rules.specs.Legal.{IsLegal};
-ghost use Rattle.sv_plain.specs.Worked.{one_user, two_users, three_users, number, bits, pair, x, set_x, left, got, holds, gives_up, with_answer, with_act, with_made};
+ghost use Rattle.sv_plain.specs.Worked.{one_user, two_users, three_users, number, bits, pair, x, offer_x, set_x, left, got, holds, gives_up, with_answer, with_act, with_made};
+ghost use Rattle.sv_plain.specs.WorkedValues.{b, value_is_shared, use_without_a_value, shared_by_surrogates, offered_again};
 ghost use Rattle.sv_plain.specs.WorkedControl.{second_set_is_held, held_by_the_partner, view_is_swapped, both_hold, second_set_before_a_partner, set_over_unseen, given_up_too_soon, acts_while_it_waits, set_without_an_offer};
-ghost use Rattle.sv_plain.specs.WorkedShares.{matched_again, matched_after_a_retraction, each_keeps_its_own, older_value_unseen, three, item_is_set, asked_who_offers, asked_among_many, reopened_is_unseen, vector_begins_anew};
-ghost use Rattle.sv_plain.specs.WorkedAuxiliary.{s2, countered, text_files_answer, counter_offer_taken_back, second_control, use_of_a_seen_value, second_reply, counter_couples_with_an_older_one, second_counter};
+ghost use Rattle.sv_plain.specs.WorkedMatches.{two_general_offers, two_open_matches, offered_twice, leave_of_two, two_open_matches_left, one_more_offer, last_of_64, back_again};
+ghost use Rattle.sv_plain.specs.WorkedShares.{matched_again, matched_after_a_retraction, reopened_compete, each_keeps_its_own, older_value_unseen, three, item_is_set, asked_who_offers, asked_among_many, reopened_is_unseen, vector_begins_anew};
+ghost use Rattle.sv_plain.specs.WorkedAuxiliary.{s2, countered, text_files_answer, clock_answers, counter_offer_taken_back, second_control, use_of_a_seen_value, second_reply, counter_couples_with_an_older_one, second_counter};
+ghost use Rattle.sv_plain.specs.WorkedCopy.{file_is_copied};
+
+/// A value that is set is used by the partner.
+pub fn value_is_shared_is_legal()
+    ensures legal { IsLegal two_users value_is_shared }
+    ensures older { ¬ IsLegal two_users (with_answer 4 (got 3) value_is_shared) }
+    ensures uncoupled { ¬ IsLegal two_users (with_made 2 [] value_is_shared) }
+    ensures degree { ¬ IsLegal two_users (with_answer 2 (degree 1) value_is_shared) }
+{}
+
+/// A use may find no value.
+pub fn use_without_a_value_is_legal()
+    ensures legal { IsLegal one_user use_without_a_value }
+    ensures value { ¬ IsLegal one_user (with_answer 2 (got 0) use_without_a_value) }
+    ensures held { ¬ IsLegal one_user (with_answer 2 (holds 3 Mine) use_without_a_value) }
+{}
+
+/// Two names with one surrogate are one variable.
+pub fn shared_by_surrogates_is_legal()
+    ensures legal { IsLegal two_users shared_by_surrogates }
+    ensures own_value { ¬ IsLegal two_users (with_answer 5 (got 1) shared_by_surrogates) }
+    ensures surrogate { ¬ IsLegal two_users (with_act 2 (Offer 1001 b b None) shared_by_surrogates) }
+    ensures local { ¬ IsLegal two_users (with_act 3 (Use x) shared_by_surrogates) }
+{}
+
+/// A name that was taken back is offered again.
+pub fn offered_again_is_legal()
+    ensures legal { IsLegal one_user offered_again }
+    ensures degree { ¬ IsLegal one_user (with_answer 2 (kept 2 (Some (number 3))) offered_again) }
+    ensures no_offer { ¬ IsLegal one_user (with_answer 4 not_shared offered_again) }
+{}
 
 /// A second set is held until the partner has used the first.
 pub fn second_set_is_held_is_legal()
@@ -66,6 +99,40 @@ pub fn waits_are_not_given_up_too_soon()
     ensures controlled { ¬ IsLegal two_users (set_without_an_offer (vector (bits 1 1 1 1))) }
 {}
 
+/// Which offers match: not two to any, and of two that do the older.
+pub fn older_matches_are_coupled()
+    ensures general { IsLegal two_users two_general_offers }
+    ensures coupled { ¬ IsLegal two_users (with_made 2 (pair 1 2) (with_answer 2 (degree 2) two_general_offers)) }
+    ensures older { IsLegal three_users two_open_matches }
+    ensures newer { ¬ IsLegal three_users (with_made 3 (pair 2 3) two_open_matches) }
+    ensures turned { ¬ IsLegal three_users (with_made 3 (pair 3 1) two_open_matches) }
+    ensures again { IsLegal two_users offered_twice }
+    ensures open_again { ¬ IsLegal two_users (with_answer 4 (degree 1) offered_twice) }
+{}
+
+/// A leave couples what it reopens, one after the other, each with its oldest match.
+pub fn leaves_couple_again()
+    ensures two { IsLegal three_users (leave_of_two (record { a = 1; b = 5 } ∷ record { a = 3; b = 6 } ∷ [])) }
+    ensures turned { ¬ IsLegal three_users (leave_of_two (record { a = 3; b = 6 } ∷ record { a = 1; b = 5 } ∷ [])) }
+    ensures one { ¬ IsLegal three_users (leave_of_two (pair 1 5)) }
+    ensures oldest { IsLegal three_users two_open_matches_left }
+    ensures newest { ¬ IsLegal three_users (with_made 5 (pair 1 4) two_open_matches_left) }
+{}
+
+/// A party has at most 64 offers.
+pub fn offers_are_at_most_64()
+    ensures more { IsLegal two_users (one_more_offer offer_limit) }
+    ensures taken { ¬ IsLegal two_users (one_more_offer (degree 1)) }
+    ensures last { IsLegal two_users (last_of_64 (degree 1)) }
+    ensures early { ¬ IsLegal two_users (last_of_64 offer_limit) }
+{}
+
+/// A party that has left makes no entry.
+pub fn no_entry_follows_a_leave()
+    ensures offer { ¬ IsLegal two_users (back_again (offer_x 1002 None) (degree 1)) }
+    ensures leave { ¬ IsLegal two_users (back_again Leave done) }
+{}
+
 /// A general offer is matched again, after a leave and after a retraction.
 pub fn offers_are_matched_again()
     ensures leave { IsLegal three_users matched_again }
@@ -74,6 +141,9 @@ pub fn offers_are_matched_again()
     ensures retraction { IsLegal three_users matched_after_a_retraction }
     ensures left_open { ¬ IsLegal three_users (with_made 4 [] matched_after_a_retraction) }
     ensures still_stands { ¬ IsLegal three_users (with_answer 5 (degree 1) matched_after_a_retraction) }
+    ensures compete { IsLegal three_users reopened_compete }
+    ensures later { ¬ IsLegal three_users (with_made 6 (pair 2 5) reopened_compete) }
+    ensures unmatched { ¬ IsLegal three_users (with_made 6 [] reopened_compete) }
 {}
 
 /// Each side keeps the value that it knows.
@@ -122,6 +192,21 @@ pub fn text_files_answer_is_legal()
     ensures owner { ¬ IsLegal one_user (with_answer 7 (holds 3 Mine) (text_files_answer (number 1))) }
     ensures name { ¬ IsLegal one_user (with_act 2 (Offer 1001 (codes "S1") x None) (text_files_answer (number 1))) }
     ensures control { ¬ IsLegal one_user (with_act 4 (SetControl s2 (bits 1 1 1 0)) (text_files_answer (number 1))) }
+{}
+
+/// The clock answers.
+pub fn clock_answers_is_legal()
+    ensures legal { IsLegal one_user clock_answers }
+    ensures own_value { ¬ IsLegal one_user (with_answer 9 (got 0) clock_answers) }
+    ensures owners { ¬ IsLegal one_user (with_answer 12 (holds 3 Partner) clock_answers) }
+    ensures reply { ¬ IsLegal one_user (with_act 13 (SetControl s2 (bits 1 1 1 1)) clock_answers) }
+{}
+
+/// A file is copied by way of the text files.
+pub fn file_is_copied_is_legal()
+    ensures legal { IsLegal two_users file_is_copied }
+    ensures pair { ¬ IsLegal two_users (with_made 7 (pair 1 7) file_is_copied) }
+    ensures owners { ¬ IsLegal two_users (with_answer 8 (holds 3 Both) file_is_copied) }
 {}
 
 /// An auxiliary does its work, and nothing else.

@@ -252,6 +252,28 @@ fn first_work(
     }
 }
 
+// The work of an auxiliary, by the offers, the couplings and its own offers.
+fn work_among(
+    alloc: Global,
+    entries: &[Entry],
+    offers: &[Standing],
+    coupled: &[Made],
+    own: &[Standing],
+    party: u32,
+) -> Result<Work, WantOfMemory>
+    requires offers { offers.now ≡ standing (journal_of entries.now) }
+    requires coupled { coupled.now ≡ couplings (journal_of entries.now) }
+    requires own { own.now ≡ own_offers (journal_of entries.now) party }
+    ensures { IfOk result (λ work. work ≡ unwrap_or (work_due (journal_of entries.now) party) Idle) }
+{
+    let opened = first_open(coupled, own);
+    let lacking = first_lacking(entries, offers, coupled, own);
+    let owing = first_owing(entries, offers, coupled, own);
+    let waiting = to_counter(alloc, entries, offers, coupled, party)?;
+    let unseen = first_unseen(alloc, entries, offers, coupled, own)?;
+    Ok(first_work(opened, lacking, owing, waiting, unseen))
+}
+
 // The work of an auxiliary after entries that leave room for it.
 fn work_due(alloc: Global, entries: &[Entry], party: u32) -> Result<Work, WantOfMemory>
     ensures { IfOk result (λ work. work ≡ unwrap_or (work_due (journal_of entries.now) party) Idle) }
@@ -259,12 +281,7 @@ fn work_due(alloc: Global, entries: &[Entry], party: u32) -> Result<Work, WantOf
     let offers = standing_offers(alloc, entries)?;
     let coupled = couplings_of(alloc, entries)?;
     let own = own_offers(alloc, entries, &offers, party)?;
-    let opened = first_open(&coupled, &own);
-    let lacking = first_lacking(entries, &offers, &coupled, &own);
-    let owing = first_owing(entries, &offers, &coupled, &own);
-    let waiting = to_counter(alloc, entries, &offers, &coupled, party)?;
-    let unseen = first_unseen(alloc, entries, &offers, &coupled, &own)?;
-    Ok(first_work(opened, lacking, owing, waiting, unseen))
+    work_among(alloc, entries, &offers, &coupled, &own, party)
 }
 
 /// The work of an auxiliary: none where the entries leave no room. It takes memory for the offers and the couplings of each

@@ -24,5 +24,5 @@ loop-i-preserved c =
     journal_of-take_more c.args.entries.now c.loop-i.i e (omega arith) ∙ ap (λ (x : Entry). plain_entry x ∷ journal_of before) (sym c.index-entries-i.is) in
     let old : c.args.coupling.now.at ≤ length (journal_of before) =
     omega (arith, length-journal_of before, length-take c.loop-i.i c.args.entries.now, c.entries_before-start.ensures) in
-    c.state_after.ensures ∙ ap (λ x. state_with_both x c.args.coupling.now (plain_entry e)) c.loop-i.invariant
+    c.state_after-state.ensures ∙ ap (λ x. state_with_both x c.args.coupling.now (plain_entry e)) c.loop-i.invariant
     ∙ sym (story_state-later (plain_entry e) (journal_of before) (journal_of (take (c.loop-i.i + 1) c.args.entries.now)) c.args.coupling.now more old)

@@ -15,13 +15,13 @@ returns-then-sets c =
     let sets : option_map_or is_set (option_map (λ access. access.kind) got) false ≡ true =
     ap (λ (k : Option Kind). option_map_or is_set k false) (sym c.kind_on.ensures) ∙ sym c.is_set-sets.ensures ∙ c.if-sets.true in
     c.value_on.ensures
-    ∙ ap (λ (b : Bool). cond b (option_map (λ access. access.value) got) (option_copied c.args.value.entry)) (sym sets)
-    ∙ sym (value_with-by (option_copied c.args.value.entry) got)
+    ∙ ap (λ (b : Bool). cond b (option_map (λ access. access.value) got) (option_copied c.args.value)) (sym sets)
+    ∙ sym (value_with-by (option_copied c.args.value) got)
 
 pub returns-else-sets : goal.returns-else-sets
 returns-else-sets c =
     let got = access_on c.args.offer.now (plain_entry c.args.entry.now) in
     let sets : option_map_or is_set (option_map (λ access. access.kind) got) false ≡ false =
     ap (λ (k : Option Kind). option_map_or is_set k false) (sym c.kind_on.ensures) ∙ sym c.is_set-sets.ensures ∙ c.if-sets.false in
-    ap (λ (b : Bool). cond b (option_map (λ access. access.value) got) (option_copied c.args.value.entry)) (sym sets)
-    ∙ sym (value_with-by (option_copied c.args.value.entry) got)
+    ap (λ (b : Bool). cond b (option_map (λ access. access.value) got) (option_copied c.args.value)) (sym sets)
+    ∙ sym (value_with-by (option_copied c.args.value) got)

@@ -1,0 +1,134 @@
+ghost use Rattle.std.specs.Prelude.{◌≡◌, ◌×◌, Bool, None, Some, IsTrue, IfOk, IfSome, not, false, true};
+ghost use Rattle.sv_core.specs.Core.{ArePeople};
+ghost use Rattle.sv_events.specs.Row.{act_row};
+ghost use Rattle.sv_rules.specs.Entries.{has_left, is_leave};
+ghost use Rattle.sv_rules.specs.Legal.{act_for, is_user};
+ghost use Rattle.sv_rules.specs.Refused.{awaited};
+ghost use Rattle.sv_rules.specs.Work.{is_auxiliary};
+
+use crate::journals::{entries_of, users_of, verdict};
+use anyhow::{Result, bail};
+use apl_arrays::Array;
+use case_tables::Trial;
+use std::alloc::Global;
+use sv_core::Core;
+use sv_events::{Act, Entry, Retry, Work, act_of};
+use sv_rules::{is_auxiliary, is_leave};
+
+/// Journals that the processor makes, an entry after another: `legal`, or the number of the first that it makes
+/// otherwise, or not at all. What an auxiliary does is its work.
+#[derive(Clone, Copy, Debug)]
+pub struct Played;
+
+// The act of some work, where its reply is the value that this act hands in.
+fn act_due(alloc: Global, work: Work, place: u64, act: &Act) -> Result<Option<Act>>
+    ensures due { IfOk result (λ due. IfSome due (λ new. act_for work place (act_row new).hands_in ≡ Some new)) }
+    ensures stays { IfOk result (λ due. IfSome due (λ new. IsTrue (not (is_leave new)))) }
+{
+    match work {
+        Work::Idle => Ok(None),
+        Work::Reply(_) => reply_due(alloc, work, place, act.hands_in()),
+        Work::Retract(_) | Work::Control(_) | Work::Counter { .. } | Work::Use(_) => {
+            Ok(Some(act_of(work, place, None)))
+        }
+    }
+}
+
+fn reply_due(alloc: Global, work: Work, place: u64, reply: Option<&Array>) -> Result<Option<Act>> {
+    match reply {
+        None => Ok(None),
+        Some(reply) => Ok(Some(act_of(work, place, Some(reply.copy(alloc)?)))),
+    }
+}
+
+// An auxiliary does its work, if it has any.
+fn work(alloc: Global, core: &mut Core, entry: &Entry) -> Result<()>
+    requires auxiliary { is_auxiliary entry.now.party ≡ true }
+    requires present { IsTrue (not (has_left core.old.journal entry.now.party)) }
+    requires goes_on { awaited core.old.journal entry.now.party ≡ None }
+    ensures { core.new.users ≡ core.old.users }
+{
+    let place = core.journal().len() as u64 + 1;
+    let due = act_due(alloc, core.work_of(entry.party), place, &entry.act)?;
+    if let Some(act) = due {
+        core.step(entry.party, act)?;
+    }
+    Ok(())
+}
+
+// A user does what an entry says, or what it waits for.
+fn act(alloc: Global, core: &mut Core, entry: &Entry) -> Result<()>
+    requires user { IsTrue (is_user core.old.users entry.now.party) }
+    requires person { is_auxiliary entry.now.party ≡ false }
+    requires present { IsTrue (not (has_left core.old.journal entry.now.party)) }
+    ensures { core.new.users ≡ core.old.users }
+{
+    if is_leave(&entry.act) {
+        core.leave(entry.party);
+    } else if core.waits(entry.party) {
+        core.retry(entry.party)?;
+    } else {
+        core.step(entry.party, entry.act.copy(alloc)?)?;
+    }
+    Ok(())
+}
+
+// Whether the processor makes this entry next.
+fn makes(alloc: Global, core: &mut Core, users: &[u32], entry: &Entry) -> Result<bool>
+    requires { core.old.users ≡ users.now }
+    ensures { core.new.users ≡ core.old.users }
+{
+    let before = core.journal().len();
+    if core.has_left(entry.party) {
+        return Ok(false);
+    }
+    if is_auxiliary(entry.party) {
+        if core.waits(entry.party) {
+            return Ok(false);
+        }
+        work(alloc, core, entry)?;
+    } else if users.contains(&entry.party) {
+        act(alloc, core, entry)?;
+    }
+    let entries = core.journal();
+    Ok(entries.len() == before + 1 && entries.last() == Some(entry))
+}
+
+// How many of the entries the processor makes, from the first on.
+fn made_count(alloc: Global, users: &[u32], entries: &[Entry]) -> Result<usize>
+    requires { ArePeople users.now }
+{
+    let mut core = Core::new(alloc, users)?;
+    for (count, entry) in entries.iter().enumerate() {
+        if !makes(alloc, &mut core, users, entry)? {
+            return Ok(count);
+        }
+    }
+    Ok(entries.len())
+}
+
+// Whether no user is an auxiliary.
+fn are_people(users: &[u32]) -> bool
+    ensures { IsTrue result → ArePeople users.now }
+{
+    users.iter().all(|user| !is_auxiliary(*user))
+}
+
+impl Trial for Played {
+    fn given(&self) -> usize {
+        2
+    }
+
+    fn found(&self, alloc: Global, fields: &[&str]) -> Result<String> {
+        let [users, journal, ..] = fields else {
+            bail!("users and a journal are wanted");
+        };
+        let users = users_of(alloc, *users)?;
+        let entries = entries_of(alloc, *journal)?;
+        if !are_people(&users) {
+            bail!("an auxiliary is no user");
+        }
+        let made = made_count(alloc, &users, &entries)?;
+        verdict(alloc, made, entries.len())
+    }
+}

@@ -1,0 +1,161 @@
+use anyhow::{Context, Result, bail};
+use apl_arrays::{Array, WantOfMemory};
+use case_fields::value_text;
+use case_tables::Trial;
+use std::alloc::Global;
+use sv_access::{Side, State};
+use sv_story::Share;
+
+/// Stories of a coupling: what its two sides know, and what they do since. Found are whose set is unseen, the value set
+/// last, and what each side knows, or where going over the story says another state than the share, both.
+#[derive(Clone, Copy, Debug)]
+pub struct Stories;
+
+// An access: a set of a number, or a use.
+#[derive(Clone, Copy)]
+struct Told {
+    side: Side,
+    set: Option<i64>,
+}
+
+// A number, or none for a dash.
+fn number_of(word: &str) -> Result<Option<i64>> {
+    if word == "-" {
+        return Ok(None);
+    }
+    Ok(Some(word.parse::<i64>().context("no number")?))
+}
+
+fn side_of(word: &str) -> Result<Side> {
+    match word {
+        "A" => Ok(Side::A),
+        "B" => Ok(Side::B),
+        _ => bail!("no side: {word}"),
+    }
+}
+
+fn told_of(text: &str) -> Result<Told> {
+    let (side, access) = text.split_once(' ').context("no access")?;
+    let side = side_of(side)?;
+    let set = match access.strip_prefix("set ") {
+        Some(number) => number_of(number)?,
+        None => None,
+    };
+    if set.is_none() && access != "use" {
+        bail!("no access: {access}");
+    }
+    Ok(Told { side, set })
+}
+
+fn array_of(alloc: Global, number: Option<i64>) -> Result<Option<Array>, WantOfMemory> {
+    match number {
+        None => Ok(None),
+        Some(number) => Ok(Some(Array::scalar(alloc, number)?)),
+    }
+}
+
+// The accesses of a story, with what is known at the coupling as a set before them.
+fn story_of(alloc: Global, a: Option<i64>, b: Option<i64>, field: &str) -> Result<Vec<Told>> {
+    let mut story = Vec::new(alloc);
+    if a.is_some() {
+        story.push(Told {
+            side: Side::A,
+            set: a,
+        })?;
+    } else if b.is_some() {
+        story.push(Told {
+            side: Side::B,
+            set: b,
+        })?;
+    }
+    for text in field.split(" / ") {
+        if text != "-" {
+            story.push(told_of(text)?)?;
+        }
+    }
+    Ok(story)
+}
+
+// Whose set is unseen: the last set's side, where no use by the other side follows it.
+fn scanned(story: &[Told]) -> State {
+    let mut seen = [false; 2];
+    for told in story.iter().rev() {
+        match (told.side, told.set) {
+            (Side::A, None) => seen[0] = true,
+            (Side::B, None) => seen[1] = true,
+            (Side::A, Some(_)) => return if seen[1] {
+                State::Quiet
+            } else {
+                State::UnseenA
+            },
+            (Side::B, Some(_)) => return if seen[0] {
+                State::Quiet
+            } else {
+                State::UnseenB
+            },
+        }
+    }
+    State::Quiet
+}
+
+fn state_text(state: State) -> &'static str {
+    match state {
+        State::Quiet => "-",
+        State::UnseenA => "A",
+        State::UnseenB => "B",
+    }
+}
+
+// A value that is known, or a dash.
+fn push_known(alloc: Global, text: &mut String, known: Option<&Array>) -> Result<()> {
+    text.push(' ')?;
+    match known {
+        None => text.push('-')?,
+        Some(array) => text.push_str(value_text(alloc, array)?.as_str())?,
+    }
+    Ok(())
+}
+
+// An access that is granted. A use that finds no value changes nothing.
+fn tell(alloc: Global, share: &mut Share, told: &Told) -> Result<()> {
+    match array_of(alloc, told.set)? {
+        None => drop(share.get(told.side)?),
+        Some(value) => share.set(told.side, value)?,
+    }
+    Ok(())
+}
+
+// What the share says, and what going over the story says where that is another state.
+fn shared_text(alloc: Global, share: &Share, story: &[Told]) -> Result<String> {
+    let mut text = String::from_str(alloc, state_text(share.state()))?;
+    push_known(alloc, &mut text, share.last())?;
+    push_known(alloc, &mut text, share.known(Side::A))?;
+    push_known(alloc, &mut text, share.known(Side::B))?;
+    let plain = scanned(story);
+    if plain != share.state() {
+        text.push_str(", but going over it ")?;
+        text.push_str(state_text(plain))?;
+    }
+    Ok(text)
+}
+
+impl Trial for Stories {
+    fn given(&self) -> usize {
+        2
+    }
+
+    fn found(&self, alloc: Global, fields: &[&str]) -> Result<String> {
+        let [known, accesses, ..] = fields else {
+            bail!("what is known and a story are wanted");
+        };
+        let (a, b) = known.split_once(' ').context("two values are wanted")?;
+        let (a, b) = (number_of(a)?, number_of(b)?);
+        let story = story_of(alloc, a, b, *accesses)?;
+        let mut share = Share::new(alloc, array_of(alloc, a)?, array_of(alloc, b)?);
+        let first = usize::from(a.is_some() || b.is_some());
+        for told in story.iter().skip(first) {
+            tell(alloc, &mut share, told)?;
+        }
+        shared_text(alloc, &share, &story)
+    }
+}

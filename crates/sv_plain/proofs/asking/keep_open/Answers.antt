@@ -1,0 +1,7 @@
+use Rattle.std.proofs.Common.{not, rules, tests}
+use Rattle.std.proofs.lemmas.Fn.{filter_same}
+use Rattle.sv_rules.specs.Coupling.{is_coupled}
+use Rattle.sv_plain.proofs.asking.keep_open.Goals as goal
+
+pub returns : goal.returns
+returns c = filter_same _ (λ offer. not (is_coupled c.args.coupled.now offer.place)) _ (λ x b q k. search (rules, tests)) c.args.offers.now.items _ c.retain.ensures.filtered
