@@ -361,10 +361,12 @@ cells_join users journal e legal taken pair has cells cells' fit joins = split (
         let there : share_at cells pair.a ≡ Some share.0 =
         ap (share_at cells) (sym known_pair.2) ∙ ap (option_and_then (λ (x : Cell). share_in x.held)) of_a.1 ∙ ap share_in share.1 in
         let keeps = joins.0 (subst (λ (s : Option PlainShare). IsSome s) (sym there) refl) in
-        let old = fit offer has_offer in
-        (old.0, keeps offer.place ∙ old.1,
-        subst (FitsIn (e ∷ journal) offer old.0)
-        (sym (same_at offer.place (coupling_now (e ∷ journal) offer.place) refl (λ d now h. ap (has_pair taken) (sym (one_pair offer.place d now h)) ∙ taken_c))) old.2)
+        let old = fit offer has_offer in (
+          old.0,
+          keeps offer.place ∙ old.1,
+          subst (FitsIn (e ∷ journal) offer old.0)
+              (sym (same_at offer.place (coupling_now (e ∷ journal) offer.place) refl (λ d now h. ap (has_pair taken) (sym (one_pair offer.place d now h)) ∙ taken_c))) old.2,
+        )
     split false untaken =
         let none = f_at c.a.place false at_a untaken in
         let of_a = fit c.a is.has_a in

@@ -212,4 +212,3 @@ pub leave_entry : (core : Parts) (offers : PlainOffers) (at user : ℕ) → IsEn
     (let e : PlainEntry = record { party = user; act = Leave; answer = done; made = made } in e) ≡ entry_for core.journal user Leave
 leave_entry core offers at user ends made pairs =
     entry_is core.journal user Leave done made refl (pairs ∙ sym (ending_pairs offers core.cells at user how.All core.users core.journal (entry_for core.journal user Leave) ends))
-

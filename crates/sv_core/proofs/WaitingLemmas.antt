@@ -220,4 +220,3 @@ no_wait_to_leave users (e ∷ journal) legal party act h leaves = elim (cases_Bo
       both_ways (is_held (kind_of e.answer)) done parts.0
   | inr other ↦ no_wait_to_leave users journal legal.1 party act (rw other at h) leaves
 ]
-

@@ -169,12 +169,7 @@ fn use_alone(cells: &mut Cells, place: u64)
 
 // A side of a coupling, with its offer at a place, uses what is shared at home. It takes memory for what the side comes to
 // know; after `WantOfMemory` the cells are as before.
-fn use_shared(
-    cells: &mut Cells,
-    home: u64,
-    place: u64,
-    side: Side,
-) -> Result<(), WantOfMemory>
+fn use_shared(cells: &mut Cells, home: u64, place: u64, side: Side) -> Result<(), WantOfMemory>
     requires home { IsSome (share_at cells.old home) }
     requires own { IsSome (cell_at cells.old place) }
     ensures ok { (cell : Cell) (share : PlainShare) → cell_at cells.old home ≡ Some cell → cell.held ≡ Shared share →

@@ -10,6 +10,6 @@ use Rattle.sv_core.proofs.updating.use_alone.Goals as goal
 pub returns : goal.returns
 returns c cell value there held =
     let got : c.knows-got.result ≡ is_some value =
-        c.knows-got.ensures ∙ ap (λ (o : Option Cell). is_some (option_and_then (λ (x : Cell). known_alone x.held) o)) there ∙ ap (λ (h : Held). is_some (known_alone h)) held in
+    c.knows-got.ensures ∙ ap (λ (o : Option Cell). is_some (option_and_then (λ (x : Cell). known_alone x.held) o)) there ∙ ap (λ (h : Held). is_some (known_alone h)) held in
     uses_alone c.args.cells.now c.answered.new.self c.args.place cell value there held
     (subst (λ (g : Bool). ChangesAt c.args.cells.now c.answered.new.self c.args.place (λ x. answered x g)) got c.answered.ensures)

@@ -11,7 +11,7 @@ use Rattle.sv_core.proofs.updating.use_shared.Goals as goal
 pub returns-clause-ok : goal.returns-clause-ok
 returns-clause-ok c cell share there held =
     let got : c.in_ok-got.got ≡ is_some (shared_value share) =
-        c.in_ok-got.ensures.got ∙ ap (λ (o : Option Cell). is_some (option_and_then shared_value (option_and_then (λ (x : Cell). share_in x.held) o))) there
-        ∙ ap (λ (h : Held). is_some (option_and_then shared_value (share_in h))) held in
+    c.in_ok-got.ensures.got ∙ ap (λ (o : Option Cell). is_some (option_and_then shared_value (option_and_then (λ (x : Cell). share_in x.held) o))) there
+    ∙ ap (λ (h : Held). is_some (option_and_then shared_value (share_in h))) held in
     uses_shared c.args.cells.now c.use_value.new.self c.answered.new.self c.args.home c.args.place c.args.side cell share there held c.in_ok-got.ensures.ok
     (subst (λ (g : Bool). ChangesAt c.use_value.new.self c.answered.new.self c.args.place (λ x. answered x g)) got c.answered.ensures)

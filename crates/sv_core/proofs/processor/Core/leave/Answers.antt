@@ -23,9 +23,12 @@ take_spare-made-requires-clause-some c =
 pub end_together-requires-clause-ready : goal.end_together-requires-clause-ready
 end_together-requires-clause-ready c =
     let member = subst (λ (v : PlainCore). is_user v.users c.args.user ≡ true) (sym c.self.view_is) c.requires.member in
-    let here = subst (λ (v : PlainCore). not (has_left v.journal c.args.user) ≡ true) (sym c.self.view_is) c.requires.present in
-    (c.self.inside.log.users, c.self.inside.log.journal, entry_for c.self.inside.log.journal c.args.user Leave,
-    leave_ends (parts_of c.self.inside) c.self.invariant c.self.inside.offers c.next_place-at.result c.args.user refl refl c.next_place-at.ensures member here)
+    let here = subst (λ (v : PlainCore). not (has_left v.journal c.args.user) ≡ true) (sym c.self.view_is) c.requires.present in (
+      c.self.inside.log.users,
+      c.self.inside.log.journal,
+      entry_for c.self.inside.log.journal c.args.user Leave,
+      leave_ends (parts_of c.self.inside) c.self.invariant c.self.inside.offers c.next_place-at.result c.args.user refl refl c.next_place-at.ensures member here,
+    )
 
 pub end_together-requires-clause-room : goal.end_together-requires-clause-room
 end_together-requires-clause-room c =
