@@ -12,7 +12,6 @@ use Rattle.sv_events.specs.declared.event.Act.TheVariants.{Leave}
 use Rattle.sv_events.specs.declared.event.Hold.{Hold}
 use Rattle.sv_rules.specs.Entries.{Entries, has_left, is_full, is_held, kind_of}
 use Rattle.sv_rules.specs.Legal.{act_due, entry_for, is_user, may_do}
-use Rattle.sv_rules.specs.Outcome.{outcome}
 use Rattle.sv_rules.specs.Refused.{awaited, refused, waits}
 use Rattle.sv_rules.specs.Work.{is_auxiliary}
 use Rattle.sv_story_laws.specs.WaitLaws.{SetNoControl}
