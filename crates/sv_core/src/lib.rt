@@ -9,8 +9,6 @@ mod leaves;
 mod opening;
 mod processor;
 mod telling;
-#[cfg(test)]
-mod tests;
 mod updating;
 mod working;
 
