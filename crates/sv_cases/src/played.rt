@@ -1,6 +1,7 @@
-ghost use Rattle.std.specs.Prelude.{◌≡◌, ◌×◌, Bool, None, Some, IsTrue, IfOk, IfSome, not, false, true};
+ghost use Rattle.std.specs.Prelude.{◌≡◌, Bool, None, Some, IsTrue, IfOk, IfSome, not, false, true};
 ghost use Rattle.sv_core.specs.Core.{ArePeople};
 ghost use Rattle.sv_events.specs.Row.{act_row};
+ghost use Rattle.sv_events.specs.declared.work.Work.TheVariants.{Reply};
 ghost use Rattle.sv_rules.specs.Entries.{has_left, is_leave};
 ghost use Rattle.sv_rules.specs.Legal.{act_for, is_user};
 ghost use Rattle.sv_rules.specs.Refused.{awaited};
@@ -8,7 +9,7 @@ ghost use Rattle.sv_rules.specs.Work.{is_auxiliary};
 
 use crate::journals::{entries_of, users_of, verdict};
 use anyhow::{Result, bail};
-use apl_arrays::Array;
+use apl_arrays::{Array, Name};
 use case_tables::Trial;
 use std::alloc::Global;
 use sv_core::Core;
@@ -27,17 +28,24 @@ fn act_due(alloc: Global, work: Work, place: u64, act: &Act) -> Result<Option<Ac
 {
     match work {
         Work::Idle => Ok(None),
-        Work::Reply(_) => reply_due(alloc, work, place, act.hands_in()),
+        Work::Reply(name) => reply_due(alloc, name, place, act.hands_in()),
         Work::Retract(_) | Work::Control(_) | Work::Counter { .. } | Work::Use(_) => {
             Ok(Some(act_of(work, place, None)))
         }
     }
 }
 
-fn reply_due(alloc: Global, work: Work, place: u64, reply: Option<&Array>) -> Result<Option<Act>> {
+// The reply to a name's value by this value, if there is one.
+fn reply_due(alloc: Global, name: Name, place: u64, reply: Option<&Array>) -> Result<Option<Act>>
+    ensures due { IfOk result (λ due. IfSome due (λ new. act_for (Reply name) place (act_row new).hands_in ≡ Some new)) }
+    ensures stays { IfOk result (λ due. IfSome due (λ new. IsTrue (not (is_leave new)))) }
+{
     match reply {
         None => Ok(None),
-        Some(reply) => Ok(Some(act_of(work, place, Some(reply.copy(alloc)?)))),
+        Some(reply) => {
+            let reply = reply.copy(alloc)?;
+            Ok(Some(act_of(Work::Reply(name), place, Some(reply))))
+        }
     }
 }
 
