@@ -89,7 +89,11 @@ fn names(alloc: Global) -> Result<String> {
         let value = zeros(alloc, 16_384)?;
         step(&mut core, 1001, Act::Set(numbered(0)?, value))?;
     }
-    step(&mut core, 1001, Act::Set(numbered(0)?, zeros(alloc, 16_000)?))?;
+    step(
+        &mut core,
+        1001,
+        Act::Set(numbered(0)?, zeros(alloc, 16_000)?),
+    )?;
     let first = told(&mut core)?;
     let next = told(&mut core)?;
     Ok(format!(in alloc; "{first} {next}")?)
