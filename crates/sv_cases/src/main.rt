@@ -2,6 +2,7 @@
 // processor, and prints how each came out.
 #![tactic(auto)]
 
+mod filled;
 mod journals;
 mod judged;
 mod lines;
@@ -11,6 +12,7 @@ mod value_lines;
 
 use anyhow::Result;
 use case_tables::{conclude, run_table};
+use filled::Filled;
 use judged::Judged;
 use lines::JournalLines;
 use played::Played;
@@ -26,5 +28,6 @@ fn main(rt: HostRuntime) -> Result<ExitCode> {
     tally.add(run_table(&rt, "legal_journals.txt", &Judged)?);
     tally.add(run_table(&rt, "legal_journals.txt", &Played)?);
     tally.add(run_table(&rt, "illegal_journals.txt", &Judged)?);
+    tally.add(run_table(&rt, "filled.txt", &Filled)?);
     conclude(&rt, tally)
 }
