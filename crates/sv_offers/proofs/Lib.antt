@@ -1,1 +1,4 @@
+mod FindingLemmas
+mod MatchLemmas
+mod ShelfLemmas
 mod TableLemmas

@@ -7,6 +7,7 @@ use Rattle.sv_rules.specs.declared.standing.Standing.{Standing}
 use Rattle.sv_rules.specs.Standing.{without_ended}
 use Rattle.sv_rules.specs.Coupling.{is_coupled, couplings_among, reopened_among, recoupled, made_by_ending, kept_by_ending, reopened_by_ending}
 use Rattle.sv_offer_laws.proofs.Members.{filter-filter}
+use Rattle.sv_offers.proofs.FindingLemmas.{found_among}
 use Rattle.sv_offers.specs.Table.{PlainOffers, is_open_to, open_among}
 
 and-comm : (a b : Bool) → (a && b) ≡ (b && a)
@@ -61,3 +62,27 @@ recoupled_is_made at offers coupled party ending left opened kept is_left is_kep
     ap (λ k. recoupled at left k opened) is_kept
     ∙ ap (λ l. recoupled at l (couplings_among l coupled) opened) is_left
     ∙ ap (λ o. recoupled at (without_ended offers party ending) (couplings_among (without_ended offers party ending) coupled) o) is_opened
+
+-- the open offers among those made to a party
+both_ways : (t n : Bool) → (t && (t && n)) ≡ (n && t)
+both_ways true true = refl
+both_ways true false = refl
+both_ways false true = refl
+both_ways false false = refl
+
+pub open_made_to : (table : PlainOffers) (party : ℕ) →
+    filter (is_open_to table.coupled party) (filter (λ (offer : Standing). eqb offer.to party) table.offers) ≡ open_among table party
+open_made_to table party =
+    filter-filter (is_open_to table.coupled party) (λ (offer : Standing). eqb offer.to party) table.offers
+    ∙ filter_alike _ _ (λ offer. both_ways (eqb offer.to party) (not (is_coupled table.coupled offer.place))) table.offers
+    ∙ sym (filter-filter (λ (offer : Standing). eqb offer.to party) (λ (offer : Standing). not (is_coupled table.coupled offer.place)) table.offers)
+
+first_true : (a b : Bool) → (a && b) ≡ true → a ≡ true
+first_true true b h = refl
+first_true false b h = h
+
+pub first_made_to : (table : PlainOffers) (party : ℕ) →
+    find (is_open_to table.coupled party) (filter (λ (offer : Standing). eqb offer.to party) table.offers) ≡ find (λ _. true) (open_among table party)
+first_made_to table party =
+    found_among (is_open_to table.coupled party) (λ (offer : Standing). eqb offer.to party) (λ offer open'. first_true (eqb offer.to party) (not (is_coupled table.coupled offer.place)) open') table.offers
+    ∙ sym (first_by_test table party)

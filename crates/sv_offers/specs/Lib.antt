@@ -1,2 +1,5 @@
+pub mod Finding
+pub mod Inside
 pub mod Placing
+pub mod Shelf
 pub mod Table

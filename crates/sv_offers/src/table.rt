@@ -3,35 +3,35 @@ ghost use Rattle.sv_offers.specs.Table.{after_ending, after_offer, open_among, p
 ghost use Rattle.sv_rules.specs.Coupling.{coupling_at, degree_at, is_coupled, kept_by_ending, open_match, reopened_by_ending};
 ghost use Rattle.sv_rules.specs.Standing.{offer_count, own_offer};
 
+use crate::couplings::Couplings;
 use crate::listing::{first_to, names_of, open_to, parties_of};
-use crate::room::{end_together, join, keep_open, note_coupled, recouple};
+use crate::matching::{coupling_at, open_match};
+use crate::room::{join, keep_open, note_coupled, recouple};
+use crate::standings::Standings;
 use apl_arrays::{Name, NameList, PartyList, WantOfMemory};
 use std::alloc::Global;
 use std::marker::Model;
 use sv_events::{Ending, PairList};
-use sv_rules::{
-    Coupling, Made, Standing, coupling_at, degree_at, is_coupled, keep_couplings, offer_count,
-    open_match, own_offer,
-};
+use sv_rules::{Coupling, Standing};
 
 /// The offers that stand, by place, and the couplings, in the order in which they were made.
 #[derive(Drop)]
 pub struct Offers {
-    offers: Vec<Standing>,
-    coupled: Vec<Made>,
+    offers: Standings,
+    coupled: Couplings,
     // Room to note the offers that an ending reopens.
     reopened: Vec<Standing>,
 }
 
 impl Model for Offers {
-    ghost use Rattle.std.specs.Prelude.{◌≤◌, vec_len, vec_capacity};
+    ghost use Rattle.std.specs.Prelude.{◌≤◌, length, vec_capacity};
     ghost use Rattle.sv_offers.specs.Table.{PlainOffers};
 
     ghost Value = { PlainOffers };
 
-    ghost view = { λ t. record { offers = t.offers.items; coupled = t.coupled.items } };
+    ghost view = { λ t. record { offers = t.offers; coupled = t.coupled.items } };
 
-    ghost invariant = { λ t. vec_len t.offers ≤ vec_capacity t.reopened };
+    ghost invariant = { λ t. length t.offers ≤ vec_capacity t.reopened };
 }
 
 impl Offers {
@@ -40,8 +40,8 @@ impl Offers {
         ensures { result ≡ record { offers = []; coupled = [] } }
     {
         Offers {
-            offers: Vec::new(alloc),
-            coupled: Vec::new(alloc),
+            offers: Standings::new(alloc),
+            coupled: Couplings::new(alloc),
             reopened: Vec::new(alloc),
         }
     }
@@ -50,35 +50,35 @@ impl Offers {
     pub fn as_slice(&self) -> &[Standing]
         ensures { result.now ≡ self.now.offers }
     {
-        &self.offers
+        self.offers.as_slice()
     }
 
     /// The offer of a party of a local name, if it stands. No memory.
     pub fn find(&self, party: u32, local: &Name) -> Option<Standing>
         ensures { result ≡ own_offer self.now.offers party local.now }
     {
-        own_offer(&self.offers, party, local)
+        self.offers.find(party, local)
     }
 
     /// How many offers of a party stand. No memory.
     pub fn count(&self, party: u32) -> usize
         ensures { result ≡ offer_count self.now.offers party }
     {
-        offer_count(&self.offers, party)
+        self.offers.count(party)
     }
 
     /// 2 where the offer at a place is coupled, else 1. No memory.
     pub fn degree(&self, place: u64) -> u8
         ensures { result ≡ degree_at self.now.coupled place }
     {
-        degree_at(&self.coupled, place)
+        if self.coupled.has(place) { 2 } else { 1 }
     }
 
     /// Whether the offer at a place is coupled. No memory.
     pub fn is_coupled(&self, place: u64) -> bool
         ensures { result ≡ is_coupled self.now.coupled place }
     {
-        is_coupled(&self.coupled, place)
+        self.coupled.has(place)
     }
 
     /// The coupling of the offer at a place, if it has one. No memory.
@@ -99,14 +99,14 @@ impl Offers {
     pub fn oldest_to(&self, party: u32) -> Option<Standing>
         ensures { result ≡ find (λ _. true) (open_among self.now party) }
     {
-        first_to(&self.offers, &self.coupled, party)
+        first_to(self.offers.made_to(party), &self.coupled, party)
     }
 
     /// The parties with open offers made to a party by its number, ascending, each once. It takes memory for them.
     pub fn parties_to(&self, alloc: Global, party: u32) -> Result<PartyList, WantOfMemory>
         ensures { IfOk result (λ list. list.items ≡ parties_of (open_among self.now party)) }
     {
-        let opened = open_to(alloc, &self.offers, &self.coupled, party)?;
+        let opened = open_to(alloc, self.offers.made_to(party), &self.coupled, party)?;
         parties_of(alloc, &opened)
     }
 
@@ -115,7 +115,7 @@ impl Offers {
     pub fn names_to(&self, alloc: Global, from: u32, to: u32) -> Result<NameList, WantOfMemory>
         ensures { IfOk result (λ list. list.items ≡ surrogates_of (open_among self.now to) from) }
     {
-        let opened = open_to(alloc, &self.offers, &self.coupled, to)?;
+        let opened = open_to(alloc, self.offers.made_to(to), &self.coupled, to)?;
         names_of(alloc, &opened, from)
     }
 
@@ -126,12 +126,11 @@ impl Offers {
         ensures partner { IfOk result (λ other. other ≡ open_match self.old.offers self.old.coupled new.now) }
         ensures err { OnErr result (self.new ≡ self.old) }
     {
-        self.offers.reserve(1)?;
-        self.coupled.reserve(1)?;
-        self.reopened.reserve(self.offers.len() + 1)?;
+        self.coupled.reserve()?;
+        self.reopened.reserve(self.offers.as_slice().len() + 1)?;
         let other = open_match(&self.offers, &self.coupled, new);
+        self.offers.add(new)?;
         join(&mut self.coupled, &other, new);
-        self.offers.push_reserved(*new);
         Ok(other)
     }
 
@@ -146,9 +145,9 @@ impl Offers {
         ensures made { made.new.items ≡ made.old.items ++ pairs_made at self.old party ending }
     {
         self.reopened.clear();
-        end_together(&mut self.offers, party, ending);
-        note_coupled(&mut self.reopened, &self.offers, &self.coupled);
-        keep_couplings(&mut self.coupled, &self.offers);
+        self.offers.end(party, &ending);
+        note_coupled(&mut self.reopened, self.offers.as_slice(), &self.coupled);
+        self.coupled.keep(&self.offers);
         keep_open(&mut self.reopened, &self.coupled);
         recouple(at, &self.offers, &mut self.coupled, &self.reopened, made);
     }

@@ -6,4 +6,4 @@ use Rattle.sv_offers.proofs.listing.first_to.Goals as goal
 
 pub returns : goal.returns
 returns c =
-    c.copied.ensures ∙ find_from_yields_List (is_open_to c.args.coupled.now c.args.party) _ _ c.find.result c.find.ensures.ran (YieldsList-from_slice c.args.offers.now cc) (λ x b q k. search (rules, tests))
+    c.copied.ensures ∙ find_from_yields_List (is_open_to c.args.coupled.now.items c.args.party) _ _ c.find.result c.find.ensures.ran (YieldsList-from_slice c.args.offers.now cc) (λ x b q k. search (rules, tests))

@@ -1,4 +1,4 @@
-use Rattle.std.proofs.Common.{◌≡◌, ◌≤◌, ◌+◌, ◌++◌, length, map, drop, vec_len, vec_capacity}
+use Rattle.std.proofs.Common.{◌≡◌, ◌≤◌, ◌++◌, length, map, drop}
 use Rattle.sv_rules.specs.Coupling.{recoupled}
 use Rattle.sv_offers.proofs.room.recouple.Given as goal
 
@@ -7,7 +7,6 @@ abbrev pub invariant-loop-offer : goal.invariant-loop-offer
 invariant-loop-offer l = record {
   items : l.coupled.items ++ recoupled l.at l.offers l.coupled.items (drop l.offer-index l.reopened) ≡ l.initial.coupled.items ++ recoupled l.at l.offers l.initial.coupled.items l.reopened;
   pairs : l.made.items ++ map (λ made. made.pair) (recoupled l.at l.offers l.coupled.items (drop l.offer-index l.reopened)) ≡ l.initial.made.items ++ map (λ made. made.pair) (recoupled l.at l.offers l.initial.coupled.items l.reopened);
-  room : vec_len l.coupled + length (drop l.offer-index l.reopened) ≤ vec_capacity l.coupled;
-  capacity : vec_capacity l.coupled ≡ vec_capacity l.initial.coupled;
+  room : length (drop l.offer-index l.reopened) ≤ l.coupled.room;
   made_room : length (drop l.offer-index l.reopened) ≤ l.made.room;
 }

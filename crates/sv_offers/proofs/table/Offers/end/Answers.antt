@@ -1,64 +1,72 @@
-use Rattle.std.proofs.Common.{◌≡◌, ◌∙◌, ◌++◌, ap, sym, filter, length, map, arith}
-use Rattle.sv_rules.specs.Standing.{without_ended}
+use Rattle.std.proofs.Common.{◌≡◌, ◌∙◌, ◌++◌, ap, not, List, length, map, arith}
+use Rattle.std.specs.List.{filter}
+use Rattle.sv_rules.specs.Standing.{is_ended, without_ended}
 use Rattle.sv_rules.specs.declared.standing.Standing.{Standing}
 use Rattle.sv_rules.specs.declared.coupling.Made.{Made}
-use Rattle.sv_rules.specs.Coupling.{is_coupled, couplings_among, kept_by_ending, reopened_by_ending, recoupled, made_by_ending}
+use Rattle.sv_rules.specs.Coupling.{is_coupled, couplings_among, kept_by_ending, reopened_by_ending, made_by_ending}
 use Rattle.sv_offers.specs.Table.{PlainOffers, after_ending, pairs_made}
 use Rattle.sv_offers.proofs.TableLemmas.{noted_are_reopened, recoupled_is_made}
+use Rattle.sv_offers.proofs.ShelfLemmas.{fewer_pass}
 use Rattle.sv_offers.proofs.table.Offers.end.Goals as goal
-use Rattle.sv_offers.proofs.table.Offers.end.Goals.{After-deref-6}
-
--- the offers that are left
-left_is : (c : After-deref-6) → c.end_together.new.offers.items ≡ without_ended c.self.inside.offers.items c.args.party c.args.ending
-left_is c = c.end_together.ensures.items
-
--- the couplings that are kept
-kept_is : (c : After-deref-6) → c.keep_couplings.new.coupled.items ≡ couplings_among c.end_together.new.offers.items c.self.inside.coupled.items
-kept_is c = c.keep_couplings.ensures.items ∙ ap (λ l. couplings_among l c.self.inside.coupled.items) c.deref-3.ensures.value
-
--- the offers that are reopened
-open_is : (c : After-deref-6) → c.deref-6.result.now ≡ reopened_by_ending c.self.inside.offers.items c.self.inside.coupled.items c.args.party c.args.ending
-open_is c =
-    noted_are_reopened c.self.inside.offers.items c.self.inside.coupled.items c.args.party c.args.ending c.end_together.new.offers.items c.note_coupled.new.noted.items c.deref-6.result.now c.deref-4.result.now
-    (left_is c)
-    (c.deref-4.ensures.value ∙ kept_is c)
-    (c.note_coupled.ensures.items ∙ ap (λ l. filter (λ offer. is_coupled c.deref-2.result.now offer.place) l) c.deref.ensures.value ∙ ap (λ k. filter (λ offer. is_coupled k offer.place) c.end_together.new.offers.items) c.deref-2.ensures.value)
-    (c.deref-6.ensures.value ∙ c.keep_open.ensures.items)
-
--- the pairs that are made
-recoupled_is : (c : After-deref-6) → recoupled c.args.at c.deref-5.result.now c.keep_couplings.new.coupled.items c.deref-6.result.now ≡ made_by_ending c.args.at c.self.inside.offers.items c.self.inside.coupled.items c.args.party c.args.ending
-recoupled_is c =
-    ap (λ l. recoupled c.args.at l c.keep_couplings.new.coupled.items c.deref-6.result.now) c.deref-5.ensures.value
-    ∙ recoupled_is_made c.args.at c.self.inside.offers.items c.self.inside.coupled.items c.args.party c.args.ending c.end_together.new.offers.items c.deref-6.result.now c.keep_couplings.new.coupled.items (left_is c) (kept_is c) (open_is c)
 
 pub recouple-requires-clause-room : goal.recouple-requires-clause-room
 recouple-requires-clause-room c =
-    let d = (goal.at.recouple-requires-clause-room c).After-deref-6 in
-    let kept = ap length (kept_is d ∙ ap (λ l. couplings_among l c.self.inside.coupled.items) (left_is d)) in
+    let offers = c.self.inside.offers in
+    let coupled = c.self.inside.coupled.items in
+    let opened = noted_are_reopened offers coupled c.args.party c.args.ending c.end.new.self c.note_coupled.new.noted.items c.deref.result.now c.keep.new.self.items
+    c.end.ensures c.keep.ensures.items
+    (c.note_coupled.ensures.items ∙ ap (λ (l : List Standing). filter (λ offer. is_coupled coupled offer.place) l) c.as_slice.ensures)
+    (c.deref.ensures.value ∙ c.keep_open.ensures.items) in
+    let kept = ap length (c.keep.ensures.items ∙ ap (λ (l : List Standing). couplings_among l coupled) c.end.ensures) in
     let no_more = ap (λ (v : PlainOffers). length (kept_by_ending v.offers v.coupled c.args.party c.args.ending)) c.self.view_is in
     let reopened = ap (λ (v : PlainOffers). length (reopened_by_ending v.offers v.coupled c.args.party c.args.ending)) c.self.view_is in
     let all = ap (λ (v : PlainOffers). length v.coupled) c.self.view_is in
-    omega (arith, ap length (open_is d), kept, no_more, reopened, all, c.requires.no_more, c.keep_couplings.new.coupled.ok.0, c.keep_couplings.ensures.capacity, c.self.inside.coupled.ok.0)
+    omega (arith, ap length opened, kept, no_more, reopened, all, c.requires.no_more, c.keep.ensures.room)
 
 pub recouple-requires-clause-pairs : goal.recouple-requires-clause-pairs
 recouple-requires-clause-pairs c =
-    let d = (goal.at.recouple-requires-clause-pairs c).After-deref-6 in
+    let offers = c.self.inside.offers in
+    let coupled = c.self.inside.coupled.items in
+    let opened = noted_are_reopened offers coupled c.args.party c.args.ending c.end.new.self c.note_coupled.new.noted.items c.deref.result.now c.keep.new.self.items
+    c.end.ensures c.keep.ensures.items
+    (c.note_coupled.ensures.items ∙ ap (λ (l : List Standing). filter (λ offer. is_coupled coupled offer.place) l) c.as_slice.ensures)
+    (c.deref.ensures.value ∙ c.keep_open.ensures.items) in
     let reopened = ap (λ (v : PlainOffers). length (reopened_by_ending v.offers v.coupled c.args.party c.args.ending)) c.self.view_is in
-    omega (arith, ap length (open_is d), reopened, c.requires.room)
+    omega (arith, ap length opened, reopened, c.requires.room)
 
 pub returns-clause-table : goal.returns-clause-table
 returns-clause-table c =
-    let d = (goal.at.returns-clause-table c).After-deref-6 in
-    let offers = left_is d in
-    let coupled = c.recouple.ensures.items ∙ ap (λ xs. c.keep_couplings.new.coupled.items ++ xs) (recoupled_is d)
-    ∙ ap (λ xs. xs ++ made_by_ending c.args.at c.self.inside.offers.items c.self.inside.coupled.items c.args.party c.args.ending) (kept_is d ∙ ap (λ l. couplings_among l c.self.inside.coupled.items) offers) in
-    ap (λ os. let t : PlainOffers = record { offers = os; coupled = c.recouple.new.coupled.items } in t) offers
-    ∙ ap (λ ms. let t : PlainOffers = record { offers = without_ended c.self.inside.offers.items c.args.party c.args.ending; coupled = ms } in t) coupled
+    let offers = c.self.inside.offers in
+    let coupled = c.self.inside.coupled.items in
+    let opened = noted_are_reopened offers coupled c.args.party c.args.ending c.end.new.self c.note_coupled.new.noted.items c.deref.result.now c.keep.new.self.items
+    c.end.ensures c.keep.ensures.items
+    (c.note_coupled.ensures.items ∙ ap (λ (l : List Standing). filter (λ offer. is_coupled coupled offer.place) l) c.as_slice.ensures)
+    (c.deref.ensures.value ∙ c.keep_open.ensures.items) in
+    let made = recoupled_is_made c.args.at offers coupled c.args.party c.args.ending c.end.new.self c.deref.result.now c.keep.new.self.items c.end.ensures c.keep.ensures.items opened in
+    let pairs = c.recouple.ensures.items ∙ ap (λ (xs : List Made). c.keep.new.self.items ++ xs) made
+    ∙ ap (λ (xs : List Made). xs ++ made_by_ending c.args.at offers coupled c.args.party c.args.ending) (c.keep.ensures.items ∙ ap (λ (l : List Standing). couplings_among l coupled) c.end.ensures) in
+    ap (λ (os : List Standing). let t : PlainOffers = record { offers = os; coupled = c.recouple.new.coupled.items } in t) c.end.ensures
+    ∙ ap (λ (ms : List Made). let t : PlainOffers = record { offers = without_ended offers c.args.party c.args.ending; coupled = ms } in t) pairs
     ∙ ap (λ (v : PlainOffers). after_ending c.args.at v c.args.party c.args.ending) c.self.view_is
 
 pub returns-clause-made : goal.returns-clause-made
 returns-clause-made c =
-    let d = (goal.at.returns-clause-made c).After-deref-6 in
-    c.recouple.ensures.made
-    ∙ ap (λ xs. c.args.made.now.items ++ map (λ made. made.pair) xs) (recoupled_is d)
+    let offers = c.self.inside.offers in
+    let coupled = c.self.inside.coupled.items in
+    let opened = noted_are_reopened offers coupled c.args.party c.args.ending c.end.new.self c.note_coupled.new.noted.items c.deref.result.now c.keep.new.self.items
+    c.end.ensures c.keep.ensures.items
+    (c.note_coupled.ensures.items ∙ ap (λ (l : List Standing). filter (λ offer. is_coupled coupled offer.place) l) c.as_slice.ensures)
+    (c.deref.ensures.value ∙ c.keep_open.ensures.items) in
+    let made = recoupled_is_made c.args.at offers coupled c.args.party c.args.ending c.end.new.self c.deref.result.now c.keep.new.self.items c.end.ensures c.keep.ensures.items opened in
+    c.recouple.ensures.made ∙ ap (λ (xs : List Made). c.args.made.now.items ++ map (λ made. made.pair) xs) made
     ∙ ap (λ (v : PlainOffers). c.args.made.now.items ++ pairs_made c.args.at v c.args.party c.args.ending) c.self.view_is
+
+pub note_coupled-requires-clause-room : goal.note_coupled-requires-clause-room
+note_coupled-requires-clause-room c =
+    let fewer = fewer_pass (λ (offer : Standing). not (is_ended c.args.party c.args.ending offer)) c.self.inside.offers in
+    omega (arith, ap length (c.as_slice.ensures ∙ c.end.ensures), fewer, c.self.invariant, c.clear.ensures.capacity)
+
+pub invariant_of-self : goal.invariant_of-self
+invariant_of-self c =
+    let fewer = fewer_pass (λ (offer : Standing). not (is_ended c.args.party c.args.ending offer)) c.self.inside.offers in
+    omega (arith, ap length c.end.ensures, fewer, c.self.invariant, c.clear.ensures.capacity, c.note_coupled.ensures.capacity, c.keep_open.ensures.capacity)

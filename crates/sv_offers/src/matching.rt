@@ -1,0 +1,67 @@
+ghost use Rattle.std.specs.Prelude.{◌≡◌, filter};
+ghost use Rattle.sv_offers.specs.Table.{may_match};
+ghost use Rattle.sv_rules.specs.Coupling.{coupling_at, coupling_of, is_open_match, open_match, rejoined};
+
+use crate::couplings::Couplings;
+use crate::standings::Standings;
+use sv_rules::{Coupling, Made, Standing, is_match, pair_of};
+
+fn is_open_match(coupled: &Couplings, offer: &Standing, other: &Standing) -> bool
+    ensures { result ≡ is_open_match coupled.now.items offer.now other.now }
+{
+    !coupled.has(other.place) && is_match(offer, other)
+}
+
+// The offers among which the matches of an offer are: those of the party that it is made to, or where it is made to any
+// those made to its party.
+fn candidates<'a>(offers: &'a Standings, offer: &Standing) -> &'a [Standing]
+    ensures { result.now ≡ filter (may_match offer.now) offers.now }
+{
+    if offer.to == 0 {
+        offers.made_to(offer.party)
+    } else {
+        offers.of(offer.to)
+    }
+}
+
+/// Of the open matches of an offer the oldest, if it has any. No memory.
+pub fn open_match(offers: &Standings, coupled: &Couplings, offer: &Standing) -> Option<Standing>
+    ensures { result ≡ open_match offers.now coupled.now.items offer.now }
+{
+    let among = candidates(offers, offer);
+    among
+        .iter()
+        .find(|other| is_open_match(coupled, offer, other))
+        .copied()
+}
+
+/// The pair that a reopened offer makes at a place: with its open match, where it is still open itself and has one. No
+/// memory.
+pub fn rejoined(at: u64, offers: &Standings, coupled: &Couplings, offer: &Standing) -> Option<Made>
+    ensures { result ≡ rejoined at offers.now coupled.now.items offer.now }
+{
+    if coupled.has(offer.place) {
+        return None;
+    }
+    let other = open_match(offers, coupled, offer)?;
+    Some(Made {
+        pair: pair_of(offer, &other),
+        at,
+    })
+}
+
+fn coupling_of(offers: &Standings, made: &Made) -> Option<Coupling>
+    ensures { result ≡ coupling_of offers.now made.now }
+{
+    let a = offers.at(made.pair.a)?;
+    let b = offers.at(made.pair.b)?;
+    Some(Coupling { a, b, at: made.at })
+}
+
+/// The coupling of the offer at a place, if it has one. No memory.
+pub fn coupling_at(offers: &Standings, coupled: &Couplings, place: u64) -> Option<Coupling>
+    ensures { result ≡ coupling_at offers.now coupled.now.items place }
+{
+    let made = coupled.with(place)?;
+    coupling_of(offers, &made)
+}

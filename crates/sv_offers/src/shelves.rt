@@ -1,0 +1,108 @@
+ghost use Rattle.std.specs.Prelude.{◌≡◌, ◌≤◌, ◌==◌, ℕ, [], IsSome, OnOk, is_some, nat_eq, vec_len, vec_capacity, if◌then◌else◌};
+ghost use Rattle.std.specs.HashMap.{get};
+ghost use Rattle.sv_offers.specs.Shelf.{shelf_at};
+ghost use Rattle.sv_rules.specs.Standing.{without_ended};
+
+use apl_arrays::WantOfMemory;
+use std::alloc::Global;
+use std::collections::HashMap;
+use sv_events::Ending;
+use sv_rules::{Standing, end_offer, end_offers};
+
+/// Offers in lists by a party: of a party without a list there are none.
+#[derive(Drop)]
+pub struct Shelves {
+    alloc: Global,
+    lists: HashMap<u32, Vec<Standing>>,
+}
+
+impl Shelves {
+    /// No lists. No memory.
+    pub fn new(alloc: Global) -> Shelves
+        ensures { (party : ℕ) → shelf_at result party ≡ [] }
+    {
+        Shelves {
+            alloc,
+            lists: HashMap::new(alloc),
+        }
+    }
+
+    /// The offers of a party's list. No memory.
+    pub fn of(&self, party: u32) -> &[Standing]
+        ensures { result.now ≡ shelf_at self.now party }
+    {
+        match self.lists.get(&party) {
+            None => &[],
+            Some(list) => list.as_slice(),
+        }
+    }
+
+    /// Whether there is a list of a party. No memory.
+    pub fn has(&self, party: u32) -> bool
+        ensures { result ≡ is_some (get nat_eq self.now.lists party) }
+    {
+        self.lists.contains_key(&party)
+    }
+
+    /// There is a list of a party, and the lists are as before. It takes memory for one.
+    pub fn open(&mut self, party: u32) -> Result<(), WantOfMemory>
+        ensures same { (at : ℕ) → shelf_at self.new at ≡ shelf_at self.old at }
+        ensures kept { (at : ℕ) → IsSome (get nat_eq self.old.lists at) → IsSome (get nat_eq self.new.lists at) }
+        ensures ok { OnOk result (IsSome (get nat_eq self.new.lists party)) }
+    {
+        if !self.has(party) {
+            self.lists.insert(party, Vec::new(self.alloc))?;
+        }
+        Ok(())
+    }
+
+    /// Takes a list out, and leaves an empty one. No memory.
+    pub fn take(&mut self, party: u32) -> Vec<Standing>
+        requires { IsSome (get nat_eq self.old.lists party) }
+        ensures list { result.items ≡ shelf_at self.old party }
+        ensures rest { (at : ℕ) → shelf_at self.new at ≡ (if party == at then [] else shelf_at self.old at) }
+        ensures kept { (at : ℕ) → IsSome (get nat_eq self.old.lists at) → IsSome (get nat_eq self.new.lists at) }
+    {
+        match self.lists.insert(party, Vec::new(self.alloc)) {
+            Ok(Some(list)) => list,
+            Ok(None) | Err(_) => unreachable!(),
+        }
+    }
+
+    /// Puts a list in the place of one. No memory.
+    pub fn put(&mut self, party: u32, list: Vec<Standing>)
+        requires { IsSome (get nat_eq self.old.lists party) }
+        ensures lists { (at : ℕ) → shelf_at self.new at ≡ (if party == at then list.items else shelf_at self.old at) }
+        ensures kept { (at : ℕ) → IsSome (get nat_eq self.old.lists at) → IsSome (get nat_eq self.new.lists at) }
+    {
+        match self.lists.insert(party, list) {
+            Ok(Some(old)) => discard(old),
+            Ok(None) | Err(_) => unreachable!(),
+        }
+    }
+
+    /// From one list the offers go that an act of a party ends. No memory.
+    pub fn end(&mut self, at: u32, party: u32, ending: &Ending)
+        ensures { (other : ℕ) → shelf_at self.new other ≡ (if at == other then without_ended (shelf_at self.old other) party ending.now else shelf_at self.old other) }
+    {
+        if self.has(at) {
+            let mut list = self.take(at);
+            end_together(&mut list, party, ending);
+            self.put(at, list);
+        }
+    }
+}
+
+/// Takes the offers out that an act of a party ends. No memory.
+pub fn end_together(offers: &mut Vec<Standing>, party: u32, ending: &Ending)
+    ensures items { offers.new.items ≡ without_ended offers.old.items party ending.now }
+    ensures len { vec_len offers.new ≤ vec_len offers.old }
+    ensures capacity { vec_capacity offers.new ≡ vec_capacity offers.old }
+{
+    match ending {
+        Ending::One(local) => end_offer(offers, party, local),
+        Ending::All => end_offers(offers, party),
+    }
+}
+
+fn discard(_list: Vec<Standing>) {}
