@@ -1,4 +1,4 @@
-ghost use Rattle.std.specs.Prelude.{◌≡◌, ◌+◌, ◌≤◌, [], ◌++◌, true, map, find, length, IfOk, OnOk, OnErr, option_map};
+ghost use Rattle.std.specs.Prelude.{◌≡◌, ◌==◌, ◌+◌, ◌≤◌, [], ◌++◌, true, map, filter, find, length, IfOk, OnOk, OnErr, option_map};
 ghost use Rattle.sv_offers.specs.Table.{after_ending, after_offer, open_among, pairs_made, parties_of, surrogates_of};
 ghost use Rattle.sv_rules.specs.Coupling.{coupling_at, degree_at, is_coupled, kept_by_ending, open_match, reopened_by_ending};
 ghost use Rattle.sv_rules.specs.Standing.{offer_count, own_offer};
@@ -51,6 +51,13 @@ impl Offers {
         ensures { result.now ≡ self.now.offers }
     {
         self.offers.as_slice()
+    }
+
+    /// A party's offers that stand, by place. No memory.
+    pub fn of(&self, party: u32) -> &[Standing]
+        ensures { result.now ≡ filter (λ offer. offer.party == party) self.now.offers }
+    {
+        self.offers.of(party)
     }
 
     /// The offer of a party of a local name, if it stands. No memory.
