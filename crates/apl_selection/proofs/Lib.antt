@@ -18,3 +18,4 @@ pub mod NamingLemmas
 pub mod OrderLemmas
 pub mod PickLemmas
 pub mod SubscriptLemmas
+pub mod WantLemmas

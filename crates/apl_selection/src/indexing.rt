@@ -1,7 +1,7 @@
 ghost use Rattle.std.specs.Prelude.{◌≡◌, None, false, IfOk, slice_get};
 ghost use Rattle.apl_items.specs.Answers.{Answers, first_report};
 ghost use Rattle.apl_selection.specs.Indexing.{index_faults, selection_of, indexed};
-ghost use Rattle.apl_items.specs.Places.{places};
+ghost use Rattle.apl_items.specs.Places.{OnWantOfMemory, places};
 ghost use Rattle.apl_selection.specs.Subscripts.{is_miscounted, selection_shape};
 
 use crate::picks::{Picks, filled, picked_items};
@@ -15,10 +15,11 @@ use std::alloc::Global;
 /// The items of B that subscripts select, one for each axis; the shapes of the subscripts stand one after another, and an
 /// omitted one selects the whole axis. RANK where there are not as many subscripts as axes, where B is a scalar, or where
 /// the result has over eight axes, else DOMAIN where a subscript is of characters, else INDEX where a number of one is
-/// not from 1 to the length of its axis, else WS FULL where the result is too large. It takes memory for the items, and
-/// for shapes and strides.
+/// not from 1 to the length of its axis, else WS FULL where the result is too large. Where there are as many subscripts as
+/// axes it takes memory for a shape, and where there is no report for strides and the items.
 pub fn index(alloc: Global, b: &Array, subs: &Subs) -> Result<Array, Fail>
-    ensures { Answers result (selection_of b.now subs.now.items) }
+    ensures answer { Answers result (selection_of b.now subs.now.items) }
+    ensures memory { OnWantOfMemory result (is_miscounted b.now.shape subs.now.items ≡ false) }
 {
     let subs = subs.as_slice();
     if is_miscounted(b.shape(), subs) {
