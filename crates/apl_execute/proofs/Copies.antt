@@ -10,8 +10,8 @@ use Rattle.std.proofs.lemmas.Bool.{or_parts}
 use Rattle.std.proofs.lemmas.Cmp.{nat_list_cmp_total}
 use Rattle.std.proofs.lemmas.Map.Entries.{sum_by-insert_entry}
 use Rattle.apl_workspace.specs.Meaning.{NameTable, meaning_in, meaning_weight, table_weight, weight_in, with_meaning, without_name, without_names}
-use Rattle.apl_arrays.specs.Name.{name_order}
-use Rattle.apl_workspace.specs.Names.{all_differ, is_name_of}
+use Rattle.apl_arrays.specs.Name.{name_order, same_name}
+use Rattle.apl_workspace.specs.Names.{all_differ}
 use Rattle.apl_workspace.specs.Workspace.{IsFull, IsWorkspace, PlainWorkspace, without_globals, workspace_weight}
 use Rattle.apl_arrays.specs.declared.report.Fail.{Fail}
 use Rattle.apl_arrays.specs.declared.report.Fail.TheVariants.{Report, WantOfMemory}
@@ -27,7 +27,7 @@ use Rattle.apl_execute.specs.Merge.{copy_in, with_copies, with_copy}
 all_gone : (globals : NameTable) (names : List (List ℕ)) → IsStrictlySortedBy name_order (keys_of globals) → AreAbsent (without_names globals names) names
 all_gone globals [] s = tt
 all_gone globals (name ∷ names) s =
-    (found_without_all globals (name ∷ names) name s ∙ ap (λ (b : Bool). cond (b || list_any (is_name_of name) names) None (meaning_in globals name)) (own_name name), all_gone (without_name globals name) names (without_ascends globals name s))
+    (found_without_all globals (name ∷ names) name s ∙ ap (λ (b : Bool). cond (b || list_any (same_name name) names) None (meaning_in globals name)) (own_name name), all_gone (without_name globals name) names (without_ascends globals name s))
 
 -- names that are gone may come one after another
 pub may_come : (into w : PlainWorkspace) (names : List (List ℕ)) → IsWorkspace into → w ≡ without_globals into names → all_differ names ≡ true → MayCome w.globals names
@@ -37,13 +37,13 @@ may_come into w names h is differ =
 
 -- ---- names that come
 
-absent_by : (globals : NameTable) (name other : List ℕ) (meaning : Meaning) → is_name_of name other ≡ false → meaning_in globals other ≡ None → meaning_in (with_meaning globals name meaning) other ≡ None
+absent_by : (globals : NameTable) (name other : List ℕ) (meaning : Meaning) → same_name name other ≡ false → meaning_in globals other ≡ None → meaning_in (with_meaning globals name meaning) other ≡ None
 absent_by globals name other meaning apart none = found_with globals name meaning other ∙ ap (λ (b : Bool). cond b (Some meaning) (meaning_in globals other)) apart ∙ none
 
-absent_on : (globals : NameTable) (name : List ℕ) (meaning : Meaning) (names : List (List ℕ)) → list_any (is_name_of name) names ≡ false → AreAbsent globals names → AreAbsent (with_meaning globals name meaning) names
+absent_on : (globals : NameTable) (name : List ℕ) (meaning : Meaning) (names : List (List ℕ)) → list_any (same_name name) names ≡ false → AreAbsent globals names → AreAbsent (with_meaning globals name meaning) names
 absent_on globals name meaning [] others absent = tt
 absent_on globals name meaning (other ∷ names) others absent =
-    let parts = or_parts (is_name_of name other) (list_any (is_name_of name) names) others in
+    let parts = or_parts (same_name name other) (list_any (same_name name) names) others in
     (absent_by globals name other meaning parts.0 absent.0, absent_on globals name meaning names parts.1 absent.1)
 
 comes_by : (globals : NameTable) (name : List ℕ) (names : List (List ℕ)) (copy : Option Meaning) → MayCome globals (name ∷ names) → MayCome (with_copy globals name copy) names

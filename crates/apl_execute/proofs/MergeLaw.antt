@@ -7,12 +7,13 @@ use Rattle.std.proofs.lemmas.Bool.{and_parts, false≢true}
 use Rattle.std.proofs.lemmas.List.Folds.{list_any-append}
 use Rattle.std.proofs.lemmas.Map.Views.{any-filter_same}
 use Rattle.apl_workspace.specs.Meaning.{NameTable, is_shared_in, is_shared_meaning, meaning_in, without_names}
-use Rattle.apl_workspace.specs.Names.{all_differ, is_name_of}
+use Rattle.apl_workspace.specs.Names.{all_differ}
+use Rattle.apl_arrays.specs.Name.{same_name}
 use Rattle.apl_workspace.specs.Workspace.{IsWorkspace, PlainWorkspace, global_in, is_shared}
 use Rattle.apl_workspace.specs.declared.meaning.Meaning.{Meaning}
 use Rattle.apl_workspace.specs.declared.meaning.Meaning.TheVariants.{Nothing, Value, Function, Label, Shared}
 use Rattle.apl_workspace.proofs.Ascending.{found_with}
-use Rattle.apl_workspace.proofs.NameLaw.{differ_push, from_not, name_flips, none_differ, own_name, same_name}
+use Rattle.apl_workspace.proofs.NameLaw.{differ_push, from_not, name_flips, none_differ, own_name, equal_names}
 use Rattle.apl_workspace.proofs.Without.{found_without_all}
 use Rattle.apl_execute.specs.Merge.{asked, copied_as, copied_names, copy_in, each_once, is_copied, merged, with_copies, with_copy, with_mention}
 
@@ -22,13 +23,13 @@ own_copy_found : (globals : NameTable) (name : List ℕ) (copy : Option Meaning)
 own_copy_found globals name None = refl
 own_copy_found globals name (Some meaning) = found_with globals name meaning name ∙ ap (λ (b : Bool). cond b (Some meaning) (meaning_in globals name)) (own_name name)
 
-other_copy_found : (globals : NameTable) (name other : List ℕ) (copy : Option Meaning) → is_name_of name other ≡ false → meaning_in (with_copy globals name copy) other ≡ meaning_in globals other
+other_copy_found : (globals : NameTable) (name other : List ℕ) (copy : Option Meaning) → same_name name other ≡ false → meaning_in (with_copy globals name copy) other ≡ meaning_in globals other
 other_copy_found globals name other None apart = refl
 other_copy_found globals name other (Some meaning) apart = found_with globals name meaning other ∙ ap (λ (b : Bool). cond b (Some meaning) (meaning_in globals other)) apart
 
-copy_found : (from : PlainWorkspace) (globals : NameTable) (name other : List ℕ) (b : Bool) → is_name_of other name ≡ b → meaning_in (with_copy globals name (copy_in from name)) other ≡ cond (b && is_some (copy_in from other)) (copy_in from other) (meaning_in globals other)
+copy_found : (from : PlainWorkspace) (globals : NameTable) (name other : List ℕ) (b : Bool) → same_name other name ≡ b → meaning_in (with_copy globals name (copy_in from name)) other ≡ cond (b && is_some (copy_in from other)) (copy_in from other) (meaning_in globals other)
 copy_found from globals name other true e =
-    let same : other ≡ name = same_name other name e in
+    let same : other ≡ name = equal_names other name e in
     subst (λ (n : List ℕ). meaning_in (with_copy globals n (copy_in from n)) other ≡ cond (is_some (copy_in from other)) (copy_in from other) (meaning_in globals other)) same (own_copy_found globals other (copy_in from other))
 copy_found from globals name other false e = other_copy_found globals name other (copy_in from name) (name_flips name other ∙ e)
 
@@ -42,12 +43,12 @@ either false true false copy was = refl
 either false false true copy was = refl
 either false false false copy was = refl
 
-copies_found : (from : PlainWorkspace) (globals : NameTable) (names : List (List ℕ)) (other : List ℕ) → meaning_in (with_copies from globals names) other ≡ cond (list_any (is_name_of other) names && is_some (copy_in from other)) (copy_in from other) (meaning_in globals other)
+copies_found : (from : PlainWorkspace) (globals : NameTable) (names : List (List ℕ)) (other : List ℕ) → meaning_in (with_copies from globals names) other ≡ cond (list_any (same_name other) names && is_some (copy_in from other)) (copy_in from other) (meaning_in globals other)
 copies_found from globals [] other = refl
 copies_found from globals (name ∷ names) other =
     copies_found from (with_copy globals name (copy_in from name)) names other
-    ∙ ap (λ (o : Option Meaning). cond (list_any (is_name_of other) names && is_some (copy_in from other)) (copy_in from other) o) (copy_found from globals name other (is_name_of other name) refl)
-    ∙ either (is_name_of other name) (list_any (is_name_of other) names) (is_some (copy_in from other)) (copy_in from other) (meaning_in globals other)
+    ∙ ap (λ (o : Option Meaning). cond (list_any (same_name other) names && is_some (copy_in from other)) (copy_in from other) o) (copy_found from globals name other (same_name other name) refl)
+    ∙ either (same_name other name) (list_any (same_name other) names) (is_some (copy_in from other)) (copy_in from other) (meaning_in globals other)
 
 -- ---- the merge
 
@@ -58,15 +59,15 @@ there_by true false there free copy was e = refl
 there_by false among there free copy was e = refl
 
 pub merged_found : (into from : PlainWorkspace) (names : Option (List (List ℕ))) (name : List ℕ) → IsWorkspace into
-    → meaning_in (merged into from names).globals name ≡ cond (is_copied into from name && list_any (is_name_of name) (asked from names)) (copy_in from name) (meaning_in into.globals name)
+    → meaning_in (merged into from names).globals name ≡ cond (is_copied into from name && list_any (same_name name) (asked from names)) (copy_in from name) (meaning_in into.globals name)
 merged_found into from names name h =
     let copied = copied_names into from names in
-    let among : list_any (is_name_of name) copied ≡ (is_copied into from name && list_any (is_name_of name) (asked from names)) =
-    any-filter_same (is_name_of name) (is_copied into from) (is_copied into from name) (λ other e. ap (is_copied into from) (sym (same_name name other e))) (asked from names) in
+    let among : list_any (same_name name) copied ≡ (is_copied into from name && list_any (same_name name) (asked from names)) =
+    any-filter_same (same_name name) (is_copied into from) (is_copied into from name) (λ other e. ap (is_copied into from) (sym (equal_names name other e))) (asked from names) in
     copies_found from (without_names into.globals copied) copied name
-    ∙ ap (λ (o : Option Meaning). cond (list_any (is_name_of name) copied && is_some (copy_in from name)) (copy_in from name) o) (found_without_all into.globals copied name h.ascending)
+    ∙ ap (λ (o : Option Meaning). cond (list_any (same_name name) copied && is_some (copy_in from name)) (copy_in from name) o) (found_without_all into.globals copied name h.ascending)
     ∙ ap (λ (b : Bool). cond (b && is_some (copy_in from name)) (copy_in from name) (cond b None (meaning_in into.globals name))) among
-    ∙ there_by (is_copied into from name) (list_any (is_name_of name) (asked from names)) (is_some (copy_in from name)) (not (is_shared into name)) (copy_in from name) (meaning_in into.globals name) refl
+    ∙ there_by (is_copied into from name) (list_any (same_name name) (asked from names)) (is_some (copy_in from name)) (not (is_shared into name)) (copy_in from name) (meaning_in into.globals name) refl
 
 -- nothing is copied as a share
 unmarked : (meaning : Meaning) → is_shared_meaning (unwrap_or (copied_as meaning) Nothing) ≡ false
@@ -85,40 +86,40 @@ marks_by into from name false among e = refl
 
 pub marks_stay : (into from : PlainWorkspace) (names : Option (List (List ℕ))) (name : List ℕ) → IsWorkspace into → is_shared_in (merged into from names).globals name ≡ is_shared into name
 marks_stay into from names name h =
-    ap (λ (o : Option Meaning). is_shared_meaning (unwrap_or o Nothing)) (merged_found into from names name h) ∙ marks_by into from name (is_copied into from name) (list_any (is_name_of name) (asked from names)) refl
+    ap (λ (o : Option Meaning). is_shared_meaning (unwrap_or o Nothing)) (merged_found into from names name h) ∙ marks_by into from name (is_copied into from name) (list_any (same_name name) (asked from names)) refl
 
 -- ---- names that are mentioned
 
-mention_by : (names : List (List ℕ)) (name other : List ℕ) (b : Bool) → list_any (is_name_of name) names ≡ b → list_any (is_name_of other) (cond b names (names ++ name ∷ [])) ≡ (list_any (is_name_of other) names || is_name_of other name)
-mention_by names name other true e = there_too (list_any (is_name_of other) names) (is_name_of other name) (λ here. ap (λ (n : List ℕ). list_any (is_name_of n) names) (same_name other name here) ∙ e)
+mention_by : (names : List (List ℕ)) (name other : List ℕ) (b : Bool) → list_any (same_name name) names ≡ b → list_any (same_name other) (cond b names (names ++ name ∷ [])) ≡ (list_any (same_name other) names || same_name other name)
+mention_by names name other true e = there_too (list_any (same_name other) names) (same_name other name) (λ here. ap (λ (n : List ℕ). list_any (same_name n) names) (equal_names other name here) ∙ e)
   where
     there_too : (a b : Bool) → (b ≡ true → a ≡ true) → a ≡ (a || b)
     there_too true b h = refl
     there_too false true h = h refl
     there_too false false h = refl
-mention_by names name other false e = list_any-append (is_name_of other) names (name ∷ []) ∙ ap (λ (b : Bool). list_any (is_name_of other) names || b) (or-false (is_name_of other name))
+mention_by names name other false e = list_any-append (same_name other) names (name ∷ []) ∙ ap (λ (b : Bool). list_any (same_name other) names || b) (or-false (same_name other name))
 
 or_assoc : (a b c : Bool) → (a || b) || c ≡ a || (b || c)
 or_assoc true b c = refl
 or_assoc false b c = refl
 
-folded_among : (start names : List (List ℕ)) (name : List ℕ) → list_any (is_name_of name) (fold with_mention start names) ≡ (list_any (is_name_of name) start || list_any (is_name_of name) names)
-folded_among start [] name = sym (or-false (list_any (is_name_of name) start))
+folded_among : (start names : List (List ℕ)) (name : List ℕ) → list_any (same_name name) (fold with_mention start names) ≡ (list_any (same_name name) start || list_any (same_name name) names)
+folded_among start [] name = sym (or-false (list_any (same_name name) start))
 folded_among start (first ∷ names) name =
     folded_among (with_mention start first) names name
-    ∙ ap (λ (b : Bool). b || list_any (is_name_of name) names) (mention_by start first name (list_any (is_name_of first) start) refl)
-    ∙ or_assoc (list_any (is_name_of name) start) (is_name_of name first) (list_any (is_name_of name) names)
+    ∙ ap (λ (b : Bool). b || list_any (same_name name) names) (mention_by start first name (list_any (same_name first) start) refl)
+    ∙ or_assoc (list_any (same_name name) start) (same_name name first) (list_any (same_name name) names)
 
-pub mentioned_among : (names : List (List ℕ)) (name : List ℕ) → list_any (is_name_of name) (each_once names) ≡ list_any (is_name_of name) names
+pub mentioned_among : (names : List (List ℕ)) (name : List ℕ) → list_any (same_name name) (each_once names) ≡ list_any (same_name name) names
 mentioned_among names name = folded_among [] names name
 
-differ_by : (names : List (List ℕ)) (name : List ℕ) (b : Bool) → list_any (is_name_of name) names ≡ b → all_differ names ≡ true → all_differ (cond b names (names ++ name ∷ [])) ≡ true
+differ_by : (names : List (List ℕ)) (name : List ℕ) (b : Bool) → list_any (same_name name) names ≡ b → all_differ names ≡ true → all_differ (cond b names (names ++ name ∷ [])) ≡ true
 differ_by names name true e h = h
 differ_by names name false e h = differ_push names name h e
 
 folded_once : (start names : List (List ℕ)) → all_differ start ≡ true → all_differ (fold with_mention start names) ≡ true
 folded_once start [] h = h
-folded_once start (name ∷ names) h = folded_once (with_mention start name) names (differ_by start name (list_any (is_name_of name) start) refl h)
+folded_once start (name ∷ names) h = folded_once (with_mention start name) names (differ_by start name (list_any (same_name name) start) refl h)
 
 pub mentioned_once : (names : List (List ℕ)) → all_differ (each_once names) ≡ true
 mentioned_once names = folded_once [] names none_differ

@@ -3,14 +3,14 @@ use Rattle.std.specs.Prelude.{◌&&◌, ◌++◌, ℕ, Bool, not, List, [], ◌�
 use Rattle.std.specs.List.{list_any}
 use Rattle.apl_workspace.specs.Listing.{all_names}
 use Rattle.apl_workspace.specs.Meaning.{NameTable, with_meaning, without_names}
-use Rattle.apl_workspace.specs.Names.{is_name_of}
+use Rattle.apl_arrays.specs.Name.{same_name}
 use Rattle.apl_workspace.specs.Workspace.{PlainWorkspace, global_in, is_shared}
 use Rattle.apl_workspace.specs.declared.meaning.Meaning.{Meaning}
 use Rattle.apl_workspace.specs.declared.meaning.Meaning.TheVariants.{Nothing, Value, Function, Label, Shared}
 
 -- names with one more, where it is not among them
 abbrev pub with_mention : List (List ℕ) → List ℕ → List (List ℕ)
-with_mention names name = if list_any (is_name_of name) names then names else names ++ name ∷ []
+with_mention names name = if list_any (same_name name) names then names else names ++ name ∷ []
 
 -- the names, each once, where it is first mentioned
 abbrev pub each_once : List (List ℕ) → List (List ℕ)

@@ -3,7 +3,8 @@
 ghost use Rattle.std.specs.Prelude.{◌≡◌, ◌&&◌, ℕ, true, List as ListOf, Option, if◌then◌else◌};
 ghost use Rattle.std.specs.List.{list_any};
 ghost use Rattle.apl_workspace.specs.Meaning.{is_shared_in, meaning_in};
-ghost use Rattle.apl_workspace.specs.Names.{all_differ, is_name_of};
+ghost use Rattle.apl_workspace.specs.Names.{all_differ};
+ghost use Rattle.apl_arrays.specs.Name.{same_name};
 ghost use Rattle.apl_workspace.specs.Workspace.{IsWorkspace, PlainWorkspace, is_shared};
 ghost use Rattle.apl_execute.specs.Merge.{asked, copy_in, each_once, is_copied, merged};
 
@@ -11,13 +12,13 @@ ghost use Rattle.apl_execute.specs.Merge.{asked, copy_in, each_once, is_copied, 
 /// and the count of printed glyphs are as they were. The call does nothing. No memory.
 pub fn merging_changes_the_copied_names()
     ensures names { (into from : PlainWorkspace) (names : Option (ListOf (ListOf ℕ))) (name : ListOf ℕ) → IsWorkspace into → meaning_in (merged into from names).globals name
-        ≡ (if is_copied into from name && list_any (is_name_of name) (asked from names) then copy_in from name else meaning_in into.globals name) }
+        ≡ (if is_copied into from name && list_any (same_name name) (asked from names) then copy_in from name else meaning_in into.globals name) }
     ensures marks { (into from : PlainWorkspace) (names : Option (ListOf (ListOf ℕ))) (name : ListOf ℕ) → IsWorkspace into → is_shared_in (merged into from names).globals name ≡ is_shared into name }
     ensures others { (into from : PlainWorkspace) (names : Option (ListOf (ListOf ℕ))) → merged into from names ≡ record into { globals = (merged into from names).globals } }
 {}
 
 /// Names that are asked for are those that are mentioned, each once. The call does nothing. No memory.
 pub fn names_are_asked_for_once()
-    ensures same { (names : ListOf (ListOf ℕ)) (name : ListOf ℕ) → list_any (is_name_of name) (each_once names) ≡ list_any (is_name_of name) names }
+    ensures same { (names : ListOf (ListOf ℕ)) (name : ListOf ℕ) → list_any (same_name name) (each_once names) ≡ list_any (same_name name) names }
     ensures once { (names : ListOf (ListOf ℕ)) → all_differ (each_once names) ≡ true }
 {}

@@ -1,25 +1,23 @@
 -- Names that were gathered and sorted against the names of a table.
-use Rattle.std.proofs.Common.{◌≡◌, ◌==◌, ℕ, ◌+◌, Bool, true, false, cond, ◌||◌, List, [], ◌∷◌, Option, Some, None, Ordering, get_or, filter, refl, sym, ap, ◌∙◌, subst, arith}
+use Rattle.std.proofs.Common.{◌≡◌, ℕ, ◌+◌, Bool, true, false, cond, ◌||◌, List, [], ◌∷◌, Option, Some, None, Ordering, get_or, filter, refl, sym, ap, ◌∙◌, subst, arith}
 use Rattle.std.specs.Prelude.{is_some}
-use Rattle.std.specs.Cmp.Lexicographic.{pointwise}
 use Rattle.std.specs.List.{AllByRecursion, IsDistinct, list_any}
 use Rattle.std.specs.List.Sorted.{IsPermutation, IsSorted}
 use Rattle.std.specs.Map.{keys_of}
 use Rattle.std.specs.Ordering.{is_eq, is_lt, ordering_reverse}
 use Rattle.std.specs.declared.cmp.Ordering.TheVariants.{Less, Equal, Greater}
 use Rattle.std.proofs.lemmas.Bool.{false≢true}
-use Rattle.std.proofs.lemmas.Cmp.{nat_list_cmp_total, eq_by_cmp_equiv}
+use Rattle.std.proofs.lemmas.Cmp.{nat_list_cmp_total, nat_list_eq_equiv}
 use Rattle.std.proofs.lemmas.List.Sorted.{list_any-IsPermutation}
 use Rattle.std.proofs.lemmas.Map.Entries.{lookup-filter-values, option_filter}
-use Rattle.std.proofs.lemmas.Map.Keys.{IsDistinct-IsPermutation, IsDistinct-from_sorted, IsDistinct-head, IsDistinct-tail, IsDistinct-cons, apart_from_distinct, sorted_from_all_adjacent, sorted_head, sorted_tail}
+use Rattle.std.proofs.lemmas.Map.Keys.{IsDistinct-IsPermutation, IsDistinct-head, IsDistinct-tail, IsDistinct-cons, apart_from_distinct, sorted_from_all_adjacent, sorted_head, sorted_tail}
 use Rattle.std.proofs.lemmas.Map.Made.{is_some-lookup}
-use Rattle.apl_arrays.specs.Name.{name_order}
-use Rattle.apl_workspace.specs.Names.{is_name_of}
+use Rattle.apl_arrays.specs.Name.{name_order, same_name}
 use Rattle.apl_workspace.specs.Sorted.{sorted}
 use Rattle.apl_workspace.specs.declared.meaning.Meaning.{Meaning}
-use Rattle.apl_workspace.proofs.Ascending.{Ascend, ascend_cons, found, told_by_look_ups}
-use Rattle.apl_workspace.proofs.InOrder.{Entries, found_in_order, same_test, sorted_ascends}
-use Rattle.apl_workspace.proofs.NameLaw.{name_flips}
+use Rattle.apl_workspace.proofs.Ascending.{Ascend, ascend_cons, ascending_apart, found, told_by_look_ups}
+use Rattle.apl_workspace.proofs.InOrder.{Entries, found_in_order, sorted_ascends}
+use Rattle.apl_workspace.proofs.NameLaw.{by_order, name_flips}
 
 -- the entries that stand for what a test takes
 abbrev pub taking : (Meaning → Bool) → Entries → Entries
@@ -44,37 +42,26 @@ ascend_taken test (e ∷ es) s = by (test e.1) (ascend_taken test es (sorted_tai
     by true later = ascend_cons e.0 (keys_of (taking test es)) (all_taken (λ other. name_order e.0 other ≡ Less) test es (sorted_head name_order e.0 (keys_of es) s)) later
     by false later = later
 
-distinct_taken : (test : Meaning → Bool) (entries : Entries) → IsDistinct is_name_of (keys_of entries) → IsDistinct is_name_of (keys_of (taking test entries))
+distinct_taken : (test : Meaning → Bool) (entries : Entries) → IsDistinct same_name (keys_of entries) → IsDistinct same_name (keys_of (taking test entries))
 distinct_taken test [] d = d
-distinct_taken test (e ∷ es) d = by (test e.1) (distinct_taken test es (IsDistinct-tail is_name_of e.0 (keys_of es) d))
+distinct_taken test (e ∷ es) d = by (test e.1) (distinct_taken test es (IsDistinct-tail same_name e.0 (keys_of es) d))
   where
-    by : (b : Bool) → IsDistinct is_name_of (keys_of (taking test es)) → IsDistinct is_name_of (keys_of (cond b (e ∷ taking test es) (taking test es)))
-    by true later = IsDistinct-cons is_name_of e.0 (keys_of (taking test es)) (all_taken (λ other. is_name_of e.0 other ≡ false) test es (IsDistinct-head is_name_of e.0 (keys_of es) d)) later
+    by : (b : Bool) → IsDistinct same_name (keys_of (taking test es)) → IsDistinct same_name (keys_of (cond b (e ∷ taking test es) (taking test es)))
+    by true later = IsDistinct-cons same_name e.0 (keys_of (taking test es)) (all_taken (λ other. same_name e.0 other ≡ false) test es (IsDistinct-head same_name e.0 (keys_of es) d)) later
     by false later = later
-
--- ---- names apart by glyphs are apart by order
-
-all_apart : (name : List ℕ) (names : List (List ℕ)) → AllByRecursion (λ other. pointwise ◌==◌ name other ≡ false) names → AllByRecursion (λ other. is_name_of name other ≡ false) names
-all_apart name [] all = tt
-all_apart name (other ∷ names) all = (sym (same_test name other) ∙ all.0, all_apart name names all.1)
-
-apart_by_order : (names : List (List ℕ)) → IsDistinct (pointwise ◌==◌) names → IsDistinct is_name_of names
-unfolding IsDistinct
-apart_by_order [] d = tt
-apart_by_order (name ∷ names) d = (all_apart name names d.0, apart_by_order names d.1)
 
 -- ---- names that do not fall and are apart ascend
 
-rises : (r : Ordering) (first second : List ℕ) → name_order first second ≡ r → is_lt (name_order second first) ≡ false → is_name_of first second ≡ false → name_order first second ≡ Less
+rises : (r : Ordering) (first second : List ℕ) → name_order first second ≡ r → is_lt (name_order second first) ≡ false → same_name first second ≡ false → name_order first second ≡ Less
 rises Less first second p up apart = p
-rises Equal first second p up apart = absurd (false≢true (sym apart ∙ ap is_eq p))
+rises Equal first second p up apart = absurd (false≢true (sym apart ∙ by_order first second ∙ ap is_eq p))
 rises Greater first second p up apart = absurd (false≢true (sym up ∙ ap is_lt (nat_list_cmp_total.antisymm second first ∙ ap ordering_reverse p)))
 
-ascend_sorted : (names : List (List ℕ)) → IsSorted name_order names → IsDistinct is_name_of names → Ascend names
+ascend_sorted : (names : List (List ℕ)) → IsSorted name_order names → IsDistinct same_name names → Ascend names
 ascend_sorted names up apart =
     sorted_from_all_adjacent nat_list_cmp_total names []
     (λ k lt.
-    rises (name_order (get_or names k []) (get_or names (k + 1) [])) (get_or names k []) (get_or names (k + 1) []) refl (up k [] (omega arith) lt) (apart_from_distinct is_name_of names k (k + 1) [] apart (omega arith) lt))
+    rises (name_order (get_or names k []) (get_or names (k + 1) [])) (get_or names k []) (get_or names (k + 1) []) refl (up k [] (omega arith) lt) (apart_from_distinct same_name names k (k + 1) [] apart (omega arith) lt))
 
 -- ---- names that ascend are told by what is among them
 
@@ -87,16 +74,16 @@ unfolding alone
 alone_keys [] = refl
 alone_keys (name ∷ names) = ap (λ rest. name ∷ rest) (alone_keys names)
 
-found_alone : (names : List (List ℕ)) (name : List ℕ) → found (alone names) name ≡ cond (list_any (is_name_of name) names) (Some tt) None
+found_alone : (names : List (List ℕ)) (name : List ℕ) → found (alone names) name ≡ cond (list_any (same_name name) names) (Some tt) None
 unfolding alone
 found_alone [] name = refl
-found_alone (first ∷ names) name = by (is_name_of name first) (list_any (is_name_of name) names) (found_alone names name)
+found_alone (first ∷ names) name = by (same_name name first) (list_any (same_name name) names) (found_alone names name)
   where
     by : (b d : Bool) → found (alone names) name ≡ cond d (Some tt) None → cond b (Some tt) (found (alone names) name) ≡ cond (b || d) (Some tt) None
     by true d later = refl
     by false d later = later
 
-told_by_members : (first second : List (List ℕ)) → Ascend first → Ascend second → ((name : List ℕ) → list_any (is_name_of name) first ≡ list_any (is_name_of name) second) → first ≡ second
+told_by_members : (first second : List (List ℕ)) → Ascend first → Ascend second → ((name : List ℕ) → list_any (same_name name) first ≡ list_any (same_name name) second) → first ≡ second
 told_by_members first second s t same =
     sym (alone_keys first)
     ∙ ap keys_of
@@ -106,24 +93,23 @@ told_by_members first second s t same =
 
 -- ---- the names that were gathered
 
-among : (test : Meaning → Bool) (entries : Entries) (name : List ℕ) → IsDistinct is_name_of (keys_of entries) → list_any (is_name_of name) (keys_of (taking test entries)) ≡ is_some (option_filter test (found entries name))
-among test entries name d = sym (is_some-lookup (is_name_of name) (taking test entries)) ∙ ap is_some (lookup-filter-values (eq_by_cmp_equiv nat_list_cmp_total) test name entries d)
+among : (test : Meaning → Bool) (entries : Entries) (name : List ℕ) → IsDistinct same_name (keys_of entries) → list_any (same_name name) (keys_of (taking test entries)) ≡ is_some (option_filter test (found entries name))
+among test entries name d = sym (is_some-lookup (same_name name) (taking test entries)) ∙ ap is_some (lookup-filter-values nat_list_eq_equiv test name entries d)
 
-pub gathered : (test : Meaning → Bool) (entries : Entries) (names result : List (List ℕ)) → IsDistinct (pointwise ◌==◌) (keys_of entries) → names ≡ keys_of (taking test entries) → IsPermutation names result → IsSorted name_order result
+pub gathered : (test : Meaning → Bool) (entries : Entries) (names result : List (List ℕ)) → IsDistinct same_name (keys_of entries) → names ≡ keys_of (taking test entries) → IsPermutation names result → IsSorted name_order result
     → result ≡ keys_of (taking test (sorted entries))
 gathered test entries names result d is moved up =
-    let apart = apart_by_order (keys_of entries) d in
-    let taken = distinct_taken test entries apart in
-    let result_apart = IsDistinct-IsPermutation is_name_of name_flips names result moved (subst (IsDistinct is_name_of) (sym is) taken) in
+    let taken = distinct_taken test entries d in
+    let result_apart = IsDistinct-IsPermutation same_name name_flips names result moved (subst (IsDistinct same_name) (sym is) taken) in
     let ordered = sorted_ascends entries in
     told_by_members result (keys_of (taking test (sorted entries))) (ascend_sorted result up result_apart) (ascend_taken test (sorted entries) ordered)
     (λ name.
-    sym (list_any-IsPermutation (is_name_of name) names result moved) ∙ ap (list_any (is_name_of name)) is ∙ among test entries name apart ∙ ap (λ (o : Option Meaning). is_some (option_filter test o)) (sym (found_in_order entries name))
-    ∙ sym (among test (sorted entries) name (IsDistinct-from_sorted name_order (keys_of (sorted entries)) ordered)))
+    sym (list_any-IsPermutation (same_name name) names result moved) ∙ ap (list_any (same_name name)) is ∙ among test entries name d ∙ ap (λ (o : Option Meaning). is_some (option_filter test o)) (sym (found_in_order entries name))
+    ∙ sym (among test (sorted entries) name (ascending_apart (keys_of (sorted entries)) ordered)))
 
 all_taken_of_all : (entries : Entries) → taking (λ meaning. true) entries ≡ entries
 all_taken_of_all [] = refl
 all_taken_of_all (e ∷ es) = ap (λ rest. e ∷ rest) (all_taken_of_all es)
 
-pub all_gathered : (entries : Entries) (names result : List (List ℕ)) → IsDistinct (pointwise ◌==◌) (keys_of entries) → names ≡ keys_of (taking (λ meaning. true) entries) → IsPermutation names result → IsSorted name_order result → result ≡ keys_of (sorted entries)
+pub all_gathered : (entries : Entries) (names result : List (List ℕ)) → IsDistinct same_name (keys_of entries) → names ≡ keys_of (taking (λ meaning. true) entries) → IsPermutation names result → IsSorted name_order result → result ≡ keys_of (sorted entries)
 all_gathered entries names result d is moved up = gathered (λ meaning. true) entries names result d is moved up ∙ ap keys_of (all_taken_of_all (sorted entries))

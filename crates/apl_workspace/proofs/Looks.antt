@@ -13,7 +13,7 @@ use Rattle.apl_workspace.specs.Function.{PlainFunction}
 use Rattle.apl_workspace.specs.Header.{PlainHeader}
 use Rattle.apl_workspace.specs.Limits.{most_weight}
 use Rattle.apl_workspace.specs.Meaning.{IsLocal, NameTable, meaning_in, meaning_of, own_copy_in, with_meaning}
-use Rattle.apl_workspace.specs.Names.{is_name_of}
+use Rattle.apl_arrays.specs.Name.{same_name}
 use Rattle.apl_workspace.specs.Workspace.{IsWorkspace, PlainWorkspace, assigned, global_in, in_innermost, innermost, is_local, is_of_another, is_unhidden, look, marked, names_offered, seen_by, takes_offer, unmarked, unshared, with_frame, with_frame_by, with_global, without_frame, without_global, workspace_weight}
 use Rattle.apl_workspace.specs.declared.args.Args.{Args}
 use Rattle.apl_workspace.specs.declared.meaning.Meaning.{Meaning}
@@ -22,7 +22,7 @@ use Rattle.apl_workspace.specs.declared.remake.Remake.{Remake}
 use Rattle.apl_workspace.proofs.Ascending.{found_with, found_without}
 use Rattle.apl_workspace.proofs.Innermost.{none_from}
 use Rattle.apl_workspace.proofs.Inside.{takes}
-use Rattle.apl_workspace.proofs.NameLaw.{name_flips, own_name, same_name}
+use Rattle.apl_workspace.proofs.NameLaw.{name_flips, own_name, equal_names}
 use Rattle.apl_workspace.proofs.Rules.{HasLocals, none_offered}
 
 -- ---- global names
@@ -42,12 +42,12 @@ seen_without false (Some local) global = refl
 -- a global name stands for something else
 pub look_with : (w : PlainWorkspace) (name other : List ℕ) (meaning : Meaning) → look (with_global w name meaning) other ≡ cond (is_unhidden w name other) meaning (look w other)
 look_with w name other meaning =
-    ap (seen_by (innermost w.frames other)) (found_with w.globals name meaning other) ∙ seen_with (is_name_of name other) (innermost w.frames other) (meaning_in w.globals other) meaning
+    ap (seen_by (innermost w.frames other)) (found_with w.globals name meaning other) ∙ seen_with (same_name name other) (innermost w.frames other) (meaning_in w.globals other) meaning
 
 -- a global name is gone
 pub look_without : (w : PlainWorkspace) (name other : List ℕ) → IsWorkspace w → look (without_global w name) other ≡ cond (is_unhidden w name other) Nothing (look w other)
 look_without w name other h =
-    ap (seen_by (innermost w.frames other)) (found_without w.globals name other h.ascending) ∙ seen_without (is_name_of name other) (innermost w.frames other) (meaning_in w.globals other)
+    ap (seen_by (innermost w.frames other)) (found_without w.globals name other h.ascending) ∙ seen_without (same_name name other) (innermost w.frames other) (meaning_in w.globals other)
 
 -- ---- a value that is assigned
 
@@ -63,16 +63,16 @@ later_has : (first second : Option Meaning) → is_some first ≡ false → is_s
 later_has None second e has = has
 later_has (Some meaning) second e has = absurd cc
 
-innermost_given : (frames : List NameTable) (name other : List ℕ) (meaning : Meaning) → is_some (innermost frames name) ≡ true → innermost (in_innermost frames name meaning) other ≡ cond (is_name_of name other) (Some meaning) (innermost frames other)
+innermost_given : (frames : List NameTable) (name other : List ℕ) (meaning : Meaning) → is_some (innermost frames name) ≡ true → innermost (in_innermost frames name meaning) other ≡ cond (same_name name other) (Some meaning) (innermost frames other)
 innermost_given [] name other meaning has = absurd (false≢true has)
 innermost_given (table ∷ tables) name other meaning has = by (is_some (meaning_in table name)) refl (innermost_given tables name other meaning)
   where
-    by : (b : Bool) → is_some (meaning_in table name) ≡ b → (is_some (innermost tables name) ≡ true → innermost (in_innermost tables name meaning) other ≡ cond (is_name_of name other) (Some meaning) (innermost tables other))
-        → innermost (cond b (with_meaning table name meaning ∷ tables) (table ∷ in_innermost tables name meaning)) other ≡ cond (is_name_of name other) (Some meaning) (option_or (meaning_in table other) (innermost tables other))
-    by true e later = ap (λ (o : Option Meaning). option_or o (innermost tables other)) (found_with table name meaning other) ∙ first_of_two (is_name_of name other) meaning (meaning_in table other) (innermost tables other)
+    by : (b : Bool) → is_some (meaning_in table name) ≡ b → (is_some (innermost tables name) ≡ true → innermost (in_innermost tables name meaning) other ≡ cond (same_name name other) (Some meaning) (innermost tables other))
+        → innermost (cond b (with_meaning table name meaning ∷ tables) (table ∷ in_innermost tables name meaning)) other ≡ cond (same_name name other) (Some meaning) (option_or (meaning_in table other) (innermost tables other))
+    by true e later = ap (λ (o : Option Meaning). option_or o (innermost tables other)) (found_with table name meaning other) ∙ first_of_two (same_name name other) meaning (meaning_in table other) (innermost tables other)
     by false e later =
         ap (option_or (meaning_in table other)) (later (later_has (meaning_in table name) (innermost tables name) e has))
-        ∙ second_of_two (is_name_of name other) meaning (meaning_in table other) (innermost tables other) (λ here. none_from (meaning_in table other) (ap (λ (n : List ℕ). is_some (meaning_in table n)) (sym (same_name name other here)) ∙ e))
+        ∙ second_of_two (same_name name other) meaning (meaning_in table other) (innermost tables other) (λ here. none_from (meaning_in table other) (ap (λ (n : List ℕ). is_some (meaning_in table n)) (sym (equal_names name other here)) ∙ e))
 
 seen_local : (here : Bool) (local global : Option Meaning) (meaning : Meaning) → seen_by (cond here (Some meaning) local) global ≡ cond here meaning (seen_by local global)
 seen_local true local global meaning = refl
@@ -83,13 +83,13 @@ unhidden_by true hidden meaning was free = ap (λ (b : Bool). cond (not b) meani
 unhidden_by false hidden meaning was free = refl
 
 assigned_by : (w : PlainWorkspace) (name other : List ℕ) (value : PlainArray) (b : Bool) → is_local w name ≡ b
-    → look (cond b (record w { frames = in_innermost w.frames name (Value value) }) (with_global w name (Value value))) other ≡ cond (is_name_of name other) (Value value) (look w other)
+    → look (cond b (record w { frames = in_innermost w.frames name (Value value) }) (with_global w name (Value value))) other ≡ cond (same_name name other) (Value value) (look w other)
 assigned_by w name other value true e =
-    ap (λ (o : Option Meaning). seen_by o (meaning_in w.globals other)) (innermost_given w.frames name other (Value value) e) ∙ seen_local (is_name_of name other) (innermost w.frames other) (meaning_in w.globals other) (Value value)
+    ap (λ (o : Option Meaning). seen_by o (meaning_in w.globals other)) (innermost_given w.frames name other (Value value) e) ∙ seen_local (same_name name other) (innermost w.frames other) (meaning_in w.globals other) (Value value)
 assigned_by w name other value false e =
-    look_with w name other (Value value) ∙ unhidden_by (is_name_of name other) (is_local w other) (Value value) (look w other) (λ here. ap (is_local w) (sym (same_name name other here)) ∙ e)
+    look_with w name other (Value value) ∙ unhidden_by (same_name name other) (is_local w other) (Value value) (look w other) (λ here. ap (is_local w) (sym (equal_names name other here)) ∙ e)
 
-pub look_assigned : (w : PlainWorkspace) (name other : List ℕ) (value : PlainArray) → look (assigned w name value) other ≡ cond (is_name_of name other) (Value value) (look w other)
+pub look_assigned : (w : PlainWorkspace) (name other : List ℕ) (value : PlainArray) → look (assigned w name value) other ≡ cond (same_name name other) (Value value) (look w other)
 look_assigned w name other value = assigned_by w name other value (is_local w name) refl
 
 -- ---- names that are shared no more
@@ -118,10 +118,10 @@ offers_by : (b : Bool) (w : PlainWorkspace) (name : List ℕ) (value copy : Opti
 offers_by true w name value copy = refl
 offers_by false w name value copy = refl
 
-all_others : (name : List ℕ) (offers : List Remake) → list_any (is_name_of name) (names_offered offers) ≡ false → filter (is_of_another name) offers ≡ offers
+all_others : (name : List ℕ) (offers : List Remake) → list_any (same_name name) (names_offered offers) ≡ false → filter (is_of_another name) offers ≡ offers
 all_others name [] e = refl
 all_others name (offer ∷ offers) e =
-    let parts = or_parts (is_name_of name offer.local) (list_any (is_name_of name) (names_offered offers)) e in
+    let parts = or_parts (same_name name offer.local) (list_any (same_name name) (names_offered offers)) e in
     ap (λ (b : Bool). cond (not b) (offer ∷ filter (is_of_another name) offers) (filter (is_of_another name) offers)) parts.0 ∙ ap (λ (rest : List Remake). offer ∷ rest) (all_others name offers parts.1)
 
 -- an offer that was listed is taken out again
@@ -155,7 +155,7 @@ local_by (Some meaning) second h k = h
 innermost_is_local : (frames : List NameTable) (name : List ℕ) → All HasLocals frames → IfSome (innermost frames name) IsLocal
 innermost_is_local [] name h = tt
 innermost_is_local (table ∷ tables) name h =
-    local_by (meaning_in table name) (innermost tables name) (IfSome-lookup_from_All IsLocal (is_name_of name) table (All-head HasLocals table tables h)) (innermost_is_local tables name (All-tail HasLocals table tables h))
+    local_by (meaning_in table name) (innermost tables name) (IfSome-lookup_from_All IsLocal (same_name name) table (All-head HasLocals table tables h)) (innermost_is_local tables name (All-tail HasLocals table tables h))
 
 -- what no frame can hold is seen globally
 global_by : (meaning : Meaning) (local global : Option Meaning) → IfSome local IsLocal → (IsLocal meaning → false ≡ true) → seen_by local global ≡ meaning → unwrap_or global Nothing ≡ meaning
@@ -168,12 +168,12 @@ seen_globally w name meaning h none is = global_by meaning (innermost w.frames n
 
 -- ---- names of a header
 
-locals_found : (names : NameTable) (more : List (List ℕ)) (name : List ℕ) → meaning_in (fold with_local_name names more) name ≡ cond (list_any (is_name_of name) more) (Some Nothing) (meaning_in names name)
+locals_found : (names : NameTable) (more : List (List ℕ)) (name : List ℕ) → meaning_in (fold with_local_name names more) name ≡ cond (list_any (same_name name) more) (Some Nothing) (meaning_in names name)
 locals_found names [] name = refl
 locals_found names (local ∷ more) name =
     locals_found (with_local_name names local) more name
-    ∙ ap (λ (o : Option Meaning). cond (list_any (is_name_of name) more) (Some Nothing) o) (found_with names local Nothing name ∙ ap (λ (b : Bool). cond b (Some Nothing) (meaning_in names name)) (name_flips local name))
-    ∙ either (is_name_of name local) (list_any (is_name_of name) more) (meaning_in names name)
+    ∙ ap (λ (o : Option Meaning). cond (list_any (same_name name) more) (Some Nothing) o) (found_with names local Nothing name ∙ ap (λ (b : Bool). cond b (Some Nothing) (meaning_in names name)) (name_flips local name))
+    ∙ either (same_name name local) (list_any (same_name name) more) (meaning_in names name)
   where
     either : (first later : Bool) (found : Option Meaning) → cond later (Some Nothing) (cond first (Some Nothing) found) ≡ cond (first || later) (Some Nothing) found
     either true true found = refl
@@ -190,5 +190,5 @@ header_found header args name =
     let left = with_argument [] header.left args.left in
     let locals = option_to_list header.result ++ header.locals in
     locals_found (with_argument left header.right args.right) locals name
-    ∙ ap (λ (o : Option Meaning). cond (list_any (is_name_of name) locals) (Some Nothing) o)
+    ∙ ap (λ (o : Option Meaning). cond (list_any (same_name name) locals) (Some Nothing) o)
     (argument_found left header.right args.right name ∙ ap (argument_or header.right args.right name) (argument_found [] header.left args.left name))

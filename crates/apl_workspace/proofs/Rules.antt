@@ -16,15 +16,15 @@ use Rattle.apl_workspace.specs.Function.{PlainFunction}
 use Rattle.apl_workspace.specs.Label.{label_of}
 use Rattle.apl_workspace.specs.Limits.{most_depth, most_weight}
 use Rattle.apl_workspace.specs.Meaning.{IsGlobal, IsLocal, NameTable, is_shared_in, is_shared_meaning, meaning_in, table_weight, with_meaning, with_value_or_none, without_name}
-use Rattle.apl_arrays.specs.Name.{name_order}
-use Rattle.apl_workspace.specs.Names.{all_differ, is_name_of}
+use Rattle.apl_arrays.specs.Name.{name_order, same_name}
+use Rattle.apl_workspace.specs.Names.{all_differ}
 use Rattle.apl_workspace.specs.Workspace.{IsFrameFor, IsWorkspace, PlainWorkspace, empty_workspace, in_innermost, is_addressee, is_of_another, is_shared, names_offered, unshared, with_global, without_global, without_globals, workspace_weight}
 use Rattle.apl_workspace.specs.declared.args.Args.{Args}
 use Rattle.apl_workspace.specs.declared.meaning.Meaning.{Meaning}
 use Rattle.apl_workspace.specs.declared.meaning.Meaning.TheVariants.{Nothing, Value, Function, Label, Shared}
 use Rattle.apl_workspace.specs.declared.remake.Remake.{Remake}
 use Rattle.apl_workspace.proofs.Ascending.{found_with, found_without, none_ascend, with_ascends, without_ascends}
-use Rattle.apl_workspace.proofs.NameLaw.{differ_picked, differ_push, none_differ, own_name, same_name}
+use Rattle.apl_workspace.proofs.NameLaw.{differ_picked, differ_push, none_differ, own_name, equal_names}
 use Rattle.apl_workspace.proofs.Tables.{erasing_is_lighter}
 
 -- the name is not shared
@@ -53,26 +53,26 @@ shared_by false meaning was stays shared = shared
 shared_with : (globals : NameTable) (name other : List ℕ) (meaning : Meaning) → (is_shared_in globals name ≡ true → is_shared_meaning meaning ≡ true) → is_shared_in globals other ≡ true → is_shared_in (with_meaning globals name meaning) other ≡ true
 shared_with globals name other meaning stays shared =
     ap (λ (o : Option Meaning). is_shared_meaning (unwrap_or o Nothing)) (found_with globals name meaning other)
-    ∙ shared_by (is_name_of name other) meaning (meaning_in globals other) (λ e. stays (ap (is_shared_in globals) (same_name name other e) ∙ shared)) shared
+    ∙ shared_by (same_name name other) meaning (meaning_in globals other) (λ e. stays (ap (is_shared_in globals) (equal_names name other e) ∙ shared)) shared
 
 kept_by : (b : Bool) (was : Option Meaning) → b ≡ false → is_shared_meaning (unwrap_or was Nothing) ≡ true → is_shared_meaning (unwrap_or (cond b None was) Nothing) ≡ true
 kept_by true was apart shared = absurd (false≢true (sym apart))
 kept_by false was apart shared = shared
 
 -- a shared name is shared where another is gone
-shared_without : (w : PlainWorkspace) (name other : List ℕ) → IsWorkspace w → is_name_of name other ≡ false → is_shared w other ≡ true → is_shared_in (without_name w.globals name) other ≡ true
+shared_without : (w : PlainWorkspace) (name other : List ℕ) → IsWorkspace w → same_name name other ≡ false → is_shared w other ≡ true → is_shared_in (without_name w.globals name) other ≡ true
 shared_without w name other h apart shared =
     ap (λ (o : Option Meaning). is_shared_meaning (unwrap_or o Nothing)) (found_without w.globals name other h.ascending)
-    ∙ kept_by (is_name_of name other) (meaning_in w.globals other) apart shared
+    ∙ kept_by (same_name name other) (meaning_in w.globals other) apart shared
 
-apart_by : (w : PlainWorkspace) (name other : List ℕ) (b : Bool) → is_name_of name other ≡ b → is_shared w name ≡ false → is_shared w other ≡ true → b ≡ false
-apart_by w name other true e free shared = absurd (false≢true (sym free ∙ ap (is_shared w) (same_name name other e) ∙ shared))
+apart_by : (w : PlainWorkspace) (name other : List ℕ) (b : Bool) → same_name name other ≡ b → is_shared w name ≡ false → is_shared w other ≡ true → b ≡ false
+apart_by w name other true e free shared = absurd (false≢true (sym free ∙ ap (is_shared w) (equal_names name other e) ∙ shared))
 apart_by w name other false e free shared = refl
 
 -- ---- global names
 
-global_by : (b : Bool) (name other : List ℕ) (meaning : Meaning) (was : Option Meaning) → is_name_of name other ≡ b → IsGlobal name meaning → IfSome was (IsGlobal other) → IfSome (cond b (Some meaning) was) (IsGlobal other)
-global_by true name other meaning was e is before = subst (λ (n : List ℕ). IsGlobal n meaning) (same_name name other e) is
+global_by : (b : Bool) (name other : List ℕ) (meaning : Meaning) (was : Option Meaning) → same_name name other ≡ b → IsGlobal name meaning → IfSome was (IsGlobal other) → IfSome (cond b (Some meaning) was) (IsGlobal other)
+global_by true name other meaning was e is before = subst (λ (n : List ℕ). IsGlobal n meaning) (equal_names name other e) is
 global_by false name other meaning was e is before = before
 
 global_less : (b : Bool) (other : List ℕ) (was : Option Meaning) → IfSome was (IsGlobal other) → IfSome (cond b None was) (IsGlobal other)
@@ -81,11 +81,11 @@ global_less false other was before = before
 
 globals_with : (w : PlainWorkspace) (name : List ℕ) (meaning : Meaning) → IsWorkspace w → IsGlobal name meaning → (other : List ℕ) → IfSome (meaning_in (with_meaning w.globals name meaning) other) (IsGlobal other)
 globals_with w name meaning h is other =
-    subst (λ (o : Option Meaning). IfSome o (IsGlobal other)) (sym (found_with w.globals name meaning other)) (global_by (is_name_of name other) name other meaning (meaning_in w.globals other) refl is (h.globals other))
+    subst (λ (o : Option Meaning). IfSome o (IsGlobal other)) (sym (found_with w.globals name meaning other)) (global_by (same_name name other) name other meaning (meaning_in w.globals other) refl is (h.globals other))
 
 globals_without : (w : PlainWorkspace) (name : List ℕ) → IsWorkspace w → (other : List ℕ) → IfSome (meaning_in (without_name w.globals name) other) (IsGlobal other)
 globals_without w name h other =
-    subst (λ (o : Option Meaning). IfSome o (IsGlobal other)) (sym (found_without w.globals name other h.ascending)) (global_less (is_name_of name other) other (meaning_in w.globals other) (h.globals other))
+    subst (λ (o : Option Meaning). IfSome o (IsGlobal other)) (sym (found_without w.globals name other h.ascending)) (global_less (same_name name other) other (meaning_in w.globals other) (h.globals other))
 
 -- a global name stands for something
 pub put_keeps : (w : PlainWorkspace) (name : List ℕ) (meaning : Meaning) → IsWorkspace w → IsGlobal name meaning → (is_shared w name ≡ true → is_shared_meaning meaning ≡ true) → workspace_weight (with_global w name meaning) ≤ most_weight → IsWorkspace (with_global w name meaning)
@@ -113,7 +113,7 @@ erasing_keeps w name h free = record {
   offers = record {
     count = h.offers.count;
     differ = h.offers.differ;
-    shared = All-weaker (IsShare w.globals) (IsShare (without_name w.globals name)) (λ offer was. shared_without w name offer.local h (apart_by w name offer.local (is_name_of name offer.local) refl free was) was) w.offers h.offers.shared;
+    shared = All-weaker (IsShare w.globals) (IsShare (without_name w.globals name)) (λ offer was. shared_without w name offer.local h (apart_by w name offer.local (same_name name offer.local) refl free was) was) w.offers h.offers.shared;
     addressees = h.offers.addressees;
   };
   weight = omega (arith, erasing_is_lighter w.globals name, h.weight);
@@ -131,17 +131,17 @@ erasing_all_keeps w [] h free = h
 erasing_all_keeps w (name ∷ names) h free =
     erasing_all_keeps (without_global w name) names (erasing_keeps w name h (All-head (IsFree w) name names free))
     (All-weaker (IsFree w) (IsFree (without_global w name))
-    (λ other was. ap (λ (o : Option Meaning). is_shared_meaning (unwrap_or o Nothing)) (found_without w.globals name other h.ascending) ∙ free_by (is_name_of name other) (meaning_in w.globals other) was) names (All-tail (IsFree w) name names free))
+    (λ other was. ap (λ (o : Option Meaning). is_shared_meaning (unwrap_or o Nothing)) (found_without w.globals name other h.ascending) ∙ free_by (same_name name other) (meaning_in w.globals other) was) names (All-tail (IsFree w) name names free))
 
 -- ---- offers that are listed
 
-pub none_offered : (globals : NameTable) (offers : List Remake) (name : List ℕ) → is_shared_in globals name ≡ false → All (λ (offer : Remake). is_shared_in globals offer.local ≡ true) offers → list_any (is_name_of name) (names_offered offers) ≡ false
+pub none_offered : (globals : NameTable) (offers : List Remake) (name : List ℕ) → is_shared_in globals name ≡ false → All (λ (offer : Remake). is_shared_in globals offer.local ≡ true) offers → list_any (same_name name) (names_offered offers) ≡ false
 none_offered globals [] name free shared = refl
 none_offered globals (offer ∷ offers) name free shared =
-    other_by (is_name_of name offer.local) refl (none_offered globals offers name free (All-tail (IsShare globals) offer offers shared))
+    other_by (same_name name offer.local) refl (none_offered globals offers name free (All-tail (IsShare globals) offer offers shared))
   where
-    other_by : (b : Bool) → is_name_of name offer.local ≡ b → list_any (is_name_of name) (names_offered offers) ≡ false → b || list_any (is_name_of name) (names_offered offers) ≡ false
-    other_by true e later = absurd (false≢true (sym free ∙ ap (is_shared_in globals) (same_name name offer.local e) ∙ All-head (IsShare globals) offer offers shared))
+    other_by : (b : Bool) → same_name name offer.local ≡ b → list_any (same_name name) (names_offered offers) ≡ false → b || list_any (same_name name) (names_offered offers) ≡ false
+    other_by true e later = absurd (false≢true (sym free ∙ ap (is_shared_in globals) (equal_names name offer.local e) ∙ All-head (IsShare globals) offer offers shared))
     other_by false e later = later
 
 names_push : (offers : List Remake) (offer : Remake) → names_offered (offers ++ offer ∷ []) ≡ names_offered offers ++ offer.local ∷ []
@@ -181,32 +181,32 @@ some_left p (offer ∷ offers) = left_by (p offer) (some_left p offers)
     left_by true h = omega (arith, h)
     left_by false h = omega (arith, h)
 
-left_by : (name : List ℕ) (offer : Remake) (offers : List Remake) (b : Bool) → names_offered (filter (is_of_another name) offers) ≡ filter (λ other. not (is_name_of name other)) (names_offered offers)
-    → names_offered (cond b (offer ∷ filter (is_of_another name) offers) (filter (is_of_another name) offers)) ≡ cond b (offer.local ∷ filter (λ other. not (is_name_of name other)) (names_offered offers)) (filter (λ other. not (is_name_of name other)) (names_offered offers))
+left_by : (name : List ℕ) (offer : Remake) (offers : List Remake) (b : Bool) → names_offered (filter (is_of_another name) offers) ≡ filter (λ other. not (same_name name other)) (names_offered offers)
+    → names_offered (cond b (offer ∷ filter (is_of_another name) offers) (filter (is_of_another name) offers)) ≡ cond b (offer.local ∷ filter (λ other. not (same_name name other)) (names_offered offers)) (filter (λ other. not (same_name name other)) (names_offered offers))
 left_by name offer offers true later = ap (λ (names : List (List ℕ)). offer.local ∷ names) later
 left_by name offer offers false later = later
 
-names_left : (name : List ℕ) (offers : List Remake) → names_offered (filter (is_of_another name) offers) ≡ filter (λ other. not (is_name_of name other)) (names_offered offers)
+names_left : (name : List ℕ) (offers : List Remake) → names_offered (filter (is_of_another name) offers) ≡ filter (λ other. not (same_name name other)) (names_offered offers)
 names_left name [] = refl
 names_left name (offer ∷ offers) = left_by name offer offers (is_of_another name offer) (names_left name offers)
 
 still_differ : (name : List ℕ) (offers : List Remake) → all_differ (names_offered offers) ≡ true → all_differ (names_offered (filter (is_of_another name) offers)) ≡ true
-still_differ name offers e = ap all_differ (names_left name offers) ∙ differ_picked (λ other. not (is_name_of name other)) (names_offered offers) e
+still_differ name offers e = ap all_differ (names_left name offers) ∙ differ_picked (λ other. not (same_name name other)) (names_offered offers) e
 
-others_shared : (was made : NameTable) (name : List ℕ) (offers : List Remake) → ((other : List ℕ) → is_name_of name other ≡ false → is_shared_in was other ≡ true → is_shared_in made other ≡ true) → All (λ (offer : Remake). is_shared_in was offer.local ≡ true) offers
+others_shared : (was made : NameTable) (name : List ℕ) (offers : List Remake) → ((other : List ℕ) → same_name name other ≡ false → is_shared_in was other ≡ true → is_shared_in made other ≡ true) → All (λ (offer : Remake). is_shared_in was offer.local ≡ true) offers
     → All (λ (offer : Remake). is_shared_in made offer.local ≡ true) (filter (is_of_another name) offers)
 others_shared was made name [] keeps shared = All-nil (IsShare made)
 others_shared was made name (offer ∷ offers) keeps shared =
-    shared_by_name (is_name_of name offer.local) refl (others_shared was made name offers keeps (All-tail (IsShare was) offer offers shared))
+    shared_by_name (same_name name offer.local) refl (others_shared was made name offers keeps (All-tail (IsShare was) offer offers shared))
   where
     left : List Remake
     left = filter (is_of_another name) offers
 
-    shared_by_name : (b : Bool) → is_name_of name offer.local ≡ b → All (λ (offer : Remake). is_shared_in made offer.local ≡ true) left → All (λ (offer : Remake). is_shared_in made offer.local ≡ true) (cond (not b) (offer ∷ left) left)
+    shared_by_name : (b : Bool) → same_name name offer.local ≡ b → All (λ (offer : Remake). is_shared_in made offer.local ≡ true) left → All (λ (offer : Remake). is_shared_in made offer.local ≡ true) (cond (not b) (offer ∷ left) left)
     shared_by_name true e later = later
     shared_by_name false e later = All-cons (IsShare made) offer left (keeps offer.local e (All-head (IsShare was) offer offers shared)) later
 
-value_keeps : (w : PlainWorkspace) (name other : List ℕ) (value : Option PlainArray) → IsWorkspace w → is_name_of name other ≡ false → is_shared w other ≡ true → is_shared_in (with_value_or_none w.globals name value) other ≡ true
+value_keeps : (w : PlainWorkspace) (name other : List ℕ) (value : Option PlainArray) → IsWorkspace w → same_name name other ≡ false → is_shared w other ≡ true → is_shared_in (with_value_or_none w.globals name value) other ≡ true
 value_keeps w name other None h apart shared = shared_without w name other h apart shared
 value_keeps w name other (Some value) h apart shared =
     ap (λ (o : Option Meaning). is_shared_meaning (unwrap_or o Nothing)) (found_with w.globals name (Value value) other ∙ ap (λ (b : Bool). cond b (Some (Value value)) (meaning_in w.globals other)) apart) ∙ shared

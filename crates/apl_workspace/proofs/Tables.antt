@@ -2,7 +2,7 @@
 use Rattle.std.proofs.Common.{◌≡◌, ℕ, ◌+◌, ◌-◌, ◌<◌, ◌≤◌, Bool, cond, min, List, [], ◌∷◌, Ordering, Option, Some, None, refl, sym, ap, ◌∙◌, subst, arith, true, false}
 use Rattle.std.specs.Prelude.{IfSome, IsSome, is_some, unwrap_or}
 use Rattle.std.specs.Option.{option_map}
-use Rattle.std.specs.Map.{keys_of, values_of}
+use Rattle.std.specs.Map.{keys_of, lookup, values_of}
 use Rattle.std.specs.Ordering.{match_ordering}
 use Rattle.std.specs.declared.cmp.Ordering.TheVariants.{Less, Equal, Greater}
 use Rattle.std.specs.List.Sorted.{IsStrictlySortedBy}
@@ -13,21 +13,22 @@ use Rattle.apl_arrays.specs.Array.{PlainArray}
 use Rattle.apl_workspace.specs.declared.meaning.Meaning.{Meaning}
 use Rattle.apl_workspace.specs.declared.meaning.Meaning.TheVariants.{Nothing, Value, Function, Label, Shared}
 use Rattle.apl_workspace.specs.Sorted.{sorted}
-use Rattle.apl_arrays.specs.Name.{name_order}
-use Rattle.apl_workspace.specs.Names.{is_name_of}
+use Rattle.apl_arrays.specs.Name.{name_order, same_name}
 use Rattle.apl_workspace.specs.Limits.{most_weight}
 use Rattle.apl_workspace.specs.Meaning.{NameTable, IsTable, IsWhole, shared_copy, meaning_in, meaning_weight, own_copy_in, table_weight, value_weight, weight_in, with_meaning, without_name}
-use Rattle.apl_workspace.proofs.Ascending.{found_with, found_without, none_ascend, told_by_look_ups, with_ascends, without_ascends}
-use Rattle.apl_workspace.proofs.InOrder.{Entries, by_glyphs, looked_up}
-use Rattle.apl_workspace.proofs.NameLaw.{own_name, same_name}
+use Rattle.apl_workspace.proofs.Ascending.{by_order_all, found, found_with, found_without, none_ascend, told_by_look_ups, with_ascends, without_ascends}
+use Rattle.apl_workspace.proofs.InOrder.{Entries, looked_up}
+use Rattle.apl_workspace.proofs.NameLaw.{own_name, equal_names}
 
 -- one name more, or anew
 pub weight_with : (names : NameTable) (name : List ℕ) (meaning : Meaning) → IsStrictlySortedBy name_order (keys_of names) → table_weight (with_meaning names name meaning) + weight_in names name ≡ table_weight names + meaning_weight meaning
-weight_with names name meaning sorted = sum_by-insert_entry meaning_weight nat_list_cmp_total names name meaning sorted
+weight_with names name meaning sorted =
+    ap (λ test. table_weight (with_meaning names name meaning) + unwrap_or (option_map meaning_weight (lookup (test name) names)) 0) by_order_all
+    ∙ sum_by-insert_entry meaning_weight nat_list_cmp_total names name meaning sorted
 
 -- one name less
 pub weight_without : (names : NameTable) (name : List ℕ) → table_weight (without_name names name) + weight_in names name ≡ table_weight names
-weight_without names name = sum_by-remove_entry meaning_weight (is_name_of name) names
+weight_without names name = sum_by-remove_entry meaning_weight (same_name name) names
 
 -- what is reckoned before a name is put into a table
 pub record IsReckoned (names : NameTable) (name : List ℕ) (meaning : Meaning) (reckoned most : ℕ) : Type 0 where
@@ -51,13 +52,13 @@ pub never_over : (names : NameTable) (name : List ℕ) (meaning : Meaning) (reck
 never_over names name meaning reckoned most h over fits = absurd (omega (arith, h.over over, fits))
 
 -- what holds of each thing that is found holds of it beside a new one
-whole_by : (b : Bool) (name other : List ℕ) (meaning : Meaning) (was : Option Meaning) → is_name_of name other ≡ b → IsWhole name meaning → IfSome was (IsWhole other) → IfSome (cond b (Some meaning) was) (IsWhole other)
-whole_by true name other meaning was p whole before = subst (λ (n : List ℕ). IsWhole n meaning) (same_name name other p) whole
+whole_by : (b : Bool) (name other : List ℕ) (meaning : Meaning) (was : Option Meaning) → same_name name other ≡ b → IsWhole name meaning → IfSome was (IsWhole other) → IfSome (cond b (Some meaning) was) (IsWhole other)
+whole_by true name other meaning was p whole before = subst (λ (n : List ℕ). IsWhole n meaning) (equal_names name other p) whole
 whole_by false name other meaning was p whole before = before
 
 whole_with : (names : NameTable) (name : List ℕ) (meaning : Meaning) → IsWhole name meaning → ((other : List ℕ) → IfSome (meaning_in names other) (IsWhole other)) → (other : List ℕ) → IfSome (meaning_in (with_meaning names name meaning) other) (IsWhole other)
 whole_with names name meaning whole all other =
-    subst (λ (o : Option Meaning). IfSome o (IsWhole other)) (sym (found_with names name meaning other)) (whole_by (is_name_of name other) name other meaning (meaning_in names other) refl whole (all other))
+    subst (λ (o : Option Meaning). IfSome o (IsWhole other)) (sym (found_with names name meaning other)) (whole_by (same_name name other) name other meaning (meaning_in names other) refl whole (all other))
 
 less_by : (b : Bool) (other : List ℕ) (was : Option Meaning) → IfSome was (IsWhole other) → IfSome (cond b None was) (IsWhole other)
 less_by true other was before = tt
@@ -65,7 +66,7 @@ less_by false other was before = before
 
 whole_without : (names : NameTable) (name : List ℕ) → IsStrictlySortedBy name_order (keys_of names) → ((other : List ℕ) → IfSome (meaning_in names other) (IsWhole other)) → (other : List ℕ) → IfSome (meaning_in (without_name names name) other) (IsWhole other)
 whole_without names name ascend all other =
-    subst (λ (o : Option Meaning). IfSome o (IsWhole other)) (sym (found_without names name other ascend)) (less_by (is_name_of name other) other (meaning_in names other) (all other))
+    subst (λ (o : Option Meaning). IfSome o (IsWhole other)) (sym (found_without names name other ascend)) (less_by (same_name name other) other (meaning_in names other) (all other))
 
 -- the table with a name is one
 pub is_table_with : (entries names made : NameTable) (name : List ℕ) (meaning : Meaning) (weight reckoned most : ℕ) → entries ≡ names → IsTable weight entries → IsWhole name meaning → IsReckoned names name meaning reckoned most → reckoned ≤ most → most ≤ most_weight
@@ -105,7 +106,7 @@ pub record Weighs (names : NameTable) (name : List ℕ) (weight : ℕ) : Type 0 
   pub value : weight ≡ weight_in names name
   pub within : weight ≤ table_weight names
 
-pub weighs : (entries : Entries) (names : NameTable) (name : List ℕ) (meaning : Meaning) (whole weight : ℕ) → sorted entries ≡ names → IsTable whole (sorted entries) → Some meaning ≡ by_glyphs entries name
+pub weighs : (entries : Entries) (names : NameTable) (name : List ℕ) (meaning : Meaning) (whole weight : ℕ) → sorted entries ≡ names → IsTable whole (sorted entries) → Some meaning ≡ found entries name
     → weight ≡ min (meaning_weight meaning) (most_weight + 1) → Weighs names name weight
 weighs entries names name meaning whole weight e table is m =
     let there : Some meaning ≡ meaning_in names name = is ∙ looked_up entries name ∙ ap (λ (n : NameTable). meaning_in n name) e in
@@ -136,8 +137,8 @@ put_twice names name first second s =
     let once = with_ascends names name first s in
     told_by_look_ups (with_meaning (with_meaning names name first) name second) (with_meaning names name second) (with_ascends (with_meaning names name first) name second once) (with_ascends names name second s)
     (λ other.
-    found_with (with_meaning names name first) name second other ∙ ap (λ (o : Option Meaning). cond (is_name_of name other) (Some second) o) (found_with names name first other)
-    ∙ twice_by (is_name_of name other) second first (meaning_in names other) ∙ sym (found_with names name second other))
+    found_with (with_meaning names name first) name second other ∙ ap (λ (o : Option Meaning). cond (same_name name other) (Some second) o) (found_with names name first other)
+    ∙ twice_by (same_name name other) second first (meaning_in names other) ∙ sym (found_with names name second other))
 
 gone_by : (b : Bool) (first : Meaning) (was : Option Meaning) → cond b None (cond b (Some first) was) ≡ cond b None was
 gone_by true first was = refl
@@ -148,8 +149,8 @@ put_and_taken names name first s =
     let once = with_ascends names name first s in
     told_by_look_ups (without_name (with_meaning names name first) name) (without_name names name) (without_ascends (with_meaning names name first) name once) (without_ascends names name s)
     (λ other.
-    found_without (with_meaning names name first) name other once ∙ ap (λ (o : Option Meaning). cond (is_name_of name other) None o) (found_with names name first other)
-    ∙ gone_by (is_name_of name other) first (meaning_in names other) ∙ sym (found_without names name other s))
+    found_without (with_meaning names name first) name other once ∙ ap (λ (o : Option Meaning). cond (same_name name other) None o) (found_with names name first other)
+    ∙ gone_by (same_name name other) first (meaning_in names other) ∙ sym (found_without names name other s))
 
 -- what is left of a shared name that keeps its own copy
 pub record KeepsCopy (names : NameTable) (name : List ℕ) : Type 0 where

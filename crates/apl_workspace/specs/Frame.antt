@@ -7,7 +7,7 @@ use Rattle.apl_workspace.specs.Function.{PlainFunction}
 use Rattle.apl_workspace.specs.Header.{PlainHeader}
 use Rattle.apl_workspace.specs.Label.{label_of}
 use Rattle.apl_workspace.specs.Meaning.{NameTable, meaning_of, with_meaning}
-use Rattle.apl_workspace.specs.Names.{is_name_of}
+use Rattle.apl_arrays.specs.Name.{same_name}
 use Rattle.apl_workspace.specs.declared.args.Args.{Args}
 use Rattle.apl_workspace.specs.declared.meaning.Meaning.{Meaning}
 use Rattle.apl_workspace.specs.declared.meaning.Meaning.TheVariants.{Nothing, Label}
@@ -28,12 +28,12 @@ header_names header args = fold with_local_name (with_argument (with_argument []
 -- what an argument of this name stands for, or another name
 abbrev pub argument_or : Option (List ℕ) → Option PlainArray → List ℕ → Option Meaning → Option Meaning
 argument_or None value name other = other
-argument_or (Some argument) value name other = if is_name_of argument name then Some (meaning_of value) else other
+argument_or (Some argument) value name other = if same_name argument name then Some (meaning_of value) else other
 
 -- what a name of a header stands for as its function begins: the result and the local names for nothing yet, the arguments for their values
 abbrev pub header_meaning : PlainHeader → Args → List ℕ → Option Meaning
 header_meaning header args name =
-    if list_any (is_name_of name) (option_to_list header.result ++ header.locals) then Some Nothing
+    if list_any (same_name name) (option_to_list header.result ++ header.locals) then Some Nothing
     else argument_or header.right args.right name (argument_or header.left args.left name None)
 
 -- the names with a label that stands for a line, where that line has one
@@ -58,7 +58,7 @@ pub record AreArgumentsOf (header : PlainHeader) (args : Args) : Type 0 where
 -- the number of a line where it has this label, else that of a later one
 abbrev pub this_or_later : Option (List ℕ) → List ℕ → ℕ → Option ℕ → Option ℕ
 this_or_later None name number later = later
-this_or_later (Some label) name number later = if is_name_of label name then Some number else later
+this_or_later (Some label) name number later = if same_name label name then Some number else later
 
 -- the number of the first of these lines that has this label, where one has it; the first line has this number
 abbrev pub labelled_line : ℕ → List (List ℕ) → List ℕ → Option ℕ

@@ -10,8 +10,7 @@ use Rattle.apl_arrays.specs.declared.report.Fail.TheVariants.{Report, WantOfMemo
 use Rattle.apl_arrays.specs.declared.report.Report.TheVariants.{WsFull}
 use Rattle.apl_workspace.specs.Function.{IsFunction, function_weight}
 use Rattle.apl_workspace.specs.Limits.{most_weight}
-use Rattle.apl_arrays.specs.Name.{name_order}
-use Rattle.apl_workspace.specs.Names.{is_name_of}
+use Rattle.apl_arrays.specs.Name.{name_order, same_name}
 use Rattle.apl_workspace.specs.declared.meaning.Meaning.{Meaning}
 use Rattle.apl_workspace.specs.declared.meaning.Meaning.TheVariants.{Nothing, Value, Function, Label, Shared}
 
@@ -95,7 +94,7 @@ NameTable = List (List ℕ × Meaning)
 
 -- what a name stands for in a table, where the table has it
 abbrev pub meaning_in : NameTable → List ℕ → Option Meaning
-meaning_in names name = lookup (is_name_of name) names
+meaning_in names name = lookup (same_name name) names
 
 -- the table with a name that stands for this; all other names stay
 abbrev pub with_meaning : NameTable → List ℕ → Meaning → NameTable
@@ -103,7 +102,7 @@ with_meaning names name meaning = insert_entry name_order names name meaning
 
 -- the table without a name; all other names stay
 abbrev pub without_name : NameTable → List ℕ → NameTable
-without_name names name = remove_entry (is_name_of name) names
+without_name names name = remove_entry (same_name name) names
 
 -- the table without these names; all other names stay
 abbrev pub without_names : NameTable → List (List ℕ) → NameTable

@@ -13,8 +13,8 @@ use Rattle.apl_arrays.specs.declared.report.Report.TheVariants.{Syntax, WsFull}
 use Rattle.apl_workspace.specs.Frame.{AreArgumentsOf, frame_of}
 use Rattle.apl_workspace.specs.Limits.{most_weight, most_depth, most_printed}
 use Rattle.apl_workspace.specs.Meaning.{IsGlobal, IsLocal, NameTable, is_shared_in, meaning_in, own_copy_in, table_weight, with_meaning, with_value_or_none, without_name, without_names}
-use Rattle.apl_arrays.specs.Name.{name_order}
-use Rattle.apl_workspace.specs.Names.{all_differ, is_name_of}
+use Rattle.apl_arrays.specs.Name.{name_order, same_name}
+use Rattle.apl_workspace.specs.Names.{all_differ}
 use Rattle.apl_workspace.specs.declared.args.Args.{Args}
 use Rattle.apl_workspace.specs.declared.meaning.Meaning.{Meaning}
 use Rattle.apl_workspace.specs.declared.meaning.Meaning.TheVariants.{Nothing, Value, Function, Label, Shared}
@@ -60,7 +60,7 @@ is_shared w name = is_shared_in w.globals name
 
 -- a global name is this one, and no frame hides it
 abbrev pub is_unhidden : PlainWorkspace → List ℕ → List ℕ → Bool
-is_unhidden w name other = is_name_of name other && not (is_local w other)
+is_unhidden w name other = same_name name other && not (is_local w other)
 
 -- the workspace with a global name that stands for this
 abbrev pub with_global : PlainWorkspace → List ℕ → Meaning → PlainWorkspace
@@ -72,7 +72,7 @@ is_addressee to = to == 0 || to == clock_party || to == text_party || is_user_nu
 
 -- the offer is of another name
 abbrev pub is_of_another : List ℕ → Remake → Bool
-is_of_another name offer = not (is_name_of name offer.local)
+is_of_another name offer = not (same_name name offer.local)
 
 -- an offer of the name is listed: the name is not shared yet, and fewer than 64 offers are listed
 abbrev pub takes_offer : PlainWorkspace → List ℕ → Bool

@@ -7,7 +7,7 @@ ghost use Rattle.apl_workspace.specs.Function.{PlainFunction};
 ghost use Rattle.apl_workspace.specs.Header.{PlainHeader};
 ghost use Rattle.apl_workspace.specs.Limits.{most_weight};
 ghost use Rattle.apl_workspace.specs.Meaning.{meaning_in, meaning_of, own_copy_in};
-ghost use Rattle.apl_workspace.specs.Names.{is_name_of};
+ghost use Rattle.apl_arrays.specs.Name.{same_name};
 ghost use Rattle.apl_workspace.specs.Workspace.{IsWorkspace, PlainWorkspace, assigned, global_in, is_unhidden, look, marked, takes_offer, unmarked, unshared, with_frame, with_global, without_frame, without_global, workspace_weight};
 
 use crate::{Args, Meaning, Remake};
@@ -15,7 +15,7 @@ use crate::{Args, Meaning, Remake};
 /// A name that was assigned has the value, in a frame or globally, and all other names are as they were. The call does
 /// nothing. No memory.
 pub fn assigning_changes_one_name()
-    ensures { (w : PlainWorkspace) (name other : ListOf ℕ) (value : PlainArray) → look (assigned w name value) other ≡ (if is_name_of name other then Meaning.Value value else look w other) }
+    ensures { (w : PlainWorkspace) (name other : ListOf ℕ) (value : PlainArray) → look (assigned w name value) other ≡ (if same_name name other then Meaning.Value value else look w other) }
 {}
 
 /// A function that was defined, and a variable that was shared or renewed, is seen where no frame hides its name, and all

@@ -4,11 +4,11 @@ ghost use Rattle.std.specs.Prelude.{◌≡◌, ◌↔◌, ◌∷◌, [], ◌++�
 ghost use Rattle.apl_arrays.specs.Glyph as named;
 ghost use Rattle.apl_workspace.specs.Header.{PlainHeader, header_of};
 ghost use Rattle.apl_workspace.specs.Grammar.{IsHeader};
-ghost use Rattle.apl_workspace.specs.Names.{is_name_of};
+ghost use Rattle.apl_arrays.specs.Name.{same_name};
 
 /// The test of names is true of equal names alone. The call does nothing. No memory.
 pub fn names_are_told_apart()
-    ensures { (first second : List ℕ) → (is_name_of first second ≡ true) ↔ (first ≡ second) }
+    ensures { (first second : List ℕ) → (same_name first second ≡ true) ↔ (first ≡ second) }
 {}
 
 /// What is computed of a line is exactly what the grammar of headers has. The call does nothing. No memory.

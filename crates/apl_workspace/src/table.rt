@@ -1,8 +1,7 @@
 ghost use Rattle.std.specs.Prelude.{◌≡◌, ◌==◌, ◌+◌, ◌<◌, ◌≤◌, ◌++◌, ◌∷◌, ℕ, List as ListOf, [], Some, filter, if◌then◌else◌, true, length, slice_get, unwrap_or, IsOk, IsSome, OnOk, OnErr, IfErr, IfOk, IfSome};
-ghost use Rattle.std.specs.Cmp.Lexicographic.{pointwise};
 ghost use Rattle.std.specs.List.{IsDistinct};
 ghost use Rattle.std.specs.List.Sorted.{IsStrictlySortedBy};
-ghost use Rattle.apl_arrays.specs.Name.{name_order};
+ghost use Rattle.apl_arrays.specs.Name.{name_order, same_name};
 ghost use Rattle.std.specs.Map.{keys_of};
 ghost use Rattle.std.specs.Option.{option_copied};
 ghost use Rattle.apl_workspace.specs.Limits.{most_weight};
@@ -244,7 +243,7 @@ impl Table {
 
 /// The name stands for this, and what it stood for is handed out. `WantOfMemory` leaves the names as they were, and
 /// comes only for a new one.
-#[tactic(auto, using(crate::proofs::InOrder::put_in_order, crate::proofs::InOrder::there_by_glyphs, crate::proofs::InOrder::looked_up))]
+#[tactic(auto, using(crate::proofs::InOrder::put_in_order, crate::proofs::InOrder::there_among, crate::proofs::InOrder::looked_up))]
 fn put_in(
     names: &mut IndexMap<Name, Meaning>,
     name: Name,
@@ -280,7 +279,7 @@ fn collected(
     what: Option<What>,
 ) -> Result<Vec<Name>, WantOfMemory>
     ensures names { IfOk result (λ list. list.items ≡ keys_of (filter (λ entry. is_wanted what entry.1) names.now.entries)) }
-    ensures apart { IsDistinct (pointwise ◌==◌) (keys_of names.now.entries) }
+    ensures apart { IsDistinct same_name (keys_of names.now.entries) }
 {
     let mut list = Vec::new(alloc);
     for at in 0..names.len() {

@@ -11,7 +11,6 @@ use Rattle.apl_workspace.specs.Header.{PlainHeader, header_of}
 use Rattle.apl_workspace.specs.Meaning.{IsWhole, is_variable_meaning}
 use Rattle.apl_workspace.specs.Workspace.{PlainWorkspace, global_in}
 use Rattle.apl_workspace.specs.declared.meaning.Meaning.TheVariants.{Function}
-use Rattle.apl_workspace.proofs.InOrder.{same_test}
 use Rattle.apl_workspace.proofs.NameLaw as names
 use Rattle.fn_editor.specs.Bracket.{bracket_in}
 use Rattle.fn_editor.specs.Closing.{behind_glyph, is_blank_text}
@@ -43,7 +42,7 @@ text_by editor text false false = tt
 header_by : (editor : PlainEditor) (text : List ℕ) (header : PlainHeader) (b : Bool) → (nat_le (length text) most_line_glyphs && same_name editor.header.name header.name) ≡ b → Named editor.header.name (cond b (Some (record editor { text = text; header = header })) None)
 header_by editor text header true e =
     let parts = and_parts (nat_le (length text) most_line_glyphs) (same_name editor.header.name header.name) e in
-    sym (names.same_name editor.header.name header.name (sym (same_test editor.header.name header.name) ∙ parts.1))
+    sym (names.equal_names editor.header.name header.name parts.1)
 header_by editor text header false e = tt
 
 header_named : (editor : PlainEditor) (text : List ℕ) (header : Option PlainHeader) → Named editor.header.name (with_header editor text header)

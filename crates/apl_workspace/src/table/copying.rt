@@ -2,8 +2,7 @@ ghost use Rattle.std.specs.Prelude.{◌≡◌, ◌<◌, ℕ, List as ListOf, Som
 ghost use Rattle.std.specs.BTreeSet as set;
 ghost use Rattle.std.specs.List.{list_any};
 ghost use Rattle.apl_workspace.specs.Meaning.{table_weight, with_meaning, without_names};
-ghost use Rattle.apl_arrays.specs.Name.{name_order};
-ghost use Rattle.apl_workspace.specs.Names.{is_name_of};
+ghost use Rattle.apl_arrays.specs.Name.{name_order, same_name};
 ghost use Rattle.apl_workspace.specs.Sorted.{sorted};
 
 use super::{Table, discard_old, put_in};
@@ -32,7 +31,7 @@ impl Table {
         alloc: Global,
         names: &[Name],
     ) -> Result<(BTreeSet<Name>, usize), WantOfMemory>
-        ensures names { IfOk result (λ found. (name : ListOf ℕ) → set.contains name_order found.0 name ≡ list_any (is_name_of name) names.now) }
+        ensures names { IfOk result (λ found. (name : ListOf ℕ) → set.contains name_order found.0 name ≡ list_any (same_name name) names.now) }
         ensures weight { IfOk result (λ found. found.1 ≡ table_weight (without_names self.now names.now)) }
     {
         let mut gone = BTreeSet::new(alloc);
