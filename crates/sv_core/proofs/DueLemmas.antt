@@ -1,9 +1,9 @@
 -- Which offer comes first of those on which something is due.
 use Rattle.std.proofs.Common.{◌≡◌, refl, sym, ap, ◌∙◌, ℕ, zero, suc, ◌+◌, ◌<◌, Bool, true, false, ◌&&◌, not, eqb, cond, find, List, [], ◌∷◌, ◌++◌, length, take, get_or, Option, Some, None, arith}
+use Rattle.std.proofs.lemmas.Bool.{eqb-true}
 use Rattle.std.proofs.lemmas.List.{take_more}
 use Rattle.std.proofs.lemmas.Option.{none-some}
 use Rattle.std.specs.Prelude.{Contains, if◌then◌else◌}
-use Rattle.std.specs.List.{filter}
 use Rattle.std.specs.Option.{option_map_or}
 use Rattle.apl_arrays.specs.Array.{PlainArray}
 use Rattle.sv_access.specs.Access.{other_side}
@@ -13,27 +13,14 @@ use Rattle.sv_access.specs.declared.access.Side.TheVariants.{A, B}
 use Rattle.sv_access.specs.declared.state.State.{State}
 use Rattle.sv_access.specs.declared.state.State.TheVariants.{Quiet, UnseenA, UnseenB}
 use Rattle.sv_access.proofs.StoryLemmas.{is_unseen_by_state, says_unseen}
-use Rattle.sv_offer_laws.proofs.Members.{Contains-from_filter, find_passed}
+use Rattle.sv_offer_laws.proofs.Members.{Contains-from_filter, filter_passed, find_passed}
 use Rattle.sv_rules.specs.Coupling.{coupling_now}
 use Rattle.sv_rules.specs.Entries.{Entries}
 use Rattle.sv_rules.specs.Standing.{standing}
-use Rattle.sv_rules.specs.Work.{first_coupled, own_offers}
+use Rattle.sv_rules.specs.Work.{first_coupled, is_auxiliary, own_offers}
 use Rattle.sv_rules.specs.declared.coupling.Coupling.{Coupling}
 use Rattle.sv_rules.specs.declared.standing.Standing.{Standing}
 use Rattle.sv_core.specs.Due.{is_partners_unseen}
-
--- the first that passes of those that pass another test
-pub find_among : {X : Type 0} (p q : X → Bool) (xs : List X) → find p (filter q xs) ≡ find (λ x. q x && p x) xs
-find_among p q [] = refl
-find_among p q (x ∷ xs) = by (find_among p q xs) (q x) refl
-  where
-    by : find p (filter q xs) ≡ find (λ y. q y && p y) xs → (b : Bool) → q x ≡ b → find p (filter q (x ∷ xs)) ≡ find (λ y. q y && p y) (x ∷ xs)
-    by rest true h =
-        ap (λ (b : Bool). find p (cond b (x ∷ filter q xs) (filter q xs))) h ∙ ap (λ r. cond (p x) (Some x) r) rest
-        ∙ ap (λ (b : Bool). cond (b && p x) (Some x) (find (λ y. q y && p y) xs)) (sym h)
-    by rest false h =
-        ap (λ (b : Bool). find p (cond b (x ∷ filter q xs) (filter q xs))) h ∙ rest
-        ∙ ap (λ (b : Bool). cond (b && p x) (Some x) (find (λ y. q y && p y) xs)) (sym h)
 
 -- a test that never passes finds none
 found_nowhere : {X : Type 0} (xs : List X) → find (λ _. false) xs ≡ None
@@ -75,6 +62,11 @@ pub first_stands : (journal : Entries) (holds : Standing → Coupling → Bool) 
 first_stands journal holds party offer h =
     let found = find_passed (λ (o : Standing). option_map_or (holds o) (coupling_now journal o.place) false) (own_offers journal party) offer h in
     Contains-from_filter (λ (o : Standing). eqb o.party party) (standing journal) offer found.1
+
+-- the offers of an auxiliary are those of an auxiliary
+pub own_is_auxiliary : (journal : Entries) (party : ℕ) (offer : Standing) → is_auxiliary party ≡ true → Contains (own_offers journal party) offer → is_auxiliary offer.party ≡ true
+own_is_auxiliary journal party offer auxiliary has =
+    ap is_auxiliary (eqb-true offer.party party (filter_passed (λ (o : Standing). eqb o.party party) (standing journal) offer has)) ∙ auxiliary
 
 -- whether a set of the other side is unseen is told by the state
 pub partners_unseen : (told : Story PlainArray) (side : Side) → is_unseen (other_side side) told ≡ is_partners_unseen (state_of_story told) side

@@ -1,16 +1,19 @@
 -- The cells while offers end together, one offer and one pair after another.
 use Rattle.std.proofs.Common.{◌≡◌, refl, sym, ap, ◌∙◌, subst, ℕ, ◌<◌, Bool, true, false, ◌&&◌, ◌||◌, eqb, List, [], ◌∷◌, ◌++◌, Option, Some, None, arith}
 use Rattle.std.specs.Prelude.{Contains, IsTrue, IsSome, if◌then◌else◌}
-use Rattle.std.specs.List.{list_any}
-use Rattle.std.proofs.lemmas.Bool.{or_right}
+use Rattle.std.specs.List.{filter, list_any}
+use Rattle.std.proofs.lemmas.Bool.{and_parts, or_right}
+use Rattle.std.proofs.lemmas.Map.Views.{any-filter_same}
+use Rattle.apl_arrays.specs.Name.{same_name}
 use Rattle.sv_cells.specs.Cells.{PutsAt, cell_at}
 use Rattle.sv_cells.specs.declared.cell.Cell.{Cell}
 use Rattle.sv_cells.specs.declared.cells.Cells.{Cells}
-use Rattle.sv_cell_laws.specs.Ends.{CellsIn, FitsIn, IsTable, Joins, MayPart, Parts, coupled_without, taken_now, unless_ended}
+use Rattle.sv_cell_laws.specs.Ends.{CellsIn, FitsIn, IsTable, Joins, MayPart, Parts, coupled_without, ends_one, taken_now, unless_ended}
 use Rattle.sv_cell_laws.proofs.EndJournal.{cells_join, pair_coupling}
 use Rattle.sv_cell_laws.proofs.EndSteps.{cells_alike, cells_part, list_any-more, parts_none}
 use Rattle.sv_events.specs.declared.entry.Pair.{Pair}
 use Rattle.sv_events.specs.declared.row.Ending.{Ending}
+use Rattle.sv_events.specs.declared.row.Ending.TheVariants.{One, All as AllOffers}
 use Rattle.sv_offer_laws.proofs.LookupLemmas.{found_as_made}
 use Rattle.sv_rules.specs.Coupling.{coupling_at}
 use Rattle.sv_rules.specs.Entries.{Entries}
@@ -58,6 +61,36 @@ pub parts_others : (offers : List Standing) (coupled : List Made) (party : ℕ) 
 parts_others offers coupled party ending gone o old cells stays so_far journal fit =
     cells_alike journal (Contains offers) (coupled_without offers coupled gone party ending) (coupled_without offers coupled (gone ++ o ∷ []) party ending) cells
     (parts_none offers coupled gone party ending o stays) (so_far journal fit)
+
+-- a party's own offers
+abbrev pub own_of : ℕ → List Standing → List Standing
+own_of party offers = filter (λ (o : Standing). eqb o.party party) offers
+
+-- what an ending ends is its party's own
+ended_is_own : (party : ℕ) (ending : Ending) (o : Standing) (more : Bool) → (is_ended party ending o && more) ≡ true → eqb o.party party ≡ true
+ended_is_own party ending o more h = by ending (and_parts (is_ended party ending o) more h).0
+  where
+    by : (e : Ending) → is_ended party e o ≡ true → eqb o.party party ≡ true
+    by (One local) ends = (and_parts (eqb o.party party) (same_name o.local local) ends).0
+    by AllOffers ends = ends
+
+-- so it is the same where only these are gone over: for the couplings that are left, and for the cells that go
+pub parts_own : (offers : List Standing) (coupled : List Made) (party : ℕ) (ending : Ending) (old new : Cells) → PartsAll offers coupled party ending (own_of party offers) old new → PartsAll offers coupled party ending offers old new
+parts_own offers coupled party ending old new own journal fit =
+    cells_alike journal (Contains offers) (coupled_without offers coupled (own_of party offers) party ending) (coupled_without offers coupled offers party ending) new
+    (λ place. by (coupling_at offers coupled place)) (own journal fit)
+  where
+    by : (c : Option Coupling) → unless_ended (own_of party offers) party ending c ≡ unless_ended offers party ending c
+    by None = refl
+    by (Some c) =
+        ap (λ (b : Bool). if b then None else Some c)
+        (any-filter_same (ends_one party ending c) (λ (o : Standing). eqb o.party party) true (λ o h. ended_is_own party ending o (eqb c.a.place o.place || eqb c.b.place o.place) h) offers)
+
+pub closes_own : (offers : List Standing) (party : ℕ) (ending : Ending) (old new : Cells) → Closes (own_of party offers) party ending old new → Closes offers party ending old new
+closes_own offers party ending old new own at =
+    own at
+    ∙ ap (λ (b : Bool). if b then None else cell_at old at)
+    (any-filter_same (λ (o : Standing). is_ended party ending o && eqb o.place at) (λ (o : Standing). eqb o.party party) true (λ o h. ended_is_own party ending o (eqb o.place at) h) offers)
 
 -- an offer that ends goes, with its cell
 pub closes_more : (gone : List Standing) (party : ℕ) (ending : Ending) (o : Standing) (old cells cells' : Cells) → is_ended party ending o ≡ true → Closes gone party ending old cells → PutsAt cells cells' o.place None →

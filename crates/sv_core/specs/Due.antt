@@ -1,5 +1,5 @@
 -- What an auxiliary may have to do on a coupled offer of its own, and for whom.
-use Rattle.std.specs.Prelude.{ℕ, Bool, true, false, ◌&&◌, ◌==◌, not, Option, option_and_then, option_map, if◌then◌else◌}
+use Rattle.std.specs.Prelude.{ℕ, Bool, true, false, ◌==◌, not, Option, option_and_then, option_map, if◌then◌else◌}
 use Rattle.std.specs.Option.{option_map_or, option_or}
 use Rattle.apl_arrays.specs.Array.{PlainArray}
 use Rattle.sv_access.specs.declared.access.Side.{Side}
@@ -35,13 +35,13 @@ is_partners_unseen UnseenB A = true
 is_partners_unseen UnseenA B = true
 is_partners_unseen _ _ = false
 
--- the offer is a party's own, it is coupled, and this is due on it
-abbrev pub is_due_to : Entries → ℕ → Due → Standing → Bool
-is_due_to journal party due offer = offer.party == party && option_map_or (is_due journal due offer) (coupling_now journal offer.place) false
+-- the offer is coupled, and this is due on it
+abbrev pub is_due_on : Entries → Due → Standing → Bool
+is_due_on journal due offer = option_map_or (is_due journal due offer) (coupling_now journal offer.place) false
 
--- the offer is a party's own, and open
-abbrev pub is_own_open : Entries → ℕ → Standing → Bool
-is_own_open journal party offer = offer.party == party && not (is_coupled (couplings journal) offer.place)
+-- the offer is in no coupling
+abbrev pub is_open : Entries → Standing → Bool
+is_open journal offer = not (is_coupled (couplings journal) offer.place)
 
 -- the coupled offer on which a party has to set a control, else the one on which it has to reply
 abbrev pub served_by : Entries → ℕ → Option Standing

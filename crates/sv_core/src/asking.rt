@@ -5,6 +5,7 @@ ghost use Rattle.sv_rules.specs.Control.{control_in_force, state_vector};
 ghost use Rattle.sv_rules.specs.Coupling.{couplings, is_coupled};
 ghost use Rattle.sv_rules.specs.Questions.{answer_to_question, degree_of};
 ghost use Rattle.sv_rules.specs.Standing.{offer_count, own_offer, standing};
+ghost use Rattle.sv_rules.specs.Work.{own_offers};
 
 use crate::Core;
 use apl_arrays::{Name, WantOfMemory};
@@ -14,11 +15,11 @@ use sv_events::{Answer, Question};
 use sv_rules::{OFFER_LIMIT, Standing};
 
 impl Core {
-    // The offers that stand, by place.
-    pub(crate) fn standing(&self) -> &[Standing]
-        ensures { result.now ≡ standing self.now.journal }
+    // A party's offers that stand, by place.
+    pub(crate) fn own_offers(&self, party: u32) -> &[Standing]
+        ensures { result.now ≡ own_offers self.now.journal party }
     {
-        self.offers.as_slice()
+        self.offers.of(party)
     }
 
     // Whether the offer at a place is coupled.

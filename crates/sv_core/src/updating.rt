@@ -57,7 +57,7 @@ fn part_all(offers: &Offers, cells: &mut Cells, party: u32, ending: &Ending)
     requires fit { FitsSome offers.now.offers offers.now.coupled cells.old }
     ensures { PartsAll offers.now.offers offers.now.coupled party ending.now offers.now.offers cells.old cells.new }
 {
-    for offer in offers.as_slice() {
+    for offer in offers.of(party) {
         if is_ended(party, ending, offer) {
             part_coupled(cells, offers.coupling(offer.place));
         }
@@ -116,7 +116,7 @@ pub fn end_together(
     ensures cells { EndsAll offers.old at party ending cells.old cells.new }
 {
     part_all(offers, cells, party, &ending);
-    close_all(offers.as_slice(), cells, party, &ending);
+    close_all(offers.of(party), cells, party, &ending);
     offers.end(at, party, ending, made);
     couple_all(cells, made.as_slice());
 }

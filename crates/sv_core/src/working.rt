@@ -1,11 +1,12 @@
 ghost use Rattle.std.specs.Prelude.{◌≡◌, true, false, not, find, nat_lt, Contains, IsTrue, is_some, unwrap_or};
 ghost use Rattle.std.specs.List.{list_all, list_any};
-ghost use Rattle.std.specs.Option.{option_copied, option_map_or};
-ghost use Rattle.sv_core.specs.Due.{command_of, customer_of, is_due, is_due_to, is_own_open, partner_at, partner_of, served_by};
+ghost use Rattle.std.specs.Option.{option_copied};
+ghost use Rattle.sv_core.specs.Due.{command_of, customer_of, is_due, is_due_on, is_open, partner_at, partner_of, served_by};
 ghost use Rattle.sv_rules.specs.Coupling.{coupling_now, open_to};
 ghost use Rattle.sv_rules.specs.Entries.{has_left};
 ghost use Rattle.sv_rules.specs.Refused.{hold_of, hold_on, refused, still_refused};
 ghost use Rattle.sv_rules.specs.Standing.{offer_count, own_offer, standing};
+ghost use Rattle.sv_rules.specs.declared.standing.Standing.{Standing};
 ghost use Rattle.sv_rules.specs.Work.{first_coupled, first_open, is_auxiliary, is_halted, is_idle, is_stuck, lacks_control, most_counters, owes_reply, to_counter, work_due, work_of};
 
 use crate::Core;
@@ -53,24 +54,24 @@ impl Core {
     fn first_open(&self, party: u32) -> Option<Standing>
         ensures { result ≡ first_open self.now.journal party }
     {
-        self.first_open_among(self.standing(), party)
+        self.first_open_among(self.own_offers(party))
     }
 
-    fn first_open_among(&self, offers: &[Standing], party: u32) -> Option<Standing>
-        ensures { result ≡ find (is_own_open self.now.journal party) offers.now }
+    fn first_open_among(&self, offers: &[Standing]) -> Option<Standing>
+        ensures { result ≡ find (is_open self.now.journal) offers.now }
     {
         for offer in offers {
-            if self.is_own_open(party, offer) {
+            if self.is_open(offer) {
                 return Some(*offer);
             }
         }
         None
     }
 
-    fn is_own_open(&self, party: u32, offer: &Standing) -> bool
-        ensures { result ≡ is_own_open self.now.journal party offer.now }
+    fn is_open(&self, offer: &Standing) -> bool
+        ensures { result ≡ is_open self.now.journal offer.now }
     {
-        offer.party == party && !self.is_coupled(offer.place)
+        !self.is_coupled(offer.place)
     }
 
     // The coupled offer of a party of the lowest place on which this is due.
@@ -78,40 +79,27 @@ impl Core {
         requires { IsTrue (is_auxiliary party) }
         ensures { result ≡ first_coupled self.now.journal (is_due self.now.journal due) party }
     {
-        self.first_coupled_among(self.standing(), party, due)
+        self.first_coupled_among(self.own_offers(party), due)
     }
 
-    fn first_coupled_among(&self, offers: &[Standing], party: u32, due: Due) -> Option<Standing>
-        requires stand { offers.now ≡ standing self.now.journal }
-        requires auxiliary { IsTrue (is_auxiliary party) }
-        ensures { result ≡ find (is_due_to self.now.journal party due) offers.now }
+    fn first_coupled_among(&self, offers: &[Standing], due: Due) -> Option<Standing>
+        requires stand { (offer : Standing) → Contains offers.now offer → Contains (standing self.now.journal) offer }
+        requires own { (offer : Standing) → Contains offers.now offer → IsTrue (is_auxiliary offer.party) }
+        ensures { result ≡ find (is_due_on self.now.journal due) offers.now }
     {
         for offer in offers {
-            if self.is_due_to(party, offer, due) {
+            if self.is_due(offer, due) {
                 return Some(*offer);
             }
         }
         None
     }
 
-    // Whether the offer is the party's own and coupled, and this is due on it.
-    fn is_due_to(&self, party: u32, offer: &Standing, due: Due) -> bool
-        requires stands { Contains (standing self.now.journal) offer.now }
-        requires auxiliary { IsTrue (is_auxiliary party) }
-        ensures { result ≡ is_due_to self.now.journal party due offer.now }
-    {
-        if offer.party == party {
-            self.is_due(offer, due)
-        } else {
-            false
-        }
-    }
-
     // Whether the offer is coupled, and this is due on it.
     fn is_due(&self, offer: &Standing, due: Due) -> bool
         requires stands { Contains (standing self.now.journal) offer.now }
         requires own { IsTrue (is_auxiliary offer.now.party) }
-        ensures { result ≡ option_map_or (is_due self.now.journal due offer.now) (coupling_now self.now.journal offer.now.place) false }
+        ensures { result ≡ is_due_on self.now.journal due offer.now }
     {
         match self.coupling(offer.place) {
             None => false,

@@ -3,8 +3,9 @@ use Rattle.sv_events.specs.declared.entry.Pair.{Pair}
 use Rattle.sv_rules.specs.declared.standing.Standing.{Standing}
 use Rattle.sv_offers.specs.Table.{pairs_made}
 use Rattle.sv_core.specs.Updating.{Closes}
+use Rattle.sv_core.proofs.EndingLemmas.{closes_own}
 use Rattle.sv_core.proofs.TogetherLemmas.{ending_fits, ending_no_more, ending_pairs, ending_table, ends_all, ready_to_couple}
-use Rattle.sv_core.proofs.updating.end_together.Goals.{After-as_slice-2}
+use Rattle.sv_core.proofs.updating.end_together.Goals.{After-as_slice}
 use Rattle.sv_core.proofs.updating.end_together.Goals as goal
 
 pub part_all-requires-clause-table : goal.part_all-requires-clause-table
@@ -17,23 +18,25 @@ pub end-requires-clause-no_more : goal.end-requires-clause-no_more
 end-requires-clause-no_more c = ending_no_more c.args.offers.now c.args.cells.now c.args.at c.args.party c.args.ending c.requires.ready
 
 -- the pairs that are made
-pairs_are : (c : After-as_slice-2) → c.as_slice-2.result.now ≡ pairs_made c.args.at c.args.offers.now c.args.party c.args.ending
+pairs_are : (c : After-as_slice) → c.as_slice.result.now ≡ pairs_made c.args.at c.args.offers.now c.args.party c.args.ending
 pairs_are c =
-    c.as_slice-2.ensures ∙ c.end.ensures.made
+    c.as_slice.ensures ∙ c.end.ensures.made
     ∙ ap (λ (xs : List Pair). xs ++ pairs_made c.args.at c.args.offers.now c.args.party c.args.ending) c.requires.none
 
 -- the cells of the other offers stay
-keeps : (c : After-as_slice-2) → Closes c.args.offers.now.offers c.args.party c.args.ending c.part_all.new.cells c.close_all.new.cells
-keeps c = subst (λ (os : List Standing). Closes os c.args.party c.args.ending c.part_all.new.cells c.close_all.new.cells) c.as_slice.ensures c.close_all.ensures
+keeps : (c : After-as_slice) → Closes c.args.offers.now.offers c.args.party c.args.ending c.part_all.new.cells c.close_all.new.cells
+keeps c =
+    closes_own c.args.offers.now.offers c.args.party c.args.ending c.part_all.new.cells c.close_all.new.cells
+    (subst (λ (os : List Standing). Closes os c.args.party c.args.ending c.part_all.new.cells c.close_all.new.cells) c.of.ensures c.close_all.ensures)
 
 pub couple_all-requires : goal.couple_all-requires
 couple_all-requires c =
     let ready = c.requires.ready in
     ready_to_couple c.args.offers.now c.args.cells.now c.part_all.new.cells c.close_all.new.cells c.args.at c.args.party c.args.ending ready.0 ready.1 ready.2 ready.3 c.part_all.ensures (keeps c)
-    c.as_slice-2.result.now (ending_pairs c.args.offers.now c.args.cells.now c.args.at c.args.party c.args.ending ready.0 ready.1 ready.2 ready.3 ∙ sym (pairs_are c))
+    c.as_slice.result.now (ending_pairs c.args.offers.now c.args.cells.now c.args.at c.args.party c.args.ending ready.0 ready.1 ready.2 ready.3 ∙ sym (pairs_are c))
 
 pub returns-clause-cells : goal.returns-clause-cells
 returns-clause-cells c =
-    let d = (goal.at.returns-clause-cells c).After-as_slice-2 in
-    ends_all c.args.offers.now c.args.cells.now c.part_all.new.cells c.close_all.new.cells c.couple_all.new.cells c.args.at c.args.party c.args.ending c.as_slice-2.result.now
+    let d = (goal.at.returns-clause-cells c).After-as_slice in
+    ends_all c.args.offers.now c.args.cells.now c.part_all.new.cells c.close_all.new.cells c.couple_all.new.cells c.args.at c.args.party c.args.ending c.as_slice.result.now
     c.part_all.ensures (keeps d) c.couple_all.ensures (pairs_are d)

@@ -4,7 +4,7 @@ use Rattle.std.proofs.lemmas.List.{take_more}
 use Rattle.sv_cells.specs.declared.cells.Cells.{Cells}
 use Rattle.sv_rules.specs.declared.standing.Standing.{Standing}
 use Rattle.sv_core.specs.Updating.{PartsAll}
-use Rattle.sv_core.proofs.EndingLemmas.{may_part, parts_begin, parts_more, parts_others}
+use Rattle.sv_core.proofs.EndingLemmas.{may_part, own_of, parts_begin, parts_more, parts_others, parts_own}
 use Rattle.sv_core.proofs.updating.part_all.Goals.{Joined-is_ended, then-is_ended, else-is_ended}
 use Rattle.sv_core.proofs.updating.part_all.Goals as goal
 
@@ -13,24 +13,24 @@ loop-offer-init c = parts_begin c.args.offers.now.offers c.args.offers.now.coupl
 
 pub part_coupled-requires : goal.part_coupled-requires
 part_coupled-requires c =
-    may_part c.args.offers.now.offers c.args.offers.now.coupled c.args.party c.args.ending.now (take c.loop-offer.offer-index c.args.offers.now.offers) c.args.cells.now c.loop-offer.cells
+    may_part c.args.offers.now.offers c.args.offers.now.coupled c.args.party c.args.ending.now (take c.loop-offer.offer-index (own_of c.args.party c.args.offers.now.offers)) c.args.cells.now c.loop-offer.cells
     c.requires.table c.requires.fit c.loop-offer.invariant c.offer-item.result.place c.coupling.result (sym c.coupling.ensures)
 
 -- the offers gone over, with this one
-next : (c : Joined-is_ended) → take c.loop-offer.offer-index c.args.offers.now.offers ++ c.offer-item.result ∷ [] ≡ take (c.loop-offer.offer-index + 1) c.args.offers.now.offers
+next : (c : Joined-is_ended) → take c.loop-offer.offer-index (own_of c.args.party c.args.offers.now.offers) ++ c.offer-item.result ∷ [] ≡ take (c.loop-offer.offer-index + 1) (own_of c.args.party c.args.offers.now.offers)
 next c =
-    let offers = c.args.offers.now.offers in
+    let offers = own_of c.args.party c.args.offers.now.offers in
     let i = c.loop-offer.offer-index in
     let o = c.offer-item.result in
-    let here : get_or offers i o ≡ o = ap (λ (xs : List Standing). get_or xs i o) (sym c.as_slice-offer-items.ensures) ∙ sym c.offer-item.is in
-    let within : i < length offers = omega (arith, c.loop-offer-test.true, ap length c.as_slice-offer-items.ensures) in
+    let here : get_or offers i o ≡ o = ap (λ (xs : List Standing). get_or xs i o) (sym c.of-offer-items.ensures) ∙ sym c.offer-item.is in
+    let within : i < length offers = omega (arith, c.loop-offer-test.true, ap length c.of-offer-items.ensures) in
     sym (take_more offers i o within ∙ ap (λ (x : Standing). take i offers ++ x ∷ []) here)
 
 pub loop-offer-preserved : goal.loop-offer-preserved
 loop-offer-preserved c =
     let offers = c.args.offers.now.offers in
     let coupled = c.args.offers.now.coupled in
-    let gone = take c.loop-offer.offer-index offers in
+    let gone = take c.loop-offer.offer-index (own_of c.args.party offers) in
     subst (λ (xs : List Standing). PartsAll offers coupled c.args.party c.args.ending.now xs c.args.cells.now c.if-is_ended.cells) (next c)
     (elim c.if-is_ended.branch [
       | then-is_ended w ↦
@@ -45,6 +45,9 @@ loop-offer-preserved c =
 pub returns : goal.returns
 returns c =
     let offers = c.args.offers.now.offers in
-    let all : c.loop-offer.offer-index ≡ length offers = omega (arith, c.loop-offer-test.false, c.loop-offer.auto.offer-index-end, ap length c.as_slice-offer-items.ensures) in
-    subst (λ (xs : List Standing). PartsAll offers c.args.offers.now.coupled c.args.party c.args.ending.now xs c.args.cells.now c.loop-offer.cells)
-    (ap (λ n. take n offers) all ∙ take-length offers) c.loop-offer.invariant
+    let coupled = c.args.offers.now.coupled in
+    let own = own_of c.args.party offers in
+    let all : c.loop-offer.offer-index ≡ length own = omega (arith, c.loop-offer-test.false, c.loop-offer.auto.offer-index-end, ap length c.of-offer-items.ensures) in
+    parts_own offers coupled c.args.party c.args.ending.now c.args.cells.now c.loop-offer.cells
+    (subst (λ (xs : List Standing). PartsAll offers coupled c.args.party c.args.ending.now xs c.args.cells.now c.loop-offer.cells)
+    (ap (λ n. take n own) all ∙ take-length own) c.loop-offer.invariant)

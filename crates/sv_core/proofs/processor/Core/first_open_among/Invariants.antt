@@ -1,8 +1,8 @@
 use Rattle.std.proofs.Common.{◌≡◌, None, take}
 use Rattle.std.specs.Prelude.{find}
-use Rattle.sv_core.specs.Due.{is_own_open}
+use Rattle.sv_core.specs.Due.{is_open}
 use Rattle.sv_core.proofs.processor.Core.first_open_among.Given as goal
 
 -- none so far is it
 abbrev pub invariant-loop-offer : goal.invariant-loop-offer
-invariant-loop-offer l = find (is_own_open l.self.journal l.party) (take l.offer-index l.offers) ≡ None
+invariant-loop-offer l = find (is_open l.self.journal) (take l.offer-index l.offers) ≡ None
