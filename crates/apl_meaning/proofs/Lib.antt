@@ -1,0 +1,11 @@
+pub mod ClassLemmas
+pub mod Differ
+pub mod Enough
+pub mod Lines
+pub mod Names
+pub mod NodeLaw
+pub mod Opening
+pub mod Opens
+pub mod Ran
+pub mod Steady
+pub mod Trees

@@ -1,0 +1,170 @@
+-- A part of an evaluation is steady: answers that it does not take come back, and what came of it with fewer answers is the beginning of what comes of it with more. Parts one after another are steady where each is.
+use Rattle.std.proofs.Common.{◌≡◌, ℕ, ◌≤◌, Bool, true, false, List, [], ◌∷◌, ◌++◌, refl, sym, ap, subst, ◌∙◌, arith, append-nil, append_assoc}
+use Rattle.std.specs.Prelude.{Option, Some, None, Result, Ok, Err, nat_le, if◌then◌else◌}
+use Rattle.apl_arrays.specs.declared.report.Report.{Report}
+use Rattle.apl_arrays.specs.declared.report.Report.TheVariants.{WsFull}
+use Rattle.apl_workspace.specs.Limits.{most_weight}
+use Rattle.apl_workspace.specs.Workspace.{PlainWorkspace, workspace_weight}
+use Rattle.sv_events.specs.Answer.{PlainAnswer}
+use Rattle.sv_events.specs.declared.event.Act.{Act}
+use Rattle.apl_meaning.specs.State.{State, Outcome, gives, refuses, asks, and_then, state_of, outcome_of, with_workspace}
+use Rattle.apl_meaning.specs.Answers.{answer_to, taken_from, unless_ended}
+use Rattle.apl_meaning.specs.Laws.{with_more, IsOver, and_more, IsAfter}
+
+-- a part is steady
+pub record IsSteady {T : Type 0} (f : State → Outcome T) : Type 0 where
+  pub back : (s : State) (more : List PlainAnswer) → IsOver (f s) → f (with_more more s) ≡ and_more more (f s)
+  pub after : (s : State) → IsAfter s (state_of (f s))
+  pub further : (s : State) (more : List PlainAnswer) → IsAfter (state_of (f s)) (state_of (f (with_more more s)))
+
+-- ---- one state after another
+
+-- nothing more was printed, asked or counted
+pub as_before : (s t : State) → t.printed ≡ s.printed → t.asked ≡ s.asked → s.applications ≤ t.applications → t.statements ≤ s.statements → IsAfter s t
+as_before s t printed asked counted left = record {
+  lines = [];
+  printed = printed ∙ sym (append-nil s.printed);
+  acts = [];
+  asked = asked ∙ sym (append-nil s.asked);
+  applications = counted;
+  statements = left;
+}
+
+pub itself : (s : State) → IsAfter s s
+itself s = as_before s s refl refl (omega arith) (omega arith)
+
+pub later : {s t u : State} → IsAfter s t → IsAfter t u → IsAfter s u
+later {s} {t} {u} h k = record {
+  lines = h.lines ++ k.lines;
+  printed = k.printed ∙ ap (λ (before : List (List ℕ)). before ++ k.lines) h.printed ∙ append_assoc s.printed h.lines k.lines;
+  acts = h.acts ++ k.acts;
+  asked = k.asked ∙ ap (λ (before : List Act). before ++ k.acts) h.asked ∙ append_assoc s.asked h.acts k.acts;
+  applications = omega (arith, h.applications, k.applications);
+  statements = omega (arith, h.statements, k.statements);
+}
+
+-- what is after a state with more answers is after the state
+pub without_more : (s t : State) (more : List PlainAnswer) → IsAfter (with_more more s) t → IsAfter s t
+without_more s t more h = record { lines = h.lines; printed = h.printed; acts = h.acts; asked = h.asked; applications = h.applications; statements = h.statements }
+
+-- ---- parts that ask nothing
+
+state_more : {T : Type 0} (o : Outcome T) (more : List PlainAnswer) → IsOver o → state_of (and_more more o) ≡ with_more more (state_of o)
+state_more (gives v s) more over = refl
+state_more (refuses r s) more over = refl
+state_more (asks a s) more over = absurd over
+
+-- a part that asks nothing is steady where answers come back and nothing is undone
+pub quiet : {T : Type 0} {f : State → Outcome T} → ((s : State) → IsOver (f s)) → ((s : State) (more : List PlainAnswer) → f (with_more more s) ≡ and_more more (f s))
+    → ((s : State) → IsAfter s (state_of (f s))) → IsSteady f
+quiet {T} {f} over back after = record {
+  back = λ s more _. back s more;
+  after = after;
+  further = λ s more.
+      let is : state_of (f (with_more more s)) ≡ with_more more (state_of (f s)) = ap state_of (back s more) ∙ state_more (f s) more (over s) in
+      subst (λ (t : State). IsAfter (state_of (f s)) t) (sym is) (as_before (state_of (f s)) (with_more more (state_of (f s))) refl refl (omega arith) (omega arith));
+}
+
+pub given : {T : Type 0} (v : T) → IsSteady (λ (s : State). gives v s)
+given v = quiet (λ s. tt) (λ s more. refl) (λ s. itself s)
+
+pub refused : {T : Type 0} (r : Report) → IsSteady {T = T} (λ (s : State). refuses r s)
+refused r = quiet (λ s. tt) (λ s more. refl) (λ s. itself s)
+
+pub resulting : {T : Type 0} (r : Result T Report) → IsSteady (λ (s : State). outcome_of r s)
+resulting (Ok v) = given v
+resulting (Err r) = refused r
+
+-- a part that changes the workspace
+pub changed : {T : Type 0} (v : T) (w : PlainWorkspace → PlainWorkspace) → IsSteady (λ (s : State). gives v (record s { workspace = w s.workspace }))
+changed v w = quiet (λ s. tt) (λ s more. refl) (λ s. as_before s (record s { workspace = w s.workspace }) refl refl (omega arith) (omega arith))
+
+-- ---- parts that go by something
+
+pub by_bool : {T : Type 0} (b : Bool) {f g : State → Outcome T} → IsSteady f → IsSteady g → IsSteady (λ (s : State). if b then f s else g s)
+by_bool true hf hg = hf
+by_bool false hf hg = hg
+
+pub by_workspace : {T : Type 0} {f : PlainWorkspace → State → Outcome T} → ((w : PlainWorkspace) → IsSteady (f w)) → IsSteady (λ (s : State). f s.workspace s)
+by_workspace {T} {f} h = record {
+  back = λ s more over. (h s.workspace).back s more over;
+  after = λ s. (h s.workspace).after s;
+  further = λ s more. (h s.workspace).further s more;
+}
+
+pub by_here : {T : Type 0} {f : List ℕ → State → Outcome T} → ((here : List ℕ) → IsSteady (f here)) → IsSteady (λ (s : State). f s.here s)
+by_here {T} {f} h = record {
+  back = λ s more over. (h s.here).back s more over;
+  after = λ s. (h s.here).after s;
+  further = λ s more. (h s.here).further s more;
+}
+
+-- a part that begins with another second line of reports
+pub shown_at : {T : Type 0} {f : State → Outcome T} (here : List ℕ) → IsSteady f → IsSteady (λ (s : State). f (record s { here = here }))
+shown_at {T} {f} here h = record {
+  back = λ s more over. h.back (record s { here = here }) more over;
+  after = λ s. later (as_before s (record s { here = here }) refl refl (omega arith) (omega arith)) (h.after (record s { here = here }));
+  further = λ s more. h.further (record s { here = here }) more;
+}
+
+weighed_by : (b : Bool) (w : PlainWorkspace) → IsSteady {T = Unit {0}} (λ (s : State). if b then gives tt (record s { workspace = w }) else refuses WsFull s)
+weighed_by true w = changed {T = Unit {0}} tt (λ _. w)
+weighed_by false w = refused WsFull
+
+-- another workspace, unless it would weigh too much
+pub weighed : (w : PlainWorkspace → PlainWorkspace) → IsSteady {T = Unit {0}} (λ (s : State). with_workspace (w s.workspace) s)
+weighed w = by_workspace (λ v. weighed_by (nat_le (workspace_weight (w v)) most_weight) (w v))
+
+-- ---- one part after another
+
+back_joined : {A B : Type 0} (g : A → State → Outcome B) → ((v : A) → IsSteady (g v)) → (more : List PlainAnswer) (o p : Outcome A) → (IsOver o → p ≡ and_more more o)
+    → IsOver (and_then o g) → and_then p g ≡ and_more more (and_then o g)
+back_joined {A} {B} g h more (gives v t) p is over = ap (λ (x : Outcome A). and_then x g) (is tt) ∙ (h v).back t more over
+back_joined {A} {B} g h more (refuses r t) p is over = ap (λ (x : Outcome A). and_then x g) (is tt)
+back_joined {A} {B} g h more (asks a t) p is over = absurd over
+
+after_joined : {A B : Type 0} (g : A → State → Outcome B) → ((v : A) → IsSteady (g v)) → (s : State) (o : Outcome A) → IsAfter s (state_of o) → IsAfter s (state_of (and_then o g))
+after_joined g h s (gives v t) k = later k ((h v).after t)
+after_joined g h s (refuses r t) k = k
+after_joined g h s (asks a t) k = k
+
+further_joined : {A B : Type 0} (g : A → State → Outcome B) → ((v : A) → IsSteady (g v)) → (more : List PlainAnswer) (o p : Outcome A) → (IsOver o → p ≡ and_more more o) → IsAfter (state_of o) (state_of p)
+    → IsAfter (state_of (and_then o g)) (state_of (and_then p g))
+further_joined {A} {B} g h more (gives v t) p is k = subst (λ (x : Outcome A). IsAfter (state_of (g v t)) (state_of (and_then x g))) (sym (is tt)) ((h v).further t more)
+further_joined {A} {B} g h more (refuses r t) p is k = subst (λ (x : Outcome A). IsAfter t (state_of (and_then x g))) (sym (is tt)) (as_before t (with_more more t) refl refl (omega arith) (omega arith))
+further_joined {A} {B} g h more (asks a t) p is k = after_joined g h t p k
+
+pub both : {A B : Type 0} {f : State → Outcome A} {g : A → State → Outcome B} → IsSteady f → ((v : A) → IsSteady (g v)) → IsSteady (λ (s : State). and_then (f s) g)
+both {A} {B} {f} {g} hf hg = record {
+  back = λ s more over. back_joined g hg more (f s) (f (with_more more s)) (hf.back s more) over;
+  after = λ s. after_joined g hg s (f s) (hf.after s);
+  further = λ s more. further_joined g hg more (f s) (f (with_more more s)) (hf.back s more) (hf.further s more);
+}
+
+-- ---- an act and its answer
+
+taken_back : (list : List PlainAnswer) (act : Act) (s : State) (more : List PlainAnswer) → IsOver (taken_from list act s) → taken_from (list ++ more) act (with_more more s) ≡ and_more more (taken_from list act s)
+taken_back [] act s more over = absurd over
+taken_back (answer ∷ list) act s more over = refl
+
+taken_after : (list : List PlainAnswer) (act : Act) (s : State) → IsAfter s (state_of (taken_from list act s))
+taken_after [] act s = itself s
+taken_after (answer ∷ list) act s = record { lines = []; printed = sym (append-nil s.printed); acts = act ∷ []; asked = refl; applications = omega arith; statements = omega arith }
+
+taken_further : (list : List PlainAnswer) (act : Act) (s : State) (more : List PlainAnswer) → IsAfter (state_of (taken_from list act s)) (state_of (taken_from (list ++ more) act (with_more more s)))
+taken_further [] act s more = without_more s (state_of (taken_from more act (with_more more s))) more (taken_after more act (with_more more s))
+taken_further (answer ∷ list) act s more = as_before (state_of (taken_from (answer ∷ list) act s)) (state_of (taken_from (answer ∷ list ++ more) act (with_more more s))) refl refl (omega arith) (omega arith)
+
+taken : (act : Act) → IsSteady (λ (s : State). taken_from s.answers act s)
+taken act = record {
+  back = λ s more over. taken_back s.answers act s more over;
+  after = λ s. taken_after s.answers act s;
+  further = λ s more. taken_further s.answers act s more;
+}
+
+unended : (ended : Option Report) (answer : PlainAnswer) → IsSteady (unless_ended ended answer)
+unended None answer = given answer
+unended (Some report) answer = refused report
+
+pub answered : (act : Act) → IsSteady (answer_to act)
+answered act = both (taken act) (λ answer. unended _ answer)

@@ -1,0 +1,50 @@
+use Rattle.std.proofs.Common.{refl}
+use Rattle.std.specs.Fmt.{digits}
+use Rattle.line_scanner.specs.Number.{next_number, next_numbers, number}
+use Rattle.line_scanner.specs.Role.{role_of}
+use Rattle.line_scanner.specs.Scanning.{chars_from, front_of, scan_from}
+use Rattle.line_trees.specs.Building.{attached, built_by, built_from}
+use Rattle.line_trees.specs.Marks.{marks_from, may_end, step}
+use Rattle.line_trees.specs.Signs.{dyad_of, fold_of, mix1_of, mix2_of, monad_of}
+use Rattle.line_trees.specs.Symbols.{other_sign, sign_symbol}
+use Rattle.line_trees.specs.Trees.{trees_from}
+use Rattle.apl_workspace.specs.Header.{header_of, locals_in}
+use Rattle.apl_workspace.specs.Names.{all_differ}
+use Rattle.apl_meaning.specs.Meaning.{run_below}
+use Rattle.apl_meaning.proofs.worked.executed.executed_texts.Goals as goal
+
+pub returns-clause-printed : goal.returns-clause-printed
+unfolding digits next_number next_numbers number role_of chars_from front_of scan_from attached built_by built_from marks_from may_end step dyad_of fold_of mix1_of mix2_of monad_of other_sign sign_symbol trees_from header_of locals_in all_differ run_below
+returns-clause-printed c = refl
+
+pub returns-clause-assigned : goal.returns-clause-assigned
+unfolding digits next_number next_numbers number role_of chars_from front_of scan_from attached built_by built_from marks_from may_end step dyad_of fold_of mix1_of mix2_of monad_of other_sign sign_symbol trees_from header_of locals_in all_differ run_below
+returns-clause-assigned c = refl
+
+pub returns-clause-twice : goal.returns-clause-twice
+unfolding digits next_number next_numbers number role_of chars_from front_of scan_from attached built_by built_from marks_from may_end step dyad_of fold_of mix1_of mix2_of monad_of other_sign sign_symbol trees_from header_of locals_in all_differ run_below
+returns-clause-twice c = refl
+
+pub returns-clause-nothing : goal.returns-clause-nothing
+unfolding digits next_number next_numbers number role_of chars_from front_of scan_from attached built_by built_from marks_from may_end step dyad_of fold_of mix1_of mix2_of monad_of other_sign sign_symbol trees_from header_of locals_in all_differ run_below
+returns-clause-nothing c = refl
+
+pub returns-clause-comment : goal.returns-clause-comment
+unfolding digits next_number next_numbers number role_of chars_from front_of scan_from attached built_by built_from marks_from may_end step dyad_of fold_of mix1_of mix2_of monad_of other_sign sign_symbol trees_from header_of locals_in all_differ run_below
+returns-clause-comment c = refl
+
+pub returns-clause-branches : goal.returns-clause-branches
+unfolding digits next_number next_numbers number role_of chars_from front_of scan_from attached built_by built_from marks_from may_end step dyad_of fold_of mix1_of mix2_of monad_of other_sign sign_symbol trees_from header_of locals_in all_differ run_below
+returns-clause-branches c = refl
+
+pub returns-clause-leads : goal.returns-clause-leads
+unfolding digits next_number next_numbers number role_of chars_from front_of scan_from attached built_by built_from marks_from may_end step dyad_of fold_of mix1_of mix2_of monad_of other_sign sign_symbol trees_from header_of locals_in all_differ run_below
+returns-clause-leads c = refl
+
+pub returns-clause-calls : goal.returns-clause-calls
+unfolding digits next_number next_numbers number role_of chars_from front_of scan_from attached built_by built_from marks_from may_end step dyad_of fold_of mix1_of mix2_of monad_of other_sign sign_symbol trees_from header_of locals_in all_differ run_below
+returns-clause-calls c = refl
+
+pub returns-clause-asks : goal.returns-clause-asks
+unfolding digits next_number next_numbers number role_of chars_from front_of scan_from attached built_by built_from marks_from may_end step dyad_of fold_of mix1_of mix2_of monad_of other_sign sign_symbol trees_from header_of locals_in all_differ run_below
+returns-clause-asks c = refl

@@ -1,0 +1,38 @@
+use Rattle.std.proofs.Common.{refl}
+use Rattle.std.specs.Fmt.{digits}
+use Rattle.line_scanner.specs.Number.{next_number, next_numbers, number}
+use Rattle.line_scanner.specs.Role.{role_of}
+use Rattle.line_scanner.specs.Scanning.{chars_from, front_of, scan_from}
+use Rattle.line_trees.specs.Building.{attached, built_by, built_from}
+use Rattle.line_trees.specs.Marks.{marks_from, may_end, step}
+use Rattle.line_trees.specs.Signs.{dyad_of, fold_of, mix1_of, mix2_of, monad_of}
+use Rattle.line_trees.specs.Symbols.{other_sign, sign_symbol}
+use Rattle.line_trees.specs.Trees.{trees_from}
+use Rattle.apl_workspace.specs.Header.{header_of, locals_in}
+use Rattle.apl_workspace.specs.Names.{all_differ}
+use Rattle.apl_meaning.specs.Meaning.{run_below}
+use Rattle.apl_meaning.proofs.worked.limits.glyphs_run_out.Goals as goal
+
+pub returns-clause-fits : goal.returns-clause-fits
+unfolding digits next_number next_numbers number role_of chars_from front_of scan_from attached built_by built_from marks_from may_end step dyad_of fold_of mix1_of mix2_of monad_of other_sign sign_symbol trees_from header_of locals_in all_differ run_below
+returns-clause-fits c = refl
+
+pub returns-clause-passes : goal.returns-clause-passes
+unfolding digits next_number next_numbers number role_of chars_from front_of scan_from attached built_by built_from marks_from may_end step dyad_of fold_of mix1_of mix2_of monad_of other_sign sign_symbol trees_from header_of locals_in all_differ run_below
+returns-clause-passes c = refl
+
+pub returns-clause-second_line : goal.returns-clause-second_line
+unfolding digits next_number next_numbers number role_of chars_from front_of scan_from attached built_by built_from marks_from may_end step dyad_of fold_of mix1_of mix2_of monad_of other_sign sign_symbol trees_from header_of locals_in all_differ run_below
+returns-clause-second_line c = refl
+
+pub returns-clause-counted : goal.returns-clause-counted
+unfolding digits next_number next_numbers number role_of chars_from front_of scan_from attached built_by built_from marks_from may_end step dyad_of fold_of mix1_of mix2_of monad_of other_sign sign_symbol trees_from header_of locals_in all_differ run_below
+returns-clause-counted c = refl
+
+pub returns-clause-reports_are_not_counted : goal.returns-clause-reports_are_not_counted
+unfolding digits next_number next_numbers number role_of chars_from front_of scan_from attached built_by built_from marks_from may_end step dyad_of fold_of mix1_of mix2_of monad_of other_sign sign_symbol trees_from header_of locals_in all_differ run_below
+returns-clause-reports_are_not_counted c = refl
+
+pub returns-clause-stands : goal.returns-clause-stands
+unfolding digits next_number next_numbers number role_of chars_from front_of scan_from attached built_by built_from marks_from may_end step dyad_of fold_of mix1_of mix2_of monad_of other_sign sign_symbol trees_from header_of locals_in all_differ run_below
+returns-clause-stands c = refl

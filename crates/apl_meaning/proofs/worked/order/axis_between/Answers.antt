@@ -1,0 +1,26 @@
+use Rattle.std.proofs.Common.{refl}
+use Rattle.std.specs.Fmt.{digits}
+use Rattle.line_scanner.specs.Number.{next_number, next_numbers, number}
+use Rattle.line_scanner.specs.Role.{role_of}
+use Rattle.line_scanner.specs.Scanning.{chars_from, front_of, scan_from}
+use Rattle.line_trees.specs.Building.{attached, built_by, built_from}
+use Rattle.line_trees.specs.Marks.{marks_from, may_end, step}
+use Rattle.line_trees.specs.Signs.{dyad_of, fold_of, mix1_of, mix2_of, monad_of}
+use Rattle.line_trees.specs.Symbols.{other_sign, sign_symbol}
+use Rattle.line_trees.specs.Trees.{trees_from}
+use Rattle.apl_workspace.specs.Header.{header_of, locals_in}
+use Rattle.apl_workspace.specs.Names.{all_differ}
+use Rattle.apl_meaning.specs.Meaning.{run_below}
+use Rattle.apl_meaning.proofs.worked.order.axis_between.Goals as goal
+
+pub returns-clause-asked : goal.returns-clause-asked
+unfolding digits next_number next_numbers number role_of chars_from front_of scan_from attached built_by built_from marks_from may_end step dyad_of fold_of mix1_of mix2_of monad_of other_sign sign_symbol trees_from header_of locals_in all_differ run_below
+returns-clause-asked c = refl
+
+pub returns-clause-printed : goal.returns-clause-printed
+unfolding digits next_number next_numbers number role_of chars_from front_of scan_from attached built_by built_from marks_from may_end step dyad_of fold_of mix1_of mix2_of monad_of other_sign sign_symbol trees_from header_of locals_in all_differ run_below
+returns-clause-printed c = refl
+
+pub returns-clause-no_axis : goal.returns-clause-no_axis
+unfolding digits next_number next_numbers number role_of chars_from front_of scan_from attached built_by built_from marks_from may_end step dyad_of fold_of mix1_of mix2_of monad_of other_sign sign_symbol trees_from header_of locals_in all_differ run_below
+returns-clause-no_axis c = refl
