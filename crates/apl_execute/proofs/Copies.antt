@@ -7,8 +7,6 @@ use Rattle.std.specs.List.Sorted.{IsStrictlySortedBy}
 use Rattle.std.specs.Map.{keys_of}
 use Rattle.std.proofs.Math.Seq.{drop-cons}
 use Rattle.std.proofs.lemmas.Bool.{or_parts}
-use Rattle.std.proofs.lemmas.Cmp.{nat_list_cmp_total}
-use Rattle.std.proofs.lemmas.Map.Entries.{sum_by-insert_entry}
 use Rattle.apl_workspace.specs.Meaning.{NameTable, meaning_in, meaning_weight, table_weight, weight_in, with_meaning, without_name, without_names}
 use Rattle.apl_arrays.specs.Name.{name_order, same_name}
 use Rattle.apl_workspace.specs.Names.{all_differ}
@@ -18,6 +16,7 @@ use Rattle.apl_arrays.specs.declared.report.Fail.TheVariants.{Report, WantOfMemo
 use Rattle.apl_workspace.specs.declared.meaning.Meaning.{Meaning}
 use Rattle.apl_workspace.proofs.Ascending.{found_with, with_ascends, without_ascends}
 use Rattle.apl_workspace.proofs.NameLaw.{first_differs, own_name}
+use Rattle.apl_workspace.proofs.Tables.{weight_with}
 use Rattle.apl_workspace.proofs.Without.{found_without_all, still_ascends}
 use Rattle.apl_execute.specs.Copying.{AreAbsent, MayCome}
 use Rattle.apl_execute.specs.Merge.{copy_in, with_copies, with_copy}
@@ -60,9 +59,8 @@ comes_on from globals name names h = comes_by globals name names (copy_in from n
 heavier_by : (globals : NameTable) (name : List ℕ) (copy : Option Meaning) → IsStrictlySortedBy name_order (keys_of globals) → meaning_in globals name ≡ None → table_weight globals ≤ table_weight (with_copy globals name copy)
 heavier_by globals name None s none = omega arith
 heavier_by globals name (Some meaning) s none =
-    let sums : table_weight (with_meaning globals name meaning) + weight_in globals name ≡ table_weight globals + meaning_weight meaning = sum_by-insert_entry meaning_weight nat_list_cmp_total globals name meaning s in
     let nothing : weight_in globals name ≡ 0 = ap (λ (found : Option Meaning). unwrap_or (option_map meaning_weight found) 0) none in
-    omega (arith, sums, nothing)
+    omega (arith, weight_with globals name meaning s, nothing)
 
 -- the weight only rises
 pub heavier : (from : PlainWorkspace) (globals : NameTable) (names : List (List ℕ)) → MayCome globals names → table_weight globals ≤ table_weight (with_copies from globals names)

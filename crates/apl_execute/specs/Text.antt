@@ -1,5 +1,5 @@
 -- The text that a value is, where it is executed.
-use Rattle.std.specs.Prelude.{◌≡◌, ℕ, List, Result, Ok, Err, length, nat_le, if◌then◌else◌}
+use Rattle.std.specs.Prelude.{◌≡◌, ℕ, List, Result, Ok, Err, IsOk, length, nat_le, if◌then◌else◌}
 use Rattle.apl_arrays.specs.Array.{PlainArray, PlainItems, numbers, chars}
 use Rattle.apl_arrays.specs.Limits.{most_line_glyphs}
 use Rattle.apl_arrays.specs.declared.report.Fail.{Fail}
@@ -16,7 +16,7 @@ text_of_items (chars glyphs) = if nat_le (length glyphs) most_line_glyphs then O
 abbrev pub text_of : PlainArray → Result (List ℕ) Report
 text_of value = if nat_le (length value.shape) 1 then text_of_items value.items else Err Rank
 
--- why a value gave no text: its report, or memory ran out
+-- why a value gave no text: its report, or memory ran out for the text that it has
 abbrev pub GivesNoText : Result (List ℕ) Report → Fail → Type 0
 GivesNoText text (fail.Report report) = text ≡ Err report
-GivesNoText text fail.WantOfMemory = Unit {0}
+GivesNoText text fail.WantOfMemory = IsOk text

@@ -6,7 +6,7 @@ use apl_arrays::{Array, Fail, Items, LINE_GLYPH_LIMIT, Line, Report};
 use std::alloc::Global;
 
 /// The text that a value is: its characters. `Rank` where it has more than one axis, else `Domain` where it holds numbers,
-/// also none, else `Length` where it has over 1,000 glyphs. It takes memory for the text.
+/// also none, else `Length` where it has over 1,000 glyphs. It takes memory for the text, where there is one.
 pub fn text_of(alloc: Global, value: &Array) -> Result<Line, Fail>
     ensures ok { IfOk result (λ line. text_of value.now ≡ Ok line.items) }
     ensures refused { IfErr result (λ fail. GivesNoText (text_of value.now) fail) }
