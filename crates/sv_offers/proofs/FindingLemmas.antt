@@ -54,15 +54,3 @@ found_any {X} p (x ∷ xs) = by (p x) (found_any p xs)
     by : (b : Bool) → is_some (find p xs) ≡ list_any p xs → is_some (cond b (Some x) (find p xs)) ≡ (b || list_any p xs)
     by true rest = refl
     by false rest = rest
-
--- what passes one test is found among what passes another that it implies
-pub found_among : {X : Type 0} (p q : X → Bool) → ((x : X) → p x ≡ true → q x ≡ true) → (xs : List X) → find p (filter q xs) ≡ find p xs
-found_among p q implies [] = refl
-found_among p q implies (x ∷ xs) = elim (cases_Bool (q x)) [
-  | inl holds ↦ rw holds (ap (λ rest. cond (p x) (Some x) rest) (found_among p q implies xs))
-  | inr fails ↦ rw fails (found_among p q implies xs ∙ sym (ap (λ b. cond b (Some x) (find p xs)) (none (cases_Bool (p x)) fails)))
-]
-  where
-    none : ((p x ≡ true) ⊎ (p x ≡ false)) → q x ≡ false → p x ≡ false
-    none (inl passes) other = let both : q x ≡ true = implies x passes in cc
-    none (inr stays) other = stays

@@ -1,3 +1,4 @@
+mod FilterLemmas
 mod FindingLemmas
 mod MatchLemmas
 mod ShelfLemmas

@@ -1,9 +1,11 @@
 -- Lists of offers by a party, with one offer more, and after an ending.
 use Rattle.std.proofs.Common.{◌≡◌, refl, sym, ap, ◌∙◌, ℕ, Bool, true, false, not, ◌&&◌, ◌||◌, cond, eqb, List, [], ◌∷◌, ◌++◌, ◌⊎◌, inl, inr, Option, Some, None, ◌+◌, ◌<◌, ◌≤◌, length, get_or, take, arith}
 use Rattle.std.proofs.lemmas.List.{append-nil, take_more}
+use Rattle.std.proofs.lemmas.List.Elements.{filter-append}
 use Rattle.std.proofs.lemmas.List.Folds.{list_any-append}
 use Rattle.std.specs.List.{filter, list_any}
-use Rattle.std.proofs.lemmas.Bool.{cases_Bool}
+use Rattle.std.proofs.Math.Bool.{and-false, and_self, or-false}
+use Rattle.std.proofs.lemmas.Bool.{cases_Bool, or_parts}
 use Rattle.std.proofs.lemmas.Bool.Decides.{nat_tests, Decides-eqb}
 use Rattle.std.specs.Prelude.{nat_eq, is_some}
 use Rattle.std.specs.HashMap.{get}
@@ -14,6 +16,7 @@ use Rattle.apl_arrays.specs.Name.{same_name}
 use Rattle.sv_events.specs.declared.row.Ending.{Ending}
 use Rattle.sv_events.specs.declared.row.Ending.TheVariants.{One, All}
 use Rattle.sv_offer_laws.proofs.Members.{filter-filter}
+use Rattle.sv_offers.proofs.FilterLemmas.{commute, filter_alike}
 use Rattle.sv_rules.specs.Standing.{is_ended, without_ended}
 use Rattle.sv_rules.specs.declared.standing.Standing.{Standing}
 
@@ -28,31 +31,10 @@ grown : {X : Type 0} (b : Bool) (xs : List X) (x : X) → cond b (xs ++ x ∷ []
 grown true xs x = refl
 grown false xs x = sym (append-nil xs)
 
-filter_push : {X : Type 0} (p : X → Bool) (xs : List X) (x : X) → filter p (xs ++ x ∷ []) ≡ filter p xs ++ cond (p x) (x ∷ []) []
-filter_push p [] x = refl
-filter_push p (y ∷ ys) x = elim (cases_Bool (p y)) [
-  | inl holds ↦ rw (holds) (ap (λ rest. y ∷ rest) (filter_push p ys x))
-  | inr fails ↦ rw (fails) (filter_push p ys x)
-]
-
 -- one offer more, in its list and in no other
 pub pushed : (p : Standing → Bool) (offers : List Standing) (new : Standing) →
     cond (p new) (filter p offers ++ new ∷ []) (filter p offers) ≡ filter p (offers ++ new ∷ [])
-pushed p offers new = grown (p new) (filter p offers) new ∙ sym (filter_push p offers new)
-
-alike : {X : Type 0} (p q : X → Bool) → ((x : X) → p x ≡ q x) → (xs : List X) → filter p xs ≡ filter q xs
-alike p q same [] = refl
-alike p q same (x ∷ xs) = ap (λ rest. cond (p x) (x ∷ rest) rest) (alike p q same xs) ∙ ap (λ b. cond b (x ∷ filter q xs) (filter q xs)) (same x)
-
-both : (a b : Bool) → (a && b) ≡ (b && a)
-both true true = refl
-both true false = refl
-both false true = refl
-both false false = refl
-
--- two filters in either order
-pub commute : {X : Type 0} (p q : X → Bool) (xs : List X) → filter p (filter q xs) ≡ filter q (filter p xs)
-commute p q xs = filter-filter p q xs ∙ alike _ _ (λ x. both (q x) (p x)) xs ∙ sym (filter-filter q p xs)
+pushed p offers new = grown (p new) (filter p offers) new ∙ sym (filter-append p offers (new ∷ []))
 
 -- only a party's own offers end by its act
 pub ended_is_own : (party : ℕ) (ending : Ending) (offer : Standing) → of_party party offer ≡ false → is_ended party ending offer ≡ false
@@ -78,10 +60,6 @@ kept_in offer offers kept at b stays rest =
 not_mine : (party other his : ℕ) → eqb party other ≡ false → eqb his other ≡ true → eqb his party ≡ false
 not_mine party other his apart same = grind (arith, nat_tests)
 
-and_false : (b : Bool) → (b && false) ≡ false
-and_false true = refl
-and_false false = refl
-
 -- an ending takes out of a list of what it takes out of all
 pub ended_in : (p : Standing → Bool) (offers : List Standing) (party : ℕ) (ending : Ending) →
     without_ended (filter p offers) party ending ≡ filter p (without_ended offers party ending)
@@ -93,11 +71,11 @@ pub ended_of_others : (offers : List Standing) (party : ℕ) (ending : Ending) (
 ended_of_others offers party ending other apart =
     sym
     (filter-filter (of_party other) (λ offer. not (is_ended party ending offer)) offers
-    ∙ alike _ _ (λ offer. by offer (cases_Bool (of_party other offer))) offers)
+    ∙ filter_alike _ _ (λ offer. by offer (cases_Bool (of_party other offer))) offers)
   where
     by : (offer : Standing) → ((of_party other offer ≡ true) ⊎ (of_party other offer ≡ false)) → (not (is_ended party ending offer) && of_party other offer) ≡ of_party other offer
     by offer (inl his) = ap (λ b. not b && of_party other offer) (ended_is_own party ending offer (not_mine party other offer.party apart his))
-    by offer (inr fails) = ap (λ b. not (is_ended party ending offer) && b) fails ∙ and_false (not (is_ended party ending offer)) ∙ sym fails
+    by offer (inr fails) = ap (λ b. not (is_ended party ending offer) && b) fails ∙ and-false (not (is_ended party ending offer)) ∙ sym fails
 
 -- where a party has no offers, its act takes none out
 pub ended_of_none : (offers : List Standing) (party : ℕ) (ending : Ending) → filter (of_party party) offers ≡ [] → without_ended offers party ending ≡ offers
@@ -119,41 +97,26 @@ ended_not_made_to (offer ∷ offers) party ending at none = elim (cases_Bool (of
   | inl mine ↦
       let some : (to_party at offer || list_any (to_party at) (filter (of_party party) offers)) ≡ false =
       sym (ap (λ b. list_any (to_party at) (cond b (offer ∷ filter (of_party party) offers) (filter (of_party party) offers))) mine) ∙ none in
-      left_out offer offers (without_ended offers party ending) at (not (is_ended party ending offer)) (first_false (to_party at offer) (list_any (to_party at) (filter (of_party party) offers)) some) (ended_not_made_to offers party ending at (second_false (to_party at offer) (list_any (to_party at) (filter (of_party party) offers)) some))
+      let neither = or_parts (to_party at offer) (list_any (to_party at) (filter (of_party party) offers)) some in
+      left_out offer offers (without_ended offers party ending) at (not (is_ended party ending offer)) neither.0 (ended_not_made_to offers party ending at neither.1)
   | inr his ↦
       let rest : list_any (to_party at) (filter (of_party party) offers) ≡ false =
       sym (ap (λ b. list_any (to_party at) (cond b (offer ∷ filter (of_party party) offers) (filter (of_party party) offers))) his) ∙ none in
       kept_in offer offers (without_ended offers party ending) at (not (is_ended party ending offer)) (ap not (ended_is_own party ending offer his)) (ended_not_made_to offers party ending at rest)
 ]
-  where
-    first_false : (a b : Bool) → (a || b) ≡ false → a ≡ false
-    first_false true b h = h
-    first_false false b h = refl
-
-    second_false : (a b : Bool) → (a || b) ≡ false → b ≡ false
-    second_false true b h = cc
-    second_false false b h = h
 
 -- whether any passes, one item more
-or_false : (b : Bool) → (b || false) ≡ b
-or_false true = refl
-or_false false = refl
-
 pub any_more : {X : Type 0} (p : X → Bool) (xs : List X) (i : ℕ) (d : X) → i < length xs → list_any p (take (i + 1) xs) ≡ (list_any p (take i xs) || p (get_or xs i d))
 any_more p xs i d within =
-    ap (list_any p) (take_more xs i d within) ∙ list_any-append p (take i xs) (get_or xs i d ∷ []) ∙ ap (λ b. list_any p (take i xs) || b) (or_false (p (get_or xs i d)))
+    ap (list_any p) (take_more xs i d within) ∙ list_any-append p (take i xs) (get_or xs i d ∷ []) ∙ ap (λ b. list_any p (take i xs) || b) (or-false (p (get_or xs i d)))
 
 -- what an ending takes out is gone after one ending and after two
-twice : (b : Bool) → (b && b) ≡ b
-twice true = refl
-twice false = refl
-
 pub more_ended : (b any : Bool) (offers : List Standing) (party : ℕ) (ending : Ending) →
     cond b (without_ended (cond any (without_ended offers party ending) offers) party ending) (cond any (without_ended offers party ending) offers)
     ≡ cond (any || b) (without_ended offers party ending) offers
 more_ended true true offers party ending =
     filter-filter (λ offer. not (is_ended party ending offer)) (λ offer. not (is_ended party ending offer)) offers
-    ∙ alike _ _ (λ offer. twice (not (is_ended party ending offer))) offers
+    ∙ filter_alike _ _ (λ offer. and_self (not (is_ended party ending offer))) offers
 more_ended true false offers party ending = refl
 more_ended false true offers party ending = refl
 more_ended false false offers party ending = refl
@@ -195,11 +158,3 @@ no_list (Some list) items none = cc
 
 pub no_shelf : (shelves : Shelves) (party : ℕ) → is_some (get nat_eq shelves.lists party) ≡ false → shelf_at shelves party ≡ []
 no_shelf shelves party none = no_list (get nat_eq shelves.lists party) (λ list. list.items) none
-
--- no more pass a test than there are
-pub fewer_pass : {X : Type 0} (p : X → Bool) (xs : List X) → length (filter p xs) ≤ length xs
-fewer_pass p [] = omega arith
-fewer_pass p (x ∷ xs) = elim (cases_Bool (p x)) [
-  | inl holds ↦ let rest = fewer_pass p xs in rw holds (omega arith)
-  | inr fails ↦ let rest = fewer_pass p xs in rw fails (omega arith)
-]

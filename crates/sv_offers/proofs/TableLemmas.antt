@@ -1,5 +1,7 @@
 -- The table's look-ups, and the steps of an ending one after another.
 use Rattle.std.proofs.Common.{◌≡◌, ℕ, Bool, true, false, not, ◌&&◌, eqb, List, [], ◌∷◌, Option, Some, find, ap, sym, refl, ◌∙◌, cond}
+use Rattle.std.proofs.Math.Bool.{and_comm}
+use Rattle.std.proofs.lemmas.Bool.{and_parts}
 use Rattle.std.specs.List.{filter}
 use Rattle.sv_events.specs.declared.row.Ending.{Ending}
 use Rattle.sv_rules.specs.declared.coupling.Made.{Made}
@@ -7,19 +9,8 @@ use Rattle.sv_rules.specs.declared.standing.Standing.{Standing}
 use Rattle.sv_rules.specs.Standing.{without_ended}
 use Rattle.sv_rules.specs.Coupling.{is_coupled, couplings_among, reopened_among, recoupled, made_by_ending, kept_by_ending, reopened_by_ending}
 use Rattle.sv_offer_laws.proofs.Members.{filter-filter}
-use Rattle.sv_offers.proofs.FindingLemmas.{found_among}
+use Rattle.sv_offers.proofs.FilterLemmas.{filter_alike, found_among}
 use Rattle.sv_offers.specs.Table.{PlainOffers, is_open_to, open_among}
-
-and-comm : (a b : Bool) → (a && b) ≡ (b && a)
-and-comm true true = refl
-and-comm true false = refl
-and-comm false true = refl
-and-comm false false = refl
-
-filter_alike : {X : Type 0} (p q : X → Bool) → ((x : X) → p x ≡ q x) → (xs : List X) → filter p xs ≡ filter q xs
-filter_alike p q same [] = refl
-filter_alike p q same (x ∷ xs) =
-    ap (λ rest. cond (p x) (x ∷ rest) rest) (filter_alike p q same xs) ∙ ap (λ b. cond b (x ∷ filter q xs) (filter q xs)) (same x)
 
 -- the first of all that pass
 first_passed : {X : Type 0} (p : X → Bool) (xs : List X) → find (λ _. true) (filter p xs) ≡ find p xs
@@ -35,7 +26,7 @@ pub open_by_test : (table : PlainOffers) (party : ℕ) →
     open_among table party ≡ filter (is_open_to table.coupled party) table.offers
 open_by_test table party =
     filter-filter (λ (offer : Standing). eqb offer.to party) (λ (offer : Standing). not (is_coupled table.coupled offer.place)) table.offers
-    ∙ filter_alike _ _ (λ offer. and-comm (not (is_coupled table.coupled offer.place)) (eqb offer.to party)) table.offers
+    ∙ filter_alike _ _ (λ offer. and_comm (not (is_coupled table.coupled offer.place)) (eqb offer.to party)) table.offers
 
 pub first_by_test : (table : PlainOffers) (party : ℕ) →
     find (λ _. true) (open_among table party) ≡ find (is_open_to table.coupled party) table.offers
@@ -64,25 +55,21 @@ recoupled_is_made at offers coupled party ending left opened kept is_left is_kep
     ∙ ap (λ o. recoupled at (without_ended offers party ending) (couplings_among (without_ended offers party ending) coupled) o) is_opened
 
 -- the open offers among those made to a party
-both_ways : (t n : Bool) → (t && (t && n)) ≡ (n && t)
-both_ways true true = refl
-both_ways true false = refl
-both_ways false true = refl
-both_ways false false = refl
+asked_twice : (t n : Bool) → (t && (t && n)) ≡ (n && t)
+asked_twice true true = refl
+asked_twice true false = refl
+asked_twice false true = refl
+asked_twice false false = refl
 
 pub open_made_to : (table : PlainOffers) (party : ℕ) →
     filter (is_open_to table.coupled party) (filter (λ (offer : Standing). eqb offer.to party) table.offers) ≡ open_among table party
 open_made_to table party =
     filter-filter (is_open_to table.coupled party) (λ (offer : Standing). eqb offer.to party) table.offers
-    ∙ filter_alike _ _ (λ offer. both_ways (eqb offer.to party) (not (is_coupled table.coupled offer.place))) table.offers
+    ∙ filter_alike _ _ (λ offer. asked_twice (eqb offer.to party) (not (is_coupled table.coupled offer.place))) table.offers
     ∙ sym (filter-filter (λ (offer : Standing). eqb offer.to party) (λ (offer : Standing). not (is_coupled table.coupled offer.place)) table.offers)
-
-first_true : (a b : Bool) → (a && b) ≡ true → a ≡ true
-first_true true b h = refl
-first_true false b h = h
 
 pub first_made_to : (table : PlainOffers) (party : ℕ) →
     find (is_open_to table.coupled party) (filter (λ (offer : Standing). eqb offer.to party) table.offers) ≡ find (λ _. true) (open_among table party)
 first_made_to table party =
-    found_among (is_open_to table.coupled party) (λ (offer : Standing). eqb offer.to party) (λ offer open'. first_true (eqb offer.to party) (not (is_coupled table.coupled offer.place)) open') table.offers
+    found_among (is_open_to table.coupled party) (λ (offer : Standing). eqb offer.to party) (λ offer open'. (and_parts (eqb offer.to party) (not (is_coupled table.coupled offer.place)) open').0) table.offers
     ∙ sym (first_by_test table party)

@@ -2,7 +2,7 @@ use Rattle.std.proofs.Common.{◌≡◌, find, ap, ◌∙◌, List, rules, tests
 use Rattle.std.proofs.lemmas.Iterator.{YieldsList-from_slice}
 use Rattle.std.proofs.lemmas.Iterator.Search.{find_from_yields_List}
 use Rattle.sv_offers.specs.Table.{may_match}
-use Rattle.sv_offers.proofs.FindingLemmas.{found_among}
+use Rattle.sv_offers.proofs.FilterLemmas.{found_among}
 use Rattle.sv_offers.proofs.MatchLemmas.{match_is_candidate}
 use Rattle.sv_rules.specs.Coupling.{is_open_match}
 use Rattle.sv_rules.specs.declared.standing.Standing.{Standing}

@@ -6,7 +6,7 @@ use Rattle.sv_rules.specs.declared.coupling.Made.{Made}
 use Rattle.sv_rules.specs.Coupling.{is_coupled, couplings_among, kept_by_ending, reopened_by_ending, made_by_ending}
 use Rattle.sv_offers.specs.Table.{PlainOffers, after_ending, pairs_made}
 use Rattle.sv_offers.proofs.TableLemmas.{noted_are_reopened, recoupled_is_made}
-use Rattle.sv_offers.proofs.ShelfLemmas.{fewer_pass}
+use Rattle.sv_offers.proofs.FilterLemmas.{fewer_pass}
 use Rattle.sv_offers.proofs.table.Offers.end.Goals as goal
 
 pub recouple-requires-clause-room : goal.recouple-requires-clause-room
