@@ -1,4 +1,4 @@
-ghost use Rattle.std.specs.Prelude.{◌≡◌, Some, None, Ok, IsErr, IsSome, is_some, IfOk, OnOk, OnErr, option_and_then};
+ghost use Rattle.std.specs.Prelude.{◌≡◌, Some, None, IsSome, is_some, IfOk, OnOk, OnErr, option_and_then};
 ghost use Rattle.std.specs.Option.{option_copied};
 ghost use Rattle.sv_cells.specs.Cell.{after_set_in, after_use_in, answered, controlled, coupled_with, holding, known_alone, new_cell, share_in};
 ghost use Rattle.sv_story.specs.Share.{PlainShare, shared_value};
@@ -150,7 +150,7 @@ impl Cell {
         let Held::Shared(mut share) = held else {
             unreachable!()
         };
-        let got = got_value(share.get(side));
+        let got = share.learn_last(side);
         Used {
             cell: Cell {
                 vector,
@@ -216,23 +216,6 @@ fn kept_lent(_value: Array) -> Held
 }
 
 fn discard(_held: Held) {}
-
-// Whether there was a value.
-fn got_value(value: Result<Option<Array>, WantOfMemory>) -> Result<bool, WantOfMemory>
-    ensures ok { IfOk value (λ value. result ≡ Ok (is_some value)) }
-    ensures err { OnErr value (IsErr result) }
-{
-    match value {
-        Ok(None) => Ok(false),
-        Ok(Some(value)) => {
-            discard_value(value);
-            Ok(true)
-        }
-        Err(want) => Err(want),
-    }
-}
-
-fn discard_value(_value: Array) {}
 
 /// The cells of two offers whose coupling ends: each holds again what its party knows.
 #[derive(Debug, Drop)]

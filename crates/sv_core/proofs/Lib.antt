@@ -9,6 +9,7 @@ pub mod NoControlLemmas
 mod OpeningLemmas
 mod OutcomeLemmas
 mod RetryLemmas
+mod ServiceLemmas
 mod TogetherLemmas
 mod UsingLemmas
 mod WaitingLemmas

@@ -68,6 +68,11 @@ goes_on core party act room free waits_for =
           ∙ ap (λ (b : Bool). let c : PlainCore = record { users = core.users; journal = if b then core.journal else entry_for core.journal party act ∷ core.journal } in c) room,
     )
 
+-- so it is not still held
+pub not_held : (core : PlainCore) (party : ℕ) → is_full core.journal ≡ false → (is_some (still_refused core.journal party) && not (is_stuck core.users core.journal)) ≡ false →
+    is_still_held core.users core.journal party ≡ true → ⊥
+not_held core party room free held = let no : false ≡ true = sym (still_held core.users core.journal party false room ∙ free) ∙ held in cc
+
 -- it may make its act
 pub may_retry : (core : PlainCore) (party : ℕ) (act : Act) → IsLegal core.users core.journal → ArePeople core.users → is_full core.journal ≡ false →
     (is_some (still_refused core.journal party) && not (is_stuck core.users core.journal)) ≡ false → waits core.journal party ≡ true → awaited core.journal party ≡ Some act → MayMake core party act

@@ -1,7 +1,6 @@
 -- Who has left and who waits: what is kept of users tells it of every party.
 use Rattle.std.proofs.Common.{◌≡◌, refl, sym, ap, ◌∙◌, subst, ℕ, suc, ◌+◌, ◌-◌, ◌≤◌, ◌<◌, Bool, true, false, ◌&&◌, ◌||◌, not, eqb, List, [], ◌∷◌, length, map, reverse, get_or, All, Option, Some, None, ◌⊎◌, inl, inr, arith}
 use Rattle.std.specs.Prelude.{IsTrue, is_some, if◌then◌else◌}
-use Rattle.std.specs.List.{list_any}
 use Rattle.std.proofs.lemmas.Bool.{cases_Bool, or_cases, or_from, and_right, both_ways, not-true, eqb-true}
 use Rattle.std.proofs.lemmas.List.{get_or-map, get_or-reverse, length-map, length-reverse}
 use Rattle.std.proofs.lemmas.List.Elements.{All-head, All-tail}
@@ -203,11 +202,6 @@ waiters_are_present users journal legal people party waiting = record { user = u
     present : (b : Bool) → has_left journal party ≡ b → not (has_left journal party) ≡ true
     present false stays = ap not stays
     present true left = absurd (none (leavers_do_not_wait users journal legal party left))
-
--- what is asked of the members is asked of the users
-pub some_member : (journal : Entries) (users : List ℕ) → list_any (λ (m : Member). not m.has_left) (map (member_of journal) users) ≡ list_any (λ user. not (has_left journal user)) users
-some_member journal [] = refl
-some_member journal (user ∷ users) = ap (λ b. not (has_left journal user) || b) (some_member journal users)
 
 -- nobody waits for a leave: it is done at once
 pub no_wait_to_leave : (users : List ℕ) (journal : Entries) → IsLegal users journal → (party : ℕ) (act : Act) → awaited journal party ≡ Some act → is_leave act ≡ true → ⊥

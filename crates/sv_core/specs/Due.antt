@@ -8,6 +8,8 @@ use Rattle.sv_access.specs.declared.state.State.{State}
 use Rattle.sv_access.specs.declared.state.State.TheVariants.{UnseenA, UnseenB}
 use Rattle.sv_core.specs.declared.working.Due.{Due}
 use Rattle.sv_core.specs.declared.working.Due.TheVariants as due
+use Rattle.sv_events.specs.declared.work.Work.{Work}
+use Rattle.sv_events.specs.declared.work.Work.TheVariants as work
 use Rattle.sv_rules.specs.Coupling.{coupling_now, couplings, is_coupled}
 use Rattle.sv_rules.specs.Entries.{Entries}
 use Rattle.sv_rules.specs.Story.{known}
@@ -20,6 +22,17 @@ abbrev pub is_due : Entries → Due → Standing → Coupling → Bool
 is_due journal due.Control = lacks_control journal
 is_due journal due.Reply = owes_reply journal
 is_due journal due.Use = has_unseen journal
+
+-- the work is a reply
+abbrev pub is_reply : Work → Bool
+is_reply (work.Reply local) = true
+is_reply _ = false
+
+-- the work is for a partner: a control on a coupled offer, or a reply
+abbrev pub is_service : Work → Bool
+is_service (work.Control local) = true
+is_service (work.Reply local) = true
+is_service _ = false
 
 -- the value to reply to: what is known of the first offer on which a reply is owed
 abbrev pub command_of : Entries → ℕ → Option PlainArray

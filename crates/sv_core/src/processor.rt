@@ -1,11 +1,11 @@
-ghost use Rattle.std.specs.Prelude.{◌≡◌, ◌≤◌, ◌||◌, ◌&&◌, [], length, IsTrue, Some, None, is_some, not, IfOk, OnOk, OnErr, reverse};
+ghost use Rattle.std.specs.Prelude.{◌≡◌, ◌≤◌, ◌||◌, ◌&&◌, [], length, IsTrue, Some, None, is_some, not, IfOk, IsOk, OnOk, OnErr, reverse};
 ghost use Rattle.std.specs.Option.{option_copied};
 ghost use Rattle.sv_core.specs.Core.{ArePeople, core_after};
 ghost use Rattle.sv_core.specs.Retry.{core_retried, plain_retry};
 ghost use Rattle.sv_events.specs.Answer.{plain_answer};
 ghost use Rattle.sv_rules.specs.Entries.{has_left, is_full, is_leave};
 ghost use Rattle.sv_rules.specs.Journal.{journal_of};
-ghost use Rattle.sv_rules.specs.Legal.{IsLegal, act_due, answer_to, is_user, journal_after, retried};
+ghost use Rattle.sv_rules.specs.Legal.{IsLegal, act_due, answer_to, is_still_held, is_user, journal_after, retried};
 ghost use Rattle.sv_rules.specs.Refused.{awaited, still_refused, waits};
 ghost use Rattle.sv_rules.specs.Work.{is_auxiliary, is_stuck};
 ghost use Rattle.sv_log.specs.Member.{waiting_at};
@@ -17,7 +17,7 @@ use std::alloc::Global;
 use std::marker::Model;
 use sv_cells::Cells;
 use sv_events::{Act, Answer, Ending, Entry, Journal, PairList, Retry};
-use sv_log::Log;
+use sv_log::{Log, Member};
 use sv_offers::Offers;
 
 /// The processor of some users: it has the journal, in which each entry may follow those before it, the standing offers,
@@ -61,38 +61,47 @@ impl Core {
         })
     }
 
+    // What is kept of a party: whoever is no user has neither left nor waits.
+    pub(crate) fn member(&self, party: u32) -> Member
+        ensures left { result.has_left ≡ has_left self.now.journal party }
+        ensures waiting { result.waiting ≡ waiting_at self.now.journal party }
+    {
+        match self.log.member(party) {
+            None => Member {
+                has_left: false,
+                waiting: None,
+            },
+            Some(member) => member,
+        }
+    }
+
     /// Whether a party has left. No memory.
     pub fn has_left(&self, party: u32) -> bool
         ensures { result ≡ has_left self.now.journal party }
     {
-        match self.log.member(party) {
-            None => false,
-            Some(member) => member.has_left,
-        }
-    }
-
-    // The place of the entry by which a party waits, if it waits: an auxiliary never does.
-    fn waiting_at(&self, party: u32) -> Option<u64>
-        ensures { result ≡ waiting_at self.now.journal party }
-    {
-        match self.log.member(party) {
-            None => None,
-            Some(member) => member.waiting,
-        }
+        self.member(party).has_left
     }
 
     /// Whether a party waits. No memory.
     pub fn waits(&self, party: u32) -> bool
         ensures { result ≡ waits self.now.journal party }
     {
-        self.waiting_at(party).is_some()
+        self.member(party).waiting.is_some()
     }
 
     // The act that a party waits for, if it waits.
     pub(crate) fn awaited(&self, party: u32) -> Option<&Act>
         ensures { option_copied result ≡ awaited self.now.journal party }
     {
-        match self.waiting_at(party) {
+        self.awaited_since(party, self.member(party).waiting)
+    }
+
+    // The same where it is known at which entry the party waits, if it waits.
+    pub(crate) fn awaited_since(&self, party: u32, waiting: Option<u64>) -> Option<&Act>
+        requires { waiting ≡ waiting_at self.now.journal party }
+        ensures { option_copied result ≡ awaited self.now.journal party }
+    {
+        match waiting {
             None => None,
             Some(place) => Some(act_awaited(self.log.entries(), party, place)),
         }
@@ -147,6 +156,7 @@ impl Core {
     /// memory taken. After `WantOfMemory` all is as before.
     pub fn retry(&mut self, party: u32) -> Result<Retry, WantOfMemory>
         requires waits { IsTrue (waits self.old.journal party) }
+        ensures held { IsTrue (is_still_held self.old.users self.old.journal party) → IsOk result }
         ensures answer { IfOk result (λ got. plain_retry got ≡ retried self.old.users self.old.journal party) }
         ensures journal { OnOk result (self.new ≡ core_retried self.old party) }
         ensures err { OnErr result (self.new ≡ self.old) }

@@ -1,7 +1,8 @@
-ghost use Rattle.std.specs.Prelude.{◌≡◌, true, false, not, find, nat_lt, Contains, IsTrue, is_some, unwrap_or};
+ghost use Rattle.std.specs.Prelude.{◌≡◌, true, false, not, find, nat_lt, Contains, IsTrue, Some, is_some, unwrap_or};
 ghost use Rattle.std.specs.List.{list_all, list_any};
 ghost use Rattle.std.specs.Option.{option_copied};
-ghost use Rattle.sv_core.specs.Due.{command_of, customer_of, is_due, is_due_on, is_open, partner_at, partner_of, served_by};
+ghost use Rattle.sv_core.specs.Due.{command_of, customer_of, is_due, is_due_on, is_open, is_reply, is_service, partner_at, partner_of, served_by};
+ghost use Rattle.sv_log.specs.Member.{waiting_at};
 ghost use Rattle.sv_rules.specs.Coupling.{coupling_now, open_to};
 ghost use Rattle.sv_rules.specs.Entries.{has_left};
 ghost use Rattle.sv_rules.specs.Refused.{hold_of, hold_on, refused, still_refused};
@@ -12,7 +13,6 @@ ghost use Rattle.sv_rules.specs.Work.{first_coupled, first_open, is_auxiliary, i
 use crate::Core;
 use apl_arrays::Array;
 use sv_events::{Accessing, Act, Work};
-use sv_log::Member;
 use sv_rules::{CLOCK_PARTY, Coupling, Standing, TEXT_PARTY, most_counters};
 
 impl Core {
@@ -172,8 +172,22 @@ impl Core {
         self.offers.oldest_to(party)
     }
 
-    /// The value that an auxiliary is to reply to. No memory.
-    pub fn command(&self, party: u32) -> Option<&Array>
+    /// The value that an auxiliary is to reply to, where its work is a reply. No memory.
+    pub fn command(&self, party: u32) -> &Array
+        requires auxiliary { IsTrue (is_auxiliary party) }
+        requires reply { IsTrue (is_reply (work_of self.now.journal party)) }
+        ensures { command_of self.now.journal party ≡ Some result.now }
+    {
+        // It is legal, so that a reply is owed to a value that is known.
+        self.journal();
+        match self.known_to_reply(party) {
+            None => unreachable!(),
+            Some(value) => value,
+        }
+    }
+
+    // What is known of the first offer on which an auxiliary is to reply, if there is one.
+    fn known_to_reply(&self, party: u32) -> Option<&Array>
         requires { IsTrue (is_auxiliary party) }
         ensures { option_copied result ≡ command_of self.now.journal party }
     {
@@ -183,8 +197,21 @@ impl Core {
         }
     }
 
-    /// The party of the other offer of the coupling on which an auxiliary is to set a control, else to reply. No memory.
-    pub fn customer(&self, party: u32) -> Option<u32>
+    /// The party of the other offer of the coupling on which an auxiliary is to set a control, or to reply, where its
+    /// work is one of these. No memory.
+    pub fn customer(&self, party: u32) -> u32
+        requires auxiliary { IsTrue (is_auxiliary party) }
+        requires serves { IsTrue (is_service (work_of self.now.journal party)) }
+        ensures { customer_of self.now.journal party ≡ Some result }
+    {
+        match self.partner_served(party) {
+            None => unreachable!(),
+            Some(customer) => customer,
+        }
+    }
+
+    // The party of the other offer of that coupling, if there is one.
+    fn partner_served(&self, party: u32) -> Option<u32>
         requires { IsTrue (is_auxiliary party) }
         ensures { result ≡ customer_of self.now.journal party }
     {
@@ -219,7 +246,15 @@ impl Core {
     pub(crate) fn is_refused_now(&self, party: u32) -> bool
         ensures { result ≡ is_some (still_refused self.now.journal party) }
     {
-        match self.awaited(party) {
+        self.is_refused_since(party, self.member(party).waiting)
+    }
+
+    // The same where it is known at which entry the party waits, if it waits.
+    fn is_refused_since(&self, party: u32, waiting: Option<u64>) -> bool
+        requires { waiting ≡ waiting_at self.now.journal party }
+        ensures { result ≡ is_some (still_refused self.now.journal party) }
+    {
+        match self.awaited_since(party, waiting) {
             None => false,
             Some(act) => self.is_refused(party, act),
         }
@@ -255,7 +290,8 @@ impl Core {
     fn is_halted(&self, user: u32) -> bool
         ensures { result ≡ is_halted self.now.journal user }
     {
-        self.has_left(user) || self.is_refused_now(user)
+        let member = self.member(user);
+        member.has_left || self.is_refused_since(user, member.waiting)
     }
 
     /// Whether nobody can go on: some user has not left, each that has not waits and is refused now, and no auxiliary has
@@ -273,21 +309,21 @@ impl Core {
     fn some_stays(&self) -> bool
         ensures { result ≡ list_any (λ user. not (has_left self.now.journal user)) self.now.users }
     {
-        self.log.members().iter().any(|member| !member.has_left)
+        self.log.users().iter().any(|user| !self.has_left(*user))
     }
 
     // Whether all users have left, or wait and are refused now.
     fn all_halt(&self) -> bool
         ensures { result ≡ list_all (is_halted self.now.journal) self.now.users }
     {
-        self.halt(self.log.members())
+        self.halt(self.log.users())
     }
 
-    fn halt(&self, members: &[Member]) -> bool
-        ensures { result ≡ list_all (λ member. is_halted self.now.journal member.party) members.now }
+    fn halt(&self, users: &[u32]) -> bool
+        ensures { result ≡ list_all (is_halted self.now.journal) users.now }
     {
-        for member in members {
-            if !self.is_halted(member.party) {
+        for user in users {
+            if !self.is_halted(*user) {
                 return false;
             }
         }

@@ -1,5 +1,7 @@
-use Rattle.std.specs.Prelude.{ℕ, Bool, ◌||◌, ◌==◌, List, [], ◌∷◌, Option, Some, None, if◌then◌else◌}
+use Rattle.std.specs.Prelude.{◌≡◌, ℕ, Bool, ◌||◌, ◌==◌, List, [], ◌∷◌, Option, Some, None, nat_eq, if◌then◌else◌}
+use Rattle.std.specs.HashMap.{HashMap, get}
 use Rattle.sv_rules.specs.Entries.{Entries, next_place, has_left, kind_of, is_held}
+use Rattle.sv_rules.specs.Legal.{is_user}
 use Rattle.sv_log.specs.declared.member.Member.{Member}
 
 -- the place of a party's last entry, where this is held
@@ -10,9 +12,12 @@ waiting_at (e ∷ journal) party =
 
 -- what is kept of a user
 abbrev pub member_of : Entries → ℕ → Member
-member_of journal user = record { party = user; has_left = has_left journal user; waiting = waiting_at journal user }
+member_of journal user = record { has_left = has_left journal user; waiting = waiting_at journal user }
 
--- a member after an entry of a party, which leaves by it or not, and waits since or not
-abbrev pub noted : ℕ → Bool → Option ℕ → Member → Member
-noted party leaves waiting member =
-    if party == member.party then record { party = member.party; has_left = leaves || member.has_left; waiting = waiting } else member
+-- what is kept of a user after an entry of its own, by which it leaves or not, and waits since or not
+abbrev pub noted : Bool → Option ℕ → Member → Member
+noted leaves waiting member = record { has_left = leaves || member.has_left; waiting = waiting }
+
+-- what is kept is that of each user, and of nobody else
+abbrev pub HasMembers : {S : Type 0} → Entries → List ℕ → HashMap ℕ Member S → Type 0
+HasMembers journal users members = (user : ℕ) → get nat_eq members user ≡ (if is_user users user then Some (member_of journal user) else None)

@@ -1,4 +1,4 @@
-ghost use Rattle.std.specs.Prelude.{◌≡◌, ◌+◌, ◌≤◌, ◌<◌, ◌∷◌, [], Some, None, map, min, reverse, length, IfOk, OnOk, if◌then◌else◌};
+ghost use Rattle.std.specs.Prelude.{◌≡◌, ◌+◌, ◌≤◌, ◌<◌, ◌∷◌, [], Some, None, min, reverse, length, IfOk, OnOk, if◌then◌else◌};
 ghost use Rattle.apl_arrays.specs.Limits.{most_entries, most_journal_elements};
 ghost use Rattle.sv_events.specs.Entry.{plain_entry};
 ghost use Rattle.sv_log.specs.Member.{member_of};
@@ -6,7 +6,7 @@ ghost use Rattle.sv_rules.specs.Entries.{is_full, next_place};
 ghost use Rattle.sv_rules.specs.Journal.{journal_of};
 ghost use Rattle.sv_rules.specs.Legal.{is_user};
 
-use crate::member::{Member, note_all};
+use crate::member::{Member, Members, members_of, note};
 use crate::weight::capped_weight;
 use apl_arrays::WantOfMemory;
 use std::alloc::Global;
@@ -18,7 +18,8 @@ use sv_rules::{ENTRY_LIMIT, HELD_LIMIT, is_held, is_leave};
 #[derive(Drop)]
 pub struct Log {
     journal: Journal,
-    members: Vec<Member>,
+    users: Vec<u32>,
+    members: Members,
     // How many entries are no leaves, and how many elements they weigh, up to the limits.
     counted: usize,
     elements: u64,
@@ -33,21 +34,6 @@ impl Model for Log {
     ghost view = { log_of };
 
     ghost invariant = { IsLog };
-}
-
-// The users as members that have done nothing.
-fn members_of(alloc: Global, users: &[u32]) -> Result<Vec<Member>, WantOfMemory>
-    ensures { IfOk result (λ members. members.items ≡ map (member_of []) users.now) }
-{
-    let mut members = Vec::with_capacity(alloc, users.len())?;
-    for user in users {
-        members.push(Member {
-            party: *user,
-            has_left: false,
-            waiting: None,
-        })?;
-    }
-    Ok(members)
 }
 
 // The place where a party waits, if it waits there.
@@ -89,6 +75,7 @@ impl Log {
         journal.reserve(users.len())?;
         Ok(Log {
             journal,
+            users: users.to_vec(alloc)?,
             members: members_of(alloc, users)?,
             counted: 0,
             elements: 0,
@@ -109,21 +96,18 @@ impl Log {
         self.journal
     }
 
-    /// The users, with what is kept of them. No memory.
-    pub fn members(&self) -> &[Member]
-        ensures { result.now ≡ map (member_of self.now.journal) self.now.users }
+    /// The users. No memory.
+    pub fn users(&self) -> &[u32]
+        ensures { result.now ≡ self.now.users }
     {
-        &self.members
+        &self.users
     }
 
-    /// What is kept of a user. No memory.
+    /// What is kept of a user, found at once however many there are. No memory.
     pub fn member(&self, user: u32) -> Option<Member>
         ensures { result ≡ (if is_user self.now.users user then Some (member_of self.now.journal user) else None) }
     {
-        self.members
-            .iter()
-            .find(|member| member.party == user)
-            .copied()
+        self.members.get(&user).copied()
     }
 
     /// Whether the journal takes no more entries but leaves. No memory.
@@ -148,7 +132,7 @@ impl Log {
         ensures room { OnOk result (length self.old.users + 1 ≤ self.new.room) }
         ensures kept { self.old.room ≤ self.new.room }
     {
-        self.journal.reserve(self.members.len() + 1)
+        self.journal.reserve(self.users.len() + 1)
     }
 
     /// Adds an entry, where there is room. No memory.
@@ -163,7 +147,7 @@ impl Log {
         let elements = elements_after(self.elements, capped_weight(&entry));
         self.counted = counted_after(self.counted, leaves);
         self.elements = elements;
-        note_all(&mut self.members, entry.party, leaves, waiting);
+        note(&mut self.members, entry.party, leaves, waiting);
         self.journal.push_reserved(entry);
     }
 }

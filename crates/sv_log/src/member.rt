@@ -1,33 +1,65 @@
-ghost use Rattle.std.specs.Prelude.{◌≡◌, map};
-ghost use Rattle.sv_log.specs.Member.{noted};
+ghost use Rattle.std.specs.Prelude.{◌≡◌, ◌==◌, ℕ, [], IfOk, IsSome, option_map, nat_eq, if◌then◌else◌};
+ghost use Rattle.std.specs.HashMap.{get};
+ghost use Rattle.sv_log.specs.Member.{HasMembers, noted};
 
-/// A user: whether it has left, and the place of its last entry, where this is held.
+use apl_arrays::WantOfMemory;
+use std::alloc::Global;
+use std::collections::HashMap;
+
+/// What is kept of a user: whether it has left, and the place of its last entry, where this is held.
 #[derive(Clone, Copy, Debug, PartialEq, Eq)]
 pub struct Member {
-    pub party: u32,
     pub has_left: bool,
     pub waiting: Option<u64>,
 }
 
-fn noted(party: u32, leaves: bool, waiting: Option<u64>, member: Member) -> Member
-    ensures { result ≡ noted party leaves waiting member }
+/// What is kept of each user, found at once.
+pub type Members = HashMap<u32, Member>;
+
+/// What is kept of users that have done nothing. It takes memory for these.
+pub fn members_of(alloc: Global, users: &[u32]) -> Result<Members, WantOfMemory>
+    ensures { IfOk result (HasMembers [] users.now) }
 {
-    if party == member.party {
-        Member {
-            party: member.party,
-            has_left: leaves || member.has_left,
-            waiting,
-        }
-    } else {
-        member
+    let mut members = HashMap::with_capacity(alloc, users.len())?;
+    for user in users {
+        members.insert(
+            *user,
+            Member {
+                has_left: false,
+                waiting: None,
+            },
+        )?;
+    }
+    Ok(members)
+}
+
+/// Notes an entry of a party, if it is a user: it leaves by it or not, and waits since or not. No memory.
+pub fn note(members: &mut Members, party: u32, leaves: bool, waiting: Option<u64>)
+    ensures { (user : ℕ) → get nat_eq members.new user
+        ≡ (if party == user then option_map (noted leaves waiting) (get nat_eq members.old user) else get nat_eq members.old user) }
+{
+    match members.get(&party).copied() {
+        None => (),
+        Some(member) => put(members, party, noted(leaves, waiting, member)),
     }
 }
 
-/// Notes an entry of a party, which leaves by it or not, and waits since or not. No memory.
-pub fn note_all(members: &mut [Member], party: u32, leaves: bool, waiting: Option<u64>)
-    ensures { members.new ≡ map (noted party leaves waiting) members.old }
+fn noted(leaves: bool, waiting: Option<u64>, member: Member) -> Member
+    ensures { result ≡ noted leaves waiting member }
 {
-    for i in 0..members.len() {
-        members[i] = noted(party, leaves, waiting, members[i]);
+    Member {
+        has_left: leaves || member.has_left,
+        waiting,
+    }
+}
+
+// Puts what is kept of a user in the place of what was.
+fn put(members: &mut Members, party: u32, member: Member)
+    requires { IsSome (get nat_eq members.old party) }
+    ensures { (user : ℕ) → get nat_eq members.new user ≡ (if party == user then Some member else get nat_eq members.old user) }
+{
+    match members.insert(party, member) {
+        Ok(_) => (),
+        Err(_) => unreachable!(),
     }
 }

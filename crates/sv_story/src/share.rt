@@ -1,4 +1,4 @@
-ghost use Rattle.std.specs.Prelude.{◌≡◌, IfOk, IsOk, OnErr, OnOk};
+ghost use Rattle.std.specs.Prelude.{◌≡◌, IfOk, IsOk, OnErr, OnOk, is_some};
 ghost use Rattle.std.specs.Option.{option_copied};
 ghost use Rattle.sv_story.specs.Share.{after_get, after_set, alone, giver, given_state, known_to, knowing, share_of, shared_value, unseen_by_other};
 
@@ -126,10 +126,24 @@ impl Share {
             return Ok(None);
         };
         let given = value.copy(self.alloc)?;
-        let kept = value.copy(self.alloc)?;
-        self.learn(side, kept);
-        self.state = after(self.state, side, Kind::Use);
+        self.learn_last(side)?;
         Ok(Some(given))
+    }
+
+    /// The same where the value is not wanted, but only whether there is one. It takes memory for what the side comes to
+    /// know; after `WantOfMemory` all is as before.
+    pub fn learn_last(&mut self, side: Side) -> Result<bool, WantOfMemory>
+        ensures got { IfOk result (λ got. got ≡ is_some (shared_value self.old)) }
+        ensures done { OnOk result (self.new ≡ after_get self.old side (shared_value self.old)) }
+        ensures err { OnErr result (self.new ≡ self.old) }
+    {
+        let Some(value) = self.last() else {
+            return Ok(false);
+        };
+        let known = value.copy(self.alloc)?;
+        self.learn(side, known);
+        self.state = after(self.state, side, Kind::Use);
+        Ok(true)
     }
 
     // A side comes to know a value. No memory.

@@ -1,18 +1,11 @@
-use Rattle.std.proofs.Common.{◌∙◌, Option, ap, sym}
-use Rattle.std.specs.Prelude.{option_and_then}
-use Rattle.sv_rules.specs.Story.{known}
-use Rattle.sv_rules.specs.Work.{owes_reply}
-use Rattle.sv_rules.specs.declared.standing.Standing.{Standing}
-use Rattle.sv_core.proofs.DueLemmas.{first_stands}
+use Rattle.std.proofs.Common.{◌∙◌, ap, sym}
+use Rattle.std.specs.Option.{option_copied}
+use Rattle.sv_core.proofs.ServiceLemmas.{commands_are_there}
 use Rattle.sv_core.proofs.processor.Core.command.Goals as goal
 
-pub known-requires : goal.known-requires
-known-requires c =
-    let journal = c.args.self.now.journal in
-    first_stands journal (owes_reply journal) c.args.party c.in-Some.offer (sym c.first_coupled.ensures ∙ c.in-Some.is)
+pub unreachable-requires : goal.unreachable-requires
+unreachable-requires c =
+    commands_are_there c.args.self.now.users c.args.self.now.journal c.journal.ensures.legal c.args.party c.requires.reply (sym c.known_to_reply.ensures ∙ ap option_copied c.in-None.is)
 
-pub returns-in-None : goal.returns-in-None
-returns-in-None c = ap (λ (o : Option Standing). option_and_then (known c.args.self.now.journal) o) (sym c.in-None.is ∙ c.first_coupled.ensures)
-
-pub returns-in-Some : goal.returns-in-Some
-returns-in-Some c = c.known.ensures ∙ ap (λ (o : Option Standing). option_and_then (known c.args.self.now.journal) o) (sym c.in-Some.is ∙ c.first_coupled.ensures)
+pub returns : goal.returns
+returns c = sym c.known_to_reply.ensures ∙ ap option_copied c.in-Some.is

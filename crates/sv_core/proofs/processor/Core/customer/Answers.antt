@@ -1,15 +1,9 @@
-use Rattle.std.proofs.Common.{◌∙◌, Option, ap, sym}
-use Rattle.std.specs.Prelude.{option_and_then}
-use Rattle.sv_rules.specs.declared.standing.Standing.{Standing}
-use Rattle.sv_core.specs.Due.{partner_at}
+use Rattle.std.proofs.Common.{◌∙◌, sym}
+use Rattle.sv_core.proofs.ServiceLemmas.{customers_are_there}
 use Rattle.sv_core.proofs.processor.Core.customer.Goals as goal
 
-pub returns-in-None : goal.returns-in-None
-returns-in-None c =
-    let journal = c.args.self.now.journal in
-    ap (λ (o : Option Standing). option_and_then (λ (x : Standing). partner_at journal x.place) o) (sym c.in-None.is ∙ c.served_by.ensures)
+pub unreachable-requires : goal.unreachable-requires
+unreachable-requires c = customers_are_there c.args.self.now.journal c.args.party c.requires.serves (sym c.partner_served.ensures ∙ c.in-None.is)
 
-pub returns-in-Some : goal.returns-in-Some
-returns-in-Some c =
-    let journal = c.args.self.now.journal in
-    c.partner.ensures ∙ ap (λ (o : Option Standing). option_and_then (λ (x : Standing). partner_at journal x.place) o) (sym c.in-Some.is ∙ c.served_by.ensures)
+pub returns : goal.returns
+returns c = sym c.partner_served.ensures ∙ c.in-Some.is

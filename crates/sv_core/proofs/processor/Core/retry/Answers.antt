@@ -2,7 +2,7 @@ use Rattle.std.proofs.Common.{◌∙◌, Some, ap, subst, sym}
 use Rattle.sv_events.specs.Answer.{PlainAnswer}
 use Rattle.sv_rules.specs.Entries.{is_full}
 use Rattle.sv_rules.specs.Legal.{IsLegal}
-use Rattle.sv_core.proofs.RetryLemmas.{full_again, goes_on, kept_back, may_retry}
+use Rattle.sv_core.proofs.RetryLemmas.{full_again, goes_on, kept_back, may_retry, not_held}
 use Rattle.sv_core.specs.Core.{ArePeople, PlainCore}
 use Rattle.sv_core.proofs.processor.Core.retry.Goals as goal
 
@@ -41,3 +41,13 @@ returns-clause-journal c =
     let room = sym (ap (λ (v : PlainCore). is_full v.journal) c.self.view_is) ∙ sym c.is_full.ensures ∙ c.if-is_full.false in
     let goes = goes_on c.args.self.now c.args.party c.in_ok-act.act room (sym c.is_kept_back.ensures ∙ c.if-is_kept_back.false) c.in_ok-act.ensures in
     c.in_ok-answer.ensures.journal ∙ sym goes.2
+
+pub returns-in_err-act-clause-held : goal.returns-in_err-act-clause-held
+returns-in_err-act-clause-held c = λ held.
+    let room = sym (ap (λ (v : PlainCore). is_full v.journal) c.self.view_is) ∙ sym c.is_full.ensures ∙ c.if-is_full.false in
+    absurd (not_held c.args.self.now c.args.party room (sym c.is_kept_back.ensures ∙ c.if-is_kept_back.false) held)
+
+pub returns-in_err-answer-clause-held : goal.returns-in_err-answer-clause-held
+returns-in_err-answer-clause-held c = λ held.
+    let room = sym (ap (λ (v : PlainCore). is_full v.journal) c.self.view_is) ∙ sym c.is_full.ensures ∙ c.if-is_full.false in
+    absurd (not_held c.args.self.now c.args.party room (sym c.is_kept_back.ensures ∙ c.if-is_kept_back.false) held)

@@ -4,4 +4,4 @@ use Rattle.sv_core.proofs.WaitingLemmas.{waiting_is}
 use Rattle.sv_core.proofs.processor.Core.waits.Goals as goal
 
 pub returns : goal.returns
-returns c = c.is_some.ensures ∙ ap (λ (o : Option ℕ). is_some o) c.waiting_at.ensures ∙ waiting_is c.args.self.now.journal c.args.party
+returns c = c.is_some.ensures ∙ ap (λ (o : Option ℕ). is_some o) c.member.ensures.waiting ∙ waiting_is c.args.self.now.journal c.args.party
