@@ -217,7 +217,7 @@ story_later e journal coupling old =
     let later : ltb coupling.at (length journal + 1) ≡ true = lt-ltb _ _ (omega arith) in
     rw (later, story) (append_assoc (story_part A (access_on coupling.a e)) (story_part B (access_on coupling.b e)) (story journal coupling))
 
-own-from : (party : ℕ) (local : List ℕ) (offer : Standing) → offer.party ≡ party → offer.local ≡ local → is_own party local offer ≡ true
+pub own-from : (party : ℕ) (local : List ℕ) (offer : Standing) → offer.party ≡ party → offer.local ≡ local → is_own party local offer ≡ true
 own-from party local offer own named =
     subst (λ (p : ℕ). is_own p local offer ≡ true) own (subst (λ (n : List ℕ). is_own offer.party n offer ≡ true) named (own-itself offer))
 

@@ -6,4 +6,7 @@ pub mod ControlLemmas
 pub mod WaitLemmas
 pub mod AuxiliaryLemmas
 pub mod WorkLemmas
+pub mod DueLemmas
 pub mod StepLemmas
+pub mod GrantLemmas
+pub mod NameLemmas

@@ -1,10 +1,10 @@
 -- Which entries may follow a journal.
-use Rattle.std.proofs.Common.{◌≡◌, refl, sym, ap, ◌∙◌, subst, ℕ, Bool, true, false, ◌&&◌, ◌||◌, not, eqb, List, [], ◌∷◌, Option, Some, None, inl, inr}
+use Rattle.std.proofs.Common.{◌≡◌, refl, sym, ap, ◌∙◌, subst, ℕ, Bool, true, false, ◌&&◌, ◌||◌, not, eqb, List, [], ◌∷◌, Option, Some, None}
 use Rattle.std.specs.Prelude.{IsTrue, is_some, option_and_then, if◌then◌else◌}
-use Rattle.std.proofs.lemmas.Bool.{cases_Bool, and_parts, and_from, and_right, or_from, or_left, or_right, not-true, not_from_false, both_ways, eqb-true}
+use Rattle.std.proofs.lemmas.Bool.{and_parts, and_from, and_right, or_from, or_left, or_right, not-true, not_from_false, both_ways, eqb-true}
 use Rattle.std.proofs.lemmas.Option.{none-some, same_Some}
 use Rattle.apl_arrays.specs.Array.{PlainArray}
-use Rattle.sv_events.specs.Answer.{PlainAnswer, held, abandoned}
+use Rattle.sv_events.specs.Answer.{PlainAnswer}
 use Rattle.sv_events.specs.Entry.{PlainEntry}
 use Rattle.sv_events.specs.Row.{act_row}
 use Rattle.sv_events.specs.Work.{act_of}
@@ -14,7 +14,7 @@ use Rattle.sv_events.specs.declared.event.Hold.{Hold}
 use Rattle.sv_events.specs.declared.work.Work.{Work}
 use Rattle.sv_events.specs.declared.work.Work.TheVariants as work
 use Rattle.sv_rules.specs.Entries.{Entries, next_place, has_left, is_full, is_leave, kind_of, is_abandoned}
-use Rattle.sv_rules.specs.Legal.{IsLegal, MayFollow, IsStuckIf, act_due, act_for, reply_in, may_do, entry_for, is_still_held, is_user}
+use Rattle.sv_rules.specs.Legal.{IsLegal, MayFollow, IsStuckIf, act_due, act_for, may_do, entry_for, is_still_held, is_user}
 use Rattle.sv_rules.specs.Outcome.{outcome}
 use Rattle.sv_rules.specs.Refused.{awaited, refused, still_refused, waits}
 use Rattle.sv_rules.specs.Work.{is_auxiliary, is_stuck, work_of}
@@ -104,6 +104,24 @@ retries_may_follow users journal party act here waits_for room still = record {
     again : (b : Bool) → (if b then act else act) ≡ act
     again true = refl
     again false = refl
+
+-- a wait is given up only where nobody can go on
+pub held_retries_may_not_follow : (users : List ℕ) (journal : Entries) (e : PlainEntry) → awaited journal e.party ≡ Some e.act →
+    IsTrue (is_still_held users journal e.party) → MayFollow users journal e → ⊥
+held_retries_may_not_follow users journal e waits_for still may =
+    let parts = and_parts (not (is_full journal) && is_some (still_refused journal e.party)) (not (is_stuck users journal)) still in
+    let refused_now = (and_parts (not (is_full journal)) (is_some (still_refused journal e.party)) parts.0).1 in
+    let refuses : is_some (refused journal e.party e.act) ≡ true =
+    ap (λ (o : Option Hold). is_some o) (sym (ap (λ (a : Option Act). option_and_then (refused journal e.party) a) waits_for)) ∙ refused_now in
+    by (answered journal e.party e.act) refuses (not-true (is_stuck users journal) parts.1)
+  where
+    by : Answered (refused journal e.party e.act) (waits journal e.party) (outcome journal e.party e.act).answer → is_some (refused journal e.party e.act) ≡ true →
+        is_stuck users journal ≡ false → ⊥
+    by (unrefused none plain) refuses free = let no : false ≡ true = sym (ap (λ (o : Option Hold). is_some o) none) ∙ refuses in cc
+    by (held_first hold is not_waiting given) refuses free = both_ways (waits journal e.party) not_waiting (ap (λ (o : Option Act). is_some o) waits_for)
+    by (given_up hold is waiting given) refuses free =
+        let abandons : is_abandoned (kind_of e.answer) ≡ true = ap (λ (a : PlainAnswer). is_abandoned (kind_of a)) (may.answer ∙ given) in
+        both_ways (is_stuck users journal) free (subst (λ (b : Bool). IsStuckIf b users journal) abandons may.given_up)
 
 -- no auxiliary leaves
 pub auxiliaries_do_not_leave : (users : List ℕ) (journal : Entries) → IsLegal users journal → (party : ℕ) → IsTrue (is_auxiliary party) → has_left journal party ≡ false

@@ -25,7 +25,7 @@ use Rattle.sv_offer_laws.proofs.CouplingLemmas.{found_first, none_is_taken_of_no
 use Rattle.sv_story_laws.specs.WorkLaws.{IsLowest, IsOwnOpen, IsOwnCoupled, TellsParties}
 
 -- what is found in what a filter leaves
-find-of_filter : {X : Type 0} (p q : X → Bool) (xs : List X) → find p (filter q xs) ≡ find (λ x. q x && p x) xs
+pub find-of_filter : {X : Type 0} (p q : X → Bool) (xs : List X) → find p (filter q xs) ≡ find (λ x. q x && p x) xs
 find-of_filter p q [] = refl
 find-of_filter p q (x ∷ xs) = elim (cases_Bool (q x)) [
   | inl kept ↦ elim (cases_Bool (p x)) [ inl here ↦ rw (kept, here) refl | inr fails ↦ rw (kept, fails) (find-of_filter p q xs) ]
@@ -33,7 +33,7 @@ find-of_filter p q (x ∷ xs) = elim (cases_Bool (q x)) [
 ]
 
 -- the first standing offer that passes is the one of the lowest place
-first_is_lowest : (p : Standing → Bool) (journal : Entries) (offer : Standing) → (find p (standing journal) ≡ Some offer) ↔ IsLowest (standing journal) (λ o. p o ≡ true) offer
+pub first_is_lowest : (p : Standing → Bool) (journal : Entries) (offer : Standing) → (find p (standing journal) ≡ Some offer) ↔ IsLowest (standing journal) (λ o. p o ≡ true) offer
 first_is_lowest p journal offer = (there, λ lowest. back lowest (find p (standing journal)) refl)
   where
     there : find p (standing journal) ≡ Some offer → IsLowest (standing journal) (λ o. p o ≡ true) offer
@@ -54,7 +54,7 @@ first_is_lowest p journal offer = (there, λ lowest. back lowest (find p (standi
         ap Some (same_by_place (standing journal) other offer (places_ascend journal) found.1 lowest.among (omega arith))
 
 -- the same by another way to say what passes
-lowest_by : (offers : List Standing) (P Q : Standing → Type 0) (offer : Standing) → ((o : Standing) → P o → Q o) → ((o : Standing) → Q o → P o) → IsLowest offers P offer → IsLowest offers Q offer
+pub lowest_by : (offers : List Standing) (P Q : Standing → Type 0) (offer : Standing) → ((o : Standing) → P o → Q o) → ((o : Standing) → Q o → P o) → IsLowest offers P offer → IsLowest offers Q offer
 lowest_by offers P Q offer to from lowest = record {
   among = lowest.among;
   here = to offer lowest.here;

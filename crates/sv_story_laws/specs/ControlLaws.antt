@@ -1,7 +1,6 @@
-use Rattle.std.specs.Prelude.{◌≡◌, ◌↔◌, ◌⊎◌, ℕ, List, ◌∷◌, ◌++◌, All, Contains, Some, None, IsTrue, IsSome, length}
+use Rattle.std.specs.Prelude.{◌≡◌, ◌↔◌, ℕ, List, ◌∷◌, ◌++◌, All, Contains, Some, None, length}
 use Rattle.std.specs.Option.{IfSome}
-use Rattle.sv_access.specs.Access.{is_set}
-use Rattle.sv_access.specs.Control.{combined, has_element, in_view}
+use Rattle.sv_access.specs.Control.{combined, in_view}
 use Rattle.sv_access.specs.State.{vector_of_state}
 use Rattle.sv_access.specs.Story.{state_of_story}
 use Rattle.sv_access.specs.Table.{element_of, verdict_of, owners_of}

@@ -3,3 +3,4 @@ pub mod ControlLaws
 pub mod WaitLaws
 pub mod WorkLaws
 pub mod StepLaws
+pub mod AnswerLaws

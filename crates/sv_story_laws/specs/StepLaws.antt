@@ -1,6 +1,7 @@
 -- Which entries may follow: what a user may do, and what an auxiliary does.
-use Rattle.std.specs.Prelude.{◌≡◌, ◌||◌, ℕ, List, Bool, true, false, not, Option, Some, None, IsTrue}
+use Rattle.std.specs.Prelude.{◌≡◌, ◌||◌, ℕ, List, false, not, Option, Some, None, IsTrue}
 use Rattle.apl_arrays.specs.Array.{PlainArray}
+use Rattle.sv_events.specs.Entry.{PlainEntry}
 use Rattle.sv_events.specs.Work.{act_of}
 use Rattle.sv_events.specs.declared.event.Act.{Act}
 use Rattle.sv_events.specs.declared.event.Act.TheVariants.{Leave}
@@ -30,6 +31,12 @@ abbrev pub RetriesMayFollow : Type 0
 RetriesMayFollow =
     (users : List ℕ) (journal : Entries) (party : ℕ) (act : Act) → IsPresent users journal party → awaited journal party ≡ Some act →
     is_full journal ≡ false → is_still_held users journal party ≡ false → MayFollow users journal (entry_for journal party act)
+
+-- and where it is still held no entry of this act may follow
+abbrev pub HeldRetriesMayNotFollow : Type 0
+HeldRetriesMayNotFollow =
+    (users : List ℕ) (journal : Entries) (e : PlainEntry) → awaited journal e.party ≡ Some e.act → IsTrue (is_still_held users journal e.party) →
+    ¬ MayFollow users journal e
 
 -- no auxiliary leaves
 abbrev pub AuxiliariesDoNotLeave : Type 0

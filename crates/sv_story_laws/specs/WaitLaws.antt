@@ -1,6 +1,6 @@
-use Rattle.std.specs.Prelude.{◌≡◌, ◌<◌, ◌↔◌, ◌⊎◌, ℕ, List, ◌∷◌, ◌++◌, false, not, All, Contains, Some, None, IsTrue, is_some}
+use Rattle.std.specs.Prelude.{◌≡◌, ◌↔◌, ◌⊎◌, ℕ, List, ◌∷◌, ◌++◌, false, not, All, Contains, Some, None, IsTrue, is_some}
 use Rattle.apl_arrays.specs.Parties.{clock_party, text_party}
-use Rattle.sv_events.specs.Answer.{PlainAnswer, held, abandoned, not_shared}
+use Rattle.sv_events.specs.Answer.{held, abandoned}
 use Rattle.sv_events.specs.Entry.{PlainEntry}
 use Rattle.sv_events.specs.Row.{act_row}
 use Rattle.sv_events.specs.declared.event.Act.{Act}

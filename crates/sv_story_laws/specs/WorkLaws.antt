@@ -1,18 +1,20 @@
-use Rattle.std.specs.Prelude.{◌≡◌, ◌<◌, ◌≤◌, ◌↔◌, ℕ, Bool, List, ◌∷◌, ◌++◌, not, All, Contains, Some, None, IsTrue, length}
+use Rattle.std.specs.Prelude.{◌≡◌, ◌<◌, ◌≤◌, ◌↔◌, ℕ, Bool, List, ◌∷◌, ◌++◌, not, All, Contains, Option, Some, None, IsTrue, length, unwrap_or}
+use Rattle.apl_arrays.specs.Array.{PlainArray}
 use Rattle.apl_arrays.specs.Ascending.{Ascend}
-use Rattle.sv_access.specs.Access.{other_side}
-use Rattle.sv_access.specs.Story.{is_unseen}
-use Rattle.sv_events.specs.Answer.{PlainAnswer, value}
+use Rattle.apl_arrays.specs.Limits.{most_offers}
+use Rattle.apl_arrays.specs.Parties.{clock_party, text_party}
 use Rattle.sv_events.specs.Entry.{PlainEntry}
-use Rattle.sv_events.specs.declared.event.Act.TheVariants.{SetControl, Set, Use}
+use Rattle.sv_events.specs.Work.{counter_name}
+use Rattle.sv_events.specs.declared.event.Act.TheVariants.{Offer}
+use Rattle.sv_events.specs.declared.work.Work.{Work}
 use Rattle.sv_events.specs.declared.work.Work.TheVariants as work
-use Rattle.sv_rules.specs.Control.{control_on, side_at}
+use Rattle.sv_rules.specs.Control.{control_on}
 use Rattle.sv_rules.specs.Coupling.{couplings, coupling_now, is_coupled, open_to}
-use Rattle.sv_rules.specs.Entries.{Entries, since, is_full}
-use Rattle.sv_rules.specs.Questions.{parties_to, names_to}
+use Rattle.sv_rules.specs.Entries.{Entries, next_place, since, is_full}
+use Rattle.sv_rules.specs.Legal.{IsLegal}
+use Rattle.sv_rules.specs.Questions.{parties_to}
 use Rattle.sv_rules.specs.Standing.{standing, offer_count}
-use Rattle.sv_rules.specs.Story.{story}
-use Rattle.sv_rules.specs.Work.{first_coupled, first_open, lacks_control, owes_reply, has_unseen, most_counters, to_counter, tries, gets_value, work_of}
+use Rattle.sv_rules.specs.Work.{is_auxiliary, first_coupled, first_open, lacks_control, owes_reply, has_unseen, to_counter, tries, gets_value, work_due, work_of}
 use Rattle.sv_rules.specs.declared.coupling.Coupling.{Coupling}
 use Rattle.sv_rules.specs.declared.standing.Standing.{Standing}
 
@@ -46,6 +48,32 @@ FirstCoupledIsLowest =
     (first_coupled journal holds party ≡ Some offer) ↔
     IsLowest (standing journal) (IsOwnCoupled journal party (λ offer coupling. IsTrue (holds offer coupling))) offer
 
+-- the auxiliary may have one offer more: the text files where none of theirs stands, the clock where fewer than 64 do
+pub record MayCounter (journal : Entries) (party : ℕ) : Type 0 where
+  pub text : party ≡ text_party → offer_count (standing journal) party ≡ 0
+  pub clock : party ≡ clock_party → offer_count (standing journal) party < most_offers
+
+-- the offer is open and made to the auxiliary by its number, which may have one more
+pub record IsToCounter (journal : Entries) (party : ℕ) (offer : Standing) : Type 0 where
+  pub open_still : IsTrue (not (is_coupled (couplings journal) offer.place))
+  pub made_to : offer.to ≡ party
+  pub room : MayCounter journal party
+
+-- the offer that an auxiliary is to counter is the one of the lowest place
+abbrev pub FirstToCounterIsLowest : Type 0
+FirstToCounterIsLowest =
+    (journal : Entries) (party : ℕ) (offer : Standing) → IsTrue (is_auxiliary party) →
+    (to_counter journal party ≡ Some offer) ↔ IsLowest (standing journal) (IsToCounter journal party) offer
+
+-- each offer of an auxiliary in a legal journal counters this one: it is made to its party, under its surrogate, by the
+-- local name of its own place, and hands in no value
+abbrev pub CountersAreMadeToTheLowest : Type 0
+CountersAreMadeToTheLowest =
+    (users : List ℕ) (journal : Entries) (e : PlainEntry) → IsLegal users (e ∷ journal) → IsTrue (is_auxiliary e.party) →
+    (to : ℕ) (local surrogate : List ℕ) (handed : Option PlainArray) → e.act ≡ Offer to local surrogate handed →
+    (countered : Standing) × IsLowest (standing journal) (IsToCounter journal e.party) countered × (to ≡ countered.party)
+    × (surrogate ≡ countered.surrogate) × (local ≡ counter_name (next_place journal)) × (handed ≡ None)
+
 -- an offer lacks a control where no entry since the coupling is one of its party on its local name
 abbrev pub ControlIsLackingSinceTheCoupling : Type 0
 ControlIsLackingSinceTheCoupling =
@@ -67,6 +95,49 @@ SinceAreTheNewest = (before later : Entries) → since (length before) (later ++
 -- there is no work where the journal is full
 abbrev pub FullJournalsLeaveNoWork : Type 0
 FullJournalsLeaveNoWork = (journal : Entries) (party : ℕ) → IsTrue (is_full journal) → work_of journal party ≡ work.Idle
+
+-- this holds of no standing offer
+abbrev pub HoldsOfNone : Entries → (Standing → Type 0) → Type 0
+HoldsOfNone journal holds = (offer : Standing) → Contains (standing journal) offer → ¬ holds offer
+
+-- the party's offer is coupled, and it lacks a control, owes a reply, or has not seen a set of the partner
+abbrev pub LacksControl : Entries → ℕ → Standing → Type 0
+LacksControl journal party = IsOwnCoupled journal party (λ offer coupling. IsTrue (lacks_control journal offer coupling))
+
+abbrev pub OwesReply : Entries → ℕ → Standing → Type 0
+OwesReply journal party = IsOwnCoupled journal party (λ offer coupling. IsTrue (owes_reply journal offer coupling))
+
+abbrev pub HasUnseen : Entries → ℕ → Standing → Type 0
+HasUnseen journal party = IsOwnCoupled journal party (λ offer coupling. IsTrue (has_unseen journal offer coupling))
+
+-- the work is the first kind that applies, for the offer of the lowest place, where none of the kinds before applies: an
+-- open offer is retracted, a control set, a reply made, an offer countered, a set of the partner used
+pub record IsFirstThatApplies (journal : Entries) (party : ℕ) (due : Option Work) : Type 0 where
+  pub retract : (offer : Standing) → IsLowest (standing journal) (IsOwnOpen journal party) offer → due ≡ Some (work.Retract offer.local)
+  pub control :
+      HoldsOfNone journal (IsOwnOpen journal party) →
+      (offer : Standing) → IsLowest (standing journal) (LacksControl journal party) offer → due ≡ Some (work.Control offer.local)
+  pub reply :
+      HoldsOfNone journal (IsOwnOpen journal party) → HoldsOfNone journal (LacksControl journal party) →
+      (offer : Standing) → IsLowest (standing journal) (OwesReply journal party) offer → due ≡ Some (work.Reply offer.local)
+  pub counter :
+      HoldsOfNone journal (IsOwnOpen journal party) → HoldsOfNone journal (LacksControl journal party) → HoldsOfNone journal (OwesReply journal party) →
+      (offer : Standing) → IsLowest (standing journal) (IsToCounter journal party) offer → due ≡ Some (work.Counter offer.party offer.surrogate)
+  pub use_set :
+      HoldsOfNone journal (IsOwnOpen journal party) → HoldsOfNone journal (LacksControl journal party) → HoldsOfNone journal (OwesReply journal party) →
+      HoldsOfNone journal (IsToCounter journal party) →
+      (offer : Standing) → IsLowest (standing journal) (HasUnseen journal party) offer → due ≡ Some (work.Use offer.local)
+  pub none :
+      HoldsOfNone journal (IsOwnOpen journal party) → HoldsOfNone journal (LacksControl journal party) → HoldsOfNone journal (OwesReply journal party) →
+      HoldsOfNone journal (IsToCounter journal party) → HoldsOfNone journal (HasUnseen journal party) → due ≡ None
+
+-- the work that is due to an auxiliary is so
+abbrev pub WorkIsTheFirstThatApplies : Type 0
+WorkIsTheFirstThatApplies = (journal : Entries) (party : ℕ) → IsTrue (is_auxiliary party) → IsFirstThatApplies journal party (work_due journal party)
+
+-- and it is its work while the journal has room
+abbrev pub WorkIsWhatIsDue : Type 0
+WorkIsWhatIsDue = (journal : Entries) (party : ℕ) → IsTrue (not (is_full journal)) → work_of journal party ≡ unwrap_or (work_due journal party) work.Idle
 
 -- the parties that a question tells ascend, each once, and are those with open offers made by number
 pub record TellsParties (journal : Entries) (party : ℕ) : Type 0 where

@@ -1,9 +1,9 @@
 ghost use Rattle.std.specs.Prelude.{◌≡◌};
 ghost use Rattle.sv_story_laws.specs.ControlLaws.{ControlOfACoupledOfferIsTheJointOne, ControlsAreSetByTheParty, VectorIsTheLastControl, VectorIsNoneAtFirst, StateVectorsAreOfTheStory, HoldsAreThoseOfTheTable, HoldsOfOpenOffersAreMine, ControlOfAnOpenOfferIsItsVector};
-ghost use Rattle.sv_story_laws.specs.StepLaws.{StepsMayFollow, LeavesMayFollow, RetriesMayFollow, AuxiliariesDoNotLeave, WorkMayFollow};
+ghost use Rattle.sv_story_laws.specs.StepLaws.{StepsMayFollow, LeavesMayFollow, RetriesMayFollow, HeldRetriesMayNotFollow, AuxiliariesDoNotLeave, WorkMayFollow};
 ghost use Rattle.sv_story_laws.specs.StoryLaws.{AccessesAreSetsAndUses, KnownIsTheLastAccess, KnownIsHandedIn, SidesAreOffers, OpeningIsKnownAndAccesses, GiverKnows, StoryIsOpeningAndAccesses, FullIsByEntriesOrElements, OffersOpenWhereCouplingsEnd, OpenOffersTellWhatIsKnown, UsesGetWhatTheyFind, StoriesBeginWithTheGivers};
 ghost use Rattle.sv_story_laws.specs.WaitLaws.{AuxiliariesAreNeverRefused, HoldsAreGivenOrGivenUp, WaitsForTheLast, NothingIsRefusedWithoutControl, OnlyUsersLeave, StuckIsWhereNobodyCanGoOn, WaitersActAgainOrLeave};
-ghost use Rattle.sv_story_laws.specs.WorkLaws.{FirstOpenIsLowest, FirstCoupledIsLowest, ControlIsLackingSinceTheCoupling, RepliesAreOwedToUses, SinceAreTheNewest, FullJournalsLeaveNoWork, QuestionsTellParties};
+ghost use Rattle.sv_story_laws.specs.WorkLaws.{FirstOpenIsLowest, FirstCoupledIsLowest, FirstToCounterIsLowest, CountersAreMadeToTheLowest, WorkIsTheFirstThatApplies, WorkIsWhatIsDue, ControlIsLackingSinceTheCoupling, RepliesAreOwedToUses, SinceAreTheNewest, FullJournalsLeaveNoWork, QuestionsTellParties};
 
 /// The law of known values and stories, for every journal: what an access is, which one tells the known value, that an
 /// offer's story since it opened is the value known then and the accesses since, and that a coupling's is the giver's
@@ -57,25 +57,31 @@ pub fn wait_law()
     ensures auxiliaries { AuxiliariesAreNeverRefused }
 {}
 
-/// The law of work, for every journal: that the first offers are those of the lowest place, which ones want a control or a
-/// reply, which entries follow a coupling, that a full journal leaves no work, and which parties a question tells. The call
-/// does nothing.
+/// The law of work, for every journal: that the first offers are those of the lowest place, which ones want a control, a
+/// reply or a counter-offer, which entries follow a coupling, that the work is the first kind that applies, that a full
+/// journal leaves none, and which parties a question tells; and in a legal journal, how offers are countered. The call does
+/// nothing.
 pub fn work_law()
     ensures opened { FirstOpenIsLowest }
     ensures coupled { FirstCoupledIsLowest }
+    ensures to_counter { FirstToCounterIsLowest }
+    ensures counters { CountersAreMadeToTheLowest }
     ensures lacking { ControlIsLackingSinceTheCoupling }
     ensures owed { RepliesAreOwedToUses }
     ensures since { SinceAreTheNewest }
+    ensures first { WorkIsTheFirstThatApplies }
+    ensures due { WorkIsWhatIsDue }
     ensures full { FullJournalsLeaveNoWork }
     ensures parties { QuestionsTellParties }
 {}
 
-/// The law of steps: which entry of a user may follow a journal, and after a legal one which of an auxiliary. The call does
-/// nothing.
+/// The law of steps: which entry of a user may follow a journal, that none may of an act that is still held, and after a
+/// legal journal which of an auxiliary. The call does nothing.
 pub fn step_law()
     ensures steps { StepsMayFollow }
     ensures leaves { LeavesMayFollow }
     ensures retries { RetriesMayFollow }
+    ensures held { HeldRetriesMayNotFollow }
     ensures stay { AuxiliariesDoNotLeave }
     ensures work { WorkMayFollow }
 {}

@@ -1,4 +1,4 @@
-use Rattle.sv_story_laws.proofs.StepLemmas.{steps_may_follow, leaves_may_follow, retries_may_follow, auxiliaries_do_not_leave, work_may_follow}
+use Rattle.sv_story_laws.proofs.StepLemmas.{steps_may_follow, leaves_may_follow, retries_may_follow, held_retries_may_not_follow, auxiliaries_do_not_leave, work_may_follow}
 use Rattle.sv_story_laws.proofs.laws.step_law.Goals as goal
 
 pub returns-clause-steps : goal.returns-clause-steps
@@ -9,6 +9,9 @@ returns-clause-leaves c = leaves_may_follow
 
 pub returns-clause-retries : goal.returns-clause-retries
 returns-clause-retries c = retries_may_follow
+
+pub returns-clause-held : goal.returns-clause-held
+returns-clause-held c = held_retries_may_not_follow
 
 pub returns-clause-stay : goal.returns-clause-stay
 returns-clause-stay c = auxiliaries_do_not_leave

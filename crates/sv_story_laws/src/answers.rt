@@ -1,0 +1,13 @@
+ghost use Rattle.sv_story_laws.specs.AnswerLaws.{GrantedExactlyWhereTheTableAllows, RefusedByTheElementNamed, NotSharedExactlyWithoutAnOffer, OfferLimitExactlyPastTheLimit, UsesGetWhatIsThere, NoValueExactlyWhereNoneIsThere};
+
+/// The law of answers, in a legal journal: that a set or a use of a name that stands is granted exactly where the access
+/// table over the plain story refuses nothing, and else refused by the element of the table; where an act is answered
+/// NotShared, OfferLimit and NoValue; and which value a use gets. The call does nothing.
+pub fn answer_law()
+    ensures granted { GrantedExactlyWhereTheTableAllows }
+    ensures refused { RefusedByTheElementNamed }
+    ensures not_shared { NotSharedExactlyWithoutAnOffer }
+    ensures limit { OfferLimitExactlyPastTheLimit }
+    ensures gets { UsesGetWhatIsThere }
+    ensures no_value { NoValueExactlyWhereNoneIsThere }
+{}
