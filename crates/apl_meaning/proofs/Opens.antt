@@ -16,7 +16,7 @@ use Rattle.apl_selection.specs.Indexing.{selection_of}
 use Rattle.apl_workspace.specs.Function.{PlainFunction}
 use Rattle.apl_workspace.specs.Limits.{most_depth, most_printed}
 use Rattle.apl_workspace.specs.Meaning.{is_shared_meaning}
-use Rattle.apl_workspace.specs.Workspace.{PlainWorkspace, assigned, global_in, is_shared, look, marked, with_frame, with_printed, without_frame}
+use Rattle.apl_workspace.specs.Workspace.{PlainWorkspace, assigned, global_in, is_shared, look, marked, with_frame, with_printed}
 use Rattle.apl_workspace.specs.declared.args.Args.{Args}
 use Rattle.apl_workspace.specs.declared.meaning.Meaning.{Meaning}
 use Rattle.apl_workspace.specs.declared.meaning.Meaning.TheVariants as meaning

@@ -1,5 +1,5 @@
 -- Primitive functions and operators: the one door, and what is counted at it.
-use Rattle.std.specs.Prelude.{◌+◌, ◌&&◌, ◌||◌, ℤ, Bool, true, false, Option, Some, None, Result, Ok, Err, is_none, is_some, not, pos, slice_index_or, if◌then◌else◌}
+use Rattle.std.specs.Prelude.{◌+◌, ◌&&◌, ◌||◌, ℤ, Bool, true, false, Option, Result, Ok, Err, is_none, is_some, not, pos, slice_index_or, if◌then◌else◌}
 use Rattle.apl_arrays.specs.Array.{PlainArray, PlainItems, numbers, chars}
 use Rattle.apl_arrays.specs.declared.report.Report.{Report}
 use Rattle.apl_arrays.specs.declared.report.Report.TheVariants.{Domain, Length, Syntax}

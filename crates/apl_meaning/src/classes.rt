@@ -15,7 +15,6 @@ use std::alloc::Global;
 pub fn classes_of(alloc: Global, ws: &Workspace) -> Result<Classes, WantOfMemory>
     ensures { IfOk result (λ classes. classes.items ≡ classes_of ws.now) }
 {
-    let _ = ws.weight();
     let names = ws.all_names()?;
     classes_among(alloc, ws, names.as_slice())
 }

@@ -1,5 +1,5 @@
 //! The two limits of INTERRUPT, and what is counted.
-ghost use Rattle.std.specs.Prelude.{◌≡◌, [], ◌∷◌, codes, length};
+ghost use Rattle.std.specs.Prelude.{◌≡◌, [], ◌∷◌, codes};
 ghost use Rattle.apl_workspace.specs.Workspace.{empty_workspace, with_printed};
 ghost use Rattle.apl_meaning.specs.Worked.{counted_on, defining, printed_on, texts, account_of};
 

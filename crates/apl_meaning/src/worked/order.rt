@@ -1,7 +1,7 @@
 //! The order of evaluation, seen by the acts that shared names ask.
-ghost use Rattle.std.specs.Prelude.{◌≡◌, [], ◌∷◌, None, Some, codes, pos};
+ghost use Rattle.std.specs.Prelude.{◌≡◌, [], ◌∷◌, None, codes, pos};
 ghost use Rattle.apl_arrays.specs.Array.{number_array};
-ghost use Rattle.apl_workspace.specs.Workspace.{PlainWorkspace, empty_workspace};
+ghost use Rattle.apl_workspace.specs.Workspace.{empty_workspace};
 ghost use Rattle.sv_events.specs.Answer.{granted, value};
 ghost use Rattle.sv_events.specs.declared.event.Act.TheVariants as act;
 ghost use Rattle.apl_meaning.specs.Worked.{asked_on, defining, number, printed_on, sharing, sharing_all, texts, vector};

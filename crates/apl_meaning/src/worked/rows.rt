@@ -1,5 +1,5 @@
 //! Users of worked bundles: what each prints and asks, with the answers that the bundle's journal gives it.
-ghost use Rattle.std.specs.Prelude.{◌≡◌, [], ◌∷◌, None, Some, false, negsuc, pos, true, codes};
+ghost use Rattle.std.specs.Prelude.{◌≡◌, [], ◌∷◌, None, Some, false, negsuc, true, codes};
 ghost use Rattle.apl_arrays.specs.Array.{scalar};
 ghost use Rattle.apl_workspace.specs.Workspace.{empty_workspace};
 ghost use Rattle.sv_access.specs.Control.{four_elements};

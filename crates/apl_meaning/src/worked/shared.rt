@@ -1,6 +1,5 @@
 //! What an answer does to the line and to the own copy of a shared name.
-ghost use Rattle.std.specs.Prelude.{◌≡◌, [], ◌∷◌, None, Some, codes, pos};
-ghost use Rattle.apl_arrays.specs.Array.{number_array};
+ghost use Rattle.std.specs.Prelude.{◌≡◌, [], ◌∷◌, None, Some, codes};
 ghost use Rattle.apl_workspace.specs.Workspace.{empty_workspace};
 ghost use Rattle.sv_access.specs.declared.verdict.Owners.TheVariants.{Partner};
 ghost use Rattle.sv_events.specs.Answer.{abandoned, full, granted, no_value, not_shared, value};

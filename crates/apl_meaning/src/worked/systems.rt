@@ -2,7 +2,7 @@
 ghost use Rattle.std.specs.Prelude.{◌≡◌, [], ◌∷◌, None, Some, false, true, codes};
 ghost use Rattle.apl_workspace.specs.Workspace.{empty_workspace};
 ghost use Rattle.sv_access.specs.Control.{four_elements};
-ghost use Rattle.sv_events.specs.Answer.{PlainAnswer, degree, full, granted, kept, names, not_shared, offer_limit, parties, value, vector as vector_answer};
+ghost use Rattle.sv_events.specs.Answer.{degree, full, granted, kept, names, not_shared, offer_limit, parties, value, vector as vector_answer};
 ghost use Rattle.sv_events.specs.declared.event.Act.TheVariants as act;
 ghost use Rattle.apl_meaning.specs.Worked.{asked_on, counted_on, defining, number, printed_by, printed_on, sharing, sharing_all, texts, account_of};
 
