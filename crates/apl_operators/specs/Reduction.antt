@@ -15,7 +15,7 @@ joined join (Some a) (Some b) = join a b
 joined join (Some a) None = None
 joined join None b = None
 
--- the reduction of an item and of so many after it, from the right: b1 f (b2 f (.. bn))
+-- the reduction of an item and of so many after it: the item joined with what those after it give
 abbrev pub reduction : {T : Type 0} → (T → T → Option T) → (ℕ → Option T) → ℕ → ℕ → Option T
 reduction join item from zero = item from
 reduction join item from (suc more) = joined join (item from) (reduction join item (from + 1) more)

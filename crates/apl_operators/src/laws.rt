@@ -84,7 +84,8 @@ pub fn inner_products_reduce_pairs()
     ensures no_identity { inner_product_of Dyad.Nor Dyad.Plus (record { shape = 0 ∷ []; items = numbers [] }) (record { shape = 0 ∷ []; items = numbers [] }) ≡ Err Report.Domain }
 {}
 
-/// The k-th item of a scan of a vector is the reduction of its first k items. The call does nothing. No memory.
+/// At each of its places a scan of a vector has what a reduction gives of the vector cut off behind that place. The call
+/// does nothing. No memory.
 #[tactic(auto, using(crate::proofs::ScanLaws::scan_item))]
 pub fn each_item_of_a_scan_is_a_reduction()
     ensures { (f : Dyad) (list : List ℤ) (k : ℕ) (r : PlainArray) → k < length list → scan_of f (number_array (length list ∷ []) list) Way.Last None ≡ Ok r

@@ -49,7 +49,7 @@ transposed_by axes b =
     let shape = diagonal_shape axes b.shape in
     moved shape b.items (λ place. Some (place_of b.shape (coordinates_by axes (coordinates_of shape place))))
 
--- what is wrong with A: one number for each axis of B, and these are exactly 1 to some number
+-- what is wrong with A: it has a number for each axis of B, and they name the axes of the result, without a gap
 abbrev pub axes_by_faults : PlainArray → PlainArray → Faults
 axes_by_faults a b =
     let numbers = numbers_in a.items in record no_faults {
@@ -58,6 +58,6 @@ axes_by_faults a b =
       bad_domain = is_chars a.items || list_any (λ number. lacks_axis (length b.shape) (Some number)) numbers || leaves_gap (axes_named numbers);
     }
 
--- B with axis i as axis A[i] of the result, which has no more elements than B
+-- B with its axes where A puts them; the result has no more elements than B
 abbrev pub transpose_by_of : PlainArray → PlainArray → Answer
 transpose_by_of a b = answer_of (axes_by_faults a b) (transposed_by (axes_named (numbers_in a.items)) b)

@@ -11,9 +11,9 @@ use apl_items::{Axes, lacks_axis, moved_by_axes, room_for};
 use apl_selection::{filled, length_of, strides_of};
 use std::alloc::Global;
 
-/// B with its axes where A puts them, the i-th at A[i]; axes that come to one place run on together up to the shortest.
-/// RANK where A is of rank over 1, else LENGTH where it has not one number for each axis of B, else DOMAIN where these
-/// are not exactly 1 to some number. Where there is no report it takes memory for a shape, for strides and for the items.
+/// B with its axes where A puts them; axes that come to one place run on together up to the shortest. RANK where A is of
+/// rank over 1, else LENGTH where it has not one number for each axis of B, else DOMAIN where these do not name the axes
+/// of the result, without a gap. Where there is no report it takes memory for a shape, for strides and for the items.
 pub fn transpose_by(alloc: Global, a: &Array, b: &Array) -> Result<Array, Fail>
     ensures answer { Answers result (transpose_by_of a.now b.now) }
     ensures memory { OnWantOfMemory result (first_report (axes_by_faults a.now b.now) ≡ None) }

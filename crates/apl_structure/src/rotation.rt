@@ -9,8 +9,8 @@ use apl_items::{Along, axis_of, is_single, lacks_axis};
 use apl_selection::length_of;
 use std::alloc::Global;
 
-/// An array whose lines along an axis, the last or the first where none is named, are turned: an item comes from as many
-/// places on as A says, cyclically; a scalar is unchanged. RANK where A has not one element and its rank is not one less
+/// An array whose lines along an axis, the last or the first where none is named, are turned: A says how many items go from
+/// the front of a line to its end; a scalar is unchanged. RANK where A has not one element and its rank is not one less
 /// than B's, else LENGTH where its shape is not B's without the axis, else DOMAIN where it is of characters, else INDEX
 /// where the axis is not from 1 to the rank. Where there is no report it takes memory for the items, and for a number for
 /// each line.
