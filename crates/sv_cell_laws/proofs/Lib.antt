@@ -6,3 +6,4 @@ pub mod QuietSteps
 pub mod OpenSteps
 pub mod EndSteps
 pub mod EndJournal
+pub mod JoinSteps

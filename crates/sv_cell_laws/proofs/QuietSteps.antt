@@ -25,7 +25,8 @@ use Rattle.sv_events.specs.declared.row.Question.{Question}
 use Rattle.sv_rules.specs.Control.{control_on, control_to}
 use Rattle.sv_rules.specs.Coupling.{both_stand, coupling_now, couplings, degree_at, made_in, open_match}
 use Rattle.apl_arrays.specs.Name.{same_name}
-use Rattle.sv_rules.specs.Entries.{Entries, next_place, kind_of, is_degree}
+use Rattle.sv_events.specs.Fits.{is_degree}
+use Rattle.sv_rules.specs.Entries.{Entries, next_place, kind_of}
 use Rattle.sv_rules.specs.Legal.{IsLegal, MayFollow, entry_for}
 use Rattle.sv_rules.specs.Outcome.{Outcome, outcome, answer_only, joined_to, offer_outcome, new_offer, retraction_outcome, access_answer, unless_refused, refusal_answer, granted_answer, value_answer, value_for}
 use Rattle.sv_rules.specs.Refused.{hold_of, hold_on, waits}

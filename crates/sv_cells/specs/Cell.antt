@@ -3,7 +3,7 @@ use Rattle.apl_arrays.specs.Array.{PlainArray}
 use Rattle.sv_access.specs.Control.{four_elements}
 use Rattle.sv_access.specs.declared.access.Side.{Side}
 use Rattle.sv_access.specs.declared.control.Control.{Control}
-use Rattle.sv_story.specs.Share.{PlainShare, after_get, after_set, share_of, shared_value}
+use Rattle.sv_story.specs.Share.{PlainShare, after_get, after_set, shared_value}
 use Rattle.sv_cells.specs.declared.cell.Cell.{Cell}
 use Rattle.sv_cells.specs.declared.cell.Held.{Held}
 use Rattle.sv_cells.specs.declared.cell.Held.TheVariants.{Alone, Shared, Lent}

@@ -9,7 +9,7 @@ use Rattle.sv_cells.specs.Cells.{PutsAt, cell_at}
 use Rattle.sv_cells.specs.declared.cell.Cell.{Cell}
 use Rattle.sv_cells.specs.declared.cells.Cells.{Cells}
 use Rattle.sv_cell_laws.specs.Ends.{CellsIn, FitsIn, IsTable, Joins, MayPart, Parts, coupled_without, ends_one, taken_now, unless_ended}
-use Rattle.sv_cell_laws.proofs.EndJournal.{cells_join, pair_coupling}
+use Rattle.sv_cell_laws.proofs.JoinSteps.{cells_join, pair_coupling}
 use Rattle.sv_cell_laws.proofs.EndSteps.{cells_alike, cells_part, list_any-more, parts_none}
 use Rattle.sv_events.specs.declared.entry.Pair.{Pair}
 use Rattle.sv_events.specs.declared.row.Ending.{Ending}

@@ -25,7 +25,8 @@ use Rattle.sv_offer_laws.proofs.Members.{find_passed}
 use Rattle.sv_offer_laws.proofs.NowLemmas.{none_now}
 use Rattle.sv_offer_laws.proofs.OwnLemmas.{own_offer-parts}
 use Rattle.sv_rules.specs.Coupling.{coupling_now, couplings, is_coupled, is_open_match, open_match, pair_of}
-use Rattle.sv_rules.specs.Entries.{Entries, next_place, is_degree, is_leave, kind_of}
+use Rattle.sv_events.specs.Fits.{is_degree}
+use Rattle.sv_rules.specs.Entries.{Entries, next_place, is_leave, kind_of}
 use Rattle.sv_rules.specs.Legal.{IsLegal, MayFollow, entry_for}
 use Rattle.sv_rules.specs.Outcome.{Outcome, outcome, answer_only, joined_to, new_offer, offer_outcome}
 use Rattle.sv_rules.specs.Standing.{is_match, standing, own_offer, offer_count, with_offer}

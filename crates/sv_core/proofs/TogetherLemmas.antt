@@ -11,7 +11,8 @@ use Rattle.sv_cells.specs.Cells.{cell_at}
 use Rattle.sv_cells.specs.declared.cells.Cells.{Cells}
 use Rattle.sv_cell_laws.specs.Ends.{CellsIn, FitsIn, IsTable, coupled_without, taken_now}
 use Rattle.sv_cell_laws.specs.Fits.{FitCells}
-use Rattle.sv_cell_laws.proofs.EndJournal.{cells_end, cells_later_in, left_is, none_taken, table_is, without_is_older}
+use Rattle.sv_cell_laws.proofs.EndJournal.{cells_later_in, left_is, table_is, without_is_older}
+use Rattle.sv_cell_laws.proofs.JoinSteps.{cells_end, none_taken}
 use Rattle.sv_cell_laws.proofs.TouchSteps.{one_place}
 use Rattle.sv_offers.specs.Table.{PlainOffers, pairs_made}
 use Rattle.sv_offer_laws.proofs.EndingLemmas.{endings_reopen_one_of_a_pair, made_of_ending}

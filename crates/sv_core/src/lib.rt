@@ -9,6 +9,8 @@ mod leaves;
 mod opening;
 mod processor;
 mod telling;
+#[cfg(test)]
+mod tests;
 mod updating;
 mod working;
 

@@ -7,15 +7,11 @@ use Rattle.line_text.specs.Lines.{line_feed}
 use Rattle.sv_access.specs.declared.verdict.Owners.TheVariants.{Mine, Partner, Both}
 use Rattle.sv_access.specs.Control.{four_elements}
 use Rattle.sv_events.specs.Answer.{PlainAnswer, degree, granted, value, no_value, held, abandoned, not_shared, offer_limit, full, vector, parties, names, kept, done}
-use Rattle.sv_events.specs.Entry.{PlainEntry}
+use Rattle.sv_events.specs.Entry.{PlainEntry, uncoupled}
 use Rattle.sv_events.specs.declared.event.Act.{Act}
 use Rattle.sv_events.specs.declared.event.Act.TheVariants.{Offer, Retract, SetControl, AskControl, AskState, AskDegree, AskParties, AskNames, Set, Use, Leave}
 use Rattle.sv_events.specs.declared.entry.Pair.{Pair}
 use Rattle.sv_journal.specs.Output.{PlainTranscript}
-
--- an entry that couples nothing
-abbrev pub uncoupled : ℕ → Act → PlainAnswer → PlainEntry
-uncoupled party act answer = record { party = party; act = act; answer = answer; made = [] }
 
 -- two users share X: one hands in 3 and sets 4, the other uses it
 abbrev pub plain_path_entries : List PlainEntry

@@ -3,7 +3,6 @@
 
 mod log;
 mod member;
-mod weight;
 
 pub use log::Log;
 pub use member::Member;

@@ -7,12 +7,11 @@ ghost use Rattle.sv_rules.specs.Journal.{journal_of};
 ghost use Rattle.sv_rules.specs.Legal.{is_user};
 
 use crate::member::{Member, Members, members_of, note};
-use crate::weight::capped_weight;
 use apl_arrays::WantOfMemory;
 use std::alloc::Global;
 use std::marker::Model;
 use sv_events::{Entry, Journal};
-use sv_rules::{ENTRY_LIMIT, HELD_LIMIT, is_held, is_leave};
+use sv_rules::{ENTRY_LIMIT, HELD_LIMIT, capped_weight, is_held, is_leave};
 
 /// The journal of some users, and what is kept of it.
 #[derive(Drop)]

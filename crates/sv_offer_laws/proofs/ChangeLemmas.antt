@@ -1,5 +1,5 @@
 -- What an entry that may follow a journal changes.
-use Rattle.std.proofs.Common.{◌≡◌, refl, ap, ◌∙◌, ℕ, ◌<◌, true, cond, leb, List, [], ◌∷◌, ◌++◌, map, Option, Some, None, inl, inr}
+use Rattle.std.proofs.Common.{◌≡◌, refl, ap, ℕ, ◌<◌, true, cond, leb, List, [], ◌∷◌, ◌++◌, map, Option, Some, None, inl, inr}
 use Rattle.std.specs.Prelude.{is_none}
 use Rattle.std.proofs.lemmas.Bool.{cases_Bool, leb-false}
 use Rattle.sv_events.specs.Answer.{PlainAnswer, offer_limit}
@@ -16,7 +16,8 @@ use Rattle.sv_events.specs.declared.row.Opening.{Opening}
 use Rattle.sv_events.specs.declared.row.Question.{Question}
 use Rattle.sv_rules.specs.declared.standing.Standing.{Standing}
 use Rattle.sv_rules.specs.declared.coupling.Made.{Made}
-use Rattle.sv_rules.specs.Entries.{Entries, next_place, kind_of, is_degree}
+use Rattle.sv_events.specs.Fits.{is_degree}
+use Rattle.sv_rules.specs.Entries.{Entries, next_place, kind_of}
 use Rattle.sv_rules.specs.Standing.{standing, standing_after, is_own, own_offer, offer_count, offer_made, with_offer, without_ended}
 use Rattle.sv_rules.specs.Coupling.{couplings, open_match, pair_of, made_by_ending}
 use Rattle.sv_rules.specs.Outcome.{outcome, outcome_of_row, retraction_outcome, offer_outcome, new_offer, joined_to}

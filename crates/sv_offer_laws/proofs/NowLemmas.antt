@@ -1,9 +1,8 @@
 -- The coupling of an offer, now and before the newest entry.
-use Rattle.std.proofs.Common.{◌≡◌, refl, sym, ap, ◌∙◌, subst, ℕ, ◌+◌, ◌<◌, ◌≤◌, Bool, true, false, ◌&&◌, ◌||◌, cond, eqb, List, [], ◌∷◌, ◌++◌, length, Option, Some, None, inl, inr, arith}
-use Rattle.std.specs.Prelude.{Contains, All, AllPairs, filter, find, count_by, is_some, option_and_then, option_map}
+use Rattle.std.proofs.Common.{◌≡◌, refl, sym, ap, ◌∙◌, ℕ, ◌≤◌, Bool, true, false, cond, eqb, List, [], ◌∷◌, length, Option, Some, None, inl, inr, arith}
+use Rattle.std.specs.Prelude.{Contains, find, count_by, is_some, option_and_then, option_map}
 use Rattle.std.specs.List.{list_any}
-use Rattle.std.proofs.lemmas.Bool.{cases_Bool, and_parts, and_from, eq-eqb, eqb-true, or_left, or_right, or_cases, both_ways}
-use Rattle.std.proofs.lemmas.Option.{same_Some}
+use Rattle.std.proofs.lemmas.Bool.{and_from, eq-eqb, eqb-true, or_left, or_right, or_cases, both_ways}
 use Rattle.std.proofs.lemmas.List.Sums.{sum_by-cons}
 use Rattle.std.proofs.lemmas.List.Elements.{All-contains, Contains-append_cases}
 use Rattle.sv_events.specs.Entry.{PlainEntry}
@@ -12,13 +11,12 @@ use Rattle.sv_rules.specs.declared.coupling.Coupling.{Coupling}
 use Rattle.sv_rules.specs.declared.coupling.Made.{Made}
 use Rattle.sv_rules.specs.Entries.{Entries, next_place}
 use Rattle.sv_rules.specs.Standing.{standing}
-use Rattle.sv_rules.specs.Coupling.{made_in, stands_at, both_stand, couplings, has_place, is_coupled, offer_at, coupling_of, coupling_at, coupling_now}
+use Rattle.sv_rules.specs.Coupling.{made_in, stands_at, both_stand, couplings, has_place, is_coupled, offer_at, coupling_of, coupling_now}
 use Rattle.sv_rules.specs.Legal.{IsLegal}
-use Rattle.sv_offer_laws.specs.CouplingLaws.{IsCouplingOf, WasMade}
+use Rattle.sv_offer_laws.specs.CouplingLaws.{IsCouplingOf}
 use Rattle.sv_offer_laws.specs.LegalLaws.{IsInOrder, made_at}
-use Rattle.sv_offer_laws.proofs.Members.{Contains-head, Contains-behind, Contains-cons_cases, Contains-filter, find_passed, list_any_member}
-use Rattle.sv_offer_laws.proofs.PlaceLemmas.{ComesBefore, places_ascend, same_by_place}
-use Rattle.sv_offer_laws.proofs.RecoupledLemmas.{uses_of}
+use Rattle.sv_offer_laws.proofs.Members.{Contains-cons_cases, Contains-filter, find_passed, list_any_member}
+use Rattle.sv_offer_laws.proofs.PlaceLemmas.{places_ascend, same_by_place}
 use Rattle.sv_offer_laws.proofs.CouplingLemmas.{made_in-from_WasMade, WasMade-from_made_in, made_at_cases}
 use Rattle.sv_offer_laws.proofs.LegalLemmas.{IsSound-from_legal, stood_before}
 use Rattle.sv_offer_laws.proofs.LookupLemmas.{find_is, found_as_made, found_where_coupled}

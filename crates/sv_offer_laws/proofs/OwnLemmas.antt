@@ -1,19 +1,19 @@
 -- A party has one standing offer of a local name.
-use Rattle.std.proofs.Common.{◌≡◌, refl, sym, ap, ap₂, ◌∙◌, ℕ, Bool, true, false, ◌&&◌, not, eqb, List, [], ◌∷◌, ◌++◌, Option, Some, None, inl, inr}
+use Rattle.std.proofs.Common.{◌≡◌, refl, sym, ap, ap₂, ◌∙◌, ℕ, Bool, true, not, eqb, List, [], ◌∷◌, ◌++◌, Option, Some, None, inl, inr}
 use Rattle.std.specs.Prelude.{Contains, All, filter, find, is_none}
 use Rattle.std.proofs.lemmas.Bool.{cases_Bool, cond_both, and_parts, and_from, eq-eqb, eqb-true}
 use Rattle.std.proofs.lemmas.Cmp.{nat_list_eq_equiv}
 use Rattle.std.proofs.lemmas.Option.{same_Some}
 use Rattle.std.proofs.lemmas.List.Elements.{All-nil, All-push, All-filter, All-weaker, All-contains, filter_passes}
 use Rattle.std.proofs.lemmas.Slice.Eq.{bytes_eq-Decides}
-use Rattle.sv_events.specs.Entry.{PlainEntry}
 use Rattle.sv_events.specs.Row.{act_row}
 use Rattle.sv_events.specs.declared.row.AnswerKind.{AnswerKind}
 use Rattle.sv_events.specs.declared.row.Ending.{Ending}
 use Rattle.sv_events.specs.declared.row.Opening.{Opening}
 use Rattle.sv_rules.specs.declared.standing.Standing.{Standing}
 use Rattle.apl_arrays.specs.Name.{same_name}
-use Rattle.sv_rules.specs.Entries.{Entries, next_place, kind_of, is_degree}
+use Rattle.sv_events.specs.Fits.{is_degree}
+use Rattle.sv_rules.specs.Entries.{Entries, next_place, kind_of}
 use Rattle.sv_rules.specs.Standing.{standing, own_offer, with_offer, with_opened, with_ended, without_ended, is_ended, is_own, offer_made}
 use Rattle.sv_offer_laws.proofs.Members.{find_passed, All-both}
 

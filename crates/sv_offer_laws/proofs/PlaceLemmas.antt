@@ -1,5 +1,5 @@
 -- The places of the standing offers.
-use Rattle.std.proofs.Common.{◌≡◌, refl, ℕ, ◌<◌, ◌≤◌, not, eqb, List, [], ◌∷◌, ◌++◌, length, get_or, sym, ap, ◌∙◌, Option, Some, None, inl, inr, arith}
+use Rattle.std.proofs.Common.{◌≡◌, refl, ℕ, ◌<◌, ◌≤◌, not, List, [], ◌∷◌, ◌++◌, length, get_or, sym, ap, ◌∙◌, Option, Some, None, inl, inr, arith}
 use Rattle.std.specs.Prelude.{Contains, All, AllPairs, is_none, option_map}
 use Rattle.std.proofs.lemmas.Bool.{cond_both, cases_order}
 use Rattle.std.proofs.lemmas.List.{get_or_default}
@@ -13,7 +13,8 @@ use Rattle.sv_events.specs.declared.row.AnswerKind.{AnswerKind}
 use Rattle.sv_events.specs.declared.row.Ending.{Ending}
 use Rattle.sv_events.specs.declared.row.Opening.{Opening}
 use Rattle.sv_rules.specs.declared.standing.Standing.{Standing}
-use Rattle.sv_rules.specs.Entries.{Entries, next_place, kind_of, is_degree}
+use Rattle.sv_events.specs.Fits.{is_degree}
+use Rattle.sv_rules.specs.Entries.{Entries, next_place, kind_of}
 use Rattle.sv_rules.specs.Standing.{standing, standing_after, with_opened, with_ended, own_offer, with_offer, offer_made, is_ended}
 use Rattle.sv_offer_laws.specs.StandingLaws.{offer_of}
 

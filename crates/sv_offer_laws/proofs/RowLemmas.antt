@@ -1,5 +1,5 @@
 -- An act does one thing.
-use Rattle.std.proofs.Common.{◌≡◌, refl, sym, ap, ◌∙◌, ℕ, List, Some, None}
+use Rattle.std.proofs.Common.{◌≡◌, refl, ap, ℕ, List, Some, None}
 use Rattle.std.proofs.lemmas.Option.{same_Some, none-some}
 use Rattle.sv_events.specs.Row.{act_row}
 use Rattle.sv_events.specs.declared.event.Act.{Act}

@@ -13,7 +13,8 @@ use Rattle.sv_events.specs.declared.row.Ending.TheVariants.{One, All}
 use Rattle.sv_events.specs.declared.row.Opening.{Opening}
 use Rattle.sv_rules.specs.declared.standing.Standing.{Standing}
 use Rattle.apl_arrays.specs.Name.{same_name}
-use Rattle.sv_rules.specs.Entries.{Entries, next_place, kind_of, is_degree}
+use Rattle.sv_events.specs.Fits.{is_degree}
+use Rattle.sv_rules.specs.Entries.{Entries, next_place, kind_of}
 use Rattle.sv_rules.specs.Standing.{standing, own_offer, with_offer, with_opened, with_ended, without_ended, is_ended, is_own, offer_made}
 use Rattle.sv_offer_laws.specs.StandingLaws.{offer_of, ends_name, ends_offer, StandsSince, Stands}
 use Rattle.sv_offer_laws.proofs.Members.{Contains-filter, Contains-from_filter, filter_passed}

@@ -7,7 +7,8 @@ use Rattle.sv_events.specs.declared.row.Ending.{Ending}
 use Rattle.sv_events.specs.declared.row.Ending.TheVariants.{One, All as AllOffers}
 use Rattle.sv_rules.specs.declared.standing.Standing.{Standing}
 use Rattle.apl_arrays.specs.Name.{same_name}
-use Rattle.sv_rules.specs.Entries.{Entries, next_place, kind_of, is_degree}
+use Rattle.sv_events.specs.Fits.{is_degree}
+use Rattle.sv_rules.specs.Entries.{Entries, next_place, kind_of}
 use Rattle.sv_rules.specs.Standing.{standing, own_offer, offer_made}
 
 -- the offer that an act of a party is at a place, where it is one

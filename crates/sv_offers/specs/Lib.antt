@@ -1,5 +1,4 @@
 pub mod Finding
 pub mod Inside
-pub mod Placing
 pub mod Shelf
 pub mod Table

@@ -2,7 +2,6 @@ use Rattle.std.specs.Prelude.{ℕ, Bool, ◌==◌, ◌&&◌, not, List, [], ◌�
 use Rattle.sv_events.specs.declared.entry.Pair.{Pair}
 use Rattle.sv_events.specs.declared.row.Ending.{Ending}
 use Rattle.sv_rules.specs.Coupling.{is_coupled, kept_by_ending, made_by_ending, open_match, pair_of}
-use Rattle.sv_rules.specs.Questions.{ascending}
 use Rattle.sv_rules.specs.Standing.{without_ended}
 use Rattle.sv_rules.specs.declared.coupling.Made.{Made}
 use Rattle.sv_rules.specs.declared.standing.Standing.{Standing}
@@ -45,11 +44,3 @@ is_open_to coupled party offer = offer.to == party && not (is_coupled coupled of
 -- the open offers made to a party by its number, by place
 abbrev pub open_among : PlainOffers → ℕ → List Standing
 open_among table party = filter (λ offer. offer.to == party) (filter (λ offer. not (is_coupled table.coupled offer.place)) table.offers)
-
--- the parties that have these offers, ascending, each once
-abbrev pub parties_of : List Standing → List ℕ
-parties_of offers = ascending (map (λ offer. offer.party) offers)
-
--- the surrogates of a party's among some offers, in their order
-abbrev pub surrogates_of : List Standing → ℕ → List (List ℕ)
-surrogates_of offers from = map (λ offer. offer.surrogate) (filter (λ offer. offer.party == from) offers)

@@ -1,4 +1,4 @@
-ghost use Rattle.std.specs.Prelude.{◌≡◌, ◌≤◌, ◌==◌, ℕ, [], IsSome, OnOk, is_some, nat_eq, vec_len, vec_capacity, if◌then◌else◌};
+ghost use Rattle.std.specs.Prelude.{◌≡◌, ◌==◌, ℕ, [], IsSome, OnOk, is_some, nat_eq, if◌then◌else◌};
 ghost use Rattle.std.specs.HashMap.{get};
 ghost use Rattle.sv_offers.specs.Shelf.{shelf_at};
 ghost use Rattle.sv_rules.specs.Standing.{without_ended};
@@ -7,7 +7,7 @@ use apl_arrays::WantOfMemory;
 use std::alloc::Global;
 use std::collections::HashMap;
 use sv_events::Ending;
-use sv_rules::{Standing, end_offer, end_offers};
+use sv_rules::{Standing, end_together};
 
 /// Offers in lists by a party: of a party without a list there are none.
 #[derive(Drop)]
@@ -87,21 +87,9 @@ impl Shelves {
     {
         if self.has(at) {
             let mut list = self.take(at);
-            end_together(&mut list, party, ending);
+            end_together(&mut list, party, *ending);
             self.put(at, list);
         }
-    }
-}
-
-/// Takes the offers out that an act of a party ends. No memory.
-pub fn end_together(offers: &mut Vec<Standing>, party: u32, ending: &Ending)
-    ensures items { offers.new.items ≡ without_ended offers.old.items party ending.now }
-    ensures len { vec_len offers.new ≤ vec_len offers.old }
-    ensures capacity { vec_capacity offers.new ≡ vec_capacity offers.old }
-{
-    match ending {
-        Ending::One(local) => end_offer(offers, party, local),
-        Ending::All => end_offers(offers, party),
     }
 }
 

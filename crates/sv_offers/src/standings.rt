@@ -7,13 +7,13 @@ ghost use Rattle.sv_rules.specs.Coupling.{offer_at};
 ghost use Rattle.sv_rules.specs.Standing.{offer_count, own_offer, without_ended};
 
 use crate::index::{Placed, find_places, note_place};
-use crate::shelves::{Shelves, end_together};
+use crate::shelves::Shelves;
 use apl_arrays::{Name, WantOfMemory};
 use std::alloc::Global;
 use std::collections::HashMap;
 use std::marker::Model;
 use sv_events::Ending;
-use sv_rules::{Standing, own_offer};
+use sv_rules::{Standing, end_together, own_offer};
 
 /// Offers by place, each found without going over those of others: by its party, by the party that it is made to, and by
 /// its place.
@@ -112,7 +112,7 @@ impl Standings {
         ensures { self.new ≡ without_ended self.old party ending.now }
     {
         end_in_both(&mut self.own, &mut self.made_to, party, ending);
-        end_together(&mut self.offers, party, ending);
+        end_together(&mut self.offers, party, *ending);
         find_places(&mut self.placed, &self.offers);
     }
 }
@@ -171,7 +171,7 @@ fn end_where_own(own: &mut Shelves, made_to: &mut Shelves, party: u32, ending: &
 {
     let mut mine = own.take(party);
     end_where_made(made_to, &mine, party, ending);
-    end_together(&mut mine, party, ending);
+    end_together(&mut mine, party, *ending);
     own.put(party, mine);
 }
 

@@ -1,10 +1,11 @@
 ghost use Rattle.std.specs.Prelude.{◌≡◌, ◌==◌, ◌+◌, ◌≤◌, [], ◌++◌, true, map, filter, find, length, IfOk, OnOk, OnErr, option_map};
-ghost use Rattle.sv_offers.specs.Table.{after_ending, after_offer, open_among, pairs_made, parties_of, surrogates_of};
+ghost use Rattle.sv_offers.specs.Table.{after_ending, after_offer, open_among, pairs_made};
+ghost use Rattle.sv_rules.specs.Questions.{parties_of, surrogates_of};
 ghost use Rattle.sv_rules.specs.Coupling.{coupling_at, degree_at, is_coupled, kept_by_ending, open_match, reopened_by_ending};
 ghost use Rattle.sv_rules.specs.Standing.{offer_count, own_offer};
 
 use crate::couplings::Couplings;
-use crate::listing::{first_to, names_of, open_to, parties_of};
+use crate::listing::{first_to, open_to};
 use crate::matching::{coupling_at, open_match};
 use crate::room::{join, keep_open, note_coupled, recouple};
 use crate::standings::Standings;
@@ -12,7 +13,7 @@ use apl_arrays::{Name, NameList, PartyList, WantOfMemory};
 use std::alloc::Global;
 use std::marker::Model;
 use sv_events::{Ending, PairList};
-use sv_rules::{Coupling, Standing};
+use sv_rules::{Coupling, Standing, names_of, parties_of};
 
 /// The offers that stand, by place, and the couplings, in the order in which they were made.
 #[derive(Drop)]

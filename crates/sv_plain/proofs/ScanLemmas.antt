@@ -1,5 +1,5 @@
 -- A scan from the newest entry back that has come to its end.
-use Rattle.std.proofs.Common.{◌≡◌, refl, sym, ◌∙◌, ℕ, ◌+◌, ◌≤◌, true, false, ltb, not, List, [], ◌∷◌, length, ap, arith}
+use Rattle.std.proofs.Common.{◌≡◌, refl, ℕ, ◌+◌, ◌≤◌, true, false, ltb, not, [], ◌∷◌, length, ap, arith}
 use Rattle.std.specs.Prelude.{find, is_some}
 use Rattle.std.specs.List.{list_any}
 use Rattle.std.specs.Option.{option_map_or}

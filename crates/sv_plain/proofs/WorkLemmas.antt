@@ -5,13 +5,11 @@ use Rattle.std.proofs.lemmas.List.{take-append-drop, take_more}
 use Rattle.std.proofs.lemmas.List.Folds.{find-append}
 use Rattle.std.specs.Prelude.{find, unwrap_or}
 use Rattle.std.specs.Option.{option_map_or}
-use Rattle.sv_events.specs.declared.work.Work.{Work}
 use Rattle.sv_events.specs.declared.work.Work.TheVariants.{Idle}
-use Rattle.sv_plain.specs.FirstWork.{first_work}
 use Rattle.sv_rules.specs.Coupling.{couplings, coupling_at, is_coupled}
 use Rattle.sv_rules.specs.Entries.{Entries}
 use Rattle.sv_rules.specs.Standing.{standing}
-use Rattle.sv_rules.specs.Work.{has_unseen, lacks_control, own_offers, owes_reply, to_counter, work_due}
+use Rattle.sv_rules.specs.Work.{first_work, has_unseen, lacks_control, own_offers, owes_reply, to_counter, work_due}
 use Rattle.sv_rules.specs.declared.coupling.Made.{Made}
 use Rattle.sv_rules.specs.declared.standing.Standing.{Standing}
 
@@ -22,7 +20,7 @@ pub work_by_offers : (journal : Entries) (party : ℕ) (offers : List Standing) 
     owing ≡ find (λ offer. option_map_or (owes_reply journal offer) (coupling_at offers coupled offer.place) false) own →
     waiting ≡ to_counter journal party →
     unseen ≡ find (λ offer. option_map_or (has_unseen journal offer) (coupling_at offers coupled offer.place) false) own →
-    first_work open' lacking owing waiting unseen ≡ unwrap_or (work_due journal party) Idle
+    unwrap_or (first_work open' lacking owing waiting unseen) Idle ≡ unwrap_or (work_due journal party) Idle
 work_by_offers journal party offers coupled own open' lacking owing waiting unseen stand now mine is_open is_lacking is_owing is_waiting is_unseen =
     rw (is_open, is_lacking, is_owing, is_waiting, is_unseen, stand, now, mine) refl
 

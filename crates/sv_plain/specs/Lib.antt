@@ -1,6 +1,4 @@
-pub mod FirstWork
 pub mod PlainOutcome
-pub mod Placing
 pub mod SetOf
 pub mod Told
 pub mod Worked

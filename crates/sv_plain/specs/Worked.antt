@@ -1,11 +1,11 @@
 -- How worked journals are written: with the oldest entry first.
-use Rattle.std.specs.Prelude.{ℕ, ◌==◌, Bool, true, false, pos, List, [], ◌∷◌, ◌++◌, reverse, codes, Option, Some, None, if◌then◌else◌}
-use Rattle.apl_arrays.specs.Array.{PlainArray, scalar, numbers, chars}
+use Rattle.std.specs.Prelude.{ℕ, ◌==◌, pos, List, [], ◌∷◌, reverse, codes, Option, if◌then◌else◌}
+use Rattle.apl_arrays.specs.Array.{PlainArray, scalar}
 use Rattle.sv_access.specs.Control.{four_elements}
 use Rattle.sv_access.specs.declared.control.Control.{Control}
 use Rattle.sv_access.specs.declared.verdict.Owners.{Owners}
-use Rattle.sv_events.specs.Answer.{PlainAnswer, degree, value, held, abandoned, vector, done}
-use Rattle.sv_events.specs.Entry.{PlainEntry}
+use Rattle.sv_events.specs.Answer.{PlainAnswer, degree, value, held, abandoned, done}
+use Rattle.sv_events.specs.Entry.{PlainEntry, uncoupled}
 use Rattle.sv_events.specs.declared.entry.Pair.{Pair}
 use Rattle.sv_events.specs.declared.event.Act.{Act}
 use Rattle.sv_events.specs.declared.event.Act.TheVariants.{Offer, Set, Use, Leave}
@@ -30,10 +30,6 @@ number n = scalar (pos n)
 abbrev pub bits : ℕ → ℕ → ℕ → ℕ → Control
 bits a b c d = four_elements (a == 1) (b == 1) (c == 1) (d == 1)
 
--- an entry that couples nothing
-abbrev pub lone : ℕ → Act → PlainAnswer → PlainEntry
-lone party act answer = record { party = party; act = act; answer = answer; made = [] }
-
 -- one pair
 abbrev pub pair : ℕ → ℕ → List Pair
 pair a b = record { a = a; b = b } ∷ []
@@ -52,13 +48,13 @@ offer_x to handed = Offer to x x handed
 
 -- a set and a use of X, and a leave
 abbrev pub set_x : ℕ → ℕ → PlainAnswer → PlainEntry
-set_x party n answer = lone party (Set x (number n)) answer
+set_x party n answer = uncoupled party (Set x (number n)) answer
 
 abbrev pub use_x : ℕ → PlainAnswer → PlainEntry
-use_x party answer = lone party (Use x) answer
+use_x party answer = uncoupled party (Use x) answer
 
 abbrev pub left : ℕ → PlainEntry
-left party = lone party Leave done
+left party = uncoupled party Leave done
 
 -- a value, a hold, and a hold that is given up
 abbrev pub got : ℕ → PlainAnswer
@@ -73,7 +69,7 @@ gives_up element owners = abandoned (record { element = element; owners = owners
 -- two users share X: the end differs
 abbrev pub shared_x : Option PlainArray → Option PlainArray → List PlainEntry → Entries
 shared_x first second entries =
-    reverse (lone 1001 (offer_x 1002 first) (degree 1) ∷ joining 1002 (offer_x 1001 second) (degree 2) 1 2 ∷ entries)
+    reverse (uncoupled 1001 (offer_x 1002 first) (degree 1) ∷ joining 1002 (offer_x 1001 second) (degree 2) 1 2 ∷ entries)
 
 -- the journal with another answer at a place
 abbrev pub with_answer : ℕ → PlainAnswer → Entries → Entries

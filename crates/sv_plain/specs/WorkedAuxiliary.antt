@@ -1,12 +1,12 @@
 -- Worked journals of the text files and the clock, written with the oldest entry first.
-use Rattle.std.specs.Prelude.{ℕ, List, [], ◌∷◌, ◌++◌, reverse, codes, negsuc, length, None, Some}
+use Rattle.std.specs.Prelude.{ℕ, List, [], ◌∷◌, reverse, codes, negsuc, length, None}
 use Rattle.apl_arrays.specs.Array.{PlainArray, scalar, chars}
-use Rattle.sv_access.specs.declared.verdict.Owners.TheVariants.{Mine, Both}
-use Rattle.sv_events.specs.Answer.{PlainAnswer, degree, granted, value, vector, kept, done}
-use Rattle.sv_events.specs.Entry.{PlainEntry}
-use Rattle.sv_events.specs.declared.event.Act.TheVariants.{Offer, Retract, SetControl, Set, Use, Leave}
+use Rattle.sv_access.specs.declared.verdict.Owners.TheVariants.{Both}
+use Rattle.sv_events.specs.Answer.{degree, granted, value, vector, kept}
+use Rattle.sv_events.specs.Entry.{PlainEntry, uncoupled}
+use Rattle.sv_events.specs.declared.event.Act.TheVariants.{Offer, Retract, SetControl, Set, Use}
 use Rattle.sv_rules.specs.Entries.{Entries}
-use Rattle.sv_plain.specs.Worked.{number, bits, lone, joining, x, offer_x, set_x, use_x, left, got, holds}
+use Rattle.sv_plain.specs.Worked.{number, bits, joining, x, offer_x, set_x, use_x, left, got, holds}
 
 -- characters as a value
 abbrev pub text : List ℕ → PlainArray
@@ -18,64 +18,64 @@ s2 = codes "S2"
 
 -- the clock sets S2
 abbrev pub set_s2 : PlainArray → PlainEntry
-set_s2 new = lone 10 (Set s2 new) granted
+set_s2 new = uncoupled 10 (Set s2 new) granted
 
 -- 1001 offers X to an auxiliary, which counters and sets its control: the rest differs
 abbrev pub countered : ℕ → List PlainEntry → Entries
 countered aux entries =
     reverse
-    (lone 1001 (offer_x aux None) (degree 1) ∷ joining aux (Offer 1001 s2 x None) (degree 2) 1 2
-    ∷ lone 1001 (SetControl x (bits 1 1 1 1)) (vector (bits 1 1 1 1)) ∷ lone aux (SetControl s2 (bits 1 1 1 1)) (vector (bits 1 1 1 1))
+    (uncoupled 1001 (offer_x aux None) (degree 1) ∷ joining aux (Offer 1001 s2 x None) (degree 2) 1 2
+    ∷ uncoupled 1001 (SetControl x (bits 1 1 1 1)) (vector (bits 1 1 1 1)) ∷ uncoupled aux (SetControl s2 (bits 1 1 1 1)) (vector (bits 1 1 1 1))
     ∷ entries)
 
 -- a command is answered
 abbrev pub text_files_answer : PlainArray → Entries
 text_files_answer reply =
     countered 20
-    (lone 1001 (Set x (text (codes "READ GONE"))) granted ∷ lone 20 (Use s2) (value (text (codes "READ GONE")))
-    ∷ use_x 1001 (holds 3 Both) ∷ lone 20 (Set s2 reply) granted ∷ use_x 1001 (value reply) ∷ left 1001 ∷ [])
+    (uncoupled 1001 (Set x (text (codes "READ GONE"))) granted ∷ uncoupled 20 (Use s2) (value (text (codes "READ GONE")))
+    ∷ use_x 1001 (holds 3 Both) ∷ uncoupled 20 (Set s2 reply) granted ∷ use_x 1001 (value reply) ∷ left 1001 ∷ [])
 
 -- a reading of the clock, none as there are no more, and none as 7 asks for nothing
 abbrev pub clock_answers : Entries
 clock_answers =
     countered 10
-    (set_x 1001 0 granted ∷ lone 10 (Use s2) (got 0) ∷ use_x 1001 (holds 3 Both) ∷ set_s2 (number 100) ∷ use_x 1001 (got 100)
-    ∷ set_x 1001 0 granted ∷ lone 10 (Use s2) (got 0) ∷ use_x 1001 (holds 3 Both) ∷ set_s2 (scalar (negsuc 1))
+    (set_x 1001 0 granted ∷ uncoupled 10 (Use s2) (got 0) ∷ use_x 1001 (holds 3 Both) ∷ set_s2 (number 100) ∷ use_x 1001 (got 100)
+    ∷ set_x 1001 0 granted ∷ uncoupled 10 (Use s2) (got 0) ∷ use_x 1001 (holds 3 Both) ∷ set_s2 (scalar (negsuc 1))
     ∷ use_x 1001 (value (scalar (negsuc 1)))
-    ∷ set_x 1001 7 granted ∷ lone 10 (Use s2) (got 7) ∷ use_x 1001 (holds 3 Both) ∷ set_s2 (scalar (negsuc 0))
+    ∷ set_x 1001 7 granted ∷ uncoupled 10 (Use s2) (got 7) ∷ use_x 1001 (holds 3 Both) ∷ set_s2 (scalar (negsuc 0))
     ∷ use_x 1001 (value (scalar (negsuc 0))) ∷ left 1001 ∷ [])
 
 -- once its partner has left, the auxiliary takes its offer back
 abbrev pub counter_offer_taken_back : Entries
-counter_offer_taken_back = countered 10 (left 1001 ∷ lone 10 (Retract s2) (kept 1 None) ∷ [])
+counter_offer_taken_back = countered 10 (left 1001 ∷ uncoupled 10 (Retract s2) (kept 1 None) ∷ [])
 
 -- an auxiliary's control is set once
 abbrev pub second_control : Entries
-second_control = countered 20 (lone 20 (SetControl s2 (bits 1 1 1 1)) (vector (bits 1 1 1 1)) ∷ [])
+second_control = countered 20 (uncoupled 20 (SetControl s2 (bits 1 1 1 1)) (vector (bits 1 1 1 1)) ∷ [])
 
 -- it uses a value that it has seen
 abbrev pub use_of_a_seen_value : Entries
-use_of_a_seen_value = countered 10 (set_x 1001 0 granted ∷ lone 10 (Use s2) (got 0) ∷ lone 10 (Use s2) (got 0) ∷ [])
+use_of_a_seen_value = countered 10 (set_x 1001 0 granted ∷ uncoupled 10 (Use s2) (got 0) ∷ uncoupled 10 (Use s2) (got 0) ∷ [])
 
 -- it replies twice
 abbrev pub second_reply : Entries
 second_reply =
     countered 10
-    (set_x 1001 0 granted ∷ lone 10 (Use s2) (got 0) ∷ lone 10 (Set s2 (number 100)) granted ∷ lone 10 (Set s2 (number 101)) granted ∷ [])
+    (set_x 1001 0 granted ∷ uncoupled 10 (Use s2) (got 0) ∷ uncoupled 10 (Set s2 (number 100)) granted ∷ uncoupled 10 (Set s2 (number 101)) granted ∷ [])
 
 -- the counter-offer to the offer made to the text files couples with an older general offer of the same user with the
 -- same surrogate; the offer that it was meant for stays open
 abbrev pub counter_couples_with_an_older_one : Entries
 counter_couples_with_an_older_one =
     reverse
-    (lone 1001 (Offer 0 (codes "A") x None) (degree 1) ∷ lone 1001 (Offer 20 (codes "B") x None) (degree 1)
+    (uncoupled 1001 (Offer 0 (codes "A") x None) (degree 1) ∷ uncoupled 1001 (Offer 20 (codes "B") x None) (degree 1)
     ∷ joining 20 (Offer 1001 (codes "S3") x None) (degree 2) 1 3
-    ∷ lone 20 (SetControl (codes "S3") (bits 1 1 1 1)) (vector (bits 1 1 1 1)) ∷ [])
+    ∷ uncoupled 20 (SetControl (codes "S3") (bits 1 1 1 1)) (vector (bits 1 1 1 1)) ∷ [])
 
 -- the text files have one offer at a time, and the clock more
 abbrev pub second_counter : ℕ → Entries
 second_counter aux =
     reverse
-    (lone 1001 (Offer aux (codes "A") (codes "A") None) (degree 1) ∷ joining aux (Offer 1001 (codes "S2") (codes "A") None) (degree 2) 1 2
-    ∷ lone aux (SetControl (codes "S2") (bits 1 1 1 1)) (vector (bits 1 1 1 1)) ∷ lone 1001 (Offer aux (codes "B") (codes "B") None) (degree 1)
+    (uncoupled 1001 (Offer aux (codes "A") (codes "A") None) (degree 1) ∷ joining aux (Offer 1001 (codes "S2") (codes "A") None) (degree 2) 1 2
+    ∷ uncoupled aux (SetControl (codes "S2") (bits 1 1 1 1)) (vector (bits 1 1 1 1)) ∷ uncoupled 1001 (Offer aux (codes "B") (codes "B") None) (degree 1)
     ∷ joining aux (Offer 1001 (codes "S5") (codes "B") None) (degree 2) 4 5 ∷ [])

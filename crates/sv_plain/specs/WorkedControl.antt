@@ -1,16 +1,16 @@
 -- Worked journals of control, written with the oldest entry first.
-use Rattle.std.specs.Prelude.{ℕ, List, [], ◌∷◌, reverse, codes, Some, None}
+use Rattle.std.specs.Prelude.{ℕ, [], ◌∷◌, reverse, None}
 use Rattle.sv_access.specs.declared.control.Control.{Control}
-use Rattle.sv_access.specs.declared.verdict.Owners.TheVariants.{Mine, Partner, Both}
+use Rattle.sv_access.specs.declared.verdict.Owners.TheVariants.{Mine, Partner}
 use Rattle.sv_events.specs.Answer.{PlainAnswer, degree, granted, vector}
-use Rattle.sv_events.specs.Entry.{PlainEntry}
-use Rattle.sv_events.specs.declared.event.Act.TheVariants.{Offer, SetControl}
+use Rattle.sv_events.specs.Entry.{PlainEntry, uncoupled}
+use Rattle.sv_events.specs.declared.event.Act.TheVariants.{SetControl}
 use Rattle.sv_rules.specs.Entries.{Entries}
-use Rattle.sv_plain.specs.Worked.{number, bits, lone, joining, x, offer_x, set_x, use_x, left, got, holds, gives_up, shared_x}
+use Rattle.sv_plain.specs.Worked.{bits, joining, x, offer_x, set_x, use_x, left, got, holds, gives_up, shared_x}
 
 -- a control of X is set, and is in force
 abbrev pub control_x : ℕ → Control → Control → PlainEntry
-control_x party set in_force = lone party (SetControl x set) (vector in_force)
+control_x party set in_force = uncoupled party (SetControl x set) (vector in_force)
 
 -- 1001 controls its sets and the partner's uses: its second set is held until 1002 has used the first
 abbrev pub second_set_is_held : Entries
@@ -44,7 +44,7 @@ both_hold =
 abbrev pub second_set_before_a_partner : Entries
 second_set_before_a_partner =
     reverse
-    (lone 1001 (offer_x 1002 None) (degree 1) ∷ control_x 1001 (bits 1 0 0 0) (bits 1 0 0 0) ∷ set_x 1001 1 granted
+    (uncoupled 1001 (offer_x 1002 None) (degree 1) ∷ control_x 1001 (bits 1 0 0 0) (bits 1 0 0 0) ∷ set_x 1001 1 granted
     ∷ set_x 1001 2 (holds 1 Mine) ∷ joining 1002 (offer_x 1001 None) (degree 2) 1 5 ∷ use_x 1002 (got 1) ∷ set_x 1001 2 granted
     ∷ left 1002 ∷ left 1001 ∷ [])
 
@@ -68,4 +68,4 @@ acts_while_it_waits entry =
 
 -- the answers to a set under a control of set by me, and to one of a name without an offer
 abbrev pub set_without_an_offer : PlainAnswer → Entries
-set_without_an_offer answer = reverse (lone 1001 (SetControl x (bits 1 1 1 1)) answer ∷ [])
+set_without_an_offer answer = reverse (uncoupled 1001 (SetControl x (bits 1 1 1 1)) answer ∷ [])

@@ -3,28 +3,28 @@ use Rattle.std.specs.Prelude.{ℕ, ◌/◌, ◌%◌, nat_lt, List, [], ◌∷◌
 use Rattle.std.specs.List.{range_with_len}
 use Rattle.apl_arrays.specs.Glyph.{digit}
 use Rattle.sv_events.specs.Answer.{PlainAnswer, degree, done}
-use Rattle.sv_events.specs.Entry.{PlainEntry}
+use Rattle.sv_events.specs.Entry.{PlainEntry, uncoupled}
 use Rattle.sv_events.specs.declared.entry.Pair.{Pair}
 use Rattle.sv_events.specs.declared.event.Act.{Act}
 use Rattle.sv_events.specs.declared.event.Act.TheVariants.{Offer, Leave}
 use Rattle.sv_rules.specs.Entries.{Entries}
-use Rattle.sv_plain.specs.Worked.{number, lone, joining, x, offer_x, left}
+use Rattle.sv_plain.specs.Worked.{number, joining, x, offer_x, left}
 
 -- two users offer X to any
 abbrev pub two_general_offers : Entries
-two_general_offers = reverse (lone 1001 (offer_x 0 None) (degree 1) ∷ lone 1002 (offer_x 0 None) (degree 1) ∷ [])
+two_general_offers = reverse (uncoupled 1001 (offer_x 0 None) (degree 1) ∷ uncoupled 1002 (offer_x 0 None) (degree 1) ∷ [])
 
 -- 1001 and 1002 offer X to 1003, whose offer to any is coupled with the older one
 abbrev pub two_open_matches : Entries
 two_open_matches =
-    reverse (lone 1001 (offer_x 1003 None) (degree 1) ∷ lone 1002 (offer_x 1003 None) (degree 1) ∷ joining 1003 (offer_x 0 None) (degree 2) 1 3 ∷ [])
+    reverse (uncoupled 1001 (offer_x 1003 None) (degree 1) ∷ uncoupled 1002 (offer_x 1003 None) (degree 1) ∷ joining 1003 (offer_x 0 None) (degree 2) 1 3 ∷ [])
 
 -- an offer is made again while it is open, and while it is coupled
 abbrev pub offered_twice : Entries
 offered_twice =
     reverse
-    (lone 1001 (offer_x 1002 None) (degree 1) ∷ lone 1001 (offer_x 1002 (Some (number 5))) (degree 1)
-    ∷ joining 1002 (offer_x 1001 None) (degree 2) 1 3 ∷ lone 1001 (offer_x 0 None) (degree 2) ∷ [])
+    (uncoupled 1001 (offer_x 1002 None) (degree 1) ∷ uncoupled 1001 (offer_x 1002 (Some (number 5))) (degree 1)
+    ∷ joining 1002 (offer_x 1001 None) (degree 2) 1 3 ∷ uncoupled 1001 (offer_x 0 None) (degree 2) ∷ [])
 
 -- 1002 leaves two couplings, with 1001 and with 1003, whose offers to any stand again: the older is coupled with the
 -- offer that 1003 made to 1001, and then the other with the one that 1001 made to 1003
@@ -32,16 +32,16 @@ abbrev pub leave_of_two : List Pair → Entries
 leave_of_two made =
     let y = codes "Y" in
     reverse
-    (lone 1001 (offer_x 0 None) (degree 1) ∷ joining 1002 (offer_x 1001 None) (degree 2) 1 2 ∷ lone 1003 (Offer 0 y y None) (degree 1)
-    ∷ joining 1002 (Offer 1003 y y None) (degree 2) 3 4 ∷ lone 1003 (offer_x 1001 None) (degree 1)
-    ∷ lone 1001 (Offer 1003 (codes "Z") y None) (degree 1) ∷ record { party = 1002; act = Leave; answer = done; made = made } ∷ [])
+    (uncoupled 1001 (offer_x 0 None) (degree 1) ∷ joining 1002 (offer_x 1001 None) (degree 2) 1 2 ∷ uncoupled 1003 (Offer 0 y y None) (degree 1)
+    ∷ joining 1002 (Offer 1003 y y None) (degree 2) 3 4 ∷ uncoupled 1003 (offer_x 1001 None) (degree 1)
+    ∷ uncoupled 1001 (Offer 1003 (codes "Z") y None) (degree 1) ∷ record { party = 1002; act = Leave; answer = done; made = made } ∷ [])
 
 -- 1002's leave reopens the offer of 1001 to any, which two offers of 1003 match
 abbrev pub two_open_matches_left : Entries
 two_open_matches_left =
     reverse
-    (lone 1001 (offer_x 0 None) (degree 1) ∷ joining 1002 (offer_x 1001 None) (degree 2) 1 2 ∷ lone 1003 (offer_x 1001 None) (degree 1)
-    ∷ lone 1003 (Offer 1001 (codes "Y") x None) (degree 1) ∷ joining 1002 Leave done 1 3 ∷ [])
+    (uncoupled 1001 (offer_x 0 None) (degree 1) ∷ joining 1002 (offer_x 1001 None) (degree 2) 1 2 ∷ uncoupled 1003 (offer_x 1001 None) (degree 1)
+    ∷ uncoupled 1003 (Offer 1001 (codes "Y") x None) (degree 1) ∷ joining 1002 Leave done 1 3 ∷ [])
 
 -- A and a number in decimal
 abbrev pub numbered_name : ℕ → List ℕ
@@ -49,7 +49,7 @@ numbered_name n = codes "A" ++ (if nat_lt n 10 then digit n ∷ [] else digit (n
 
 -- an offer of such a name to 1002
 abbrev pub numbered_offer : ℕ → PlainAnswer → PlainEntry
-numbered_offer n answer = lone 1001 (Offer 1002 (numbered_name n) (numbered_name n) None) answer
+numbered_offer n answer = uncoupled 1001 (Offer 1002 (numbered_name n) (numbered_name n) None) answer
 
 -- 64 names are offered, and one more
 abbrev pub one_more_offer : PlainAnswer → Entries
@@ -61,4 +61,4 @@ last_of_64 answer = reverse (map (λ n. numbered_offer n (degree 1)) (range_with
 
 -- 1001 leaves, and then makes an entry
 abbrev pub back_again : Act → PlainAnswer → Entries
-back_again act answer = reverse (left 1001 ∷ lone 1001 act answer ∷ [])
+back_again act answer = reverse (left 1001 ∷ uncoupled 1001 act answer ∷ [])

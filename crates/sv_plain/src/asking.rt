@@ -1,17 +1,16 @@
-ghost use Rattle.std.specs.Prelude.{◌≡◌, ◌==◌, IfOk, map, filter, not};
+ghost use Rattle.std.specs.Prelude.{◌≡◌, ◌==◌, IfOk, filter, not};
 ghost use Rattle.sv_events.specs.Answer.{plain_answer};
-ghost use Rattle.sv_plain.specs.Placing.{GoesOver};
 ghost use Rattle.sv_rules.specs.Coupling.{couplings, is_coupled, open_to};
 ghost use Rattle.sv_rules.specs.Entries.{Entries};
 ghost use Rattle.sv_rules.specs.Journal.{journal_of};
-ghost use Rattle.sv_rules.specs.Questions.{answer_to_question, ascending, degree_of, with_number};
+ghost use Rattle.sv_rules.specs.Questions.{answer_to_question, degree_of};
 ghost use Rattle.sv_rules.specs.Standing.{standing};
 
 use crate::holding::{control_in_force, state_vector};
-use apl_arrays::{List, NameList, PartyList, WantOfMemory};
+use apl_arrays::WantOfMemory;
 use std::alloc::Global;
 use sv_events::{Answer, Entry, Question};
-use sv_rules::{Made, Standing, degree_at, is_coupled, own_offer};
+use sv_rules::{Made, Standing, degree_at, is_coupled, names_of, own_offer, parties_of};
 
 /// The degree of a name: 0 without an offer, 2 where it is coupled, else 1. No memory.
 pub fn degree_of(coupled: &[Made], own: Option<Standing>) -> u8
@@ -53,63 +52,6 @@ pub fn open_to(
     keep_open(&mut opened, coupled);
     keep_made_to(&mut opened, party);
     Ok(opened)
-}
-
-// One number of an ascending list, with a new one before it where that has its place there; whether the new one is placed.
-fn place_at(
-    numbers: &mut PartyList,
-    placed: bool,
-    new: u32,
-    number: u32,
-) -> Result<bool, WantOfMemory>
-    ensures { IfOk result (λ now. GoesOver numbers.old.items placed numbers.new.items now new number) }
-{
-    if !placed && new < number {
-        numbers.push(new)?;
-    }
-    numbers.push(number)?;
-    Ok(placed || new <= number)
-}
-
-// Ascending numbers with one more, each once.
-fn with_number(alloc: Global, new: u32, numbers: &[u32]) -> Result<PartyList, WantOfMemory>
-    ensures { IfOk result (λ list. list.items ≡ with_number new numbers.now) }
-{
-    let mut list = List::new(alloc);
-    let mut placed = false;
-    for number in numbers {
-        placed = place_at(&mut list, placed, new, *number)?;
-    }
-    if !placed {
-        list.push(new)?;
-    }
-    Ok(list)
-}
-
-// The parties of some offers, ascending, each once.
-fn parties_of(alloc: Global, offers: &[Standing]) -> Result<PartyList, WantOfMemory>
-    ensures { IfOk result (λ list. list.items ≡ ascending (map (λ offer. offer.party) offers.now)) }
-{
-    let mut list = List::new(alloc);
-    let mut left = offers.len();
-    while left > 0 {
-        left -= 1;
-        list = with_number(alloc, offers[left].party, list.as_slice())?;
-    }
-    Ok(list)
-}
-
-// The surrogates of a party's offers among some, in their order.
-fn names_of(alloc: Global, offers: &[Standing], from: u32) -> Result<NameList, WantOfMemory>
-    ensures { IfOk result (λ list. list.items ≡ map (λ offer. offer.surrogate) (filter (λ offer. offer.party == from) offers.now)) }
-{
-    let mut list = List::new(alloc);
-    for offer in offers {
-        if offer.party == from {
-            list.push(offer.surrogate)?;
-        }
-    }
-    Ok(list)
 }
 
 /// What a question of a party is answered. It takes memory for the answer, and for a state for the offers and the couplings

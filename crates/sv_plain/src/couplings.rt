@@ -3,11 +3,11 @@ ghost use Rattle.sv_rules.specs.Coupling.{made_in, couplings, reopened_among, re
 ghost use Rattle.sv_rules.specs.Journal.{journal_of};
 ghost use Rattle.sv_offer_laws.specs.LegalLaws.{made_at};
 
-use crate::offers::{end_together, standing_offers};
+use crate::offers::standing_offers;
 use apl_arrays::WantOfMemory;
 use std::alloc::Global;
 use sv_events::{Ending, Entry, Pair};
-use sv_rules::{Made, Standing, is_coupled, keep_couplings, rejoined};
+use sv_rules::{Made, Standing, end_together, is_coupled, keep_couplings, rejoined};
 
 fn push_made(made: &mut Vec<Made>, at: u64, pairs: &[Pair]) -> Result<(), WantOfMemory>
     ensures { IfOk result (λ _. made.new.items ≡ made.old.items ++ made_at at pairs.now) }

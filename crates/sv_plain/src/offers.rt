@@ -1,14 +1,15 @@
 ghost use Rattle.std.specs.Prelude.{◌≡◌, IfOk, if◌then◌else◌};
 ghost use Rattle.sv_events.specs.Answer.{plain_answer};
 ghost use Rattle.sv_events.specs.Row.{act_row};
-ghost use Rattle.sv_rules.specs.Entries.{kind_of, is_degree};
+ghost use Rattle.sv_events.specs.Fits.{is_degree};
+ghost use Rattle.sv_rules.specs.Entries.{kind_of};
 ghost use Rattle.sv_rules.specs.Journal.{journal_of};
-ghost use Rattle.sv_rules.specs.Standing.{standing, standing_after, with_ended, with_offer, with_opened, without_ended, offer_made};
+ghost use Rattle.sv_rules.specs.Standing.{standing, standing_after, with_ended, with_offer, with_opened, offer_made};
 
 use apl_arrays::WantOfMemory;
 use std::alloc::Global;
 use sv_events::{AnswerKind, Ending, Entry, Opening};
-use sv_rules::{Standing, end_offer, end_offers, is_degree, own_offer};
+use sv_rules::{Standing, end_together, is_degree, own_offer};
 
 /// The offer that an act of a party opens at a place. No memory.
 pub fn offer_made(place: u64, party: u32, opening: Opening) -> Standing
@@ -61,17 +62,7 @@ fn add_opened(
     }
 }
 
-/// Takes the offers out that an act of a party ends. No memory.
-pub fn end_together(offers: &mut Vec<Standing>, party: u32, ending: Ending)
-    ensures { offers.new.items ≡ without_ended offers.old.items party ending }
-{
-    match ending {
-        Ending::One(local) => end_offer(offers, party, &local),
-        Ending::All => end_offers(offers, party),
-    }
-}
-
-// The same, if the act ends any.
+// Takes the offers out that an act of a party ends, if it ends any.
 fn end(offers: &mut Vec<Standing>, party: u32, ends: Option<Ending>)
     ensures { offers.new.items ≡ with_ended offers.old.items party ends }
 {

@@ -3,12 +3,11 @@ ghost use Rattle.std.specs.Option.{option_map_or};
 ghost use Rattle.sv_access.specs.Access.{is_set, other_side};
 ghost use Rattle.sv_events.specs.Entry.{plain_entry};
 ghost use Rattle.sv_events.specs.declared.work.Work.TheVariants.{Idle};
-ghost use Rattle.sv_plain.specs.FirstWork.{first_work};
 ghost use Rattle.sv_plain.specs.Told.{is_unseen_by};
 ghost use Rattle.sv_rules.specs.Coupling.{couplings, coupling_at, is_coupled};
 ghost use Rattle.sv_rules.specs.Journal.{journal_of};
 ghost use Rattle.sv_rules.specs.Standing.{standing};
-ghost use Rattle.sv_rules.specs.Work.{gets_value, has_unseen, lacks_control, own_offers, owes_reply, to_counter, work_due, work_of};
+ghost use Rattle.sv_rules.specs.Work.{first_work, gets_value, has_unseen, lacks_control, own_offers, owes_reply, to_counter, work_due, work_of};
 
 use crate::asking::open_to;
 use crate::stories::story_state;
@@ -232,7 +231,7 @@ fn first_work(
     waiting: Option<Standing>,
     unseen: Option<Standing>,
 ) -> Work
-    ensures { result ≡ first_work opened lacking owing waiting unseen }
+    ensures { result ≡ unwrap_or (first_work opened lacking owing waiting unseen) Idle }
 {
     if let Some(offer) = opened {
         Work::Retract(offer.local)

@@ -1,11 +1,11 @@
 -- What the verdict by a state says of a hold over a story of that state.
-use Rattle.std.proofs.Common.{◌≡◌, refl, sym, ap, ◌∙◌, ℕ, Bool, true, false, ◌&&◌, cond, Option, Some, None}
+use Rattle.std.proofs.Common.{◌≡◌, refl, sym, ap, ◌∙◌, ℕ, Option, Some, None}
 use Rattle.std.specs.Prelude.{option_map}
 use Rattle.std.specs.Option.{option_map_or}
 use Rattle.apl_arrays.specs.Array.{PlainArray}
-use Rattle.sv_access.specs.Control.{combined, has_element}
-use Rattle.sv_access.specs.Story.{Story, is_early, refused_element, state_of_story, verdict_of_story}
-use Rattle.sv_access.specs.Table.{element_of, owners_of, verdict_of}
+use Rattle.sv_access.specs.Control.{combined}
+use Rattle.sv_access.specs.Story.{Story, refused_element, state_of_story}
+use Rattle.sv_access.specs.Table.{owners_of, verdict_of}
 use Rattle.sv_access.specs.declared.access.Kind.{Kind}
 use Rattle.sv_access.specs.declared.access.Side.{Side}
 use Rattle.sv_access.specs.declared.control.Control.{Control}
@@ -15,7 +15,6 @@ use Rattle.sv_access.specs.declared.verdict.Verdict.{Verdict}
 use Rattle.sv_access.specs.declared.verdict.Verdict.TheVariants.{Granted, Held}
 use Rattle.sv_access.proofs.StoryLemmas.{verdict_by_state}
 use Rattle.sv_events.specs.declared.event.Hold.{Hold}
-use Rattle.sv_rules.specs.Control.{Sharing}
 use Rattle.sv_rules.specs.Refused.{hold_under}
 
 -- the hold in a verdict

@@ -1,4 +1,4 @@
-use Rattle.std.specs.Prelude.{ℕ, Bool, false, ◌==◌, nat_lt, List, [], ◌∷◌, Option, Some, None, unwrap_or, if◌then◌else◌}
+use Rattle.std.specs.Prelude.{ℕ, false, ◌==◌, nat_lt, List, [], ◌∷◌, Option, Some, None, unwrap_or, if◌then◌else◌}
 use Rattle.apl_arrays.specs.Array.{PlainArray}
 use Rattle.sv_access.specs.Control.{combined, four_elements}
 use Rattle.sv_access.specs.Story.{Story, vector_of_story}

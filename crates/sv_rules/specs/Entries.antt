@@ -31,11 +31,7 @@ is_leave act = ends_all (act_row act).row.ends
 abbrev pub kind_of : PlainAnswer → AnswerKind
 kind_of given = (answer_row given).row.kind
 
--- a degree, a grant, a value, a hold
-abbrev pub is_degree : AnswerKind → Bool
-is_degree answer.Degree = true
-is_degree _ = false
-
+-- a grant, a value, a hold
 abbrev pub is_granted : AnswerKind → Bool
 is_granted answer.Granted = true
 is_granted _ = false

@@ -7,5 +7,6 @@ pub mod Control
 pub mod Refused
 pub mod Work
 pub mod Questions
+pub mod Placing
 pub mod Outcome
 pub mod Legal

@@ -1,6 +1,4 @@
 use Rattle.std.specs.Prelude.{ℕ, ◌==◌, nat_lt, List, [], ◌∷◌, map, filter, Option, Some, None, if◌then◌else◌}
-use Rattle.std.specs.List.{list_any}
-use Rattle.std.specs.Option.{option_map_or}
 use Rattle.sv_events.specs.Answer.{PlainAnswer, degree, vector, parties, names}
 use Rattle.sv_events.specs.declared.row.Question.{Question}
 use Rattle.sv_events.specs.declared.row.Question.TheVariants as question
@@ -27,13 +25,21 @@ abbrev pub ascending : List ℕ → List ℕ
 ascending [] = []
 ascending (number ∷ numbers) = with_number number (ascending numbers)
 
+-- the parties that have these offers, ascending, each once
+abbrev pub parties_of : List Standing → List ℕ
+parties_of offers = ascending (map (λ offer. offer.party) offers)
+
+-- the surrogates of a party's among some offers, in their order
+abbrev pub surrogates_of : List Standing → ℕ → List (List ℕ)
+surrogates_of offers from = map (λ offer. offer.surrogate) (filter (λ offer. offer.party == from) offers)
+
 -- the parties that have open offers to the party by its number, ascending
 abbrev pub parties_to : Entries → ℕ → List ℕ
-parties_to journal party = ascending (map (λ offer. offer.party) (open_to journal party))
+parties_to journal party = parties_of (open_to journal party)
 
 -- the surrogates of a party's open offers to another by its number, by place
 abbrev pub names_to : Entries → ℕ → ℕ → List (List ℕ)
-names_to journal from to = map (λ offer. offer.surrogate) (filter (λ offer. offer.party == from) (open_to journal to))
+names_to journal from to = surrogates_of (open_to journal to) from
 
 -- what a question of a party is answered
 abbrev pub answer_to_question : Entries → ℕ → Question → PlainAnswer

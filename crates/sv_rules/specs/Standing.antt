@@ -7,7 +7,8 @@ use Rattle.sv_events.specs.declared.row.Ending.{Ending}
 use Rattle.sv_events.specs.declared.row.Ending.TheVariants.{One, All}
 use Rattle.sv_rules.specs.declared.standing.Standing.{Standing}
 use Rattle.apl_arrays.specs.Name.{same_name}
-use Rattle.sv_rules.specs.Entries.{Entries, next_place, kind_of, is_degree}
+use Rattle.sv_events.specs.Fits.{is_degree}
+use Rattle.sv_rules.specs.Entries.{Entries, next_place, kind_of}
 
 -- the offer is the party's, of this local name
 abbrev pub is_own : ℕ → List ℕ → Standing → Bool

@@ -1,4 +1,4 @@
-use Rattle.std.specs.Prelude.{ℕ, Bool, true, false, ◌&&◌, ◌||◌, ◌==◌, not, nat_lt, List, filter, find, Option, Some, None, is_some, option_map, unwrap_or, if◌then◌else◌}
+use Rattle.std.specs.Prelude.{ℕ, Bool, true, false, ◌&&◌, ◌||◌, ◌==◌, not, nat_lt, List, filter, find, Option, is_some, option_map, unwrap_or, if◌then◌else◌}
 use Rattle.std.specs.List.{list_any, list_all}
 use Rattle.std.specs.Option.{option_map_or, option_or}
 use Rattle.apl_arrays.specs.Limits.{most_offers}
@@ -64,15 +64,21 @@ most_counters party = if party == text_party then 1 else most_offers
 abbrev pub to_counter : Entries → ℕ → Option Standing
 to_counter journal party = find (λ offer. nat_lt (offer_count (standing journal) party) (most_counters party)) (open_to journal party)
 
--- the first work that applies: an own open offer is retracted; an own coupled one gets a control; a value that was used
--- is answered; an offer is countered; a value that is unseen is used
+-- the first work that applies, by the offers that are found: an own open offer is retracted; an own coupled one that lacks
+-- a control gets one; one that owes a reply gets it; an offer that waits is countered; one with a value unseen is used
+abbrev pub first_work : Option Standing → Option Standing → Option Standing → Option Standing → Option Standing → Option Work
+first_work open' lacking owing waiting unseen =
+    option_or (option_map (λ offer. work.Retract offer.local) open')
+    (option_or (option_map (λ offer. work.Control offer.local) lacking)
+    (option_or (option_map (λ offer. work.Reply offer.local) owing)
+    (option_or (option_map (λ offer. work.Counter offer.party offer.surrogate) waiting)
+    (option_map (λ offer. work.Use offer.local) unseen))))
+
+-- the work that is due, if any is
 abbrev pub work_due : Entries → ℕ → Option Work
 work_due journal party =
-    option_or (option_map (λ offer. work.Retract offer.local) (first_open journal party))
-    (option_or (option_map (λ offer. work.Control offer.local) (first_coupled journal (lacks_control journal) party))
-    (option_or (option_map (λ offer. work.Reply offer.local) (first_coupled journal (owes_reply journal) party))
-    (option_or (option_map (λ offer. work.Counter offer.party offer.surrogate) (to_counter journal party))
-    (option_map (λ offer. work.Use offer.local) (first_coupled journal (has_unseen journal) party)))))
+    first_work (first_open journal party) (first_coupled journal (lacks_control journal) party)
+    (first_coupled journal (owes_reply journal) party) (to_counter journal party) (first_coupled journal (has_unseen journal) party)
 
 -- the work of an auxiliary: none where the journal is full
 abbrev pub work_of : Entries → ℕ → Work

@@ -1,5 +1,6 @@
 ghost use Rattle.std.specs.Prelude.{◌≡◌};
-ghost use Rattle.sv_rules.specs.Entries.{has_left, is_abandoned, is_degree, is_granted, is_held, is_leave, is_value};
+ghost use Rattle.sv_events.specs.Fits.{is_degree};
+ghost use Rattle.sv_rules.specs.Entries.{has_left, is_abandoned, is_granted, is_held, is_leave, is_value};
 ghost use Rattle.sv_rules.specs.Journal.{journal_of};
 
 use sv_events::{Act, AnswerKind, Ending, Entry};

@@ -1,7 +1,8 @@
 ghost use Rattle.std.specs.Prelude.{◌≡◌, ◌≤◌, vec_len, vec_capacity};
-ghost use Rattle.sv_rules.specs.Standing.{own_offer, offer_count, without_name, without_party, is_match};
+ghost use Rattle.sv_rules.specs.Standing.{own_offer, offer_count, without_ended, without_name, without_party, is_match};
 
 use apl_arrays::Name;
+use sv_events::Ending;
 
 /// A standing offer: the place of its entry, whose it is, to whom it is made (0: to any), and under which local name
 /// and which surrogate.
@@ -47,6 +48,18 @@ pub fn end_offer(offers: &mut Vec<Standing>, party: u32, local: &Name)
     ensures capacity { vec_capacity offers.new ≡ vec_capacity offers.old }
 {
     offers.retain(|offer| !(offer.party == party && offer.local == *local));
+}
+
+/// Takes the offers out that an act of a party ends. No memory.
+pub fn end_together(offers: &mut Vec<Standing>, party: u32, ending: Ending)
+    ensures items { offers.new.items ≡ without_ended offers.old.items party ending }
+    ensures len { vec_len offers.new ≤ vec_len offers.old }
+    ensures capacity { vec_capacity offers.new ≡ vec_capacity offers.old }
+{
+    match ending {
+        Ending::One(local) => end_offer(offers, party, &local),
+        Ending::All => end_offers(offers, party),
+    }
 }
 
 /// Whether two offers are of different parties under one surrogate, each made to the other's party or to any, and not

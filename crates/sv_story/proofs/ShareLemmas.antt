@@ -1,5 +1,5 @@
 -- The story of one side alone, and what a share makes of it.
-use Rattle.std.proofs.Common.{◌≡◌, ◌∷◌, [], Bool, true, false, All, Option, Some, None, refl, sym, ap, ◌∙◌, subst}
+use Rattle.std.proofs.Common.{◌≡◌, ◌∷◌, [], Bool, true, false, Option, Some, None, refl, sym, ap, ◌∙◌, subst}
 use Rattle.std.specs.Option.{is_some}
 use Rattle.std.proofs.lemmas.List.Elements.{All-head, All-tail}
 use Rattle.apl_arrays.specs.Array.{PlainArray}

@@ -17,12 +17,11 @@ use Rattle.sv_rules.specs.declared.coupling.Made.{Made}
 use Rattle.sv_rules.specs.Coupling.{couplings, coupling_now, open_match}
 use Rattle.sv_rules.specs.Entries.{Entries, next_place, kind_of, is_held, is_abandoned}
 use Rattle.sv_rules.specs.Legal.{IsLegal, IsStuckIf}
-use Rattle.sv_rules.specs.Outcome.{Outcome, outcome, answer_only, joined_to, new_offer, offer_outcome, retraction_outcome, control_answer, value_answer, value_for, granted_answer, refusal_answer, unless_refused, access_answer}
+use Rattle.sv_rules.specs.Outcome.{Outcome, outcome, answer_only, joined_to, offer_outcome, retraction_outcome, control_answer, value_answer, value_for, granted_answer, refusal_answer, unless_refused, access_answer}
 use Rattle.sv_rules.specs.Refused.{hold_on, refused, waits}
 use Rattle.sv_rules.specs.Standing.{standing, own_offer, offer_count, offer_made}
 use Rattle.sv_rules.specs.Story.{access_on}
 use Rattle.sv_offer_laws.proofs.OwnLemmas.{own_offer-is}
-use Rattle.sv_story_laws.specs.StoryLaws.{IsAccessOn}
 use Rattle.sv_story_laws.specs.WaitLaws.{IsHeldOrGivenUp}
 use Rattle.sv_story_laws.proofs.AccessLemmas.{IsAccessOn-from_access}
 

@@ -1,20 +1,19 @@
 -- An auxiliary's accesses come in time, so that none is refused.
-use Rattle.std.proofs.Common.{◌≡◌, refl, sym, ap, ◌∙◌, subst, ℕ, ◌+◌, ◌<◌, ◌≤◌, Bool, true, false, ◌&&◌, not, eqb, ltb, List, [], ◌∷◌, ◌++◌, length, Option, Some, None, inl, inr, arith}
-use Rattle.std.specs.Prelude.{Contains, IsTrue, filter, find, option_map, unwrap_or, if◌then◌else◌}
-use Rattle.std.specs.Option.{option_or, option_map_or}
-use Rattle.std.proofs.lemmas.Bool.{cases_Bool, and_parts, and_from, and_left, and_right, not-true, not_from_false, both_ways, eq-eqb, eqb-true, eqb-false, lt-ltb, le-ltb, ltb-true}
+use Rattle.std.proofs.Common.{◌≡◌, refl, sym, ap, ◌∙◌, subst, ℕ, ◌+◌, ◌≤◌, Bool, true, false, ◌&&◌, not, eqb, ltb, List, [], ◌∷◌, ◌++◌, length, Option, Some, None, inl, inr, arith}
+use Rattle.std.specs.Prelude.{Contains, IsTrue, unwrap_or, if◌then◌else◌}
+use Rattle.std.specs.Option.{option_map_or}
+use Rattle.std.proofs.lemmas.Bool.{cases_Bool, and_parts, and_left, and_right, eqb-true, eqb-false, lt-ltb, ltb-true}
 use Rattle.std.proofs.lemmas.List.{append_assoc}
 use Rattle.std.proofs.lemmas.Option.{none-some, same_Some}
 use Rattle.apl_arrays.specs.Array.{PlainArray}
 use Rattle.sv_access.specs.Access.{Access, is_set, other_side, same_side}
 use Rattle.sv_access.specs.Control.{combined, has_element}
-use Rattle.sv_access.specs.Story.{Story, last_set, is_last_setter, has_used_since, is_unseen, is_early}
+use Rattle.sv_access.specs.Story.{Story, last_set, is_last_setter, has_used_since, is_early}
 use Rattle.sv_access.specs.Table.{element_of}
 use Rattle.sv_access.specs.declared.access.Side.{Side}
 use Rattle.sv_access.specs.declared.access.Side.TheVariants.{A, B}
 use Rattle.sv_access.specs.declared.access.Kind.{Kind}
 use Rattle.sv_access.specs.declared.access.Kind.TheVariants as kind
-use Rattle.sv_events.specs.Answer.{PlainAnswer}
 use Rattle.sv_events.specs.Entry.{PlainEntry}
 use Rattle.sv_events.specs.Row.{act_row}
 use Rattle.sv_events.specs.declared.event.Act.{Act}
@@ -27,18 +26,18 @@ use Rattle.sv_rules.specs.declared.coupling.Coupling.{Coupling}
 use Rattle.sv_rules.specs.Control.{Sharing, sharing_of, side_at}
 use Rattle.sv_rules.specs.Coupling.{coupling_now}
 use Rattle.apl_arrays.specs.Name.{same_name}
-use Rattle.sv_rules.specs.Entries.{Entries, next_place, since, is_full}
+use Rattle.sv_rules.specs.Entries.{Entries, next_place, is_full}
 use Rattle.sv_rules.specs.Legal.{IsLegal, act_due, act_for}
 use Rattle.sv_rules.specs.Refused.{hold_under, hold_on, hold_of, refused}
 use Rattle.sv_rules.specs.Standing.{standing, own_offer, is_own}
 use Rattle.sv_rules.specs.Story.{GrantedAccess, access_on, granted_on, handed_in, story_part, story}
-use Rattle.sv_rules.specs.Work.{is_auxiliary, own_offers, first_open, first_coupled, lacks_control, owes_reply, has_unseen, to_counter, tries, gets_value, work_of}
+use Rattle.sv_rules.specs.Work.{is_auxiliary, own_offers, first_open, first_coupled, first_work, lacks_control, owes_reply, has_unseen, to_counter, tries, gets_value, work_of}
 use Rattle.sv_offer_laws.specs.CouplingLaws.{IsCouplingOf}
 use Rattle.sv_offer_laws.proofs.Members.{Contains-from_filter, filter_passed, find_passed}
 use Rattle.sv_offer_laws.proofs.LegalLemmas.{stood_before}
 use Rattle.sv_offer_laws.proofs.LookupLemmas.{found_as_made}
 use Rattle.sv_offer_laws.proofs.NowLemmas.{coupling_places, coupling_was}
-use Rattle.sv_offer_laws.proofs.OwnLemmas.{own_offer-is, own_is_one, own-itself, same_name-is}
+use Rattle.sv_offer_laws.proofs.OwnLemmas.{own_offer-is, own_is_one, own-itself}
 use Rattle.sv_offer_laws.proofs.PlaceLemmas.{places_ascend, same_by_place}
 use Rattle.sv_story_laws.specs.StoryLaws.{IsAccessTo}
 use Rattle.sv_story_laws.proofs.AccessLemmas.{IsAccessOn-from_access}
@@ -60,14 +59,7 @@ due_access (work.Use local) place handed act h = uses local refl (sym (same_Some
 
 -- the work by what was found for each kind
 abbrev first_of_five : Option Standing → Option Standing → Option Standing → Option Standing → Option Standing → Work
-first_of_five open' lacking owing waiting unseen =
-    unwrap_or
-    (option_or (option_map (λ offer. work.Retract offer.local) open')
-    (option_or (option_map (λ offer. work.Control offer.local) lacking)
-    (option_or (option_map (λ offer. work.Reply offer.local) owing)
-    (option_or (option_map (λ offer. work.Counter offer.party offer.surrogate) waiting)
-    (option_map (λ offer. work.Use offer.local) unseen)))))
-    work.Idle
+first_of_five open' lacking owing waiting unseen = unwrap_or (first_work open' lacking owing waiting unseen) work.Idle
 
 use_is_of : (open' lacking owing waiting unseen : Option Standing) (local : List ℕ) → first_of_five open' lacking owing waiting unseen ≡ work.Use local →
     (offer : Standing) × (unseen ≡ Some offer) × (offer.local ≡ local)

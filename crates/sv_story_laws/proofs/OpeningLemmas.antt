@@ -1,10 +1,9 @@
 -- What the story of an open offer tells, and with what that of a coupling begins.
-use Rattle.std.proofs.Common.{◌≡◌, refl, sym, ap, ◌∙◌, subst, ℕ, ◌+◌, ◌<◌, ◌≤◌, Bool, true, false, ◌&&◌, ◌||◌, not, eqb, ltb, List, [], ◌∷◌, ◌++◌, length, Option, Some, None, ◌⊎◌, inl, inr, arith}
+use Rattle.std.proofs.Common.{◌≡◌, refl, sym, ap, ◌∙◌, subst, ℕ, ◌+◌, ◌≤◌, Bool, true, false, not, eqb, ltb, List, [], ◌∷◌, ◌++◌, length, Option, Some, None, ◌⊎◌, inl, inr, arith}
 use Rattle.std.specs.Prelude.{◌↔◌, Contains, IsTrue, is_some, if◌then◌else◌}
-use Rattle.std.specs.List.{list_any}
 use Rattle.std.specs.Option.{option_or}
-use Rattle.std.proofs.lemmas.Bool.{cases_Bool, and_parts, and_from, and_left, and_right, or_cases, or_from, or_left, or_right, not-true, not_from_false, both_ways, eq-eqb, eqb-true, eqb-false, ne_eqb, lt-ltb, le-ltb}
-use Rattle.std.proofs.lemmas.Option.{none-some, same_Some}
+use Rattle.std.proofs.lemmas.Bool.{cases_Bool, and_parts, and_from, and_left, or_cases, or_from, or_left, or_right, not-true, not_from_false, both_ways, eq-eqb, eqb-true, eqb-false, lt-ltb}
+use Rattle.std.proofs.lemmas.Option.{same_Some}
 use Rattle.std.proofs.lemmas.List.Elements.{All-contains, Contains-append_left}
 use Rattle.std.proofs.lemmas.List.Folds.{Any-from_list_any}
 use Rattle.apl_arrays.specs.Array.{PlainArray}
@@ -13,7 +12,7 @@ use Rattle.sv_access.specs.declared.access.Side.{Side}
 use Rattle.sv_access.specs.declared.access.Side.TheVariants.{A, B}
 use Rattle.sv_access.specs.declared.access.Kind.{Kind}
 use Rattle.sv_access.specs.declared.access.Kind.TheVariants as kind
-use Rattle.sv_access.specs.declared.state.State.TheVariants.{Quiet, UnseenA, UnseenB}
+use Rattle.sv_access.specs.declared.state.State.TheVariants.{Quiet}
 use Rattle.sv_access.specs.State.{state_after}
 use Rattle.sv_events.specs.Entry.{PlainEntry}
 use Rattle.sv_rules.specs.declared.standing.Standing.{Standing}
@@ -31,7 +30,7 @@ use Rattle.sv_offer_laws.proofs.Members.{Contains-filter, Contains-from_filter, 
 use Rattle.sv_offer_laws.proofs.PlaceLemmas.{IsPlaceIn, places_within}
 use Rattle.sv_offer_laws.proofs.LegalLemmas.{IsSound-from_legal, couplings_go_on, stood_before}
 use Rattle.sv_offer_laws.proofs.LookupLemmas.{found_as_made}
-use Rattle.sv_offer_laws.proofs.NowLemmas.{made_is_found, coupling_among, coupling_places, none_now}
+use Rattle.sv_offer_laws.proofs.NowLemmas.{made_is_found, coupling_among, none_now}
 use Rattle.sv_offer_laws.proofs.OpenLemmas.{open_among}
 use Rattle.sv_story_laws.specs.StoryLaws.{CouplingEnds, TellsWhatIsKnown, BeginsWithTheGivers, unseen_by, state_at_coupling}
 use Rattle.sv_story_laws.proofs.AnswerLemmas.{uses_get_what_they_find}

@@ -1,10 +1,9 @@
 -- The work of an auxiliary, and what questions tell.
-use Rattle.std.proofs.Common.{◌≡◌, refl, sym, ap, ◌∙◌, subst, ℕ, suc, ◌+◌, ◌<◌, ◌≤◌, Bool, true, false, ◌&&◌, ◌||◌, not, eqb, ltb, List, [], ◌∷◌, ◌++◌, length, map, Option, Some, None, ◌⊎◌, inl, inr, arith}
+use Rattle.std.proofs.Common.{◌≡◌, refl, sym, ap, ◌∙◌, subst, ℕ, ◌+◌, ◌<◌, Bool, true, false, ◌&&◌, not, eqb, ltb, List, [], ◌∷◌, ◌++◌, length, map, Option, Some, None, ◌⊎◌, inl, inr, arith}
 use Rattle.std.specs.Prelude.{◌↔◌, Contains, All, IsTrue, is_some, filter, find}
 use Rattle.std.specs.List.{list_any}
 use Rattle.std.specs.Option.{option_map_or}
-use Rattle.std.proofs.lemmas.Bool.{cases_Bool, cond_both, and_parts, and_from, or_parts, or_from, not-true, not_from_false, both_ways, eq-eqb, eqb-true, eqb-false, lt-ltb, le-ltb, ltb-true, ltb-false}
-use Rattle.std.proofs.lemmas.Option.{same_Some}
+use Rattle.std.proofs.lemmas.Bool.{cases_Bool, and_parts, and_from, or_parts, or_from, not-true, not_from_false, both_ways, eq-eqb, eqb-true, eqb-false, lt-ltb, le-ltb, ltb-true, ltb-false}
 use Rattle.std.proofs.lemmas.List.{length-append}
 use Rattle.std.proofs.lemmas.List.Elements.{All-nil, All-cons, All-head, All-tail}
 use Rattle.apl_arrays.specs.Ascending.{Ascend}
@@ -15,10 +14,10 @@ use Rattle.sv_rules.specs.declared.standing.Standing.{Standing}
 use Rattle.sv_rules.specs.declared.coupling.Coupling.{Coupling}
 use Rattle.sv_rules.specs.Control.{control_on}
 use Rattle.sv_rules.specs.Coupling.{couplings, coupling_now, is_coupled, open_to}
-use Rattle.sv_rules.specs.Entries.{Entries, next_place, since, is_full}
-use Rattle.sv_rules.specs.Questions.{with_number, ascending, parties_to}
+use Rattle.sv_rules.specs.Entries.{Entries, since, is_full}
+use Rattle.sv_rules.specs.Questions.{with_number, ascending}
 use Rattle.sv_rules.specs.Standing.{standing}
-use Rattle.sv_rules.specs.Work.{own_offers, first_open, first_coupled, lacks_control, owes_reply, tries, gets_value, work_of}
+use Rattle.sv_rules.specs.Work.{first_open, first_coupled, lacks_control, owes_reply, tries, gets_value, work_of}
 use Rattle.sv_offer_laws.proofs.Members.{Contains-head, Contains-behind, Contains-cons_cases, find_passed}
 use Rattle.sv_offer_laws.proofs.PlaceLemmas.{places_ascend, same_by_place}
 use Rattle.sv_offer_laws.proofs.CouplingLemmas.{found_first, none_is_taken_of_none}

@@ -1,5 +1,6 @@
-use Rattle.sv_cell_laws.proofs.EndJournal.{cells_end, cells_join, cells_later_in, table_is, without_is_older}
+use Rattle.sv_cell_laws.proofs.EndJournal.{cells_later_in, table_is, without_is_older}
 use Rattle.sv_cell_laws.proofs.EndSteps.{cells_part}
+use Rattle.sv_cell_laws.proofs.JoinSteps.{cells_end, cells_join}
 use Rattle.sv_cell_laws.proofs.laws.cells_part_where_offers_end.Goals as goal
 
 pub returns-clause-table : goal.returns-clause-table

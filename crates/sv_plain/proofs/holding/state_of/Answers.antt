@@ -1,4 +1,4 @@
-use Rattle.std.proofs.Common.{◌≡◌, ap, sym, ◌∙◌, Option}
+use Rattle.std.proofs.Common.{ap, sym, ◌∙◌, Option}
 use Rattle.sv_access.specs.State.{vector_of_state}
 use Rattle.sv_access.specs.Story.{state_of_story}
 use Rattle.sv_access.specs.declared.access.Side.{Side}

@@ -1,4 +1,4 @@
-use Rattle.std.proofs.Common.{◌≡◌, ap, ◌∙◌, Option}
+use Rattle.std.proofs.Common.{ap, ◌∙◌, Option}
 use Rattle.apl_arrays.specs.Array.{PlainArray}
 use Rattle.sv_access.specs.Story.{last_value}
 use Rattle.sv_rules.specs.Journal.{journal_of}

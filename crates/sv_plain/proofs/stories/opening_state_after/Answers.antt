@@ -1,4 +1,4 @@
-use Rattle.std.proofs.Common.{◌≡◌, ap, sym, ◌∙◌, true, false, Option}
+use Rattle.std.proofs.Common.{ap, sym, ◌∙◌, Option}
 use Rattle.std.specs.Prelude.{option_map}
 use Rattle.apl_arrays.specs.Array.{PlainArray}
 use Rattle.sv_access.specs.Story.{state_of_story}
@@ -7,7 +7,7 @@ use Rattle.sv_access.specs.declared.state.State.{State}
 use Rattle.sv_plain.specs.Told.{state_with}
 use Rattle.sv_events.specs.Entry.{plain_entry}
 use Rattle.sv_rules.specs.Journal.{journal_of}
-use Rattle.sv_rules.specs.Story.{access_on, first_set, opens_at}
+use Rattle.sv_rules.specs.Story.{access_on, first_set}
 use Rattle.sv_plain.proofs.ToldLemmas.{opening_state-opens, opening_state-stays}
 use Rattle.sv_plain.proofs.stories.opening_state_after.Goals as goal
 

@@ -1,4 +1,4 @@
-use Rattle.std.proofs.Common.{◌≡◌, ap, sym, ◌∙◌, ◌∷◌, take, arith}
+use Rattle.std.proofs.Common.{ap, sym, ◌∙◌, ◌∷◌, take, arith}
 use Rattle.sv_events.specs.Entry.{plain_entry}
 use Rattle.sv_events.specs.declared.entry.Entry.{Entry}
 use Rattle.sv_rules.specs.Journal.{journal_of}

@@ -1,9 +1,8 @@
-use Rattle.std.proofs.Common.{◌≡◌, ap, sym, ◌∙◌, ℕ, ◌+◌, ◌≤◌, ◌∷◌, length, take, length-take, arith}
+use Rattle.std.proofs.Common.{◌≡◌, ap, sym, ◌∙◌, ◌+◌, ◌≤◌, ◌∷◌, length, take, length-take, arith}
 use Rattle.sv_access.specs.Story.{last_value}
 use Rattle.sv_events.specs.Entry.{plain_entry}
 use Rattle.sv_events.specs.declared.entry.Entry.{Entry}
 use Rattle.sv_plain.specs.Told.{value_with_both}
-use Rattle.sv_rules.specs.Entries.{Entries}
 use Rattle.sv_rules.specs.Journal.{journal_of}
 use Rattle.sv_rules.proofs.JournalLemmas.{journal_of-take_more, length-journal_of}
 use Rattle.sv_plain.proofs.ToldLemmas.{story_value-later, story-giver}

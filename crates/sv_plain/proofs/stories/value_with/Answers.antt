@@ -1,7 +1,6 @@
 use Rattle.std.proofs.Common.{◌≡◌, ap, sym, ◌∙◌, Bool, cond, true, false, Option}
 use Rattle.std.specs.Prelude.{option_map}
 use Rattle.std.specs.Option.{option_copied, option_map_or}
-use Rattle.apl_arrays.specs.Array.{PlainArray}
 use Rattle.sv_access.specs.Access.{is_set}
 use Rattle.sv_access.specs.declared.access.Kind.{Kind}
 use Rattle.sv_events.specs.Entry.{plain_entry}

@@ -1,4 +1,4 @@
-use Rattle.std.proofs.Common.{◌≡◌, sym, ◌∙◌, Bool, false, arith}
+use Rattle.std.proofs.Common.{sym, ◌∙◌, Bool, false, arith}
 use Rattle.std.specs.Option.{option_map_or}
 use Rattle.sv_rules.specs.Coupling.{coupling_at}
 use Rattle.sv_rules.specs.Journal.{journal_of}

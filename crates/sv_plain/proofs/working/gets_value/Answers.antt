@@ -1,4 +1,4 @@
-use Rattle.std.proofs.Common.{◌≡◌, ap, sym, ◌∙◌, not, false, Option}
+use Rattle.std.proofs.Common.{ap, sym, ◌∙◌, not, false, Option}
 use Rattle.std.specs.Option.{option_map_or}
 use Rattle.sv_access.specs.Access.{is_set}
 use Rattle.sv_access.specs.declared.access.Kind.{Kind}

@@ -1,4 +1,4 @@
-use Rattle.std.proofs.Common.{◌≡◌, ap, sym, ◌∙◌}
+use Rattle.std.proofs.Common.{ap, sym, ◌∙◌}
 use Rattle.sv_access.specs.Access.{other_side}
 use Rattle.sv_access.specs.Story.{state_of_story}
 use Rattle.sv_access.specs.declared.access.Side.{Side}

@@ -1,4 +1,4 @@
-use Rattle.std.proofs.Common.{◌≡◌, ◌≤◌, sym, ◌∙◌, length, take, length-take, arith}
+use Rattle.std.proofs.Common.{◌≤◌, sym, ◌∙◌, length, take, length-take, arith}
 use Rattle.sv_rules.specs.Journal.{journal_of}
 use Rattle.sv_rules.proofs.JournalLemmas.{length-journal_of}
 use Rattle.sv_plain.proofs.ScanLemmas.{lacks_control-none}

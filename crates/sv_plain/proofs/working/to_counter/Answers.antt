@@ -1,4 +1,4 @@
-use Rattle.std.proofs.Common.{◌≡◌, ◌<◌, ◌≤◌, ap, sym, ◌∙◌, Bool, true, false, cond, ltb, List, Some, None, find, arith}
+use Rattle.std.proofs.Common.{◌≡◌, ap, sym, ◌∙◌, Bool, true, false, cond, ltb, List, None, find, arith}
 use Rattle.std.proofs.lemmas.Bool.{lt-ltb, le-ltb}
 use Rattle.sv_rules.specs.Coupling.{open_to}
 use Rattle.sv_rules.specs.Journal.{journal_of}

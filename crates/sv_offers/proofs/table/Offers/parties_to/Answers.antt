@@ -1,7 +1,8 @@
 use Rattle.std.proofs.Common.{◌≡◌, ap, ◌∙◌, eqb, List, subst}
 use Rattle.std.specs.List.{filter}
 use Rattle.std.specs.Result.{IfOk}
-use Rattle.sv_offers.specs.Table.{PlainOffers, is_open_to, parties_of}
+use Rattle.sv_offers.specs.Table.{PlainOffers, is_open_to}
+use Rattle.sv_rules.specs.Questions.{parties_of}
 use Rattle.sv_offers.proofs.TableLemmas.{open_made_to}
 use Rattle.sv_rules.specs.declared.standing.Standing.{Standing}
 use Rattle.sv_offers.proofs.table.Offers.parties_to.Goals as goal

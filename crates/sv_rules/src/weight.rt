@@ -4,8 +4,8 @@ ghost use Rattle.sv_events.specs.Entry.{plain_entry};
 ghost use Rattle.sv_events.specs.Row.{length_of};
 ghost use Rattle.sv_rules.specs.Entries.{entry_weight};
 
+use crate::limits::HELD_LIMIT;
 use sv_events::{Entry, LISTED_WEIGHT};
-use sv_rules::HELD_LIMIT;
 
 // How long a list is, up to the limit.
 fn capped_length<T>(list: Option<&[T]>) -> u64
