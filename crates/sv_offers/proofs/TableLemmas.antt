@@ -1,5 +1,5 @@
 -- The table's look-ups, and the steps of an ending one after another.
-use Rattle.std.proofs.Common.{◌≡◌, ℕ, Bool, true, false, not, ◌&&◌, eqb, List, [], ◌∷◌, Option, Some, find, ap, sym, refl, ◌∙◌, cond}
+use Rattle.std.proofs.Common.{◌≡◌, ℕ, Bool, true, false, not, ◌&&◌, eqb, List, [], ◌∷◌, Some, find, ap, sym, refl, ◌∙◌, cond}
 use Rattle.std.proofs.Math.Bool.{and_comm}
 use Rattle.std.proofs.lemmas.Bool.{and_parts}
 use Rattle.std.specs.List.{filter}
@@ -7,7 +7,7 @@ use Rattle.sv_events.specs.declared.row.Ending.{Ending}
 use Rattle.sv_rules.specs.declared.coupling.Made.{Made}
 use Rattle.sv_rules.specs.declared.standing.Standing.{Standing}
 use Rattle.sv_rules.specs.Standing.{without_ended}
-use Rattle.sv_rules.specs.Coupling.{is_coupled, couplings_among, reopened_among, recoupled, made_by_ending, kept_by_ending, reopened_by_ending}
+use Rattle.sv_rules.specs.Coupling.{is_coupled, couplings_among, reopened_among, recoupled, made_by_ending, reopened_by_ending}
 use Rattle.sv_offer_laws.proofs.Members.{filter-filter}
 use Rattle.sv_offers.proofs.FilterLemmas.{filter_alike, found_among}
 use Rattle.sv_offers.specs.Table.{PlainOffers, is_open_to, open_among}

@@ -1,4 +1,4 @@
-use Rattle.std.proofs.Common.{◌≡◌, ◌≤◌, ◌*◌, take}
+use Rattle.std.proofs.Common.{◌≤◌, ◌*◌, take}
 use Rattle.std.specs.HashMap.{hash_map_len}
 use Rattle.sv_offers.specs.Finding.{FindsMates, room_of}
 use Rattle.sv_offers.proofs.index.find_mates.Given as goal

@@ -1,4 +1,4 @@
-use Rattle.std.proofs.Common.{◌≡◌, ap, sym, ◌∙◌, Bool, Option, Some, None, cond, eqb, find, take, arith}
+use Rattle.std.proofs.Common.{ap, sym, ◌∙◌, Bool, Option, Some, None, cond, eqb, find, take, arith}
 use Rattle.std.specs.Option.{option_or}
 use Rattle.sv_offers.proofs.FindingLemmas.{found_more}
 use Rattle.sv_rules.specs.declared.standing.Standing.{Standing}

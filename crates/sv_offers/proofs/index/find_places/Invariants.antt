@@ -1,4 +1,4 @@
-use Rattle.std.proofs.Common.{◌≡◌, ◌≤◌, take}
+use Rattle.std.proofs.Common.{◌≤◌, take}
 use Rattle.std.specs.HashMap.{hash_map_len}
 use Rattle.sv_offers.specs.Finding.{FindsPlaces, room_of}
 use Rattle.sv_offers.proofs.index.find_places.Given as goal

@@ -1,4 +1,4 @@
-use Rattle.std.proofs.Common.{◌≡◌, find, ap, ◌∙◌, List, rules, tests}
+use Rattle.std.proofs.Common.{find, ap, ◌∙◌, List, rules, tests}
 use Rattle.std.proofs.lemmas.Iterator.{YieldsList-from_slice}
 use Rattle.std.proofs.lemmas.Iterator.Search.{find_from_yields_List}
 use Rattle.sv_offers.specs.Table.{may_match}

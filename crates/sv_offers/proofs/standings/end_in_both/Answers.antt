@@ -1,4 +1,4 @@
-use Rattle.std.proofs.Common.{◌≡◌, sym, ◌∙◌, List, subst}
+use Rattle.std.proofs.Common.{sym, ◌∙◌, List, subst}
 use Rattle.sv_offers.specs.Shelf.{HasMadeTo, HasOwn}
 use Rattle.sv_offers.proofs.ShelfLemmas.{ended_of_none, no_shelf}
 use Rattle.sv_rules.specs.declared.standing.Standing.{Standing}

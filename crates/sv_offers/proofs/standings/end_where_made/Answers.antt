@@ -1,4 +1,4 @@
-use Rattle.std.proofs.Common.{◌≡◌, ap, sym, ◌∙◌, Bool, ◌||◌, cond, eqb, List, take, arith}
+use Rattle.std.proofs.Common.{ap, sym, ◌∙◌, Bool, ◌||◌, cond, eqb, List, take, arith}
 use Rattle.std.specs.List.{list_any}
 use Rattle.sv_offers.specs.Shelf.{shelf_at}
 use Rattle.sv_offers.proofs.ShelfLemmas.{to_party, any_more, more_ended}

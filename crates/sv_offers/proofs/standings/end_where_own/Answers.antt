@@ -1,4 +1,4 @@
-use Rattle.std.proofs.Common.{◌≡◌, ap, ◌∙◌, cond, eqb, List}
+use Rattle.std.proofs.Common.{ap, ◌∙◌, cond, eqb, List}
 use Rattle.std.specs.List.{filter, list_any}
 use Rattle.sv_offers.specs.Shelf.{shelf_at}
 use Rattle.sv_offers.proofs.ShelfLemmas.{of_party, to_party, put_back, own_after, made_after}

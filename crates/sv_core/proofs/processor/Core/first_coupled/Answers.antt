@@ -1,4 +1,4 @@
-use Rattle.std.proofs.Common.{sym, eqb, subst, List, true, ◌≡◌}
+use Rattle.std.proofs.Common.{eqb, subst, List}
 use Rattle.std.specs.Prelude.{Contains}
 use Rattle.sv_offer_laws.proofs.Members.{Contains-from_filter}
 use Rattle.sv_rules.specs.Standing.{standing}

@@ -1,4 +1,4 @@
-use Rattle.std.proofs.Common.{◌≡◌, subst, arith}
+use Rattle.std.proofs.Common.{subst, arith}
 use Rattle.sv_offers.specs.Finding.{FindsMates}
 use Rattle.sv_offers.proofs.couplings.Couplings.keep.Goals as goal
 

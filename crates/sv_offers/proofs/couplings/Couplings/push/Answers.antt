@@ -1,4 +1,4 @@
-use Rattle.std.proofs.Common.{◌≡◌, ap, sym, ◌∙◌, Option, Some, None, cond, find, [], ◌∷◌, arith}
+use Rattle.std.proofs.Common.{ap, sym, ◌∙◌, Option, Some, None, cond, find, [], ◌∷◌, arith}
 use Rattle.std.specs.Option.{option_or}
 use Rattle.std.proofs.lemmas.List.Folds.{find-append}
 use Rattle.apl_arrays.specs.List.{Listed}

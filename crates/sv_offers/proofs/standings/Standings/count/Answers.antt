@@ -1,4 +1,4 @@
-use Rattle.std.proofs.Common.{◌≡◌, ap, ◌∙◌, eqb, length}
+use Rattle.std.proofs.Common.{ap, ◌∙◌, eqb, length}
 use Rattle.std.proofs.lemmas.List.Sums.{length-filter}
 use Rattle.sv_rules.specs.declared.standing.Standing.{Standing}
 use Rattle.sv_offers.proofs.standings.Standings.count.Goals as goal

@@ -1,4 +1,4 @@
-use Rattle.std.proofs.Common.{◌≡◌, sym, List, subst, arith}
+use Rattle.std.proofs.Common.{sym, List, subst, arith}
 use Rattle.sv_offers.specs.Finding.{FindsPlaces}
 use Rattle.sv_offers.specs.Shelf.{HasMadeTo, HasOwn}
 use Rattle.sv_rules.specs.declared.standing.Standing.{Standing}

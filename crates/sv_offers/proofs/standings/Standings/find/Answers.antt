@@ -1,4 +1,4 @@
-use Rattle.std.proofs.Common.{◌≡◌, ap, ◌∙◌, eqb, List}
+use Rattle.std.proofs.Common.{ap, ◌∙◌, eqb, List}
 use Rattle.std.proofs.lemmas.Bool.{and_parts}
 use Rattle.apl_arrays.specs.Name.{same_name}
 use Rattle.sv_rules.specs.Standing.{is_own, own_offer}

@@ -1,4 +1,4 @@
-use Rattle.std.proofs.Common.{◌≡◌, ◌∙◌, ◌++◌, ap, not, List, length, map, arith}
+use Rattle.std.proofs.Common.{◌∙◌, ◌++◌, ap, not, List, length, map, arith}
 use Rattle.std.specs.List.{filter}
 use Rattle.sv_rules.specs.Standing.{is_ended, without_ended}
 use Rattle.sv_rules.specs.declared.standing.Standing.{Standing}

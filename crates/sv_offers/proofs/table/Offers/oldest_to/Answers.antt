@@ -1,4 +1,4 @@
-use Rattle.std.proofs.Common.{◌≡◌, find, eqb, ap, ◌∙◌, List}
+use Rattle.std.proofs.Common.{find, eqb, ap, ◌∙◌, List}
 use Rattle.std.specs.List.{filter}
 use Rattle.sv_offers.specs.Table.{PlainOffers, is_open_to}
 use Rattle.sv_offers.proofs.TableLemmas.{first_made_to}
