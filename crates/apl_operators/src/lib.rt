@@ -15,6 +15,8 @@ mod rows;
 mod running;
 mod scanning;
 mod steps;
+#[cfg(test)]
+mod tests;
 
 pub use applying::apply;
 pub use inner_product::inner;

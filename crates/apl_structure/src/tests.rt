@@ -1,0 +1,77 @@
+use crate::{
+    drop_items, iota, ravel, reshape, reverse, rotate, shape_of, take, transpose, transpose_by,
+};
+use apl_arrays::{Array, Fail, Items, List, Report, WantOfMemory, Way};
+use std::alloc::Global;
+use std::process::Abort;
+
+// Where an allocation was refused, the second attempt has all the memory.
+#[test]
+fn calls_ask_for_their_memory(rt: HostRuntime) {
+    if calls(&rt, rt.alloc()).is_err() {
+        assert!(rt; calls(&rt, rt.alloc()).is_ok());
+    }
+}
+
+/// Each call once.
+fn calls(rt: &impl Abort, alloc: Global) -> Result<(), WantOfMemory> {
+    let b = array(rt, alloc, &[2, 3], &[3, 1, 4, 2, 7, 5])?;
+    shaped(rt, alloc, &b)?;
+    taken(rt, alloc, &b)?;
+    turned(rt, alloc, &b)
+}
+
+/// Numbers from 1 on, a shape, and items in another shape.
+fn shaped(rt: &impl Abort, alloc: Global, b: &Array) -> Result<(), WantOfMemory> {
+    let two = Array::scalar(alloc, 2)?;
+    let shape = array(rt, alloc, &[2], &[2, 3])?;
+    let all = array(rt, alloc, &[6], &[3, 1, 4, 2, 7, 5])?;
+    assert!(rt; given(iota(alloc, &two))? == Ok(array(rt, alloc, &[2], &[1, 2])?));
+    assert!(rt; given(reshape(alloc, &two, b))? == Ok(array(rt, alloc, &[2], &[3, 1])?));
+    assert!(rt; given(shape_of(alloc, b))? == Ok(shape));
+    assert!(rt; given(ravel(alloc, b))? == Ok(all));
+    Ok(())
+}
+
+/// What is taken and dropped along each axis.
+fn taken(rt: &impl Abort, alloc: Global, b: &Array) -> Result<(), WantOfMemory> {
+    let counts = array(rt, alloc, &[2], &[1, -2])?;
+    let first = array(rt, alloc, &[1, 2], &[1, 4])?;
+    let rest = array(rt, alloc, &[1, 1], &[2])?;
+    assert!(rt; given(take(alloc, &counts, b))? == Ok(first));
+    assert!(rt; given(drop_items(alloc, &counts, b))? == Ok(rest));
+    Ok(())
+}
+
+/// Lines and axes the other way round.
+fn turned(rt: &impl Abort, alloc: Global, b: &Array) -> Result<(), WantOfMemory> {
+    let two_one = array(rt, alloc, &[2], &[2, 1])?;
+    let across = array(rt, alloc, &[3, 2], &[3, 2, 1, 7, 4, 5])?;
+    let rows = given(reverse(alloc, b, Way::First, None))?;
+    assert!(rt; rows == Ok(array(rt, alloc, &[2, 3], &[2, 7, 5, 3, 1, 4])?));
+    let lines = given(rotate(alloc, &two_one, b, Way::Last, None))?;
+    assert!(rt; lines == Ok(array(rt, alloc, &[2, 3], &[4, 3, 1, 7, 5, 2])?));
+    assert!(rt; given(transpose_by(alloc, &two_one, b))? == given(transpose(alloc, b))?);
+    assert!(rt; given(transpose(alloc, b))? == Ok(across));
+    Ok(())
+}
+
+/// What a call gave, where memory did not run out.
+fn given(answer: Result<Array, Fail>) -> Result<Result<Array, Report>, WantOfMemory> {
+    match answer {
+        Ok(array) => Ok(Ok(array)),
+        Err(Fail::Report(report)) => Ok(Err(report)),
+        Err(Fail::WantOfMemory) => Err(WantOfMemory),
+    }
+}
+
+/// The array of a shape and of numbers.
+fn array(
+    rt: &impl Abort,
+    alloc: Global,
+    shape: &[u32],
+    numbers: &[i64],
+) -> Result<Array, WantOfMemory> {
+    let items = List::from(Vec::from_slice(alloc, numbers)?);
+    Ok(Array::try_new(shape, Items::Numbers(items)).expect(rt, "an array"))
+}
