@@ -3,7 +3,7 @@ ghost use Rattle.std.specs.List.{flat_map, list_any};
 ghost use Rattle.apl_arrays.specs.Array.{FitsLimits, IsArray, element_count, item_count, numbers_in, plain_items};
 ghost use Rattle.apl_items.specs.Answers.{Answers, first_report};
 ghost use Rattle.apl_items.specs.Axes.{added, source_by_axes};
-ghost use Rattle.apl_items.specs.Places.{places};
+ghost use Rattle.apl_items.specs.Places.{OnWantOfMemory, places};
 ghost use Rattle.apl_selection.specs.Assignment.{assign_faults, assign_of, last_place, overlaid, overlaid_array, overlaid_list, put_over};
 ghost use Rattle.apl_selection.specs.Naming.{AreSmall, AreSmallTogether, AreStridesFor, IsSmallBeyond, naming_by, scaled_place};
 ghost use Rattle.apl_selection.specs.Subscripts.{is_miscounted, is_outside, named_by, point_outside, points_outside, selection_shape};
@@ -21,16 +21,17 @@ use std::alloc::Global;
 /// two items come to one place, the last stays. RANK where there are not as many subscripts as axes, where A is a scalar,
 /// or where V has not one element and its rank is not that of the selection, else LENGTH where its shape is not that of
 /// the selection, else DOMAIN where a subscript is of characters or the kinds differ, else INDEX where a number of a
-/// subscript is not from 1 to the length of its axis. It takes memory for the items, for shapes and strides, and for a
-/// place for each item.
+/// subscript is not from 1 to the length of its axis. Where there is no report it takes memory for strides, for the items,
+/// and for a place for each item.
 pub fn index_assign(alloc: Global, a: &Array, subs: &Subs, v: &Array) -> Result<Array, Fail>
-    ensures { Answers result (assign_of a.now subs.now.items v.now) }
+    ensures answer { Answers result (assign_of a.now subs.now.items v.now) }
+    ensures memory { OnWantOfMemory result (first_report (assign_faults a.now subs.now.items v.now) ≡ None) }
 {
     let subs = subs.as_slice();
     if is_miscounted(a.shape(), subs) {
         return Err(Fail::Report(Report::Rank));
     }
-    let selection = selection_shape(alloc, a.shape(), subs)?;
+    let selection = selection_shape(a.shape(), subs);
     match assign_report(a, subs, selection.as_slice(), v) {
         Some(report) => Err(Fail::Report(report)),
         None => Ok(overlaid_array(alloc, a, subs, v)?),

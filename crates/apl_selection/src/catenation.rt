@@ -4,6 +4,7 @@ ghost use Rattle.apl_items.specs.Along.{source_count};
 ghost use Rattle.apl_items.specs.Answers.{Answers, first_report};
 ghost use Rattle.apl_items.specs.Extension.{Reaches, place_in};
 ghost use Rattle.apl_items.specs.Moves.{moved_list};
+ghost use Rattle.apl_items.specs.Places.{OnWantOfMemory};
 ghost use Rattle.apl_items.specs.Shapes.{split_at, split_count};
 ghost use Rattle.apl_items.specs.Axis.{lacks_axis};
 ghost use Rattle.apl_selection.specs.Catenation.{agree_around, are_near, are_no_scalars, axes_behind, catenate_faults, catenate_of, greater_shape, catenated, catenated_axis, catenated_place, catenated_rank, catenated_shape, kind_giver, kinds_clash, span_of};
@@ -20,9 +21,11 @@ use std::alloc::Global;
 /// A and B joined along an axis, the last where none is named. A scalar takes one place along it, and so does an array whose
 /// rank is one less than the other's; two scalars give a vector. RANK where the ranks differ by more than 1 or an axis of two
 /// scalars is named, else LENGTH where the other axes differ, else DOMAIN where the kinds differ and neither array is empty,
-/// else INDEX where the axis is not from 1 to the greater rank, else WS FULL. It takes memory for a shape and the items.
+/// else INDEX where the axis is not from 1 to the greater rank, else WS FULL. Where there is no report but WS FULL it takes
+/// memory for a shape, and then for the items.
 pub fn catenate(alloc: Global, a: &Array, b: &Array, axis: Option<i64>) -> Result<Array, Fail>
-    ensures { Answers result (catenate_of a.now b.now axis) }
+    ensures answer { Answers result (catenate_of a.now b.now axis) }
+    ensures memory { OnWantOfMemory result (first_report (catenate_faults a.now b.now axis) ≡ None) }
 {
     match catenate_report(a, b, axis) {
         Some(report) => Err(Fail::Report(report)),

@@ -1,6 +1,7 @@
-ghost use Rattle.std.specs.Prelude.{◌≡◌, ◌≤◌, None, IfOk, length, vec_len, vec_capacity};
+ghost use Rattle.std.specs.Prelude.{◌≡◌, ◌≤◌, None, IfOk, length};
 ghost use Rattle.apl_arrays.specs.Array.{IsArray, item_count};
 ghost use Rattle.apl_items.specs.Answers.{Answers, first_report};
+ghost use Rattle.apl_items.specs.Places.{OnWantOfMemory};
 ghost use Rattle.apl_selection.specs.Compression.{compress_faults, compress_of, flagged_length, flags_meet, kept};
 
 use crate::flags::{flags_report, is_one};
@@ -12,7 +13,8 @@ use std::alloc::Global;
 /// The items of B along an axis, the last or the first where none is named, where A has 1. A lone flag is for each place of
 /// the axis, a lone place is for each flag, and a scalar B is a vector of one item. RANK where A is of rank over 1, else
 /// LENGTH where A has not as many flags as the axis has places, else DOMAIN where it holds something else than 0 and 1, else
-/// INDEX where the axis is not from 1 to the rank, else WS FULL. It takes memory for a list of places, a shape and the items.
+/// INDEX where the axis is not from 1 to the rank, else WS FULL. Where there is no report but WS FULL it takes memory for a
+/// list of places and a shape, and then for the items.
 pub fn compress(
     alloc: Global,
     a: &Array,
@@ -20,7 +22,8 @@ pub fn compress(
     way: Way,
     axis: Option<i64>,
 ) -> Result<Array, Fail>
-    ensures { Answers result (compress_of a.now b.now way axis) }
+    ensures answer { Answers result (compress_of a.now b.now way axis) }
+    ensures memory { OnWantOfMemory result (first_report (compress_faults a.now b.now way axis) ≡ None) }
 {
     let fit = flags_meet(a, meant_length(b, way, axis) as usize);
     match flags_report(a, b, axis, fit) {

@@ -1,6 +1,7 @@
-ghost use Rattle.std.specs.Prelude.{◌≡◌, ◌≤◌, None, IfOk, length, vec_len, vec_capacity};
+ghost use Rattle.std.specs.Prelude.{◌≡◌, ◌≤◌, None, IfOk, length};
 ghost use Rattle.apl_arrays.specs.Array.{IsArray};
 ghost use Rattle.apl_items.specs.Answers.{Answers, first_report};
+ghost use Rattle.apl_items.specs.Places.{OnWantOfMemory};
 ghost use Rattle.apl_selection.specs.Expansion.{expand_faults, expand_of, ones, ones_meet, spread};
 
 use crate::flags::{flags_report, is_one};
@@ -12,7 +13,8 @@ use std::alloc::Global;
 /// The items of B along an axis, the last or the first where none is named, where A has 1, and the fill where it has 0. A lone
 /// place of the axis is for each 1, and a scalar B is a vector of one item. RANK where A is of rank over 1, else LENGTH where
 /// it has not as many ones as the axis has places, else DOMAIN where it holds something else than 0 and 1, else INDEX where
-/// the axis is not from 1 to the rank, else WS FULL. It takes memory for a list of places, a shape and the items.
+/// the axis is not from 1 to the rank, else WS FULL. Where there is no report but WS FULL it takes memory for a list of
+/// places and a shape, and then for the items.
 pub fn expand(
     alloc: Global,
     a: &Array,
@@ -20,7 +22,8 @@ pub fn expand(
     way: Way,
     axis: Option<i64>,
 ) -> Result<Array, Fail>
-    ensures { Answers result (expand_of a.now b.now way axis) }
+    ensures answer { Answers result (expand_of a.now b.now way axis) }
+    ensures memory { OnWantOfMemory result (first_report (expand_faults a.now b.now way axis) ≡ None) }
 {
     let fit = ones_meet(a.numbers(), meant_length(b, way, axis) as usize);
     match flags_report(a, b, axis, fit) {

@@ -12,4 +12,3 @@ pub mod TakeLaws
 pub mod TakeLemmas
 pub mod TransposeLemmas
 pub mod VectorLaws
-pub mod WantLemmas

@@ -1,5 +1,5 @@
 use Rattle.std.proofs.Common.{sym, ◌∙◌}
-use Rattle.apl_structure.proofs.WantLemmas.{on_want}
+use Rattle.apl_selection.proofs.WantLemmas.{on_want}
 use Rattle.apl_structure.proofs.reshaping.reshape.Goals as goal
 
 pub returns-in-None-clause-memory : goal.returns-in-None-clause-memory
