@@ -17,5 +17,6 @@ pub mod MoveLemmas
 pub mod NamingLemmas
 pub mod OrderLemmas
 pub mod PickLemmas
+pub mod PointLemmas
 pub mod SubscriptLemmas
 pub mod WantLemmas

@@ -21,17 +21,17 @@ use std::alloc::Global;
 /// two items come to one place, the last stays. RANK where there are not as many subscripts as axes, where A is a scalar,
 /// or where V has not one element and its rank is not that of the selection, else LENGTH where its shape is not that of
 /// the selection, else DOMAIN where a subscript is of characters or the kinds differ, else INDEX where a number of a
-/// subscript is not from 1 to the length of its axis. Where there are as many subscripts as axes it takes memory for a
-/// shape, and where there is no report for strides, for the items, and for a place for each item.
+/// subscript is not from 1 to the length of its axis. Where there is no report it takes memory for strides, for the items,
+/// and for a place for each item.
 pub fn index_assign(alloc: Global, a: &Array, subs: &Subs, v: &Array) -> Result<Array, Fail>
     ensures answer { Answers result (assign_of a.now subs.now.items v.now) }
-    ensures memory { OnWantOfMemory result (is_miscounted a.now.shape subs.now.items ≡ false) }
+    ensures memory { OnWantOfMemory result (first_report (assign_faults a.now subs.now.items v.now) ≡ None) }
 {
     let subs = subs.as_slice();
     if is_miscounted(a.shape(), subs) {
         return Err(Fail::Report(Report::Rank));
     }
-    let selection = selection_shape(alloc, a.shape(), subs)?;
+    let selection = selection_shape(a.shape(), subs);
     match assign_report(a, subs, selection.as_slice(), v) {
         Some(report) => Err(Fail::Report(report)),
         None => Ok(overlaid_array(alloc, a, subs, v)?),

@@ -1,6 +1,6 @@
 ghost use Rattle.std.specs.Prelude.{◌≡◌};
 ghost use Rattle.std.specs.List.{list_any};
-ghost use Rattle.apl_arrays.specs.Array.{IsArray, numbers_in};
+ghost use Rattle.apl_arrays.specs.Array.{IsArray};
 ghost use Rattle.apl_items.specs.Answers.{first_report};
 ghost use Rattle.apl_arrays.specs.Number.{is_one};
 ghost use Rattle.apl_selection.specs.Flags.{flag_faults, is_no_flag, lacks_flags};

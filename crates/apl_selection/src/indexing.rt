@@ -1,4 +1,5 @@
-ghost use Rattle.std.specs.Prelude.{◌≡◌, None, false, IfOk, slice_get};
+ghost use Rattle.std.specs.Prelude.{◌≡◌, ◌-◌, ◌<◌, [], ◌∷◌, None, Some, false, IfOk, IfSome, map, slice_get, unsigned_abs};
+ghost use Rattle.apl_arrays.specs.Array.{element_count};
 ghost use Rattle.apl_items.specs.Answers.{Answers, first_report};
 ghost use Rattle.apl_selection.specs.Indexing.{index_faults, selection_of, indexed};
 ghost use Rattle.apl_items.specs.Places.{OnWantOfMemory, places};
@@ -10,22 +11,23 @@ use crate::subscripts::{
     Subs, are_of_chars, is_miscounted, named_counts, place_from_0, point_outside, selection_shape,
 };
 use apl_arrays::{Array, Fail, RANK_LIMIT, Report, WantOfMemory, count_of_elements, shape_fault};
+use apl_items::{Walk, moved};
 use std::alloc::Global;
 
 /// The items of B that subscripts select, one for each axis; the shapes of the subscripts stand one after another, and an
 /// omitted one selects the whole axis. RANK where there are not as many subscripts as axes, where B is a scalar, or where
 /// the result has over eight axes, else DOMAIN where a subscript is of characters, else INDEX where a number of one is
-/// not from 1 to the length of its axis, else WS FULL where the result is too large. Where there are as many subscripts as
-/// axes it takes memory for a shape, and where there is no report for strides and the items.
+/// not from 1 to the length of its axis, else WS FULL where the result is too large. Where there is no report it takes memory
+/// for strides and the items.
 pub fn index(alloc: Global, b: &Array, subs: &Subs) -> Result<Array, Fail>
     ensures answer { Answers result (selection_of b.now subs.now.items) }
-    ensures memory { OnWantOfMemory result (is_miscounted b.now.shape subs.now.items ≡ false) }
+    ensures memory { OnWantOfMemory result (first_report (index_faults b.now subs.now.items) ≡ None) }
 {
     let subs = subs.as_slice();
     if is_miscounted(b.shape(), subs) {
         return Err(Fail::Report(Report::Rank));
     }
-    let shape = selection_shape(alloc, b.shape(), subs)?;
+    let shape = selection_shape(b.shape(), subs);
     match index_report(b, subs, shape.as_slice()) {
         Some(report) => Err(Fail::Report(report)),
         None => Ok(indexed(alloc, b, subs, shape.as_slice())?),
@@ -65,6 +67,74 @@ fn indexed(
     if count_of_elements(shape) == 0 {
         return Ok(Array::shaped(shape, filled(alloc, b.items(), 0)?));
     }
+    match lone_array(subs) {
+        Some(sub) => pointed(alloc, b, sub, shape),
+        None => indexed_by_axes(alloc, b, subs, shape),
+    }
+}
+
+/// The subscript, where there is one alone and it is not omitted.
+fn lone_array(subs: &[Option<Array>]) -> Option<&Array>
+    ensures { IfSome result (λ sub. subs.now ≡ Some sub.now ∷ []) }
+{
+    match subs {
+        [Some(sub)] => Some(sub),
+        _ => None,
+    }
+}
+
+/// The items of a vector that a subscript selects, one after another.
+fn pointed(alloc: Global, b: &Array, sub: &Array, shape: &[u32]) -> Result<Array, WantOfMemory>
+    requires fine { None ≡ first_report (index_faults b.now (Some sub.now ∷ [])) }
+    requires shape { shape.now ≡ selection_shape b.now.shape (Some sub.now ∷ []) }
+    ensures { IfOk result (λ array. array ≡ indexed b.now (Some sub.now ∷ [])) }
+{
+    let numbers = sub.items().numbers();
+    let walk = PlaceWalk { numbers, next: 0 };
+    let items = moved(alloc, b.items(), numbers.len(), walk)?;
+    Ok(Array::shaped(shape, items))
+}
+
+/// A walk over the places that numbers name.
+#[derive(Drop)]
+struct PlaceWalk<'a> {
+    numbers: &'a [i64],
+    next: usize,
+}
+
+impl Walk for PlaceWalk<'_> {
+    ghost use Rattle.std.specs.Prelude.{◌+◌, ◌-◌, length, map, slice_get, unsigned_abs};
+
+    ghost left = { λ w. length w.numbers.now - w.next };
+
+    ghost source = { λ w n. slice_get (map (λ number. unsigned_abs number - 1) w.numbers.now) (w.next + n) };
+
+    fn advance(&mut self) -> Option<usize> {
+        let place = place_at(self.numbers, self.next);
+        self.next += 1;
+        place
+    }
+}
+
+/// The place that the number at a place names, if there is one.
+fn place_at(numbers: &[i64], at: usize) -> Option<usize>
+    ensures { result ≡ slice_get (map (λ number. unsigned_abs number - 1) numbers.now) at }
+{
+    Some(place_from_0(*numbers.get(at)?))
+}
+
+/// The items of B that subscripts select along each axis.
+fn indexed_by_axes(
+    alloc: Global,
+    b: &Array,
+    subs: &[Option<Array>],
+    shape: &[u32],
+) -> Result<Array, WantOfMemory>
+    requires fine { None ≡ first_report (index_faults b.now subs.now) }
+    requires shape { shape.now ≡ selection_shape b.now.shape subs.now }
+    requires some { 0 < element_count shape.now }
+    ensures { IfOk result (λ array. array ≡ indexed b.now subs.now) }
+{
     let counts = named_counts(alloc, b.shape(), subs)?;
     let lengths = b.shape();
     let picks = Named { lengths, subs };
@@ -87,7 +157,7 @@ impl Picks for Named<'_> {
 
     fn from(&self, axis: usize, along: usize) -> Option<usize> {
         match self.subs.get(axis) {
-            Some(Some(array)) => Some(place_from_0(*array.numbers().get(along)?)),
+            Some(Some(array)) => place_at(array.numbers(), along),
             _ => place_on(length_of(self.lengths, axis), along),
         }
     }

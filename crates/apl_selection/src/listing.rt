@@ -1,5 +1,5 @@
 ghost use Rattle.std.specs.Prelude.{◌≡◌, ◌<◌, ◌≤◌, ℕ, false, Some, None, IfOk, IfSome, length, slice_index, slice_index_or, slice_set};
-ghost use Rattle.apl_arrays.specs.Array.{FitsLimits, element_count, item_count, plain_items};
+ghost use Rattle.apl_arrays.specs.Array.{FitsLimits};
 ghost use Rattle.apl_items.specs.Answers.{Answers, Faults, first_report};
 ghost use Rattle.apl_items.specs.Extension.{place_in};
 ghost use Rattle.apl_items.specs.Moves.{item_or};

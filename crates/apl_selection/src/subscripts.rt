@@ -1,14 +1,19 @@
 ghost use Rattle.std.specs.Prelude.{◌≡◌, ◌-◌, ◌≤◌, false, IfOk, length, unsigned_abs};
 ghost use Rattle.std.specs.List.{list_any};
+ghost use Rattle.apl_arrays.specs.Limits.{most_axes};
 ghost use Rattle.apl_arrays.specs.Array.{element_count, item_count, numbers_in, plain_items};
-ghost use Rattle.apl_selection.specs.Subscripts.{axes_by, is_miscounted, is_of_chars, is_outside, named_by, named_counts, named_on, point_outside, points_outside, selection_shape};
+ghost use Rattle.apl_selection.specs.Subscripts.{axes_by, is_miscounted, is_of_chars, is_outside, named_by, named_counts, point_outside, points_outside, selection_shape};
 
 use apl_arrays::{Array, Items, List, WantOfMemory};
+use arrayvec::ArrayVec;
 use std::alloc::Global;
 use std::slice;
 
 /// Subscripts, one for each place between the brackets: an array of places from 1 on, or `None` where it is omitted.
 pub type Subs = List<Option<Array>>;
+
+/// The most axes of a selection, whose items need not be made: as many subscripts as an array has axes, each with as many.
+const SELECTION_RANK_LIMIT: usize = 64;
 
 /// Whether there are not as many subscripts as axes, or no axes.
 pub(crate) fn is_miscounted(shape: &[u32], subs: &[Option<Array>]) -> bool
@@ -69,28 +74,30 @@ fn is_outside(length: u32, number: i64) -> bool
     number < 0 || number.unsigned_abs() == 0 || number.unsigned_abs() > u64::from(length)
 }
 
-/// The shape of the selection. It takes memory for it.
+/// The shape of the selection. No memory.
 pub(crate) fn selection_shape(
-    alloc: Global,
     shape: &[u32],
     subs: &[Option<Array>],
-) -> Result<Vec<u32>, WantOfMemory>
-    requires { length subs.now ≡ length shape.now }
-    ensures { IfOk result (λ axes. axes.items ≡ selection_shape shape.now subs.now) }
+) -> ArrayVec<u32, SELECTION_RANK_LIMIT>
+    requires counted { length subs.now ≡ length shape.now }
+    requires rank { length shape.now ≤ most_axes }
+    ensures { result.items ≡ selection_shape shape.now subs.now }
 {
-    let mut axes = Vec::new(alloc);
+    let mut axes = ArrayVec::new();
     for axis in 0..shape.len() {
-        axes.extend_from_slice(axes_by(&shape[axis], &subs[axis]))?;
+        let here = axes_by(&shape[axis], &subs[axis]);
+        axes.try_extend_from_slice(here).unwrap();
     }
-    Ok(axes)
+    axes
 }
 
 /// The axes that a subscript gives to the selection.
-fn axes_by<'a>(length: &'a u32, sub: &'a Option<Array>) -> &'a [u32]
-    ensures { result.now ≡ axes_by length.now sub.now }
+fn axes_by<'a>(long: &'a u32, sub: &'a Option<Array>) -> &'a [u32]
+    ensures value { result.now ≡ axes_by long.now sub.now }
+    ensures few { length result.now ≤ most_axes }
 {
     match sub {
-        None => slice::from_ref(length),
+        None => slice::from_ref(long),
         Some(array) => array.shape(),
     }
 }

@@ -1,4 +1,4 @@
-ghost use Rattle.std.specs.Prelude.{◌≡◌, pos, IfOk, map, vec_len, vec_capacity};
+ghost use Rattle.std.specs.Prelude.{◌≡◌, pos, IfOk, map};
 ghost use Rattle.apl_items.specs.Answers.{Answers};
 ghost use Rattle.apl_structure.specs.Plain.{ravel_of, shape_of};
 
