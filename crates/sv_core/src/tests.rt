@@ -152,6 +152,14 @@ fn retried(core: &mut Core, user: u32) -> Result<Retry, WantOfMemory>
     Ok(retry)
 }
 
+// Whether another try was answered so.
+fn is_now(retry: &Retry, answer: &Answer) -> bool {
+    match retry {
+        Retry::Now(now) => now == answer,
+        Retry::StillHeld => false,
+    }
+}
+
 // A user makes the act of an entry, or tries again what it waits for, and is answered as the entry says.
 fn answered(
     rt: &impl Abort,
@@ -169,7 +177,7 @@ fn answered(
         core.leave(entry.party);
     } else if core.waits(entry.party) {
         let retry = retried(core, entry.party)?;
-        assert!(rt; matches!(retry, Retry::Now(answer) if answer == entry.answer));
+        assert!(rt; is_now(&retry, &entry.answer));
     } else {
         let answer = core.step(entry.party, entry.act.copy(alloc)?)?;
         assert!(rt; answer == entry.answer);

@@ -2,10 +2,11 @@
 
 ghost use Rattle.std.specs.Prelude.{◌≡◌, [], codes};
 ghost use Rattle.sv_events.specs.Answer.{done};
+ghost use Rattle.sv_events.specs.Entry.{uncoupled};
 ghost use Rattle.sv_events.specs.declared.event.Act.TheVariants.{Leave};
 ghost use Rattle.sv_journal.specs.EntryText.{entry_text};
 ghost use Rattle.sv_journal.specs.Output.{output_text};
-ghost use Rattle.sv_journal.specs.WorkedOutput.{uncoupled, plain_path_transcripts, plain_path_entries, plain_path_output, every_kind_transcripts, every_kind_entries, every_kind_output};
+ghost use Rattle.sv_journal.specs.WorkedOutput.{plain_path_transcripts, plain_path_entries, plain_path_output, every_kind_transcripts, every_kind_entries, every_kind_output};
 
 /// The output of one worked run, byte for byte. The call does nothing.
 pub fn plain_path_is_written()

@@ -11,8 +11,8 @@ users_stay : (b : Bool) (core : PlainCore) (after : Entries) → (if b then core
 users_stay true core after = refl
 users_stay false core after = refl
 
-pub returns-in_ok-retry : goal.returns-in_ok-retry
-returns-in_ok-retry c =
+pub returns : goal.returns
+returns c =
     let core = c.args.core.now in
     let user = c.args.user in
     ap (λ (k : PlainCore). k.users) c.in_ok-retry.ensures.journal
