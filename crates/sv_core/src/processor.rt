@@ -190,8 +190,8 @@ impl Core {
         }
     }
 
-    /// The user leaves: its offers cease together, and those that this reopens are coupled again, by place, each with the
-    /// oldest of its open matches. No memory.
+    /// The user leaves and takes all its offers along. The partners that this sets free look for new ones, the oldest offer
+    /// first, each among its open matches for the oldest. No memory.
     pub fn leave(&mut self, user: u32)
         requires member { IsTrue (is_user self.old.users user) }
         requires present { IsTrue (not (has_left self.old.journal user)) }

@@ -294,8 +294,8 @@ impl Core {
         member.has_left || self.is_refused_since(user, member.waiting)
     }
 
-    /// Whether nobody can go on: some user has not left, each that has not waits and is refused now, and no auxiliary has
-    /// work. It looks once at what each user waits for. No memory.
+    /// Whether nobody can go on: some user stays, whoever stays waits and is refused still, and both auxiliaries are idle. It
+    /// looks once at what each user waits for. No memory.
     pub fn is_stuck(&self) -> bool
         ensures { result ≡ is_stuck self.now.users self.now.journal }
     {

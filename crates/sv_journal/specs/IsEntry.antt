@@ -78,8 +78,7 @@ pub record BeginsEntry (part : List ℕ) : Type 0 where
   pub rest : List ℕ
   pub whole : IsEntryText (part ++ rest)
 
--- the line is no entry's text, and this is the length of its longest part from the left with which some entry's text
--- begins
+-- the line is no entry's text, and this is how far it can be read as the front of one
 pub record DepartsAt (line : List ℕ) (at : ℕ) : Type 0 where
   pub within : at ≤ length line
   pub begins : BeginsEntry (take at line)

@@ -19,8 +19,7 @@ use sv_text::{Cursor, Unread};
 /// Why a line is not read as an entry.
 #[derive(Clone, Copy, Debug, PartialEq, Eq)]
 pub enum EntryRefused {
-    /// It is no entry's text. The number is the length of its longest part from the left with which some entry's text
-    /// begins.
+    /// It is no entry's text. The number says how far one could read it as the front of some entry's text.
     BadEntry(u64),
     /// Memory ran out.
     WantOfMemory,

@@ -142,9 +142,9 @@ impl Offers {
         Ok(other)
     }
 
-    /// Offers of a party end together by its act at a place: that of one local name, or all. Each offer that this reopens
-    /// takes its open match of the lowest place, by place, where it is still open then; these pairs go last in `made`, in
-    /// this order. No memory.
+    /// An act of a party, at a place, ends its offer of one local name or all that it has. Once these are gone, the partners
+    /// that are set free are matched anew, in the order of their places, if nobody was matched with them before; what pairs
+    /// this makes is appended to `made`. No memory.
     pub fn end(&mut self, at: u64, party: u32, ending: Ending, made: &mut PairList)
         requires room { length (reopened_by_ending self.old.offers self.old.coupled party ending) ≤ made.old.room }
         requires no_more { length (kept_by_ending self.old.offers self.old.coupled party ending) + length (reopened_by_ending self.old.offers self.old.coupled party ending)

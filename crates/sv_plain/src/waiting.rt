@@ -114,7 +114,8 @@ fn is_idle(work: Work) -> bool
     matches!(work, Work::Idle)
 }
 
-/// Whether nobody can go on: some user has not left, each that has not waits and is refused now, and no auxiliary has work.
+/// Whether nobody can go on: whoever is still there waits for an act that is refused now, somebody is there, and neither
+/// auxiliary has anything to do.
 /// It takes memory for the offers and the couplings of each entry in turn.
 pub fn is_stuck(alloc: Global, users: &[u32], entries: &[Entry]) -> Result<bool, WantOfMemory>
     ensures { IfOk result (λ stuck. stuck ≡ is_stuck users.now (journal_of entries.now)) }

@@ -93,7 +93,7 @@ is_idle _ = false
 abbrev pub is_halted : Entries → ℕ → Bool
 is_halted journal user = has_left journal user || is_some (still_refused journal user)
 
--- nobody can go on: some user has not left, each that has not waits and is refused now, and no auxiliary has work
+-- nobody can go on: some user stays; whoever stays waits, and is refused still; both auxiliaries are idle
 abbrev pub is_stuck : List ℕ → Entries → Bool
 is_stuck users journal =
     list_any (λ user. not (has_left journal user)) users && list_all (is_halted journal) users

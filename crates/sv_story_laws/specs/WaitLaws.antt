@@ -39,7 +39,7 @@ pub record IsHeldOrGivenUp (users : List ℕ) (journal : Entries) (e : PlainEntr
 abbrev pub HoldsAreGivenOrGivenUp : Type 0
 HoldsAreGivenOrGivenUp = (users : List ℕ) (journal : Entries) (e : PlainEntry) → IsLegal users (e ∷ journal) → IsHeldOrGivenUp users journal e
 
--- nobody can go on: a user has not left, each that has not waits and is refused now, and no auxiliary has work
+-- nobody can go on: some user stays; whoever stays waits, and is refused still; both auxiliaries are idle
 pub record IsStuck (users : List ℕ) (journal : Entries) : Type 0 where
   pub some : (user : ℕ) × Contains users user × IsTrue (not (has_left journal user))
   pub all : (user : ℕ) → Contains users user → IsTrue (not (has_left journal user)) → IsTrue (is_some (still_refused journal user))
