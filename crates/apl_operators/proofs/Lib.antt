@@ -5,6 +5,7 @@ mod InnerLaws
 mod LastLemmas
 mod LineLemmas
 mod NumberLemmas
+mod PartLemmas
 mod ProductLemmas
 mod ReductionLemmas
 mod RowLemmas

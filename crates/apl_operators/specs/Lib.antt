@@ -2,6 +2,7 @@ pub mod Gathering
 pub mod Inner
 pub mod Lines
 pub mod Outer
+pub mod Parts
 pub mod Reduction
 pub mod Reduce
 pub mod Scan

@@ -8,6 +8,7 @@ mod items;
 pub mod laws;
 mod lines;
 mod outer_product;
+mod parts;
 mod products;
 mod reducing;
 mod reduction;

@@ -9,9 +9,10 @@ ghost use Rattle.apl_operators.specs.Running.{Runs, front_at};
 ghost use Rattle.apl_operators.specs.Scan.{scan_of, scanned};
 
 use crate::lines::{LineAt, front_of_line, last_front};
+use crate::parts::by_parts;
 use crate::running::{running, runs};
 use apl_arrays::{Array, Dyad, Fail, Items, NumberList, Report, WantOfMemory, Way};
-use apl_items::{Split, axis_of, by_place, lacks_axis, lacks_by_rows, room_for};
+use apl_items::{Split, axis_of, lacks_axis, lacks_by_rows, room_for};
 use apl_scalar::dyadic_table;
 use std::alloc::Global;
 
@@ -174,39 +175,18 @@ fn fronts_by<F: Fn(i64, i64) -> Option<i64>>(
     ensures made { MakesItems result (length list.now) (front_at (dyadic_item f) list.now split) }
     ensures memory { OnWantOfMemory result (HasItems (length list.now) (front_at (dyadic_item f) list.now split)) }
 {
-    by_place(
+    by_parts(
         alloc,
         list.len(),
-        |place: usize| -> Option<i64>
+        split,
+        &|outer: usize, along: usize, inner: usize| -> Option<i64>
             requires callable { F.IsAlwaysCallable rule }
             requires rule { Joins (F.post rule) (dyadic_item f) }
             requires whole { split_count split ≡ length list.now }
-            requires some { 0 < split_count split }
-            requires place { place < length list.now }
-            ensures { result ≡ front_at (dyadic_item f) list.entry.now split place }
-        { front_at(f, list, split, place, &rule) },
+            requires outer { outer < split.outer }
+            requires along { along < split.along }
+            requires inner { inner < split.inner }
+            ensures { result ≡ front_of_line (dyadic_item f) list.entry.now split outer inner along }
+        { front_of_line(f, list, split, LineAt { outer, inner }, along, &rule) },
     )
-}
-
-/// The reduction of the front of a line, up to a place.
-fn front_at<F: Fn(i64, i64) -> Option<i64>>(
-    f: Dyad,
-    list: &[i64],
-    split: Split,
-    place: usize,
-    rule: &F,
-) -> Option<i64>
-    requires callable { F.IsAlwaysCallable rule.now }
-    requires rule { Joins (F.post rule.now) (dyadic_item f) }
-    requires whole { split_count split ≡ length list.now }
-    requires some { 0 < split_count split }
-    requires place { place < length list.now }
-    ensures { result ≡ front_at (dyadic_item f) list.now split place }
-{
-    let row = place / split.inner;
-    let line = LineAt {
-        outer: row / split.along,
-        inner: place % split.inner,
-    };
-    front_of_line(f, list, split, line, row % split.along, rule)
 }

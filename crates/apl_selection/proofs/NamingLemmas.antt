@@ -2,9 +2,9 @@
 use Rattle.std.proofs.Common.{◌≡◌, ℕ, zero, suc, ◌+◌, ◌*◌, ◌<◌, ◌≤◌, ◌==◌, ◌&&◌, ◌||◌, Bool, not, true, false, List, [], ◌∷◌, Option, Some, None, is_some, length, map, drop, replicate, slice_index_or, get_or, refl, sym, ap, subst, ◌∙◌, arith}
 use Rattle.std.specs.Bool.{beq}
 use Rattle.std.specs.Cmp.Lexicographic.{pointwise, same_text}
-use Rattle.std.specs.List.{list_any, range_with_len, zip}
+use Rattle.std.specs.List.{flat_map, list_any, range_with_len, zip}
 use Rattle.std.proofs.lemmas.Bool.Decides.{nat_tests}
-use Rattle.std.proofs.lemmas.List.{drop_all, length-drop}
+use Rattle.std.proofs.lemmas.List.{append-nil, drop_all, length-drop}
 use Rattle.std.proofs.lemmas.List.FromFn.{get_or-map-range_with_len}
 use Rattle.std.proofs.lemmas.List.FromFn.{get_or-map-range_with_len}
 use Rattle.apl_arrays.specs.Array.{PlainArray, PlainItems, IsArray, numbers, chars, element_count, is_chars, item_count}
@@ -18,7 +18,7 @@ use Rattle.apl_selection.specs.Assignment.{assign_faults, has_other_rank, has_ot
 use Rattle.apl_selection.specs.Naming.{AreSmall, AreStridesFor, naming_by, scaled_place}
 use Rattle.apl_selection.specs.Picks.{strided}
 use Rattle.apl_selection.specs.Subscripts.{is_miscounted, is_of_chars, named_by, named_counts, named_on, point_outside, selection_shape, sub_on}
-use Rattle.apl_selection.proofs.AssignLemmas.{last_below, no_more_from}
+use Rattle.apl_selection.proofs.AssignLemmas.{last_below, naming_more, no_more_from}
 use Rattle.apl_selection.proofs.PickLemmas.{as_many_within, same_offsets, some_same, strided_within}
 use Rattle.apl_selection.proofs.IndexLemmas.{counts_at, counts_length}
 use Rattle.apl_selection.proofs.MoveLemmas.{array_of}
@@ -123,13 +123,39 @@ told_from shape offset axis = map (λ place. offset_at offset axis (coordinates_
 pub told_next : (shape : List ℕ) (offset : ℕ → ℕ → Option ℕ) (before axis : ℕ) (after : List (Option ℕ)) → axis + 1 ≡ before → after ≡ told_from shape offset before → after ≡ told_from shape offset (axis + 1)
 told_next shape offset before axis after e is = is ∙ ap (told_from shape offset) (sym e)
 
-pub told_none : (shape : List ℕ) (offset : ℕ → ℕ → Option ℕ) (axis : ℕ) (after : List (Option ℕ)) → axis ≡ length shape → after ≡ Some 0 ∷ [] → after ≡ told_from shape offset axis
+told_none : (shape : List ℕ) (offset : ℕ → ℕ → Option ℕ) (axis : ℕ) (after : List (Option ℕ)) → axis ≡ length shape → after ≡ Some 0 ∷ [] → after ≡ told_from shape offset axis
 told_none shape offset axis after e is =
     is ∙ sym (ap (λ (xs : List ℕ). map (λ place. offset_at offset axis (coordinates_of xs place)) (places (element_count xs))) (drop_all axis shape (omega arith)))
 
 pub told_all : (shape : List ℕ) (offset : ℕ → ℕ → Option ℕ) (axis : ℕ) (after : List (Option ℕ)) → axis ≡ 0 → after ≡ told_from shape offset axis
     → after ≡ map (source_by_axes shape offset) (places (element_count shape))
 told_all shape offset axis after e is = is ∙ ap (told_from shape offset) e
+
+-- ---- places together with the first place alone
+
+pub alone_after : (here : List (Option ℕ)) → flat_map (λ first. map (added first) (Some 0 ∷ [])) here ≡ here
+alone_after [] = refl
+alone_after (None ∷ here) = ap (λ (xs : List (Option ℕ)). None ∷ xs) (alone_after here)
+alone_after (Some place ∷ here) =
+    let same : place + 0 ≡ place = omega arith in
+    ap (λ (n : ℕ). Some n ∷ flat_map (λ first. map (added first) (Some 0 ∷ [])) here) same ∙ ap (λ (xs : List (Option ℕ)). Some place ∷ xs) (alone_after here)
+
+pub alone_before : (after : List (Option ℕ)) → flat_map (λ first. map (added first) after) (Some 0 ∷ []) ≡ after
+alone_before after = append-nil (map (added (Some 0)) after) ∙ all_beyond after
+  where
+    beyond : (place : Option ℕ) → added (Some 0) place ≡ place
+    beyond None = refl
+    beyond (Some place) = let same : 0 + place ≡ place = omega arith in ap (λ (n : ℕ). Some n) same
+
+    all_beyond : (xs : List (Option ℕ)) → map (added (Some 0)) xs ≡ xs
+    all_beyond [] = refl
+    all_beyond (place ∷ xs) = ap (λ (p : Option ℕ). p ∷ map (added (Some 0)) xs) (beyond place) ∙ ap (λ (rest : List (Option ℕ)). place ∷ rest) (all_beyond xs)
+
+-- what is told of the last axis
+pub told_last : (shape : List ℕ) (offset : ℕ → ℕ → Option ℕ) (axis : ℕ) (here : List (Option ℕ)) → axis + 1 ≡ length shape → here ≡ map (offset axis) (places (get_or shape axis 0))
+    → here ≡ told_from shape offset axis
+told_last shape offset axis here e is =
+    naming_more shape offset axis here (Some 0 ∷ []) here (omega arith) is (told_none shape offset (axis + 1) (Some 0 ∷ []) e refl) (sym (alone_after here))
 
 -- ---- items put over others
 

@@ -1,4 +1,4 @@
-ghost use Rattle.std.specs.Prelude.{◌≡◌, ◌+◌, ◌-◌, ◌*◌, ◌<◌, ◌≤◌, ◌^◌, ◌++◌, ◌==◌, ◌||◌, ℕ, Some, None, false, IfOk, length, map, pos, slice_index_or, unsigned_abs, vec_len, vec_capacity};
+ghost use Rattle.std.specs.Prelude.{◌≡◌, ◌↔◌, ◌+◌, ◌-◌, ◌*◌, ◌<◌, ◌≤◌, ◌^◌, ◌++◌, ◌==◌, ◌||◌, ◌∷◌, [], ℕ, Some, None, false, IfOk, IsTrue, length, map, pos, slice_index, slice_index_or, unsigned_abs, vec_len, vec_capacity};
 ghost use Rattle.std.specs.List.{flat_map, list_any};
 ghost use Rattle.apl_arrays.specs.Array.{FitsLimits, IsArray, element_count, item_count, numbers_in, plain_items};
 ghost use Rattle.apl_items.specs.Answers.{Answers, first_report};
@@ -112,6 +112,7 @@ fn naming(
     subs: &[Option<Array>],
     strides: &[u16],
 ) -> Result<Vec<Option<u32>>, WantOfMemory>
+    requires ranked { 0 < length shape.now }
     requires fits { FitsLimits shape.now }
     requires elements { 0 < element_count shape.now }
     requires counted { length subs.now ≡ length shape.now }
@@ -119,15 +120,31 @@ fn naming(
     requires small { AreSmall shape.now (naming_by shape.now subs.now strides.now) }
     ensures { IfOk result (λ sources. sources.items ≡ map (source_by_axes shape.now (naming_by shape.now subs.now strides.now)) (places (element_count shape.now))) }
 {
-    let mut axis = shape.len();
-    let mut after = room_for(alloc, 1)?;
-    after.push_reserved(Some(0));
+    let mut axis = shape.len() - 1;
+    let mut after = last_places_on(alloc, shape, subs, strides, axis)?;
     while axis > 0 {
         axis -= 1;
-        let here = last_places(alloc, shape[axis], &subs[axis], stride_in(strides, axis))?;
-        after = crossed(alloc, here.as_slice(), after.as_slice())?;
+        let here = last_places_on(alloc, shape, subs, strides, axis)?;
+        after = crossed(alloc, here, after)?;
     }
     Ok(after)
+}
+
+/// The last of its places at which the subscript of an axis names each place along it, by the stride of the axis.
+fn last_places_on(
+    alloc: Global,
+    shape: &[u32],
+    subs: &[Option<Array>],
+    strides: &[u16],
+    axis: usize,
+) -> Result<Vec<Option<u32>>, WantOfMemory>
+    requires fits { FitsLimits shape.now }
+    requires axis { axis < length shape.now }
+    requires counted { length subs.now ≡ length shape.now }
+    requires inside { point_outside shape.now subs.now ≡ false }
+    ensures { IfOk result (λ table. table.items ≡ map (naming_by shape.now subs.now strides.now axis) (places (slice_index shape.now axis))) }
+{
+    last_places(alloc, shape[axis], &subs[axis], stride_in(strides, axis))
 }
 
 /// The last of its places at which a subscript names each place along its axis, by a stride.
@@ -199,8 +216,38 @@ fn place_named(numbers: &[i64], at: usize) -> usize
     }
 }
 
-/// Each of some places together with each of others.
+/// Each of some places together with each of others. Where either list is the first place alone, it is the other list, and
+/// takes no memory.
 fn crossed(
+    alloc: Global,
+    here: Vec<Option<u32>>,
+    after: Vec<Option<u32>>,
+) -> Result<Vec<Option<u32>>, WantOfMemory>
+    requires few { length here.items * length after.items ≤ 16384 }
+    requires small { AreSmallTogether here.items after.items }
+    ensures { IfOk result (λ made. made.items ≡ flat_map (λ first. map (added first) after.items) here.items) }
+{
+    if is_first_alone(after.as_slice()) {
+        Ok(here)
+    } else if is_first_alone(here.as_slice()) {
+        Ok(after)
+    } else {
+        each_with_each(alloc, here.as_slice(), after.as_slice())
+    }
+}
+
+/// Whether a list of places is the first place alone.
+fn is_first_alone(places: &[Option<u32>]) -> bool
+    ensures { IsTrue result ↔ (places.now ≡ Some 0 ∷ []) }
+{
+    match places {
+        [Some(place)] => *place == 0,
+        _ => false,
+    }
+}
+
+/// Each of some places together with each of others.
+fn each_with_each(
     alloc: Global,
     here: &[Option<u32>],
     after: &[Option<u32>],

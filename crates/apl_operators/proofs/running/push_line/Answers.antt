@@ -1,4 +1,4 @@
-use Rattle.std.proofs.Common.{◌≡◌, ◌<◌, ◌+◌, ◌-◌, ◌*◌, ◌∙◌, ℕ, get_or, length, refl, sym, ap, arith}
+use Rattle.std.proofs.Common.{◌≡◌, ◌<◌, ◌+◌, ◌*◌, ◌∙◌, ℕ, get_or, length, refl, sym, ap, arith}
 use Rattle.apl_operators.specs.Running.{row_length}
 use Rattle.apl_operators.proofs.RunLemmas.{kept_last, line_first, line_next, line_place, line_start, read_item, runs_more, runs_to_as}
 use Rattle.apl_operators.proofs.WeightLemmas.{some_along}

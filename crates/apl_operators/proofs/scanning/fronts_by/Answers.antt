@@ -9,4 +9,4 @@ pub returns-clause-memory : goal.returns-clause-memory
 returns-clause-memory g c =
     let list = c.args.list.now in
     let rule = front_at (dyadic_item c.args.f) list c.args.split in
-    weaker_want c.by_place.result (GivesEach (length list) (λ place answer. answer ≡ rule place)) (HasItems (length list) rule) (λ each place below. let told = each place below in (told.0, sym told.1)) c.by_place.ensures.memory
+    weaker_want c.by_parts.result (GivesEach (length list) (λ place answer. answer ≡ rule place)) (HasItems (length list) rule) (λ each place below. let told = each place below in (told.0, sym told.1)) c.by_parts.ensures.memory

@@ -1,7 +1,7 @@
 use Rattle.std.proofs.Common.{◌≡◌, ◌*◌, length, map, take, vec_capacity, vec_len}
 use Rattle.std.specs.List.{flat_map}
 use Rattle.apl_items.specs.Axes.{added}
-use Rattle.apl_selection.proofs.assignment.crossed.Given as goal
+use Rattle.apl_selection.proofs.assignment.each_with_each.Given as goal
 
 -- the places so far, with room for the others
 abbrev pub invariant-loop-first : goal.invariant-loop-first
