@@ -14,8 +14,7 @@ use Rattle.apl_workspace.specs.Function.{PlainFunction}
 use Rattle.apl_workspace.specs.Label.{label_of}
 use Rattle.apl_workspace.specs.Limits.{most_weight}
 use Rattle.apl_workspace.specs.Meaning.{NameTable, is_shared_meaning, meaning_in, meaning_of, with_meaning}
-use Rattle.apl_arrays.specs.Name.{name_order}
-use Rattle.apl_workspace.specs.Names.{is_name_of}
+use Rattle.apl_arrays.specs.Name.{name_order, same_name}
 use Rattle.apl_workspace.specs.Workspace.{PlainWorkspace, assigned, in_innermost, innermost, is_local, is_shared, look, seen_by, with_frame, with_frame_by, with_global, without_frame, workspace_weight}
 use Rattle.apl_workspace.specs.declared.args.Args.{Args}
 use Rattle.apl_workspace.specs.declared.meaning.Meaning.{Meaning}
@@ -41,7 +40,7 @@ found_by false m o h k = k
 
 found : (names : NameTable) (name : List ℕ) → NoneShared names → FoundUnshared (meaning_in names name)
 found [] name h = tt
-found (entry ∷ names) name h = found_by (is_name_of name entry.0) entry.1 (lookup (is_name_of name) names) h.0 (found names name h.1)
+found (entry ∷ names) name h = found_by (same_name name entry.0) entry.1 (lookup (same_name name) names) h.0 (found names name h.1)
 
 either_unshared : (first second : Option Meaning) → FoundUnshared first → FoundUnshared second → FoundUnshared (option_or first second)
 either_unshared None second h k = k
