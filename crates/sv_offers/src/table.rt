@@ -47,13 +47,6 @@ impl Offers {
         }
     }
 
-    /// The offers that stand, by place. No memory.
-    pub fn as_slice(&self) -> &[Standing]
-        ensures { result.now ≡ self.now.offers }
-    {
-        self.offers.as_slice()
-    }
-
     /// A party's offers that stand, by place. No memory.
     pub fn of(&self, party: u32) -> &[Standing]
         ensures { result.now ≡ filter (λ offer. offer.party == party) self.now.offers }

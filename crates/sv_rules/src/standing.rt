@@ -32,8 +32,8 @@ pub fn offer_count(offers: &[Standing], party: u32) -> usize
     offers.iter().filter(|offer| offer.party == party).count()
 }
 
-/// Takes the party's offers out. No memory.
-pub fn end_offers(offers: &mut Vec<Standing>, party: u32)
+// Takes the party's offers out.
+fn end_offers(offers: &mut Vec<Standing>, party: u32)
     ensures items { offers.new.items ≡ without_party offers.old.items party }
     ensures len { vec_len offers.new ≤ vec_len offers.old }
     ensures capacity { vec_capacity offers.new ≡ vec_capacity offers.old }
@@ -41,8 +41,8 @@ pub fn end_offers(offers: &mut Vec<Standing>, party: u32)
     offers.retain(|offer| offer.party != party);
 }
 
-/// Takes the party's offer of a local name out. No memory.
-pub fn end_offer(offers: &mut Vec<Standing>, party: u32, local: &Name)
+// Takes the party's offer of a local name out.
+fn end_offer(offers: &mut Vec<Standing>, party: u32, local: &Name)
     ensures items { offers.new.items ≡ without_name offers.old.items party local.now }
     ensures len { vec_len offers.new ≤ vec_len offers.old }
     ensures capacity { vec_capacity offers.new ≡ vec_capacity offers.old }
