@@ -71,12 +71,14 @@ pub fn outer_products_pair_all()
     ensures axes { outer_product_of Dyad.Divide (record { shape = 1 ∷ 1 ∷ 1 ∷ 1 ∷ 1 ∷ []; items = numbers (pos 1 ∷ []) }) (record { shape = 1 ∷ 1 ∷ 1 ∷ 1 ∷ []; items = numbers (pos 2 ∷ []) }) ≡ Err Report.Rank }
 {}
 
-/// Inner products: `1 2+.×3 4` is 11; a matrix by a vector; one element extends, but an axis of length 1 does not; no
+/// Inner products: `1 2+.×3 4` is 11; a matrix by a column, and by a matrix; one element extends, but an axis of length 1 does not; no
 /// pairs give the identity of the first function. The call does nothing. No memory.
 pub fn inner_products_reduce_pairs()
     ensures sum { inner_product_of Dyad.Plus Dyad.Times (record { shape = 2 ∷ []; items = numbers (pos 1 ∷ pos 2 ∷ []) }) (record { shape = 2 ∷ []; items = numbers (pos 3 ∷ pos 4 ∷ []) }) ≡ Ok (scalar (pos 11)) }
     ensures rows { inner_product_of Dyad.Minus Dyad.Times (record { shape = 2 ∷ 2 ∷ []; items = numbers (pos 1 ∷ pos 2 ∷ pos 3 ∷ pos 4 ∷ []) }) (record { shape = 2 ∷ 1 ∷ []; items = numbers (pos 5 ∷ pos 1 ∷ []) })
         ≡ Ok (record { shape = 2 ∷ 1 ∷ []; items = numbers (pos 3 ∷ pos 11 ∷ []) }) }
+    ensures columns { inner_product_of Dyad.Plus Dyad.Times (record { shape = 2 ∷ 2 ∷ []; items = numbers (pos 1 ∷ pos 2 ∷ pos 3 ∷ pos 4 ∷ []) }) (record { shape = 2 ∷ 2 ∷ []; items = numbers (pos 5 ∷ pos 6 ∷ pos 7 ∷ pos 8 ∷ []) })
+        ≡ Ok (record { shape = 2 ∷ 2 ∷ []; items = numbers (pos 19 ∷ pos 22 ∷ pos 43 ∷ pos 50 ∷ []) }) }
     ensures one { inner_product_of Dyad.Plus Dyad.Times (scalar (pos 2)) (record { shape = 2 ∷ []; items = numbers (pos 3 ∷ pos 4 ∷ []) }) ≡ Ok (scalar (pos 14)) }
     ensures lengths { inner_product_of Dyad.Plus Dyad.Times (record { shape = 2 ∷ []; items = numbers (pos 1 ∷ pos 2 ∷ []) }) (record { shape = 1 ∷ 2 ∷ []; items = numbers (pos 3 ∷ pos 4 ∷ []) }) ≡ Err Report.Length }
     ensures no_chars { inner_product_of Dyad.Plus Dyad.Times (record { shape = 0 ∷ []; items = chars [] }) (record { shape = 0 ∷ []; items = chars [] }) ≡ Ok (scalar (pos 0)) }

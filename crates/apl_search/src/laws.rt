@@ -1,12 +1,12 @@
 //! What holds of the definitions: laws of items in order, and worked examples.
 
-ghost use Rattle.std.specs.Prelude.{◌≡◌, ◌<◌, ◌^◌, ℕ, ℤ, List, [], ◌∷◌, Some, pos, negsuc, map};
+ghost use Rattle.std.specs.Prelude.{◌≡◌, ◌<◌, ◌^◌, ℕ, ℤ, List, [], ◌∷◌, Ok, Some, pos, negsuc, map};
 ghost use Rattle.std.specs.declared.cmp.Ordering.{Ordering};
 ghost use Rattle.std.specs.List.Sorted.{IsPermutation, IsSorted};
-ghost use Rattle.apl_arrays.specs.Array.{chars, numbers, scalar};
+ghost use Rattle.apl_arrays.specs.Array.{chars, number_array, numbers, scalar};
 ghost use Rattle.apl_items.specs.Places.{places};
-ghost use Rattle.apl_search.specs.Decode.{value_after};
-ghost use Rattle.apl_search.specs.Encode.{digit_at};
+ghost use Rattle.apl_search.specs.Decode.{decode_of, value_after};
+ghost use Rattle.apl_search.specs.Encode.{digit_at, encode_of};
 ghost use Rattle.apl_search.specs.Grade.{by_item, falling, grade, in_order, rising, with_places};
 ghost use Rattle.apl_search.specs.Lookup.{first_places, memberships};
 ghost use Rattle.apl_arrays.specs.Number.{product};
@@ -47,4 +47,11 @@ pub fn hours_are_seconds()
     ensures value { value_after (pos 24 ∷ pos 60 ∷ pos 60 ∷ []) (pos 1 ∷ pos 1 ∷ pos 1 ∷ []) 3 ≡ Some (pos 3661) }
     ensures digits { map (λ at. digit_at (pos 24 ∷ pos 60 ∷ pos 60 ∷ []) (pos 3661) at) (places 3) ≡ pos 1 ∷ pos 1 ∷ pos 1 ∷ [] }
     ensures all_left { map (λ at. digit_at (pos 0 ∷ pos 10 ∷ []) (negsuc 0) at) (places 2) ≡ negsuc 0 ∷ pos 9 ∷ [] }
+{}
+
+/// The digits of each number stand in a column: those of `2 2 2⊤5 3` are 1 0 1 and 0 1 1, and `2⊥1 0 1` is 5. The call does
+/// nothing. No memory.
+pub fn digits_of_a_number_stand_in_a_column()
+    ensures digits { encode_of (number_array (3 ∷ []) (pos 2 ∷ pos 2 ∷ pos 2 ∷ [])) (number_array (2 ∷ []) (pos 5 ∷ pos 3 ∷ [])) ≡ Ok (number_array (3 ∷ 2 ∷ []) (pos 1 ∷ pos 0 ∷ pos 0 ∷ pos 1 ∷ pos 1 ∷ pos 1 ∷ [])) }
+    ensures value { decode_of (scalar (pos 2)) (number_array (3 ∷ []) (pos 1 ∷ pos 0 ∷ pos 1 ∷ [])) ≡ Ok (scalar (pos 5)) }
 {}

@@ -13,11 +13,11 @@ ghost use Rattle.apl_structure.specs.Counting.{iota_of};
 ghost use Rattle.apl_structure.specs.Diagonals.{axes_named, coordinates_by, transpose_by_of};
 ghost use Rattle.apl_structure.specs.Plain.{ravel_of, shape_of};
 ghost use Rattle.apl_structure.specs.Reshaping.{reshape_of};
-ghost use Rattle.apl_structure.specs.Reversal.{reversed};
+ghost use Rattle.apl_structure.specs.Reversal.{reverse_of, reversed};
 ghost use Rattle.apl_structure.specs.Rotation.{rotate_of};
 ghost use Rattle.apl_structure.specs.StructureLaws.{AreLeftAt, AreTakenTo, fill_of, first_items, items_after, items_before, last_items, opposite};
 ghost use Rattle.apl_structure.specs.Taking.{axes_for, drop_of, remaining_shape, take_of, taken_shape};
-ghost use Rattle.apl_structure.specs.Transposition.{transposed};
+ghost use Rattle.apl_structure.specs.Transposition.{transpose_of, transposed};
 
 use apl_arrays::Way;
 
@@ -128,4 +128,14 @@ pub fn rotations_go_to_the_front()
     ensures rows { rotate_of (number_array (2 ∷ []) (pos 0 ∷ pos 1 ∷ [])) (number_array (2 ∷ 3 ∷ []) (pos 1 ∷ pos 2 ∷ pos 3 ∷ pos 4 ∷ pos 5 ∷ pos 6 ∷ [])) Way.Last None ≡ Ok (number_array (2 ∷ 3 ∷ []) (pos 1 ∷ pos 2 ∷ pos 3 ∷ pos 5 ∷ pos 6 ∷ pos 4 ∷ [])) }
     ensures columns { rotate_of (number_array (3 ∷ []) (pos 0 ∷ pos 1 ∷ pos 0 ∷ [])) (number_array (2 ∷ 3 ∷ []) (pos 1 ∷ pos 2 ∷ pos 3 ∷ pos 4 ∷ pos 5 ∷ pos 6 ∷ [])) Way.First None ≡ Ok (number_array (2 ∷ 3 ∷ []) (pos 1 ∷ pos 5 ∷ pos 3 ∷ pos 4 ∷ pos 2 ∷ pos 6 ∷ [])) }
     ensures scalar { rotate_of (scalar (pos 3)) (scalar (pos 7)) Way.Last None ≡ Ok (scalar (pos 7)) }
+{}
+
+/// Items in other places: the rows of `⍉2 3⍴⍳6` are its columns, `⊖` has the last row first and `⌽` the last column,
+/// `1 1⍉2 3⍴⍳6` is 1 5, and `5⍴1 2 3` begins again with 1. The call does nothing. No memory.
+pub fn items_go_to_other_places()
+    ensures columns { transpose_of (number_array (2 ∷ 3 ∷ []) (pos 1 ∷ pos 2 ∷ pos 3 ∷ pos 4 ∷ pos 5 ∷ pos 6 ∷ [])) ≡ Ok (number_array (3 ∷ 2 ∷ []) (pos 1 ∷ pos 4 ∷ pos 2 ∷ pos 5 ∷ pos 3 ∷ pos 6 ∷ [])) }
+    ensures last_row { reverse_of (number_array (2 ∷ 2 ∷ []) (pos 1 ∷ pos 2 ∷ pos 3 ∷ pos 4 ∷ [])) Way.First None ≡ Ok (number_array (2 ∷ 2 ∷ []) (pos 3 ∷ pos 4 ∷ pos 1 ∷ pos 2 ∷ [])) }
+    ensures last_column { reverse_of (number_array (2 ∷ 2 ∷ []) (pos 1 ∷ pos 2 ∷ pos 3 ∷ pos 4 ∷ [])) Way.Last None ≡ Ok (number_array (2 ∷ 2 ∷ []) (pos 2 ∷ pos 1 ∷ pos 4 ∷ pos 3 ∷ [])) }
+    ensures diagonal { transpose_by_of (number_array (2 ∷ []) (pos 1 ∷ pos 1 ∷ [])) (number_array (2 ∷ 3 ∷ []) (pos 1 ∷ pos 2 ∷ pos 3 ∷ pos 4 ∷ pos 5 ∷ pos 6 ∷ [])) ≡ Ok (number_array (2 ∷ []) (pos 1 ∷ pos 5 ∷ [])) }
+    ensures again { reshape_of (scalar (pos 5)) (number_array (3 ∷ []) (pos 1 ∷ pos 2 ∷ pos 3 ∷ [])) ≡ Ok (number_array (5 ∷ []) (pos 1 ∷ pos 2 ∷ pos 3 ∷ pos 1 ∷ pos 2 ∷ [])) }
 {}
