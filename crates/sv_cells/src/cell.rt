@@ -1,7 +1,7 @@
 ghost use Rattle.std.specs.Prelude.{◌≡◌, Some, None, IsSome, is_some, IfOk, OnOk, OnErr, option_and_then};
 ghost use Rattle.std.specs.Option.{option_copied};
 ghost use Rattle.sv_cells.specs.Cell.{after_set_in, after_use_in, answered, controlled, coupled_with, holding, known_alone, new_cell, share_in};
-ghost use Rattle.sv_story.specs.Share.{PlainShare, shared_value};
+ghost use Rattle.sv_story.specs.Share.{PlainShare, after_set, shared_value};
 
 use apl_arrays::{Array, WantOfMemory};
 use sv_access::{Control, Side};
@@ -29,13 +29,6 @@ pub struct Cell {
     pub lacks_control: bool,
     pub owes_reply: bool,
     pub held: Held,
-}
-
-/// A cell after a use, and whether the use gave a value.
-#[derive(Debug, Drop)]
-pub struct Used {
-    pub cell: Cell,
-    pub got: Result<bool, WantOfMemory>,
 }
 
 impl Held {
@@ -91,87 +84,50 @@ impl Cell {
         }
     }
 
-    /// The cell with another vector. No memory.
-    pub fn controlled(self, control: Control) -> Cell
-        ensures { result ≡ controlled self control }
+    /// Its party sets a control. No memory.
+    pub fn control(&mut self, control: Control)
+        ensures { self.new ≡ controlled self.old control }
     {
-        Cell {
-            vector: control,
-            lacks_control: false,
-            owes_reply: self.owes_reply,
-            held: self.held,
+        self.vector = control;
+        self.lacks_control = false;
+    }
+
+    /// It holds something else. No memory.
+    pub fn hold(&mut self, held: Held)
+        ensures { self.new ≡ holding self.old held }
+    {
+        self.held = held;
+    }
+
+    /// A side sets a value, where the cell has a share. No memory.
+    pub fn set(&mut self, side: Side, value: Array)
+        ensures { self.new ≡ holding self.old (after_set_in self.old.held side value) }
+    {
+        match &mut self.held {
+            Held::Shared(share) => set_shared(share, side, value),
+            Held::Alone(_) | Held::Lent => discard(value),
         }
     }
 
-    /// The cell with something else held. No memory.
-    pub fn holding(self, held: Held) -> Cell
-        ensures { result ≡ holding self held }
+    /// A side uses the value of the share, if there is one, and comes to know it. It takes memory for the value; after
+    /// `WantOfMemory` all is as before.
+    pub fn use_value(&mut self, side: Side) -> Result<bool, WantOfMemory>
+        requires { IsSome (share_in self.old.held) }
+        ensures got { IfOk result (λ got. got ≡ is_some (option_and_then shared_value (share_in self.old.held))) }
+        ensures ok { OnOk result (self.new ≡ holding self.old (after_use_in self.old.held side)) }
+        ensures err { OnErr result (self.new ≡ self.old) }
     {
-        let Cell {
-            vector,
-            lacks_control,
-            owes_reply,
-            held: old,
-        } = self;
-        discard(old);
-        Cell {
-            vector,
-            lacks_control,
-            owes_reply,
-            held,
+        match &mut self.held {
+            Held::Shared(share) => share.learn_last(side),
+            Held::Alone(_) | Held::Lent => unreachable!(),
         }
     }
 
-    /// The cell after a set by a side, where it has a share. No memory.
-    pub fn with_set(self, side: Side, value: Array) -> Cell
-        ensures { result ≡ holding self (after_set_in self.held side value) }
+    /// Its party set or used, and got a value or did not. No memory.
+    pub fn answer(&mut self, got: bool)
+        ensures { self.new ≡ answered self.old got }
     {
-        Cell {
-            vector: self.vector,
-            lacks_control: self.lacks_control,
-            owes_reply: self.owes_reply,
-            held: after_set_in(self.held, side, value),
-        }
-    }
-
-    /// The cell after a use by a side, and whether there was a value. It takes memory for the value.
-    pub fn with_use(self, side: Side) -> Used
-        requires { IsSome (share_in self.held) }
-        ensures got { IfOk result.got (λ got. got ≡ is_some (option_and_then shared_value (share_in self.held))) }
-        ensures ok { OnOk result.got (result.cell ≡ holding self (after_use_in self.held side)) }
-        ensures err { OnErr result.got (result.cell ≡ self) }
-    {
-        let Cell {
-            vector,
-            lacks_control,
-            owes_reply,
-            held,
-        } = self;
-        let Held::Shared(mut share) = held else {
-            unreachable!()
-        };
-        let got = share.learn_last(side);
-        Used {
-            cell: Cell {
-                vector,
-                lacks_control,
-                owes_reply,
-                held: Held::Shared(share),
-            },
-            got,
-        }
-    }
-
-    /// The cell once its party set or used, and got a value or did not. No memory.
-    pub fn answered(self, got: bool) -> Cell
-        ensures { result ≡ answered self got }
-    {
-        Cell {
-            vector: self.vector,
-            lacks_control: self.lacks_control,
-            owes_reply: got,
-            held: self.held,
-        }
+        self.owes_reply = got;
     }
 }
 
@@ -187,35 +143,17 @@ pub fn coupled_with(vector: Control, held: Held) -> Cell
     }
 }
 
-/// What is held after a set by a side, where it is a share. No memory.
-pub fn after_set_in(held: Held, side: Side, value: Array) -> Held
-    ensures { result ≡ after_set_in held side value }
+// A side of a share sets a value. No memory.
+fn set_shared(share: &mut Share, side: Side, value: Array)
+    ensures { share.new ≡ after_set share.old side value }
 {
-    match held {
-        Held::Alone(known) => kept_alone(known, value),
-        Held::Shared(mut share) => {
-            if share.set(side, value).is_err() {
-                unreachable!()
-            }
-            Held::Shared(share)
-        }
-        Held::Lent => kept_lent(value),
+    match share.set(side, value) {
+        Ok(()) => (),
+        Err(_) => unreachable!(),
     }
 }
 
-fn kept_alone(known: Option<Array>, _value: Array) -> Held
-    ensures { result ≡ Held.Alone known }
-{
-    Held::Alone(known)
-}
-
-fn kept_lent(_value: Array) -> Held
-    ensures { result ≡ Held.Lent }
-{
-    Held::Lent
-}
-
-fn discard(_held: Held) {}
+fn discard(_value: Array) {}
 
 /// The cells of two offers whose coupling ends: each holds again what its party knows.
 #[derive(Debug, Drop)]
@@ -225,7 +163,7 @@ pub struct Parted {
 }
 
 /// The cells of two offers whose coupling ends, by that with the share and the other. No memory.
-pub fn part_cells(a: Cell, b: Cell) -> Parted
+pub fn part_cells(a: Cell, mut b: Cell) -> Parted
     requires { IsSome (share_in a.held) }
     ensures a { (share : PlainShare) → share_in a.held ≡ Some share → result.a ≡ holding a (Held.Alone share.a) }
     ensures b { (share : PlainShare) → share_in a.held ≡ Some share → result.b ≡ holding b (Held.Alone share.b) }
@@ -240,6 +178,7 @@ pub fn part_cells(a: Cell, b: Cell) -> Parted
         unreachable!()
     };
     let known = share.into_known();
+    b.hold(Held::Alone(known.b));
     Parted {
         a: Cell {
             vector,
@@ -247,6 +186,6 @@ pub fn part_cells(a: Cell, b: Cell) -> Parted
             owes_reply,
             held: Held::Alone(known.a),
         },
-        b: b.holding(Held::Alone(known.b)),
+        b,
     }
 }

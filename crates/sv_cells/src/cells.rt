@@ -4,7 +4,7 @@ ghost use Rattle.sv_cells.specs.Cell.{after_set_in, after_use_in, answered, cont
 ghost use Rattle.sv_cells.specs.Cells.{CouplesAt, ChangesAt, KeepsCells, PartsAt, PutsAt, cell_at};
 ghost use Rattle.sv_story.specs.Share.{shared_value};
 
-use crate::cell::{Cell, Held, Parted, Used, coupled_with, part_cells};
+use crate::cell::{Cell, Held, Parted, coupled_with, part_cells};
 use apl_arrays::{Array, WantOfMemory};
 use std::alloc::Global;
 use std::collections::HashMap;
@@ -106,8 +106,10 @@ impl Cells {
         requires { IsSome (cell_at self.old place) }
         ensures { ChangesAt self.old self.new place (λ cell. controlled cell control) }
     {
-        let cell = self.take(place);
-        self.put(place, cell.controlled(control));
+        match self.cells.get_mut(&place) {
+            Some(cell) => cell.control(control),
+            None => unreachable!(),
+        }
     }
 
     /// The party of the offer at a place set or used, and got a value or did not. No memory.
@@ -115,8 +117,10 @@ impl Cells {
         requires { IsSome (cell_at self.old place) }
         ensures { ChangesAt self.old self.new place (λ cell. answered cell got) }
     {
-        let cell = self.take(place);
-        self.put(place, cell.answered(got));
+        match self.cells.get_mut(&place) {
+            Some(cell) => cell.answer(got),
+            None => unreachable!(),
+        }
     }
 
     /// The party of the open offer at a place knows a value. No memory.
@@ -124,8 +128,10 @@ impl Cells {
         requires { IsSome (cell_at self.old place) }
         ensures { ChangesAt self.old self.new place (λ cell. holding cell (Held.Alone (Some value))) }
     {
-        let cell = self.take(place);
-        self.put(place, cell.holding(Held::Alone(Some(value))));
+        match self.cells.get_mut(&place) {
+            Some(cell) => cell.hold(Held::Alone(Some(value))),
+            None => unreachable!(),
+        }
     }
 
     /// A side of the coupling whose lower offer is at a place sets a value, which moves in. No memory.
@@ -133,8 +139,10 @@ impl Cells {
         requires { IsSome (cell_at self.old place) }
         ensures { ChangesAt self.old self.new place (λ cell. holding cell (after_set_in cell.held side value)) }
     {
-        let cell = self.take(place);
-        self.put(place, cell.with_set(side, value));
+        match self.cells.get_mut(&place) {
+            Some(cell) => cell.set(side, value),
+            None => unreachable!(),
+        }
     }
 
     /// A side of the coupling whose lower offer is at a place uses the value, if there is one, and comes to know it. It takes
@@ -145,10 +153,10 @@ impl Cells {
         ensures ok { OnOk result (ChangesAt self.old self.new place (λ cell. holding cell (after_use_in cell.held side))) }
         ensures err { OnErr result (KeepsCells self.old self.new) }
     {
-        let cell = self.take(place);
-        let Used { cell, got } = cell.with_use(side);
-        self.put(place, cell);
-        got
+        match self.cells.get_mut(&place) {
+            Some(cell) => cell.use_value(side),
+            None => unreachable!(),
+        }
     }
 
     /// Two open offers are coupled: what their parties know is shared, and the lower offer's cell has the share. No memory.

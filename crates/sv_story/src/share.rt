@@ -131,7 +131,7 @@ impl Share {
     }
 
     /// The same where the value is not wanted, but only whether there is one. It takes memory for what the side comes to
-    /// know; after `WantOfMemory` all is as before.
+    /// know, if the other set it; after `WantOfMemory` all is as before.
     pub fn learn_last(&mut self, side: Side) -> Result<bool, WantOfMemory>
         ensures got { IfOk result (λ got. got ≡ is_some (shared_value self.old)) }
         ensures done { OnOk result (self.new ≡ after_get self.old side (shared_value self.old)) }
@@ -140,8 +140,10 @@ impl Share {
         let Some(value) = self.last() else {
             return Ok(false);
         };
-        let known = value.copy(self.alloc)?;
-        self.learn(side, known);
+        if side != self.last {
+            let known = value.copy(self.alloc)?;
+            self.learn(side, known);
+        }
         self.state = after(self.state, side, Kind::Use);
         Ok(true)
     }
