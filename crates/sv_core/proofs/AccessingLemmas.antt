@@ -11,14 +11,13 @@ use Rattle.sv_cells.specs.declared.cell.Cell.{Cell}
 use Rattle.sv_cells.specs.declared.cell.Held.{Held}
 use Rattle.sv_cells.specs.declared.cell.Held.TheVariants.{Alone, Lent, Shared}
 use Rattle.sv_cells.specs.declared.cells.Cells.{Cells}
-use Rattle.sv_rules.specs.Coupling.{coupling_at, coupling_now}
+use Rattle.sv_rules.specs.Coupling.{coupling_now}
 use Rattle.sv_rules.specs.Entries.{Entries}
 use Rattle.sv_rules.specs.Legal.{IsLegal}
 use Rattle.sv_rules.specs.Outcome.{value_for}
 use Rattle.sv_rules.specs.Standing.{standing}
 use Rattle.sv_rules.specs.Story.{GrantedAccess, known}
 use Rattle.sv_rules.specs.declared.coupling.Coupling.{Coupling}
-use Rattle.sv_rules.specs.declared.coupling.Made.{Made}
 use Rattle.sv_rules.specs.declared.standing.Standing.{Standing}
 use Rattle.sv_story.specs.Share.{PlainShare, shared_value}
 use Rattle.sv_core.proofs.EndingLemmas.{some_cell}
@@ -68,30 +67,23 @@ value_is users journal legal cells fit own has = by (coupling_now journal own.pl
         ap (λ (o : Option Cell). option_and_then shared_value (option_and_then (λ (cell : Cell). share_in cell.held) o)) low.1
         ∙ ap (λ (o : Option PlainShare). option_and_then shared_value o) low.3 ∙ low.4.told.value
 
--- the same by the table of a core
-by_table : (core : Parts) → IsKept core → (own : Standing) → (P : Option Coupling → Type 0) → P (coupling_now core.journal own.place) → P (coupling_at core.offers core.coupled own.place)
-by_table core k own P h =
-    subst (λ (os : List Standing). P (coupling_at os core.coupled own.place)) (sym k.stand) (subst (λ (ms : List Made). P (coupling_at (standing core.journal) ms own.place)) (sym k.couple) h)
-
-pub ready_in : (core : Parts) → IsKept core → (own : Standing) → Contains (standing core.journal) own → IsReady core.cells own (coupling_at core.offers core.coupled own.place)
-ready_in core k own has = by_table core k own (IsReady core.cells own) (ready_is core.users core.journal k.legal core.cells k.fit own has)
+-- the same of a core, by the coupling that was found
+pub ready_with : (core : Parts) → IsKept core → (own : Standing) → Contains (standing core.journal) own → (found : Option Coupling) → found ≡ coupling_now core.journal own.place → IsReady core.cells own found
+ready_with core k own has found is = subst (λ (o : Option Coupling). IsReady core.cells own o) (sym is) (ready_is core.users core.journal k.legal core.cells k.fit own has)
 
 -- an offer has a cell
 pub some_cell_in : (core : Parts) → IsKept core → (own : Standing) → Contains (standing core.journal) own → IsSome (cell_at core.cells own.place)
 some_cell_in core k own has = let old = k.fit own has in some_cell core.cells own.place old.0 old.1
 
 -- the cells after an access, by the coupling of the journal
-pub answers_in : (core : Parts) → IsKept core → (own : Standing) (cells : Cells) (access : Option GrantedAccess) → Answers core.cells cells own access (coupling_at core.offers core.coupled own.place) →
+pub answers_with : (core : Parts) (own : Standing) (cells : Cells) (access : Option GrantedAccess) (found : Option Coupling) → found ≡ coupling_now core.journal own.place → Answers core.cells cells own access found →
     Answers core.cells cells own access (coupling_now core.journal own.place)
-answers_in core k own cells access h =
-    subst (λ (ms : List Made). Answers core.cells cells own access (coupling_at (standing core.journal) ms own.place)) k.couple
-    (subst (λ (os : List Standing). Answers core.cells cells own access (coupling_at os core.coupled own.place)) k.stand h)
+answers_with core own cells access found is h = subst (λ (o : Option Coupling). Answers core.cells cells own access o) is h
 
 -- and the use of the value that it gives
-pub uses_in : (core : Parts) → IsKept core → (own : Standing) (cells : Cells) → Contains (standing core.journal) own →
-    Answers core.cells cells own (use_of (value_at core.cells own (coupling_at core.offers core.coupled own.place))) (coupling_at core.offers core.coupled own.place) →
+pub uses_with : (core : Parts) → IsKept core → (own : Standing) (cells : Cells) → Contains (standing core.journal) own → (found : Option Coupling) → found ≡ coupling_now core.journal own.place →
+    Answers core.cells cells own (use_of (value_at core.cells own found)) found →
     Answers core.cells cells own (use_of (value_for core.journal own (coupling_now core.journal own.place))) (coupling_now core.journal own.place)
-uses_in core k own cells has h =
+uses_with core k own cells has found is h =
     subst (λ (v : Option PlainArray). Answers core.cells cells own (use_of v) (coupling_now core.journal own.place)) (value_is core.users core.journal k.legal core.cells k.fit own has)
-    (subst (λ (ms : List Made). Answers core.cells cells own (use_of (value_at core.cells own (coupling_at (standing core.journal) ms own.place))) (coupling_at (standing core.journal) ms own.place)) k.couple
-    (subst (λ (os : List Standing). Answers core.cells cells own (use_of (value_at core.cells own (coupling_at os core.coupled own.place))) (coupling_at os core.coupled own.place)) k.stand h))
+    (subst (λ (o : Option Coupling). Answers core.cells cells own (use_of (value_at core.cells own o)) o) is h)

@@ -1,7 +1,7 @@
-ghost use Rattle.std.specs.Prelude.{◌≡◌, ◌<◌, [], Contains, IsOk, IfOk, OnOk, OnErr, Some, None, IsErr};
+ghost use Rattle.std.specs.Prelude.{◌≡◌, ◌<◌, [], Contains, IsOk, IfOk, IfSome, OnOk, OnErr, Some, None, IsErr};
 ghost use Rattle.std.specs.Option.{option_copied};
 ghost use Rattle.sv_cell_laws.specs.Steps.{TouchesNothing};
-ghost use Rattle.sv_core.specs.Core.{MayMake, PlainCore, core_after};
+ghost use Rattle.sv_core.specs.Core.{IsFound, MayMake, PlainCore, core_after};
 ghost use Rattle.sv_events.specs.Answer.{plain_answer, granted, no_value};
 ghost use Rattle.sv_events.specs.Row.{act_row};
 ghost use Rattle.sv_rules.specs.Coupling.{coupling_now};
@@ -16,7 +16,7 @@ use crate::updating::{note_set, note_use};
 use apl_arrays::{List, WantOfMemory};
 use sv_access::Kind;
 use sv_events::{Accessing, Act, Answer, Controlling, Ending, Question, copy_value};
-use sv_rules::{Standing, refusal_answer};
+use sv_rules::{Coupling, Standing, refusal_answer};
 
 impl Core {
     // The answer to an act that its party may make, other than a leave, where there is room; its entry is added.
@@ -178,8 +178,9 @@ impl Core {
         ensures journal { OnOk result (self.new ≡ core_after self.old party act) }
         ensures err { OnErr result (self.new ≡ self.old) }
     {
-        match self.hold_on(&offer, access.kind) {
-            None => self.grant(party, offer, access, act),
+        let coupling = self.coupling(offer.place);
+        match self.hold_on(&offer, &coupling, access.kind) {
+            None => self.grant(party, &offer, &coupling, access, act),
             Some(hold) => {
                 let answer = refusal_answer(self.waits(party), hold);
                 self.enter_quiet(party, act, answer)
@@ -191,21 +192,24 @@ impl Core {
     fn grant(
         &mut self,
         party: u32,
-        offer: Standing,
+        offer: &Standing,
+        coupling: &Option<Coupling>,
         access: Accessing,
         act: Act,
     ) -> Result<Answer, WantOfMemory>
         requires may { MayMake self.old party act }
         requires row { (act_row act).row.accesses ≡ Some access }
-        requires own { own_offer (standing self.old.journal) party access.local ≡ Some offer }
-        requires free { hold_on self.old.journal access.kind (Some offer) ≡ None }
+        requires own { own_offer (standing self.old.journal) party access.local ≡ Some offer.now }
+        requires free { hold_on self.old.journal access.kind (Some offer.now) ≡ None }
+        requires coupled { coupling.now ≡ coupling_now self.old.journal offer.now.place }
+        requires found { IfSome coupling.now (IsFound self.old.journal offer.now.place) }
         ensures answer { IfOk result (λ answer. plain_answer answer ≡ (outcome self.old.journal party act).answer) }
         ensures journal { OnOk result (self.new ≡ core_after self.old party act) }
         ensures err { OnErr result (self.new ≡ self.old) }
     {
         match access.kind {
-            Kind::Set => self.grant_set(party, offer, access, act),
-            Kind::Use => self.grant_use(party, offer, access, act),
+            Kind::Set => self.grant_set(party, offer, coupling, access, act),
+            Kind::Use => self.grant_use(party, offer, coupling, access, act),
         }
     }
 
@@ -213,15 +217,18 @@ impl Core {
     fn grant_set(
         &mut self,
         party: u32,
-        offer: Standing,
+        offer: &Standing,
+        coupling: &Option<Coupling>,
         access: Accessing,
         act: Act,
     ) -> Result<Answer, WantOfMemory>
         requires may { MayMake self.old party act }
         requires row { (act_row act).row.accesses ≡ Some access }
         requires kind { access.kind ≡ Kind.Set }
-        requires own { own_offer (standing self.old.journal) party access.local ≡ Some offer }
-        requires free { hold_on self.old.journal access.kind (Some offer) ≡ None }
+        requires own { own_offer (standing self.old.journal) party access.local ≡ Some offer.now }
+        requires free { hold_on self.old.journal access.kind (Some offer.now) ≡ None }
+        requires coupled { coupling.now ≡ coupling_now self.old.journal offer.now.place }
+        requires found { IfSome coupling.now (IsFound self.old.journal offer.now.place) }
         ensures answer { IfOk result (λ answer. plain_answer answer ≡ (outcome self.old.journal party act).answer) }
         ensures journal { OnOk result (self.new ≡ core_after self.old party act) }
         ensures err { OnErr result (self.new ≡ self.old) }
@@ -234,7 +241,7 @@ impl Core {
             discard_value(value);
             return no_act(act);
         }
-        note_set(&self.offers, &mut self.cells, &offer, value);
+        note_set(&mut self.cells, offer, coupling, value);
         let told = Told {
             answer: Answer::Granted,
             kept: Answer::Granted,
@@ -246,20 +253,23 @@ impl Core {
     fn grant_use(
         &mut self,
         party: u32,
-        offer: Standing,
+        offer: &Standing,
+        coupling: &Option<Coupling>,
         access: Accessing,
         act: Act,
     ) -> Result<Answer, WantOfMemory>
         requires may { MayMake self.old party act }
         requires row { (act_row act).row.accesses ≡ Some access }
         requires kind { access.kind ≡ Kind.Use }
-        requires own { own_offer (standing self.old.journal) party access.local ≡ Some offer }
-        requires free { hold_on self.old.journal access.kind (Some offer) ≡ None }
+        requires own { own_offer (standing self.old.journal) party access.local ≡ Some offer.now }
+        requires free { hold_on self.old.journal access.kind (Some offer.now) ≡ None }
+        requires coupled { coupling.now ≡ coupling_now self.old.journal offer.now.place }
+        requires found { IfSome coupling.now (IsFound self.old.journal offer.now.place) }
         ensures answer { IfOk result (λ answer. plain_answer answer ≡ (outcome self.old.journal party act).answer) }
         ensures journal { OnOk result (self.new ≡ core_after self.old party act) }
         ensures err { OnErr result (self.new ≡ self.old) }
     {
-        let told = match self.use_told(&offer) {
+        let told = match self.use_told(offer, coupling) {
             Ok(told) => told,
             Err(_) => return no_act(act),
         };
@@ -267,7 +277,7 @@ impl Core {
             discard_told(told);
             return no_act(act);
         }
-        if note_use(&self.offers, &mut self.cells, &offer).is_err() {
+        if note_use(&mut self.cells, offer, coupling).is_err() {
             discard_told(told);
             return no_act(act);
         }
@@ -275,12 +285,14 @@ impl Core {
     }
 
     // What a use gives, twice.
-    fn use_told(&self, offer: &Standing) -> Result<Told, WantOfMemory>
-        requires { Contains (standing self.now.journal) offer.now }
+    fn use_told(&self, offer: &Standing, coupling: &Option<Coupling>) -> Result<Told, WantOfMemory>
+        requires stands { Contains (standing self.now.journal) offer.now }
+        requires coupled { coupling.now ≡ coupling_now self.now.journal offer.now.place }
+        requires found { IfSome coupling.now (IsFound self.now.journal offer.now.place) }
         ensures answer { IfOk result (λ told. plain_answer told.answer ≡ value_answer (value_for self.now.journal offer.now (coupling_now self.now.journal offer.now.place))) }
         ensures kept { IfOk result (λ told. plain_answer told.kept ≡ value_answer (value_for self.now.journal offer.now (coupling_now self.now.journal offer.now.place))) }
     {
-        let value = copy_value(self.alloc, self.value_for(offer))?;
+        let value = copy_value(self.alloc, self.value_for(offer, coupling))?;
         told_twice(self.alloc, value_answer(value))
     }
 }

@@ -118,23 +118,32 @@ impl Core {
         }
     }
 
-    // What a use of a standing offer gives.
-    pub(crate) fn value_for(&self, offer: &Standing) -> Option<&Array>
-        requires { Contains (standing self.now.journal) offer.now }
+    // What a use of a standing offer gives, by its coupling.
+    pub(crate) fn value_for(&self, offer: &Standing, coupling: &Option<Coupling>) -> Option<&Array>
+        requires stands { Contains (standing self.now.journal) offer.now }
+        requires coupled { coupling.now ≡ coupling_now self.now.journal offer.now.place }
+        requires found { IfSome coupling.now (IsFound self.now.journal offer.now.place) }
         ensures { option_copied result ≡ value_for self.now.journal offer.now (coupling_now self.now.journal offer.now.place) }
     {
-        match self.coupling(offer.place) {
+        match coupling {
             None => self.known_alone(offer),
-            Some(coupling) => self.last_value(&coupling),
+            Some(coupling) => self.last_value(coupling),
         }
     }
 
-    // What refuses an access on a standing offer, if anything does.
-    pub(crate) fn hold_on(&self, offer: &Standing, kind: Kind) -> Option<Hold>
-        requires { Contains (standing self.now.journal) offer.now }
+    // What refuses an access on a standing offer, if anything does, by its coupling.
+    pub(crate) fn hold_on(
+        &self,
+        offer: &Standing,
+        coupling: &Option<Coupling>,
+        kind: Kind,
+    ) -> Option<Hold>
+        requires stands { Contains (standing self.now.journal) offer.now }
+        requires coupled { coupling.now ≡ coupling_now self.now.journal offer.now.place }
+        requires found { IfSome coupling.now (IsFound self.now.journal offer.now.place) }
         ensures { result ≡ hold_on self.now.journal kind (Some offer.now) }
     {
-        match self.coupling(offer.place) {
+        match coupling {
             None => {
                 let state = self.open_state(offer);
                 hold_by_state(self.vector(offer), NO_CONTROL, state, Side::A, kind)
@@ -142,8 +151,8 @@ impl Core {
             Some(coupling) => {
                 let of_a = self.vector(&coupling.a);
                 let of_b = self.vector(&coupling.b);
-                let side = side_at(&coupling, offer.place);
-                hold_by_state(of_a, of_b, self.state(&coupling), side, kind)
+                let side = side_at(coupling, offer.place);
+                hold_by_state(of_a, of_b, self.state(coupling), side, kind)
             }
         }
     }

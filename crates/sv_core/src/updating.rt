@@ -121,37 +121,39 @@ pub fn end_together(
     couple_all(cells, made.as_slice());
 }
 
-/// The cells after a set that is granted. No memory.
-pub fn note_set(offers: &Offers, cells: &mut Cells, offer: &Standing, value: Array)
-    requires { IsReady cells.old offer.now (coupling_at offers.now.offers offers.now.coupled offer.now.place) }
-    ensures { Answers cells.old cells.new offer.now (set_of value) (coupling_at offers.now.offers offers.now.coupled offer.now.place) }
+/// The cells after a set that is granted, by the offer's coupling. No memory.
+pub fn note_set(cells: &mut Cells, offer: &Standing, coupling: &Option<Coupling>, value: Array)
+    requires { IsReady cells.old offer.now coupling.now }
+    ensures { Answers cells.old cells.new offer.now (set_of value) coupling.now }
 {
-    match offers.coupling(offer.place) {
+    match coupling {
         None => cells.learn(offer.place, value),
         Some(coupling) => {
-            let side = side_at(&coupling, offer.place);
+            let side = side_at(coupling, offer.place);
             cells.set(coupling.a.place, side, value);
         }
     }
     cells.answered(offer.place, false);
 }
 
-/// The cells after a use that is not refused. It takes memory for what the side comes to know; after `WantOfMemory` they
-/// are as before.
-pub fn note_use(offers: &Offers, cells: &mut Cells, offer: &Standing) -> Result<(), WantOfMemory>
-    requires { IsReady cells.old offer.now (coupling_at offers.now.offers offers.now.coupled offer.now.place) }
-    ensures ok { OnOk result (Answers cells.old cells.new offer.now
-        (use_of (value_at cells.old offer.now (coupling_at offers.now.offers offers.now.coupled offer.now.place)))
-        (coupling_at offers.now.offers offers.now.coupled offer.now.place)) }
+/// The cells after a use that is not refused, by the offer's coupling. It takes memory for what the side comes to know;
+/// after `WantOfMemory` they are as before.
+pub fn note_use(
+    cells: &mut Cells,
+    offer: &Standing,
+    coupling: &Option<Coupling>,
+) -> Result<(), WantOfMemory>
+    requires { IsReady cells.old offer.now coupling.now }
+    ensures ok { OnOk result (Answers cells.old cells.new offer.now (use_of (value_at cells.old offer.now coupling.now)) coupling.now) }
     ensures err { OnErr result (KeepsCells cells.old cells.new) }
 {
-    match offers.coupling(offer.place) {
+    match coupling {
         None => {
             use_alone(cells, offer.place);
             Ok(())
         }
         Some(coupling) => {
-            let side = side_at(&coupling, offer.place);
+            let side = side_at(coupling, offer.place);
             use_shared(cells, coupling.a.place, offer.place, side)
         }
     }

@@ -282,7 +282,10 @@ impl Core {
     {
         match self.own(party, &access.local) {
             None => false,
-            Some(offer) => self.hold_on(&offer, access.kind).is_some(),
+            Some(offer) => {
+                let coupling = self.coupling(offer.place);
+                self.hold_on(&offer, &coupling, access.kind).is_some()
+            }
         }
     }
 

@@ -1,4 +1,4 @@
-ghost use Rattle.std.specs.Prelude.{◌≡◌, ◌==◌, ℕ, [], IfOk, IsSome, option_map, nat_eq, if◌then◌else◌};
+ghost use Rattle.std.specs.Prelude.{◌≡◌, ◌==◌, ℕ, [], IfOk, option_map, nat_eq, if◌then◌else◌};
 ghost use Rattle.std.specs.HashMap.{get};
 ghost use Rattle.sv_log.specs.Member.{HasMembers, noted};
 
@@ -38,9 +38,9 @@ pub fn note(members: &mut Members, party: u32, leaves: bool, waiting: Option<u64
     ensures { (user : ℕ) → get nat_eq members.new user
         ≡ (if party == user then option_map (noted leaves waiting) (get nat_eq members.old user) else get nat_eq members.old user) }
 {
-    match members.get(&party).copied() {
+    match members.get_mut(&party) {
         None => (),
-        Some(member) => put(members, party, noted(leaves, waiting, member)),
+        Some(member) => *member = noted(leaves, waiting, *member),
     }
 }
 
@@ -50,16 +50,5 @@ fn noted(leaves: bool, waiting: Option<u64>, member: Member) -> Member
     Member {
         has_left: leaves || member.has_left,
         waiting,
-    }
-}
-
-// Puts what is kept of a user in the place of what was.
-fn put(members: &mut Members, party: u32, member: Member)
-    requires { IsSome (get nat_eq members.old party) }
-    ensures { (user : ℕ) → get nat_eq members.new user ≡ (if party == user then Some member else get nat_eq members.old user) }
-{
-    match members.insert(party, member) {
-        Ok(_) => (),
-        Err(_) => unreachable!(),
     }
 }

@@ -1,4 +1,4 @@
-use Rattle.std.proofs.Common.{◌∙◌, OnOk, Option, subst, sym}
+use Rattle.std.proofs.Common.{OnOk, Option, subst, sym}
 use Rattle.sv_cell_laws.specs.Steps.{use_of}
 use Rattle.sv_rules.specs.declared.coupling.Coupling.{Coupling}
 use Rattle.sv_core.proofs.UsingLemmas.{note_alone, note_shared}
@@ -7,7 +7,7 @@ use Rattle.sv_core.proofs.updating.note_use.Goals as goal
 
 pub returns-in-None-clause-ok : goal.returns-in-None-clause-ok
 returns-in-None-clause-ok c =
-    let none = sym c.in-None.is ∙ c.coupling.ensures in
+    let none = sym c.in-None.is in
     let old = c.args.cells.now in
     let own = c.args.offer.now in
     let ready = subst (λ (k : Option Coupling). IsReady old own k) (sym none) c.requires in
@@ -15,7 +15,7 @@ returns-in-None-clause-ok c =
 
 pub returns-in-Some-clause-ok : goal.returns-in-Some-clause-ok
 returns-in-Some-clause-ok c =
-    let some = sym c.in-Some.is ∙ c.coupling.ensures in
+    let some = sym c.in-Some.is in
     let old = c.args.cells.now in
     let own = c.args.offer.now in
     let ready = subst (λ (k : Option Coupling). IsReady old own k) (sym some) c.requires in

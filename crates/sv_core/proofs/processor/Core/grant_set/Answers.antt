@@ -5,12 +5,13 @@ use Rattle.sv_cell_laws.proofs.QuietSteps.{set_makes_access}
 use Rattle.sv_cell_laws.specs.Steps.{set_of}
 use Rattle.sv_events.specs.Row.{act_row}
 use Rattle.sv_offer_laws.proofs.OwnLemmas.{own_offer-parts}
+use Rattle.sv_rules.specs.Coupling.{coupling_now}
 use Rattle.sv_rules.specs.Entries.{is_leave}
 use Rattle.sv_rules.specs.Legal.{MayFollow, entry_for}
 use Rattle.sv_rules.specs.Outcome.{Outcome}
 use Rattle.sv_rules.specs.Refused.{hold_on}
 use Rattle.sv_rules.specs.Standing.{own_offer, standing}
-use Rattle.sv_core.proofs.AccessingLemmas.{answers_in, ready_in}
+use Rattle.sv_core.proofs.AccessingLemmas.{answers_with, ready_with}
 use Rattle.sv_core.proofs.Kept.{IsEntered, entered, entry_is, on_success, same_core}
 use Rattle.sv_core.proofs.MakingLemmas.{access_core}
 use Rattle.sv_core.proofs.OutcomeLemmas.{access_granted, outcome_of_access}
@@ -25,20 +26,25 @@ invariant_of-self c =
 
 pub note_set-requires : goal.note_set-requires
 note_set-requires c =
-    let has = subst (λ (v : PlainCore). Contains (standing v.journal) c.args.offer) (sym c.self.view_is) (own_offer-parts (standing c.args.self.now.journal) c.args.party c.args.access.local c.args.offer c.requires.own).2 in
-    ready_in (parts_of c.self.inside) c.self.invariant c.args.offer has
+    let has = subst (λ (v : PlainCore). Contains (standing v.journal) c.args.offer.now) (sym c.self.view_is) (own_offer-parts (standing c.args.self.now.journal) c.args.party c.args.access.local c.args.offer.now c.requires.own).2 in
+    ready_with (parts_of c.self.inside) c.self.invariant c.args.offer.now has c.args.coupling.now
+    (subst (λ (v : PlainCore). c.args.coupling.now ≡ coupling_now v.journal c.args.offer.now.place) (sym c.self.view_is) c.requires.coupled)
 
 -- the act may be made after the journal as it was
 may : (c : After-enter) → MayFollow c.self.inside.log.users c.self.inside.log.journal (entry_for c.self.inside.log.journal c.args.party c.args.act)
 may c = subst (λ (v : PlainCore). MayFollow v.users v.journal (entry_for v.journal c.args.party c.args.act)) (sym c.self.view_is) c.requires.may.may
 
 -- the offer is the party's own
-own : (c : After-enter) → own_offer (standing c.self.inside.log.journal) c.args.party c.args.access.local ≡ Some c.args.offer
-own c = subst (λ (v : PlainCore). own_offer (standing v.journal) c.args.party c.args.access.local ≡ Some c.args.offer) (sym c.self.view_is) c.requires.own
+own : (c : After-enter) → own_offer (standing c.self.inside.log.journal) c.args.party c.args.access.local ≡ Some c.args.offer.now
+own c = subst (λ (v : PlainCore). own_offer (standing v.journal) c.args.party c.args.access.local ≡ Some c.args.offer.now) (sym c.self.view_is) c.requires.own
+
+-- its coupling is the one that was found
+coupled : (c : After-enter) → c.args.coupling.now ≡ coupling_now c.self.inside.log.journal c.args.offer.now.place
+coupled c = subst (λ (v : PlainCore). c.args.coupling.now ≡ coupling_now v.journal c.args.offer.now.place) (sym c.self.view_is) c.requires.coupled
 
 -- nothing refuses it
-free : (c : After-enter) → hold_on c.self.inside.log.journal c.args.access.kind (Some c.args.offer) ≡ None
-free c = subst (λ (v : PlainCore). hold_on v.journal c.args.access.kind (Some c.args.offer) ≡ None) (sym c.self.view_is) c.requires.free
+free : (c : After-enter) → hold_on c.self.inside.log.journal c.args.access.kind (Some c.args.offer.now) ≡ None
+free c = subst (λ (v : PlainCore). hold_on v.journal c.args.access.kind (Some c.args.offer.now) ≡ None) (sym c.self.view_is) c.requires.free
 
 -- the value that is set
 handed : (c : After-enter) → (act_row c.args.act).hands_in ≡ Some c.in-Ok-Some.value
@@ -49,14 +55,14 @@ more : (c : After-enter) → IsEntered c.self.inside.log c.enter.new.log (entry_
 more c =
     let journal = c.self.inside.log.journal in
     entered c.self.inside.log c.reserve.new.self c.enter.new.log _ _ c.reserve.ensures.users c.reserve.ensures.journal (on_success c.reserve.result _ c.if-is_err.ensures.negation c.reserve.ensures.room)
-    c.enter.ensures.users c.enter.ensures.journal c.enter.ensures.room (entry_is journal c.args.party c.args.act _ _ (access_granted journal c.args.party c.args.act c.args.access c.args.offer c.requires.row c.requires.kind (own c) (free c)) (c.new.ensures ∙ sym (ap (λ (o : Outcome). o.made) (outcome_of_access journal c.args.party c.args.act c.args.access c.requires.row))))
+    c.enter.ensures.users c.enter.ensures.journal c.enter.ensures.room (entry_is journal c.args.party c.args.act _ _ (access_granted journal c.args.party c.args.act c.args.access c.args.offer.now c.requires.row c.requires.kind (own c) (free c)) (c.new.ensures ∙ sym (ap (λ (o : Outcome). o.made) (outcome_of_access journal c.args.party c.args.act c.args.access c.requires.row))))
 
 pub invariant_of-self-2 : goal.invariant_of-self-2
 invariant_of-self-2 c =
     let d = (goal.at.invariant_of-self-2 c).After-enter in
     let core = parts_of c.self.inside in
     let e = entry_for core.journal c.args.party c.args.act in
-    let makes = set_makes_access core.journal c.args.party c.args.act c.args.access c.args.offer c.in-Ok-Some.value c.requires.row c.requires.kind (own d) (free d) (handed d) in
-    access_core core _ c.self.invariant e c.args.offer (set_of c.in-Ok-Some.value) (may d) (not-true (is_leave c.args.act) c.requires.may.stays)
-    (own_offer-parts (standing core.journal) c.args.party c.args.access.local c.args.offer (own d)).2 makes (more d).users (more d).journal refl refl refl
-    (answers_in core c.self.invariant c.args.offer c.note_set.new.cells (set_of c.in-Ok-Some.value) c.note_set.ensures) (more d).room
+    let makes = set_makes_access core.journal c.args.party c.args.act c.args.access c.args.offer.now c.in-Ok-Some.value c.requires.row c.requires.kind (own d) (free d) (handed d) in
+    access_core core _ c.self.invariant e c.args.offer.now (set_of c.in-Ok-Some.value) (may d) (not-true (is_leave c.args.act) c.requires.may.stays)
+    (own_offer-parts (standing core.journal) c.args.party c.args.access.local c.args.offer.now (own d)).2 makes (more d).users (more d).journal refl refl refl
+    (answers_with core c.args.offer.now c.note_set.new.cells (set_of c.in-Ok-Some.value) c.args.coupling.now (coupled d) c.note_set.ensures) (more d).room

@@ -14,19 +14,19 @@ use Rattle.sv_rules.specs.Story.{opening}
 use Rattle.sv_core.proofs.processor.Core.hold_on.Goals as goal
 
 pub vector-of_a-requires : goal.vector-of_a-requires
-vector-of_a-requires c = (subst (λ (k : Option Coupling). IfSome k (IsFound c.args.self.now.journal c.args.offer.now.place)) c.in-Some.is c.coupling.ensures.found).has_a
+vector-of_a-requires c = (subst (λ (k : Option Coupling). IfSome k (IsFound c.args.self.now.journal c.args.offer.now.place)) c.in-Some.is c.requires.found).has_a
 
 pub vector-of_b-requires : goal.vector-of_b-requires
-vector-of_b-requires c = (subst (λ (k : Option Coupling). IfSome k (IsFound c.args.self.now.journal c.args.offer.now.place)) c.in-Some.is c.coupling.ensures.found).has_b
+vector-of_b-requires c = (subst (λ (k : Option Coupling). IfSome k (IsFound c.args.self.now.journal c.args.offer.now.place)) c.in-Some.is c.requires.found).has_b
 
 pub state-requires : goal.state-requires
-state-requires c = (subst (λ (k : Option Coupling). IfSome k (IsFound c.args.self.now.journal c.args.offer.now.place)) c.in-Some.is c.coupling.ensures.found).at_a
+state-requires c = (subst (λ (k : Option Coupling). IfSome k (IsFound c.args.self.now.journal c.args.offer.now.place)) c.in-Some.is c.requires.found).at_a
 
 pub returns-in-None : goal.returns-in-None
 returns-in-None c =
     let journal = c.args.self.now.journal in
     let offer = c.args.offer.now in
-    let none : coupling_now journal offer.place ≡ None = sym c.coupling.ensures.value ∙ c.in-None.is in
+    let none : coupling_now journal offer.place ≡ None = sym c.requires.coupled ∙ c.in-None.is in
     let told = opening A journal offer in
     c.hold_by_state.ensures told (sym c.open_state-state.ensures)
     ∙ ap (λ (own : Control). let s : Sharing = record { story = told; a = own; b = no_control; side = A } in hold_under s c.args.kind) c.vector.ensures

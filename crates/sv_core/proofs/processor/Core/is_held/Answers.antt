@@ -7,8 +7,8 @@ use Rattle.sv_rules.specs.Standing.{standing}
 use Rattle.sv_rules.specs.declared.standing.Standing.{Standing}
 use Rattle.sv_core.proofs.processor.Core.is_held.Goals as goal
 
-pub hold_on-requires : goal.hold_on-requires
-hold_on-requires c = (own_offer-parts (standing c.args.self.now.journal) c.args.party c.args.access.local c.in-Some.offer (sym c.own.ensures ∙ c.in-Some.is)).2
+pub hold_on-requires-clause-stands : goal.hold_on-requires-clause-stands
+hold_on-requires-clause-stands c = (own_offer-parts (standing c.args.self.now.journal) c.args.party c.args.access.local c.in-Some.offer (sym c.own.ensures ∙ c.in-Some.is)).2
 
 pub returns-in-None : goal.returns-in-None
 returns-in-None c = ap (λ (o : Option Standing). is_some (hold_on c.args.self.now.journal c.args.access.kind o)) (sym c.in-None.is ∙ c.own.ensures)
