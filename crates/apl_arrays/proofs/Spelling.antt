@@ -5,10 +5,15 @@ use Rattle.std.proofs.lemmas.List.{take_more}
 use Rattle.std.proofs.lemmas.List.Concat.{flat_map-append}
 use Rattle.std.proofs.lemmas.List.Elements.{All-head, All-tail, All-cons, All-nil, All-append}
 use Rattle.std.proofs.lemmas.Str.{encode_same, length-encode, len_utf8_bounds}
+use Rattle.std.specs.Char.{encode_utf8}
 use Rattle.std.specs.List.{All}
-use Rattle.apl_arrays.proofs.Glyphs.{same_code, scalar_of_bound}
+use Rattle.apl_arrays.proofs.Glyphs.{same_code, scalar_of_bound, scalar_of_low}
 use Rattle.apl_arrays.proofs.Scalars.{encode_one, encode_two, encode_three}
 use Rattle.apl_arrays.specs.Glyph.{IsGlyph, scalar_of, glyph_utf8, line_utf8, Spells, StartsWithNoGlyph, IsBadFrom}
+
+-- a glyph of ASCII is one byte: its code
+pub bytes_of_low : (code : ℕ) → code < 128 → glyph_utf8 code ≡ code ∷ []
+bytes_of_low code low = ap encode_utf8 (scalar_of_low code low) ∙ encode_one code low
 
 -- glyphs come off two texts in the same way, until no glyph stands at the front
 pub same_split : (line other rest left : List ℕ) → All IsGlyph line → All IsGlyph other → StartsWithNoGlyph rest → StartsWithNoGlyph left → line_utf8 line ++ rest ≡ line_utf8 other ++ left → (line ≡ other) × (rest ≡ left)

@@ -93,6 +93,16 @@ impl<T> List<T> {
         self.items.push_reserved(item);
     }
 
+    /// Takes all items out. What they took is room again. No memory.
+    pub fn clear(&mut self)
+    where
+        T: Drop,
+        ensures items { self.new.items ≡ [] }
+        ensures room { self.new.room ≡ self.old.room + length self.old.items }
+    {
+        self.items.clear();
+    }
+
     /// Puts an item in at a place from 0, before those that stand from there on. Where there is room it is granted and
     /// takes no memory, else it takes memory for more. `WantOfMemory` leaves the list as it was.
     pub fn insert(&mut self, at: usize, item: T) -> Result<(), WantOfMemory>

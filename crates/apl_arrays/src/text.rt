@@ -1,4 +1,4 @@
-ghost use Rattle.std.specs.Prelude.{◌≡◌, ◌≢◌, ◌+◌, ◌<◌, ◌≤◌, ◌^◌, ◌++◌, ◌∷◌, [], ◌⊎◌, ◌==◌, ℕ, List as ListOf, All, length, drop, IfOk, IfErr, MatchResult, MatchOption, encode_utf8};
+ghost use Rattle.std.specs.Prelude.{◌≡◌, ◌≢◌, ◌+◌, ◌<◌, ◌≤◌, ◌^◌, ◌++◌, ◌∷◌, [], ◌⊎◌, ◌==◌, ℕ, List as ListOf, All, length, drop, IfOk, IfErr, OnOk, MatchResult, MatchOption, encode_utf8};
 ghost use Rattle.std.specs.List.{position};
 ghost use Rattle.apl_arrays.specs.Glyph.{IsGlyph, scalar_of, glyph_utf8, line_utf8, Spells, StartsWithNoGlyph, IsBadFrom};
 ghost use Rattle.apl_arrays.specs.Text.{IsReasonToRefuse, StartsWithNoScalar};
@@ -160,16 +160,41 @@ fn char_of(glyph: Glyph) -> char
     char::from_u32(u32::from(SCALARS[usize::from(code) - 0x80])).unwrap()
 }
 
+// Adds a glyph in UTF-8.
+#[tactic(auto, using(crate::proofs::Spelling::bytes_of_low))]
+fn add_glyph(bytes: &mut Vec<u8>, glyph: Glyph) -> Result<(), WantOfMemory>
+    ensures text { OnOk result (bytes.new.items ≡ bytes.old.items ++ glyph_utf8 glyph) }
+    ensures glyph { IsGlyph glyph }
+{
+    let code = glyph.code();
+    if code < 0x80 {
+        bytes.push(code)?;
+        return Ok(());
+    }
+    let mut buffer = [0; 4];
+    bytes.extend_from_slice(char_of(glyph).encode_utf8(&mut buffer).as_bytes())?;
+    Ok(())
+}
+
+/// Adds glyphs in UTF-8. It takes memory for the bytes; where that runs out, a part of them may stand there.
+pub fn add_utf8(bytes: &mut Vec<u8>, line: &[Glyph]) -> Result<(), WantOfMemory>
+    ensures text { OnOk result (bytes.new.items ≡ bytes.old.items ++ line_utf8 line.now) }
+    ensures glyphs { OnOk result (All IsGlyph line.now) }
+{
+    for glyph in line {
+        add_glyph(bytes, *glyph)?;
+    }
+    Ok(())
+}
+
 /// A line in UTF-8. Read again it is this line. It takes memory for the bytes.
 pub fn utf8_of(alloc: Global, line: &Line) -> Result<Bytes, WantOfMemory>
     ensures text { IfOk result (λ bytes. bytes.items ≡ line_utf8 line.now.items) }
     ensures read_again { IfOk result (λ bytes. Spells bytes.items line.now.items) }
 {
-    let mut text = String::new(alloc);
-    for glyph in line.as_slice() {
-        text.push(char_of(*glyph))?;
-    }
-    Ok(List::from(text.into_bytes()))
+    let mut bytes = Vec::new(alloc);
+    add_utf8(&mut bytes, line.as_slice())?;
+    Ok(List::from(bytes))
 }
 
 /// What every text keeps: it spells at most one line, and then is bad nowhere; it is bad at one place at most; the

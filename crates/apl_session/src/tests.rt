@@ -84,7 +84,7 @@ fn printed(alloc: Global, mut session: Session) -> Result<Vec<u8>, WantOfMemory>
         Wants::Act(_) => Ok(bytes),
         Wants::Finished => {
             for line in session.into_transcript().lines.as_slice() {
-                add_line(alloc, &mut bytes, line)?;
+                add_line(&mut bytes, line)?;
             }
             Ok(bytes)
         }

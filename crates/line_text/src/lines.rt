@@ -7,16 +7,16 @@ ghost use Rattle.line_text.specs.Spaced.{is_plain};
 
 use crate::number::add_count;
 use crate::text::add_text;
-use apl_arrays::{Line, List, WantOfMemory, utf8_of};
+use apl_arrays::{Line, List, WantOfMemory, add_utf8};
 use std::alloc::Global;
 
 /// Adds a line in UTF-8, and its line feed. It takes memory for the bytes; where that runs out, a part of the line may
 /// stand there.
-pub fn add_line(alloc: Global, bytes: &mut Vec<u8>, line: &Line) -> Result<(), WantOfMemory>
+pub fn add_line(bytes: &mut Vec<u8>, line: &Line) -> Result<(), WantOfMemory>
     ensures text { OnOk result (bytes.new.items ≡ bytes.old.items ++ line_text line.now.items) }
     ensures printable { OnOk result (All IsGlyph line.now.items) }
 {
-    bytes.extend_from_slice(utf8_of(alloc, line)?.as_slice())?;
+    add_utf8(bytes, line.as_slice())?;
     bytes.push(b'\n')?;
     Ok(())
 }
@@ -29,7 +29,7 @@ pub fn add_word(alloc: Global, bytes: &mut Vec<u8>, word: &str) -> Result<(), Wa
 {
     let mut line = List::new(alloc);
     add_text(&mut line, word)?;
-    add_line(alloc, bytes, &line)
+    add_line(bytes, &line)
 }
 
 /// Adds the heading of a user's lines. It takes memory for the bytes; where that runs out, a part of the line may stand
@@ -41,29 +41,29 @@ pub fn add_heading(alloc: Global, bytes: &mut Vec<u8>, number: u32) -> Result<()
     let mut line = List::new(alloc);
     add_text(&mut line, "user ")?;
     add_count(&mut line, u64::from(number))?;
-    add_line(alloc, bytes, &line)
+    add_line(bytes, &line)
 }
 
 /// Adds a line of a user, behind a bar. It takes memory for the bytes; where that runs out, a part of the line may
 /// stand there.
-pub fn add_content(alloc: Global, bytes: &mut Vec<u8>, line: &Line) -> Result<(), WantOfMemory>
+pub fn add_content(bytes: &mut Vec<u8>, line: &Line) -> Result<(), WantOfMemory>
     ensures text { OnOk result (bytes.new.items
         ≡ bytes.old.items ++ line_text (content line.now.items)) }
     ensures printable { OnOk result (All IsGlyph line.now.items) }
 {
     bytes.push(b'|')?;
-    add_line(alloc, bytes, line)
+    add_line(bytes, line)
 }
 
 /// Adds lines of a user, each behind a bar. It takes memory for the bytes; where that runs out, a part of the lines may
 /// stand there.
-pub fn add_contents(alloc: Global, bytes: &mut Vec<u8>, lines: &[Line]) -> Result<(), WantOfMemory>
+pub fn add_contents(bytes: &mut Vec<u8>, lines: &[Line]) -> Result<(), WantOfMemory>
     ensures text { OnOk result (bytes.new.items
         ≡ bytes.old.items ++ lines_text (map content (map glyphs_in lines.now))) }
     ensures printable { OnOk result (All (λ line. All IsGlyph line) (map glyphs_in lines.now)) }
 {
     for line in lines {
-        add_content(alloc, bytes, line)?;
+        add_content(bytes, line)?;
     }
     Ok(())
 }
@@ -82,7 +82,7 @@ pub fn add_user_lines(
     ensures printable { OnOk result (All (λ line. All IsGlyph line) (map glyphs_in lines.now)) }
 {
     add_heading(alloc, bytes, number)?;
-    add_contents(alloc, bytes, lines)
+    add_contents(bytes, lines)
 }
 
 /// The first line, up to its line feed, and what comes after that; or `None` where no line feed stands. No memory.

@@ -35,8 +35,9 @@ fn add_pairs(line: &mut Line, pairs: &[Pair]) -> Result<(), WantOfMemory>
     Ok(())
 }
 
-// Adds an entry.
-fn add_entry(line: &mut Line, place: u64, entry: &Entry) -> Result<(), WantOfMemory>
+/// Adds an entry at its place, as `text_of` has it. It takes memory for it; where that runs out, a part of the text may
+/// stand there.
+pub(crate) fn add_entry(line: &mut Line, place: u64, entry: &Entry) -> Result<(), WantOfMemory>
     ensures text { OnOk result (line.new.items
         ≡ line.old.items ++ entry_text place (plain_entry entry.now)) }
     ensures printable { OnOk result (IsPrintableEntry (plain_entry entry.now)) }

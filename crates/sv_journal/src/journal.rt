@@ -5,16 +5,16 @@ ghost use Rattle.sv_journal.specs.EntryText.{entry_text};
 ghost use Rattle.sv_journal.specs.Output.{PlainTranscript, entry_lines, journal_lines, output_text};
 ghost use Rattle.sv_journal.specs.Printable.{IsPrintableEntry, ArePrintable};
 
-use crate::entry_text::text_of;
-use apl_arrays::WantOfMemory;
+use crate::entry_text::add_entry;
+use apl_arrays::{Line, List, WantOfMemory};
 use line_text::{add_line, add_word};
 use std::alloc::Global;
 use sv_events::Entry;
 
-// Adds an entry's line.
+// Adds an entry's line, whose text is made in the memory of another line.
 fn add_entry_line(
-    alloc: Global,
     bytes: &mut Vec<u8>,
+    line: &mut Line,
     place: u64,
     entry: &Entry,
 ) -> Result<(), WantOfMemory>
@@ -22,7 +22,9 @@ fn add_entry_line(
         ≡ bytes.old.items ++ line_text (entry_text place (plain_entry entry.now))) }
     ensures printable { OnOk result (IsPrintableEntry (plain_entry entry.now)) }
 {
-    add_line(alloc, bytes, &text_of(alloc, place, entry)?)
+    line.clear();
+    add_entry(line, place, entry)?;
+    add_line(bytes, line)
 }
 
 // Adds entries, numbered from 1.
@@ -31,8 +33,9 @@ fn add_entries(alloc: Global, bytes: &mut Vec<u8>, entries: &[Entry]) -> Result<
         ≡ bytes.old.items ++ lines_text (entry_lines 1 (map plain_entry entries.now))) }
     ensures printable { OnOk result (All IsPrintableEntry (map plain_entry entries.now)) }
 {
+    let mut line = List::new(alloc);
     for (index, entry) in entries.iter().enumerate() {
-        add_entry_line(alloc, bytes, index as u64 + 1, entry)?;
+        add_entry_line(bytes, &mut line, index as u64 + 1, entry)?;
     }
     Ok(())
 }
