@@ -1,14 +1,18 @@
 ghost use Rattle.std.specs.Prelude.{◌≡◌};
 
+use crate::retries::try_again;
 use anyhow::{Result, bail};
 use apl_arrays::{Array, Glyph, Items, Name, NumberList};
 use case_tables::Trial;
 use std::alloc::Global;
+use sv_access::Control;
 use sv_core::Core;
-use sv_events::{Act, Answer};
+use sv_events::{Act, Answer, Retry};
+use sv_plain::is_full;
 use sv_rules::{ENTRY_LIMIT, is_auxiliary, is_leave};
 
-/// Journals that are filled: by the questions of one user, and by a list of names.
+/// Journals that are filled: by the questions of one user, by a list of 64 names, which one of 63 does not, and by values
+/// while a user waits.
 #[derive(Clone, Copy, Debug)]
 pub struct Filled;
 
@@ -36,7 +40,7 @@ fn numbered(number: u8) -> Result<Name> {
     }
 }
 
-fn offer(core: &mut Core, name: Name) -> Result<()>
+fn offer(core: &mut Core, party: u32, name: Name) -> Result<()>
     requires { core.old.users ≡ USERS }
     ensures { core.new.users ≡ core.old.users }
 {
@@ -46,7 +50,7 @@ fn offer(core: &mut Core, name: Name) -> Result<()>
         surrogate: name,
         value: None,
     };
-    step(core, 1001, act)?;
+    step(core, party, act)?;
     Ok(())
 }
 
@@ -55,7 +59,7 @@ fn offer(core: &mut Core, name: Name) -> Result<()>
 fn questions(alloc: Global) -> Result<String> {
     let mut core = Core::new(alloc, &USERS)?;
     let name = numbered(0)?;
-    offer(&mut core, name)?;
+    offer(&mut core, 1001, name)?;
     let mut answered = 0u64;
     for _asked in 0..ENTRY_LIMIT {
         if let Answer::Degree(_) = step(&mut core, 1001, Act::AskDegree(name))? {
@@ -78,35 +82,74 @@ fn zeros(alloc: Global, count: u32) -> Result<Array> {
     Ok(Array::try_new(&[count], Items::Numbers(numbers))?)
 }
 
-// One user offers 64 names and sets one until little room is left; the names that another is told fill the journal: how
-// many it is told, and how many the next time.
-fn names(alloc: Global) -> Result<String> {
+// A user sets a name to 16,384 zeros, so many times.
+fn set_often(alloc: Global, core: &mut Core, party: u32, name: Name, times: u32) -> Result<()>
+    requires { core.old.users ≡ USERS }
+    ensures { core.new.users ≡ core.old.users }
+{
+    for _set in 0..times {
+        step(core, party, Act::Set(name, zeros(alloc, 16_384)?))?;
+    }
+    Ok(())
+}
+
+// One user offers so many names and sets one until 512 elements are left, which are the weight of 64 names: what another
+// user is told that asks for them twice.
+fn names(alloc: Global, count: u8) -> Result<String> {
     let mut core = Core::new(alloc, &USERS)?;
-    for number in 0..64 {
-        offer(&mut core, numbered(number)?)?;
+    for number in 0..count {
+        offer(&mut core, 1001, numbered(number)?)?;
     }
-    for _set in 0..255 {
-        let value = zeros(alloc, 16_384)?;
-        step(&mut core, 1001, Act::Set(numbered(0)?, value))?;
-    }
-    step(
-        &mut core,
-        1001,
-        Act::Set(numbered(0)?, zeros(alloc, 16_000)?),
-    )?;
-    let first = told(&mut core)?;
-    let next = told(&mut core)?;
+    let name = numbered(0)?;
+    set_often(alloc, &mut core, 1001, name, 255)?;
+    step(&mut core, 1001, Act::Set(name, zeros(alloc, 15_872)?))?;
+    let first = told(alloc, &mut core)?;
+    let next = told(alloc, &mut core)?;
     Ok(format!(in alloc; "{first} {next}")?)
 }
 
-// How many names the other user is told, none where the journal is full.
-fn told(core: &mut Core) -> Result<usize>
+// How many names the other user is told, or that the journal is full.
+fn told(alloc: Global, core: &mut Core) -> Result<String>
     requires { core.old.users ≡ USERS }
     ensures { core.new.users ≡ core.old.users }
 {
     match step(core, 1002, Act::AskNames(1001))? {
-        Answer::Names(names) => Ok(names.as_slice().len()),
-        _ => Ok(0),
+        Answer::Names(names) => Ok(format!(in alloc; "{}", names.as_slice().len())?),
+        Answer::Full => Ok(String::from_str(alloc, "Full")?),
+        _ => bail!("a question is answered otherwise"),
+    }
+}
+
+// One user waits to set a name that it offered once more, while another fills the journal: what it is told that tries
+// again before and after.
+fn retries(alloc: Global) -> Result<String> {
+    let mut core = Core::new(alloc, &USERS)?;
+    let (held, other) = (numbered(0)?, numbered(1)?);
+    offer(&mut core, 1001, held)?;
+    offer(&mut core, 1002, other)?;
+    let control = Control([true, false, false, false]);
+    step(&mut core, 1001, Act::SetControl(held, control))?;
+    step(&mut core, 1001, Act::Set(held, zeros(alloc, 1)?))?;
+    step(&mut core, 1001, Act::Set(held, zeros(alloc, 1)?))?;
+    let first = retried(&mut core)?;
+    set_often(alloc, &mut core, 1002, other, 256)?;
+    let next = retried(&mut core)?;
+    Ok(format!(in alloc; "{first} {next}")?)
+}
+
+// What the user that waits is told that tries again, where the plain rules agree on whether the journal is full.
+fn retried(core: &mut Core) -> Result<&'static str>
+    requires { core.old.users ≡ USERS }
+    ensures { core.new.users ≡ core.old.users }
+{
+    if !core.waits(1001) {
+        bail!("nobody waits");
+    }
+    let full = is_full(core.journal());
+    match try_again(core, 1001)? {
+        Retry::StillHeld if !full => Ok("StillHeld"),
+        Retry::Now(Answer::Full) if full => Ok("Full"),
+        _ => Ok("otherwise"),
     }
 }
 
@@ -118,7 +161,9 @@ impl Trial for Filled {
     fn found(&self, alloc: Global, fields: &[&str]) -> Result<String> {
         match fields {
             ["questions", ..] => questions(alloc),
-            ["names", ..] => names(alloc),
+            ["64 names", ..] => names(alloc, 64),
+            ["63 names", ..] => names(alloc, 63),
+            ["retries", ..] => retries(alloc),
             _ => bail!("nothing fills a journal so"),
         }
     }

@@ -7,7 +7,9 @@ mod journals;
 mod judged;
 mod lines;
 mod played;
+mod retries;
 mod stories;
+mod told;
 mod value_lines;
 
 use anyhow::Result;

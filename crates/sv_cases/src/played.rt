@@ -8,16 +8,19 @@ ghost use Rattle.sv_rules.specs.Refused.{awaited};
 ghost use Rattle.sv_rules.specs.Work.{is_auxiliary};
 
 use crate::journals::{entries_of, users_of, verdict};
+use crate::retries::{still_held_are_told, try_again};
+use crate::told::is_told;
 use anyhow::{Result, bail};
 use apl_arrays::{Array, Name};
 use case_tables::Trial;
 use std::alloc::Global;
 use sv_core::Core;
-use sv_events::{Act, Entry, Retry, Work, act_of};
+use sv_events::{Act, Entry, Work, act_of};
 use sv_rules::{is_auxiliary, is_leave};
 
 /// Journals that the processor makes, an entry after another: `legal`, or the number of the first that it makes
-/// otherwise, or not at all. What an auxiliary does is its work.
+/// otherwise, or not at all. What an auxiliary does is its work, of which it has to be told what the entries say. Before
+/// each entry all who wait try again that are still held by the plain rules.
 #[derive(Clone, Copy, Debug)]
 pub struct Played;
 
@@ -49,7 +52,7 @@ fn reply_due(alloc: Global, name: Name, place: u64, reply: Option<&Array>) -> Re
     }
 }
 
-// An auxiliary does its work, if it has any.
+// An auxiliary does its work, if it has any and is told of it what the entries say.
 fn work(alloc: Global, core: &mut Core, entry: &Entry) -> Result<()>
     requires auxiliary { is_auxiliary entry.now.party ≡ true }
     requires present { IsTrue (not (has_left core.old.journal entry.now.party)) }
@@ -57,6 +60,9 @@ fn work(alloc: Global, core: &mut Core, entry: &Entry) -> Result<()>
     ensures { core.new.users ≡ core.old.users }
 {
     let place = core.journal().len() as u64 + 1;
+    if !is_told(core, entry.party) {
+        return Ok(());
+    }
     let due = act_due(alloc, core.work_of(entry.party), place, &entry.act)?;
     if let Some(act) = due {
         core.step(entry.party, act)?;
@@ -74,20 +80,20 @@ fn act(alloc: Global, core: &mut Core, entry: &Entry) -> Result<()>
     if is_leave(&entry.act) {
         core.leave(entry.party);
     } else if core.waits(entry.party) {
-        core.retry(entry.party)?;
+        try_again(core, entry.party)?;
     } else {
         core.step(entry.party, entry.act.copy(alloc)?)?;
     }
     Ok(())
 }
 
-// Whether the processor makes this entry next.
+// Whether the processor makes this entry next, where it tells whoever is still held so before.
 fn makes(alloc: Global, core: &mut Core, users: &[u32], entry: &Entry) -> Result<bool>
     requires { core.old.users ≡ users.now }
     ensures { core.new.users ≡ core.old.users }
 {
     let before = core.journal().len();
-    if core.has_left(entry.party) {
+    if !still_held_are_told(alloc, core, users)? || core.has_left(entry.party) {
         return Ok(false);
     }
     if is_auxiliary(entry.party) {

@@ -1,10 +1,11 @@
 use crate::conditions::is_variable;
+use crate::functions::push_function;
 use crate::notation::{LINE_END, STEP_END};
 use crate::questions::answers;
-use crate::steps::workspace_of;
+use crate::scripts::workspace_of;
 use anyhow::{Result, bail};
 use apl_arrays::{Fail, Line, LineList, Name};
-use apl_workspace::{Function, Seen, Workspace};
+use apl_workspace::{Seen, Workspace};
 use case_fields::{line_of, push_glyphs, unescaped};
 use case_tables::Trial;
 use fn_editor::{Editor, Fed, Opened};
@@ -39,20 +40,13 @@ fn push_fail(text: &mut String, fail: Fail) -> Result<()> {
     Ok(())
 }
 
-fn push_function(alloc: Global, text: &mut String, function: &Function) -> Result<()> {
-    text.push_str("= ")?;
-    push_glyphs(alloc, text, function.text.as_slice())?;
-    for line in function.lines.as_slice() {
-        text.push_str(LINE_END)?;
-        push_glyphs(alloc, text, line.as_slice())?;
-    }
-    Ok(())
-}
-
 // Adds the function that a global name stands for.
 fn push_defined(alloc: Global, text: &mut String, ws: &Workspace, name: &Name) -> Result<()> {
     match ws.global(name) {
-        Seen::Function(function) => push_function(alloc, text, function),
+        Seen::Function(function) => {
+            text.push_str("= ")?;
+            push_function(alloc, text, function)
+        }
         _ => bail!("nothing was defined"),
     }
 }
@@ -136,7 +130,7 @@ fn go_on(alloc: Global, editor: &mut Editor, number: u32) -> Result<()> {
     Ok(())
 }
 
-// What a line does to a definition that is open: `»N` goes on to a number, and any other line is read as it stands.
+// Whether a line was done: `»N` goes on to a number, and any other line is read as it stands.
 fn go_on_or_feed(
     alloc: Global,
     text: &mut String,
@@ -152,7 +146,22 @@ fn go_on_or_feed(
     }
 }
 
-// A refused line leaves the definition as it was, at its prompt.
+// What is seen of a definition: its prompt and what `[⎕]` shows, or that it was closed.
+fn view(alloc: Global, editor: &mut Editor) -> Result<String> {
+    let mut text = String::new(alloc);
+    if editor.is_closed() {
+        text.push_str("closed")?;
+        return Ok(text);
+    }
+    push_prompt(alloc, &mut text, editor)?;
+    if !feed(alloc, &mut text, editor, &line_of(alloc, "[⎕]")?)? {
+        bail!("a definition is not shown");
+    }
+    Ok(text)
+}
+
+// What a line does to a definition that is open. One that is refused leaves the definition as it was; where it does not,
+// what is seen of it then is added.
 fn fed(
     alloc: Global,
     ws: &mut Workspace,
@@ -160,12 +169,13 @@ fn fed(
     mut editor: Editor,
     line: &str,
 ) -> Result<Option<Editor>> {
-    let before = editor.prompt();
+    let before = view(alloc, &mut editor)?;
     if go_on_or_feed(alloc, text, &mut editor, line)? {
         return settle(alloc, ws, text, editor);
     }
-    if editor.prompt().glyphs() != before.glyphs() {
-        bail!("a refused line moves the number");
+    let after = view(alloc, &mut editor)?;
+    if after != before {
+        write!(text, ", and leaves {after}")?;
     }
     Ok(Some(editor))
 }
@@ -204,7 +214,7 @@ fn told_after(alloc: Global, ws: &Workspace, asked: &str) -> Result<String> {
     if asked == "-" {
         return Ok(String::from_str(alloc, "-")?);
     }
-    answers(alloc, ws, None, asked)
+    answers(alloc, ws, None, asked, STEP_END)
 }
 
 // What each line does, and what the workspace tells after them.

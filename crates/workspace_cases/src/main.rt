@@ -5,6 +5,7 @@
 mod conditions;
 mod definitions;
 mod filling;
+mod functions;
 mod headers;
 mod merges;
 mod notation;

@@ -1,5 +1,6 @@
+use crate::notation::STEP_END;
 use crate::questions::answers;
-use crate::steps::workspace_of;
+use crate::scripts::workspace_of;
 use anyhow::{Result, bail};
 use apl_arrays::{Fail, NameList};
 use apl_execute::{Merged, merge};
@@ -30,7 +31,7 @@ fn merged_text(alloc: Global, merged: &Merged, asked: &str) -> Result<String> {
     text.push_str(", shared")?;
     push_names(alloc, &mut text, merged.shared.as_slice())?;
     text.push_str(" ¦ ")?;
-    text.push_str(answers(alloc, &merged.workspace, None, asked)?.as_str())?;
+    text.push_str(answers(alloc, &merged.workspace, None, asked, STEP_END)?.as_str())?;
     Ok(text)
 }
 
@@ -38,7 +39,7 @@ fn refused_text(alloc: Global, into: &Workspace, fail: Fail, asked: &str) -> Res
     let Fail::Report(report) = fail else {
         bail!("out of memory");
     };
-    let told = answers(alloc, into, None, asked)?;
+    let told = answers(alloc, into, None, asked, STEP_END)?;
     let report = report.text();
     Ok(format!(in alloc; "{report} ¦ {told}")?)
 }

@@ -1,10 +1,16 @@
-use crate::notation::STEP_END;
-use crate::steps::RefusedStep;
+use crate::functions::push_function;
 use anyhow::{Context, Result, bail};
-use apl_arrays::{Array, Name};
+use apl_arrays::{Array, Name, Report};
 use apl_workspace::{Function, Seen, What, Workspace};
-use case_fields::{array_text, name_of, names_text, push_glyphs};
+use case_fields::{array_text, name_of, names_text};
 use std::alloc::Global;
+
+/// A report, and the number of the step that was refused with it, counted from 1.
+#[derive(Clone, Copy, Debug)]
+pub struct RefusedStep {
+    pub report: Report,
+    pub number: usize,
+}
 
 // A word, and the value behind it.
 fn behind_word(alloc: Global, word: &str, value: &Array) -> Result<String> {
@@ -14,7 +20,7 @@ fn behind_word(alloc: Global, word: &str, value: &Array) -> Result<String> {
 
 fn function_text(alloc: Global, function: &Function) -> Result<String> {
     let mut text = String::from_str(alloc, "function ")?;
-    push_glyphs(alloc, &mut text, function.text.as_slice())?;
+    push_function(alloc, &mut text, function)?;
     Ok(text)
 }
 
@@ -98,18 +104,19 @@ fn answer(
     }
 }
 
-/// The answers to the questions that are asked, each behind its question. What is asked has its answers too, which are
-/// not looked at.
+/// The answers to the questions that are asked, each behind its question, with a separator between. What is asked has its
+/// answers too, which are not looked at.
 pub fn answers(
     alloc: Global,
     ws: &Workspace,
     refused: Option<RefusedStep>,
     asked: &str,
+    separator: &str,
 ) -> Result<String> {
     let mut text = String::new(alloc);
-    for (at, line) in asked.split(STEP_END).enumerate() {
+    for (at, line) in asked.split(separator).enumerate() {
         if at > 0 {
-            text.push_str(STEP_END)?;
+            text.push_str(separator)?;
         }
         let question = line.split_once(" = ").map_or(line, |parts| parts.0);
         let told = answer(alloc, ws, refused, question)?;

@@ -1,6 +1,7 @@
 use crate::conditions::{is_function, is_variable, may_be_asked};
 use crate::filling::fill;
-use crate::notation::{STEP_END, function_of, optional_of, report_of};
+use crate::functions::takes;
+use crate::notation::{function_of, optional_of, report_of};
 use anyhow::{Context, Result, bail};
 use apl_arrays::{Name, Report};
 use apl_workspace::{Args, PRINTED_LIMIT, Seen, Workspace};
@@ -77,10 +78,7 @@ fn renew(alloc: Global, ws: &mut Workspace, text: &str) -> Result<Option<Report>
 // Enters a function with its arguments.
 fn enter_with(ws: &mut Workspace, name: &Name, args: Args) -> Result<Option<Report>> {
     let fits = match ws.look(name) {
-        Seen::Function(function) => {
-            function.header.left.is_some() == args.left.is_some()
-                && function.header.right.is_some() == args.right.is_some()
-        }
+        Seen::Function(function) => takes(function, &args),
         _ => false,
     };
     if !fits {
@@ -157,8 +155,8 @@ fn granted(alloc: Global, ws: &mut Workspace, word: &str, rest: &str) -> Result<
     }
 }
 
-// The report of a step that was refused.
-fn step(alloc: Global, ws: &mut Workspace, text: &str) -> Result<Option<Report>> {
+/// Does a step: its report where it was refused.
+pub fn step(alloc: Global, ws: &mut Workspace, text: &str) -> Result<Option<Report>> {
     let (word, rest) = text.split_once(" ").unwrap_or((text, ""));
     match word {
         "assign" => assign(alloc, ws, rest),
@@ -173,34 +171,4 @@ fn step(alloc: Global, ws: &mut Workspace, text: &str) -> Result<Option<Report>>
             Ok(None)
         }
     }
-}
-
-/// A report, and the number of the step that was refused with it, counted from 1.
-#[derive(Clone, Copy, Debug)]
-pub struct RefusedStep {
-    pub report: Report,
-    pub number: usize,
-}
-
-/// Does the steps of a text, and tells which of them was refused last.
-pub fn run(alloc: Global, ws: &mut Workspace, steps: &str) -> Result<Option<RefusedStep>> {
-    let mut refused = None;
-    for (at, text) in steps.split(STEP_END).enumerate() {
-        if let Some(report) = step(alloc, ws, text)? {
-            refused = Some(RefusedStep {
-                report,
-                number: at.saturating_add(1),
-            });
-        }
-    }
-    Ok(refused)
-}
-
-/// The workspace that steps make, or an empty one where there is `-`.
-pub fn workspace_of(alloc: Global, steps: &str) -> Result<Workspace> {
-    let mut ws = Workspace::new(alloc);
-    if steps != "-" {
-        run(alloc, &mut ws, steps)?;
-    }
-    Ok(ws)
 }

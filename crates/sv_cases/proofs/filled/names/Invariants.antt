@@ -3,6 +3,3 @@ use Rattle.sv_cases.proofs.filled.names.Given as goal
 
 abbrev pub invariant-loop-number : goal.invariant-loop-number
 invariant-loop-number l = l.core.users ≡ 1001 ∷ 1002 ∷ []
-
-abbrev pub invariant-loop-set : goal.invariant-loop-set
-invariant-loop-set l = l.core.users ≡ 1001 ∷ 1002 ∷ []
