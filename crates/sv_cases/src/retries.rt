@@ -28,14 +28,25 @@ fn is_still_held(alloc: Global, users: &[u32], entries: &[Entry], user: u32) -> 
     }
 }
 
+// Whether a user is told that it is still held, where it tries again.
+fn is_kept_back(core: &mut Core, user: u32) -> Result<bool>
+    ensures { core.new.users ≡ core.old.users }
+{
+    if !core.waits(user) {
+        return Ok(false);
+    }
+    match try_again(core, user)? {
+        Retry::StillHeld => Ok(true),
+        Retry::Now(_) => Ok(false),
+    }
+}
+
 /// Whether each user that is still held by the plain rules is told so where it tries again.
 pub fn still_held_are_told(alloc: Global, core: &mut Core, users: &[u32]) -> Result<bool>
     ensures { core.new.users ≡ core.old.users }
 {
     for user in users {
-        if is_still_held(alloc, users, core.journal(), *user)?
-            && !(core.waits(*user) && matches!(try_again(core, *user)?, Retry::StillHeld))
-        {
+        if is_still_held(alloc, users, core.journal(), *user)? && !is_kept_back(core, *user)? {
             return Ok(false);
         }
     }
