@@ -59,7 +59,7 @@ fn class_seen(name: Name, seen: Seen<'_>) -> Option<Class>
 fn argument_count(function: &Function) -> u8
     ensures { result ≡ argument_count function.now.header }
 {
-    let header = &function.header;
+    let header = function.header();
     if header.left.is_some() {
         2
     } else if header.right.is_some() {

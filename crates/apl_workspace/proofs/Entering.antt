@@ -1,37 +1,24 @@
 -- Functions that are entered and left.
-use Rattle.std.proofs.Common.{◌≡◌, ℕ, suc, ◌+◌, ◌<◌, ◌≤◌, List, [], ◌∷◌, ◌++◌, Option, length, take, drop, get_or, map, fold, reverse, sum_by, refl, sym, ap, ◌∙◌, drop-cons, arith}
+use Rattle.std.proofs.Common.{◌≡◌, ℕ, ◌+◌, ◌<◌, List, ◌∷◌, ◌++◌, Option, length, take, get_or, fold, reverse, sum_by, sym, ap, ◌∙◌, arith}
 use Rattle.std.specs.Option.{option_to_list}
 use Rattle.std.proofs.lemmas.List.Sums.{fold-append, fold_more, sum_by-cons}
-use Rattle.apl_arrays.specs.List.{Listed, glyphs_in}
 use Rattle.apl_workspace.specs.declared.args.Args.{Args}
+use Rattle.apl_workspace.specs.declared.label.LabelledLine.{LabelledLine}
 use Rattle.apl_workspace.specs.declared.meaning.Meaning.{Meaning}
 use Rattle.apl_workspace.specs.declared.meaning.Meaning.TheVariants.{Nothing, Value, Function, Label, Shared}
 use Rattle.apl_workspace.specs.declared.remake.Remake.{Remake}
-use Rattle.apl_workspace.specs.Frame.{with_label, with_labels, with_local_name}
-use Rattle.apl_workspace.specs.Label.{label_of}
+use Rattle.apl_workspace.specs.Frame.{with_labelled_line, with_local_name}
 use Rattle.apl_workspace.specs.Meaning.{NameTable, table_weight}
 use Rattle.apl_workspace.specs.Workspace.{IsFrameFor, PlainWorkspace, with_frame_by, workspace_weight}
 use Rattle.apl_workspace.proofs.Giving.{with_frames}
 
 -- ---- the frame of a function
 
--- the label of a line more, before those behind it
-pub labels_on : (lines : List (Listed ℕ)) (number at : ℕ) (line : Listed ℕ) (names before after : NameTable) → at + 1 ≡ number → number ≤ length lines → line ≡ get_or lines at line
-    → after ≡ with_label (label_of (glyphs_in line)) number before → before ≡ with_labels (number + 1) (map glyphs_in (drop number lines)) names → after ≡ with_labels (at + 1) (map glyphs_in (drop at lines)) names
-labels_on lines number at line names before after more lt is put so =
-    let next : suc at ≡ number = omega (arith, more) in
-    let behind : drop at lines ≡ line ∷ drop number lines =
-    drop-cons lines at line (omega (arith, more, lt)) ∙ ap (λ (first : Listed ℕ). first ∷ drop (suc at) lines) (sym is) ∙ ap (λ (k : ℕ). line ∷ drop k lines) next in
-    put ∙ ap (with_label (label_of (glyphs_in line)) number) so ∙ ap (λ (k : ℕ). with_label (label_of (glyphs_in line)) k (with_labels (k + 1) (map glyphs_in (drop number lines)) names)) (sym more)
-    ∙ sym (ap (λ rest. with_labels (at + 1) (map glyphs_in rest) names) behind)
-
--- behind the last line no labels are left
-pub no_labels : (lines : List (Listed ℕ)) (number : ℕ) (names : NameTable) → number ≡ length lines → names ≡ with_labels (number + 1) (map glyphs_in (drop number lines)) names
-no_labels lines number names e = ap (λ rest. with_labels (number + 1) (map glyphs_in rest) names) (sym (nothing_behind lines) ∙ ap (λ (k : ℕ). drop k lines) (sym e))
-  where
-    nothing_behind : (lines : List (Listed ℕ)) → drop (length lines) lines ≡ []
-    nothing_behind [] = refl
-    nothing_behind (x ∷ xs) = nothing_behind xs
+-- a label more
+pub labels_on : (names before after : NameTable) (labels : List LabelledLine) (i : ℕ) (labelled : LabelledLine) → i < length labels → labelled ≡ get_or labels i labelled → after ≡ with_labelled_line before labelled → before ≡ fold with_labelled_line names (take i labels)
+    → after ≡ fold with_labelled_line names (take (i + 1) labels)
+labels_on names before after labels i labelled lt is put so =
+    put ∙ ap (λ n. with_labelled_line n labelled) so ∙ ap (with_labelled_line (fold with_labelled_line names (take i labels))) is ∙ sym (fold_more with_labelled_line names labels i labelled lt)
 
 -- a local name more
 pub locals_on : (names before after : NameTable) (locals : List (List ℕ)) (i : ℕ) (name : List ℕ) → i < length locals → name ≡ get_or locals i name → after ≡ with_local_name before name → before ≡ fold with_local_name names (take i locals)

@@ -1,13 +1,21 @@
 -- What a name of a frame stands for.
-use Rattle.std.proofs.Common.{◌≡◌, ℕ, ◌+◌, Bool, true, false, cond, List, [], ◌∷◌, Option, Some, None, refl, ◌∙◌}
+use Rattle.std.proofs.Common.{◌≡◌, ℕ, ◌+◌, Bool, true, false, cond, not, List, [], ◌∷◌, Option, Some, None, fold, refl, sym, ap, ◌∙◌}
+use Rattle.std.specs.Prelude.{is_some}
+use Rattle.std.specs.List.{list_any}
+use Rattle.std.specs.Map.{keys_of}
 use Rattle.std.specs.Option.{option_map, option_or}
-use Rattle.apl_workspace.specs.Frame.{labelled_line, this_or_later, with_label, with_labels}
-use Rattle.apl_workspace.specs.Label.{label_of}
+use Rattle.std.proofs.lemmas.Bool.{and_parts, false≢true}
+use Rattle.apl_workspace.specs.Frame.{with_label, with_labelled_line, with_labels}
+use Rattle.apl_workspace.specs.Label.{AreLabels, label_of, labelled_line, line_among, this_or_later}
+use Rattle.apl_workspace.specs.Names.{all_differ}
+use Rattle.apl_workspace.specs.declared.label.LabelledLine.{LabelledLine}
 use Rattle.apl_workspace.specs.Meaning.{NameTable, meaning_in}
 use Rattle.apl_arrays.specs.Name.{same_name}
 use Rattle.apl_workspace.specs.declared.meaning.Meaning.{Meaning}
 use Rattle.apl_workspace.specs.declared.meaning.Meaning.TheVariants.{Label}
-use Rattle.apl_workspace.proofs.Ascending.{found_with}
+use Rattle.apl_workspace.proofs.Ascending.{Ascend, found_with, told_by_look_ups, with_ascends}
+use Rattle.apl_workspace.proofs.Labelled.{is_among, names_of_labels}
+use Rattle.apl_workspace.proofs.NameLaw.{equal_names, from_not}
 
 -- the line of a label, else what stands behind
 abbrev pub line_or : Option ℕ → Option Meaning → Option Meaning
@@ -25,3 +33,39 @@ one_label (Some label) number names name later behind e = found_with names label
 pub labels_first : (number : ℕ) (lines : List (List ℕ)) (names : NameTable) (name : List ℕ) → meaning_in (with_labels number lines names) name ≡ line_or (labelled_line number lines name) (meaning_in names name)
 labels_first number [] names name = refl
 labels_first number (line ∷ lines) names name = one_label (label_of line) number (with_labels (number + 1) lines names) name (labelled_line (number + 1) lines name) (meaning_in names name) (labels_first (number + 1) lines names name)
+
+-- ---- labels that are kept
+
+label_by : (b : Bool) (line : ℕ) (behind : Option ℕ) (was : Option Meaning) → (b ≡ true → is_some behind ≡ false) → line_or behind (cond b (Some (Label line)) was) ≡ line_or (cond b (Some line) behind) was
+label_by true line None was apart = refl
+label_by true line (Some later) was apart = absurd (false≢true (sym (apart refl)))
+label_by false line behind was apart = refl
+
+-- a label that is put in stands for its line, where all labels differ
+labels_stand : (labels : List LabelledLine) (names : NameTable) (name : List ℕ) → all_differ (names_of_labels labels) ≡ true → meaning_in (fold with_labelled_line names labels) name ≡ line_or (line_among labels name) (meaning_in names name)
+unfolding all_differ
+labels_stand [] names name h = refl
+labels_stand (labelled ∷ labels) names name h =
+    let parts = and_parts (not (list_any (same_name labelled.label) (names_of_labels labels))) (all_differ (names_of_labels labels)) h in
+    let none : is_some (line_among labels labelled.label) ≡ false = sym (is_among labels labelled.label) ∙ from_not (list_any (same_name labelled.label) (names_of_labels labels)) parts.0 in
+    labels_stand labels (with_labelled_line names labelled) name parts.1 ∙ ap (line_or (line_among labels name)) (found_with names labelled.label (Label labelled.line) name)
+    ∙ label_by (same_name labelled.label name) labelled.line (line_among labels name) (meaning_in names name)
+    (λ (e : same_name labelled.label name ≡ true). ap (λ (n : List ℕ). is_some (line_among labels n)) (sym (equal_names labelled.label name e)) ∙ none)
+
+kept_ascend : (labels : List LabelledLine) (names : NameTable) → Ascend (keys_of names) → Ascend (keys_of (fold with_labelled_line names labels))
+kept_ascend [] names s = s
+kept_ascend (labelled ∷ labels) names s = kept_ascend labels (with_labelled_line names labelled) (with_ascends names labelled.label (Label labelled.line) s)
+
+label_ascends : (label : Option (List ℕ)) (number : ℕ) (names : NameTable) → Ascend (keys_of names) → Ascend (keys_of (with_label label number names))
+label_ascends None number names s = s
+label_ascends (Some label) number names s = with_ascends names label (Label number) s
+
+lines_ascend : (number : ℕ) (lines : List (List ℕ)) (names : NameTable) → Ascend (keys_of names) → Ascend (keys_of (with_labels number lines names))
+lines_ascend number [] names s = s
+lines_ascend number (line ∷ lines) names s = label_ascends (label_of line) number (with_labels (number + 1) lines names) (lines_ascend (number + 1) lines names s)
+
+-- the labels that are kept, put in, are those of the lines
+pub labels_put : (lines : List (List ℕ)) (labels : List LabelledLine) (names : NameTable) → Ascend (keys_of names) → AreLabels lines labels → fold with_labelled_line names labels ≡ with_labels 1 lines names
+labels_put lines labels names s h =
+    told_by_look_ups (fold with_labelled_line names labels) (with_labels 1 lines names) (kept_ascend labels names s) (lines_ascend 1 lines names s)
+    (λ name. labels_stand labels names name h.differ ∙ ap (λ (o : Option ℕ). line_or o (meaning_in names name)) (h.first name) ∙ sym (labels_first 1 lines names name))

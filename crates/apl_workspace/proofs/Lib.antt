@@ -7,6 +7,7 @@ pub mod HeaderLaw
 pub mod InOrder
 pub mod Innermost
 pub mod Inside
+pub mod Labelled
 pub mod Labels
 pub mod Listed
 pub mod Locals

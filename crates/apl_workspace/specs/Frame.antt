@@ -9,6 +9,7 @@ use Rattle.apl_workspace.specs.Label.{label_of}
 use Rattle.apl_workspace.specs.Meaning.{NameTable, meaning_of, with_meaning}
 use Rattle.apl_arrays.specs.Name.{same_name}
 use Rattle.apl_workspace.specs.declared.args.Args.{Args}
+use Rattle.apl_workspace.specs.declared.label.LabelledLine.{LabelledLine}
 use Rattle.apl_workspace.specs.declared.meaning.Meaning.{Meaning}
 use Rattle.apl_workspace.specs.declared.meaning.Meaning.TheVariants.{Nothing, Label}
 
@@ -46,6 +47,10 @@ abbrev pub with_labels : ℕ → List (List ℕ) → NameTable → NameTable
 with_labels number [] names = names
 with_labels number (line ∷ lines) names = with_label (label_of line) number (with_labels (number + 1) lines names)
 
+-- the names with a label that stands for its line
+abbrev pub with_labelled_line : NameTable → LabelledLine → NameTable
+with_labelled_line names labelled = with_meaning names labelled.label (Label labelled.line)
+
 -- the frame of a function: the names of its header, and its labels, which hide those
 abbrev pub frame_of : PlainFunction → Args → NameTable
 frame_of function args = with_labels 1 function.lines (header_names function.header args)
@@ -54,13 +59,3 @@ frame_of function args = with_labels 1 function.lines (header_names function.hea
 pub record AreArgumentsOf (header : PlainHeader) (args : Args) : Type 0 where
   pub left : is_some args.left ≡ is_some header.left
   pub right : is_some args.right ≡ is_some header.right
-
--- the number of a line where it has this label, else that of a later one
-abbrev pub this_or_later : Option (List ℕ) → List ℕ → ℕ → Option ℕ → Option ℕ
-this_or_later None name number later = later
-this_or_later (Some label) name number later = if same_name label name then Some number else later
-
--- the number of the first of these lines that has this label, where one has it; the first line has this number
-abbrev pub labelled_line : ℕ → List (List ℕ) → List ℕ → Option ℕ
-labelled_line number [] name = None
-labelled_line number (line ∷ lines) name = this_or_later (label_of line) name number (labelled_line (number + 1) lines name)

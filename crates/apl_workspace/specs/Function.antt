@@ -1,10 +1,12 @@
 -- Functions as plain data.
-use Rattle.std.specs.Prelude.{◌≡◌, ◌≤◌, ◌+◌, ◌&&◌, ℕ, Bool, List, Option, Some, None, All, length, nat_le, sum_by, if◌then◌else◌}
+use Rattle.std.specs.Prelude.{◌≡◌, ◌≤◌, ◌+◌, ◌&&◌, ℕ, Bool, List, Option, Some, None, All, length, min, nat_le, sum_by, if◌then◌else◌}
 use Rattle.std.specs.List.{list_all}
 use Rattle.std.specs.Option.{option_map}
 use Rattle.apl_arrays.specs.Limits.{most_line_glyphs}
 use Rattle.apl_workspace.specs.Header.{PlainHeader, header_of}
-use Rattle.apl_workspace.specs.Limits.{most_function_lines}
+use Rattle.apl_workspace.specs.Label.{AreLabels}
+use Rattle.apl_workspace.specs.Limits.{most_function_lines, most_weight}
+use Rattle.apl_workspace.specs.declared.label.LabelledLine.{LabelledLine}
 
 -- a function: its header as it was entered, what that header is, and its lines
 pub record PlainFunction : Type 0 where
@@ -42,3 +44,8 @@ lines_weight lines = sum_by (λ line. length line + 1) lines
 -- what a function weighs: one, the glyphs of its header and of its lines, and one for each line
 abbrev pub function_weight : PlainFunction → ℕ
 function_weight function = 1 + length function.text + lines_weight function.lines
+
+-- what a function keeps beside its text, its header and its lines: its labels, and its weight or one more than a workspace may weigh
+pub record IsKept (function : PlainFunction) (labels : List LabelledLine) (weight : ℕ) : Type 0 where
+  pub first : AreLabels function.lines labels
+  pub counted : weight ≡ min (function_weight function) (most_weight + 1)

@@ -1,10 +1,12 @@
 -- Labels of lines.
-use Rattle.std.specs.Prelude.{◌≡◌, ◌++◌, ◌==◌, ℕ, Bool, List, ◌∷◌, Option, Some, None, IsTrue, drop, if◌then◌else◌}
+use Rattle.std.specs.Prelude.{◌≡◌, ◌+◌, ◌++◌, ◌==◌, ℕ, Bool, true, List, [], ◌∷◌, Option, Some, None, IsTrue, drop, is_some, map, if◌then◌else◌}
 use Rattle.std.specs.List.{list_all}
 use Rattle.apl_arrays.specs.Glyph.{colon, is_blank}
-use Rattle.apl_arrays.specs.Name.{IsName, longest_name}
+use Rattle.apl_arrays.specs.Name.{IsName, longest_name, same_name}
 use Rattle.apl_arrays.specs.Run.{begins}
 use Rattle.apl_workspace.specs.Blanks.{without_blanks}
+use Rattle.apl_workspace.specs.Names.{all_differ}
+use Rattle.apl_workspace.specs.declared.label.LabelledLine.{LabelledLine}
 
 -- the glyph behind a label
 abbrev pub is_colon : ℕ → Bool
@@ -28,3 +30,28 @@ pub record HasLabel (line label : List ℕ) : Type 0 where
   pub is_name : IsName label
   pub blank_before : IsTrue (list_all is_blank before)
   pub blank_after : IsTrue (list_all is_blank after)
+
+-- the number of a line where it has this label, else that of a later one
+abbrev pub this_or_later : Option (List ℕ) → List ℕ → ℕ → Option ℕ → Option ℕ
+this_or_later None name number later = later
+this_or_later (Some label) name number later = if same_name label name then Some number else later
+
+-- the number of the first of these lines that has this label, where one has it; the first line has this number
+abbrev pub labelled_line : ℕ → List (List ℕ) → List ℕ → Option ℕ
+labelled_line number [] name = None
+labelled_line number (line ∷ lines) name = this_or_later (label_of line) name number (labelled_line (number + 1) lines name)
+
+-- the line of a label among these, where it is one of them
+abbrev pub line_among : List LabelledLine → List ℕ → Option ℕ
+line_among [] name = None
+line_among (labelled ∷ labels) name = if same_name labelled.label name then Some labelled.line else line_among labels name
+
+-- labels with that of a line more, where the line has one that is not among them
+abbrev pub with_line : List LabelledLine → Option (List ℕ) → ℕ → List LabelledLine
+with_line labels None number = labels
+with_line labels (Some label) number = if is_some (line_among labels label) then labels else labels ++ record { label = label; line = number } ∷ []
+
+-- all labels of these lines, each once, with the first line that has it
+pub record AreLabels (lines : List (List ℕ)) (labels : List LabelledLine) : Type 0 where
+  pub first : (name : List ℕ) → line_among labels name ≡ labelled_line 1 lines name
+  pub differ : all_differ (map (λ labelled. labelled.label) labels) ≡ true

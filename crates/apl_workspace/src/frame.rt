@@ -1,26 +1,26 @@
-ghost use Rattle.std.specs.Prelude.{◌≡◌, ◌+◌, ◌++◌, ◌≤◌, ℕ, List as ListOf, OnOk, IfOk, fold, length, map};
+ghost use Rattle.std.specs.Prelude.{◌≡◌, ◌+◌, ◌++◌, ◌≤◌, ℕ, List as ListOf, OnOk, IfOk, fold};
 ghost use Rattle.std.specs.Option.{option_map, option_or, option_to_list};
 ghost use Rattle.apl_arrays.specs.Limits.{most_elements};
-ghost use Rattle.apl_arrays.specs.List.{glyphs_in};
-ghost use Rattle.apl_workspace.specs.Frame.{frame_of, header_names, labelled_line, with_argument, with_label, with_labels, with_local_name};
+ghost use Rattle.apl_workspace.specs.Frame.{frame_of, header_names, with_argument, with_labelled_line, with_local_name};
 ghost use Rattle.apl_workspace.specs.Function.{PlainFunction};
-ghost use Rattle.apl_workspace.specs.Label.{label_of};
-ghost use Rattle.apl_workspace.specs.Limits.{most_function_lines};
+ghost use Rattle.apl_workspace.specs.Label.{labelled_line};
 ghost use Rattle.apl_workspace.specs.Meaning.{meaning_in, table_weight};
 
-use crate::label::label_of;
-use crate::{Args, Function, Header, Meaning, Table};
-use apl_arrays::{Array, Line, Name, WantOfMemory};
+use crate::label::LabelledLine;
+use crate::table::Table;
+use crate::{Args, Function, Header, Meaning};
+use apl_arrays::{Array, Name, WantOfMemory};
 use std::alloc::Global;
 
 /// The frame of a function that is called with these arguments: the names of its header but its own, and its labels,
 /// which hide those. It takes memory for the names.
+#[tactic(auto, using(crate::proofs::FrameLaw::labels_put))]
 pub fn frame_of(alloc: Global, function: &Function, args: Args) -> Result<Table, WantOfMemory>
-    requires { length function.now.lines ≤ most_function_lines }
     ensures { IfOk result (λ frame. frame ≡ frame_of function.now args) }
 {
-    let mut frame = header_names(alloc, &function.header, args)?;
-    put_labels(&mut frame, function.lines.as_slice())?;
+    let mut frame = header_names(alloc, function.header(), args)?;
+    let _ = frame.weight();
+    put_labels(&mut frame, function.labels())?;
     Ok(frame)
 }
 
@@ -80,28 +80,15 @@ fn put_locals(names: &mut Table, locals: &[Name]) -> Result<(), WantOfMemory>
     Ok(())
 }
 
-/// Puts the labels of lines in, of equal ones the first.
-#[tactic(auto, using(crate::proofs::Entering::labels_on, crate::proofs::Entering::no_labels))]
-fn put_labels(names: &mut Table, lines: &[Line]) -> Result<(), WantOfMemory>
-    requires { length lines.now ≤ most_function_lines }
-    ensures { OnOk result (names.new ≡ with_labels 1 (map glyphs_in lines.now) names.old) }
+/// Puts labels in.
+#[tactic(auto, using(crate::proofs::Entering::labels_on))]
+fn put_labels(names: &mut Table, labels: &[LabelledLine]) -> Result<(), WantOfMemory>
+    ensures { OnOk result (names.new ≡ fold with_labelled_line names.old labels.now) }
 {
-    let mut number = lines.len();
-    while number > 0 {
-        put_label(names, &lines[number - 1], number as u32)?;
-        number -= 1;
+    for labelled in labels {
+        names.put_weightless(labelled.label, Meaning::Label(labelled.line))?;
     }
     Ok(())
-}
-
-/// Puts the label of a line in, where the line has one.
-fn put_label(names: &mut Table, line: &Line, number: u32) -> Result<(), WantOfMemory>
-    ensures { OnOk result (names.new ≡ with_label (label_of line.now.items) number names.old) }
-{
-    match label_of(line.as_slice()) {
-        None => Ok(()),
-        Some(label) => names.put_weightless(label, Meaning::Label(number)),
-    }
 }
 
 /// A name of a frame stands for the first line that has it as its label; where none has, for what the header makes of it.

@@ -4,7 +4,8 @@ ghost use Rattle.apl_workspace.specs.Workspace.{AreTooHeavy, IsInnermostAt, in_i
 ghost use Rattle.apl_workspace.specs.Limits.{most_weight};
 ghost use Rattle.apl_workspace.specs.Meaning.{IsWhole, table_weight};
 
-use crate::{Meaning, Table};
+use crate::Meaning;
+use crate::table::Table;
 use apl_arrays::{Fail, Name};
 
 /// What a name stands for in the innermost frame that has it: the last one. No memory.

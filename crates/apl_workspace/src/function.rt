@@ -1,35 +1,42 @@
-ghost use Rattle.std.specs.Prelude.{◌≡◌, ◌+◌, IfOk, IfSome, map, min};
+ghost use Rattle.std.specs.Prelude.{◌≡◌, ◌+◌, IfOk, IfSome, length, map, min};
 ghost use Rattle.std.specs.List.{list_all};
 ghost use Rattle.apl_arrays.specs.List.{glyphs_in};
-ghost use Rattle.apl_workspace.specs.Function.{IsFunction, function_of, function_weight, is_short, keeps_limits, lines_weight};
+ghost use Rattle.apl_workspace.specs.Function.{IsFunction, function_of, function_weight, function_with, is_short, keeps_limits, lines_weight};
+ghost use Rattle.apl_workspace.specs.Label.{AreLabels};
 ghost use Rattle.apl_workspace.specs.Limits.{most_weight};
 
 use crate::Header;
+use crate::label::{LabelledLine, labelled_lines};
 use crate::limits::{FUNCTION_LINE_LIMIT, WEIGHT_LIMIT};
 use apl_arrays::{LINE_GLYPH_LIMIT, Line, LineList, Name, WantOfMemory};
 use std::alloc::Global;
 use std::marker::Model;
 
-/// A function: its header as it was entered, what that header is, and its lines. It is seen as plain data.
+/// A function: its header as it was entered, what that header is, and its lines. It is seen as plain data, and keeps its
+/// labels and its weight beside that.
 #[derive(Debug, Drop)]
 pub struct Function {
-    pub text: Line,
-    pub header: Header,
-    pub lines: LineList,
+    text: Line,
+    header: Header,
+    lines: LineList,
+    labels: Vec<LabelledLine>,
+    weight: usize,
 }
 
 impl Model for Function {
-    ghost use Rattle.apl_workspace.specs.Function.{PlainFunction};
+    ghost use Rattle.apl_workspace.specs.Function.{IsKept, PlainFunction};
 
     ghost Value = { PlainFunction };
 
     ghost view = { λ f. record { text = f.text.items; header = f.header; lines = f.lines.items } };
+
+    ghost invariant = { λ f. IsKept (record { text = f.text.items; header = f.header; lines = f.lines.items }) f.labels.items f.weight };
 }
 
 impl Function {
     /// The function of a header as it is entered and of lines, or `None` where that is no header, or a limit is passed:
     /// 200 lines, 1,000 glyphs of the header and of each line. It takes memory for the tokens of the header and its
-    /// names.
+    /// names, and for the labels of the lines.
     #[tactic(auto, using(crate::proofs::Whole::is_function))]
     pub fn of(alloc: Global, text: Line, lines: LineList) -> Result<Option<Function>, WantOfMemory>
         ensures value { IfOk result (λ made. made ≡ function_of text.items lines.items) }
@@ -41,12 +48,58 @@ impl Function {
         }
         match Header::read(alloc, &text)? {
             None => Ok(None),
-            Some(header) => Ok(Some(Function {
-                text,
-                header,
-                lines,
-            })),
+            Some(header) => Ok(Some(Function::from_parts(alloc, text, header, lines)?)),
         }
+    }
+
+    /// The function of a header that was read, and of lines. It takes memory for the labels of the lines.
+    pub fn from_parts(
+        alloc: Global,
+        text: Line,
+        header: Header,
+        lines: LineList,
+    ) -> Result<Function, WantOfMemory>
+        requires { IsFunction (function_with text.items lines.items header) }
+        ensures value { IfOk result (λ function. function ≡ function_with text.items lines.items header) }
+        ensures whole { IfOk result (λ function. IsFunction function) }
+    {
+        let labels = labelled_lines(alloc, lines.as_slice())?;
+        let weight = weight_of(&text, lines.as_slice());
+        Ok(Function {
+            text,
+            header,
+            lines,
+            labels,
+            weight,
+        })
+    }
+
+    /// Its header as it was entered. No memory.
+    pub fn text(&self) -> &Line
+        ensures { result.now.items ≡ self.now.text }
+    {
+        &self.text
+    }
+
+    /// What its header is. No memory.
+    pub fn header(&self) -> &Header
+        ensures { result.now ≡ self.now.header }
+    {
+        &self.header
+    }
+
+    /// Its lines, in order. No memory.
+    pub fn lines(&self) -> &[Line]
+        ensures { map glyphs_in result.now ≡ self.now.lines }
+    {
+        self.lines.as_slice()
+    }
+
+    /// The labels of its lines, each once, with the first line that has it. No memory.
+    pub(crate) fn labels(&self) -> &[LabelledLine]
+        ensures { AreLabels self.now.lines result.now }
+    {
+        &self.labels
     }
 
     /// Its name. No memory.
@@ -57,7 +110,7 @@ impl Function {
         header.name
     }
 
-    /// An equal function. It takes memory for its texts and names.
+    /// An equal function. It takes memory for its texts, names and labels.
     pub fn copy(&self, alloc: Global) -> Result<Function, WantOfMemory>
         ensures { IfOk result (λ function. function ≡ self.now) }
     {
@@ -65,6 +118,8 @@ impl Function {
             text: self.text.copy(alloc)?,
             header: self.header.copy(alloc)?,
             lines: self.lines.copy(alloc)?,
+            labels: Vec::from_slice(alloc, &self.labels)?,
+            weight: self.weight,
         })
     }
 
@@ -72,9 +127,17 @@ impl Function {
     pub fn weight(&self) -> usize
         ensures { result ≡ min (function_weight self.now) (most_weight + 1) }
     {
-        let text = self.text.as_slice().len().min(WEIGHT_LIMIT);
-        (text + 1 + lines_weight(self.lines.as_slice())).min(WEIGHT_LIMIT + 1)
+        self.weight
     }
+}
+
+/// One, the glyphs of a header, and one for each line and each of its glyphs, or one more than a workspace may weigh where
+/// that is less.
+fn weight_of(text: &Line, lines: &[Line]) -> usize
+    ensures { result ≡ min (1 + length text.now.items + lines_weight (map glyphs_in lines.now)) (most_weight + 1) }
+{
+    let text = text.as_slice().len().min(WEIGHT_LIMIT);
+    (text + 1 + lines_weight(lines)).min(WEIGHT_LIMIT + 1)
 }
 
 /// One for each line and each of its glyphs, or one more than a workspace may weigh where that is less.

@@ -34,6 +34,5 @@ pub use limits::{
 pub use meaning::Meaning;
 pub use remake::{Remake, RemakeList};
 pub use seen::Seen;
-pub use table::Table;
 pub use what::What;
 pub use workspace::Workspace;

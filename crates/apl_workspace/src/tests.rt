@@ -7,17 +7,20 @@ ghost use Rattle.apl_workspace.specs.Meaning.{is_function_meaning, is_variable_m
 ghost use Rattle.apl_workspace.specs.Workspace.{global_in};
 
 use super::*;
-use apl_arrays::{Array, Fail, Glyph, Line, LineList, List, Name, WantOfMemory, glyphs_of};
+use apl_arrays::{
+    Array, Fail, Glyph, Line, LineList, List, Name, NameList, WantOfMemory, glyphs_of,
+};
 use std::alloc::Global;
 use std::process::Abort;
 
-// A call: the name X has a value, a function F is defined, X is shared, F is entered with an argument or left, X is shared no
-// more, or the workspace is exchanged for its copy.
+// A call: the name X has a value, a function F is defined, X is shared, glyphs are printed, F is entered with an argument or
+// left, X is shared no more, or the workspace is exchanged for its copy.
 #[derive(Clone, Copy, Debug)]
 enum Step {
     Assign(i64),
     Define,
     Mark(i64),
+    Print(u64),
     Enter(i64),
     Leave,
     Copy,
@@ -34,64 +37,137 @@ enum Meant {
     Shared(i64),
 }
 
-// What X, the global X and F stand for; and the weight, the depth, and how many names and offers there are.
-type Shown = ([Meant; 3], [usize; 4]);
+// What a workspace tells of a name.
+#[derive(Clone, Copy, Debug, PartialEq, Eq)]
+struct Told {
+    looked: Meant,
+    global: Meant,
+    is_local: bool,
+    is_shared: bool,
+}
 
-const STEPS: [(Step, Shown); 8] = [
+// All that a workspace tells, where X, F, B and L are its names.
+#[derive(Debug, Drop, PartialEq)]
+struct Account {
+    told: [Told; 4],
+    all_names: NameList,
+    functions: NameList,
+    variables: NameList,
+    shares: NameList,
+    offers: RemakeList,
+    weight: usize,
+    depth: usize,
+    printed: u64,
+}
+
+// What X, the global X, F and L stand for; and the weight, the depth, how many names and offers there are, and how many
+// glyphs were printed.
+type Shown = ([Meant; 4], [usize; 5]);
+
+const NOTHING: Meant = Meant::Nothing;
+
+const STEPS: [(Step, Shown); 9] = [
     (
         Step::Assign(3),
         (
-            [Meant::Value(3), Meant::Value(3), Meant::Nothing],
-            [2, 0, 1, 0],
+            [Meant::Value(3), Meant::Value(3), NOTHING, NOTHING],
+            [2, 0, 1, 0, 0],
         ),
     ),
     (
         Step::Define,
         (
-            [Meant::Value(3), Meant::Value(3), Meant::Function(1)],
-            [12, 0, 2, 0],
+            [
+                Meant::Value(3),
+                Meant::Value(3),
+                Meant::Function(1),
+                NOTHING,
+            ],
+            [12, 0, 2, 0, 0],
         ),
     ),
     (
         Step::Mark(4),
         (
-            [Meant::Shared(4), Meant::Shared(4), Meant::Function(1)],
-            [12, 0, 2, 1],
+            [
+                Meant::Shared(4),
+                Meant::Shared(4),
+                Meant::Function(1),
+                NOTHING,
+            ],
+            [12, 0, 2, 1, 0],
+        ),
+    ),
+    (
+        Step::Print(9),
+        (
+            [
+                Meant::Shared(4),
+                Meant::Shared(4),
+                Meant::Function(1),
+                NOTHING,
+            ],
+            [12, 0, 2, 1, 9],
         ),
     ),
     (
         Step::Enter(5),
         (
-            [Meant::Nothing, Meant::Shared(4), Meant::Function(1)],
-            [14, 1, 2, 1],
+            [
+                NOTHING,
+                Meant::Shared(4),
+                Meant::Function(1),
+                Meant::Label(1),
+            ],
+            [14, 1, 2, 1, 9],
         ),
     ),
     (
         Step::Assign(6),
         (
-            [Meant::Value(6), Meant::Shared(4), Meant::Function(1)],
-            [16, 1, 2, 1],
+            [
+                Meant::Value(6),
+                Meant::Shared(4),
+                Meant::Function(1),
+                Meant::Label(1),
+            ],
+            [16, 1, 2, 1, 9],
         ),
     ),
     (
         Step::Leave,
         (
-            [Meant::Shared(4), Meant::Shared(4), Meant::Function(1)],
-            [12, 0, 2, 1],
+            [
+                Meant::Shared(4),
+                Meant::Shared(4),
+                Meant::Function(1),
+                NOTHING,
+            ],
+            [12, 0, 2, 1, 9],
         ),
     ),
     (
         Step::Copy,
         (
-            [Meant::Shared(4), Meant::Shared(4), Meant::Function(1)],
-            [12, 0, 2, 1],
+            [
+                Meant::Shared(4),
+                Meant::Shared(4),
+                Meant::Function(1),
+                NOTHING,
+            ],
+            [12, 0, 2, 1, 9],
         ),
     ),
     (
         Step::Unmark(7),
         (
-            [Meant::Value(7), Meant::Value(7), Meant::Function(1)],
-            [12, 0, 2, 0],
+            [
+                Meant::Value(7),
+                Meant::Value(7),
+                Meant::Function(1),
+                NOTHING,
+            ],
+            [12, 0, 2, 0, 9],
         ),
     ),
 ];
@@ -127,34 +203,62 @@ fn meant_by(seen: Seen<'_>) -> Meant {
     match seen {
         Seen::Nothing | Seen::Shared(None) => Meant::Nothing,
         Seen::Value(value) => Meant::Value(first_of(value)),
-        Seen::Function(function) => Meant::Function(function.lines.as_slice().len()),
+        Seen::Function(function) => Meant::Function(function.lines().len()),
         Seen::Label(line) => Meant::Label(line),
         Seen::Shared(Some(value)) => Meant::Shared(first_of(value)),
     }
 }
 
-fn counts(ws: &Workspace) -> Result<[usize; 4], WantOfMemory> {
-    let names = ws.all_names()?;
-    let offers = ws.remakes()?;
-    Ok([
-        ws.weight(),
-        ws.depth(),
-        names.as_slice().len(),
-        offers.as_slice().len(),
-    ])
+fn told_of(rt: &impl Abort, ws: &Workspace, code: u8) -> Told {
+    let name = letter(rt, code);
+    Told {
+        looked: meant_by(ws.look(&name)),
+        global: meant_by(ws.global(&name)),
+        is_local: ws.is_local(&name),
+        is_shared: ws.is_shared(&name),
+    }
+}
+
+fn account_of(rt: &impl Abort, ws: &Workspace) -> Result<Account, WantOfMemory> {
+    Ok(Account {
+        told: [
+            told_of(rt, ws, b'X'),
+            told_of(rt, ws, b'F'),
+            told_of(rt, ws, b'B'),
+            told_of(rt, ws, b'L'),
+        ],
+        all_names: ws.all_names()?,
+        functions: ws.names(What::Functions)?,
+        variables: ws.names(What::Variables)?,
+        shares: ws.names(What::Shares)?,
+        offers: ws.remakes()?,
+        weight: ws.weight(),
+        depth: ws.depth(),
+        printed: ws.printed(),
+    })
+}
+
+// All that a workspace tells, where memory is refused once at most.
+fn account_at_last(rt: &impl Abort, ws: &Workspace) -> Account {
+    match account_of(rt, ws) {
+        Ok(account) => account,
+        Err(WantOfMemory) => account_of(rt, ws).expect(rt, "memory was refused twice"),
+    }
 }
 
 fn shown_by(rt: &impl Abort, ws: &Workspace) -> Shown {
-    let (x, f) = (letter(rt, b'X'), letter(rt, b'F'));
-    let seen = [
-        meant_by(ws.look(&x)),
-        meant_by(ws.global(&x)),
-        meant_by(ws.look(&f)),
-    ];
-    match counts(ws) {
-        Ok(counts) => (seen, counts),
-        Err(WantOfMemory) => (seen, counts(ws).expect(rt, "memory was refused twice")),
-    }
+    let account = account_at_last(rt, ws);
+    let [x, f, _, l] = account.told;
+    (
+        [x.looked, x.global, f.looked, l.looked],
+        [
+            account.weight,
+            account.depth,
+            account.all_names.as_slice().len(),
+            account.offers.as_slice().len(),
+            account.printed as usize,
+        ],
+    )
 }
 
 // A call is refused for want of memory alone.
@@ -199,6 +303,11 @@ fn mark(rt: &impl Abort, ws: &mut Workspace, value: Array) -> Result<(), WantOfM
     granted(rt, ws.mark(&x, Some(value), x, 0))
 }
 
+fn print(rt: &impl Abort, ws: &mut Workspace, glyphs: u64) {
+    assert!(rt; glyphs <= PRINTED_LIMIT - ws.printed());
+    ws.count_printed(glyphs);
+}
+
 fn unmark(rt: &impl Abort, ws: &mut Workspace, value: Array) {
     let x = letter(rt, b'X');
     assert!(rt; ws.is_shared(&x));
@@ -213,7 +322,8 @@ fn enter(rt: &impl Abort, ws: &mut Workspace, value: Array) -> Result<(), WantOf
     };
     let fits = match ws.look(&f) {
         Seen::Function(function) => {
-            function.header.left.is_none() && function.header.right.is_some()
+            let header = function.header();
+            header.left.is_none() && header.right.is_some()
         }
         _ => false,
     };
@@ -231,6 +341,10 @@ fn done(
         Step::Assign(number) => assign(rt, ws, Array::scalar(alloc, number)?),
         Step::Define => define(rt, ws, function(rt, alloc)?),
         Step::Mark(number) => mark(rt, ws, Array::scalar(alloc, number)?),
+        Step::Print(glyphs) => {
+            print(rt, ws, glyphs);
+            Ok(())
+        }
         Step::Enter(number) => enter(rt, ws, Array::scalar(alloc, number)?),
         Step::Leave => {
             assert!(rt; ws.depth() > 0);
@@ -249,11 +363,11 @@ fn done(
     }
 }
 
-// A call that is made once more where memory was refused: then the workspace shows what it showed before.
+// A call that is made once more where memory was refused: then the workspace tells what it told before.
 fn taken(rt: &impl Abort, alloc: Global, ws: &mut Workspace, step: Step) {
-    let before = shown_by(rt, ws);
+    let before = account_at_last(rt, ws);
     if done(rt, alloc, ws, step).is_err() {
-        assert_eq!(rt; shown_by(rt, ws), before, "{step:?}");
+        assert!(rt; account_at_last(rt, ws) == before, "{step:?}");
         assert!(rt; done(rt, alloc, ws, step).is_ok(), "{step:?}");
     }
 }

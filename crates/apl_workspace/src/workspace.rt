@@ -10,7 +10,8 @@ mod changes;
 mod offers;
 
 use crate::frames::innermost;
-use crate::{Meaning, Remake, RemakeList, Seen, Table, What};
+use crate::table::Table;
+use crate::{Meaning, Remake, RemakeList, Seen, What};
 use apl_arrays::{List, Name, NameList, WantOfMemory};
 use std::alloc::Global;
 use std::marker::Model;

@@ -141,11 +141,11 @@ impl Editor {
         requires { IsFunction function.now }
         ensures { IfOk result (λ editor. editor ≡ editor_of function.now) }
     {
-        let (lines, number) = numbered(alloc, function.lines.as_slice())?;
+        let (lines, number) = numbered(alloc, function.lines())?;
         Ok(Editor {
             alloc,
-            text: function.text.copy(alloc)?,
-            header: function.header.copy(alloc)?,
+            text: function.text().copy(alloc)?,
+            header: function.header().copy(alloc)?,
             lines,
             number,
             closed: false,
@@ -320,11 +320,7 @@ impl Editor {
         for text in self.lines.into_values() {
             lines.push(text.into_line())?;
         }
-        Ok(Function {
-            text: self.text,
-            header: self.header,
-            lines,
-        })
+        Function::from_parts(self.alloc, self.text, self.header, lines)
     }
 }
 

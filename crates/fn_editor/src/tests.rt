@@ -103,8 +103,8 @@ fn has_lines(rt: &impl Abort, alloc: Global, ws: &Workspace, name: &Name, lines:
     let Seen::Function(function) = ws.look(name) else {
         panic!(rt; "no function");
     };
-    assert_eq!(rt; function.lines.as_slice().len(), lines.len());
-    for (line, text) in function.lines.as_slice().iter().zip(lines) {
+    assert_eq!(rt; function.lines().len(), lines.len());
+    for (line, text) in function.lines().iter().zip(lines) {
         assert!(rt; *line == line_at_last(rt, alloc, text), "{text}");
     }
 }

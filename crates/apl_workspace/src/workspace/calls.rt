@@ -5,7 +5,8 @@ ghost use Rattle.apl_workspace.specs.Workspace.{AreArgumentsFor, IsFrameFor, IsN
 use crate::frame::frame_of;
 use crate::limits::{DEPTH_LIMIT, WEIGHT_LIMIT};
 use crate::room::reserve_one;
-use crate::{Args, Seen, Table, Workspace};
+use crate::table::Table;
+use crate::{Args, Seen, Workspace};
 use apl_arrays::{Fail, Name, Report, WantOfMemory};
 
 impl Workspace {

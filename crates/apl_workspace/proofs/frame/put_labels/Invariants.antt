@@ -1,15 +1,7 @@
-use Rattle.std.proofs.Common.{◌≡◌, ◌+◌, ◌≤◌, drop, length, map}
-use Rattle.apl_arrays.specs.List.{glyphs_in}
-use Rattle.apl_workspace.specs.Frame.{with_labels}
+use Rattle.std.proofs.Common.{◌≡◌, fold, take}
+use Rattle.apl_workspace.specs.Frame.{with_labelled_line}
 use Rattle.apl_workspace.proofs.frame.put_labels.Given as goal
 
--- the labels of the lines from here on are in
-abbrev pub invariant-loop-number : goal.invariant-loop-number
-invariant-loop-number l = record {
-  labels : l.names ≡ with_labels (l.number + 1) (map glyphs_in (drop l.number l.lines)) l.fn.names;
-  within : l.number ≤ length l.lines;
-}
-
--- the lines that are left
-abbrev pub decreases-loop-number : goal.decreases-loop-number
-decreases-loop-number l = l.number
+-- the labels so far are in
+abbrev pub invariant-loop-labelled : goal.invariant-loop-labelled
+invariant-loop-labelled l = l.names ≡ fold with_labelled_line l.fn.names (take l.labelled-index l.labels)
