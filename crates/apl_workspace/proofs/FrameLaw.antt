@@ -1,19 +1,22 @@
 -- What a name of a frame stands for.
-use Rattle.std.proofs.Common.{◌≡◌, ℕ, ◌+◌, Bool, true, false, cond, not, List, [], ◌∷◌, Option, Some, None, fold, refl, sym, ap, ◌∙◌}
+use Rattle.std.proofs.Common.{◌≡◌, ℕ, ◌+◌, Bool, true, false, cond, not, List, [], ◌∷◌, ◌++◌, Option, Some, None, fold, refl, sym, ap, ◌∙◌}
 use Rattle.std.specs.Prelude.{is_some}
 use Rattle.std.specs.List.{list_any}
 use Rattle.std.specs.Map.{keys_of}
-use Rattle.std.specs.Option.{option_map, option_or}
+use Rattle.std.specs.Option.{option_map, option_or, option_to_list}
 use Rattle.std.proofs.lemmas.Bool.{and_parts, false≢true}
-use Rattle.apl_workspace.specs.Frame.{with_label, with_labelled_line, with_labels}
+use Rattle.apl_arrays.specs.Array.{PlainArray}
+use Rattle.apl_workspace.specs.Frame.{header_names, with_argument, with_label, with_labelled_line, with_labels, with_local_name}
+use Rattle.apl_workspace.specs.Header.{PlainHeader}
 use Rattle.apl_workspace.specs.Label.{AreLabels, label_of, labelled_line, line_among, this_or_later}
 use Rattle.apl_workspace.specs.Names.{all_differ}
+use Rattle.apl_workspace.specs.declared.args.Args.{Args}
 use Rattle.apl_workspace.specs.declared.label.LabelledLine.{LabelledLine}
-use Rattle.apl_workspace.specs.Meaning.{NameTable, meaning_in}
+use Rattle.apl_workspace.specs.Meaning.{NameTable, meaning_in, meaning_of}
 use Rattle.apl_arrays.specs.Name.{same_name}
 use Rattle.apl_workspace.specs.declared.meaning.Meaning.{Meaning}
-use Rattle.apl_workspace.specs.declared.meaning.Meaning.TheVariants.{Label}
-use Rattle.apl_workspace.proofs.Ascending.{Ascend, found_with, told_by_look_ups, with_ascends}
+use Rattle.apl_workspace.specs.declared.meaning.Meaning.TheVariants.{Label, Nothing}
+use Rattle.apl_workspace.proofs.Ascending.{Ascend, found_with, none_ascend, told_by_look_ups, with_ascends}
 use Rattle.apl_workspace.proofs.Labelled.{is_among, names_of_labels}
 use Rattle.apl_workspace.proofs.NameLaw.{equal_names, from_not}
 
@@ -64,8 +67,23 @@ lines_ascend : (number : ℕ) (lines : List (List ℕ)) (names : NameTable) → 
 lines_ascend number [] names s = s
 lines_ascend number (line ∷ lines) names s = label_ascends (label_of line) number (with_labels (number + 1) lines names) (lines_ascend (number + 1) lines names s)
 
+argument_ascends : (names : NameTable) (name : Option (List ℕ)) (value : Option PlainArray) → Ascend (keys_of names) → Ascend (keys_of (with_argument names name value))
+argument_ascends names None value s = s
+argument_ascends names (Some name) value s = with_ascends names name (meaning_of value) s
+
+locals_ascend : (locals : List (List ℕ)) (names : NameTable) → Ascend (keys_of names) → Ascend (keys_of (fold with_local_name names locals))
+locals_ascend [] names s = s
+locals_ascend (name ∷ locals) names s = locals_ascend locals (with_local_name names name) (with_ascends names name Nothing s)
+
+header_ascends : (header : PlainHeader) (args : Args) → Ascend (keys_of (header_names header args))
+header_ascends header args =
+    let left = with_argument [] header.left args.left in
+    locals_ascend (option_to_list header.result ++ header.locals) (with_argument left header.right args.right) (argument_ascends left header.right args.right (argument_ascends [] header.left args.left none_ascend))
+
 -- the labels that are kept, put in, are those of the lines
-pub labels_put : (lines : List (List ℕ)) (labels : List LabelledLine) (names : NameTable) → Ascend (keys_of names) → AreLabels lines labels → fold with_labelled_line names labels ≡ with_labels 1 lines names
-labels_put lines labels names s h =
+pub labels_put : (lines : List (List ℕ)) (labels : List LabelledLine) (header : PlainHeader) (args : Args) → AreLabels lines labels → fold with_labelled_line (header_names header args) labels ≡ with_labels 1 lines (header_names header args)
+labels_put lines labels header args h =
+    let names = header_names header args in
+    let s = header_ascends header args in
     told_by_look_ups (fold with_labelled_line names labels) (with_labels 1 lines names) (kept_ascend labels names s) (lines_ascend 1 lines names s)
     (λ name. labels_stand labels names name h.differ ∙ ap (λ (o : Option ℕ). line_or o (meaning_in names name)) (h.first name) ∙ sym (labels_first 1 lines names name))

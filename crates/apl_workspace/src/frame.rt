@@ -19,7 +19,6 @@ pub fn frame_of(alloc: Global, function: &Function, args: Args) -> Result<Table,
     ensures { IfOk result (λ frame. frame ≡ frame_of function.now args) }
 {
     let mut frame = header_names(alloc, function.header(), args)?;
-    let _ = frame.weight();
     put_labels(&mut frame, function.labels())?;
     Ok(frame)
 }
