@@ -278,6 +278,7 @@ fn prompted(alloc: Global, line: &[Glyph]) -> Result<Line, WantOfMemory>
     ensures { IfOk result (λ prompted. prompted.items ≡ echo line.now) }
 {
     let mut prompted = List::new(alloc);
+    prompted.reserve(6 + line.len())?;
     add_text(&mut prompted, "      ")?;
     add_glyphs(&mut prompted, line)?;
     Ok(prompted)
