@@ -1,4 +1,4 @@
-ghost use Rattle.std.specs.Prelude.{◌≡◌, ◌<◌, ◌≤◌, ◌∷◌, [], IfOk, length, map};
+ghost use Rattle.std.specs.Prelude.{◌≡◌, ◌<◌, ◌≤◌, ◌∷◌, [], ◌++◌, IfOk, OnOk, length, map};
 ghost use Rattle.apl_arrays.specs.Array.{plain_items, item_count};
 ghost use Rattle.apl_display.specs.Display.{item_line, display_lines};
 ghost use Rattle.line_text.specs.Spaced.{spaced};
@@ -30,15 +30,6 @@ fn item_line(alloc: Global, items: &Items) -> Result<Line, WantOfMemory>
     }
 }
 
-// A list of one line.
-fn one_line(alloc: Global, line: Line) -> Result<LineList, WantOfMemory>
-    ensures { IfOk result (λ lines. lines.items ≡ line.items ∷ []) }
-{
-    let mut lines = LineList::new(alloc);
-    lines.push(line)?;
-    Ok(lines)
-}
-
 // The lines of an array of rank 2 or more that has elements.
 fn table_lines(alloc: Global, b: &Array) -> Result<LineList, WantOfMemory>
     requires rank { 2 ≤ length b.now.shape }
@@ -56,17 +47,37 @@ fn table_lines(alloc: Global, b: &Array) -> Result<LineList, WantOfMemory>
     matrices_lines(alloc, &table)
 }
 
+// Adds lines.
+fn add_all(lines: &mut LineList, more: LineList) -> Result<(), WantOfMemory>
+    ensures { OnOk result (lines.new.items ≡ lines.old.items ++ more.items) }
+{
+    for line in more.into_vec() {
+        lines.push(line)?;
+    }
+    Ok(())
+}
+
+/// Adds the lines that show an array, as `lines_of` has them. It takes memory for them, and for a number a column; where
+/// that runs out, some of them may stand there.
+pub fn add_lines(alloc: Global, lines: &mut LineList, b: &Array) -> Result<(), WantOfMemory>
+    ensures { OnOk result (lines.new.items ≡ lines.old.items ++ display_lines b.now) }
+{
+    if b.shape().len() < 2 {
+        return lines.push(item_line(alloc, b.items())?);
+    }
+    if b.items().is_empty() {
+        return Ok(());
+    }
+    add_all(lines, table_lines(alloc, b)?)
+}
+
 /// The lines that show an array: one of a scalar or a vector, none of an array without elements at a higher rank,
 /// else one of each row, with an empty line between two matrices. Numbers stand at the right of their columns, with
 /// one blank between. It takes memory for the lines and for a number a column.
 pub fn lines_of(alloc: Global, b: &Array) -> Result<LineList, WantOfMemory>
     ensures { IfOk result (λ lines. lines.items ≡ display_lines b.now) }
 {
-    if b.shape().len() < 2 {
-        return one_line(alloc, item_line(alloc, b.items())?);
-    }
-    if b.items().is_empty() {
-        return Ok(LineList::new(alloc));
-    }
-    table_lines(alloc, b)
+    let mut lines = LineList::new(alloc);
+    add_lines(alloc, &mut lines, b)?;
+    Ok(lines)
 }

@@ -10,4 +10,4 @@ mod widths;
 pub mod worked;
 
 pub use characters::format;
-pub use display::lines_of;
+pub use display::{add_lines, lines_of};

@@ -11,7 +11,7 @@ ghost use Rattle.apl_session.specs.Session.{echo, report_lines, act_of, asked_by
 use crate::statement::{Statement, statement_of};
 use crate::workspace::Workspace;
 use apl_arrays::{Array, Glyph, Line, LineList, List, Name, Report, WantOfMemory};
-use apl_display::lines_of;
+use apl_display::{add_lines, lines_of};
 use line_text::{add_glyphs, add_text};
 use std::alloc::Global;
 use std::marker::Model;
@@ -217,7 +217,7 @@ impl Evaluation {
         ensures names { self.new.names ≡ self.old.names }
         ensures printed { OnOk result (self.new.transcript ≡ self.old.transcript ++ display_lines value.now) }
     {
-        self.add(lines_of(self.alloc, value)?)
+        add_lines(self.alloc, &mut self.transcript, value)
     }
 
     // Adds lines to what was printed.

@@ -71,14 +71,12 @@ impl Workspace {
         ensures ok { OnOk result (self.new ≡ with_value self.old name value) }
         ensures err { OnErr result (self.new ≡ self.old) }
     {
-        let shared = self.is_shared(&name);
-        self.put(
-            name,
-            Variable {
-                value: Some(value),
-                shared,
-            },
-        )
+        let variable = self.variables.entry(name)?.or_insert(Variable {
+            value: None,
+            shared: false,
+        });
+        variable.value = Some(value);
+        Ok(())
     }
 
     /// Marks the name as shared, with the value that it has. It takes memory for a copy of the value and for a name that
