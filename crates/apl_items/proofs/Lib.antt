@@ -1,4 +1,5 @@
 pub mod AlongLemmas
+pub mod AnswerLemmas
 pub mod AxisLemmas
 pub mod MoveLemmas
 pub mod PlaceLemmas

@@ -1,4 +1,4 @@
-use Rattle.std.specs.Prelude.{◌≡◌, ⊤, ℕ, Bool, true, false, List, Option, Some, None, Result, Ok, Err, if◌then◌else◌}
+use Rattle.std.specs.Prelude.{◌≡◌, ⊤, ℕ, Bool, true, false, List, Option, Some, None, Result, Ok, Err, IsOk, if◌then◌else◌}
 use Rattle.apl_arrays.specs.declared.array.ShapeFault.{ShapeFault}
 use Rattle.apl_arrays.specs.declared.array.ShapeFault.TheVariants as fault
 use Rattle.apl_arrays.specs.declared.report.Fail.{Fail}
@@ -54,3 +54,9 @@ abbrev pub Answers : Result PlainArray Fail → Answer → Type 0
 Answers (Ok array) answer = answer ≡ Ok array
 Answers (Err (fail.Report report)) answer = answer ≡ Err report
 Answers (Err fail.WantOfMemory) answer = ⊤
+
+-- a call gave this answer, and memory ran out only where there is no report
+abbrev pub AnswersFirst : Result PlainArray Fail → Answer → Type 0
+AnswersFirst (Ok array) answer = answer ≡ Ok array
+AnswersFirst (Err (fail.Report report)) answer = answer ≡ Err report
+AnswersFirst (Err fail.WantOfMemory) answer = IsOk answer

@@ -1,7 +1,7 @@
 ghost use Rattle.std.specs.Prelude.{◌≡◌, ◌+◌, ◌*◌, ◌^◌, ◌<◌, ◌≤◌, ◌++◌, ℕ, Option, Some, IfOk, IfSome, length, vec_len, vec_capacity};
 ghost use Rattle.apl_arrays.specs.Array.{FitsLimits, element_count, item_count, plain_items};
 ghost use Rattle.apl_items.specs.Axes.{AreNoLonger, added, offset_at, source_by_axes};
-ghost use Rattle.apl_items.specs.Moves.{IsWithin, item_or, moved_items, moved_list};
+ghost use Rattle.apl_items.specs.Moves.{IsWithin, moved_items, moved_list};
 ghost use Rattle.apl_items.specs.Shapes.{coordinates_of};
 
 use crate::loops::room_for;

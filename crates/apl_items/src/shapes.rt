@@ -1,10 +1,10 @@
-ghost use Rattle.std.specs.Prelude.{◌≡◌, ◌<◌, ◌^◌, ◌++◌, IfOk, length};
+ghost use Rattle.std.specs.Prelude.{◌≡◌, ◌+◌, ◌<◌, ◌≤◌, ◌^◌, ◌++◌, length};
 ghost use Rattle.apl_arrays.specs.Array.{FitsLimits, element_count};
+ghost use Rattle.apl_arrays.specs.Limits.{most_axes};
 ghost use Rattle.apl_items.specs.Answers.{first_report, shape_faults};
 
-use crate::loops::room_for;
-use apl_arrays::{Report, ShapeFault, WantOfMemory, count_of_elements, shape_fault};
-use std::alloc::Global;
+use apl_arrays::{RANK_LIMIT, Report, ShapeFault, count_of_elements, shape_fault};
+use arrayvec::ArrayVec;
 
 /// A shape seen from one of its axes: how many rows stand before it, how long it is, and how many items each of its
 /// places has.
@@ -57,12 +57,13 @@ pub fn shape_report(shape: &[u32]) -> Option<Report>
     }
 }
 
-/// The axes of one shape, and then those of another. It takes memory once, for all of them.
-pub fn joined_shape(alloc: Global, front: &[u32], back: &[u32]) -> Result<Vec<u32>, WantOfMemory>
-    ensures { IfOk result (λ shape. shape.items ≡ front.now ++ back.now) }
+/// The axes of one shape, and then those of another. No memory.
+pub fn joined_shape(front: &[u32], back: &[u32]) -> ArrayVec<u32, RANK_LIMIT>
+    requires { length front.now + length back.now ≤ most_axes }
+    ensures { result.items ≡ front.now ++ back.now }
 {
-    let mut shape = room_for(alloc, front.len() + back.len())?;
-    shape.extend_from_slice(front)?;
-    shape.extend_from_slice(back)?;
-    Ok(shape)
+    let mut axes = ArrayVec::new();
+    axes.try_extend_from_slice(front).unwrap();
+    axes.try_extend_from_slice(back).unwrap();
+    axes
 }

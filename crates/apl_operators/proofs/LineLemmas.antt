@@ -1,5 +1,5 @@
 -- Reductions of lines.
-use Rattle.std.proofs.Common.{◌≡◌, ℕ, ℤ, zero, suc, ◌+◌, ◌-◌, ◌*◌, ◌/◌, ◌%◌, ◌<◌, ◌≤◌, ◌==◌, ◌++◌, All, false, take, drop, get_or, length-append, List, [], Option, Some, None, Result, Ok, length, option_map, refl, sym, ap, subst, ◌∙◌, arith}
+use Rattle.std.proofs.Common.{◌≡◌, ℕ, ℤ, zero, suc, ◌+◌, ◌-◌, ◌*◌, ◌/◌, ◌%◌, ◌<◌, ◌≤◌, ◌==◌, ◌++◌, All, false, take, drop, get_or, length-append, List, [], Option, Some, None, Result, Ok, IsOk, length, option_map, refl, sym, ap, subst, ◌∙◌, arith}
 use Rattle.std.proofs.Math.Nat.{mul_assoc, mul_comm, le-mul_of_pos_right}
 use Rattle.std.proofs.lemmas.Bool.Decides.{nat_tests}
 use Rattle.std.proofs.lemmas.List.{length-take, length-drop, take_all}
@@ -15,7 +15,7 @@ use Rattle.apl_arrays.specs.declared.verb.Way.{Way}
 use Rattle.apl_arrays.specs.Array.{FitsLimits, PlainArray, PlainItems, chars, element_count, item_count, numbers, plain_items}
 use Rattle.apl_arrays.specs.List.{Listed}
 use Rattle.apl_arrays.proofs.Shapes.{what_fits_has_no_fault}
-use Rattle.apl_items.specs.Answers.{Answer, Answers}
+use Rattle.apl_items.specs.Answers.{Answer, AnswersFirst}
 use Rattle.apl_items.specs.declared.shapes.Split.{Split}
 use Rattle.apl_items.specs.Shapes.{place_along, split_at, split_count}
 use Rattle.apl_items.proofs.ShapeLemmas.{element_count-append, split_count_lem}
@@ -32,9 +32,9 @@ not_zero n h = grind (arith, nat_tests)
 
 -- along an axis that is there
 pub along_an_axis : (f : Dyad) (b : PlainArray) (way : Way) (axis : Option ℤ) (used : ℕ) (result : Result PlainArray Fail) → lacks_axis (length b.shape) axis ≡ false
-    → 0 < length b.shape → used ≡ axis_of (length b.shape) way axis → Answers result (reduced f b used) → Answers result (reduce_of f b way axis)
+    → 0 < length b.shape → used ≡ axis_of (length b.shape) way axis → AnswersFirst result (reduced f b used) → AnswersFirst result (reduce_of f b way axis)
 along_an_axis f b way axis used result named some is_used answers =
-    rw (named, not_zero (length b.shape) some) (subst (λ (u : ℕ). Answers result (reduced f b u)) is_used answers)
+    rw (named, not_zero (length b.shape) some) (subst (λ (u : ℕ). AnswersFirst result (reduced f b u)) is_used answers)
 
 -- ---- a line that has items
 
@@ -64,10 +64,10 @@ number_line_is f list split line some =
     ∙ reduced_numbers f (number_on list split (line / split.inner) (line % split.inner)) 0 (split.along - 1)
 
 pub number_lines_answer : (f : Dyad) (list : List ℤ) (split : Split) (shape : List ℕ) (result : Result PlainArray Fail) → 0 < split.along
-    → Answers result (numbers_answer shape (λ line. front_of_line (dyadic_item f) list split (line / split.inner) (line % split.inner) (split.along - 1)))
-    → Answers result (gathered shape (reduced_line f (numbers list) split))
+    → AnswersFirst result (numbers_answer shape (λ line. front_of_line (dyadic_item f) list split (line / split.inner) (line % split.inner) (split.along - 1)))
+    → AnswersFirst result (gathered shape (reduced_line f (numbers list) split))
 number_lines_answer f list split shape result some answers =
-    subst (Answers result) (sym (gathered_as_numbers shape (reduced_line f (numbers list) split) _ (λ line. number_line_is f list split line some))) answers
+    subst (AnswersFirst result) (sym (gathered_as_numbers shape (reduced_line f (numbers list) split) _ (λ line. number_line_is f list split line some))) answers
 
 -- what a dyadic function gives is a number
 mapped_back : (o : Option ℤ) → option_map Number o ≡ option_map Number (number_in (option_map Number o))
@@ -93,10 +93,10 @@ pub char_line_is : (f : Dyad) (list : List ℕ) (split : Split) (line : ℕ) →
 char_line_is f list split line some = ap number_in (sym (line_of_items f (chars list) split line (split.along - 1) (omega arith)))
 
 pub long_lines_answer : (f : Dyad) (list : List ℕ) (split : Split) (shape : List ℕ) (result : Result PlainArray Fail) → 1 < split.along
-    → Answers result (numbers_answer shape (λ line. number_in (reduced_line f (chars list) split line)))
-    → Answers result (gathered shape (reduced_line f (chars list) split))
+    → AnswersFirst result (numbers_answer shape (λ line. number_in (reduced_line f (chars list) split line)))
+    → AnswersFirst result (gathered shape (reduced_line f (chars list) split))
 long_lines_answer f list split shape result some answers =
-    subst (Answers result) (sym (gathered_as_numbers shape (reduced_line f (chars list) split) _ (λ line. long_lines_are_numbers f (chars list) split line (split.along - 2) (omega arith)))) answers
+    subst (AnswersFirst result) (sym (gathered_as_numbers shape (reduced_line f (chars list) split) _ (λ line. long_lines_are_numbers f (chars list) split line (split.along - 2) (omega arith)))) answers
 
 -- ---- lines of one character
 
@@ -126,6 +126,13 @@ lone_chars f items list copied split shape made is same e fits whole lines some 
     ∙ gathered_chars shape (length list) (reduced_line f (chars list) split) list (what_fits_has_no_fault shape fits) (sym count ∙ all ∙ lines) (omega (arith, some, count)) refl
     (λ line below. one_char f list split line e)
     ∙ ap given (ap array (sym same) ∙ sym is_made)
+
+-- where they cannot be copied for want of memory there is no report
+pub lone_chars_there : (f : Dyad) (items : PlainItems) (list : List ℕ) (split : Split) (shape : List ℕ) → items ≡ chars list → split.along ≡ 1
+    → FitsLimits shape → split_count split ≡ item_count items → split.outer * split.inner ≡ element_count shape → 0 < split_count split
+    → IsOk (gathered shape (reduced_line f items split))
+lone_chars_there f items list split shape is e fits whole lines some =
+    rw (lone_chars f items list list split shape (record { shape = shape; items = chars list }) is refl e fits whole lines some refl) refl
 
 -- ---- shapes without an axis
 
@@ -174,19 +181,19 @@ no_lines_made f b made axis shape is fits none is_made =
     ∙ gathered_none shape (reduced_line f b.items (split_at b.shape axis)) (what_fits_has_no_fault shape fits) none ∙ ap given (sym is_made)
 
 pub lines_made : (f : Dyad) (b : PlainArray) (axis : ℕ) (shape : List ℕ) (items : PlainItems) (split : Split) (result : Result PlainArray Fail) → shape ≡ without axis b.shape
-    → items ≡ b.items → split ≡ split_at b.shape axis → Answers result (gathered shape (reduced_line f items split)) → Answers result (reduced f b axis)
+    → items ≡ b.items → split ≡ split_at b.shape axis → AnswersFirst result (gathered shape (reduced_line f items split)) → AnswersFirst result (reduced f b axis)
 lines_made f b axis shape items split result is is_items is_split answers =
-    subst (λ (s : List ℕ). Answers result (gathered s (reduced_line f b.items (split_at b.shape axis)))) is
-    (subst (λ (i : PlainItems). Answers result (gathered shape (reduced_line f i (split_at b.shape axis)))) is_items
-    (subst (λ (s : Split). Answers result (gathered shape (reduced_line f items s))) is_split answers))
+    subst (λ (s : List ℕ). AnswersFirst result (gathered s (reduced_line f b.items (split_at b.shape axis)))) is
+    (subst (λ (i : PlainItems). AnswersFirst result (gathered shape (reduced_line f i (split_at b.shape axis)))) is_items
+    (subst (λ (s : Split). AnswersFirst result (gathered shape (reduced_line f items s))) is_split answers))
 
 -- lines without items give the identity
 pub without_items : (f : Dyad) (b : PlainArray) (axis : ℕ) (shape : List ℕ) (result : Result PlainArray Fail) → get_or b.shape axis 0 ≡ 0 → shape ≡ without axis b.shape
-    → Answers result (numbers_answer shape (λ line. (row_of_dyad f).identity)) → Answers result (reduced f b axis)
+    → AnswersFirst result (numbers_answer shape (λ line. (row_of_dyad f).identity)) → AnswersFirst result (reduced f b axis)
 without_items f b axis shape result none is answers =
     let by_count = ap (λ (n : ℕ). gathered (without axis b.shape) (λ line. reduction_of (joined_by f) (identity_item f) (item_on_line b.items (split_at b.shape axis) line) n)) none in
     let as_numbers = gathered_as_numbers (without axis b.shape) (λ line. identity_item f) (λ line. (row_of_dyad f).identity) (λ line. refl) in
-    subst (Answers result) (ap (λ (s : List ℕ). numbers_answer s (λ line. (row_of_dyad f).identity)) is ∙ sym as_numbers ∙ sym by_count) answers
+    subst (AnswersFirst result) (ap (λ (s : List ℕ). numbers_answer s (λ line. (row_of_dyad f).identity)) is ∙ sym as_numbers ∙ sym by_count) answers
 
 -- ---- the kinds of items
 

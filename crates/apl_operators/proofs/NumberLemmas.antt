@@ -1,5 +1,5 @@
 -- Numbers that a rule gives, as an array or its report.
-use Rattle.std.proofs.Common.{◌≡◌, ℕ, ℤ, zero, suc, ◌<◌, ◌≤◌, ◌&&◌, All, ◌⊎◌, inl, inr, slice_get, unwrap_or, is_none, is_some, Bool, true, false, List, [], ◌∷◌, Option, Some, None, Result, Ok, Err, length, option_map, if◌then◌else◌, refl, sym, ap, subst, ◌∙◌, arith}
+use Rattle.std.proofs.Common.{◌≡◌, ℕ, ℤ, zero, suc, ◌<◌, ◌≤◌, ◌&&◌, All, ◌⊎◌, inl, inr, slice_get, unwrap_or, is_none, is_some, Bool, true, false, List, [], ◌∷◌, Option, Some, None, Result, Ok, Err, IsOk, length, option_map, if◌then◌else◌, refl, sym, ap, subst, ◌∙◌, arith}
 use Rattle.std.specs.List.{list_any}
 use Rattle.std.proofs.Math.Path.{fun_ext}
 use Rattle.std.proofs.lemmas.Bool.{cases_lt, false≢true}
@@ -14,9 +14,10 @@ use Rattle.apl_arrays.specs.declared.report.Report.{Report}
 use Rattle.apl_arrays.specs.declared.report.Report.TheVariants.{Domain, WsFull}
 use Rattle.apl_arrays.specs.Array.{FitsLimits, PlainArray, chars, element_count, numbers}
 use Rattle.apl_arrays.specs.Shape.{shape_fault}
-use Rattle.apl_items.specs.Answers.{Answer, Answers, answer_of, faults_of_fault, shape_faults}
-use Rattle.apl_items.specs.Places.{Follows, IsByPlace, LacksItem, OnDomain, items_by, lacks_item, numbers_by, places}
-use Rattle.apl_items.proofs.PlaceLemmas.{made, nothing_lacks, something_lacks}
+use Rattle.apl_items.specs.Answers.{Answer, AnswersFirst, answer_of, faults_of_fault, shape_faults}
+use Rattle.apl_items.specs.Places.{Follows, GivesEach, HasItems, IsByPlace, LacksItem, OnDomain, OnWantOfMemory, items_by, lacks_item, numbers_by, places}
+use Rattle.apl_items.proofs.PlaceLemmas.{made, nothing_lacks, nothing_lacks_at, something_lacks}
+use Rattle.apl_scalar.proofs.MemoryLemmas.{has_as_told}
 use Rattle.apl_operators.specs.Gathering.{char_in, gathered, lacks_char, lacks_number, number_in, numbers_answer}
 
 pub none_is : {T : Type 0} (o : Option T) → is_some o ≡ false → o ≡ None
@@ -28,9 +29,13 @@ abbrev refusal : Report → Answer
 refusal report = Err report
 
 -- a failure that is handed on
-pub answers_through : (result : Result PlainArray Fail) (why other : Fail) (answer : Answer) → result ≡ Err other → other ≡ why → Answers (Err why) answer → Answers result answer
+pub answers_through : (result : Result PlainArray Fail) (why other : Fail) (answer : Answer) → result ≡ Err other → other ≡ why → AnswersFirst (Err why) answer → AnswersFirst result answer
 answers_through result why other answer is same answers =
-    subst (λ (r : Result PlainArray Fail). Answers r answer) (sym is) (subst (λ (w : Fail). Answers (Err w) answer) (sym same) answers)
+    subst (λ (r : Result PlainArray Fail). AnswersFirst r answer) (sym is) (subst (λ (w : Fail). AnswersFirst (Err w) answer) (sym same) answers)
+
+-- want of memory that is handed on, where there is no report
+pub out_of_memory : (result : Result PlainArray Fail) (other : Fail) (answer : Answer) → result ≡ Err other → other ≡ fail.WantOfMemory → IsOk answer → AnswersFirst result answer
+out_of_memory result other answer is same fine = answers_through result fail.WantOfMemory other answer is same fine
 
 -- the numbers of a shape within the limits
 pub numbers_made : (shape : List ℕ) (count : ℕ) (rule : ℕ → Option ℤ) (list : List ℤ) → shape_fault shape ≡ None → count ≡ element_count shape
@@ -46,13 +51,21 @@ numbers_lack shape count rule fits whole lacks =
     let here = subst (λ (n : ℕ). LacksItem n rule) whole lacks in
     rw (fits, something_lacks (element_count shape) rule here) refl
 
--- a call that makes items by place refused
+-- none of them is lacking
+pub numbers_there : (shape : List ℕ) (count : ℕ) (rule : ℕ → Option ℤ) → shape_fault shape ≡ None → count ≡ element_count shape
+    → HasItems count rule → IsOk (numbers_answer shape rule)
+numbers_there shape count rule fits whole has =
+    let here = nothing_lacks_at (element_count shape) rule (subst (λ (n : ℕ). HasItems n rule) whole has) in
+    rw (fits, here) refl
+
+-- a call that makes items by place refused, or ran out of memory
 pub refused_by_place : (shape : List ℕ) (count : ℕ) (answers : ℕ → Option ℤ → Type 0) (rule : ℕ → Option ℤ) (why : Fail) → shape_fault shape ≡ None → count ≡ element_count shape
-    → OnDomain {T = List ℤ} (Err why) ((place : ℕ) × (place < count) × answers place None) → Follows answers count rule → Answers (Err why) (numbers_answer shape rule)
-refused_by_place shape count answers rule (fail.Report report) fits whole refused follows =
+    → OnDomain {T = List ℤ} (Err why) ((place : ℕ) × (place < count) × answers place None) → OnWantOfMemory {T = List ℤ} (Err why) (GivesEach count answers) → Follows answers count rule
+    → AnswersFirst (Err why) (numbers_answer shape rule)
+refused_by_place shape count answers rule (fail.Report report) fits whole refused wants follows =
     let at = refused.1 in
     numbers_lack shape count rule fits whole (at.0, at.1, sym (follows at.0 None at.1 at.2)) ∙ ap refusal (sym refused.0)
-refused_by_place shape count answers rule fail.WantOfMemory fits whole refused follows = tt
+refused_by_place shape count answers rule fail.WantOfMemory fits whole refused wants follows = numbers_there shape count rule fits whole (has_as_told count answers rule follows wants)
 
 -- ---- the same item at each place
 

@@ -1,6 +1,6 @@
 -- Scans of arrays that have items.
 use native.Mathlib.Nat.{zero-div, zero-mod}
-use Rattle.std.proofs.Common.{◌≡◌, ◌&&◌, Bool, true, false, ℕ, ℤ, zero, suc, ◌+◌, ◌*◌, ◌/◌, ◌%◌, ◌<◌, List, Option, Some, None, Result, Ok, Err, length, get_or, option_map, refl, sym, ap, subst, ◌∙◌, arith}
+use Rattle.std.proofs.Common.{◌≡◌, ◌&&◌, Bool, true, false, ℕ, ℤ, zero, suc, ◌+◌, ◌*◌, ◌/◌, ◌%◌, ◌<◌, List, Option, Some, None, Result, Ok, Err, IsOk, length, get_or, option_map, refl, sym, ap, subst, ◌∙◌, arith}
 use Rattle.std.specs.Prelude.{◌↔◌, IsTrue}
 use Rattle.std.proofs.Math.Dec.{eqb}
 use Rattle.std.proofs.lemmas.Bool.{false≢true}
@@ -16,10 +16,10 @@ use Rattle.apl_arrays.specs.Array.{IsArray, PlainArray, PlainItems, chars, eleme
 use Rattle.apl_arrays.specs.Shape.{shape_fault}
 use Rattle.apl_arrays.proofs.Shapes.{what_fits_has_no_fault}
 use Rattle.apl_arrays.specs.declared.verb.Way.{Way}
-use Rattle.apl_items.specs.Answers.{Answer, Answers, answer_of, faults_of_fault}
+use Rattle.apl_items.specs.Answers.{Answer, AnswersFirst, answer_of, faults_of_fault}
 use Rattle.apl_items.specs.Axis.{axis_of, lacks_axis}
 use Rattle.apl_items.specs.declared.shapes.Split.{Split}
-use Rattle.apl_items.specs.Places.{IsByPlace, MakesItems}
+use Rattle.apl_items.specs.Places.{HasItems, IsByPlace, MakesItems, OnWantOfMemory}
 use Rattle.apl_items.specs.Shapes.{along_of, inner_of, outer_of, place_along, split_at, split_count}
 use Rattle.apl_items.proofs.ShapeLemmas.{along_of_place, place_along_below, place_along_parts, split_count_lem}
 use Rattle.apl_items.proofs.PlaceLemmas.{something_lacks}
@@ -30,7 +30,7 @@ use Rattle.apl_operators.specs.Running.{front_at}
 use Rattle.apl_operators.specs.Scan.{item_beside, scan_of, scanned, scanned_at}
 use Rattle.apl_operators.proofs.GatherLemmas.{gathered_chars}
 use Rattle.apl_operators.proofs.LineLemmas.{not_zero, reduced_numbers}
-use Rattle.apl_operators.proofs.NumberLemmas.{gathered_as_numbers, numbers_lack, numbers_made}
+use Rattle.apl_operators.proofs.NumberLemmas.{gathered_as_numbers, numbers_lack, numbers_made, numbers_there}
 
 -- a test that a count is 0 holds of 0
 pub no_count : (n : ℕ) (test : Bool) → n ≡ 0 → test ≡ eqb n 0 → test ≡ false → ⊥
@@ -47,9 +47,9 @@ some_items b items empty array is other test = by_count (element_count b.shape) 
 
 -- along an axis that is there
 pub scan_along_an_axis : (f : Dyad) (b : PlainArray) (way : Way) (axis : Option ℤ) (used : ℕ) (result : Result PlainArray Fail) → lacks_axis (length b.shape) axis ≡ false
-    → 0 < length b.shape → 0 < element_count b.shape → used ≡ axis_of (length b.shape) way axis → Answers result (scanned f b used) → Answers result (scan_of f b way axis)
+    → 0 < length b.shape → 0 < element_count b.shape → used ≡ axis_of (length b.shape) way axis → AnswersFirst result (scanned f b used) → AnswersFirst result (scan_of f b way axis)
 scan_along_an_axis f b way axis used result named some items is_used answers =
-    rw (named, not_zero (length b.shape) some, not_zero (element_count b.shape) items) (subst (λ (u : ℕ). Answers result (scanned f b u)) is_used answers)
+    rw (named, not_zero (length b.shape) some, not_zero (element_count b.shape) items) (subst (λ (u : ℕ). AnswersFirst result (scanned f b u)) is_used answers)
 
 -- a scan of numbers is of numbers
 pub scan_of_numbers : (f : Dyad) (list : List ℤ) (split : Split) (shape : List ℕ) → gathered shape (scanned_at f (numbers list) split) ≡ numbers_answer shape (front_at (dyadic_item f) list split)
@@ -74,13 +74,16 @@ refusal : Report → Answer
 refusal report = Err report
 
 pub scan_refused : (f : Dyad) (b : PlainArray) (axis : ℕ) (list : List ℤ) (split : Split) (why : Fail) → IsArray b → b.items ≡ numbers list → split ≡ split_at b.shape axis
-    → MakesItems {T = ℤ} (Err why) (length list) (front_at (dyadic_item f) list split) → Answers (Err why) (scanned f b axis)
-scan_refused f b axis list split (fail.Report report) is_b is is_split refused =
+    → MakesItems {T = ℤ} (Err why) (length list) (front_at (dyadic_item f) list split) → OnWantOfMemory {T = List ℤ} (Err why) (HasItems (length list) (front_at (dyadic_item f) list split))
+    → AnswersFirst (Err why) (scanned f b axis)
+scan_refused f b axis list split (fail.Report report) is_b is is_split refused wants =
     let whole : length list ≡ element_count b.shape = sym (is_b.whole ∙ ap item_count is) in
     scanned_as f b axis list split is is_split
     ∙ numbers_lack b.shape (length list) (front_at (dyadic_item f) list split) (what_fits_has_no_fault b.shape is_b.fits) whole refused.1
     ∙ ap (λ (r : Report). Err r) (sym refused.0)
-scan_refused f b axis list split fail.WantOfMemory is_b is is_split refused = tt
+scan_refused f b axis list split fail.WantOfMemory is_b is is_split refused wants =
+    let whole : length list ≡ element_count b.shape = sym (is_b.whole ∙ ap item_count is) in
+    rw (scanned_as f b axis list split is is_split) (numbers_there b.shape (length list) (front_at (dyadic_item f) list split) (what_fits_has_no_fault b.shape is_b.fits) whole wants)
 
 -- along an axis of one place characters stay
 pub lone_chars_stay : (f : Dyad) (b result : PlainArray) (axis : ℕ) (list : List ℕ) (split : Split) → IsArray b → b.items ≡ chars list → split ≡ split_at b.shape axis
@@ -99,6 +102,11 @@ lone_chars_stay f b result axis list split is_b is is_split e some is_result =
   where
     lone : (n along : ℕ) → along ≡ 1 → n % along ≡ 0
     lone n along e = ap (λ (m : ℕ). n % m) e ∙ (let none : n % 1 ≡ 0 = omega arith in none)
+
+-- where they cannot be copied for want of memory there is no report
+pub lone_chars_there : (f : Dyad) (b : PlainArray) (axis : ℕ) (list : List ℕ) (split : Split) → IsArray b → b.items ≡ chars list → split ≡ split_at b.shape axis → split.along ≡ 1
+    → 0 < item_count b.items → IsOk (scanned f b axis)
+lone_chars_there f b axis list split is_b is is_split e some = rw (lone_chars_stay f b b axis list split is_b is is_split e some refl) refl
 
 no_char : (o : Option ℤ) → char_in (option_map Number o) ≡ None
 no_char None = refl

@@ -1,4 +1,4 @@
-ghost use Rattle.std.specs.Prelude.{◌≡◌, ◌+◌, true, IsSome, is_some, option_copied};
+ghost use Rattle.std.specs.Prelude.{◌≡◌, ◌+◌, true, is_some, option_copied};
 ghost use Rattle.apl_items.specs.Answers.{Answers};
 ghost use Rattle.apl_operators.specs.Apply.{applied, is_dyadic, mixed_dyadic_of, mixed_monadic_of, takes_axis};
 

@@ -1,6 +1,6 @@
 ghost use Rattle.std.specs.Prelude.{◌≡◌, ◌≤◌, All, length, option_map, unwrap_or};
 ghost use Rattle.apl_arrays.specs.Limits.{most_axes, most_elements};
-ghost use Rattle.apl_items.specs.Answers.{Answers};
+ghost use Rattle.apl_items.specs.Answers.{AnswersFirst};
 ghost use Rattle.apl_scalar.specs.Table.{row_of_dyad};
 ghost use Rattle.apl_operators.specs.Gathering.{numbers_answer};
 
@@ -14,7 +14,7 @@ use std::alloc::Global;
 pub(crate) fn identities(alloc: Global, f: Dyad, shape: &[u32]) -> Result<Array, Fail>
     requires rank { length shape.now ≤ most_axes }
     requires axes { All (λ axis. axis ≤ most_elements) shape.now }
-    ensures { Answers result (numbers_answer shape.now (λ place. (row_of_dyad f).identity)) }
+    ensures { AnswersFirst result (numbers_answer shape.now (λ place. (row_of_dyad f).identity)) }
 {
     if shape_fault(shape).is_some() {
         return Err(Fail::Report(report_of_many(f)));

@@ -1,12 +1,12 @@
-ghost use Rattle.std.specs.Prelude.{◌≡◌, ◌+◌, ◌*◌, ◌/◌, ◌%◌, ◌-◌, ◌<◌, ◌≤◌, ◌^◌, ◌==◌, ◌++◌, ℕ, ℤ, Option, false, drop, length};
+ghost use Rattle.std.specs.Prelude.{◌≡◌, ◌+◌, ◌*◌, ◌/◌, ◌-◌, ◌<◌, ◌≤◌, ◌==◌, ◌++◌, Option, false, drop, length};
 ghost use Rattle.apl_arrays.specs.Array.{IsArray, chars, element_count, item_count, numbers, plain_items};
 ghost use Rattle.apl_arrays.specs.Limits.{most_axes};
-ghost use Rattle.apl_items.specs.Answers.{Answers};
+ghost use Rattle.apl_items.specs.Answers.{AnswersFirst};
 ghost use Rattle.apl_items.specs.Extension.{Reaches, char_at, number_at, place_in};
 ghost use Rattle.apl_scalar.specs.Table.{dyadic_item, item_of_chars};
 ghost use Rattle.apl_operators.specs.Gathering.{numbers_answer};
 ghost use Rattle.apl_operators.specs.Inner.{ends_differ, first_length, front, inner_at, inner_product_of, last_length, paired};
-ghost use Rattle.apl_operators.specs.Products.{FollowsPairs, IsExtent, product_of, products_at};
+ghost use Rattle.apl_operators.specs.Products.{IsExtent, products_at};
 ghost use Rattle.apl_operators.specs.Reduction.{Joins, Tells};
 
 use crate::identities::identities;
@@ -29,10 +29,10 @@ macro_rules! pairs_of {
 /// reduced by another; the shape is that of the first without its last axis, then that of the second without its first. An
 /// array of one element takes the length of the other. RANK where that has over eight axes, else LENGTH where the last axis
 /// of the first and the first of the second differ, else DOMAIN where two items have no value of 64 bits, or where none are
-/// paired and there is no identity, else WS FULL where the result is too large. It takes memory for the shape and for the
-/// items. ISO 8485.
+/// paired and there is no identity, else WS FULL where the result is too large. Where there is no report it takes memory for
+/// the items. ISO 8485.
 pub fn inner(alloc: Global, f: Dyad, g: Dyad, a: &Array, b: &Array) -> Result<Array, Fail>
-    ensures { Answers result (inner_product_of f g a.now b.now) }
+    ensures { AnswersFirst result (inner_product_of f g a.now b.now) }
 {
     let (front, back) = (without_last(a.shape()), without_first(b.shape()));
     if front.len() + back.len() > RANK_LIMIT {
@@ -41,8 +41,8 @@ pub fn inner(alloc: Global, f: Dyad, g: Dyad, a: &Array, b: &Array) -> Result<Ar
     if ends_differ(a, b) {
         return Err(Fail::Report(Report::Length));
     }
-    let shape = joined_shape(alloc, front, back)?;
-    products(alloc, f, g, a, b, &shape)
+    let shape = joined_shape(front, back);
+    products(alloc, f, g, a, b, shape.as_slice())
 }
 
 /// A shape without its last axis.
@@ -114,7 +114,7 @@ fn products(
     requires rank { length shape.now ≤ most_axes }
     requires shape { shape.now ≡ front a.now.shape ++ drop 1 b.now.shape }
     requires fit { ends_differ a.now b.now ≡ false }
-    ensures { Answers result (inner_product_of f g a.now b.now) }
+    ensures { AnswersFirst result (inner_product_of f g a.now b.now) }
 {
     let paired = paired(a, b);
     if paired == 0 {
@@ -144,7 +144,7 @@ fn products_of_items(
     requires extent { IsExtent extent }
     requires in_a { Reaches (item_count (plain_items a.now)) (extent.rows * extent.paired) }
     requires in_b { Reaches (item_count (plain_items b.now)) (extent.paired * extent.columns) }
-    ensures { Answers result (numbers_answer shape.now (inner_at f g (plain_items a.now) (plain_items b.now) extent.paired extent.columns)) }
+    ensures { AnswersFirst result (numbers_answer shape.now (inner_at f g (plain_items a.now) (plain_items b.now) extent.paired extent.columns)) }
 {
     if shape_fault(shape).is_some() && refuses_none(f) && takes_all(g, a, b) {
         return Err(Fail::Report(Report::WsFull));
@@ -176,7 +176,7 @@ fn number_products(
     requires extent { IsExtent extent }
     requires in_a { Reaches (length a.now) (extent.rows * extent.paired) }
     requires in_b { Reaches (length b.now) (extent.paired * extent.columns) }
-    ensures { Answers result (numbers_answer shape.now (inner_at f g (numbers a.now) (numbers b.now) extent.paired extent.columns)) }
+    ensures { AnswersFirst result (numbers_answer shape.now (inner_at f g (numbers a.now) (numbers b.now) extent.paired extent.columns)) }
 {
     dyadic_table!(g, pairs_of(alloc, f, g, shape, a, b, extent))
 }
@@ -199,7 +199,7 @@ fn products_by_pairs<G: Fn(i64, i64) -> Option<i64>>(
     requires extent { IsExtent extent }
     requires in_a { Reaches (length a.now) (extent.rows * extent.paired) }
     requires in_b { Reaches (length b.now) (extent.paired * extent.columns) }
-    ensures { Answers result (numbers_answer shape.now (inner_at f g (numbers a.now) (numbers b.now) extent.paired extent.columns)) }
+    ensures { AnswersFirst result (numbers_answer shape.now (inner_at f g (numbers a.now) (numbers b.now) extent.paired extent.columns)) }
 {
     all_products(
         alloc,
@@ -230,7 +230,7 @@ fn glyph_products(
     requires extent { IsExtent extent }
     requires in_a { Reaches (length a.now) (extent.rows * extent.paired) }
     requires in_b { Reaches (length b.now) (extent.paired * extent.columns) }
-    ensures { Answers result (numbers_answer shape.now (inner_at f g (chars a.now) (chars b.now) extent.paired extent.columns)) }
+    ensures { AnswersFirst result (numbers_answer shape.now (inner_at f g (chars a.now) (chars b.now) extent.paired extent.columns)) }
 {
     match g {
         Dyad::Equal => glyph_products_by(alloc, f, g, shape, a, b, extent, rules::same),
@@ -268,7 +268,7 @@ fn glyph_products_by<G: Fn(bool) -> Option<i64>>(
     requires extent { IsExtent extent }
     requires in_a { Reaches (length a.now) (extent.rows * extent.paired) }
     requires in_b { Reaches (length b.now) (extent.paired * extent.columns) }
-    ensures { Answers result (numbers_answer shape.now (inner_at f g (chars a.now) (chars b.now) extent.paired extent.columns)) }
+    ensures { AnswersFirst result (numbers_answer shape.now (inner_at f g (chars a.now) (chars b.now) extent.paired extent.columns)) }
 {
     all_products(
         alloc,
@@ -295,7 +295,7 @@ fn unlike_products(
     requires rank { length shape.now ≤ most_axes }
     requires count { extent.rows * extent.columns ≡ element_count shape.now }
     requires extent { IsExtent extent }
-    ensures { Answers result (numbers_answer shape.now (products_at f (λ x y. item_of_chars g false) extent.paired extent.columns)) }
+    ensures { AnswersFirst result (numbers_answer shape.now (products_at f (λ x y. item_of_chars g false) extent.paired extent.columns)) }
 {
     let item = character_of(g, false);
     all_products(

@@ -1,7 +1,7 @@
-ghost use Rattle.std.specs.Prelude.{◌≡◌, ◌*◌, ◌<◌, ◌≤◌, ◌^◌, ◌==◌, ℤ, Option, pos, false, length, slice_index, slice_index_or};
+ghost use Rattle.std.specs.Prelude.{◌≡◌, ◌*◌, ◌<◌, ◌≤◌, ◌^◌, ◌==◌, Option, pos, false, length, slice_index, slice_index_or};
 ghost use Rattle.apl_arrays.specs.Array.{chars, element_count, item_count, numbers, plain_items};
 ghost use Rattle.apl_arrays.specs.Limits.{most_axes};
-ghost use Rattle.apl_items.specs.Answers.{Answers};
+ghost use Rattle.apl_items.specs.Answers.{AnswersFirst};
 ghost use Rattle.apl_scalar.specs.Table.{dyadic_item, item_of_chars};
 ghost use Rattle.apl_operators.specs.Gathering.{numbers_answer};
 ghost use Rattle.apl_operators.specs.Outer.{outer_at, outer_product_of};
@@ -22,16 +22,16 @@ macro_rules! all_pairs_of {
 
 /// A dyadic function of each item of an array with each of another, in the shape of the one and then of the other. RANK
 /// where that has over eight axes, else DOMAIN where a pair of items has no value of 64 bits, else WS FULL where it is too
-/// large. It takes memory for the shape and for the items. ISO 8485.
+/// large. Where there is no report it takes memory for the items. ISO 8485.
 #[tactic(auto, using(crate::proofs::ShapeLemmas::pair_count))]
 pub fn outer(alloc: Global, f: Dyad, a: &Array, b: &Array) -> Result<Array, Fail>
-    ensures { Answers result (outer_product_of f a.now b.now) }
+    ensures { AnswersFirst result (outer_product_of f a.now b.now) }
 {
     if a.shape().len() + b.shape().len() > RANK_LIMIT {
         return Err(Fail::Report(Report::Rank));
     }
-    let shape = joined_shape(alloc, a.shape(), b.shape())?;
-    all_pairs(alloc, f, &shape, a.items(), b.items())
+    let shape = joined_shape(a.shape(), b.shape());
+    all_pairs(alloc, f, shape.as_slice(), a.items(), b.items())
 }
 
 /// All pairs of items. The kinds are looked at once. Where they are too many, a function that takes them all is not asked.
@@ -39,7 +39,7 @@ fn all_pairs(alloc: Global, f: Dyad, shape: &[u32], a: &Items, b: &Items) -> Res
     requires rank { length shape.now ≤ most_axes }
     requires count { item_count (plain_items a.now) * item_count (plain_items b.now) ≡ element_count shape.now }
     requires fits { item_count (plain_items a.now) * item_count (plain_items b.now) < 2 ^ 64 }
-    ensures { Answers result (numbers_answer shape.now (outer_at f (plain_items a.now) (plain_items b.now))) }
+    ensures { AnswersFirst result (numbers_answer shape.now (outer_at f (plain_items a.now) (plain_items b.now))) }
 {
     if shape_fault(shape).is_some() && takes_all(f, a, b) {
         return Err(Fail::Report(Report::WsFull));
@@ -65,7 +65,7 @@ fn number_pairs(alloc: Global, f: Dyad, shape: &[u32], a: &[i64], b: &[i64]) -> 
     requires rank { length shape.now ≤ most_axes }
     requires count { length a.now * length b.now ≡ element_count shape.now }
     requires fits { length a.now * length b.now < 2 ^ 64 }
-    ensures { Answers result (numbers_answer shape.now (outer_at f (numbers a.now) (numbers b.now))) }
+    ensures { AnswersFirst result (numbers_answer shape.now (outer_at f (numbers a.now) (numbers b.now))) }
 {
     dyadic_table!(f, all_pairs_of(alloc, f, shape, a, b))
 }
@@ -84,7 +84,7 @@ fn pairs_by<F: Fn(i64, i64) -> Option<i64>>(
     requires rank { length shape.now ≤ most_axes }
     requires count { length a.now * length b.now ≡ element_count shape.now }
     requires fits { length a.now * length b.now < 2 ^ 64 }
-    ensures { Answers result (numbers_answer shape.now (outer_at f (numbers a.now) (numbers b.now))) }
+    ensures { AnswersFirst result (numbers_answer shape.now (outer_at f (numbers a.now) (numbers b.now))) }
 {
     numbers_by_rows(
         alloc,
@@ -111,7 +111,7 @@ fn glyph_pairs(
     requires rank { length shape.now ≤ most_axes }
     requires count { length a.now * length b.now ≡ element_count shape.now }
     requires fits { length a.now * length b.now < 2 ^ 64 }
-    ensures { Answers result (numbers_answer shape.now (outer_at f (chars a.now) (chars b.now))) }
+    ensures { AnswersFirst result (numbers_answer shape.now (outer_at f (chars a.now) (chars b.now))) }
 {
     match f {
         Dyad::Equal => glyph_pairs_by(alloc, f, shape, a, b, rules::same),
@@ -143,7 +143,7 @@ fn glyph_pairs_by<F: Fn(bool) -> Option<i64>>(
     requires rank { length shape.now ≤ most_axes }
     requires count { length a.now * length b.now ≡ element_count shape.now }
     requires fits { length a.now * length b.now < 2 ^ 64 }
-    ensures { Answers result (numbers_answer shape.now (outer_at f (chars a.now) (chars b.now))) }
+    ensures { AnswersFirst result (numbers_answer shape.now (outer_at f (chars a.now) (chars b.now))) }
 {
     numbers_by_rows(
         alloc,
@@ -170,7 +170,7 @@ fn unlike_pairs(
     requires rank { length shape.now ≤ most_axes }
     requires count { rows * columns ≡ element_count shape.now }
     requires fits { rows * columns < 2 ^ 64 }
-    ensures { Answers result (numbers_answer shape.now (λ place. item_of_chars f false)) }
+    ensures { AnswersFirst result (numbers_answer shape.now (λ place. item_of_chars f false)) }
 {
     let item = character_of(f, false);
     numbers_by_rows(

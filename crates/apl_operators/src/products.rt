@@ -1,7 +1,7 @@
 ghost use Rattle.std.specs.Prelude.{◌≡◌, ◌+◌, ◌*◌, ◌<◌, ◌≤◌, ◌^◌, ℕ, ℤ, Option, length};
 ghost use Rattle.apl_arrays.specs.Array.{element_count};
 ghost use Rattle.apl_arrays.specs.Limits.{most_axes};
-ghost use Rattle.apl_items.specs.Answers.{Answers};
+ghost use Rattle.apl_items.specs.Answers.{AnswersFirst};
 ghost use Rattle.apl_scalar.specs.Table.{dyadic_item};
 ghost use Rattle.apl_operators.specs.Gathering.{numbers_answer};
 ghost use Rattle.apl_operators.specs.Products.{FollowsPairs, IsExtent, product_of, products_at};
@@ -39,7 +39,7 @@ pub(crate) fn all_products<P: Fn(usize, usize) -> Option<i64>>(
     requires count { extent.rows * extent.columns ≡ element_count shape.now }
     requires extent { IsExtent extent }
     requires callable { (x y : ℕ) → x < extent.rows * extent.paired → y < extent.paired * extent.columns → P.pre pair.now x y }
-    ensures { (item : ℕ → ℕ → Option ℤ) → FollowsPairs (P.post pair.now) (extent.rows * extent.paired) (extent.paired * extent.columns) item → Answers result (numbers_answer shape.now (products_at f item extent.paired extent.columns)) }
+    ensures { (item : ℕ → ℕ → Option ℤ) → FollowsPairs (P.post pair.now) (extent.rows * extent.paired) (extent.paired * extent.columns) item → AnswersFirst result (numbers_answer shape.now (products_at f item extent.paired extent.columns)) }
 {
     dyadic_table!(f, reductions_of(alloc, f, shape, extent, pair))
 }
@@ -59,7 +59,7 @@ fn products_by<P: Fn(usize, usize) -> Option<i64>, F: Fn(i64, i64) -> Option<i64
     requires count { extent.rows * extent.columns ≡ element_count shape.now }
     requires extent { IsExtent extent }
     requires callable { (x y : ℕ) → x < extent.rows * extent.paired → y < extent.paired * extent.columns → P.pre pair.now x y }
-    ensures { (item : ℕ → ℕ → Option ℤ) → FollowsPairs (P.post pair.now) (extent.rows * extent.paired) (extent.paired * extent.columns) item → Answers result (numbers_answer shape.now (products_at f item extent.paired extent.columns)) }
+    ensures { (item : ℕ → ℕ → Option ℤ) → FollowsPairs (P.post pair.now) (extent.rows * extent.paired) (extent.paired * extent.columns) item → AnswersFirst result (numbers_answer shape.now (products_at f item extent.paired extent.columns)) }
 {
     numbers_by_rows(
         alloc,

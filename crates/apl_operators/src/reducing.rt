@@ -1,10 +1,10 @@
-ghost use Rattle.std.specs.Prelude.{◌≡◌, ◌*◌, ◌<◌, ◌≤◌, ◌-◌, ◌/◌, ◌%◌, ℤ, Option, Some, length, slice_index};
+ghost use Rattle.std.specs.Prelude.{◌≡◌, ◌*◌, ◌<◌, ◌-◌, ◌/◌, Option, Some, length, slice_index};
 ghost use Rattle.apl_arrays.specs.Array.{FitsLimits, chars, element_count, item_count, numbers, plain_items};
-ghost use Rattle.apl_items.specs.Answers.{Answers};
+ghost use Rattle.apl_items.specs.Answers.{AnswersFirst};
 ghost use Rattle.apl_items.specs.Shapes.{place_along, split_count};
 ghost use Rattle.apl_scalar.specs.Table.{dyadic_item, item_of_chars};
 ghost use Rattle.apl_items.specs.Axis.{without};
-ghost use Rattle.apl_operators.specs.Gathering.{gathered, number_in, numbers_answer};
+ghost use Rattle.apl_operators.specs.Gathering.{gathered, number_in};
 ghost use Rattle.apl_operators.specs.Reduce.{reduce_of, reduced, reduced_line};
 ghost use Rattle.apl_operators.specs.Reduction.{Joins, Tells, front_of_line, item_in, joined_by, reduction};
 
@@ -27,10 +27,10 @@ macro_rules! all_lines_of {
 /// The reduction of an array by a dyadic function, along an axis, the last or the first where none is named: of each line
 /// the first item, joined with the reduction of the others. No item gives the identity, and one item and a scalar are
 /// unchanged. INDEX where the axis is not from 1 to the rank, else DOMAIN where a pair has no value of 64 bits, or where
-/// there is no item and no identity, else WS FULL where the result is too large. It takes memory for the shape and for the
-/// items. ISO 8485.
+/// there is no item and no identity, else WS FULL where the result is too large. Where there is no report it takes memory for
+/// the items. ISO 8485.
 pub fn reduce(alloc: Global, f: Dyad, b: &Array, way: Way, axis: Option<i64>) -> Result<Array, Fail>
-    ensures { Answers result (reduce_of f b.now way axis) }
+    ensures { AnswersFirst result (reduce_of f b.now way axis) }
 {
     let rank = b.shape().len();
     if lacks_axis(rank, axis) {
@@ -45,14 +45,14 @@ pub fn reduce(alloc: Global, f: Dyad, b: &Array, way: Way, axis: Option<i64>) ->
 /// The reduction along an axis, line by line.
 fn reduced_along(alloc: Global, f: Dyad, b: &Array, axis: usize) -> Result<Array, Fail>
     requires { axis < length b.now.shape }
-    ensures { Answers result (reduced f b.now axis) }
+    ensures { AnswersFirst result (reduced f b.now axis) }
 {
     let axes = b.shape();
-    let shape = joined_shape(alloc, &axes[..axis], &axes[axis + 1..])?;
+    let shape = joined_shape(&axes[..axis], &axes[axis + 1..]);
     if axes[axis] == 0 {
-        identities(alloc, f, &shape)
+        identities(alloc, f, shape.as_slice())
     } else {
-        reduced_lines(alloc, f, b, axis, &shape)
+        reduced_lines(alloc, f, b, axis, shape.as_slice())
     }
 }
 
@@ -68,7 +68,7 @@ fn reduced_lines(
     requires some { 0 < slice_index b.now.shape axis }
     requires shape { shape.now ≡ without axis b.now.shape }
     requires fits { FitsLimits shape.now }
-    ensures { Answers result (reduced f b.now axis) }
+    ensures { AnswersFirst result (reduced f b.now axis) }
 {
     if b.items().is_empty() {
         return Ok(Array::shaped(shape, Items::Numbers(List::new(alloc))));
@@ -89,7 +89,7 @@ fn lines_of_items(
     requires whole { split_count split ≡ item_count (plain_items items.now) }
     requires lines { split.outer * split.inner ≡ element_count shape.now }
     requires some { 0 < split_count split }
-    ensures { Answers result (gathered shape.now (reduced_line f (plain_items items.now) split)) }
+    ensures { AnswersFirst result (gathered shape.now (reduced_line f (plain_items items.now) split)) }
 {
     match items {
         Items::Numbers(list) => number_lines(alloc, f, shape, list.as_slice(), split),
@@ -115,7 +115,7 @@ fn number_lines(
     requires some { 0 < split.along }
     requires whole { split_count split ≡ length list.now }
     requires lines { split.outer * split.inner ≡ element_count shape.now }
-    ensures { Answers result (gathered shape.now (reduced_line f (numbers list.now) split)) }
+    ensures { AnswersFirst result (gathered shape.now (reduced_line f (numbers list.now) split)) }
 {
     dyadic_table!(f, all_lines_of(alloc, f, shape, list, split))
 }
@@ -135,7 +135,7 @@ fn lines_by<F: Fn(i64, i64) -> Option<i64>>(
     requires some { 0 < split.along }
     requires whole { split_count split ≡ length list.now }
     requires lines { split.outer * split.inner ≡ element_count shape.now }
-    ensures { Answers result (gathered shape.now (reduced_line f (numbers list.now) split)) }
+    ensures { AnswersFirst result (gathered shape.now (reduced_line f (numbers list.now) split)) }
 {
     numbers_by_rows(
         alloc,
@@ -166,7 +166,7 @@ fn char_lines(
     requires some { 1 < split.along }
     requires whole { split_count split ≡ length list.now }
     requires lines { split.outer * split.inner ≡ element_count shape.now }
-    ensures { Answers result (gathered shape.now (reduced_line f (chars list.now) split)) }
+    ensures { AnswersFirst result (gathered shape.now (reduced_line f (chars list.now) split)) }
 {
     match f {
         Dyad::Equal => char_lines_by(alloc, f, shape, list, split, rules::equal, rules::same),
@@ -215,7 +215,7 @@ fn char_lines_by<F: Fn(i64, i64) -> Option<i64>, G: Fn(bool) -> Option<i64>>(
     requires some { 1 < split.along }
     requires whole { split_count split ≡ length list.now }
     requires lines { split.outer * split.inner ≡ element_count shape.now }
-    ensures { Answers result (gathered shape.now (reduced_line f (chars list.now) split)) }
+    ensures { AnswersFirst result (gathered shape.now (reduced_line f (chars list.now) split)) }
 {
     numbers_by_rows(
         alloc,

@@ -1,4 +1,4 @@
-ghost use Rattle.std.specs.Prelude.{◌≡◌, ◌+◌, ◌<◌, ◌≤◌, ℕ, Option};
+ghost use Rattle.std.specs.Prelude.{◌≡◌, ◌+◌, ◌<◌, ℕ, Option};
 ghost use Rattle.apl_items.specs.Places.{Follows};
 ghost use Rattle.apl_operators.specs.Reduction.{Joins, reduction};
 

@@ -1,8 +1,8 @@
 ghost use Rattle.std.specs.Prelude.{◌≡◌, ◌<◌, ◌*◌, ◌^◌, ◌≤◌, ℕ, ℤ, Option, length};
 ghost use Rattle.apl_arrays.specs.Array.{element_count};
 ghost use Rattle.apl_arrays.specs.Limits.{most_axes};
-ghost use Rattle.apl_items.specs.Answers.{Answers};
-ghost use Rattle.apl_items.specs.Places.{AtPlace, Follows, GivesEach, OnWantOfMemory};
+ghost use Rattle.apl_items.specs.Answers.{AnswersFirst};
+ghost use Rattle.apl_items.specs.Places.{AtPlace, Follows};
 ghost use Rattle.apl_operators.specs.Gathering.{numbers_answer};
 
 use apl_arrays::{Array, Fail, Items, Report, shape_fault};
@@ -23,8 +23,7 @@ pub(crate) fn numbers_by_rows<F: Fn(usize, usize) -> Option<i64>>(
     requires count { rows * columns ≡ element_count shape.now }
     requires fits { rows * columns < 2 ^ 64 }
     requires callable { (row column : ℕ) → row < rows → column < columns → F.pre rule.now row column }
-    ensures value { (item : ℕ → Option ℤ) → Follows (AtPlace (F.post rule.now) columns) (rows * columns) item → Answers result (numbers_answer shape.now item) }
-    ensures memory { OnWantOfMemory result (GivesEach (rows * columns) (AtPlace (F.post rule.now) columns)) }
+    ensures { (item : ℕ → Option ℤ) → Follows (AtPlace (F.post rule.now) columns) (rows * columns) item → AnswersFirst result (numbers_answer shape.now item) }
 {
     if shape_fault(shape).is_none() {
         let items = by_rows(alloc, rows, columns, rule)?;

@@ -1,6 +1,6 @@
 ghost use Rattle.std.specs.Prelude.{◌≡◌, ◌-◌, ◌<◌, true, false, length};
 ghost use Rattle.apl_arrays.specs.Array.{item_count};
-ghost use Rattle.apl_items.specs.Answers.{Answers};
+ghost use Rattle.apl_items.specs.Answers.{AnswersFirst};
 ghost use Rattle.apl_items.specs.Places.{HasItems, LacksItem, MakesItems, OnWantOfMemory};
 ghost use Rattle.apl_items.specs.Shapes.{split_count};
 ghost use Rattle.apl_scalar.specs.Table.{dyadic_item};
@@ -31,9 +31,9 @@ macro_rules! fronts_of {
 /// The scan of an array by a dyadic function, along an axis, the last or the first where none is named: each item is the
 /// reduction of the items of its line from the first up to it. A scalar, and an array without items, is unchanged. INDEX
 /// where the axis is not from 1 to the rank, else DOMAIN where two items have no value of 64 bits, or where there would be
-/// items of both kinds. It takes memory for the items. ISO 8485.
+/// items of both kinds. Where there is no report it takes memory for the items. ISO 8485.
 pub fn scan(alloc: Global, f: Dyad, b: &Array, way: Way, axis: Option<i64>) -> Result<Array, Fail>
-    ensures { Answers result (scan_of f b.now way axis) }
+    ensures { AnswersFirst result (scan_of f b.now way axis) }
 {
     let rank = b.shape().len();
     if lacks_axis(rank, axis) {
@@ -49,7 +49,7 @@ pub fn scan(alloc: Global, f: Dyad, b: &Array, way: Way, axis: Option<i64>) -> R
 fn scanned(alloc: Global, f: Dyad, b: &Array, axis: usize) -> Result<Array, Fail>
     requires axis { axis < length b.now.shape }
     requires some { 0 < item_count b.now.items }
-    ensures { Answers result (scanned f b.now axis) }
+    ensures { AnswersFirst result (scanned f b.now axis) }
 {
     let split = Split::at(b.shape(), axis);
     match b.items() {

@@ -19,7 +19,7 @@ fn verbs_ask_for_their_memory(rt: HostRuntime) {
 }
 
 /// Each kind of verb, counted by a counter without bytes.
-fn verbs<L: Ledger>(rt: &impl Abort, alloc: Global, blank: Blank) -> Result<(), WantOfMemory>
+fn verbs<L: Ledger>(rt: &impl Abort, alloc: Global, blank: Blank) -> Result<(), Fail>
     requires name { blank.name ≡ L.name }
     requires parts { blank.parts ≡ L.parts }
     requires some { 0 < blank.parts }
@@ -31,20 +31,16 @@ fn verbs<L: Ledger>(rt: &impl Abort, alloc: Global, blank: Blank) -> Result<(), 
 }
 
 /// A scalar and a mixed function of one and of two arguments.
-fn functions<L: Ledger>(
-    rt: &impl Abort,
-    alloc: Global,
-    steps: &mut Steps<L>,
-) -> Result<(), WantOfMemory> {
+fn functions<L: Ledger>(rt: &impl Abort, alloc: Global, steps: &mut Steps<L>) -> Result<(), Fail> {
     let a = array(rt, alloc, &[3], &[1, 2, 5])?;
     let b = array(rt, alloc, &[3], &[3, 1, 4])?;
     let negative = apply(alloc, &Verb::One(Monad::Negative), None, &b, None, steps);
-    assert!(rt; given(negative)? == Ok(array(rt, alloc, &[3], &[-3, -1, -4])?));
+    assert!(rt; negative? == array(rt, alloc, &[3], &[-3, -1, -4])?);
     let minus = apply(alloc, &Verb::Two(Dyad::Minus), Some(&a), &b, None, steps);
-    assert!(rt; given(minus)? == Ok(array(rt, alloc, &[3], &[-2, 1, 1])?));
+    assert!(rt; minus? == array(rt, alloc, &[3], &[-2, 1, 1])?);
     let reverse = Verb::Mixed1(Mix1::Reverse(Way::Last));
     let reversed = apply(alloc, &reverse, None, &b, Some(1), steps);
-    assert!(rt; given(reversed)? == Ok(array(rt, alloc, &[3], &[4, 1, 3])?));
+    assert!(rt; reversed? == array(rt, alloc, &[3], &[4, 1, 3])?);
     let member = apply(
         alloc,
         &Verb::Mixed2(Mix2::Member),
@@ -53,42 +49,29 @@ fn functions<L: Ledger>(
         None,
         steps,
     );
-    assert!(rt; given(member)? == Ok(array(rt, alloc, &[3], &[1, 0, 0])?));
+    assert!(rt; member? == array(rt, alloc, &[3], &[1, 0, 0])?);
     Ok(())
 }
 
 /// Each operator, and a quotient that is not exact.
-fn operators<L: Ledger>(
-    rt: &impl Abort,
-    alloc: Global,
-    steps: &mut Steps<L>,
-) -> Result<(), WantOfMemory> {
+fn operators<L: Ledger>(rt: &impl Abort, alloc: Global, steps: &mut Steps<L>) -> Result<(), Fail> {
     let a = array(rt, alloc, &[2], &[2, 5])?;
     let b = array(rt, alloc, &[2, 2], &[3, 1, 4, 2])?;
     let reduce = Verb::Reduce(Dyad::Minus, Way::First);
     let reduced = apply(alloc, &reduce, None, &b, None, steps);
-    assert!(rt; given(reduced)? == Ok(array(rt, alloc, &[2], &[-1, -1])?));
+    assert!(rt; reduced? == array(rt, alloc, &[2], &[-1, -1])?);
     let scan = Verb::Scan(Dyad::Plus, Way::First);
     let scanned = apply(alloc, &scan, None, &b, Some(2), steps);
-    assert!(rt; given(scanned)? == Ok(array(rt, alloc, &[2, 2], &[3, 4, 4, 6])?));
+    assert!(rt; scanned? == array(rt, alloc, &[2, 2], &[3, 4, 4, 6])?);
     let inner = Verb::Inner(Dyad::Minus, Dyad::Times);
     let product = apply(alloc, &inner, Some(&a), &b, None, steps);
-    assert!(rt; given(product)? == Ok(array(rt, alloc, &[2], &[-14, -8])?));
+    assert!(rt; product? == array(rt, alloc, &[2], &[-14, -8])?);
     let outer = Verb::Outer(Dyad::Plus);
     let table = apply(alloc, &outer, Some(&a), &a, None, steps);
-    assert!(rt; given(table)? == Ok(array(rt, alloc, &[2, 2], &[4, 7, 7, 10])?));
+    assert!(rt; table? == array(rt, alloc, &[2, 2], &[4, 7, 7, 10])?);
     let quotient = apply(alloc, &Verb::Outer(Dyad::Divide), Some(&a), &a, None, steps);
-    assert!(rt; given(quotient)? == Err(Report::Domain));
+    assert!(rt; quotient == Err(Fail::Report(Report::Domain)));
     Ok(())
-}
-
-/// What a call gave, where memory did not run out.
-fn given(answer: Result<Array, Fail>) -> Result<Result<Array, Report>, WantOfMemory> {
-    match answer {
-        Ok(array) => Ok(Ok(array)),
-        Err(Fail::Report(report)) => Ok(Err(report)),
-        Err(Fail::WantOfMemory) => Err(WantOfMemory),
-    }
 }
 
 /// The array of a shape and of numbers.

@@ -1,8 +1,8 @@
 ghost use Rattle.std.specs.Prelude.{◌≡◌, ◌==◌, Bool, Option, ℤ, IsOk, length, true, false, not, if◌then◌else◌};
-ghost use Rattle.apl_arrays.specs.Array.{FitsLimits, element_count, is_chars, item_count, numbers, numbers_in, plain_items};
-ghost use Rattle.apl_items.specs.Answers.{Answers, answer_of, first_report, no_faults};
+ghost use Rattle.apl_arrays.specs.Array.{is_chars, item_count, numbers, numbers_in, plain_items};
+ghost use Rattle.apl_items.specs.Answers.{Answers, first_report, no_faults};
 ghost use Rattle.apl_items.specs.Extension.{Reaches, char_at, leader, ranks_differ, shapes_differ};
-ghost use Rattle.apl_items.specs.Places.{HasItems, MakesItems, OnWantOfMemory, lacks_item, numbers_by};
+ghost use Rattle.apl_items.specs.Places.{HasItems, MakesItems, OnWantOfMemory};
 ghost use Rattle.apl_scalar.specs.Scalar.{dyadic_at, dyadic_of, is_unfit, monadic_at, monadic_of};
 ghost use Rattle.apl_scalar.specs.Table.{item_of_chars, takes_chars};
 

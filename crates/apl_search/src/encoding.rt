@@ -1,10 +1,9 @@
-ghost use Rattle.std.specs.Prelude.{◌≡◌, ◌≢◌, ◌*ℤ◌, ◌+◌, ◌-◌, ◌*◌, ◌<◌, ◌≤◌, ◌^◌, ℕ, None, false, pos, true, IfOk, drop, length, slice_index_or, unsigned_abs};
+ghost use Rattle.std.specs.Prelude.{◌≡◌, ◌≢◌, ◌*ℤ◌, ◌+◌, ◌-◌, ◌*◌, ◌<◌, ◌≤◌, ◌^◌, None, false, pos, true, IfOk, length, slice_index_or, unsigned_abs};
 ghost use Rattle.apl_items.specs.Answers.{Answers, first_report};
 ghost use Rattle.apl_items.specs.Places.{OnWantOfMemory, items_by, lacks_item};
 ghost use Rattle.apl_scalar.specs.Counting.{floor_quotient, residue};
-ghost use Rattle.apl_arrays.specs.Number.{fits};
 ghost use Rattle.apl_scalar.specs.Table.{item_where, least};
-ghost use Rattle.apl_search.specs.Encode.{AreBefore, digit_at, digit_for, digits_of, encode_faults, encode_of, encode_misfit, rest_by, rest_by_all};
+ghost use Rattle.apl_search.specs.Encode.{AreBefore, digit_at, digit_for, digits_of, encode_faults, encode_of, encode_misfit, rest_by};
 
 use crate::numbers::small;
 use apl_arrays::{
@@ -17,8 +16,8 @@ use std::alloc::Global;
 /// The digits of numbers by bases, in the shape of the bases and then that of the numbers. From the last base to the
 /// first a digit is the residue of what is left of the number, and then as much is left as the base goes into it, or 0
 /// where the base is 0. RANK where the bases are of rank over 1 or the digits would be of rank over 8, else DOMAIN where an
-/// argument is of characters or a digit leaves 64 bits, else WS FULL where the digits are over 16,384. It takes memory for
-/// the digits and their shape, where there is no report.
+/// argument is of characters or a digit leaves 64 bits, else WS FULL where the digits are over 16,384. Where there
+/// is no report it takes memory for the digits.
 pub fn encode(alloc: Global, a: &Array, b: &Array) -> Result<Array, Fail>
     ensures answer { Answers result (encode_of a.now b.now) }
     ensures memory { OnWantOfMemory result (first_report (encode_faults a.now b.now) ≡ None) }
@@ -108,9 +107,9 @@ fn encoded(alloc: Global, a: &Array, b: &Array) -> Result<Array, WantOfMemory>
 {
     let bases = a.items().numbers();
     let numbers = b.items().numbers();
-    let shape = joined_shape(alloc, a.shape(), b.shape())?;
     let digits = digits(alloc, bases, numbers)?;
-    Ok(Array::shaped(&shape, Items::Numbers(digits)))
+    let shape = joined_shape(a.shape(), b.shape());
+    Ok(Array::shaped(shape.as_slice(), Items::Numbers(digits)))
 }
 
 /// The digits of numbers by bases: those of a number stand in a column, and are put in from the last base to the first.

@@ -1,7 +1,7 @@
 use crate::{
     drop_items, iota, ravel, reshape, reverse, rotate, shape_of, take, transpose, transpose_by,
 };
-use apl_arrays::{Array, Fail, Items, List, Report, WantOfMemory, Way};
+use apl_arrays::{Array, Fail, Items, List, WantOfMemory, Way};
 use std::alloc::Global;
 use std::process::Abort;
 
@@ -14,7 +14,7 @@ fn calls_ask_for_their_memory(rt: HostRuntime) {
 }
 
 /// Each call once.
-fn calls(rt: &impl Abort, alloc: Global) -> Result<(), WantOfMemory> {
+fn calls(rt: &impl Abort, alloc: Global) -> Result<(), Fail> {
     let b = array(rt, alloc, &[2, 3], &[3, 1, 4, 2, 7, 5])?;
     shaped(rt, alloc, &b)?;
     taken(rt, alloc, &b)?;
@@ -22,47 +22,38 @@ fn calls(rt: &impl Abort, alloc: Global) -> Result<(), WantOfMemory> {
 }
 
 /// Numbers from 1 on, a shape, and items in another shape.
-fn shaped(rt: &impl Abort, alloc: Global, b: &Array) -> Result<(), WantOfMemory> {
+fn shaped(rt: &impl Abort, alloc: Global, b: &Array) -> Result<(), Fail> {
     let two = Array::scalar(alloc, 2)?;
     let shape = array(rt, alloc, &[2], &[2, 3])?;
     let all = array(rt, alloc, &[6], &[3, 1, 4, 2, 7, 5])?;
-    assert!(rt; given(iota(alloc, &two))? == Ok(array(rt, alloc, &[2], &[1, 2])?));
-    assert!(rt; given(reshape(alloc, &two, b))? == Ok(array(rt, alloc, &[2], &[3, 1])?));
-    assert!(rt; given(shape_of(alloc, b))? == Ok(shape));
-    assert!(rt; given(ravel(alloc, b))? == Ok(all));
+    assert!(rt; iota(alloc, &two)? == array(rt, alloc, &[2], &[1, 2])?);
+    assert!(rt; reshape(alloc, &two, b)? == array(rt, alloc, &[2], &[3, 1])?);
+    assert!(rt; shape_of(alloc, b)? == shape);
+    assert!(rt; ravel(alloc, b)? == all);
     Ok(())
 }
 
 /// What is taken and dropped along each axis.
-fn taken(rt: &impl Abort, alloc: Global, b: &Array) -> Result<(), WantOfMemory> {
+fn taken(rt: &impl Abort, alloc: Global, b: &Array) -> Result<(), Fail> {
     let counts = array(rt, alloc, &[2], &[1, -2])?;
     let first = array(rt, alloc, &[1, 2], &[1, 4])?;
     let rest = array(rt, alloc, &[1, 1], &[2])?;
-    assert!(rt; given(take(alloc, &counts, b))? == Ok(first));
-    assert!(rt; given(drop_items(alloc, &counts, b))? == Ok(rest));
+    assert!(rt; take(alloc, &counts, b)? == first);
+    assert!(rt; drop_items(alloc, &counts, b)? == rest);
     Ok(())
 }
 
 /// Lines and axes the other way round.
-fn turned(rt: &impl Abort, alloc: Global, b: &Array) -> Result<(), WantOfMemory> {
+fn turned(rt: &impl Abort, alloc: Global, b: &Array) -> Result<(), Fail> {
     let two_one = array(rt, alloc, &[2], &[2, 1])?;
     let across = array(rt, alloc, &[3, 2], &[3, 2, 1, 7, 4, 5])?;
-    let rows = given(reverse(alloc, b, Way::First, None))?;
-    assert!(rt; rows == Ok(array(rt, alloc, &[2, 3], &[2, 7, 5, 3, 1, 4])?));
-    let lines = given(rotate(alloc, &two_one, b, Way::Last, None))?;
-    assert!(rt; lines == Ok(array(rt, alloc, &[2, 3], &[4, 3, 1, 7, 5, 2])?));
-    assert!(rt; given(transpose_by(alloc, &two_one, b))? == given(transpose(alloc, b))?);
-    assert!(rt; given(transpose(alloc, b))? == Ok(across));
+    let rows = reverse(alloc, b, Way::First, None)?;
+    assert!(rt; rows == array(rt, alloc, &[2, 3], &[2, 7, 5, 3, 1, 4])?);
+    let lines = rotate(alloc, &two_one, b, Way::Last, None)?;
+    assert!(rt; lines == array(rt, alloc, &[2, 3], &[4, 3, 1, 7, 5, 2])?);
+    assert!(rt; transpose_by(alloc, &two_one, b)? == transpose(alloc, b)?);
+    assert!(rt; transpose(alloc, b)? == across);
     Ok(())
-}
-
-/// What a call gave, where memory did not run out.
-fn given(answer: Result<Array, Fail>) -> Result<Result<Array, Report>, WantOfMemory> {
-    match answer {
-        Ok(array) => Ok(Ok(array)),
-        Err(Fail::Report(report)) => Ok(Err(report)),
-        Err(Fail::WantOfMemory) => Err(WantOfMemory),
-    }
 }
 
 /// The array of a shape and of numbers.

@@ -12,7 +12,7 @@ returns-then-is_some c =
 pub returns-in_err-items : goal.returns-in_err-items
 returns-in_err-items c =
     let rest = refused_by_place c.args.shape.now c.count_of_elements.result (λ place answer. answer ≡ (row_of_dyad c.args.f).identity) (λ place. (row_of_dyad c.args.f).identity) c.in_err-items.field-0.0
-    (sym c.shape_fault.ensures ∙ none_is c.shape_fault.result (sym c.if-is_some.ensures)) c.count_of_elements.ensures c.in_err-items.ensures.domain (λ place answer below told. told) in
+    (sym c.shape_fault.ensures ∙ none_is c.shape_fault.result (sym c.if-is_some.ensures)) c.count_of_elements.ensures c.in_err-items.ensures.domain c.in_err-items.ensures.memory (λ place answer below told. told) in
     let p = err_from_is_err_and c.from_residual.result c.from_residual.ensures.1 in
     let same : p.0 ≡ c.in_err-items.field-0.0 = cc p.2 in
     answers_through c.from_residual.result c.in_err-items.field-0.0 p.0 (numbers_answer c.args.shape.now (λ place. (row_of_dyad c.args.f).identity)) p.1 same rest

@@ -10,4 +10,4 @@ returns g c =
     let split = c.args.split in
     let list = c.args.list.now in
     long_lines_answer c.args.f list split c.args.shape.now c.numbers_by_rows.result c.requires.some
-    (c.numbers_by_rows.ensures.value (λ line. number_in (reduced_line c.args.f (chars list) split line)) (λ line answer below told. told ∙ char_line_is c.args.f list split line c.requires.some))
+    (c.numbers_by_rows.ensures (λ line. number_in (reduced_line c.args.f (chars list) split line)) (λ line answer below told. told ∙ char_line_is c.args.f list split line c.requires.some))

@@ -8,4 +8,4 @@ pub returns : goal.returns
 returns g c =
     let split = c.args.split in
     number_lines_answer c.args.f c.args.list.now split c.args.shape.now c.numbers_by_rows.result c.requires.some
-    (c.numbers_by_rows.ensures.value (λ line. front_of_line (dyadic_item c.args.f) c.args.list.now split (line / split.inner) (line % split.inner) (split.along - 1)) (λ place answer below told. told))
+    (c.numbers_by_rows.ensures (λ line. front_of_line (dyadic_item c.args.f) c.args.list.now split (line / split.inner) (line % split.inner) (split.along - 1)) (λ place answer below told. told))

@@ -1,43 +1,36 @@
-use Rattle.std.proofs.Common.{◌≡◌, ℤ, ◌*◌, ◌∙◌, is_some, Ok, refl, sym, ap}
+use Rattle.std.proofs.Common.{◌≡◌, ◌*◌, ◌∙◌, is_some, Ok, refl, sym, ap}
 use Rattle.std.proofs.lemmas.Result.{err_from_is_err_and}
 use Rattle.apl_arrays.specs.Array.{PlainArray}
-use Rattle.apl_arrays.specs.List.{Listed}
 use Rattle.apl_items.specs.Answers.{Answer}
-use Rattle.apl_items.specs.Places.{AtPlace, GivesEach}
+use Rattle.apl_items.specs.Places.{AtPlace}
 use Rattle.apl_items.proofs.PlaceLemmas.{nothing_lacks_at, something_lacks}
-use Rattle.apl_scalar.proofs.MemoryLemmas.{has_as_told, want_through}
+use Rattle.apl_scalar.proofs.MemoryLemmas.{has_as_told}
 use Rattle.apl_operators.specs.Gathering.{numbers_answer}
 use Rattle.apl_operators.proofs.NumberLemmas.{answers_through, lacking_of_many, none_is, none_lacking_of_many, numbers_made, refused_by_place}
 use Rattle.apl_operators.proofs.RowLemmas.{lacks_as_told}
 use Rattle.apl_operators.proofs.rows.numbers_by_rows.Goals as goal
 use Rattle.apl_operators.proofs.rows.numbers_by_rows.Given as given
 
-pub returns-in_err-items-clause-value : goal.returns-in_err-items-clause-value
-returns-in_err-items-clause-value g c item follows =
-    let rest = refused_by_place c.args.shape.now (c.args.rows * c.args.columns) _ item c.in_err-items.field-0.0 (sym c.shape_fault.ensures ∙ none_is c.shape_fault.result c.if-is_none.ensures) c.requires.count c.in_err-items.ensures.domain follows in
+pub returns-in_err-items : goal.returns-in_err-items
+returns-in_err-items g c item follows =
+    let rest = refused_by_place c.args.shape.now (c.args.rows * c.args.columns) _ item c.in_err-items.field-0.0 (sym c.shape_fault.ensures ∙ none_is c.shape_fault.result c.if-is_none.ensures) c.requires.count c.in_err-items.ensures.domain c.in_err-items.ensures.memory follows in
     let p = err_from_is_err_and c.from_residual.result c.from_residual.ensures.1 in
     let same : p.0 ≡ c.in_err-items.field-0.0 = cc p.2 in
     answers_through c.from_residual.result c.in_err-items.field-0.0 p.0 (numbers_answer c.args.shape.now item) p.1 same rest
 
-pub returns-in_err-items-clause-memory : goal.returns-in_err-items-clause-memory
-returns-in_err-items-clause-memory g c =
-    let p = err_from_is_err_and c.from_residual.result c.from_residual.ensures.1 in
-    let same : p.0 ≡ c.in_err-items.field-0.0 = cc p.2 in
-    want_through (Listed ℤ) c.from_residual.result c.in_err-items.field-0.0 p.0 (GivesEach (c.args.rows * c.args.columns) (AtPlace (given.F-post g c.args.rule.now) c.args.columns)) p.1 same c.in_err-items.ensures.memory
-
-pub returns-in_ok-items-clause-value : goal.returns-in_ok-items-clause-value
-returns-in_ok-items-clause-value g c item follows =
+pub returns-in_ok-items : goal.returns-in_ok-items
+returns-in_ok-items g c item follows =
     let given : PlainArray → Answer = λ array. Ok array in
     numbers_made c.args.shape.now (c.args.rows * c.args.columns) item c.in_ok-items.items.items (sym c.shape_fault.ensures ∙ none_is c.shape_fault.result c.if-is_none.ensures) c.requires.count
     (record { whole = c.in_ok-items.ensures.whole; each = λ place below. follows place _ below (c.in_ok-items.ensures.items place below) })
     ∙ ap given (sym c.shaped.ensures)
 
-pub returns-then-lacks_by_rows-clause-value : goal.returns-then-lacks_by_rows-clause-value
-returns-then-lacks_by_rows-clause-value g c item follows =
+pub returns-then-lacks_by_rows : goal.returns-then-lacks_by_rows
+returns-then-lacks_by_rows g c item follows =
     lacking_of_many c.args.shape.now item c.requires.rank (c.args.rows * c.args.columns) c.requires.count (ap is_some (sym c.shape_fault.ensures) ∙ c.if-is_none.ensures)
     (something_lacks (c.args.rows * c.args.columns) item (lacks_as_told (c.args.rows * c.args.columns) (AtPlace (given.F-post g c.args.rule.now) c.args.columns) item follows (c.if-lacks_by_rows.ensures.some refl)))
 
-pub returns-else-lacks_by_rows-clause-value : goal.returns-else-lacks_by_rows-clause-value
-returns-else-lacks_by_rows-clause-value g c item follows =
+pub returns-else-lacks_by_rows : goal.returns-else-lacks_by_rows
+returns-else-lacks_by_rows g c item follows =
     none_lacking_of_many c.args.shape.now item c.requires.rank (c.args.rows * c.args.columns) c.requires.count (ap is_some (sym c.shape_fault.ensures) ∙ c.if-is_none.ensures)
     (nothing_lacks_at (c.args.rows * c.args.columns) item (has_as_told (c.args.rows * c.args.columns) (AtPlace (given.F-post g c.args.rule.now) c.args.columns) item follows (c.if-lacks_by_rows.ensures.none refl)))
