@@ -34,7 +34,7 @@ later_lacks by list split item runs outer inner along (suc more) p q r none =
     ∙ next_lacks by list split item runs outer inner (along + more) p q (omega arith) (later_lacks by list split item runs outer inner along more p q (omega arith) none)
 
 -- the parts of a place are within the split
-parts_within : (split : Split) (place : ℕ) → place < split_count split → (outer_of split place < split.outer) × (along_of split place < split.along) × (inner_of split place < split.inner)
+pub parts_within : (split : Split) (place : ℕ) → place < split_count split → (outer_of split place < split.outer) × (along_of split place < split.along) × (inner_of split place < split.inner)
 parts_within split place below =
     let inner_some : 0 < split.inner = positive (split.outer * split.along) split.inner place below in
     let rows : place / split.inner < split.outer * split.along = div_below place split.inner (split.outer * split.along) inner_some below in

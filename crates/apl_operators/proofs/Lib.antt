@@ -13,5 +13,6 @@ mod RunLemmas
 mod ScanLaws
 mod ScanLemmas
 mod ShapeLemmas
+mod SmallLemmas
 mod TakesAllLemmas
 mod WeightLemmas

@@ -34,11 +34,11 @@ pub record Weighing (by : ℤ → ℤ → Option ℤ) (op : ℤ → ℤ → ℤ)
   pub right : (u v : ℕ) → low ≤ u → v ≤ weights u v
 
 -- the weight of numbers from one on, and their value
-abbrev total : (ℕ → ℕ → ℕ) → (ℕ → ℕ) → ℕ → ℕ → ℕ
+abbrev pub total : (ℕ → ℕ → ℕ) → (ℕ → ℕ) → ℕ → ℕ → ℕ
 total weights weight from zero = weight from
 total weights weight from (suc more) = weights (weight from) (total weights weight (from + 1) more)
 
-abbrev exactly : (ℤ → ℤ → ℤ) → (ℕ → ℤ) → ℕ → ℕ → ℤ
+abbrev pub exactly : (ℤ → ℤ → ℤ) → (ℕ → ℤ) → ℕ → ℕ → ℤ
 exactly op number from zero = number from
 exactly op number from (suc more) = op (number from) (exactly op number (from + 1) more)
 
@@ -61,7 +61,7 @@ low_total by op weights low w number weight each from (suc more) =
     w.keeps (weight from) (total weights weight (from + 1) more) (each.lows from) (low_total by op weights low w number weight each (from + 1) more)
 
 -- numbers of a small weight have their exact reduction
-exact_reduction : (by : ℤ → ℤ → Option ℤ) (op : ℤ → ℤ → ℤ) (weights : ℕ → ℕ → ℕ) (low : ℕ) → Weighing by op weights low → (number : ℕ → ℤ) (weight : ℕ → ℕ) → Weighed number weight low
+pub exact_reduction : (by : ℤ → ℤ → Option ℤ) (op : ℤ → ℤ → ℤ) (weights : ℕ → ℕ → ℕ) (low : ℕ) → Weighing by op weights low → (number : ℕ → ℤ) (weight : ℕ → ℕ) → Weighed number weight low
     → (from more : ℕ) → total weights weight from more < 2 ^ 63
     → (reduction by (λ k. Some (number k)) from more ≡ Some (exactly op number from more)) × (unsigned_abs (exactly op number from more) ≤ total weights weight from more)
 exact_reduction by op weights low w number weight each from zero small = (refl, each.bounds from)
@@ -118,12 +118,11 @@ exactly_more by op weights low w number from (suc more) =
     ∙ sym (w.grouped (number from) (exactly op number (from + 1) more) (number ((from + 1) + suc more)))
     ∙ ap (λ (k : ℕ). op (exactly op number from (suc more)) (number k)) next
 
--- where the weights of all have a reduction, each front follows from the one before it
+-- where the weight of all is small, each front follows from the one before it
 pub weighed_step : (by : ℤ → ℤ → Option ℤ) (op : ℤ → ℤ → ℤ) (weights : ℕ → ℕ → ℕ) (low : ℕ) → Weighing by op weights low → (number : ℕ → ℤ) (weight : ℕ → ℕ) → Weighed number weight low
-    → (all : ℕ) (t : ℤ) → reduction by (λ k. item_where true (pos (weight k))) 0 all ≡ Some t → (along : ℕ) → along < all
+    → (all : ℕ) → total weights weight 0 all < 2 ^ 63 → (along : ℕ) → along < all
     → reduction by (λ k. Some (number k)) 0 (suc along) ≡ joined by (reduction by (λ k. Some (number k)) 0 along) (Some (number (0 + suc along)))
-weighed_step by op weights low w number weight each all t e along inside =
-    let small = (weight_reduction by op weights low w weight 0 all t e).1 in
+weighed_step by op weights low w number weight each all small along inside =
     let less = fewer_weigh_less by op weights low w number weight each 0 (suc along) (all - suc along) in
     let whole : suc along + (all - suc along) ≡ all = omega arith in
     let less_than_all = subst (λ (n : ℕ). total weights weight 0 (suc along) ≤ total weights weight 0 n) whole less in
@@ -182,14 +181,17 @@ products = record {
 
 -- ---- on lines
 
-pub steps_of_sums : (list : List ℤ) (split : Split) → ((outer inner : ℕ) → outer < split.outer → inner < split.inner → (t : ℤ) × (weight_on term_weight (dyadic_item Plus) list split outer inner ≡ Some t))
+-- the magnitudes of the numbers on a line together
+abbrev pub magnitude_of_line : List ℤ → Split → ℕ → ℕ → ℕ
+magnitude_of_line list split outer inner = total ◌+◌ (λ k. unsigned_abs (slice_index_or list (place_along split outer k inner) (pos 0))) 0 (split.along - 1)
+
+pub steps_of_sums : (list : List ℤ) (split : Split) → ((outer inner : ℕ) → outer < split.outer → inner < split.inner → magnitude_of_line list split outer inner < 2 ^ 63)
     → StepsOn (dyadic_item Plus) list split
-steps_of_sums list split weigh = record {
+steps_of_sums list split small = record {
   step = λ outer inner along p q r.
       let number : ℕ → ℤ = λ k. slice_index_or list (place_along split outer k inner) (pos 0) in
-      let weighed = weigh outer inner p q in
       ap (λ (n : ℕ). front_of_line (dyadic_item Plus) list split outer inner n) (add-one along)
-      ∙ weighed_step (dyadic_item Plus) ◌+ℤ◌ ◌+◌ 0 sums number (λ k. unsigned_abs (number k)) (record { bounds = λ k. le_refl (unsigned_abs (number k)); lows = λ k. omega arith }) (split.along - 1) weighed.0 weighed.1 along (omega arith)
+      ∙ weighed_step (dyadic_item Plus) ◌+ℤ◌ ◌+◌ 0 sums number (λ k. unsigned_abs (number k)) (record { bounds = λ k. le_refl (unsigned_abs (number k)); lows = λ k. omega arith }) (split.along - 1) (small outer inner p q) along (omega arith)
       ∙ ap (λ (k : ℕ). joined (dyadic_item Plus) (front_of_line (dyadic_item Plus) list split outer inner along) (number_on list split outer inner k)) (let there : 0 + suc along ≡ along + 1 = omega arith in there);
 }
 
@@ -200,7 +202,8 @@ steps_of_products list split weigh = record {
       let number : ℕ → ℤ = λ k. slice_index_or list (place_along split outer k inner) (pos 0) in
       let weighed = weigh outer inner p q in
       ap (λ (n : ℕ). front_of_line (dyadic_item Times) list split outer inner n) (add-one along)
-      ∙ weighed_step (dyadic_item Times) ◌*ℤ◌ ◌*◌ 1 products number (λ k. max 1 (unsigned_abs (number k))) (record { bounds = λ k. omega arith; lows = λ k. omega arith }) (split.along - 1) weighed.0 weighed.1 along (omega arith)
+      ∙ weighed_step (dyadic_item Times) ◌*ℤ◌ ◌*◌ 1 products number (λ k. max 1 (unsigned_abs (number k))) (record { bounds = λ k. omega arith; lows = λ k. omega arith }) (split.along - 1)
+      (weight_reduction (dyadic_item Times) ◌*ℤ◌ ◌*◌ 1 products (λ k. max 1 (unsigned_abs (number k))) 0 (split.along - 1) weighed.0 weighed.1).1 along (omega arith)
       ∙ ap (λ (k : ℕ). joined (dyadic_item Times) (front_of_line (dyadic_item Times) list split outer inner along) (number_on list split outer inner k)) (let there : 0 + suc along ≡ along + 1 = omega arith in there);
 }
 
@@ -241,7 +244,9 @@ pub runs_of_sums : (f : Dyad) (list : List ℤ) (split : Split) (result : Bool) 
     → Runs (dyadic_item f) list split (front_at (dyadic_item f) list split)
 runs_of_sums f list split result is whole some told true_is =
     subst (λ (g : Dyad). Runs (dyadic_item g) list split (front_at (dyadic_item g) list split)) (sym is)
-    (runs_by_steps (dyadic_item Plus) list split whole some (steps_of_sums list split (weights_exist term_weight (dyadic_item Plus) list split (sym told ∙ true_is))))
+    (runs_by_steps (dyadic_item Plus) list split whole some (steps_of_sums list split (λ outer inner p q.
+    let weighed = weights_exist term_weight (dyadic_item Plus) list split (sym told ∙ true_is) outer inner p q in
+    (weight_reduction (dyadic_item Plus) ◌+ℤ◌ ◌+◌ 0 sums (λ k. unsigned_abs (slice_index_or list (place_along split outer k inner) (pos 0))) 0 (split.along - 1) weighed.0 weighed.1).1)))
 
 pub runs_of_products : (f : Dyad) (list : List ℤ) (split : Split) (result : Bool) → f ≡ Times → split_count split ≡ length list → 0 < split.along
     → result ≡ not (lacks_item (split.outer * split.inner) (λ line. weight_on factor_weight (dyadic_item Times) list split (line / split.inner) (line % split.inner))) → result ≡ true

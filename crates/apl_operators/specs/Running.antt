@@ -1,4 +1,5 @@
-use Rattle.std.specs.Prelude.{◌≡◌, ◌+◌, ◌*◌, ◌-◌, ◌<◌, ◌≤◌, ℕ, ℤ, pos, Bool, true, false, List, Option, length, slice_get, slice_index_or, max, unsigned_abs}
+use Rattle.std.specs.Prelude.{◌≡◌, ◌+◌, ◌*◌, ◌^◌, ◌-◌, ◌<◌, ◌≤◌, All, ℕ, ℤ, pos, Bool, true, false, List, Option, Some, length, slice_get, slice_index_or, max, unsigned_abs}
+use Rattle.std.specs.Int.{int_wrapping_add, w64}
 use Rattle.apl_arrays.specs.declared.verb.Dyad.{Dyad}
 use Rattle.apl_arrays.specs.declared.verb.Dyad.TheVariants.{And, Maximum, Minimum, Or}
 use Rattle.apl_items.specs.declared.shapes.Split.{Split}
@@ -38,6 +39,16 @@ is_grouped Minimum = true
 is_grouped And = true
 is_grouped Or = true
 is_grouped _ = false
+
+-- ---- sums of small numbers
+
+-- so many magnitudes that are as great as any of the list have a sum of 63 bits
+abbrev pub AreSmall : List ℤ → ℕ → Type 0
+AreSmall list count = (most : ℕ) × All (λ number. unsigned_abs number ≤ most) list × (most * count < 2 ^ 63)
+
+-- what is left of a sum in 64 bits
+abbrev pub wrapped_sum : ℤ → ℤ → Option ℤ
+wrapped_sum a b = Some (int_wrapping_add w64 a b)
 
 -- ---- weights, by which sums and products are bounded
 

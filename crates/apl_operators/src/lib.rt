@@ -16,6 +16,7 @@ mod rows;
 mod running;
 mod scanning;
 mod steps;
+mod sums;
 #[cfg(test)]
 mod tests;
 

@@ -11,6 +11,7 @@ ghost use Rattle.apl_operators.specs.Scan.{scan_of, scanned};
 use crate::lines::{LineAt, front_of_line, last_front};
 use crate::parts::by_parts;
 use crate::running::{running, runs};
+use crate::sums::{are_small, small_sums};
 use apl_arrays::{Array, Dyad, Fail, Items, NumberList, Report, WantOfMemory, Way};
 use apl_items::{Split, axis_of, lacks_axis, lacks_by_rows, room_for};
 use apl_scalar::dyadic_table;
@@ -67,14 +68,19 @@ fn scanned(alloc: Global, f: Dyad, b: &Array, axis: usize) -> Result<Array, Fail
     }
 }
 
-/// The reduction of each front of each line of numbers: in one pass where each follows from the one before, else each by
-/// itself, from the right. DOMAIN where one has no value, also where there is no memory.
+/// The reduction of each front of each line of numbers: in one pass where the numbers of a sum are small, or where each follows
+/// from the one before, else each by itself, from the right. DOMAIN where one has no value, also where there is no memory.
 fn fronts(alloc: Global, f: Dyad, list: &[i64], split: Split) -> Result<NumberList, Fail>
     requires whole { split_count split ≡ length list.now }
     requires some { 0 < split_count split }
     ensures made { MakesItems result (length list.now) (front_at (dyadic_item f) list.now split) }
     ensures memory { OnWantOfMemory result (HasItems (length list.now) (front_at (dyadic_item f) list.now split)) }
 {
+    if let Dyad::Plus = f {
+        if are_small(list, split.along) {
+            return small_sums(alloc, list, split);
+        }
+    }
     if runs(f, list, split) {
         one_pass(alloc, f, list, split)
     } else {
