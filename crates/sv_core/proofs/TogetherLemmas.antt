@@ -1,8 +1,9 @@
 -- Where offers end together, the steps one after another keep the cells.
-use Rattle.std.proofs.Common.{◌≡◌, refl, sym, ap, ◌∙◌, subst, ℕ, ◌+◌, ◌≤◌, Bool, true, false, ◌&&◌, eqb, List, [], ◌∷◌, ◌++◌, length, map, Option, Some, None, arith}
-use Rattle.std.specs.Prelude.{Contains, IsTrue, if◌then◌else◌}
+use Rattle.std.proofs.Common.{◌≡◌, refl, sym, ap, ◌∙◌, subst, ℕ, ◌+◌, ◌<◌, ◌≤◌, Bool, true, false, ◌&&◌, eqb, List, [], ◌∷◌, ◌++◌, length, map, Option, Some, None, arith}
+use Rattle.std.specs.Prelude.{All, Contains, IsTrue, if◌then◌else◌}
 use Rattle.std.specs.List.{list_any}
 use Rattle.std.proofs.lemmas.Bool.{cases_Bool, and_parts, both_ways, eqb-true}
+use Rattle.std.proofs.lemmas.List.Elements.{All-weaker}
 use Rattle.std.proofs.lemmas.List.Folds.{Any-from_list_any}
 use Rattle.sv_events.specs.Entry.{PlainEntry}
 use Rattle.sv_events.specs.declared.entry.Pair.{Pair}
@@ -14,10 +15,15 @@ use Rattle.sv_cell_laws.specs.Fits.{FitCells}
 use Rattle.sv_cell_laws.proofs.EndJournal.{cells_later_in, left_is, table_is, without_is_older}
 use Rattle.sv_cell_laws.proofs.JoinSteps.{cells_end, none_taken}
 use Rattle.sv_cell_laws.proofs.TouchSteps.{one_place}
+use Rattle.sv_offers.specs.Places.{IsNext}
 use Rattle.sv_offers.specs.Table.{PlainOffers, pairs_made}
-use Rattle.sv_offer_laws.proofs.EndingLemmas.{endings_reopen_one_of_a_pair, made_of_ending}
-use Rattle.sv_rules.specs.Coupling.{coupling_at, couplings, kept_by_ending, reopened_by_ending}
-use Rattle.sv_rules.specs.Entries.{Entries}
+use Rattle.sv_offer_laws.proofs.EndingLemmas.{made_of_ending}
+use Rattle.sv_offer_laws.proofs.LegalLemmas.{IsSound-from_legal, order_of_couplings}
+use Rattle.sv_offer_laws.proofs.PlaceLemmas.{IsPlaceIn, places_within}
+use Rattle.sv_offer_laws.specs.LegalLaws.{IsInOrder}
+use Rattle.sv_rules.specs.Coupling.{coupling_at, couplings}
+use Rattle.sv_rules.specs.Entries.{Entries, next_place}
+use Rattle.sv_rules.specs.Legal.{IsLegal}
 use Rattle.sv_rules.specs.Standing.{is_ended, standing}
 use Rattle.sv_rules.specs.declared.coupling.Made.{Made}
 use Rattle.sv_rules.specs.declared.standing.Standing.{Standing}
@@ -26,6 +32,17 @@ use Rattle.sv_core.specs.Updating.{CouplesAll, FitsSome, IsEnding, IsToCouple, I
 -- what holds of the offers and couplings of the journal holds of the table
 pub tables : (offers : PlainOffers) (journal : Entries) → offers.offers ≡ standing journal → offers.coupled ≡ couplings journal → (P : List Standing → List Made → Type 0) → P (standing journal) (couplings journal) → P offers.offers offers.coupled
 tables offers journal stand couple P h = subst (λ o. P o offers.coupled) (sym stand) (subst (P (standing journal)) (sym couple) h)
+
+-- the place of the next entry is above all in the table
+pub next_above : (users : List ℕ) (journal : Entries) → IsLegal users journal → (offers : PlainOffers) → offers.offers ≡ standing journal → offers.coupled ≡ couplings journal →
+    (place : ℕ) → place ≡ next_place journal → IsNext offers place
+next_above users journal legal offers stand couple place next = record {
+  above = subst (λ os. All (λ o. o.place < place) os) (sym stand)
+      (All-weaker (IsPlaceIn (length journal)) (λ o. o.place < place) (λ o h. omega (arith, h.1, next)) (standing journal) (places_within journal));
+  later = subst (λ ms. All (λ m. m.at < place) ms) (sym couple)
+      (All-weaker (IsInOrder (length journal)) (λ m. m.at < place) (λ m h. omega (arith, h.within, next)) (couplings journal)
+      (order_of_couplings journal (IsSound-from_legal users journal legal).order));
+}
 
 -- the table is one
 pub ending_table : (offers : PlainOffers) (cells : Cells) (at party : ℕ) (ending : Ending) → IsToEnd offers cells at party ending → IsTable offers.offers offers.coupled
@@ -40,13 +57,6 @@ first_fit offers cells at party ending users journal e is =
 
 pub ending_fits : (offers : PlainOffers) (cells : Cells) (at party : ℕ) (ending : Ending) → IsToEnd offers cells at party ending → FitsSome offers.offers offers.coupled cells
 ending_fits offers cells at party ending ready = (ready.2 ∷ ready.1, first_fit offers cells at party ending ready.0 ready.1 ready.2 ready.3)
-
--- no more offers are reopened than couplings end
-pub ending_no_more : (offers : PlainOffers) (cells : Cells) (at party : ℕ) (ending : Ending) → IsToEnd offers cells at party ending →
-    length (kept_by_ending offers.offers offers.coupled party ending) + length (reopened_by_ending offers.offers offers.coupled party ending) ≤ length offers.coupled
-ending_no_more offers cells at party ending ready =
-    let e = ready.3 in
-    tables offers ready.1 e.stand e.couple (λ os ms. length (kept_by_ending os ms party ending) + length (reopened_by_ending os ms party ending) ≤ length ms) (endings_reopen_one_of_a_pair ready.1 party ending)
 
 -- the pairs are those of the entry
 pub ending_pairs : (offers : PlainOffers) (cells : Cells) (at party : ℕ) (ending : Ending) (users : List ℕ) (journal : Entries) (e : PlainEntry) → IsEnding offers cells at party ending users journal e →

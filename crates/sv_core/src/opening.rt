@@ -7,6 +7,7 @@ ghost use Rattle.sv_core.specs.Updating.{KeepsElsewhere};
 ghost use Rattle.sv_events.specs.Answer.{kept, plain_answer};
 ghost use Rattle.sv_events.specs.Row.{act_row};
 ghost use Rattle.sv_events.specs.declared.row.Ending.TheVariants.{One};
+ghost use Rattle.sv_offers.specs.Places.{IsNext};
 ghost use Rattle.sv_offers.specs.Table.{after_offer};
 ghost use Rattle.sv_rules.specs.Coupling.{open_match};
 ghost use Rattle.sv_rules.specs.Entries.{next_place};
@@ -207,7 +208,8 @@ fn add_offer(
     act: &Act,
     made: &mut PairList,
 ) -> Result<Option<Standing>, WantOfMemory>
-    requires { made.old.items ≡ [] }
+    requires none { made.old.items ≡ [] }
+    requires next { IsNext offers.old new.now.place }
     ensures none { made.new.items ≡ [] }
     ensures users { log.new.users ≡ log.old.users }
     ensures journal { log.new.journal ≡ log.old.journal }

@@ -9,24 +9,13 @@ ghost use Rattle.sv_cells.specs.Cells.{ChangesAt, CouplesAt, KeepsCells, PartsAt
 ghost use Rattle.sv_core.specs.Updating.{Answers, CouplesAll, EndsAll, FitsSome, IsReady, IsToCouple, IsToEnd, Joined, Closes, MayJoin, PartsAll, degree_with, value_at};
 ghost use Rattle.sv_offers.specs.Table.{after_ending, pairs_made};
 ghost use Rattle.sv_rules.specs.Coupling.{coupling_at, pair_of, reopened_by_ending};
-ghost use Rattle.sv_rules.specs.Standing.{is_ended};
 
 use apl_arrays::{Array, WantOfMemory};
 use sv_access::Side;
 use sv_cells::Cells;
 use sv_events::{Ending, Pair, PairList};
-use sv_offers::Offers;
+use sv_offers::{Offers, is_ended};
 use sv_rules::{Coupling, Standing, pair_of, side_at};
-
-// Whether an act of a party ends the offer.
-fn is_ended(party: u32, ending: &Ending, offer: &Standing) -> bool
-    ensures { result ≡ is_ended party ending.now offer.now }
-{
-    match ending {
-        Ending::One(local) => offer.party == party && offer.local == *local,
-        Ending::All => offer.party == party,
-    }
-}
 
 // The offers at two places part, where they still share. No memory.
 fn part_shared(cells: &mut Cells, a: u64, b: u64)

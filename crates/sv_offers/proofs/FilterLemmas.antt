@@ -1,9 +1,10 @@
 -- What filters keep and find.
-use Rattle.std.proofs.Common.{◌≡◌, refl, sym, ap, ◌∙◌, ◌≤◌, Bool, true, false, ◌⊎◌, cond, List, [], ◌∷◌, length, Some, find, inl, inr, arith}
+use Rattle.std.proofs.Common.{◌≡◌, refl, sym, ap, ◌∙◌, ℕ, zero, suc, ◌<◌, ◌≤◌, Bool, true, false, not, ◌⊎◌, cond, List, [], ◌∷◌, length, get_or, take, drop, Some, find, inl, inr, arith}
 use Rattle.std.proofs.Math.Bool.{and_comm}
 use Rattle.std.proofs.lemmas.Bool.{cases_Bool}
-use Rattle.std.specs.Prelude.{filter}
-use Rattle.sv_offer_laws.proofs.Members.{filter-filter}
+use Rattle.std.proofs.lemmas.List.Elements.{All-weaker}
+use Rattle.std.specs.Prelude.{All, filter}
+use Rattle.sv_offer_laws.proofs.Members.{filter-filter, filter_whole}
 
 -- two tests that always agree keep the same
 pub filter_alike : {X : Type 0} (p q : X → Bool) → ((x : X) → p x ≡ q x) → (xs : List X) → filter p xs ≡ filter q xs
@@ -27,10 +28,20 @@ found_among p q implies (x ∷ xs) = elim (cases_Bool (q x)) [
     none (inl passes) other = let both : q x ≡ true = implies x passes in cc
     none (inr stays) other = stays
 
--- no more pass a test than there are
-pub fewer_pass : {X : Type 0} (p : X → Bool) (xs : List X) → length (filter p xs) ≤ length xs
-fewer_pass p [] = omega arith
-fewer_pass p (x ∷ xs) = elim (cases_Bool (p x)) [
-  | inl holds ↦ let rest = fewer_pass p xs in rw holds (omega arith)
-  | inr fails ↦ let rest = fewer_pass p xs in rw fails (omega arith)
-]
+-- a test that none passes keeps none
+pub none_kept : {X : Type 0} (p : X → Bool) (xs : List X) → All (λ x. p x ≡ false) xs → filter p xs ≡ []
+none_kept p [] none = refl
+none_kept p (x ∷ xs) none =
+    let first : p x ≡ false = none zero x (omega arith) in rw first (none_kept p xs (λ k d within. none (suc k) d (omega (arith, within))))
+
+-- what passes in front, and what fails behind
+pub split_front : {X : Type 0} (p : X → Bool) (xs : List X) (i : ℕ) → i ≤ length xs → ((k : ℕ) (d : X) → k < i → p (get_or xs k d) ≡ true) →
+    ((k : ℕ) (d : X) → i ≤ k → k < length xs → p (get_or xs k d) ≡ false) → (take i xs ≡ filter p xs) × (drop i xs ≡ filter (λ x. not (p x)) xs)
+split_front p xs zero within front rest =
+    let fails : All (λ x. p x ≡ false) xs = λ k d inside. rest k d (omega arith) inside in
+    (sym (none_kept p xs fails), sym (filter_whole (λ x. not (p x)) xs (All-weaker (λ x. p x ≡ false) (λ x. not (p x) ≡ true) (λ x f. ap not f) xs fails)))
+split_front p [] (suc i) within front rest = absurd (omega arith)
+split_front p (x ∷ xs) (suc i) within front rest =
+    let first : p x ≡ true = front zero x (omega arith) in
+    let others = split_front p xs i (omega (arith, within)) (λ k d before. front (suc k) d (omega (arith, before))) (λ k d from inside. rest (suc k) d (omega (arith, from)) (omega (arith, inside))) in
+    (rw first (ap (λ ys. x ∷ ys) others.0), rw first others.1)

@@ -1,5 +1,9 @@
+mod EndLemmas
 mod FilterLemmas
 mod FindingLemmas
+mod FitLemmas
 mod MatchLemmas
+mod OnlyLemmas
+mod PlaceLemmas
 mod ShelfLemmas
 mod TableLemmas

@@ -1,16 +1,17 @@
 -- The table's look-ups, and the steps of an ending one after another.
-use Rattle.std.proofs.Common.{◌≡◌, ℕ, Bool, true, false, not, ◌&&◌, eqb, List, [], ◌∷◌, Some, find, ap, sym, refl, ◌∙◌, cond}
+use Rattle.std.proofs.Common.{◌≡◌, ℕ, Bool, true, false, not, ◌&&◌, eqb, List, [], ◌∷◌, ◌++◌, Option, Some, find, ap, sym, refl, ◌∙◌, cond}
 use Rattle.std.proofs.Math.Bool.{and_comm}
 use Rattle.std.proofs.lemmas.Bool.{and_parts}
 use Rattle.std.specs.List.{filter}
+use Rattle.std.specs.Prelude.{option_map, option_to_list}
 use Rattle.sv_events.specs.declared.row.Ending.{Ending}
 use Rattle.sv_rules.specs.declared.coupling.Made.{Made}
 use Rattle.sv_rules.specs.declared.standing.Standing.{Standing}
 use Rattle.sv_rules.specs.Standing.{without_ended}
-use Rattle.sv_rules.specs.Coupling.{is_coupled, couplings_among, reopened_among, recoupled, made_by_ending, reopened_by_ending}
+use Rattle.sv_rules.specs.Coupling.{is_coupled, kept_by_ending, made_by_ending, open_match, pair_of, recoupled, reopened_by_ending}
 use Rattle.sv_offer_laws.proofs.Members.{filter-filter}
 use Rattle.sv_offers.proofs.FilterLemmas.{filter_alike, found_among}
-use Rattle.sv_offers.specs.Table.{PlainOffers, is_open_to, open_among}
+use Rattle.sv_offers.specs.Table.{PlainOffers, after_ending, after_offer, is_open_to, open_among}
 
 -- the first of all that pass
 first_passed : {X : Type 0} (p : X → Bool) (xs : List X) → find (λ _. true) (filter p xs) ≡ find p xs
@@ -33,26 +34,34 @@ pub first_by_test : (table : PlainOffers) (party : ℕ) →
 first_by_test table party =
     ap (find (λ _. true)) (open_by_test table party) ∙ first_passed (is_open_to table.coupled party) table.offers
 
--- the offers that are noted and kept are those that the ending reopens
-pub noted_are_reopened : (offers : List Standing) (coupled : List Made) (party : ℕ) (ending : Ending) (left noted opened : List Standing) (kept : List Made) →
-    left ≡ without_ended offers party ending → kept ≡ couplings_among left coupled → noted ≡ filter (λ offer. is_coupled coupled offer.place) left →
-    opened ≡ filter (λ offer. not (is_coupled kept offer.place)) noted →
-    opened ≡ reopened_by_ending offers coupled party ending
-noted_are_reopened offers coupled party ending left noted opened kept is_left is_kept is_noted is_opened =
-    is_opened
-    ∙ ap (filter (λ offer. not (is_coupled kept offer.place))) is_noted
-    ∙ filter-filter (λ offer. not (is_coupled kept offer.place)) (λ offer. is_coupled coupled offer.place) left
-    ∙ ap (λ k. reopened_among left coupled k) is_kept
-    ∙ ap (λ l. reopened_among l coupled (couplings_among l coupled)) is_left
-
--- what they make is what the ending makes
+-- what reopened offers make is what the ending makes
 pub recoupled_is_made : (at : ℕ) (offers : List Standing) (coupled : List Made) (party : ℕ) (ending : Ending) (left opened : List Standing) (kept : List Made) →
-    left ≡ without_ended offers party ending → kept ≡ couplings_among left coupled → opened ≡ reopened_by_ending offers coupled party ending →
+    left ≡ without_ended offers party ending → kept ≡ kept_by_ending offers coupled party ending → opened ≡ reopened_by_ending offers coupled party ending →
     recoupled at left kept opened ≡ made_by_ending at offers coupled party ending
 recoupled_is_made at offers coupled party ending left opened kept is_left is_kept is_opened =
-    ap (λ k. recoupled at left k opened) is_kept
-    ∙ ap (λ l. recoupled at l (couplings_among l coupled) opened) is_left
-    ∙ ap (λ o. recoupled at (without_ended offers party ending) (couplings_among (without_ended offers party ending) coupled) o) is_opened
+    ap (λ l. recoupled at l kept opened) is_left
+    ∙ ap (λ k. recoupled at (without_ended offers party ending) k opened) is_kept
+    ∙ ap (λ o. recoupled at (without_ended offers party ending) (kept_by_ending offers coupled party ending) o) is_opened
+
+-- with what these make the table is that after the ending
+pub ended_table : (at : ℕ) (table : PlainOffers) (party : ℕ) (ending : Ending) (left opened : List Standing) (kept coupled : List Made) →
+    left ≡ without_ended table.offers party ending → kept ≡ kept_by_ending table.offers table.coupled party ending → opened ≡ reopened_by_ending table.offers table.coupled party ending →
+    coupled ≡ kept ++ recoupled at left kept opened → (let t : PlainOffers = record { offers = left; coupled = coupled } in t) ≡ after_ending at table party ending
+ended_table at table party ending left opened kept coupled is_left is_kept is_opened is_coupled =
+    let made = recoupled_is_made at table.offers table.coupled party ending left opened kept is_left is_kept is_opened in
+    ap (λ os. let t : PlainOffers = record { offers = os; coupled = coupled } in t) is_left
+    ∙ ap (λ ms. let t : PlainOffers = record { offers = without_ended table.offers party ending; coupled = ms } in t)
+    (is_coupled ∙ ap (λ ms. kept ++ ms) made ∙ ap (λ ms. ms ++ made_by_ending at table.offers table.coupled party ending) is_kept)
+
+-- with a new offer, and the pair that it makes, the table is that after the offer
+pub added_table : (table : PlainOffers) (new : Standing) (offers : List Standing) (coupled : List Made) (match : Option Standing) → offers ≡ table.offers ++ new ∷ [] →
+    match ≡ open_match table.offers table.coupled new →
+    coupled ≡ table.coupled ++ option_to_list (option_map (λ match. let m : Made = record { pair = pair_of match new; at = new.place } in m) match) →
+    (let t : PlainOffers = record { offers = offers; coupled = coupled } in t) ≡ after_offer table new
+added_table table new offers coupled match is_offers is_match is_coupled =
+    ap (λ os. let t : PlainOffers = record { offers = os; coupled = coupled } in t) is_offers
+    ∙ ap (λ ms. let t : PlainOffers = record { offers = table.offers ++ new ∷ []; coupled = ms } in t)
+    (is_coupled ∙ ap (λ o. table.coupled ++ option_to_list (option_map (λ match. let m : Made = record { pair = pair_of match new; at = new.place } in m) o)) is_match)
 
 -- the open offers among those made to a party
 asked_twice : (t n : Bool) → (t && (t && n)) ≡ (n && t)

@@ -1,13 +1,9 @@
 -- How offers and couplings are found: by maps that have of each key the first.
-use Rattle.std.specs.Prelude.{◌≡◌, ℕ, ◌+◌, List, find, nat_eq}
-use Rattle.std.specs.HashMap.{HashMap, get, hash_map_len, spare}
+use Rattle.std.specs.Prelude.{◌≡◌, ℕ, List, find, nat_eq}
+use Rattle.std.specs.HashMap.{HashMap, get}
 use Rattle.sv_rules.specs.Coupling.{has_place, offer_at}
 use Rattle.sv_rules.specs.declared.coupling.Made.{Made}
 use Rattle.sv_rules.specs.declared.standing.Standing.{Standing}
-
--- how many entries fit in all, with no more memory
-abbrev pub room_of : {K X S : Type 0} → HashMap K X S → ℕ
-room_of map = hash_map_len map + spare map
 
 module _ {S : Type 0} where
   -- offers are found by their places, of each the first

@@ -1,21 +1,19 @@
 -- What holds of the tables' insides.
-use Rattle.std.specs.Prelude.{◌≤◌, ◌+◌, ◌*◌, length, vec_len, vec_capacity}
-use Rattle.std.specs.HashMap.{hash_map_len}
-use Rattle.sv_offers.specs.Finding.{FindsMates, FindsPlaces, room_of}
+use Rattle.std.specs.Prelude.{◌≤◌, ◌+◌, ◌*◌, vec_len, vec_capacity}
+use Rattle.std.specs.HashMap.{spare}
+use Rattle.sv_offers.specs.Finding.{FindsMates, FindsPlaces}
 use Rattle.sv_offers.specs.Shelf.{HasMadeTo, HasOwn}
 use Rattle.sv_offers.specs.declared.couplings.Couplings.TheInside as couplings
 use Rattle.sv_offers.specs.declared.standings.Standings.TheInside as standings
 
--- each party's list has its offers, and those that are made to it; the map finds them by place, and has room for all
+-- each party's list has its offers, and those that are made to it; the map finds them by place
 pub record AreFound (s : standings.Inside) : Type 0 where
   pub own : HasOwn s.own s.offers.items
   pub made_to : HasMadeTo s.made_to s.offers.items
   pub placed : FindsPlaces s.placed s.offers.items
-  pub room : length s.offers.items ≤ room_of s.placed
 
 -- the map finds the couplings, and there is room for as many more as is said
 pub record AreMated (c : couplings.Inside) : Type 0 where
   pub finds : FindsMates c.mated c.made.items
   pub list_room : vec_len c.made + c.room ≤ vec_capacity c.made
-  pub map_room : 2 * (vec_len c.made + c.room) ≤ room_of c.mated
-  pub keys : hash_map_len c.mated ≤ 2 * vec_len c.made
+  pub map_room : 2 * c.room ≤ spare c.mated

@@ -1,4 +1,6 @@
 pub mod Finding
 pub mod Inside
+pub mod Kept
+pub mod Places
 pub mod Shelf
 pub mod Table

@@ -1,8 +1,9 @@
-ghost use Rattle.std.specs.Prelude.{◌≡◌, ◌++◌, ◌+◌, ◌∷◌, ◌≤◌, ◌<◌, [], OnOk, OnErr, find, length, vec_len, vec_capacity};
-ghost use Rattle.sv_rules.specs.Coupling.{both_stand, couplings_among, has_place, is_coupled, stands_at};
+ghost use Rattle.std.specs.Prelude.{◌≡◌, ◌++◌, ◌+◌, ◌^◌, ◌∷◌, ◌≤◌, ◌<◌, true, [], Contains, OnOk, OnErr, find, get_or, length, vec_len, vec_capacity};
+ghost use Rattle.sv_offers.specs.Places.{AreOnce, ByMaking, without_coupling};
+ghost use Rattle.sv_rules.specs.Coupling.{has_place, is_coupled};
+ghost use Rattle.sv_rules.specs.declared.coupling.Made.{Made};
 
-use crate::index::{Mated, find_mates, note_mates};
-use crate::standings::Standings;
+use crate::index::{Mated, forget_mates, note_mates};
 use apl_arrays::WantOfMemory;
 use std::alloc::Global;
 use std::collections::HashMap;
@@ -56,19 +57,20 @@ impl Couplings {
         self.with(place).is_some()
     }
 
-    /// Makes room for one coupling. It takes memory; after `WantOfMemory` all is as before.
-    pub fn reserve(&mut self) -> Result<(), WantOfMemory>
+    /// Makes room for so many couplings. It takes memory; after `WantOfMemory` all is as before.
+    pub fn reserve(&mut self, count: usize) -> Result<(), WantOfMemory>
+        requires { count < 2 ^ 62 }
         ensures items { self.new.items ≡ self.old.items }
-        ensures room { OnOk result (0 < self.new.room) }
+        ensures room { OnOk result (count ≤ self.new.room) }
         ensures kept { self.old.room ≤ self.new.room }
         ensures err { OnErr result (self.new ≡ self.old) }
     {
-        if self.room > 0 {
+        if self.room >= count {
             return Ok(());
         }
-        self.made.reserve(1)?;
-        self.mated.reserve(2 * (self.made.len() + 1))?;
-        self.room = 1;
+        self.made.reserve(count)?;
+        self.mated.reserve(2 * count)?;
+        self.room = count;
         Ok(())
     }
 
@@ -83,38 +85,47 @@ impl Couplings {
         self.room -= 1;
     }
 
-    /// Keeps the couplings of which both offers stand. What goes leaves its room. No memory.
-    pub fn keep(&mut self, offers: &Standings)
-        ensures items { self.new.items ≡ couplings_among offers.now self.old.items }
-        ensures room { self.new.room + length self.new.items ≡ self.old.room + length self.old.items }
+    /// The coupling of the offer at a place goes, and is answered, if it has one. It leaves no room. No memory.
+    pub fn part(&mut self, place: u64) -> Option<Made>
+        requires by_making { ByMaking self.old.items }
+        requires once { AreOnce self.old.items }
+        ensures found { result ≡ find (has_place place) self.old.items }
+        ensures items { self.new.items ≡ without_coupling self.old.items place }
+        ensures room { self.new.room ≡ self.old.room }
     {
-        let before = self.made.len();
-        keep_standing(&mut self.made, offers);
-        find_mates(&mut self.mated, &self.made);
-        self.room += before - self.made.len();
+        let made = self.with(place)?;
+        take_out(&mut self.made, &made, place);
+        forget_mates(&mut self.mated, &made);
+        Some(made)
     }
 }
 
-// Whether there is an offer at a place.
-#[tactic(auto, using(crate::proofs::FindingLemmas::found_any))]
-fn stands_at(offers: &Standings, place: u64) -> bool
-    ensures { result ≡ stands_at offers.now place }
+// Where a coupling is: among those that were made at one place.
+fn place_of(coupled: &[Made], made: &Made) -> usize
+    requires by_making { ByMaking coupled.now }
+    requires there { Contains coupled.now made.now }
+    ensures within { result < length coupled.now }
+    ensures here { (other : Made) → get_or coupled.now result other ≡ made.now }
 {
-    offers.at(place).is_some()
+    let first = coupled.partition_point(|other| other.at < made.at);
+    for at in first..coupled.len() {
+        if coupled[at] == *made {
+            return at;
+        }
+    }
+    unreachable!()
 }
 
-// Whether both offers of a pair are there.
-fn both_stand(offers: &Standings, made: &Made) -> bool
-    ensures { result ≡ both_stand offers.now made.now.pair }
+// Takes one of the couplings out, that of the offer at a place.
+fn take_out(coupled: &mut Vec<Made>, made: &Made, place: u64)
+    requires by_making { ByMaking coupled.old.items }
+    requires once { AreOnce coupled.old.items }
+    requires there { Contains coupled.old.items made.now }
+    requires here { has_place place made.now ≡ true }
+    ensures items { coupled.new.items ≡ without_coupling coupled.old.items place }
+    ensures len { vec_len coupled.new ≤ vec_len coupled.old }
+    ensures capacity { vec_capacity coupled.new ≡ vec_capacity coupled.old }
 {
-    stands_at(offers, made.pair.a) && stands_at(offers, made.pair.b)
-}
-
-// Keeps the couplings of which both offers stand.
-fn keep_standing(made: &mut Vec<Made>, offers: &Standings)
-    ensures items { made.new.items ≡ couplings_among offers.now made.old.items }
-    ensures len { vec_len made.new ≤ vec_len made.old }
-    ensures capacity { vec_capacity made.new ≡ vec_capacity made.old }
-{
-    made.retain(|made| both_stand(offers, made));
+    let at = place_of(coupled, made);
+    coupled.remove(at);
 }

@@ -1,7 +1,6 @@
-ghost use Rattle.std.specs.Prelude.{◌≡◌, ◌+◌, ◌*◌, ◌≤◌, ◌<◌, ◌==◌, ℕ, None, Some, length, nat_eq, if◌then◌else◌};
+ghost use Rattle.std.specs.Prelude.{◌≡◌, ◌+◌, ◌≤◌, ◌<◌, ◌==◌, ℕ, None, Some, nat_eq, if◌then◌else◌};
 ghost use Rattle.std.specs.Option.{option_or};
-ghost use Rattle.std.specs.HashMap.{get, hash_map_len, spare};
-ghost use Rattle.sv_offers.specs.Finding.{FindsMates, FindsPlaces, room_of};
+ghost use Rattle.std.specs.HashMap.{get, spare};
 ghost use Rattle.sv_rules.specs.Coupling.{has_place};
 
 use std::collections::HashMap;
@@ -16,10 +15,8 @@ pub type Mated = HashMap<u64, Made>;
 /// An offer is found by its place, unless another is. No memory.
 pub fn note_place(placed: &mut Placed, offer: &Standing)
     requires { 0 < spare placed.old }
-    ensures finds { (place : ℕ) → get nat_eq placed.new place
+    ensures { (place : ℕ) → get nat_eq placed.new place
         ≡ option_or (get nat_eq placed.old place) (if offer.now.place == place then Some offer.now else None) }
-    ensures room { room_of placed.old ≤ room_of placed.new }
-    ensures len { hash_map_len placed.new ≤ hash_map_len placed.old + 1 }
 {
     if !placed.contains_key(&offer.place) {
         match placed.insert(offer.place, *offer) {
@@ -29,16 +26,11 @@ pub fn note_place(placed: &mut Placed, offer: &Standing)
     }
 }
 
-/// Offers are found by their places. No memory.
-pub fn find_places(placed: &mut Placed, offers: &[Standing])
-    requires { length offers.now ≤ room_of placed.old }
-    ensures finds { FindsPlaces placed.new offers.now }
-    ensures room { room_of placed.old ≤ room_of placed.new }
+/// No offer is found at a place any more. No memory.
+pub fn forget_place(placed: &mut Placed, place: u64)
+    ensures { (at : ℕ) → get nat_eq placed.new at ≡ (if place == at then None else get nat_eq placed.old at) }
 {
-    placed.clear();
-    for offer in offers {
-        note_place(placed, offer);
-    }
+    placed.remove(&place);
 }
 
 // A coupling is found by a place, unless another is. No memory.
@@ -46,8 +38,7 @@ fn note_mate(mated: &mut Mated, at: u64, made: &Made)
     requires { 0 < spare mated.old }
     ensures finds { (place : ℕ) → get nat_eq mated.new place
         ≡ option_or (get nat_eq mated.old place) (if at == place then Some made.now else None) }
-    ensures room { room_of mated.old ≤ room_of mated.new }
-    ensures len { hash_map_len mated.new ≤ hash_map_len mated.old + 1 }
+    ensures room { spare mated.old ≤ spare mated.new + 1 }
 {
     if !mated.contains_key(&at) {
         match mated.insert(at, *made) {
@@ -59,25 +50,20 @@ fn note_mate(mated: &mut Mated, at: u64, made: &Made)
 
 /// A coupling is found by the places of both its offers, unless others are. No memory.
 pub fn note_mates(mated: &mut Mated, made: &Made)
-    requires { hash_map_len mated.old + 2 ≤ room_of mated.old }
+    requires { 2 ≤ spare mated.old }
     ensures finds { (place : ℕ) → get nat_eq mated.new place
         ≡ option_or (get nat_eq mated.old place) (if has_place place made.now then Some made.now else None) }
-    ensures room { room_of mated.old ≤ room_of mated.new }
-    ensures len { hash_map_len mated.new ≤ hash_map_len mated.old + 2 }
+    ensures room { spare mated.old ≤ spare mated.new + 2 }
 {
     note_mate(mated, made.pair.a, made);
     note_mate(mated, made.pair.b, made);
 }
 
-/// Couplings are found by the places of both their offers. No memory.
-pub fn find_mates(mated: &mut Mated, coupled: &[Made])
-    requires { 2 * length coupled.now ≤ room_of mated.old }
-    ensures finds { FindsMates mated.new coupled.now }
-    ensures room { room_of mated.old ≤ room_of mated.new }
-    ensures keys { hash_map_len mated.new ≤ 2 * length coupled.now }
+/// No coupling is found by the places of a pair any more. No memory.
+pub fn forget_mates(mated: &mut Mated, made: &Made)
+    ensures finds { (place : ℕ) → get nat_eq mated.new place ≡ (if has_place place made.now then None else get nat_eq mated.old place) }
+    ensures room { spare mated.old ≤ spare mated.new }
 {
-    mated.clear();
-    for made in coupled {
-        note_mates(mated, made);
-    }
+    mated.remove(&made.pair.a);
+    mated.remove(&made.pair.b);
 }

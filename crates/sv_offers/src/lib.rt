@@ -2,12 +2,15 @@
 #![tactic(auto)]
 
 mod couplings;
+mod ending;
 mod index;
 mod listing;
 mod matching;
+mod places;
 mod room;
 mod shelves;
 mod standings;
 mod table;
 
+pub use standings::is_ended;
 pub use table::Offers;

@@ -1,13 +1,13 @@
 ghost use Rattle.std.specs.Prelude.{◌≡◌, ◌==◌, ℕ, [], IsSome, OnOk, is_some, nat_eq, if◌then◌else◌};
 ghost use Rattle.std.specs.HashMap.{get};
+ghost use Rattle.sv_offers.specs.Places.{ByPlace, without_place};
 ghost use Rattle.sv_offers.specs.Shelf.{shelf_at};
-ghost use Rattle.sv_rules.specs.Standing.{without_ended};
 
+use crate::places::take_out;
 use apl_arrays::WantOfMemory;
 use std::alloc::Global;
 use std::collections::HashMap;
-use sv_events::Ending;
-use sv_rules::{Standing, end_together};
+use sv_rules::Standing;
 
 /// Offers in lists by a party: of a party without a list there are none.
 #[derive(Drop)]
@@ -81,13 +81,14 @@ impl Shelves {
         }
     }
 
-    /// From one list the offers go that an act of a party ends. No memory.
-    pub fn end(&mut self, at: u32, party: u32, ending: &Ending)
-        ensures { (other : ℕ) → shelf_at self.new other ≡ (if at == other then without_ended (shelf_at self.old other) party ending.now else shelf_at self.old other) }
+    /// From one list the offer at a place goes. No memory.
+    pub fn remove(&mut self, at: u32, place: u64)
+        requires { ByPlace (shelf_at self.old at) }
+        ensures { (other : ℕ) → shelf_at self.new other ≡ (if at == other then without_place (shelf_at self.old other) place else shelf_at self.old other) }
     {
         if self.has(at) {
             let mut list = self.take(at);
-            end_together(&mut list, party, *ending);
+            take_out(&mut list, place);
             self.put(at, list);
         }
     }

@@ -1,19 +1,29 @@
-ghost use Rattle.std.specs.Prelude.{◌≡◌, ◌==◌, ◌++◌, ◌∷◌, ℕ, List, [], IsSome, OnOk, OnErr, filter, nat_eq, if◌then◌else◌};
+ghost use Rattle.std.specs.Prelude.{◌≡◌, ◌==◌, ◌++◌, ◌∷◌, ℕ, [], Contains, IsSome, OnOk, OnErr, filter, find, nat_eq, if◌then◌else◌};
 ghost use Rattle.std.specs.HashMap.{get};
-ghost use Rattle.std.specs.List.{list_any};
-ghost use Rattle.sv_offers.specs.Shelf.{HasMadeTo, HasOwn, shelf_at};
-ghost use Rattle.sv_rules.specs.declared.standing.Standing.{Standing};
+ghost use Rattle.sv_offers.specs.Places.{ByPlace, without_place};
+ghost use Rattle.sv_offers.specs.Shelf.{shelf_at};
 ghost use Rattle.sv_rules.specs.Coupling.{offer_at};
-ghost use Rattle.sv_rules.specs.Standing.{offer_count, own_offer, without_ended};
+ghost use Rattle.sv_rules.specs.Standing.{is_ended, offer_count, own_offer};
 
-use crate::index::{Placed, find_places, note_place};
+use crate::index::{Placed, forget_place, note_place};
+use crate::places::take_out;
 use crate::shelves::Shelves;
 use apl_arrays::{Name, WantOfMemory};
 use std::alloc::Global;
 use std::collections::HashMap;
 use std::marker::Model;
 use sv_events::Ending;
-use sv_rules::{Standing, end_together, own_offer};
+use sv_rules::{Standing, own_offer};
+
+/// Whether an act of a party ends an offer. No memory.
+pub fn is_ended(party: u32, ending: &Ending, offer: &Standing) -> bool
+    ensures { result ≡ is_ended party ending.now offer.now }
+{
+    match ending {
+        Ending::One(local) => offer.party == party && offer.local == *local,
+        Ending::All => offer.party == party,
+    }
+}
 
 /// Offers by place, each found without going over those of others: by its party, by the party that it is made to, and by
 /// its place.
@@ -98,7 +108,7 @@ impl Standings {
         ensures err { OnErr result (self.new ≡ self.old) }
     {
         self.offers.reserve(1)?;
-        self.placed.reserve(self.offers.len() + 1)?;
+        self.placed.reserve(1)?;
         self.own.open(new.party)?;
         self.made_to.open(new.to)?;
         add_to_both(&mut self.own, &mut self.made_to, new)?;
@@ -107,13 +117,26 @@ impl Standings {
         Ok(())
     }
 
-    /// The offers go that an act of a party ends. No memory.
-    pub fn end(&mut self, party: u32, ending: &Ending)
-        ensures { self.new ≡ without_ended self.old party ending.now }
+    /// The first offer that an act of a party ends, if there is one. No memory.
+    pub fn first_ended(&self, party: u32, ending: &Ending) -> Option<Standing>
+        ensures { result ≡ find (is_ended party ending.now) self.now }
     {
-        end_in_both(&mut self.own, &mut self.made_to, party, ending);
-        end_together(&mut self.offers, party, *ending);
-        find_places(&mut self.placed, &self.offers);
+        self.of(party)
+            .iter()
+            .find(|offer| is_ended(party, ending, offer))
+            .copied()
+    }
+
+    /// One of the offers goes. No memory.
+    pub fn remove(&mut self, offer: &Standing)
+        requires by_place { ByPlace self.old }
+        requires there { Contains self.old offer.now }
+        ensures { self.new ≡ without_place self.old offer.now.place }
+    {
+        self.own.remove(offer.party, offer.place);
+        self.made_to.remove(offer.to, offer.place);
+        take_out(&mut self.offers, offer.place);
+        forget_place(&mut self.placed, offer.place);
     }
 }
 
@@ -151,36 +174,4 @@ fn push_both(
     one.push_reserved(*new);
     other.push_reserved(*new);
     Ok(())
-}
-
-// From both kinds of lists the offers go that an act of a party ends, where the party has a list.
-fn end_in_both(own: &mut Shelves, made_to: &mut Shelves, party: u32, ending: &Ending)
-    ensures { (offers : List Standing) → HasOwn own.old offers → HasMadeTo made_to.old offers
-        → HasOwn own.new (without_ended offers party ending.now) × HasMadeTo made_to.new (without_ended offers party ending.now) }
-{
-    if own.has(party) {
-        end_where_own(own, made_to, party, ending);
-    }
-}
-
-// The same of a party that has a list.
-fn end_where_own(own: &mut Shelves, made_to: &mut Shelves, party: u32, ending: &Ending)
-    requires { IsSome (get nat_eq own.old.lists party) }
-    ensures { (offers : List Standing) → HasOwn own.old offers → HasMadeTo made_to.old offers
-        → HasOwn own.new (without_ended offers party ending.now) × HasMadeTo made_to.new (without_ended offers party ending.now) }
-{
-    let mut mine = own.take(party);
-    end_where_made(made_to, &mine, party, ending);
-    end_together(&mut mine, party, *ending);
-    own.put(party, mine);
-}
-
-// Of the lists by the party that offers are made to, those change that have some of these offers.
-fn end_where_made(made_to: &mut Shelves, own: &[Standing], party: u32, ending: &Ending)
-    ensures { (at : ℕ) → shelf_at made_to.new at
-        ≡ (if list_any (λ offer. offer.to == at) own.now then without_ended (shelf_at made_to.old at) party ending.now else shelf_at made_to.old at) }
-{
-    for offer in own {
-        made_to.end(offer.to, party, ending);
-    }
 }

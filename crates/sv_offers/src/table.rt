@@ -1,13 +1,15 @@
-ghost use Rattle.std.specs.Prelude.{◌≡◌, ◌==◌, ◌+◌, ◌≤◌, [], ◌++◌, true, map, filter, find, length, IfOk, OnOk, OnErr, option_map};
+ghost use Rattle.std.specs.Prelude.{◌≡◌, ◌==◌, ◌≤◌, [], ◌++◌, true, filter, find, length, IfOk, OnOk, OnErr};
+ghost use Rattle.sv_offers.specs.Places.{IsNext};
 ghost use Rattle.sv_offers.specs.Table.{after_ending, after_offer, open_among, pairs_made};
 ghost use Rattle.sv_rules.specs.Questions.{parties_of, surrogates_of};
-ghost use Rattle.sv_rules.specs.Coupling.{coupling_at, degree_at, is_coupled, kept_by_ending, open_match, reopened_by_ending};
+ghost use Rattle.sv_rules.specs.Coupling.{coupling_at, degree_at, is_coupled, open_match, reopened_by_ending};
 ghost use Rattle.sv_rules.specs.Standing.{offer_count, own_offer};
 
 use crate::couplings::Couplings;
+use crate::ending::end_all;
 use crate::listing::{first_to, open_to};
 use crate::matching::{coupling_at, open_match};
-use crate::room::{join, keep_open, note_coupled, recouple};
+use crate::room::{join, recouple};
 use crate::standings::Standings;
 use apl_arrays::{Name, NameList, PartyList, WantOfMemory};
 use std::alloc::Global;
@@ -25,14 +27,15 @@ pub struct Offers {
 }
 
 impl Model for Offers {
-    ghost use Rattle.std.specs.Prelude.{◌≤◌, length, vec_capacity};
     ghost use Rattle.sv_offers.specs.Table.{PlainOffers};
 
     ghost Value = { PlainOffers };
 
-    ghost view = { λ t. record { offers = t.offers; coupled = t.coupled.items } };
+    ghost use Rattle.sv_offers.specs.Kept.{IsKept, plain_offers};
 
-    ghost invariant = { λ t. length t.offers ≤ vec_capacity t.reopened };
+    ghost view = { plain_offers };
+
+    ghost invariant = { IsKept };
 }
 
 impl Offers {
@@ -123,12 +126,14 @@ impl Offers {
     /// A new offer stands, and is coupled with its open match of the lowest place, which is answered. It takes memory;
     /// after `WantOfMemory` all is as before.
     pub fn add(&mut self, new: &Standing) -> Result<Option<Standing>, WantOfMemory>
+        requires { IsNext self.old new.now.place }
         ensures ok { OnOk result (self.new ≡ after_offer self.old new.now) }
         ensures partner { IfOk result (λ other. other ≡ open_match self.old.offers self.old.coupled new.now) }
         ensures err { OnErr result (self.new ≡ self.old) }
     {
-        self.coupled.reserve()?;
-        self.reopened.reserve(self.offers.as_slice().len() + 1)?;
+        let count = self.offers.as_slice().len();
+        self.coupled.reserve(count + 2)?;
+        self.reopened.reserve(count + 1)?;
         let other = open_match(&self.offers, &self.coupled, new);
         self.offers.add(new)?;
         join(&mut self.coupled, &other, new);
@@ -139,17 +144,19 @@ impl Offers {
     /// that are set free are matched anew, in the order of their places, if nobody was matched with them before; what pairs
     /// this makes is appended to `made`. No memory.
     pub fn end(&mut self, at: u64, party: u32, ending: Ending, made: &mut PairList)
+        requires next { IsNext self.old at }
         requires room { length (reopened_by_ending self.old.offers self.old.coupled party ending) ≤ made.old.room }
-        requires no_more { length (kept_by_ending self.old.offers self.old.coupled party ending) + length (reopened_by_ending self.old.offers self.old.coupled party ending)
-            ≤ length self.old.coupled }
         ensures table { self.new ≡ after_ending at self.old party ending }
         ensures made { made.new.items ≡ made.old.items ++ pairs_made at self.old party ending }
     {
         self.reopened.clear();
-        self.offers.end(party, &ending);
-        note_coupled(&mut self.reopened, self.offers.as_slice(), &self.coupled);
-        self.coupled.keep(&self.offers);
-        keep_open(&mut self.reopened, &self.coupled);
+        end_all(
+            &mut self.offers,
+            &mut self.coupled,
+            &mut self.reopened,
+            party,
+            &ending,
+        );
         recouple(at, &self.offers, &mut self.coupled, &self.reopened, made);
     }
 }

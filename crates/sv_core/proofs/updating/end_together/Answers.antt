@@ -4,7 +4,7 @@ use Rattle.sv_rules.specs.declared.standing.Standing.{Standing}
 use Rattle.sv_offers.specs.Table.{pairs_made}
 use Rattle.sv_core.specs.Updating.{Closes}
 use Rattle.sv_core.proofs.EndingLemmas.{closes_own}
-use Rattle.sv_core.proofs.TogetherLemmas.{ending_fits, ending_no_more, ending_pairs, ending_table, ends_all, ready_to_couple}
+use Rattle.sv_core.proofs.TogetherLemmas.{ending_fits, ending_pairs, ending_table, ends_all, next_above, ready_to_couple}
 use Rattle.sv_core.proofs.updating.end_together.Goals.{After-as_slice}
 use Rattle.sv_core.proofs.updating.end_together.Goals as goal
 
@@ -14,8 +14,11 @@ part_all-requires-clause-table c = ending_table c.args.offers.now c.args.cells.n
 pub part_all-requires-clause-fit : goal.part_all-requires-clause-fit
 part_all-requires-clause-fit c = ending_fits c.args.offers.now c.args.cells.now c.args.at c.args.party c.args.ending c.requires.ready
 
-pub end-requires-clause-no_more : goal.end-requires-clause-no_more
-end-requires-clause-no_more c = ending_no_more c.args.offers.now c.args.cells.now c.args.at c.args.party c.args.ending c.requires.ready
+pub end-requires-clause-next : goal.end-requires-clause-next
+end-requires-clause-next c =
+    let ready = c.requires.ready in
+    let is = ready.3 in
+    next_above ready.0 ready.1 (is.legal).1 c.args.offers.now is.stand is.couple c.args.at is.place
 
 -- the pairs that are made
 pairs_are : (c : After-as_slice) → c.as_slice.result.now ≡ pairs_made c.args.at c.args.offers.now c.args.party c.args.ending

@@ -13,9 +13,15 @@ use Rattle.sv_rules.specs.declared.coupling.Made.{Made}
 use Rattle.sv_rules.specs.declared.standing.Standing.{Standing}
 use Rattle.sv_core.proofs.Kept.{entered, same_core}
 use Rattle.sv_core.proofs.OpeningLemmas.{fit_elsewhere, may_join, open_core, opening_entry, opens_in}
+use Rattle.sv_core.proofs.TogetherLemmas.{next_above}
 use Rattle.sv_core.specs.Core.{PlainCore}
 use Rattle.sv_core.specs.Invariant.{parts_of}
 use Rattle.sv_core.proofs.processor.Core.open.Goals as goal
+
+pub add_offer-added-requires-clause-next : goal.add_offer-added-requires-clause-next
+add_offer-added-requires-clause-next c =
+    let place = c.requires.place ∙ sym (ap (λ (v : PlainCore). next_place v.journal) c.self.view_is) in
+    next_above c.self.inside.log.users c.self.inside.log.journal c.self.invariant.legal c.self.inside.offers c.self.invariant.stand c.self.invariant.couple c.args.new.now.place place
 
 pub invariant_of-self : goal.invariant_of-self
 invariant_of-self c =

@@ -14,7 +14,6 @@ invariant_of-self c =
           c.note_mates.ensures.finds place
           ∙ ap (λ (o : Option Made). option_or o (cond (has_place place c.args.made) (Some c.args.made) None)) (c.self.invariant.finds place)
           ∙ sym (find-append (has_place place) c.self.inside.made.items (c.args.made ∷ [])) ∙ ap (find (has_place place)) (sym c.push_reserved.ensures.items);
-      list_room = omega (arith, room, c.requires);
-      map_room = omega (arith, room, c.requires);
-      keys = omega (arith, room, c.requires);
+      list_room = omega (arith, room, c.requires, c.self.invariant.list_room);
+      map_room = omega (arith, room, c.requires, c.self.invariant.map_room, c.note_mates.ensures.room);
     }

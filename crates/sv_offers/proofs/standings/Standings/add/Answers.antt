@@ -1,4 +1,4 @@
-use Rattle.std.proofs.Common.{◌≡◌, ap, sym, ◌∙◌, ◌+◌, Bool, Option, Some, None, cond, eqb, find, List, [], ◌∷◌, ◌++◌, length, length-append, arith}
+use Rattle.std.proofs.Common.{◌≡◌, ap, sym, ◌∙◌, Bool, Option, Some, None, cond, eqb, find, List, [], ◌∷◌, ◌++◌}
 use Rattle.std.specs.List.{filter}
 use Rattle.std.specs.Option.{option_or}
 use Rattle.std.proofs.lemmas.List.Folds.{find-append}
@@ -12,8 +12,6 @@ invariant_of-self-2 c =
     let old = c.self.inside.offers.items in
     let items : old ++ new ∷ [] ≡ c.push_reserved.new.self.items =
     sym (c.push_reserved.ensures.items ∙ ap (λ (xs : List Standing). xs ++ new ∷ []) c.reserve.ensures.items) in
-    let grown : length c.push_reserved.new.self.items ≡ length c.reserve.new.self.items + 1 =
-    ap length c.push_reserved.ensures.items ∙ length-append c.reserve.new.self.items (new ∷ []) in
     record {
       own = λ party.
           c.in_ok-add_to_both.ensures.own party
@@ -25,8 +23,7 @@ invariant_of-self-2 c =
           ∙ pushed (to_party party) old new ∙ ap (filter (to_party party)) items;
       placed = λ place.
           let at : Standing → Bool = λ (offer : Standing). eqb offer.place place in
-          c.note_place.ensures.finds place
+          c.note_place.ensures place
           ∙ ap (λ (o : Option Standing). option_or o (cond (at new) (Some new) None)) ((c.in_ok-reserve-2.ensures.entries).2 place ∙ c.self.invariant.placed place)
           ∙ sym (find-append at old (new ∷ [])) ∙ ap (find at) items;
-      room = omega (arith, grown, c.reserve.new.self.ok.0, c.len.ensures, c.in_ok-reserve-2.ensures.ok, c.note_place.ensures.room);
     }

@@ -1,0 +1,41 @@
+use Rattle.std.proofs.Common.{◌≡◌, ◌<◌, ap, sym, ◌∙◌, Option, Some, None, cond, eqb, filter, List, subst}
+use Rattle.std.specs.Prelude.{Contains}
+use Rattle.std.proofs.lemmas.List.Kept.{AllPairs-filter}
+use Rattle.sv_offers.proofs.PlaceLemmas.{at_without}
+use Rattle.sv_offers.proofs.ShelfLemmas.{of_party, taken, to_party}
+use Rattle.sv_offers.specs.Places.{ByPlace, without_place}
+use Rattle.sv_rules.specs.Coupling.{offer_at}
+use Rattle.sv_rules.specs.declared.standing.Standing.{Standing}
+use Rattle.sv_offers.proofs.standings.Standings.remove.Goals as goal
+
+pub remove-requires : goal.remove-requires
+remove-requires c =
+    let offers = c.self.inside.offers.items in
+    let party = c.args.offer.now.party in
+    subst ByPlace (sym (c.self.invariant.own party))
+    (AllPairs-filter (λ (one other : Standing). one.place < other.place) (of_party party) offers (subst ByPlace (sym c.self.view_is) c.requires.by_place))
+
+pub remove-requires-2 : goal.remove-requires-2
+remove-requires-2 c =
+    let offers = c.self.inside.offers.items in
+    let party = c.args.offer.now.to in
+    subst ByPlace (sym (c.self.invariant.made_to party))
+    (AllPairs-filter (λ (one other : Standing). one.place < other.place) (to_party party) offers (subst ByPlace (sym c.self.view_is) c.requires.by_place))
+
+pub invariant_of-self : goal.invariant_of-self
+invariant_of-self c =
+    let offers = c.self.inside.offers.items in
+    let offer = c.args.offer.now in
+    let by_place = subst ByPlace (sym c.self.view_is) c.requires.by_place in
+    let there = subst (λ (os : List Standing). Contains os offer) (sym c.self.view_is) c.requires.there in
+    record {
+      own = λ party.
+          c.remove.ensures party ∙ ap (λ (os : List Standing). cond (eqb offer.party party) (without_place os offer.place) os) (c.self.invariant.own party)
+          ∙ taken (λ o. o.party) offers offer party by_place there ∙ ap (filter (of_party party)) (sym c.take_out.ensures.items);
+      made_to = λ party.
+          c.remove-2.ensures party ∙ ap (λ (os : List Standing). cond (eqb offer.to party) (without_place os offer.place) os) (c.self.invariant.made_to party)
+          ∙ taken (λ o. o.to) offers offer party by_place there ∙ ap (filter (to_party party)) (sym c.take_out.ensures.items);
+      placed = λ place.
+          c.forget_place.ensures place ∙ ap (λ (o : Option Standing). cond (eqb offer.place place) None o) (c.self.invariant.placed place)
+          ∙ sym (at_without offers offer.place place) ∙ ap (λ (os : List Standing). offer_at os place) (sym c.take_out.ensures.items);
+    }
