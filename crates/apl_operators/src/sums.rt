@@ -24,24 +24,17 @@ fn bound_of_magnitudes(list: &[i64]) -> u64
 {
     let mut bits = 0;
     for place in 0..list.len() {
-        bits |= magnitude_of(number_at(list, place));
+        bits |= magnitude_at(list, place);
     }
     bits
 }
 
-/// The magnitude of a number.
-fn magnitude_of(number: i64) -> u64
-    ensures { result ≡ unsigned_abs number }
-{
-    number.unsigned_abs()
-}
-
-/// The number at a place.
-fn number_at(list: &[i64], place: usize) -> i64
+/// The magnitude of the number at a place.
+fn magnitude_at(list: &[i64], place: usize) -> u64
     requires { place < length list.now }
-    ensures { result ≡ slice_index_or list.now place (pos 0) }
+    ensures { result ≡ unsigned_abs (slice_index_or list.now place (pos 0)) }
 {
-    list[place]
+    list[place].unsigned_abs()
 }
 
 /// The sum of each front of each line of small numbers, in one pass, in which no sum leaves 64 bits. It takes memory for the
