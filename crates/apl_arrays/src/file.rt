@@ -44,7 +44,8 @@ impl FileName {
         FileName::of_bytes(text.as_bytes())
     }
 
-    fn of_bytes(text: &[u8]) -> Option<FileName>
+    /// The name that these bytes are, or `None` where they are no file name. No memory.
+    pub fn of_bytes(text: &[u8]) -> Option<FileName>
         ensures known { IsSome result ↔ IsFileName text.now }
         ensures value { IfSome result (λ name. name ≡ text.now) }
     {

@@ -111,9 +111,9 @@ fn glyph_of_scalar(scalar: u16) -> Option<Glyph>
     Glyph::of_code(0x80 + place as u8)
 }
 
-// The glyph at the front, and how many bytes it takes.
+/// The glyph at the front, and how many bytes it takes; or `None` where no glyph stands there. No memory.
 #[tactic(auto, using(crate::proofs::Glyphs::glyph_at_front, crate::proofs::Glyphs::no_glyph_of_scalar, crate::proofs::Glyphs::no_glyph_where_no_scalar))]
-fn glyph_at(bytes: &[u8]) -> Option<(Glyph, usize)>
+pub fn glyph_at(bytes: &[u8]) -> Option<(Glyph, usize)>
     ensures { MatchOption result (StartsWithNoGlyph bytes.now)
         (λ found. IsGlyph found.0 × (bytes.now ≡ glyph_utf8 found.0 ++ drop found.1 bytes.now)
         × (0 < found.1) × (found.1 ≤ length bytes.now)) }

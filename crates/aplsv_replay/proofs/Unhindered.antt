@@ -18,7 +18,7 @@ use Rattle.sv_story_laws.specs.WaitLaws.{SetNoControl}
 use Rattle.sv_story_laws.proofs.AnswerLemmas.{Answered, unrefused, held_first, given_up, answered}
 use Rattle.sv_story_laws.proofs.ControlLemmas.{nothing_is_refused_without_control}
 use Rattle.sv_core.specs.Core.{ArePeople}
-use Rattle.bundle_text.specs.Bundle.{IsUser, PlainBundle}
+use Rattle.bundle_text.specs.Rules.{IsUser, PlainBundle}
 use Rattle.bundle_text.specs.User.{PlainUser}
 use Rattle.apl_session.specs.Session.{evaluated}
 use Rattle.apl_session.proofs.Answering.{lines_take_answers}

@@ -1,5 +1,5 @@
 -- The first line that is no statement.
-use Rattle.std.proofs.Common.{◌≡◌, ℕ, ◌+◌, ◌<◌, ◌≤◌, Bool, true, false, not, cond, List, [], ◌∷◌, length, map, get_or, ltb, ap, ap₂, Option, Some, None, IsSome, is_none, refl, sym, subst, ◌∙◌, arith}
+use Rattle.std.proofs.Common.{◌≡◌, ℕ, ◌+◌, ◌<◌, ◌≤◌, Bool, true, false, not, cond, List, [], ◌∷◌, length, map, get_or, ltb, ap, ap₂, Option, Some, None, IsSome, IsTrue, is_none, refl, sym, subst, ◌∙◌, arith}
 use Rattle.std.specs.List.{All, AllWithin, HoldsAt, position, position_or_len}
 use Rattle.std.specs.Prelude.{nat_lt, MatchOption}
 use Rattle.std.proofs.lemmas.Bool.{ltb-false}
@@ -8,12 +8,16 @@ use Rattle.std.proofs.lemmas.List.{length-map}
 use Rattle.std.proofs.lemmas.List.Elements.{All-nil, All-cons, All-head, All-tail}
 use Rattle.std.proofs.lemmas.List.Quantifiers.{position-Some}
 use Rattle.std.proofs.lemmas.List.Sums.{fails_before_first, position_or_len_is}
-use Rattle.bundle_text.specs.Bundle.{PlainBundle, BundleText}
+use Rattle.bundle_text.specs.Bundle.{PlainBundle, BundleText, IsNoBundle}
+use Rattle.bundle_text.specs.Offset.{offset_of}
+use Rattle.bundle_text.specs.Refused.{IsReason}
+use Rattle.bundle_text.specs.declared.refused.BundleRefused.{BundleRefused}
+use Rattle.bundle_text.specs.declared.refused.BundleRefused.TheVariants.{Malformed, WantOfMemory}
 use Rattle.bundle_text.specs.User.{PlainUser}
 use Rattle.apl_session.specs.Statement.{statement_in}
 use Rattle.apl_session.specs.declared.statement.Statement.{Statement}
 use Rattle.aplsv_top.specs.declared.runnable.LinePlace.{LinePlace}
-use Rattle.aplsv_top.specs.Runnable.{AreStatements, IsNotRunnable, formless_line, found_first, formless_place}
+use Rattle.aplsv_top.specs.Runnable.{AreStatements, IsNotRunnable, IsFormlessAt, formless_line, found_first, formless_place, has_users_alone, unready_by, unready_place}
 
 none_is_false : (b : Bool) (n : ℕ) → cond b (Some n) None ≡ None → b ≡ false
 none_is_false true n e = absurd cc
@@ -63,10 +67,42 @@ pub not_all_statements : (users : List PlainUser) (place : LinePlace) → formle
 not_all_statements [] place e all = absurd cc
 not_all_statements (user ∷ users) place e all = none_by user users (formless_line user.lines) (formless_place users) place refl (not_all_statements users) e all
 
--- so the text of a bundle with such a line is that of none that can be run
-pub not_runnable : (bytes : List ℕ) (bundle : PlainBundle) (users : List PlainUser) (place : LinePlace) → ((bytes : List ℕ) (bundle other : PlainBundle) → BundleText bytes bundle → BundleText bytes other → bundle ≡ other) → BundleText bytes bundle → users ≡ bundle.users → formless_place users ≡ Some place → IsNotRunnable bytes
-not_runnable bytes bundle users place one text are found other runnable =
-    not_all_statements users place found (subst (All AreStatements) (sym are) (subst (λ b. All AreStatements b.users) (sym (one bytes bundle other text runnable.text)) runnable.statements))
+-- where every line can be run there are users alone, and all lines are statements
+
+ready_by : (users : List PlainUser) (alone : Bool) → unready_by alone users ≡ None → (alone ≡ true) × All AreStatements users
+ready_by users true e = (refl, all_statements users e)
+ready_by users false e = absurd cc
+
+pub all_ready : (bundle : PlainBundle) → unready_place bundle ≡ None → IsTrue (has_users_alone bundle) × All AreStatements bundle.users
+all_ready bundle e = ready_by bundle.users (has_users_alone bundle) e
+
+not_ready_by : (users : List PlainUser) (alone : Bool) (place : LinePlace) → unready_by alone users ≡ Some place → alone ≡ true → All AreStatements users → ⊥
+not_ready_by users true place e is all = not_all_statements users place e all
+not_ready_by users false place e is all = absurd cc
+
+-- so the text of a bundle with a line that cannot be run is that of none that can
+pub not_runnable : (bytes : List ℕ) (bundle : PlainBundle) (place : LinePlace) → ((bytes : List ℕ) (bundle other : PlainBundle) → BundleText bytes bundle → BundleText bytes other → bundle ≡ other) → BundleText bytes bundle → unready_place bundle ≡ Some place → IsNotRunnable bytes
+not_runnable bytes bundle place one text found other runnable =
+    let same = one bytes other bundle runnable.text text in
+    not_ready_by bundle.users (has_users_alone bundle) place found (subst (λ b. IsTrue (has_users_alone b)) same runnable.alone) (subst (λ b. All AreStatements b.users) same runnable.statements)
+
+-- what is no bundle's text is not that of one that can be run
+pub no_bundle_runs : (bytes : List ℕ) (why : BundleRefused) → IsReason why (IsNoBundle bytes) → IsReason why (IsNotRunnable bytes)
+no_bundle_runs bytes WantOfMemory none = tt
+no_bundle_runs bytes (Malformed offset rule) none = λ bundle runnable. none bundle runnable.text
+
+-- nothing is said where memory ran out
+pub nothing_said : (users : List PlainUser) (place : LinePlace) (why : BundleRefused) → why ≡ WantOfMemory → IsFormlessAt users place why
+nothing_said users place why is = subst (IsFormlessAt users place) (sym is) tt
+
+same_place : (place other : LinePlace) → (let one : Option LinePlace = Some place in one ≡ Some other) → place ≡ other
+same_place place other e = cc
+
+-- the line that cannot be run is one
+pub stands_there : (bundle mine : PlainBundle) (place other : LinePlace) (offset : ℕ) → bundle ≡ mine → unready_place bundle ≡ Some place → unready_place mine ≡ Some other → offset ≡ offset_of mine.users other.user other.line → offset ≡ offset_of bundle.users place.user place.line
+stands_there bundle mine place other offset same found is at =
+    let one : place ≡ other = same_place place other (sym found ∙ (ap unready_place same ∙ is)) in
+    at ∙ sym (ap₂ (λ (b : PlainBundle) (p : LinePlace). offset_of b.users p.user p.line) same one)
 
 -- the first place where a test passes, of things seen otherwise
 

@@ -21,7 +21,7 @@ pub record IsOutputOf (bundle : PlainBundle) (text : List ℕ) : Type 0 where
   pub output : text ≡ output_text transcripts (reverse journal)
   pub printable : ArePrintable transcripts (reverse journal)
 
--- the bytes are the text of a bundle each of whose lines is a statement, and the text is the output of a run of it
+-- the bytes are the text of a bundle that can be run, and the text is the output of a run of it
 pub record IsOutputFor (bytes text : List ℕ) : Type 0 where
   pub bundle : PlainBundle
   pub read : RunnableText bytes bundle
@@ -43,7 +43,7 @@ pub record WritesFront (left rest held now : Option (List ℕ)) : Type 0 where
   pub run : IsOutputFor bytes text
   pub written : AppendsPrefix held now text
 
--- all bytes were read, to their end, and they are the text of no bundle each of whose lines is a statement
+-- all bytes were read, to their end, and they are the text of no bundle that can be run
 pub record FindsNoBundle (left rest : Option (List ℕ)) : Type 0 where
   pub bytes : List ℕ
   pub read : ReadsAll left rest bytes

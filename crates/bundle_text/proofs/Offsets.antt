@@ -8,8 +8,7 @@ use Rattle.apl_arrays.specs.Glyph.{line_utf8}
 use Rattle.line_text.specs.Lines.{content, heading, user_lines, line_text, lines_text}
 use Rattle.line_text.proofs.Ascii.{content_utf8}
 use Rattle.bundle_text.specs.User.{PlainUser}
-use Rattle.bundle_text.specs.Bundle.{lines_of_user}
-use Rattle.bundle_text.specs.Offset.{lines_before, offset_of}
+use Rattle.bundle_text.specs.Offset.{lines_before, lines_of_user, offset_of}
 
 -- texts one after another
 pub joined_length : (lines more : List (List ℕ)) → length (lines_text (lines ++ more)) ≡ length (lines_text lines) + length (lines_text more)

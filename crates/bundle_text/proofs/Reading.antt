@@ -1,257 +1,197 @@
--- What is read so far of the bytes of a bundle, and what follows where nothing more can be read.
-use Rattle.std.proofs.Common.{◌≡◌, ◌≢◌, ◌⊎◌, ℕ, List, [], ◌∷◌, ◌++◌, length, map, Some, None, Result, Ok, Err, MatchResult, refl, sym, ap, ap₂, subst, ◌∙◌, inl, inr, ⊎_elim, arith, length-append, append_assoc, append-nil}
-use Rattle.std.specs.Prelude.{IfOk, option_and_then}
-use Rattle.std.specs.List.{All, flat_map}
-use Rattle.std.proofs.lemmas.List.Elements.{All-nil, All-cons, All-head, All-tail, All-append, All-push, All-same, All-from_recursion}
-use Rattle.std.proofs.lemmas.List.Concat.{flat_map-append}
+-- The text of a bundle breaks nowhere, and is that of one bundle.
+use Rattle.std.proofs.Common.{◌≡◌, ◌⊎◌, ℕ, ◌+◌, ◌<◌, Bool, true, false, List, [], ◌∷◌, ◌++◌, length, map, Result, Ok, Err, MatchResult, refl, sym, ap, ◌∙◌, subst, arith, append-nil, append_assoc, length-append, ap₂, ⊎_elim, inl, inr}
+use Rattle.std.specs.Prelude.{IfErr}
+use Rattle.std.proofs.lemmas.Bool.{false≢true}
+use Rattle.std.proofs.lemmas.List.{append_cancel_right}
+use Rattle.line_text.specs.Lines.{line_text, end_line}
+use Rattle.line_text.proofs.Ascii.{end_utf8}
+use Rattle.line_text.proofs.SameLines.{same_first_line}
+use Rattle.apl_arrays.specs.Glyph.{line_utf8}
+use Rattle.bundle_text.specs.Breaks.{IsSound, IsFirstLine, LineBreaks, FirstBreaks, LacksEnd, BreaksBehind, Breaks}
+use Rattle.bundle_text.specs.Rules.{PlainBundle, IsBundle}
+use Rattle.bundle_text.specs.BundleLine.{PlainLine, input, user, order, file, clock, end, line_glyphs}
+use Rattle.bundle_text.specs.Draft.{PlainDraft, PlainSection, start, of_user, turns, of_file, readings, ended, is_ended, may_stand, with_line, nothing_read, bundle_of}
+use Rattle.bundle_text.specs.Bundle.{lines_of, said_by, text_of, BundleText, IsNoBundle}
+use Rattle.bundle_text.specs.Refused.{IsReason, IsRefusal}
 use Rattle.bundle_text.specs.declared.refused.BundleRefused.{BundleRefused}
 use Rattle.bundle_text.specs.declared.refused.BundleRefused.TheVariants.{Malformed, WantOfMemory}
-use Rattle.bundle_text.specs.Refused.{IsReason}
-use Rattle.bundle_text.specs.User.{PlainUser}
-use Rattle.bundle_text.specs.Bundle.{PlainBundle, IsUser, IsUserLine, IsBundle, lines_of_user, bundle_spelling, BundleText, IsNoBundle}
-use Rattle.line_text.specs.Lines.{content, end_line, line_text, lines_text, HasNoFeed}
-use Rattle.line_text.proofs.Ascii.{end_utf8}
-use Rattle.bundle_text.specs.BundleLine.{PlainLine, user, input, IsBundleLine, IsTextOf, line_spelling}
-use Rattle.bundle_text.specs.Draft.{PlainDraft, nothing_read, users_of, bundle_of, LeadsTo, LeadsNowhere}
-use Rattle.bundle_text.proofs.Texts.{cut, line_has_no_feed, same_line, end_is_no_line}
-use Rattle.bundle_text.proofs.Lines.{bundle_from, read_of_user, read_of, bundle_read, lines_grow, step}
+use Rattle.bundle_text.specs.declared.refused.BundleRule.{BundleRule}
+use Rattle.bundle_text.proofs.Grammar.{page_reach}
+use Rattle.bundle_text.proofs.Pages.{longer_open}
+use Rattle.bundle_text.proofs.Places.{first_line_is_one, sound_breaks_not, nothing_first}
+use Rattle.bundle_text.proofs.Texts.{glyphs_of_line, line_has_no_feed, same_line}
+use Rattle.bundle_text.proofs.Walks.{SoundFrom, after, forward, forward_sound, after_forward, front_text, sound_first, breaks_once}
 
--- the text and a line feed
-abbrev ended : List ℕ → List ℕ
-ended text = text ++ 10 ∷ []
+-- behind the end no line may stand
+nothing_behind : (section : PlainSection) (line : PlainLine) → is_ended section ≡ true → may_stand section line ≡ true → ⊥
+nothing_behind start line over may = false≢true over
+nothing_behind (of_user one) line over may = false≢true over
+nothing_behind turns line over may = false≢true over
+nothing_behind (of_file one) line over may = false≢true over
+nothing_behind readings line over may = false≢true over
+nothing_behind ended (input line) over may = false≢true may
+nothing_behind ended (user number) over may = false≢true may
+nothing_behind ended (order numbers) over may = false≢true may
+nothing_behind ended (file name) over may = false≢true may
+nothing_behind ended (clock numbers) over may = false≢true may
+nothing_behind ended end over may = false≢true may
 
--- the text of lines
-abbrev pub text_of : List PlainLine → List ℕ
-text_of lines = flat_map (λ line. ended (line_spelling line)) lines
+-- the first lines of two sound walks over one text
+pub one_first : (draft : PlainDraft) (l m : PlainLine) (rest left : List ℕ) → IsSound draft l → IsSound draft m → line_text (line_glyphs l) ++ rest ≡ line_text (line_glyphs m) ++ left → (m ≡ l) × (rest ≡ left)
+one_first draft l m rest left a b e =
+    let cut = same_first_line (line_glyphs l) (line_glyphs m) rest left (glyphs_of_line l a.form) (glyphs_of_line m b.form) e in
+    (same_line m l (line_utf8 (line_glyphs m)) (b.form, refl) (a.form, ap line_utf8 (sym cut.0)), cut.1)
 
--- the text of the end
-abbrev the_end : List ℕ
-the_end = ended end_line
+-- two walks to an end over one text are one
+pub same_walk : (draft : PlainDraft) (xs ys : List PlainLine) (rest left : List ℕ) → SoundFrom draft xs → SoundFrom draft ys → is_ended (after draft xs).section ≡ true → is_ended (after draft ys).section ≡ true → text_of xs ++ rest ≡ text_of ys ++ left → xs ≡ ys
+same_walk draft [] [] rest left a b over done e = refl
+same_walk draft [] (m ∷ ys) rest left a b over done e = absurd (nothing_behind draft.section m over b.0.place)
+same_walk draft (l ∷ xs) [] rest left a b over done e = absurd (nothing_behind draft.section l done a.0.place)
+same_walk draft (l ∷ xs) (m ∷ ys) rest left a b over done e =
+    let one = one_first draft l m (text_of xs ++ rest) (text_of ys ++ left) a.0 b.0 (sym (append_assoc (line_text (line_glyphs l)) (text_of xs) rest) ∙ (e ∙ append_assoc (line_text (line_glyphs m)) (text_of ys) left)) in
+    let others = same_walk (with_line draft l) xs ys rest left a.1 (subst (λ some. SoundFrom (with_line draft some) ys) one.0 b.1) over (subst (λ some. is_ended (after (with_line draft some) ys).section ≡ true) one.0 done) one.1 in
+    cc (one.0, others)
 
-regroup : (front more rest : List ℕ) → (ended front ++ more) ++ rest ≡ front ++ 10 ∷ (more ++ rest)
-regroup front more rest = append_assoc (ended front) more rest ∙ append_assoc front (10 ∷ []) (more ++ rest)
+-- the line that ends is the end
+last_is_end : (draft : PlainDraft) (line : PlainLine) → IsSound draft line → is_ended (with_line draft line).section ≡ true → line ≡ end
+last_is_end draft (input line) sound over = absurd (false≢true (sym (longer_open draft.section line sound.place) ∙ over))
+last_is_end draft (user number) sound over = absurd (false≢true over)
+last_is_end draft (order numbers) sound over = absurd (false≢true over)
+last_is_end draft (file name) sound over = absurd (false≢true over)
+last_is_end draft (clock numbers) sound over = absurd (false≢true over)
+last_is_end draft end sound over = refl
 
-end_has_no_feed : HasNoFeed (end_line)
-end_has_no_feed = All-from_recursion (λ byte. byte ≢ 10) (101 ∷ 110 ∷ 100 ∷ []) (λ e. omega arith, (λ e. omega arith, (λ e. omega arith, tt)))
+-- the text of lines ends with a line feed
+record EndsFed (lines : List PlainLine) : Type 0 where
+  front : List ℕ
+  whole : text_of lines ≡ front ++ 10 ∷ []
 
--- lines that were read are the first of a bundle
-split : (lines before : List PlainLine) (rest : List ℕ) → All IsBundleLine lines → All IsBundleLine before → text_of lines ++ the_end ≡ text_of before ++ rest
-    → (more : List PlainLine) × All IsBundleLine more × (lines ≡ before ++ more) × (rest ≡ text_of more ++ the_end)
-split lines [] rest a b e = (lines, a, refl, sym e)
-split [] (line ∷ before) rest a b e =
-    let parts = cut (end_line) (line_spelling line) [] (text_of before ++ rest) end_has_no_feed (line_has_no_feed line (All-head IsBundleLine line before b)) (e ∙ regroup (line_spelling line) (text_of before) rest) in
-    absurd (end_is_no_line line (All-head IsBundleLine line before b) parts.0)
-split (one ∷ lines) (line ∷ before) rest a b e =
-    let here = All-head IsBundleLine one lines a in
-    let there = All-head IsBundleLine line before b in
-    let parts = cut (line_spelling one) (line_spelling line) (text_of lines ++ the_end) (text_of before ++ rest) (line_has_no_feed one here) (line_has_no_feed line there) (sym (regroup (line_spelling one) (text_of lines) the_end) ∙ e ∙ regroup (line_spelling line) (text_of before) rest) in
-    let same = same_line one line here there parts.0 in
-    let more = split lines before rest (All-tail IsBundleLine one lines a) (All-tail IsBundleLine line before b) parts.1 in
-    (more.0, more.1, cc (same, more.2), more.3)
+ends_fed : (line : PlainLine) (lines : List PlainLine) → EndsFed (line ∷ lines)
+ends_fed line [] = record { front = line_utf8 (line_glyphs line); whole = append-nil (line_text (line_glyphs line)) }
+ends_fed line (next ∷ lines) =
+    let rest = ends_fed next lines in
+    record { front = line_text (line_glyphs line) ++ rest.front; whole = ap (λ (some : List ℕ). line_text (line_glyphs line) ++ some) rest.whole ∙ sym (append_assoc (line_text (line_glyphs line)) rest.front (10 ∷ [])) }
 
--- the text of a bundle by its lines
-
-inputs_text : (lines : List (List ℕ)) → lines_text (map content lines) ≡ text_of (map (λ line. input line) lines)
-inputs_text [] = refl
-inputs_text (line ∷ lines) = ap (λ (text : List ℕ). line_text (content line) ++ text) (inputs_text lines)
-
-user_text : (one : PlainUser) → lines_text (lines_of_user one) ≡ text_of (read_of_user one)
-user_text one = ap (λ (text : List ℕ). ended (line_spelling (user one.number)) ++ text) (inputs_text one.lines)
-
-users_text : (users : List PlainUser) → lines_text (flat_map lines_of_user users) ≡ text_of (read_of users)
-users_text [] = refl
-users_text (one ∷ users) =
-    flat_map-append line_text (lines_of_user one) (flat_map lines_of_user users)
-    ∙ (ap₂ (λ (front rest : List ℕ). front ++ rest) (user_text one) (users_text users)
-    ∙ sym (flat_map-append (λ line. ended (line_spelling line)) (read_of_user one) (read_of users)))
-
-spelling_is : (users : List PlainUser) → bundle_spelling (record { users = users }) ≡ text_of (read_of users) ++ the_end
-spelling_is users =
-    flat_map-append line_text (flat_map lines_of_user users) (end_line ∷ [])
-    ∙ ap₂ (λ (front rest : List ℕ). front ++ rest) (users_text users) (append-nil (line_text end_line) ∙ ap ended end_utf8)
-
-inputs_are_lines : (lines : List (List ℕ)) → All IsUserLine lines → All IsBundleLine (map (λ line. input line) lines)
-inputs_are_lines [] each = All-nil IsBundleLine
-inputs_are_lines (line ∷ lines) each =
-    All-cons IsBundleLine (input line) (map (λ line. input line) lines) (All-head IsUserLine line lines each).glyphs (inputs_are_lines lines (All-tail IsUserLine line lines each))
-
-users_are_lines : (users : List PlainUser) → All IsUser users → All IsBundleLine (read_of users)
-users_are_lines [] each = All-nil IsBundleLine
-users_are_lines (one ∷ users) each =
-    let rules = All-head IsUser one users each in
-    All-append IsBundleLine (read_of_user one) (read_of users) (All-cons IsBundleLine (user one.number) (map (λ line. input line) one.lines) rules.number (inputs_are_lines one.lines rules.each)) (users_are_lines users (All-tail IsUser one users each))
-
--- the bytes are the text of the draft's lines, and a rest; all lines are read as by the draft
-pub record ReadSoFar (bytes rest : List ℕ) (draft : PlainDraft) : Type 0 where
-  pub whole : bytes ≡ text_of (read_of (users_of draft)) ++ rest
-  pub lines : All IsBundleLine (read_of (users_of draft))
-  pub same : (more : List PlainLine) → bundle_from nothing_read (read_of (users_of draft) ++ more) ≡ bundle_from draft more
-
-pub nothing_so_far : (bytes : List ℕ) → ReadSoFar bytes bytes nothing_read
-nothing_so_far bytes = record { whole = refl; lines = All-nil IsBundleLine; same = λ more. refl }
-
-pub goes_on : (bytes rest line after : List ℕ) (draft next : PlainDraft) → ReadSoFar bytes rest draft → rest ≡ line ++ 10 ∷ after → LeadsTo draft line next → ReadSoFar bytes after next
-goes_on bytes rest line after draft next so_far front read =
-    let before = read_of (users_of draft) in
-    let one = read.0 in
-    let grown : read_of (users_of next) ≡ before ++ one ∷ [] = lines_grow draft next one read.2 in
-    let text : text_of (before ++ one ∷ []) ≡ text_of before ++ ended line =
-    flat_map-append (λ line. ended (line_spelling line)) before (one ∷ []) ∙ ap (λ (text : List ℕ). text_of before ++ text) (append-nil (ended (line_spelling one)) ∙ ap ended (sym read.1.1)) in
-    record {
-      whole = so_far.whole ∙ ap (λ (text : List ℕ). text_of before ++ text) (front ∙ sym (append_assoc line (10 ∷ []) after)) ∙ sym (append_assoc (text_of before) (ended line) after) ∙ ap (λ (text : List ℕ). text ++ after) (sym text) ∙ ap (λ (lines : List PlainLine). text_of lines ++ after) (sym grown);
-      lines = subst (λ (lines : List PlainLine). All IsBundleLine lines) (sym grown) (All-push IsBundleLine before one so_far.lines read.1.0);
-      same = λ more. ap (λ (lines : List PlainLine). bundle_from nothing_read (lines ++ more)) grown ∙ ap (bundle_from nothing_read) (append_assoc before (one ∷ []) more) ∙ so_far.same (one ∷ more) ∙ step draft next one more read.2;
-    }
-
-front_is_nil : (front rest : List ℕ) → front ++ rest ≡ [] → front ≡ []
-front_is_nil [] rest e = refl
-front_is_nil (x ∷ front) rest e = absurd cc
-
--- what a bundle of the bytes has behind the lines that were read
-record Onward (rest : List ℕ) (draft : PlainDraft) (bundle : PlainBundle) : Type 0 where
-  more : List PlainLine
-  feed : List ℕ
-  lines : All IsBundleLine more
-  text : rest ++ feed ≡ text_of more ++ the_end
-  read : bundle_from draft more ≡ Some bundle
-  short : (feed ≡ []) ⊎ (feed ≡ 10 ∷ [])
-
-onward_with : (bytes rest feed : List ℕ) (draft : PlainDraft) (bundle : PlainBundle) → ReadSoFar bytes rest draft → IsBundle bundle → bytes ++ feed ≡ bundle_spelling bundle → (feed ≡ []) ⊎ (feed ≡ 10 ∷ []) → Onward rest draft bundle
-onward_with bytes rest feed draft bundle so_far rules text short =
-    let before = read_of (users_of draft) in
-    let lines = read_of bundle.users in
-    let whole : text_of lines ++ the_end ≡ text_of before ++ (rest ++ feed) =
-    sym (spelling_is bundle.users) ∙ sym text ∙ ap (λ (text : List ℕ). text ++ feed) so_far.whole ∙ append_assoc (text_of before) rest feed in
-    let parts = split lines before (rest ++ feed) (users_are_lines bundle.users rules.each) so_far.lines whole in
-    record {
-      more = parts.0;
-      feed = feed;
-      lines = parts.1;
-      text = parts.3;
-      read = sym (so_far.same parts.0) ∙ ap (bundle_from nothing_read) (sym parts.2) ∙ bundle_read bundle rules;
-      short = short;
-    }
-
-onward : (bytes rest : List ℕ) (draft : PlainDraft) (bundle : PlainBundle) → ReadSoFar bytes rest draft → BundleText bytes bundle → Onward rest draft bundle
-onward bytes rest draft bundle so_far text =
-    ⊎_elim (λ whole. onward_with bytes rest [] draft bundle so_far text.rules (append-nil bytes ∙ whole) (inl refl))
-    (λ whole. onward_with bytes rest (10 ∷ []) draft bundle so_far text.rules whole (inr refl)) text.text
-
--- what stands behind the lines that were read is a line, or the end
-
-at_line : {P : Type 0} (more : List PlainLine) (line after : List ℕ) → All IsBundleLine more → HasNoFeed line → line ++ 10 ∷ after ≡ text_of more ++ the_end
-    → (more ≡ [] → line ≡ end_line → after ≡ [] → P)
-    → ((one : PlainLine) (others : List PlainLine) → more ≡ one ∷ others → IsTextOf one line → after ≡ text_of others ++ the_end → P) → P
-at_line [] line after lines clean e ends continues =
-    let parts = cut line (end_line) after [] clean end_has_no_feed e in ends refl parts.0 parts.1
-at_line (one ∷ others) line after lines clean e ends continues =
-    let here = All-head IsBundleLine one others lines in
-    let parts = cut line (line_spelling one) after (text_of others ++ the_end) clean (line_has_no_feed one here) (e ∙ regroup (line_spelling one) (text_of others) the_end) in
-    continues one others refl (here, parts.0) parts.1
-
--- no line comes where none may stand
-
-pub no_bundle_at_line : (bytes rest line after : List ℕ) (draft : PlainDraft) → ReadSoFar bytes rest draft → rest ≡ line ++ 10 ∷ after → HasNoFeed line → line ≢ end_line → LeadsNowhere draft line → IsNoBundle bytes
-no_bundle_at_line bytes rest line after draft so_far front clean other nothing bundle text =
-    let on = onward bytes rest draft bundle so_far text in
-    let e : line ++ 10 ∷ (after ++ on.feed) ≡ text_of on.more ++ the_end = sym (append_assoc line (10 ∷ after) on.feed) ∙ ap (λ (text : List ℕ). text ++ on.feed) (sym front) ∙ on.text in
-    at_line {P = ⊥} on.more line (after ++ on.feed) on.lines clean e (λ none ends last. other ends)
-    (λ one others is read others_text.
-    let stuck : bundle_from draft (one ∷ others) ≡ None = ap (option_and_then (λ next. bundle_from next others)) (nothing one read) in
-    cc (stuck, is, on.read))
-
-pub no_bundle_at_end : (bytes rest line after : List ℕ) (draft : PlainDraft) → ReadSoFar bytes rest draft → rest ≡ line ++ 10 ∷ after → HasNoFeed line → line ≡ end_line → after ≢ [] → IsNoBundle bytes
-no_bundle_at_end bytes rest line after draft so_far front clean ends more bundle text =
-    let on = onward bytes rest draft bundle so_far text in
-    let e : line ++ 10 ∷ (after ++ on.feed) ≡ text_of on.more ++ the_end = sym (append_assoc line (10 ∷ after) on.feed) ∙ ap (λ (text : List ℕ). text ++ on.feed) (sym front) ∙ on.text in
-    at_line {P = ⊥} on.more line (after ++ on.feed) on.lines clean e
-    (λ last is nothing. more (front_is_nil after on.feed nothing))
-    (λ one others is read others_text. end_is_no_line one read.0 (sym ends ∙ read.1))
-
-feed_inside : (front rest : List ℕ) → HasNoFeed (front ++ 10 ∷ rest) → ⊥
-feed_inside [] rest clean = All-head (λ byte. byte ≢ 10) 10 rest clean refl
-feed_inside (byte ∷ front) rest clean = feed_inside front rest (All-tail (λ byte. byte ≢ 10) byte (front ++ 10 ∷ rest) clean)
-
-pub no_bundle_at_rest : (bytes rest : List ℕ) (draft : PlainDraft) → ReadSoFar bytes rest draft → HasNoFeed rest → rest ≢ end_line → IsNoBundle bytes
-no_bundle_at_rest bytes rest draft so_far clean other bundle text =
-    let on = onward bytes rest draft bundle so_far text in
+-- a sound end that lacks its line feed breaks nothing
+end_alone : (draft : PlainDraft) (bytes : List ℕ) (rule : BundleRule) (at : ℕ) → IsSound draft end → bytes ≡ end_line → BreaksBehind draft bytes rule at → ⊥
+end_alone draft bytes rule at sound whole broken =
+    let text = line_utf8 (line_glyphs end) in
+    let is : bytes ≡ text = whole ∙ sym end_utf8 in
+    let first : IsFirstLine bytes text false = record { no_feed = line_has_no_feed end tt; rest = []; whole = inr (refl, is, omega (arith, ap length end_utf8)) } in
     ⊎_elim
-    (λ whole.
-    let e : rest ≡ (text_of on.more ++ end_line) ++ 10 ∷ [] =
-    sym (append-nil rest) ∙ ap (λ (feed : List ℕ). rest ++ feed) (sym whole) ∙ on.text ∙ sym (append_assoc (text_of on.more) (end_line) (10 ∷ [])) in
-    feed_inside (text_of on.more ++ end_line) [] (All-same (λ byte. byte ≢ 10) ((text_of on.more ++ end_line) ++ 10 ∷ []) rest (sym e) clean))
-    (λ fed.
-    let e : rest ++ 10 ∷ [] ≡ text_of on.more ++ the_end = ap (λ (feed : List ℕ). rest ++ feed) (sym fed) ∙ on.text in
-    at_line {P = ⊥} on.more rest [] on.lines clean e (λ last is nothing. other is)
-    (λ one others is read others_text. omega (arith, ap length others_text, length-append (text_of others) the_end)))
-    on.short
+    (λ x.
+    let same = first_line_is_one bytes text x.line false x.fed first x.first in
+    sound_breaks_not draft text end false rule at (tt, refl) (inr end_utf8) sound (subst (λ fed. LineBreaks draft text fed rule at) (sym same.1) (subst (λ one. LineBreaks draft one x.fed rule at) (sym same.0) x.broken)))
+    (λ x. omega (arith, ap length (sym whole ∙ x.nothing)))
+    broken
 
--- the end is where it has to be
+-- a walk to an end breaks nowhere
 
-pub bundle_at_end : (bytes rest line after : List ℕ) (draft : PlainDraft) (bundle : PlainBundle) → ReadSoFar bytes rest draft → rest ≡ line ++ 10 ∷ after → line ≡ end_line → after ≡ [] → bundle ≡ bundle_of draft → IsBundle bundle → BundleText bytes bundle
-bundle_at_end bytes rest line after draft bundle so_far front ends last is rules =
-    let whole : bytes ≡ text_of (read_of (users_of draft)) ++ the_end =
-    so_far.whole ∙ ap (λ (text : List ℕ). text_of (read_of (users_of draft)) ++ text) (front ∙ ap (λ (line : List ℕ). line ++ 10 ∷ after) ends ∙ ap (λ (after : List ℕ). end_line ++ 10 ∷ after) last) in
-    record { rules = rules; text = inl (whole ∙ (sym (spelling_is (users_of draft)) ∙ ap bundle_spelling (sym is))) }
+never_fed : (draft : PlainDraft) (xs ls : List PlainLine) (rest : List ℕ) (rule : BundleRule) (at : ℕ) → SoundFrom draft xs → SoundFrom draft ls → is_ended (after draft ls).section ≡ true → text_of xs ++ rest ≡ text_of ls → BreaksBehind (after draft xs) rest rule at → ⊥
+never_fed draft [] [] rest rule at a b over e broken =
+    ⊎_elim (λ x. nothing_first draft rest rule at e x) (λ x. false≢true (sym x.no_end ∙ over)) broken
+never_fed draft [] (l ∷ ls) rest rule at a b over e broken = sound_first draft l (text_of ls) rest rule at b.0 e broken
+never_fed draft (l ∷ xs) [] rest rule at a b over e broken =
+    omega (arith, ap length e, length-append (line_text (line_glyphs l) ++ text_of xs) rest, length-append (line_text (line_glyphs l)) (text_of xs), length-append (line_utf8 (line_glyphs l)) (10 ∷ []))
+never_fed draft (l ∷ xs) (m ∷ ls) rest rule at a b over e broken =
+    let one = one_first draft l m (text_of xs ++ rest) (text_of ls) a.0 b.0 (sym (append_assoc (line_text (line_glyphs l)) (text_of xs) rest) ∙ e) in
+    never_fed (with_line draft l) xs ls rest rule at a.1 (subst (λ some. SoundFrom (with_line draft some) ls) one.0 b.1) (subst (λ some. is_ended (after (with_line draft some) ls).section ≡ true) one.0 over) one.1 broken
 
-pub bundle_at_rest : (bytes rest : List ℕ) (draft : PlainDraft) (bundle : PlainBundle) → ReadSoFar bytes rest draft → rest ≡ end_line → bundle ≡ bundle_of draft → IsBundle bundle → BundleText bytes bundle
-bundle_at_rest bytes rest draft bundle so_far ends is rules =
-    let whole : ended bytes ≡ text_of (read_of (users_of draft)) ++ the_end =
-    ap ended (so_far.whole ∙ ap (λ (text : List ℕ). text_of (read_of (users_of draft)) ++ text) ends) ∙ append_assoc (text_of (read_of (users_of draft))) end_line (10 ∷ []) in
-    record { rules = rules; text = inr (whole ∙ (sym (spelling_is (users_of draft)) ∙ ap bundle_spelling (sym is))) }
+never_bare : (draft : PlainDraft) (xs ls : List PlainLine) (rest : List ℕ) (rule : BundleRule) (at : ℕ) → SoundFrom draft xs → SoundFrom draft ls → is_ended (after draft ls).section ≡ true → (text_of xs ++ rest) ++ 10 ∷ [] ≡ text_of ls → BreaksBehind (after draft xs) rest rule at → ⊥
+never_bare draft [] [] rest rule at a b over e broken =
+    omega (arith, ap length e, length-append rest (10 ∷ []))
+never_bare draft [] (l ∷ []) rest rule at a b over e broken =
+    let is = last_is_end draft l b.0 over in
+    let text : rest ≡ line_utf8 (line_glyphs l) = append_cancel_right rest (line_utf8 (line_glyphs l)) (10 ∷ []) (e ∙ append-nil (line_text (line_glyphs l))) in
+    end_alone draft rest rule at (subst (IsSound draft) is b.0) (text ∙ (ap (λ line. line_utf8 (line_glyphs line)) is ∙ end_utf8)) broken
+never_bare draft [] (l ∷ m ∷ ls) rest rule at a b over e broken =
+    let more = ends_fed m ls in
+    let whole : rest ++ 10 ∷ [] ≡ (line_text (line_glyphs l) ++ more.front) ++ 10 ∷ [] = e ∙ (ap (λ (some : List ℕ). line_text (line_glyphs l) ++ some) more.whole ∙ sym (append_assoc (line_text (line_glyphs l)) more.front (10 ∷ []))) in
+    sound_first draft l more.front rest rule at b.0 (append_cancel_right rest (line_text (line_glyphs l) ++ more.front) (10 ∷ []) whole) broken
+never_bare draft (l ∷ xs) [] rest rule at a b over e broken =
+    omega (arith, ap length e, length-append ((line_text (line_glyphs l) ++ text_of xs) ++ rest) (10 ∷ []))
+never_bare draft (l ∷ xs) (m ∷ ls) rest rule at a b over e broken =
+    let regrouped : ((line_text (line_glyphs l) ++ text_of xs) ++ rest) ++ 10 ∷ [] ≡ line_text (line_glyphs l) ++ ((text_of xs ++ rest) ++ 10 ∷ []) =
+    ap (λ (some : List ℕ). some ++ 10 ∷ []) (append_assoc (line_text (line_glyphs l)) (text_of xs) rest) ∙ append_assoc (line_text (line_glyphs l)) (text_of xs ++ rest) (10 ∷ []) in
+    let one = one_first draft l m ((text_of xs ++ rest) ++ 10 ∷ []) (text_of ls) a.0 b.0 (sym regrouped ∙ e) in
+    never_bare (with_line draft l) xs ls rest rule at a.1 (subst (λ some. SoundFrom (with_line draft some) ls) one.0 b.1) (subst (λ some. is_ended (after (with_line draft some) ls).section ≡ true) one.0 over) one.1 broken
 
--- the same of what a call answered
+pub never : (bytes : List ℕ) (bundle : PlainBundle) (offset : ℕ) (rule : BundleRule) → BundleText bytes bundle → Breaks bytes offset rule → ⊥
+never bytes bundle offset rule text broken =
+    let reach = page_reach text.page (subst IsBundle (sym text.says) text.rules) text.forms text.short in
+    let xs = forward broken.before [] in
+    let sound = forward_sound broken.before [] broken.sound tt in
+    let behind = subst (λ draft. BreaksBehind draft broken.rest rule broken.at) (sym (after_forward broken.before [])) broken.broken in
+    let over : is_ended (after nothing_read (lines_of text.page)).section ≡ true = ap (λ (draft : PlainDraft). is_ended draft.section) reach.leads.there ∙ reach.section in
+    let whole : text_of xs ++ broken.rest ≡ bytes = ap (λ (front : List ℕ). front ++ broken.rest) (front_text broken.before) ∙ sym broken.whole in
+    ⊎_elim (λ e. never_fed nothing_read xs (lines_of text.page) broken.rest rule broken.at sound reach.leads.sound over (whole ∙ e) behind)
+    (λ e. never_bare nothing_read xs (lines_of text.page) broken.rest rule broken.at sound reach.leads.sound over (ap (λ (some : List ℕ). some ++ 10 ∷ []) whole ∙ e) behind)
+    text.text
 
-pub result_at_end : (bytes rest line after : List ℕ) (draft : PlainDraft) (result : Result PlainBundle BundleRefused) → ReadSoFar bytes rest draft → rest ≡ line ++ 10 ∷ after → HasNoFeed line → line ≡ end_line → IfOk result (λ bundle. IsBundle bundle)
-    → MatchResult result (λ bundle. (after ≡ []) × (bundle ≡ bundle_of draft)) (λ why. IsReason why (after ≢ []))
-    → MatchResult result (λ bundle. BundleText bytes bundle) (λ why. IsReason why (IsNoBundle bytes))
-result_at_end bytes rest line after draft (Ok bundle) so_far front clean ends rules read = bundle_at_end bytes rest line after draft bundle so_far front ends read.0 read.1 rules
-result_at_end bytes rest line after draft (Err WantOfMemory) so_far front clean ends rules read = tt
-result_at_end bytes rest line after draft (Err (Malformed offset rule)) so_far front clean ends rules read = no_bundle_at_end bytes rest line after draft so_far front clean ends read
+-- one bundle
 
-pub result_at_rest : (bytes rest : List ℕ) (draft : PlainDraft) (result : Result PlainBundle BundleRefused) → ReadSoFar bytes rest draft → HasNoFeed rest → IfOk result (λ bundle. IsBundle bundle)
-    → MatchResult result (λ bundle. (rest ≡ end_line) × (bundle ≡ bundle_of draft)) (λ why. IsReason why (rest ≢ end_line))
-    → MatchResult result (λ bundle. BundleText bytes bundle) (λ why. IsReason why (IsNoBundle bytes))
-result_at_rest bytes rest draft (Ok bundle) so_far clean rules read = bundle_at_rest bytes rest draft bundle so_far read.0 read.1 rules
-result_at_rest bytes rest draft (Err WantOfMemory) so_far clean rules read = tt
-result_at_rest bytes rest draft (Err (Malformed offset rule)) so_far clean rules read = no_bundle_at_rest bytes rest draft so_far clean read
+-- what the lines of a bundle's text say, and that they are sound and end
+record Telling (bytes : List ℕ) (bundle : PlainBundle) : Type 0 where
+  lines : List PlainLine
+  sound : SoundFrom nothing_read lines
+  over : is_ended (after nothing_read lines).section ≡ true
+  says : bundle_of (after nothing_read lines) ≡ bundle
+  text : (bytes ≡ text_of lines) ⊎ (bytes ++ 10 ∷ [] ≡ text_of lines)
 
-pub refused_at_line : (bytes rest line after : List ℕ) (draft : PlainDraft) (why : BundleRefused) → ReadSoFar bytes rest draft → rest ≡ line ++ 10 ∷ after → HasNoFeed line → line ≢ end_line → IsReason why (LeadsNowhere draft line) → IsReason why (IsNoBundle bytes)
-refused_at_line bytes rest line after draft WantOfMemory so_far front clean other nothing = tt
-refused_at_line bytes rest line after draft (Malformed offset rule) so_far front clean other nothing = no_bundle_at_line bytes rest line after draft so_far front clean other nothing
+told : (bytes : List ℕ) (bundle : PlainBundle) → BundleText bytes bundle → Telling bytes bundle
+told bytes bundle text =
+    let reach = page_reach text.page (subst IsBundle (sym text.says) text.rules) text.forms text.short in
+    record {
+      lines = lines_of text.page;
+      sound = reach.leads.sound;
+      over = ap (λ (draft : PlainDraft). is_ended draft.section) reach.leads.there ∙ reach.section;
+      says = ap bundle_of reach.leads.there ∙ (reach.says ∙ text.says);
+      text = text.text;
+    }
 
--- a text is of one bundle
+same_told : (bytes : List ℕ) (bundle other : PlainBundle) (a : Telling bytes bundle) (b : Telling bytes other) → a.lines ≡ b.lines → bundle ≡ other
+same_told bytes bundle other a b e = sym a.says ∙ (ap (λ (lines : List PlainLine). bundle_of (after nothing_read lines)) e ∙ b.says)
 
-some_is : (bundle other : PlainBundle) → Some bundle ≡ Some other → bundle ≡ other
-some_is bundle other e = cc
+with_nothing : (lines : List PlainLine) → text_of lines ++ [] ≡ text_of lines
+with_nothing lines = append-nil (text_of lines)
 
-same_lines : (more others : List PlainLine) (feed : List ℕ) → All IsBundleLine more → All IsBundleLine others → (text_of more ++ the_end) ++ feed ≡ text_of others ++ the_end → more ≡ others
-same_lines more others feed a b e =
-    let parts = split others more (the_end ++ feed) b a (sym e ∙ append_assoc (text_of more) the_end feed) in
-    at_line {P = more ≡ others} parts.0 (end_line) feed parts.1 end_has_no_feed parts.3
-    (λ none ends nothing. sym (parts.2 ∙ ap (λ (rest : List PlainLine). more ++ rest) none ∙ append-nil more))
-    (λ one rest is read text. absurd (end_is_no_line one read.0 read.1))
-
-same_bundle : (more others : List PlainLine) (bundle other : PlainBundle) → more ≡ others → bundle_from nothing_read more ≡ Some bundle → bundle_from nothing_read others ≡ Some other → bundle ≡ other
-same_bundle more others bundle other e a b = some_is bundle other (sym a ∙ ap (bundle_from nothing_read) e ∙ b)
+one_told : (bytes : List ℕ) (bundle other : PlainBundle) (a : Telling bytes bundle) (b : Telling bytes other) → a.lines ≡ b.lines
+one_told bytes bundle other a b =
+    ⊎_elim
+    (λ x.
+    ⊎_elim (λ y. same_walk nothing_read a.lines b.lines [] [] a.sound b.sound a.over b.over (with_nothing a.lines ∙ (sym x ∙ (y ∙ sym (with_nothing b.lines)))))
+    (λ y. same_walk nothing_read a.lines b.lines (10 ∷ []) [] a.sound b.sound a.over b.over (ap (λ (some : List ℕ). some ++ 10 ∷ []) (sym x) ∙ (y ∙ sym (with_nothing b.lines))))
+    b.text)
+    (λ x.
+    ⊎_elim (λ y. same_walk nothing_read a.lines b.lines [] (10 ∷ []) a.sound b.sound a.over b.over (with_nothing a.lines ∙ (sym x ∙ ap (λ (some : List ℕ). some ++ 10 ∷ []) y)))
+    (λ y. same_walk nothing_read a.lines b.lines [] [] a.sound b.sound a.over b.over (with_nothing a.lines ∙ (sym x ∙ (y ∙ sym (with_nothing b.lines)))))
+    b.text)
+    a.text
 
 pub one_bundle : (bytes : List ℕ) (bundle other : PlainBundle) → BundleText bytes bundle → BundleText bytes other → bundle ≡ other
 one_bundle bytes bundle other a b =
-    let x = onward bytes bytes nothing_read bundle (nothing_so_far bytes) a in
-    let y = onward bytes bytes nothing_read other (nothing_so_far bytes) b in
-    same_bundle x.more y.more bundle other
-    (⊎_elim
-    (λ whole. same_lines x.more y.more y.feed x.lines y.lines (ap (λ (text : List ℕ). text ++ y.feed) (sym x.text ∙ ap (λ (feed : List ℕ). bytes ++ feed) whole ∙ append-nil bytes) ∙ y.text))
-    (λ fed.
-    ⊎_elim
-    (λ whole. sym (same_lines y.more x.more x.feed y.lines x.lines (ap (λ (text : List ℕ). text ++ x.feed) (sym y.text ∙ ap (λ (feed : List ℕ). bytes ++ feed) whole ∙ append-nil bytes) ∙ x.text)))
-    (λ also. same_lines x.more y.more [] x.lines y.lines (append-nil (text_of x.more ++ the_end) ∙ sym x.text ∙ ap (λ (feed : List ℕ). bytes ++ feed) (fed ∙ sym also) ∙ y.text))
-    y.short)
-    x.short)
-    x.read y.read
+    let one = told bytes bundle a in
+    let another = told bytes other b in
+    same_told bytes bundle other one another (one_told bytes bundle other one another)
 
-pub only_bundle : (bytes : List ℕ) (result : Result PlainBundle BundleRefused) → MatchResult result (λ bundle. BundleText bytes bundle) (λ why. IsReason why (IsNoBundle bytes))
+-- what is read is all that can be
+
+pub only_bundle : (bytes : List ℕ) (result : Result PlainBundle BundleRefused) → MatchResult result (λ bundle. BundleText bytes bundle) (λ why. IsRefusal why (Breaks bytes))
     → (bundle : PlainBundle) → BundleText bytes bundle → MatchResult result (λ read. read ≡ bundle) (λ why. why ≡ WantOfMemory)
-only_bundle bytes (Ok read) found bundle text = one_bundle bytes read bundle found text
-only_bundle bytes (Err WantOfMemory) found bundle text = refl
-only_bundle bytes (Err (Malformed offset rule)) found bundle text = absurd (found bundle text)
+only_bundle bytes (Ok read) is bundle text = one_bundle bytes read bundle is text
+only_bundle bytes (Err WantOfMemory) is bundle text = refl
+only_bundle bytes (Err (Malformed offset rule)) is bundle text = absurd (never bytes bundle offset rule text is)
+
+pub only_breaks : (bytes : List ℕ) (result : Result PlainBundle BundleRefused) → MatchResult result (λ bundle. BundleText bytes bundle) (λ why. IsRefusal why (Breaks bytes))
+    → (offset : ℕ) (rule : BundleRule) → Breaks bytes offset rule → MatchResult result (λ _. ⊥) (λ why. (why ≡ Malformed offset rule) ⊎ (why ≡ WantOfMemory))
+only_breaks bytes (Ok read) is offset rule broken = never bytes read offset rule is broken
+only_breaks bytes (Err WantOfMemory) is offset rule broken = inr refl
+only_breaks bytes (Err (Malformed place other)) is offset rule broken =
+    let same = breaks_once bytes place offset other rule is broken in
+    inl (ap₂ (λ p r. Malformed p r) same.0 same.1)
+
+pub no_bundle : (bytes : List ℕ) (result : Result PlainBundle BundleRefused) → MatchResult result (λ bundle. BundleText bytes bundle) (λ why. IsRefusal why (Breaks bytes))
+    → IfErr result (λ why. IsReason why (IsNoBundle bytes))
+no_bundle bytes (Ok read) is = tt
+no_bundle bytes (Err WantOfMemory) is = tt
+no_bundle bytes (Err (Malformed offset rule)) is = λ bundle text. never bytes bundle offset rule text is

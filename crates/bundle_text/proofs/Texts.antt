@@ -1,63 +1,156 @@
--- A text is cut into lines in one way.
-use Rattle.std.proofs.Common.{◌≡◌, ◌≢◌, ℕ, ◌≤◌, List, [], ◌∷◌, ◌++◌, Some, None, Result, Ok, Err, MatchResult, refl, sym, subst, ap, ◌∙◌, arith}
-use Rattle.std.specs.List.{All}
-use Rattle.std.proofs.lemmas.List.Elements.{All-head, All-tail, All-weaker}
+-- A line is read in one way.
+use Rattle.std.proofs.Common.{◌≡◌, ◌≢◌, ℕ, ◌<◌, ◌≤◌, ◌^◌, Bool, true, false, not, ◌&&◌, eqb, leb, List, [], ◌∷◌, ◌++◌, length, codes, refl, sym, ap, ◌∙◌, arith, append-nil}
+use Rattle.std.specs.Fmt.{decimal}
+use Rattle.std.specs.List.{All, list_all, flat_map, AllByRecursion}
+use Rattle.std.proofs.lemmas.Bool.{false≢true}
+use Rattle.std.proofs.lemmas.Bool.Decides.{nat_tests}
 use Rattle.std.proofs.lemmas.Fmt.{decimal_injective}
-use Rattle.apl_arrays.specs.Glyph.{IsGlyph}
+use Rattle.std.proofs.lemmas.List.Elements.{All-head, All-tail, All-weaker}
+use Rattle.apl_arrays.specs.File.{IsFileName, is_file_name, is_file_byte}
+use Rattle.apl_arrays.specs.Glyph.{IsGlyph, digit, is_digit, is_between, line_utf8, Spells}
+use Rattle.apl_arrays.specs.Run.{begins}
 use Rattle.apl_arrays.proofs.Spelling.{one_line, no_control}
 use Rattle.line_text.specs.Lines.{end_line, HasNoFeed}
-use Rattle.line_text.proofs.Ascii.{heading_utf8, content_utf8}
-use Rattle.line_text.proofs.GlyphTexts.{heading_glyphs, content_glyphs}
-use Rattle.bundle_text.specs.BundleLine.{PlainLine, user, input, IsBundleLine, IsTextOf, line_glyphs, line_spelling}
-use Rattle.bundle_text.specs.declared.refused.BundleRefused.{BundleRefused}
-use Rattle.bundle_text.specs.declared.refused.BundleRefused.TheVariants.{Malformed, WantOfMemory}
-use Rattle.bundle_text.specs.Refused.{IsReason}
-use Rattle.bundle_text.specs.Draft.{PlainDraft, draft_after, LeadsTo, LeadsNowhere}
+use Rattle.line_text.specs.Spaced.{spaced}
+use Rattle.line_text.proofs.GlyphTexts.{Glyphs, passing, plain_glyphs, spaced_glyphs, heading_glyphs, content_glyphs, end_glyphs}
+use Rattle.line_text.proofs.Spans.{both, same_span}
+use Rattle.bundle_text.specs.Rules.{IsUserNumber}
+use Rattle.bundle_text.specs.BundleLine.{PlainLine, input, user, order, file, clock, end, IsLine, IsReadingText, IsTextOf, line_glyphs}
+use Rattle.bundle_text.specs.Number.{is_numeral}
 
-pub cut : (front other after rest : List ℕ) → HasNoFeed front → HasNoFeed other → front ++ 10 ∷ after ≡ other ++ 10 ∷ rest → (front ≡ other) × (after ≡ rest)
-cut [] [] after rest a b e = (refl, cc)
-cut [] (y ∷ other) after rest a b e = absurd (All-head (λ byte. byte ≢ 10) y other b cc)
-cut (x ∷ front) [] after rest a b e = absurd (All-head (λ byte. byte ≢ 10) x front a cc)
-cut (x ∷ front) (y ∷ other) after rest a b e =
-    let head : x ≡ y = cc in
-    let tails = cut front other after rest (All-tail (λ byte. byte ≢ 10) x front a) (All-tail (λ byte. byte ≢ 10) y other b) cc in
-    (cc (head, tails.0), tails.1)
+-- a line is of glyphs
 
-glyphs_of_line : (line : PlainLine) → IsBundleLine line → All IsGlyph (line_glyphs line)
-glyphs_of_line (user number) range = heading_glyphs number (omega arith)
-glyphs_of_line (input line) glyphs = content_glyphs line glyphs
+digit_glyph : (glyph : ℕ) → is_digit glyph ≡ true → IsGlyph glyph
+digit_glyph glyph e =
+    let parts = both (leb 48 glyph) (leb glyph 57) e in
+    (grind (arith, nat_tests), grind (arith, nat_tests), λ same. grind (arith, nat_tests))
 
-pub line_has_no_feed : (line : PlainLine) → IsBundleLine line → HasNoFeed (line_spelling line)
-line_has_no_feed line rules =
-    All-weaker (λ byte. 32 ≤ byte) (λ byte. byte ≢ 10) (λ byte high e. omega arith) (line_spelling line) (no_control (line_glyphs line) (glyphs_of_line line rules))
+file_glyph : (byte : ℕ) → is_file_byte byte ≡ true → IsGlyph byte
+file_glyph byte e =
+    (grind (arith, nat_tests), grind (arith, nat_tests), λ same. grind (arith, nat_tests))
 
-abbrev first_of : List ℕ → ℕ
-first_of [] = 0
-first_of (first ∷ rest) = first
+pub numeral_digits : (word : List ℕ) → is_numeral word ≡ true → list_all is_digit word ≡ true
+numeral_digits [] e = absurd (false≢true e)
+numeral_digits (only ∷ []) e = ap (λ b. b && true) e
+numeral_digits (first ∷ next ∷ rest) e = (both (not (eqb first (digit 0))) (list_all is_digit (first ∷ next ∷ rest)) e).1
 
-differ : (a b : ℕ) → a ≡ b → a ≢ b → ⊥
-differ a b e not = not e
+words_glyphs : (words : List (List ℕ)) → list_all is_numeral words ≡ true → AllByRecursion Glyphs words
+words_glyphs [] e = tt
+words_glyphs (word ∷ words) e =
+    let parts = both (is_numeral word) (list_all is_numeral words) e in
+    (passing is_digit digit_glyph word (numeral_digits word parts.0), words_glyphs words parts.1)
 
-same_glyphs : (line other : PlainLine) → IsBundleLine line → IsBundleLine other → line_glyphs line ≡ line_glyphs other → line ≡ other
-same_glyphs (user m) (user n) a b e = ap user (decimal_injective m n (omega arith) (omega arith) cc)
-same_glyphs (user m) (input line) a b e = absurd (differ 117 124 (ap first_of e) (λ same. omega arith))
-same_glyphs (input line) (user n) a b e = absurd (differ 124 117 (ap first_of e) (λ same. omega arith))
-same_glyphs (input line) (input other) a b e = ap input cc
+pub reading_numerals : (words : List (List ℕ)) → All IsReadingText words → list_all is_numeral words ≡ true
+reading_numerals [] each = refl
+reading_numerals (word ∷ words) each =
+    rw ((All-head IsReadingText word words each).numeral, reading_numerals words (All-tail IsReadingText word words each)) refl
 
-pub same_line : (line other : PlainLine) → IsBundleLine line → IsBundleLine other → line_spelling line ≡ line_spelling other → line ≡ other
-same_line line other a b e =
-    same_glyphs line other a b (one_line (line_spelling line) (line_glyphs line) (line_glyphs other) (glyphs_of_line line a, refl) (glyphs_of_line other b, e))
+pub name_bytes : (name : List ℕ) → is_file_name name ≡ true → list_all is_file_byte name ≡ true
+name_bytes [] e = absurd (false≢true e)
+name_bytes (first ∷ rest) e = grind (arith, nat_tests)
 
-pub end_is_no_line : (line : PlainLine) → IsBundleLine line → end_line ≡ line_spelling line → ⊥
-end_is_no_line (user number) range e = differ 101 117 (ap first_of (e ∙ heading_utf8 number (omega arith))) (λ same. omega arith)
-end_is_no_line (input line) glyphs e = differ 101 124 (ap first_of (e ∙ content_utf8 line)) (λ same. omega arith)
+pub glyphs_of_line : (line : PlainLine) → IsLine line → All IsGlyph (line_glyphs line)
+glyphs_of_line (input line) form = content_glyphs line form
+glyphs_of_line (user number) form = heading_glyphs number (omega (arith, form.1))
+glyphs_of_line (order numbers) form =
+    spaced_glyphs (codes "order" ∷ numbers) (plain_glyphs (codes "order") refl, words_glyphs numbers form.1)
+glyphs_of_line (file name) form =
+    spaced_glyphs (codes "file" ∷ name ∷ []) (plain_glyphs (codes "file") refl, (passing is_file_byte file_glyph name (name_bytes name form), tt))
+glyphs_of_line (clock numbers) form =
+    spaced_glyphs (codes "clock" ∷ numbers) (plain_glyphs (codes "clock") refl, words_glyphs numbers (reading_numerals numbers form.1))
+glyphs_of_line end form = end_glyphs
 
--- a line that is read leads where the draft says
+pub line_spells : (line : PlainLine) (bytes : List ℕ) → IsTextOf line bytes → Spells bytes (line_glyphs line)
+line_spells line bytes text = (glyphs_of_line line text.0, text.1)
 
-pub line_read : (draft : PlainDraft) (bytes : List ℕ) (line : PlainLine) (result : Result PlainDraft BundleRefused) → IsTextOf line bytes
-    → MatchResult result (λ next. draft_after draft line ≡ Some next) (λ why. IsReason why (draft_after draft line ≡ None))
-    → MatchResult result (λ next. LeadsTo draft bytes next) (λ why. IsReason why (LeadsNowhere draft bytes))
-line_read draft bytes line (Ok next) text leads = (line, text, leads)
-line_read draft bytes line (Err WantOfMemory) text leads = tt
-line_read draft bytes line (Err (Malformed offset rule)) text leads =
-    λ other read. subst (λ one. draft_after draft one ≡ None) (same_line line other text.0 read.0 (sym text.1 ∙ read.1)) leads
+pub line_has_no_feed : (line : PlainLine) → IsLine line → HasNoFeed (line_utf8 (line_glyphs line))
+line_has_no_feed line form =
+    All-weaker (λ byte. 32 ≤ byte) (λ byte. byte ≢ 10) (λ byte high e. omega arith) (line_utf8 (line_glyphs line)) (no_control (line_glyphs line) (glyphs_of_line line form))
+
+-- words of digits, each behind a blank
+
+abbrev tails : List (List ℕ) → List ℕ
+tails words = flat_map (λ word. 32 ∷ word) words
+
+spaced_words : (word : List ℕ) (words : List (List ℕ)) → spaced (word ∷ words) ≡ word ++ tails words
+spaced_words word [] = sym (append-nil word)
+spaced_words word (next ∷ words) = ap (λ (rest : List ℕ). word ++ 32 ∷ rest) (spaced_words next words)
+
+no_digit_begins : (words : List (List ℕ)) → begins is_digit (tails words) ≡ false
+no_digit_begins [] = refl
+no_digit_begins (word ∷ words) = refl
+
+pub same_tails : (xs ys : List (List ℕ)) → list_all is_numeral xs ≡ true → list_all is_numeral ys ≡ true → tails xs ≡ tails ys → xs ≡ ys
+same_tails [] [] a b e = refl
+same_tails [] (y ∷ ys) a b e = absurd cc
+same_tails (x ∷ xs) [] a b e = absurd cc
+same_tails (x ∷ xs) (y ∷ ys) a b e =
+    let one = both (is_numeral x) (list_all is_numeral xs) a in
+    let other = both (is_numeral y) (list_all is_numeral ys) b in
+    let after : x ++ tails xs ≡ y ++ tails ys = cc in
+    let same = same_span is_digit x y (tails xs) (tails ys) (numeral_digits x one.0) (numeral_digits y other.0) (no_digit_begins xs) (no_digit_begins ys) after in
+    let rest = same_tails xs ys one.1 other.1 same.1 in
+    cc (same.0, rest)
+
+pub same_numbers : (xs ys : List (List ℕ)) → 0 < length xs → 0 < length ys → list_all is_numeral xs ≡ true → list_all is_numeral ys ≡ true → spaced xs ≡ spaced ys → xs ≡ ys
+same_numbers [] ys some more a b e = absurd (omega arith)
+same_numbers (x ∷ xs) [] some more a b e = absurd (omega arith)
+same_numbers (x ∷ xs) (y ∷ ys) some more a b e =
+    same_tails (x ∷ xs) (y ∷ ys) a b (ap (λ (text : List ℕ). 32 ∷ text) (sym (spaced_words x xs) ∙ (e ∙ spaced_words y ys)))
+
+-- a word in front of numbers
+behind_word : (word : List ℕ) (xs ys : List (List ℕ)) → list_all is_numeral xs ≡ true → list_all is_numeral ys ≡ true → (tails xs ≡ tails ys → xs ≡ ys)
+behind_word word xs ys a b e = same_tails xs ys a b e
+
+-- the first glyph of each line tells what it is
+
+abbrev pub first_glyph : List ℕ → ℕ
+first_glyph [] = 0
+first_glyph (first ∷ rest) = first
+
+abbrev pub tag : PlainLine → ℕ
+tag (input line) = 124
+tag (user number) = 117
+tag (order numbers) = 111
+tag (file name) = 102
+tag (clock numbers) = 99
+tag end = 101
+
+pub tag_of : (line : PlainLine) → first_glyph (line_glyphs line) ≡ tag line
+tag_of (input line) = refl
+tag_of (user number) = refl
+tag_of (order []) = refl
+tag_of (order (word ∷ numbers)) = refl
+tag_of (file name) = refl
+tag_of (clock []) = refl
+tag_of (clock (word ∷ numbers)) = refl
+tag_of end = refl
+
+order_tails : (numbers : List (List ℕ)) → spaced (codes "order" ∷ numbers) ≡ codes "order" ++ tails numbers
+order_tails numbers = spaced_words (codes "order") numbers
+
+clock_tails : (numbers : List (List ℕ)) → spaced (codes "clock" ∷ numbers) ≡ codes "clock" ++ tails numbers
+clock_tails numbers = spaced_words (codes "clock") numbers
+
+same_glyphs : (line other : PlainLine) → tag line ≡ tag other → line_glyphs line ≡ line_glyphs other → IsLine line → IsLine other → line ≡ other
+same_glyphs (input line) (input other) t e a b = ap input cc
+same_glyphs (user m) (user n) t e a b =
+    let digits : decimal m ≡ decimal n = cc in
+    ap user (decimal_injective m n (omega (arith, a.1)) (omega (arith, b.1)) digits)
+same_glyphs (order xs) (order ys) t e a b =
+    let whole : codes "order" ++ tails xs ≡ codes "order" ++ tails ys = sym (order_tails xs) ∙ (e ∙ order_tails ys) in
+    let rest : tails xs ≡ tails ys = cc in
+    ap order (same_tails xs ys a.1 b.1 rest)
+same_glyphs (file x) (file y) t e a b = ap file cc
+same_glyphs (clock xs) (clock ys) t e a b =
+    let whole : codes "clock" ++ tails xs ≡ codes "clock" ++ tails ys = sym (clock_tails xs) ∙ (e ∙ clock_tails ys) in
+    let rest : tails xs ≡ tails ys = cc in
+    ap clock (same_tails xs ys (reading_numerals xs a.1) (reading_numerals ys b.1) rest)
+same_glyphs end end t e a b = refl
+same_glyphs _ _ t e a b = absurd (omega (arith, t))
+
+-- bytes are the text of one line at the most
+pub same_line : (line other : PlainLine) (bytes : List ℕ) → IsTextOf line bytes → IsTextOf other bytes → line ≡ other
+same_line line other bytes a b =
+    let glyphs = one_line bytes (line_glyphs line) (line_glyphs other) (line_spells line bytes a) (line_spells other bytes b) in
+    same_glyphs line other (sym (tag_of line) ∙ (ap first_glyph glyphs ∙ tag_of other)) glyphs a.0 b.0

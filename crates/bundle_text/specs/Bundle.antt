@@ -1,58 +1,66 @@
--- What a bundle is, and the text in which it is written.
-use Rattle.std.specs.Prelude.{◌≡◌, ◌⊎◌, ℕ, ◌≤◌, List, [], ◌∷◌, ◌++◌, length, All}
+-- A bundle as it is written, and the grammar: which bytes are the text of which bundle.
+use Rattle.std.specs.Prelude.{◌≡◌, ◌⊎◌, ℕ, pos, ◌<◌, IsTrue, List, [], ◌∷◌, ◌++◌, length, map, All}
 use Rattle.std.specs.List.{flat_map}
-use Rattle.apl_arrays.specs.Glyph.{IsGlyph}
-use Rattle.apl_arrays.specs.Limits.{most_line_glyphs, most_user_lines}
-use Rattle.apl_arrays.specs.Parties.{first_user, last_user}
-use Rattle.line_text.specs.Lines.{line_feed, user_lines, end_line, lines_text}
-use Rattle.apl_arrays.specs.Ascending.{AscendBy}
+use Rattle.apl_arrays.specs.FileList.{PlainFile}
+use Rattle.line_text.specs.Lines.{line_feed, lines_text}
+pub use Rattle.bundle_text.specs.Rules.{PlainBundle, IsBundle}
+use Rattle.bundle_text.specs.Rules.{IsContent}
+use Rattle.bundle_text.specs.BundleLine.{PlainLine, input, user, order, file, clock, end, IsLine, line_glyphs}
+use Rattle.bundle_text.specs.Number.{value_of}
 use Rattle.bundle_text.specs.User.{PlainUser}
 
--- the most users that this reader takes
-abbrev pub most_read_users : ℕ
-most_read_users = 2
+-- a file as it is written: its name and its lines
+pub record Sheet : Type 0 where
+  pub name : List ℕ
+  pub lines : List (List ℕ)
 
--- a bundle as plain data
-pub record PlainBundle : Type 0 where
+-- a bundle as it is written: users, lines of turns, files, lines of readings; the numbers by their digits
+pub record Page : Type 0 where
   pub users : List PlainUser
+  pub orders : List (List (List ℕ))
+  pub files : List Sheet
+  pub clocks : List (List (List ℕ))
 
--- glyphs, 1,000 at the most
-pub record IsUserLine (line : List ℕ) : Type 0 where
-  pub glyphs : All IsGlyph line
-  pub short : length line ≤ most_line_glyphs
+-- the heading of a user and its lines
+abbrev pub user_section : PlainUser → List PlainLine
+user_section one = user one.number ∷ map (λ line. input line) one.lines
 
--- the number of a user: 1001 to 1999
-abbrev pub IsUserNumber : ℕ → Type 0
-IsUserNumber number = (first_user ≤ number) × (number ≤ last_user)
+-- the heading of a file and its lines
+abbrev pub file_section : Sheet → List PlainLine
+file_section sheet = file sheet.name ∷ map (λ line. input line) sheet.lines
 
--- a user's number, and 10,000 lines at the most
-pub record IsUser (user : PlainUser) : Type 0 where
-  pub number : IsUserNumber user.number
-  pub few : length user.lines ≤ most_user_lines
-  pub each : All IsUserLine user.lines
+-- the lines of a page: users, turns, files, readings, and the end
+abbrev pub lines_of : Page → List PlainLine
+lines_of page =
+    flat_map user_section page.users ++ map (λ numbers. order numbers) page.orders ++ flat_map file_section page.files
+    ++ map (λ numbers. clock numbers) page.clocks ++ end ∷ []
 
--- what the rules ask of a bundle
-pub record IsBundle (bundle : PlainBundle) : Type 0 where
-  pub few : length bundle.users ≤ most_read_users
-  pub ascending : AscendBy (λ user. user.number) bundle.users
-  pub each : All IsUser bundle.users
+-- a file's bytes are its lines, each with its line feed
+abbrev pub file_of : Sheet → PlainFile
+file_of sheet = record { name = sheet.name; bytes = lines_text sheet.lines }
 
--- a user's heading and lines
-abbrev pub lines_of_user : PlainUser → List (List ℕ)
-lines_of_user user = user_lines user.number user.lines
+-- the bundle that a page says: the numbers of several lines are taken in order
+abbrev pub said_by : Page → PlainBundle
+said_by page = record {
+  users = page.users;
+  order = map value_of (flat_map (λ numbers. numbers) page.orders);
+  files = map file_of page.files;
+  clock = map (λ digits. pos (value_of digits)) (flat_map (λ numbers. numbers) page.clocks);
+}
 
--- all lines: those of the users, and the end
-abbrev pub bundle_lines : PlainBundle → List (List ℕ)
-bundle_lines bundle = flat_map lines_of_user bundle.users ++ end_line ∷ []
+-- the bytes of lines, each with its line feed
+abbrev pub text_of : List PlainLine → List ℕ
+text_of lines = lines_text (map line_glyphs lines)
 
--- the text of a bundle
-abbrev pub bundle_spelling : PlainBundle → List ℕ
-bundle_spelling bundle = lines_text (bundle_lines bundle)
-
--- the bytes are the text of this bundle, whose last line feed may be missing
+-- the bytes are the text of this bundle: of a page that says it, each line in its form, the lines of files no longer than
+-- those of users; the last line feed may be missing
 pub record BundleText (bytes : List ℕ) (bundle : PlainBundle) : Type 0 where
   pub rules : IsBundle bundle
-  pub text : (bytes ≡ bundle_spelling bundle) ⊎ (bytes ++ line_feed ∷ [] ≡ bundle_spelling bundle)
+  pub page : Page
+  pub says : said_by page ≡ bundle
+  pub forms : All IsLine (lines_of page)
+  pub short : All (λ sheet. All IsContent sheet.lines) page.files
+  pub text : (bytes ≡ text_of (lines_of page)) ⊎ (bytes ++ line_feed ∷ [] ≡ text_of (lines_of page))
 
 -- the bytes are the text of no bundle
 abbrev pub IsNoBundle : List ℕ → Type 0

@@ -1,50 +1,55 @@
-use Rattle.std.specs.Prelude.{◌≡◌, ◌≢◌, ℕ, List, All, decimal}
-use Rattle.apl_arrays.specs.Glyph.{IsGlyph, line_utf8, Spells}
-use Rattle.line_text.specs.Lines.{heading, content}
-use Rattle.bundle_text.specs.declared.line.BundleLine.{BundleLine}
-use Rattle.bundle_text.specs.declared.line.BundleLine.TheVariants.{User, Content}
-use Rattle.bundle_text.specs.Bundle.{IsUserNumber}
+-- What a line of a bundle is.
+use Rattle.std.specs.Prelude.{◌≡◌, ◌≢◌, ℕ, ◌≤◌, ◌<◌, IsTrue, List, [], ◌∷◌, ◌++◌, All, length, codes}
+use Rattle.std.specs.List.{list_all}
+use Rattle.apl_arrays.specs.File.{IsFileName}
+use Rattle.apl_arrays.specs.Glyph.{IsGlyph, bar, line_utf8}
+use Rattle.line_text.specs.Lines.{heading, content, end_line, line_text}
+use Rattle.line_text.specs.Spaced.{spaced}
+use Rattle.bundle_text.specs.Rules.{IsUserNumber}
+use Rattle.bundle_text.specs.Limits.{greatest_reading}
+use Rattle.bundle_text.specs.Number.{is_numeral, value_of}
 
--- a line before the end as plain data: the heading of a user, or a line of input
+-- a line as plain data: glyphs behind a bar; the heading of a user; turns, by the digits of their parties; the heading of a
+-- file; readings, by their digits; the end
 pub data PlainLine : Type 0 where
-  user : ℕ → PlainLine
   input : List ℕ → PlainLine
+  user : ℕ → PlainLine
+  order : List (List ℕ) → PlainLine
+  file : List ℕ → PlainLine
+  clock : List (List ℕ) → PlainLine
+  end : PlainLine
 
--- a line, whatever room is left in it
-abbrev pub plain_line : BundleLine → PlainLine
-plain_line (User number) = user number
-plain_line (Content line) = input line.items
+-- the digits of a reading
+pub record IsReadingText (digits : List ℕ) : Type 0 where
+  pub numeral : IsTrue (is_numeral digits)
+  pub small : value_of digits ≤ greatest_reading
 
--- a line that can stand in a bundle
-abbrev pub IsBundleLine : PlainLine → Type 0
-IsBundleLine (user number) = IsUserNumber number
-IsBundleLine (input line) = All IsGlyph line
+-- a content line of glyphs, or a heading whose numbers and names are in their ranges; an order names any numbers
+abbrev pub IsLine : PlainLine → Type 0
+IsLine (input line) = All IsGlyph line
+IsLine (user number) = IsUserNumber number
+IsLine (order numbers) = (0 < length numbers) × IsTrue (list_all is_numeral numbers)
+IsLine (file name) = IsFileName name
+IsLine (clock numbers) = (0 < length numbers) × All IsReadingText numbers
+IsLine end = Unit {0}
 
--- the glyphs of a line
+-- the glyphs of a line: a word, and one blank before each number or name
 abbrev pub line_glyphs : PlainLine → List ℕ
-line_glyphs (user number) = heading number
 line_glyphs (input line) = content line
+line_glyphs (user number) = heading number
+line_glyphs (order numbers) = spaced (codes "order" ∷ numbers)
+line_glyphs (file name) = spaced (codes "file" ∷ name ∷ [])
+line_glyphs (clock numbers) = spaced (codes "clock" ∷ numbers)
+line_glyphs end = end_line
 
--- the text of a line
-abbrev pub line_spelling : PlainLine → List ℕ
-line_spelling line = line_utf8 (line_glyphs line)
-
--- the bytes are the text of this line
+-- the bytes are the text of this line, without its line feed
 abbrev pub IsTextOf : PlainLine → List ℕ → Type 0
-IsTextOf line bytes = IsBundleLine line × (bytes ≡ line_spelling line)
+IsTextOf line bytes = IsLine line × (bytes ≡ line_utf8 (line_glyphs line))
 
 -- the bytes are the text of no line
 abbrev pub IsNoLine : List ℕ → Type 0
 IsNoLine bytes = (line : PlainLine) → ¬ IsTextOf line bytes
 
--- the digits are those of no user's number
-abbrev pub IsNoNumber : List ℕ → Type 0
-IsNoNumber digits = (number : ℕ) → IsUserNumber number → digits ≢ decimal number
-
--- the bytes are the heading of no user
-abbrev pub IsNoHeading : List ℕ → Type 0
-IsNoHeading bytes = (number : ℕ) → IsUserNumber number → bytes ≢ line_utf8 (heading number)
-
--- the bytes spell no line of glyphs
-abbrev pub SpellsNothing : List ℕ → Type 0
-SpellsNothing bytes = (line : List ℕ) → ¬ Spells bytes line
+-- no bar stands in front
+abbrev pub IsNoContent : List ℕ → Type 0
+IsNoContent bytes = (rest : List ℕ) → bytes ≢ bar ∷ rest

@@ -1,60 +1,139 @@
--- A bundle that is read line by line.
-use Rattle.std.specs.Prelude.{◌≡◌, ℕ, ◌≤◌, true, ◌&&◌, nat_lt, nat_le, List, [], ◌∷◌, ◌++◌, length, All, Option, Some, None, option_to_list, if◌then◌else◌}
-use Rattle.std.specs.Option.{option_map_or}
-use Rattle.apl_arrays.specs.Limits.{most_line_glyphs, most_user_lines}
-use Rattle.apl_arrays.specs.Ascending.{AscendBy}
+-- What lines say, and where a line may stand behind others.
+use Rattle.std.specs.Prelude.{ℕ, ℤ, pos, ◌≡◌, ◌+◌, ◌&&◌, Bool, true, false, not, IsTrue, nat_lt, nat_le, List, [], ◌∷◌, ◌++◌, length, map}
+use Rattle.std.specs.List.{list_all}
+use Rattle.std.specs.Ordering.{is_lt}
+use Rattle.apl_arrays.specs.FileList.{PlainFile}
+use Rattle.apl_arrays.specs.Limits.{most_line_glyphs, most_user_lines, most_users}
+use Rattle.apl_arrays.specs.Name.{name_order}
+use Rattle.line_text.specs.Lines.{line_text}
+use Rattle.bundle_text.specs.Rules.{PlainBundle, is_party}
+use Rattle.bundle_text.specs.BundleLine.{PlainLine, input, user, order, file, clock, end, IsLine}
+use Rattle.bundle_text.specs.Limits.{most_turns, most_files, most_readings}
+use Rattle.bundle_text.specs.Number.{value_of}
 use Rattle.bundle_text.specs.User.{PlainUser}
-use Rattle.bundle_text.specs.Bundle.{most_read_users, PlainBundle, IsUser}
-use Rattle.bundle_text.specs.BundleLine.{PlainLine, user, input, IsTextOf}
 
--- the users that are whole, and the one whose lines are read
+-- what the last heading began: nothing yet, the lines of a user so far, turns, a file's bytes so far, readings, or the end
+pub data PlainSection : Type 0 where
+  start : PlainSection
+  of_user : PlainUser → PlainSection
+  turns : PlainSection
+  of_file : PlainFile → PlainSection
+  readings : PlainSection
+  ended : PlainSection
+
+-- what lines say: the users and the files that are whole, turns, readings, and what the last heading began
 pub record PlainDraft : Type 0 where
   pub users : List PlainUser
-  pub current : Option PlainUser
+  pub order : List ℕ
+  pub files : List PlainFile
+  pub clock : List ℤ
+  pub section : PlainSection
 
--- nothing is read
+-- no line says anything
 abbrev pub nothing_read : PlainDraft
-nothing_read = record { users = []; current = None }
+nothing_read = record { users = []; order = []; files = []; clock = []; section = start }
+
+-- users, and the one whose lines come
+abbrev pub users_with : List PlainUser → PlainSection → List PlainUser
+users_with users (of_user one) = users ++ one ∷ []
+users_with users _ = users
+
+-- files, and the one whose lines come
+abbrev pub files_with : List PlainFile → PlainSection → List PlainFile
+files_with files (of_file one) = files ++ one ∷ []
+files_with files _ = files
 
 -- all users so far
 abbrev pub users_of : PlainDraft → List PlainUser
-users_of draft = draft.users ++ option_to_list draft.current
+users_of draft = users_with draft.users draft.section
 
--- a heading begins a user, whose number is above the one before
-abbrev pub after_heading : PlainDraft → ℕ → Option PlainDraft
-after_heading draft number =
-    if option_map_or (λ last. nat_lt last.number number) draft.current true && nat_lt (length (users_of draft)) most_read_users
-    then Some (record { users = users_of draft; current = Some (record { number = number; lines = [] }) })
-    else None
+-- all files so far
+abbrev pub files_of : PlainDraft → List PlainFile
+files_of draft = files_with draft.files draft.section
 
--- a line goes to the user whose lines are read
-abbrev pub after_input : PlainDraft → Option PlainUser → List ℕ → Option PlainDraft
-after_input draft None line = None
-after_input draft (Some last) line =
-    if nat_lt (length last.lines) most_user_lines && nat_le (length line) most_line_glyphs
-    then Some (record { users = draft.users; current = Some (record { number = last.number; lines = last.lines ++ line ∷ [] }) })
-    else None
+-- where a content line may stand: under the heading of a user or of a file
+abbrev pub takes_content : PlainSection → Bool
+takes_content (of_user one) = true
+takes_content (of_file one) = true
+takes_content _ = false
 
--- what one line makes of a draft, where it may stand there
-abbrev pub draft_after : PlainDraft → PlainLine → Option PlainDraft
-draft_after draft (user number) = after_heading draft number
-draft_after draft (input line) = after_input draft draft.current line
+-- where a user may stand: at the front, or behind a user of a lower number
+abbrev pub takes_user : PlainSection → ℕ → Bool
+takes_user start number = true
+takes_user (of_user last) number = nat_lt last.number number
+takes_user _ number = false
 
--- the bundle of a draft
+-- where turns may stand: at the front, behind users, or behind turns
+abbrev pub takes_turns : PlainSection → Bool
+takes_turns start = true
+takes_turns (of_user one) = true
+takes_turns turns = true
+takes_turns _ = false
+
+-- where a file may stand: where turns may, or behind a file whose name is before its own
+abbrev pub takes_file : PlainSection → List ℕ → Bool
+takes_file (of_file last) name = is_lt (name_order last.name name)
+takes_file readings name = false
+takes_file ended name = false
+takes_file _ name = true
+
+-- the end was read
+abbrev pub is_ended : PlainSection → Bool
+is_ended ended = true
+is_ended _ = false
+
+-- where a line may stand
+abbrev pub may_stand : PlainSection → PlainLine → Bool
+may_stand section (input line) = takes_content section
+may_stand section (user number) = takes_user section number
+may_stand section (order numbers) = takes_turns section
+may_stand section (file name) = takes_file section name
+may_stand section (clock numbers) = not (is_ended section)
+may_stand section end = not (is_ended section)
+
+-- an order names parties alone
+abbrev pub names_parties : List PlainUser → PlainLine → Bool
+names_parties users (order numbers) = list_all (λ digits. is_party users (value_of digits)) numbers
+names_parties users _ = true
+
+-- a user has room for one line more
+abbrev pub has_room : PlainSection → Bool
+has_room (of_user one) = nat_lt (length one.lines) most_user_lines
+has_room _ = true
+
+-- no limit is passed with this line
+abbrev pub keeps_limits : PlainDraft → PlainLine → Bool
+keeps_limits draft (input line) = has_room draft.section && nat_le (length line) most_line_glyphs
+keeps_limits draft (user number) = nat_lt (length (users_of draft)) most_users
+keeps_limits draft (order numbers) = nat_le (length draft.order + length numbers) most_turns
+keeps_limits draft (file name) = nat_lt (length (files_of draft)) most_files
+keeps_limits draft (clock numbers) = nat_le (length draft.clock + length numbers) most_readings
+keeps_limits draft end = true
+
+-- a section with one content line more
+abbrev pub longer : PlainSection → List ℕ → PlainSection
+longer (of_user one) line = of_user (record { number = one.number; lines = one.lines ++ line ∷ [] })
+longer (of_file one) line = of_file (record { name = one.name; bytes = one.bytes ++ line_text line })
+longer section line = section
+
+-- a section begins, so that the one before it is whole
+abbrev pub begun : PlainDraft → PlainSection → PlainDraft
+begun draft section = record { users = users_of draft; order = draft.order; files = files_of draft; clock = draft.clock; section = section }
+
+-- what lines say with one line more
+abbrev pub with_line : PlainDraft → PlainLine → PlainDraft
+with_line draft (input line) = record draft { section = longer draft.section line }
+with_line draft (user number) = begun draft (of_user (record { number = number; lines = [] }))
+with_line draft (order numbers) = record (begun draft turns) { order = draft.order ++ map value_of numbers }
+with_line draft (file name) = begun draft (of_file (record { name = name; bytes = [] }))
+with_line draft (clock numbers) = record (begun draft readings) { clock = draft.clock ++ map (λ digits. pos (value_of digits)) numbers }
+with_line draft end = begun draft ended
+
+-- what lines say, the last one first
+abbrev pub said : List PlainLine → PlainDraft
+said [] = nothing_read
+said (line ∷ before) = with_line (said before) line
+
+-- the bundle of what was said
 abbrev pub bundle_of : PlainDraft → PlainBundle
-bundle_of draft = record { users = users_of draft }
-
--- what a draft keeps: all rules of bundles
-pub record IsDraft (draft : PlainDraft) : Type 0 where
-  pub first : draft.current ≡ None → draft.users ≡ []
-  pub few : length (users_of draft) ≤ most_read_users
-  pub ascending : AscendBy (λ user. user.number) (users_of draft)
-  pub each : All IsUser (users_of draft)
-
--- the bytes are a line that leads from one draft to the next
-abbrev pub LeadsTo : PlainDraft → List ℕ → PlainDraft → Type 0
-LeadsTo draft bytes next = (line : PlainLine) × IsTextOf line bytes × (draft_after draft line ≡ Some next)
-
--- the bytes are no line that may stand there
-abbrev pub LeadsNowhere : PlainDraft → List ℕ → Type 0
-LeadsNowhere draft bytes = (line : PlainLine) → IsTextOf line bytes → draft_after draft line ≡ None
+bundle_of draft = record { users = users_of draft; order = draft.order; files = files_of draft; clock = draft.clock }

@@ -1,6 +1,15 @@
+pub mod Breaks
 pub mod Bundle
 pub mod BundleLine
 pub mod Draft
+pub mod Heading
+pub mod Limits
+pub mod Number
 pub mod Offset
+pub mod Parts
 pub mod Refused
+pub mod Rules
+pub mod Section
+pub mod Step
 pub mod User
+pub mod Word

@@ -2,7 +2,10 @@
 use Rattle.std.specs.Prelude.{ℕ, zero, suc, List, [], ◌∷◌, ◌++◌, length, take}
 use Rattle.line_text.specs.Lines.{user_lines, lines_text}
 use Rattle.bundle_text.specs.User.{PlainUser}
-use Rattle.bundle_text.specs.Bundle.{lines_of_user}
+
+-- a user's heading and lines
+abbrev pub lines_of_user : PlainUser → List (List ℕ)
+lines_of_user user = user_lines user.number user.lines
 
 -- the lines in front of a line of a user, both counted from 0: those of the users before it, its heading, and so many
 -- of its lines; all lines of all users where there is no such user

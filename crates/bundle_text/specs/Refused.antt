@@ -14,8 +14,12 @@ rule_text Party = codes "party"
 rule_text Limit = codes "limit"
 rule_text End = codes "end"
 
--- what has to be true where this is answered: the fact for Malformed, of whose offset and rule nothing is said, and
--- nothing where memory ran out
+-- what has to be true of the offset and the rule where Malformed is answered; nothing where memory ran out
+abbrev pub IsRefusal : BundleRefused → (ℕ → BundleRule → Type 0) → Type 0
+IsRefusal (Malformed offset rule) fact = fact offset rule
+IsRefusal WantOfMemory fact = Unit {0}
+
+-- what has to be true where Malformed is answered; nothing where memory ran out
 abbrev pub IsReason : BundleRefused → Type 0 → Type 0
 IsReason (Malformed offset rule) fact = fact
 IsReason WantOfMemory fact = Unit {0}

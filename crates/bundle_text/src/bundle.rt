@@ -1,35 +1,50 @@
 ghost use Rattle.std.specs.Prelude.{◌≡◌, map};
+ghost use Rattle.apl_arrays.specs.FileList.{plain_file};
 ghost use Rattle.bundle_text.specs.User.{plain_user};
-ghost use Rattle.bundle_text.specs.Bundle.{IsBundle};
+ghost use Rattle.bundle_text.specs.Rules.{IsBundle};
 ghost use Rattle.bundle_text.specs.Offset.{offset_of};
 
 use crate::offset::offset_of;
 use crate::user::{BundleUser, UserList};
+use apl_arrays::{File, FileList, PartyList, Readings};
 use std::marker::Model;
 
-/// A bundle: users and the lines of their input. It keeps the rules of bundles, and is seen as plain data.
+/// What a bundle has: users and the lines of their input, the parties of turns, files, and the readings of a clock.
+#[derive(Debug, Drop)]
+pub struct BundleParts {
+    pub users: UserList,
+    pub order: PartyList,
+    pub files: FileList,
+    pub clock: Readings,
+}
+
+/// A bundle: users and the lines of their input, the parties of turns, files, and the readings of a clock. It keeps the
+/// rules of bundles, and is seen as plain data.
 #[derive(Debug, Drop)]
 pub struct Bundle {
-    users: UserList,
+    parts: BundleParts,
 }
 
 impl Model for Bundle {
-    ghost use Rattle.bundle_text.specs.Bundle.{PlainBundle, IsBundle};
+    ghost use Rattle.bundle_text.specs.Rules.{PlainBundle, IsBundle};
+    ghost use Rattle.bundle_text.specs.Parts.{plain_parts};
 
     ghost Value = { PlainBundle };
 
-    ghost view = { λ b. record { users = b.users.items } };
+    ghost view = { λ b. plain_parts b.parts };
 
-    ghost invariant = { λ b. IsBundle (record { users = b.users.items }) };
+    ghost invariant = { λ b. IsBundle (plain_parts b.parts) };
 }
 
 impl Bundle {
-    // The bundle of users that keep the rules.
-    pub(crate) fn of_users(users: UserList) -> Bundle
-        requires { IsBundle (record { users = users.items }) }
-        ensures { result.users ≡ users.items }
+    ghost use Rattle.bundle_text.specs.Parts.{plain_parts};
+
+    // The bundle of parts that keep the rules.
+    pub(crate) fn of_parts(parts: BundleParts) -> Bundle
+        requires { IsBundle (plain_parts parts) }
+        ensures { result ≡ plain_parts parts }
     {
-        Bundle { users }
+        Bundle { parts }
     }
 
     /// The users, their numbers ascending. No memory.
@@ -37,7 +52,31 @@ impl Bundle {
         ensures value { map plain_user result.now ≡ self.now.users }
         ensures bundle { IsBundle self.now }
     {
-        self.users.as_slice()
+        self.parts.users.as_slice()
+    }
+
+    /// The parties that take the first turns, one after another. No memory.
+    pub fn order(&self) -> &[u32]
+        ensures value { result.now ≡ self.now.order }
+        ensures bundle { IsBundle self.now }
+    {
+        self.parts.order.as_slice()
+    }
+
+    /// The files, their names ascending. No memory.
+    pub fn files(&self) -> &[File]
+        ensures value { map plain_file result.now ≡ self.now.files }
+        ensures bundle { IsBundle self.now }
+    {
+        self.parts.files.as_slice()
+    }
+
+    /// The readings of the clock, the first one first. No memory.
+    pub fn clock(&self) -> &[i64]
+        ensures value { result.now ≡ self.now.clock }
+        ensures bundle { IsBundle self.now }
+    {
+        self.parts.clock.as_slice()
     }
 
     /// The users as a list. No memory.
@@ -45,14 +84,29 @@ impl Bundle {
         ensures value { result.items ≡ self.users }
         ensures bundle { IsBundle self }
     {
-        self.users
+        let BundleParts {
+            users,
+            order: _order,
+            files: _files,
+            clock: _clock,
+        } = self.parts;
+        users
+    }
+
+    /// All that it has. No memory.
+    pub fn into_parts(self) -> BundleParts
+        ensures value { plain_parts result ≡ self }
+        ensures bundle { IsBundle self }
+    {
+        self.parts
     }
 
     /// Where a line of a user begins in the bundle's text, both counted from 0: how many bytes stand in front of its bar.
-    /// A line past the user's last stands where its lines end, and a user past the last where the end stands. No memory.
+    /// A line past the user's last stands where its lines end, and a user past the last where the lines of users end. No
+    /// memory.
     pub fn offset_of(&self, user: usize, line: usize) -> u64
         ensures { result ≡ offset_of self.now.users user line }
     {
-        offset_of(self.users.as_slice(), user, line)
+        offset_of(self.parts.users.as_slice(), user, line)
     }
 }

@@ -1,11 +1,11 @@
 ghost use Rattle.std.specs.Prelude.{◌≡◌, ◌*◌, ◌≤◌, ℕ, All, length, map, take};
 ghost use Rattle.std.specs.List.{flat_map};
 ghost use Rattle.apl_arrays.specs.List.{glyphs_in};
-ghost use Rattle.apl_arrays.specs.Limits.{most_user_lines};
+ghost use Rattle.apl_arrays.specs.Limits.{most_user_lines, most_users};
 ghost use Rattle.line_text.specs.Lines.{content, user_lines, lines_text};
 ghost use Rattle.bundle_text.specs.User.{plain_user};
-ghost use Rattle.bundle_text.specs.Bundle.{most_read_users, lines_of_user, IsUserLine, IsUser};
-ghost use Rattle.bundle_text.specs.Offset.{offset_of};
+ghost use Rattle.bundle_text.specs.Rules.{IsContent, IsUser};
+ghost use Rattle.bundle_text.specs.Offset.{lines_of_user, offset_of};
 
 use crate::user::BundleUser;
 use apl_arrays::Line;
@@ -14,7 +14,7 @@ use line_text::{heading_size, line_size};
 // How many bytes lines of input take, each with its bar.
 fn contents_size(lines: &[Line]) -> u64
     requires few { length lines.now ≤ most_user_lines }
-    requires each { All IsUserLine (map glyphs_in lines.now) }
+    requires each { All IsContent (map glyphs_in lines.now) }
     ensures value { result ≡ length (lines_text (map content (map glyphs_in lines.now))) }
     ensures small { result ≤ 3002 * length lines.now }
 {
@@ -37,7 +37,7 @@ fn front_size(user: &BundleUser, line: usize) -> u64
 
 // How many bytes users take, with all their lines.
 fn users_size(users: &[BundleUser]) -> u64
-    requires few { length users.now ≤ most_read_users }
+    requires few { length users.now ≤ most_users }
     requires each { All IsUser (map plain_user users.now) }
     ensures value { result ≡ length (lines_text (flat_map lines_of_user (map plain_user users.now))) }
     ensures small { result ≤ 30020026 * length users.now }
@@ -49,9 +49,9 @@ fn users_size(users: &[BundleUser]) -> u64
     size
 }
 
-/// How many bytes stand in front of a line of a user, both counted from 0; in front of the end where there is no such user.
+/// How many bytes stand in front of a line of a user, both counted from 0; in front of what follows the users where there is no such user.
 pub fn offset_of(users: &[BundleUser], user: usize, line: usize) -> u64
-    requires few { length users.now ≤ most_read_users }
+    requires few { length users.now ≤ most_users }
     requires each { All IsUser (map plain_user users.now) }
     ensures { result ≡ offset_of (map plain_user users.now) user line }
 {

@@ -1,114 +1,138 @@
-ghost use Rattle.std.specs.Prelude.{◌≡◌, ◌≢◌, ◌+◌, ◌<◌, ◌^◌, [], ◌∷◌, ◌++◌, All, IsTrue, ◌↔◌, IfOk, IfErr, ℕ, List, length, MatchOption, MatchResult};
-ghost use Rattle.line_text.specs.Lines.{line_feed, end_line};
-ghost use Rattle.bundle_text.specs.Bundle.{PlainBundle, IsBundle, BundleText, IsNoBundle};
-ghost use Rattle.bundle_text.specs.Draft.{bundle_of, LeadsTo, LeadsNowhere};
-ghost use Rattle.bundle_text.specs.Refused.{IsReason};
+ghost use Rattle.std.specs.Prelude.{◌≡◌, ◌≢◌, ◌⊎◌, ◌+◌, ◌<◌, ◌^◌, [], ◌∷◌, ◌++◌, ℕ, List, Bool, true, false, IfOk, IfErr, IsTrue, length, MatchResult};
+ghost use Rattle.line_text.specs.Lines.{end_line, HasNoFeed};
+ghost use Rattle.bundle_text.specs.Breaks.{Breaks};
+ghost use Rattle.bundle_text.specs.Rules.{PlainBundle, IsBundle};
+ghost use Rattle.bundle_text.specs.BundleLine.{IsNoContent};
+ghost use Rattle.bundle_text.specs.Draft.{PlainDraft, bundle_of, is_ended};
+ghost use Rattle.bundle_text.specs.Bundle.{BundleText, IsNoBundle};
+ghost use Rattle.bundle_text.specs.Refused.{IsReason, IsRefusal};
+ghost use Rattle.bundle_text.specs.Step.{AddsText, IsGlyphOr, IsLineBroken, IsReadTo};
 
 use crate::Bundle;
 use crate::draft::Draft;
-use crate::line::{bundle_line, glyphs_at};
+use crate::glyphs::glyph_count_at;
+use crate::heading::{heading_of, is_end};
 use crate::refused::{BundleRefused, BundleRule};
 use line_text::first_line;
 use std::alloc::Global;
 
-fn is_end(line: &[u8]) -> bool
-    ensures { IsTrue result ↔ (line.now ≡ end_line) }
+// Why a line is refused that breaks this rule where all its bytes spell glyphs. It stands at the offset.
+fn refused_line(line: &[u8], rule: BundleRule, offset: u64) -> BundleRefused
+    requires { offset + length line.now < 2 ^ 64 }
+    ensures { IsRefusal result (IsGlyphOr line.now offset offset rule) }
 {
-    line == b"end".as_slice()
+    match glyph_count_at(line, offset) {
+        Ok(_) => BundleRefused::malformed(offset, rule),
+        Err(why) => why,
+    }
 }
 
-// Why a last line is refused that no line feed ends, and that is not the end.
-fn unended(alloc: Global, rest: &[u8], offset: u64) -> BundleRefused
-    requires { offset + length rest.now < 2 ^ 64 }
+// Adds a line that is no content line, which stands at the offset.
+fn add_other_line(
+    alloc: Global,
+    draft: &mut Draft,
+    line: &[u8],
+    offset: u64,
+) -> Result<(), BundleRefused>
+    requires bundle { IsBundle (bundle_of draft.old) }
+    requires offset { offset + length line.now < 2 ^ 64 }
+    requires other { IsNoContent line.now }
+    ensures { AddsText draft.old line.now draft.new offset result }
+{
+    match heading_of(alloc, line)? {
+        None => Err(refused_line(line, BundleRule::Form, offset)),
+        Some(heading) => draft.add_heading(alloc, heading, offset),
+    }
+}
+
+// Adds a line, which stands at the offset.
+fn add_line(alloc: Global, draft: &mut Draft, line: &[u8], offset: u64) -> Result<(), BundleRefused>
+    requires bundle { IsBundle (bundle_of draft.old) }
+    requires offset { offset + length line.now < 2 ^ 64 }
+    ensures { AddsText draft.old line.now draft.new offset result }
+{
+    match line.strip_prefix(b"|") {
+        None => add_other_line(alloc, draft, line, offset),
+        Some(text) => draft.add_content(alloc, text, offset),
+    }
+}
+
+// Adds what stands behind the last line feed, at the offset: the end.
+fn add_last_line(
+    alloc: Global,
+    draft: &mut Draft,
+    line: &[u8],
+    offset: u64,
+) -> Result<(), BundleRefused>
+    requires bundle { IsBundle (bundle_of draft.old) }
+    requires offset { offset + length line.now < 2 ^ 64 }
+    ensures ok { IfOk result (λ _. line.now ≡ end_line) }
+    ensures added { line.now ≡ end_line → AddsText draft.old line.now draft.new offset result }
+    ensures refused { IfErr result (λ why. IsRefusal why (IsLineBroken draft.old line.now false offset)) }
+{
+    if !is_end(line) {
+        return Err(refused_line(line, BundleRule::Newline, offset));
+    }
+    add_line(alloc, draft, line, offset)
+}
+
+// The bundle, where the end was read. The text ends at the offset.
+fn finished(draft: Draft, offset: u64) -> Result<Bundle, BundleRefused>
+    requires { IsBundle (bundle_of draft) }
+    ensures { MatchResult result (λ bundle. IsTrue (is_ended draft.section) × (bundle ≡ bundle_of draft))
+        (λ why. IsRefusal why (λ place rule. (place ≡ offset) × (rule ≡ BundleRule.End) × (is_ended draft.section ≡ false))) }
+{
+    if draft.is_ended() {
+        Ok(draft.finish())
+    } else {
+        Err(BundleRefused::malformed(offset, BundleRule::End))
+    }
+}
+
+// The bundle, where what is left is the end, or nothing behind it. It stands at the offset.
+fn read_rest(
+    alloc: Global,
+    mut draft: Draft,
+    rest: &[u8],
+    offset: u64,
+) -> Result<Bundle, BundleRefused>
+    requires bundle { IsBundle (bundle_of draft) }
+    requires offset { offset + length rest.now < 2 ^ 64 }
+    requires no_feed { HasNoFeed rest.now }
+    ensures { (bytes : List ℕ) → IsReadTo bytes rest.now draft → length bytes ≡ offset + length rest.now
+        → MatchResult result (λ bundle. BundleText bytes bundle) (λ why. IsRefusal why (Breaks bytes)) }
 {
     if rest.is_empty() {
-        return BundleRefused::malformed(offset, BundleRule::End);
+        return finished(draft, offset);
     }
-    match glyphs_at(alloc, rest, offset) {
-        Ok(_) => BundleRefused::malformed(offset, BundleRule::Newline),
-        Err(why) => why,
-    }
-}
-
-// Why what comes after the end is refused.
-fn behind_end(alloc: Global, after: &[u8], offset: u64) -> BundleRefused
-    requires { offset + length after.now < 2 ^ 64 }
-{
-    let Some((line, _)) = first_line(after) else {
-        if is_end(after) {
-            return BundleRefused::malformed(offset, BundleRule::Place);
-        }
-        return unended(alloc, after, offset);
-    };
-    if is_end(line) {
-        return BundleRefused::malformed(offset, BundleRule::Place);
-    }
-    match bundle_line(alloc, line, offset) {
-        Ok(_) => BundleRefused::malformed(offset, BundleRule::Place),
-        Err(why) => why,
-    }
-}
-
-// The bundle whose end was read, where nothing comes after it. What does stands at the offset.
-fn finished(alloc: Global, draft: Draft, after: &[u8], offset: u64) -> Result<Bundle, BundleRefused>
-    requires { offset + length after.now < 2 ^ 64 }
-    ensures rules { IfOk result (λ bundle. IsBundle bundle) }
-    ensures read { MatchResult result (λ bundle. (after.now ≡ []) × (bundle ≡ bundle_of draft))
-        (λ why. IsReason why (after.now ≢ [])) }
-{
-    if after.is_empty() {
-        Ok(draft.finish()?)
-    } else {
-        Err(behind_end(alloc, after, offset))
-    }
-}
-
-// The bundle whose last line no line feed ends: this line is the end. It stands at the offset.
-fn last(alloc: Global, draft: Draft, rest: &[u8], offset: u64) -> Result<Bundle, BundleRefused>
-    requires { offset + length rest.now < 2 ^ 64 }
-    ensures rules { IfOk result (λ bundle. IsBundle bundle) }
-    ensures read { MatchResult result (λ bundle. (rest.now ≡ end_line) × (bundle ≡ bundle_of draft))
-        (λ why. IsReason why (rest.now ≢ end_line)) }
-{
-    if is_end(rest) {
-        Ok(draft.finish()?)
-    } else {
-        Err(unended(alloc, rest, offset))
-    }
-}
-
-// The draft with one line more, which stands at the offset.
-fn next_draft(alloc: Global, draft: Draft, line: &[u8], offset: u64) -> Result<Draft, BundleRefused>
-    requires { offset + length line.now < 2 ^ 64 }
-    ensures { MatchResult result (λ next. LeadsTo draft line.now next) (λ why. IsReason why (LeadsNowhere draft line.now)) }
-{
-    let read = bundle_line(alloc, line, offset)?;
-    draft.with(alloc, read, offset)
+    add_last_line(alloc, &mut draft, rest, offset)?;
+    finished(draft, offset + rest.len() as u64)
 }
 
 // The bundle that the bytes are the text of.
 fn read_lines(alloc: Global, bytes: &[u8]) -> Result<Bundle, BundleRefused>
-    ensures { MatchResult result (λ bundle. BundleText bytes.now bundle) (λ why. IsReason why (IsNoBundle bytes.now)) }
+    ensures { MatchResult result (λ bundle. BundleText bytes.now bundle) (λ why. IsRefusal why (Breaks bytes.now)) }
 {
     let mut draft = Draft::new(alloc);
     let mut rest = bytes;
     while let Some((line, after)) = first_line(rest) {
         let offset = (bytes.len() - rest.len()) as u64;
-        if is_end(line) {
-            return finished(alloc, draft, after, offset + 4);
-        }
-        draft = next_draft(alloc, draft, line, offset)?;
+        add_line(alloc, &mut draft, line, offset)?;
         rest = after;
     }
-    last(alloc, draft, rest, (bytes.len() - rest.len()) as u64)
+    read_rest(alloc, draft, rest, (bytes.len() - rest.len()) as u64)
 }
 
-/// The bundle that the bytes are the text of, read line by line. `Malformed` says
-/// which rule the first bad line breaks. It takes memory for the users and their lines.
+/// The bundle that the bytes are the text of, read line by line. `Malformed` at the first line that breaks a rule, with the
+/// first rule that it breaks: at its first byte, but for `Glyph` at the first byte that begins no glyph, and for `End` at
+/// the end of the bytes. It takes memory for what the bundle has, and for the numbers of a heading.
 pub fn read(alloc: Global, bytes: &[u8]) -> Result<Bundle, BundleRefused>
     ensures bundle { IfOk result (λ bundle. BundleText bytes.now bundle) }
     ensures only { (bundle : PlainBundle) → BundleText bytes.now bundle →
         MatchResult result (λ read. read ≡ bundle) (λ why. why ≡ BundleRefused.WantOfMemory) }
+    ensures breaks { IfErr result (λ why. IsRefusal why (Breaks bytes.now)) }
+    ensures only_breaks { (offset : ℕ) (rule : BundleRule) → Breaks bytes.now offset rule →
+        MatchResult result (λ _. ⊥) (λ why. (why ≡ BundleRefused.Malformed offset rule) ⊎ (why ≡ BundleRefused.WantOfMemory)) }
     ensures malformed { IfErr result (λ why. IsReason why (IsNoBundle bytes.now)) }
 {
     read_lines(alloc, bytes)
@@ -117,4 +141,13 @@ pub fn read(alloc: Global, bytes: &[u8]) -> Result<Bundle, BundleRefused>
 /// What every text keeps: it is the text of one bundle at the most. The call does nothing.
 pub fn texts_are_of_one_bundle()
     ensures { (bytes : List ℕ) (bundle other : PlainBundle) → BundleText bytes bundle → BundleText bytes other → bundle ≡ other }
+{}
+
+/// Where a text breaks: a bundle's text breaks nowhere, and any text breaks one rule at one place at the most. The call does
+/// nothing.
+pub fn texts_break_at_one_place()
+    ensures nowhere { (bytes : List ℕ) (bundle : PlainBundle) (offset : ℕ) (rule : BundleRule) → BundleText bytes bundle
+        → Breaks bytes offset rule → ⊥ }
+    ensures one { (bytes : List ℕ) (offset place : ℕ) (rule other : BundleRule) → Breaks bytes offset rule → Breaks bytes place other
+        → (offset ≡ place) × (rule ≡ other) }
 {}

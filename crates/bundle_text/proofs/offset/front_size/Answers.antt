@@ -4,15 +4,15 @@ use Rattle.std.proofs.lemmas.List.Elements.{All-take}
 use Rattle.std.specs.List.{All}
 use Rattle.apl_arrays.specs.List.{glyphs_in}
 use Rattle.line_text.specs.Lines.{content, lines_text}
-use Rattle.bundle_text.specs.Bundle.{IsUserLine}
+use Rattle.bundle_text.specs.Rules.{IsContent}
 use Rattle.bundle_text.proofs.Offsets.{front_length, first_lines}
 use Rattle.bundle_text.proofs.offset.front_size.Goals as goal
 
 pub contents_size-requires-clause-each : goal.contents_size-requires-clause-each
 contents_size-requires-clause-each c =
     let lines = c.as_slice-lines.result.now in
-    let all : All IsUserLine (map glyphs_in lines) = subst (All IsUserLine) (sym c.as_slice-lines.ensures) c.requires.each in
-    subst (All IsUserLine) (take-map glyphs_in c.min.result lines) (All-take IsUserLine c.min.result (map glyphs_in lines) all)
+    let all : All IsContent (map glyphs_in lines) = subst (All IsContent) (sym c.as_slice-lines.ensures) c.requires.each in
+    subst (All IsContent) (take-map glyphs_in c.min.result lines) (All-take IsContent c.min.result (map glyphs_in lines) all)
 
 pub returns-clause-value : goal.returns-clause-value
 returns-clause-value c =

@@ -4,7 +4,8 @@ use Rattle.std.proofs.lemmas.List.Elements.{All-take}
 use Rattle.std.specs.List.{All, flat_map}
 use Rattle.line_text.specs.Lines.{lines_text}
 use Rattle.bundle_text.specs.User.{plain_user}
-use Rattle.bundle_text.specs.Bundle.{IsUser, lines_of_user}
+use Rattle.bundle_text.specs.Rules.{IsUser}
+use Rattle.bundle_text.specs.Offset.{lines_of_user}
 use Rattle.bundle_text.proofs.Offsets.{offset_at, offset_past, each_at}
 use Rattle.bundle_text.proofs.offset.offset_of.Goals as goal
 

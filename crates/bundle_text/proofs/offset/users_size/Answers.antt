@@ -3,7 +3,7 @@ use Rattle.std.proofs.lemmas.List.{take_all, length-map}
 use Rattle.apl_arrays.specs.List.{glyphs_in}
 use Rattle.line_text.specs.Lines.{user_lines, lines_text}
 use Rattle.bundle_text.specs.User.{plain_user}
-use Rattle.bundle_text.specs.Bundle.{IsUser}
+use Rattle.bundle_text.specs.Rules.{IsUser}
 use Rattle.bundle_text.proofs.Offsets.{user_more, each_at}
 use Rattle.bundle_text.proofs.offset.users_size.Goals as goal
 

@@ -1,23 +1,26 @@
-use Rattle.std.proofs.Common.{sym, ◌∙◌}
-use Rattle.std.proofs.lemmas.Bool.{false≢true}
+use Rattle.std.proofs.Common.{◌≡◌, ◌+◌, ◌-◌, ◌≤◌, ◌∷◌, length, arith, ap, length-append}
 use Rattle.std.proofs.lemmas.Result.{err_from_is_err_and}
-use Rattle.bundle_text.proofs.Reading.{goes_on, result_at_end, result_at_rest, refused_at_line}
+use Rattle.bundle_text.specs.Breaks.{text_before}
+use Rattle.bundle_text.proofs.SoFar.{nothing_yet, read_is_bundle, read_more, refused_line}
 use Rattle.bundle_text.proofs.text.read_lines.Goals as goal
 
-pub returns-then-is_end : goal.returns-then-is_end
-returns-then-is_end c =
-    let line = c.in-Some.ensures in
-    result_at_end _ _ c.in-Some.line.now c.in-Some.after.now _ c.finished.result c.loop-line.invariant line.0 line.1 (c.is_end.ensures.0 c.if-is_end.true) c.finished.ensures.rules c.finished.ensures.read
+pub loop-line-init : goal.loop-line-init
+loop-line-init c = nothing_yet _ _ c.new-draft.ensures
 
-pub returns-in_err-draft : goal.returns-in_err-draft
-returns-in_err-draft c =
-    let p = err_from_is_err_and c.from_residual.result c.from_residual.ensures.1 in
-    let line = c.in-Some.ensures in
-    rw (p.1, p.2) (refused_at_line _ _ c.in-Some.line.now c.in-Some.after.now _ c.in_err-draft.field-0.0 c.loop-line.invariant line.0 line.1 (λ ends. false≢true (sym c.if-is_end.false ∙ c.is_end.ensures.1 ends)) c.in_err-draft.ensures)
+pub add_line-requires-clause-bundle : goal.add_line-requires-clause-bundle
+add_line-requires-clause-bundle c = read_is_bundle _ _ _ c.loop-line.invariant
 
 pub loop-line-preserved : goal.loop-line-preserved
 loop-line-preserved c =
-    let line = c.in-Some.ensures in goes_on _ _ c.in-Some.line.now c.in-Some.after.now _ _ c.loop-line.invariant line.0 c.in_ok-draft.ensures
+    let line = c.in-Some.ensures in read_more _ _ c.in-Some.line.now c.in-Some.after.now _ _ c.loop-line.invariant line.0 c.in_ok-add_line.ensures
 
-pub returns : goal.returns
-returns c = result_at_rest _ _ _ c.last.result c.loop-line.invariant c.in_default.ensures c.last.ensures.rules c.last.ensures.read
+pub returns-in_err-add_line : goal.returns-in_err-add_line
+returns-in_err-add_line c =
+    let line = c.in-Some.ensures in
+    let so_far = c.loop-line.invariant in
+    let there : length c.args.bytes.now ≡ (length c.args.bytes.now - length c.loop-line.rest.now) + length c.loop-line.rest.now = omega (arith, ap length so_far.whole, length-append (text_before so_far.before) c.loop-line.rest.now) in
+    let p = err_from_is_err_and c.from_residual.result c.from_residual.ensures.1 in
+    rw (p.1, p.2) (refused_line c.args.bytes.now c.loop-line.rest.now c.in-Some.line.now c.in-Some.after.now c.loop-line.draft (length c.args.bytes.now - length c.loop-line.rest.now) c.in_err-add_line.field-0.0 so_far there line.1 line.0 c.in_err-add_line.ensures)
+
+pub read_rest-requires-clause-bundle : goal.read_rest-requires-clause-bundle
+read_rest-requires-clause-bundle c = read_is_bundle _ _ _ c.loop-line.invariant
