@@ -1,4 +1,4 @@
-ghost use Rattle.std.specs.Prelude.{◌≡◌, ◌≢◌, ◌+◌, ◌<◌, ◌≤◌, ◌↔◌, ℕ, List as ListOf, Some, None, min, IsTrue, IfOk, OnOk, All, length};
+ghost use Rattle.std.specs.Prelude.{◌≡◌, ◌≢◌, ◌+◌, ◌<◌, ◌≤◌, ◌↔◌, ℕ, List as ListOf, Some, None, min, IsTrue, IfOk, OnOk, OnErr, All, length};
 ghost use Rattle.std.specs.List.{list_all};
 ghost use Rattle.apl_arrays.specs.Limits.{most_axes, most_elements};
 ghost use Rattle.apl_arrays.specs.Shape.{is_small, shape_fault};
@@ -137,6 +137,50 @@ impl Items {
         }
     }
 
+    /// Become equal to others. Where they are of their kind and as many it takes no memory, else it takes memory for
+    /// them. `WantOfMemory` leaves them as they were.
+    pub fn renew(&mut self, alloc: Global, other: &Items) -> Result<(), WantOfMemory>
+        ensures ok { OnOk result (plain_items self.new ≡ plain_items other.now) }
+        ensures err { OnErr result (self.new ≡ self.old) }
+    {
+        match other {
+            Items::Numbers(numbers) => match self {
+                Items::Numbers(list) => list.renew(alloc, numbers),
+                Items::Chars(_) => self.become_copy(alloc, other),
+            },
+            Items::Chars(glyphs) => match self {
+                Items::Chars(list) => list.renew(alloc, glyphs),
+                Items::Numbers(_) => self.become_copy(alloc, other),
+            },
+        }
+    }
+
+    /// Become one number. Where they are numbers it takes no memory, or memory for one where they have none.
+    /// `WantOfMemory` leaves them as they were.
+    pub fn renew_by_number(&mut self, alloc: Global, number: i64) -> Result<(), WantOfMemory>
+        ensures ok { OnOk result (plain_items self.new ≡ (scalar number).items) }
+        ensures err { OnErr result (self.new ≡ self.old) }
+    {
+        match self {
+            Items::Numbers(list) => list.renew_by_one(number),
+            Items::Chars(_) => {
+                let mut list = List::new(alloc);
+                list.push(number)?;
+                *self = Items::Numbers(list);
+                Ok(())
+            }
+        }
+    }
+
+    // Become a copy of others. It takes memory for them. `WantOfMemory` leaves them as they were.
+    fn become_copy(&mut self, alloc: Global, other: &Items) -> Result<(), WantOfMemory>
+        ensures ok { OnOk result (plain_items self.new ≡ plain_items other.now) }
+        ensures err { OnErr result (self.new ≡ self.old) }
+    {
+        *self = other.copy(alloc)?;
+        Ok(())
+    }
+
     /// Whether there are none. No memory. ISO 8485.
     pub fn is_empty(&self) -> bool
         ensures { IsTrue result ↔ (item_count (plain_items self.now) ≡ 0) }
@@ -207,6 +251,29 @@ impl Array {
             rank: self.rank,
             items: self.items.copy(alloc)?,
         })
+    }
+
+    /// Becomes equal to another. Where its items are of the kind of the other's and as many it takes no memory, else it
+    /// takes memory for them. `WantOfMemory` leaves it as it was.
+    pub fn renew(&mut self, alloc: Global, other: &Array) -> Result<(), WantOfMemory>
+        ensures ok { OnOk result (self.new ≡ other.now) }
+        ensures err { OnErr result (self.new ≡ self.old) }
+    {
+        self.items.renew(alloc, &other.items)?;
+        self.axes = other.axes;
+        self.rank = other.rank;
+        Ok(())
+    }
+
+    /// Becomes the scalar of a number. Where its items are numbers it takes no memory, or memory for one where it has
+    /// none. `WantOfMemory` leaves it as it was.
+    pub fn renew_by_number(&mut self, alloc: Global, number: i64) -> Result<(), WantOfMemory>
+        ensures ok { OnOk result (self.new ≡ scalar number) }
+        ensures err { OnErr result (self.new ≡ self.old) }
+    {
+        self.items.renew_by_number(alloc, number)?;
+        self.rank = 0;
+        Ok(())
     }
 
     /// The lengths of the axes. No memory. ISO 8485.

@@ -11,6 +11,7 @@ mod list;
 mod memory;
 mod name;
 mod party;
+mod renewing;
 mod report;
 mod system;
 mod text;
@@ -31,11 +32,10 @@ pub use list::{Bytes, Line, List, NameList, NumberList, PartyList, Readings};
 pub use memory::WantOfMemory;
 pub use name::{NAME_LIMIT, Name, longest_names_end};
 pub use party::{FIRST_USER, LAST_USER, OFFER_LIMIT, USER_LIMIT};
+pub use renewing::{renew_by_number, renew_value};
 pub use report::{Fail, Report};
 pub use system::SystemName;
-pub use text::{
-    GlyphRefused, add_utf8, glyph_at, glyphs_of, texts_are_read_in_one_way, utf8_of,
-};
+pub use text::{GlyphRefused, add_utf8, glyph_at, glyphs_of, texts_are_read_in_one_way, utf8_of};
 pub use threads::{lists_may_cross_threads, values_may_cross_threads};
 pub use verb::{Dyad, Mix1, Mix2, Monad, Verb, Way};
 pub use word::{blank_count, digit_count, next_word, words_stand_between_blanks};

@@ -53,6 +53,38 @@ impl<T> List<T> {
         })
     }
 
+    /// Becomes a list of the items of another. Where it has as many already it takes no memory, else it takes memory for
+    /// them. `WantOfMemory` leaves the list as it was.
+    pub fn renew(&mut self, alloc: Global, other: &List<T>) -> Result<(), WantOfMemory>
+    where
+        T: Copy + Drop,
+        ensures ok { OnOk result (self.new.items ≡ other.now.items) }
+        ensures err { OnErr result (self.new ≡ self.old) }
+    {
+        if self.items.len() == other.items.len() {
+            self.items.copy_from_slice(&other.items);
+            return Ok(());
+        }
+        self.items = Vec::from_slice(alloc, &other.items)?;
+        Ok(())
+    }
+
+    /// Becomes a list of one item. Where it has memory already it takes none, else it takes memory for the item.
+    /// `WantOfMemory` leaves the list as it was.
+    pub fn renew_by_one(&mut self, item: T) -> Result<(), WantOfMemory>
+    where
+        T: Copy + Drop,
+        ensures ok { OnOk result (self.new.items ≡ item ∷ []) }
+        ensures err { OnErr result (self.new ≡ self.old) }
+    {
+        if self.items.capacity() == 0 {
+            self.items.reserve(1)?;
+        }
+        self.clear();
+        self.push_reserved(item);
+        Ok(())
+    }
+
     /// Makes room for at least so many pushes, and takes memory for it. `WantOfMemory` leaves the list as it was.
     pub fn reserve(&mut self, room: usize) -> Result<(), WantOfMemory>
         ensures items { self.new.items ≡ self.old.items }

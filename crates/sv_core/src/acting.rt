@@ -26,6 +26,9 @@ impl Core {
         ensures journal { OnOk result (self.new ≡ core_after self.old party act) }
         ensures err { OnErr result (self.new ≡ self.old) }
     {
+        if let Some(access) = act.access() {
+            return self.make_access(party, access, act);
+        }
         let row = act.row();
         if let Some(opening) = row.opens {
             self.make_offer(party, opening, act)
@@ -33,8 +36,6 @@ impl Core {
             self.make_ending(party, ending, act)
         } else if let Some(set) = row.controls {
             self.make_control(party, set, act)
-        } else if let Some(access) = row.accesses {
-            self.make_access(party, access, act)
         } else if let Some(asked) = row.asks {
             self.make_question(party, asked, act)
         } else {
@@ -292,8 +293,13 @@ impl Core {
         ensures answer { IfOk result (λ told. plain_answer told.answer ≡ value_answer (value_for self.now.journal offer.now (coupling_now self.now.journal offer.now.place))) }
         ensures kept { IfOk result (λ told. plain_answer told.kept ≡ value_answer (value_for self.now.journal offer.now (coupling_now self.now.journal offer.now.place))) }
     {
-        let value = copy_value(self.alloc, self.value_for(offer, coupling))?;
-        told_twice(self.alloc, value_answer(value))
+        let value = self.value_for(offer, coupling);
+        let given = copy_value(self.alloc, value)?;
+        let kept = copy_value(self.alloc, value)?;
+        Ok(Told {
+            answer: value_answer(given),
+            kept: value_answer(kept),
+        })
     }
 }
 

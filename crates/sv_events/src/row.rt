@@ -130,18 +130,8 @@ impl Act {
             Act::AskDegree(local) => asking(Question::Degree(*local)),
             Act::AskParties => asking(Question::Parties),
             Act::AskNames(party) => asking(Question::Names(*party)),
-            Act::Set(local, _) => ActRow {
-                accesses: Some(Accessing {
-                    local: *local,
-                    kind: Kind::Set,
-                }),
-                ..none
-            },
-            Act::Use(local) => ActRow {
-                accesses: Some(Accessing {
-                    local: *local,
-                    kind: Kind::Use,
-                }),
+            Act::Set(..) | Act::Use(_) => ActRow {
+                accesses: self.access(),
                 ..none
             },
             Act::Leave => ActRow {
@@ -153,6 +143,23 @@ impl Act {
 }
 
 impl Act {
+    /// The access that the act makes, if it makes one, without the rest of its row. No memory.
+    pub fn access(&self) -> Option<Accessing>
+        ensures { result ≡ (act_row self.now).row.accesses }
+    {
+        match self {
+            Act::Set(local, _) => Some(Accessing {
+                local: *local,
+                kind: Kind::Set,
+            }),
+            Act::Use(local) => Some(Accessing {
+                local: *local,
+                kind: Kind::Use,
+            }),
+            _ => None,
+        }
+    }
+
     /// The value that the act hands in, if it does. No memory.
     pub fn hands_in(&self) -> Option<&Array>
         ensures { option_copied result ≡ (act_row self.now).hands_in }

@@ -3,13 +3,13 @@ ghost use Rattle.sv_events.specs.Fits.{is_degree};
 ghost use Rattle.sv_rules.specs.Entries.{has_left, is_abandoned, is_granted, is_held, is_leave, is_value};
 ghost use Rattle.sv_rules.specs.Journal.{journal_of};
 
-use sv_events::{Act, AnswerKind, Ending, Entry};
+use sv_events::{Act, AnswerKind, Entry};
 
 /// Whether the act is a leave: it ends all offers of its party. No memory.
 pub fn is_leave(act: &Act) -> bool
     ensures { result ≡ is_leave act.now }
 {
-    matches!(act.row().ends, Some(Ending::All))
+    matches!(act, Act::Leave)
 }
 
 /// Whether the party has left. No memory.

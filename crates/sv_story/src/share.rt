@@ -1,8 +1,10 @@
-ghost use Rattle.std.specs.Prelude.{◌≡◌, IfOk, IsOk, OnErr, OnOk, is_some};
-ghost use Rattle.std.specs.Option.{option_copied};
+ghost use Rattle.std.specs.Prelude.{◌≡◌, IfOk, IsOk, OnErr, OnOk, Some, is_some};
+ghost use Rattle.std.specs.Option.{option_copied, option_or};
+ghost use Rattle.apl_arrays.specs.Array.{PlainArray};
+ghost use Rattle.sv_access.specs.Access.{other_side};
 ghost use Rattle.sv_story.specs.Share.{after_get, after_set, alone, giver, given_state, known_to, knowing, share_of, shared_value, unseen_by_other};
 
-use apl_arrays::{Array, WantOfMemory};
+use apl_arrays::{Array, WantOfMemory, renew_value};
 use std::alloc::Global;
 use std::marker::Model;
 use sv_access::{Kind, Side, State, after};
@@ -57,6 +59,22 @@ fn giver(a: &Option<Array>) -> Side
     match a {
         Some(_) => Side::A,
         None => Side::B,
+    }
+}
+
+// What one side knows becomes what the other knows, if that knows a value. It takes memory for it, unless a value of as
+// many items was known; after `WantOfMemory` all is as before.
+fn renew_known(
+    alloc: Global,
+    known: &mut Option<Array>,
+    others: &Option<Array>,
+) -> Result<(), WantOfMemory>
+    ensures done { OnOk result (known.new ≡ option_or others.now known.old) }
+    ensures err { OnErr result (known.new ≡ known.old) }
+{
+    match others {
+        None => Ok(()),
+        Some(value) => renew_value(alloc, known, value),
     }
 }
 
@@ -137,15 +155,26 @@ impl Share {
         ensures done { OnOk result (self.new ≡ after_get self.old side (shared_value self.old)) }
         ensures err { OnErr result (self.new ≡ self.old) }
     {
-        let Some(value) = self.last() else {
+        if self.last().is_none() {
             return Ok(false);
-        };
+        }
         if side != self.last {
-            let known = value.copy(self.alloc)?;
-            self.learn(side, known);
+            self.learn_others(side)?;
         }
         self.state = after(self.state, side, Kind::Use);
         Ok(true)
+    }
+
+    // A side comes to know what the other knows, if that knows a value. It takes memory for it, unless the side knows a
+    // value of as many items; after `WantOfMemory` all is as before.
+    fn learn_others(&mut self, side: Side) -> Result<(), WantOfMemory>
+        ensures done { OnOk result ((value : PlainArray) → known_to self.old (other_side side) ≡ Some value → self.new ≡ knowing self.old side value) }
+        ensures err { OnErr result (self.new ≡ self.old) }
+    {
+        match side {
+            Side::A => renew_known(self.alloc, &mut self.a, &self.b),
+            Side::B => renew_known(self.alloc, &mut self.b, &self.a),
+        }
     }
 
     // A side comes to know a value. No memory.
