@@ -8,7 +8,7 @@ use Rattle.sv_events.specs.Answer.{PlainAnswer, plain_answer}
 use Rattle.sv_events.specs.declared.event.Act.{Act}
 use Rattle.apl_session.specs.Session.{evaluated_on, evaluated, after_act}
 use Rattle.apl_session.specs.PlainSession.{PlainSession}
-use Rattle.apl_session.specs.Progress.{IsEvaluated, ahead, behind_acts, first_asked, open_at}
+use Rattle.apl_session.specs.Progress.{IsEvaluated, ahead, behind_acts, first_asked, open_at, statement_at}
 use Rattle.apl_session.specs.Wants.{stage_by}
 use Rattle.apl_session.specs.declared.progress.Progress.{Progress}
 use Rattle.apl_session.specs.declared.session.Stage.{Stage}
@@ -16,25 +16,27 @@ use Rattle.apl_session.specs.declared.session.Stage.TheVariants.{Ready, Waiting,
 use Rattle.apl_session.proofs.Sessions.{first_waits}
 
 -- nothing is done
-pub begun : (lines : List (List ℕ)) → IsEvaluated lines [] (record { done = 0; evaluation = record { names = []; transcript = [] } }) Ready
-begun lines = record { acts = []; so_far = λ further. refl; waits = λ e. absurd cc; over = λ e. absurd cc }
+pub begun : (lines : List (List ℕ)) → IsEvaluated lines [] (record { done = 0; statement = None; evaluation = record { names = []; transcript = [] } }) Ready
+begun lines = record { acts = []; so_far = λ further. refl; waits = λ e. absurd cc; found = λ e. absurd cc; over = λ e. absurd cc }
 
 some_is : (asked : Option Act) (act : Act) → asked ≡ Some act → IsSome asked
 some_is asked act e = rw e refl
 
 -- as far as the act that is asked, or to the end
 pub advanced : (lines : List (List ℕ)) (answers : List PlainAnswer) (before now : Progress) (stage : Stage) (asked : Option Act) → IsEvaluated lines answers before stage → ((further : List PlainAnswer) → ahead lines now further ≡ ahead lines before further) → asked ≡ open_at lines now → (asked ≡ None → length lines ≤ now.done)
-    → IsEvaluated lines answers now (stage_by asked)
-advanced lines answers before now stage (Some act) so_far same asks over = record {
+    → (IsSome asked → now.statement ≡ statement_at lines now) → IsEvaluated lines answers now (stage_by asked)
+advanced lines answers before now stage (Some act) so_far same asks over found = record {
   acts = so_far.acts;
   so_far = λ further. so_far.so_far further ∙ ap (λ others. behind_acts so_far.acts others) (sym (same further));
   waits = λ e. some_is (open_at lines now) act (sym asks);
+  found = λ e. found (some_is (Some act) act refl);
   over = λ e. absurd cc;
 }
-advanced lines answers before now stage None so_far same asks over = record {
+advanced lines answers before now stage None so_far same asks over found = record {
   acts = so_far.acts;
   so_far = λ further. so_far.so_far further ∙ ap (λ others. behind_acts so_far.acts others) (sym (same further));
   waits = λ e. absurd cc;
+  found = λ e. absurd cc;
   over = λ e. drop_all now.done lines (over refl);
 }
 
@@ -59,6 +61,7 @@ answered_more lines answers before now stage asked answer so_far taken = record 
       ∙ (ap (λ others. behind_acts so_far.acts others) (taken further)
       ∙ ap (λ acts. record (ahead lines now further) { acts = acts }) (sym (append_assoc so_far.acts (asked ∷ []) (ahead lines now further).acts))));
   waits = λ e. absurd cc;
+  found = λ e. absurd cc;
   over = λ e. absurd cc;
 }
 
@@ -83,15 +86,21 @@ whole_at_end seen user lines answers progress stage printed is ended kept same =
 
 -- a session that goes on: what its progress is then, and the act that is asked
 pub goes_on : (lines : List (List ℕ)) (kept : List (Listed ℕ)) (answers : List PlainAnswer) (before now : Progress) (stage : Stage) (result asked : Option Act) → map glyphs_in kept ≡ lines → (stage ≢ Failed → IsEvaluated lines answers before stage) → stage ≢ Failed
-    → ((further : List PlainAnswer) → ahead (map glyphs_in kept) now further ≡ ahead (map glyphs_in kept) before further) → result ≡ open_at (map glyphs_in kept) now → (result ≡ None → length kept ≤ now.done) → result ≡ asked
+    → ((further : List PlainAnswer) → ahead (map glyphs_in kept) now further ≡ ahead (map glyphs_in kept) before further) → result ≡ open_at (map glyphs_in kept) now → (result ≡ None → length kept ≤ now.done)
+    → (IsSome result → now.statement ≡ statement_at (map glyphs_in kept) now) → result ≡ asked
     → IsEvaluated lines answers now (stage_by asked) × ((evaluated lines answers).waits ≡ asked)
-goes_on lines kept answers before now stage result asked shown so_far alive same asks over is =
+goes_on lines kept answers before now stage result asked shown so_far alive same asks over found is =
     let all : List (List ℕ) = map glyphs_in kept in
     let here : IsEvaluated all answers before stage = subst (λ some. IsEvaluated some answers before stage) (sym shown) (so_far alive) in
     let there : asked ≡ open_at all now = sym is ∙ asks in
     let ends : asked ≡ None → length all ≤ now.done = λ none. omega (arith, over (is ∙ none), length-map kept glyphs_in) in
-    let then : IsEvaluated all answers now (stage_by asked) = advanced all answers before now stage asked here same there ends in
+    let then : IsEvaluated all answers now (stage_by asked) = advanced all answers before now stage asked here same there ends (λ some. found (subst IsSome (sym is) some)) in
     subst (λ some. IsEvaluated some answers now (stage_by asked) × ((evaluated some answers).waits ≡ asked)) shown (then, opens all answers now (stage_by asked) asked then there ends)
+
+-- the statement that is kept of the line whose act waits
+pub kept_there : (lines : List (List ℕ)) (shown : List (List ℕ)) (answers : List PlainAnswer) (progress : Progress) (stage : Stage) → shown ≡ lines → stage ≡ Waiting → (stage ≢ Failed → IsEvaluated lines answers progress stage) → progress.statement ≡ statement_at shown progress
+kept_there lines shown answers progress stage same waiting so_far =
+    (so_far (not_failed stage Waiting waiting (λ e. absurd cc))).found waiting ∙ ap (λ some. statement_at some progress) (sym same)
 
 some_act : (waits : Option Act) → IsSome waits → (asked : Act) × (waits ≡ Some asked)
 some_act None some = absurd cc

@@ -5,6 +5,8 @@ use Rattle.sv_events.specs.declared.event.Act.{Act}
 use Rattle.apl_session.specs.Workspace.{Names}
 use Rattle.apl_session.specs.Session.{Effect, Evaluated, echo, asked_by, line_alone, evaluated_on, evaluated}
 use Rattle.apl_session.specs.PlainSession.{PlainEvaluation}
+use Rattle.apl_session.specs.Statement.{statement_in}
+use Rattle.apl_session.specs.declared.statement.Statement.{Statement}
 use Rattle.apl_session.specs.declared.progress.Progress.{Progress}
 use Rattle.apl_session.specs.declared.session.Stage.{Stage}
 use Rattle.apl_session.specs.declared.session.Stage.TheVariants.{Waiting, Finished}
@@ -37,10 +39,20 @@ first_asked (line ∷ lines) names = asked_by names line
 abbrev pub open_at : List (List ℕ) → Progress → Option Act
 open_at lines progress = first_asked (drop progress.done lines) progress.evaluation.names
 
+-- the statement of the first of the lines, if it is one
+abbrev pub first_statement : List (List ℕ) → Option Statement
+first_statement [] = None
+first_statement (line ∷ lines) = statement_in line
+
+-- the statement of the line that is next, if it is one
+abbrev pub statement_at : List (List ℕ) → Progress → Option Statement
+statement_at lines progress = first_statement (drop progress.done lines)
+
 -- the lines with these answers are evaluated so far: whatever answers follow, what comes of them is what was done and
 -- what lies ahead
 pub record IsEvaluated (lines : List (List ℕ)) (answers : List PlainAnswer) (progress : Progress) (stage : Stage) : Type 0 where
   pub acts : List Act
   pub so_far : (further : List PlainAnswer) → evaluated lines (answers ++ further) ≡ behind_acts acts (ahead lines progress further)
   pub waits : stage ≡ Waiting → IsSome (open_at lines progress)
+  pub found : stage ≡ Waiting → progress.statement ≡ statement_at lines progress
   pub over : stage ≡ Finished → drop progress.done lines ≡ []

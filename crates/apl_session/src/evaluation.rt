@@ -4,11 +4,12 @@ ghost use Rattle.apl_arrays.specs.Array.{scalar};
 ghost use Rattle.apl_display.specs.Display.{display_lines};
 ghost use Rattle.sv_events.specs.Answer.{plain_answer};
 ghost use Rattle.sv_rules.specs.Entries.{value_got};
+ghost use Rattle.apl_session.specs.Statement.{statement_in};
 ghost use Rattle.apl_session.specs.Workspace.{copy_of, with_value};
 ghost use Rattle.apl_session.specs.Progress.{started, with_line};
 ghost use Rattle.apl_session.specs.Session.{echo, report_lines, act_of, asked_by, looked_up, statement_alone, report_of, degree_in, accepted, statement_answered, line_answered};
 
-use crate::statement::{Statement, statement_of};
+use crate::statement::Statement;
 use crate::workspace::Workspace;
 use apl_arrays::{Array, Glyph, Line, LineList, List, Name, Report, WantOfMemory};
 use apl_display::{add_lines, lines_of};
@@ -53,33 +54,42 @@ impl Evaluation {
         self.transcript
     }
 
-    /// Does a line that asks no act, or gives the act that it asks. It takes memory for the act and for what is printed;
-    /// where that runs out, a part of the line may be done.
-    pub fn start(&mut self, line: &[Glyph]) -> Result<Option<Act>, WantOfMemory>
+    /// Does a line that asks no act, or gives the act that it asks. The statement is the line's, if it is one. It takes
+    /// memory for the act and for what is printed; where that runs out, a part of the line may be done.
+    pub fn start(
+        &mut self,
+        line: &[Glyph],
+        statement: &Option<Statement>,
+    ) -> Result<Option<Act>, WantOfMemory>
+        requires { statement.now ≡ statement_in line.now }
         ensures asks { IfOk result (λ asked. asked ≡ asked_by self.old.names line.now) }
         ensures done { IfOk result (λ asked. self.new ≡ started self.old line.now asked) }
     {
-        let Some(statement) = statement_of(line) else {
+        let Some(statement) = statement else {
             self.refuse(line)?;
             return Ok(None);
         };
-        match self.act_of(&statement)? {
-            Some(act) => Ok(Some(act)),
-            None => {
-                self.finish_alone(statement, line)?;
-                Ok(None)
-            }
+        let asked = self.act_of(statement)?;
+        if asked.is_none() {
+            self.finish_alone(*statement, line)?;
         }
+        Ok(asked)
     }
 
-    /// Does a line whose act is answered. It takes memory for what is printed; where that runs out, a part of the line
-    /// may be done.
-    pub fn finish(&mut self, line: &[Glyph], answer: &Answer) -> Result<(), WantOfMemory>
+    /// Does a line whose act is answered. The statement is the line's. It takes memory for what is printed; where that
+    /// runs out, a part of the line may be done.
+    pub fn finish(
+        &mut self,
+        line: &[Glyph],
+        statement: &Option<Statement>,
+        answer: &Answer,
+    ) -> Result<(), WantOfMemory>
+        requires { statement.now ≡ statement_in line.now }
         ensures { OnOk result (self.new ≡ with_line self.old line.now (line_answered self.old.names line.now (plain_answer answer.now))) }
     {
-        match statement_of(line) {
+        match statement {
             None => self.echo(line),
-            Some(statement) => self.finish_answered(statement, line, answer),
+            Some(statement) => self.finish_answered(*statement, line, answer),
         }
     }
 
@@ -170,7 +180,7 @@ impl Evaluation {
         ensures names { OnOk result (self.new.names ≡ with_value self.old.names name (scalar number)) }
         ensures printed { self.new.transcript ≡ self.old.transcript }
     {
-        self.names.set(name, Array::scalar(self.alloc, number)?)
+        self.names.set_number(self.alloc, name, number)
     }
 
     // Prints the value of a name, or reports that there is none.
@@ -190,7 +200,7 @@ impl Evaluation {
         ensures printed { OnOk result (self.new.transcript ≡ self.old.transcript ++ display_lines value.now) }
     {
         self.print(value)?;
-        self.names.set(name, value.copy(self.alloc)?)
+        self.names.renew(self.alloc, name, value)
     }
 
     // Prints a line as it was read, after six blanks.

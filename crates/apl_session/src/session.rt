@@ -70,6 +70,7 @@ impl Session {
             stage: Stage::Ready,
             progress: Progress {
                 done: 0,
+                statement: None,
                 evaluation: Evaluation::new(alloc),
             },
         }

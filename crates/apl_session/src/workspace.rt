@@ -1,7 +1,8 @@
 ghost use Rattle.std.specs.Prelude.{◌≡◌, [], OnOk, OnErr};
 ghost use Rattle.std.specs.Option.{option_copied};
+ghost use Rattle.apl_arrays.specs.Array.{scalar};
 
-use apl_arrays::{Array, Name, WantOfMemory};
+use apl_arrays::{Array, Name, WantOfMemory, renew_by_number, renew_value};
 use std::alloc::Global;
 use std::collections::BTreeMap;
 use std::marker::Model;
@@ -65,17 +66,29 @@ impl Workspace {
         Ok(())
     }
 
-    /// Gives the name another value, or renews its own copy. It takes memory for a name that is new. `WantOfMemory` leaves
-    /// the names as they were.
-    pub fn set(&mut self, name: Name, value: Array) -> Result<(), WantOfMemory>
-        ensures ok { OnOk result (self.new ≡ with_value self.old name value) }
-        ensures err { OnErr result (self.new ≡ self.old) }
+    /// Gives the name a value, or renews its own copy. It takes memory for the value, unless the name has one of as many
+    /// items, and for a name that is new; where that runs out, a new name may stand there without a value.
+    pub fn renew(&mut self, alloc: Global, name: Name, value: &Array) -> Result<(), WantOfMemory>
+        ensures { OnOk result (self.new ≡ with_value self.old name value.now) }
     {
         let variable = self.variables.entry(name)?.or_insert(Variable {
             value: None,
             shared: false,
         });
-        variable.value = Some(value);
+        renew_value(alloc, &mut variable.value, value)?;
+        Ok(())
+    }
+
+    /// Gives the name a number. It takes memory for the number, unless the name has numbers, and for a name that is new;
+    /// where that runs out, a new name may stand there without a value.
+    pub fn set_number(&mut self, alloc: Global, name: Name, number: i64) -> Result<(), WantOfMemory>
+        ensures { OnOk result (self.new ≡ with_value self.old name (scalar number)) }
+    {
+        let variable = self.variables.entry(name)?.or_insert(Variable {
+            value: None,
+            shared: false,
+        });
+        renew_by_number(alloc, &mut variable.value, number)?;
         Ok(())
     }
 

@@ -1,4 +1,5 @@
 pub mod Ascents
+pub mod Idle
 pub mod OneJournal
 pub mod Replays
 pub mod Rounds

@@ -1,5 +1,5 @@
 -- Where a user is between rounds, and what its own turns and those of others change.
-use Rattle.std.proofs.Common.{◌≡◌, ◌≢◌, ℕ, suc, ◌≤◌, Bool, true, false, List, [], ◌∷◌, ◌++◌, length, map, Option, Some, None, IsTrue, IsFalse, if◌then◌else◌, refl, sym, ap, ◌∙◌, subst, subst₂, append_assoc, append-nil, length-append, arith}
+use Rattle.std.proofs.Common.{◌≡◌, ◌≢◌, ℕ, suc, ◌≤◌, ◌<◌, Bool, true, false, List, [], ◌∷◌, ◌++◌, length, map, Option, Some, None, IsTrue, IsFalse, if◌then◌else◌, refl, sym, ap, ◌∙◌, subst, subst₂, append_assoc, append-nil, length-append, arith}
 use Rattle.std.proofs.lemmas.Bool.{both_ways}
 use Rattle.std.proofs.lemmas.List.{map-append, reverse-append}
 use Rattle.sv_events.specs.Answer.{PlainAnswer, full}
@@ -22,9 +22,9 @@ pub record AreGiven (reached entries : Entries) (lines : List (List ℕ)) (answe
   pub asked : (evaluated lines answers).acts ≡ acts_in entries ++ refused
   pub at_limit : refused ≢ [] → IsTrue (is_full reached)
 
--- a user after so many rounds: it has made an act in each, or has left
+-- a user after so many rounds: it has made an act in each, and may have made more, or has left
 pub data IsAfter (count : ℕ) (journal : Entries) (participant : Participant) : Type 0 where
-  present : IsFalse (has_left journal participant.number) → length participant.answers ≡ count → count ≤ length participant.lines →
+  present : IsFalse (has_left journal participant.number) → count ≤ length participant.answers → length participant.answers ≤ length participant.lines →
       AreGiven journal (entries_of journal participant.number) participant.lines participant.answers → IsAfter count journal participant
   gone : IsTrue (has_left journal participant.number) → (evaluated participant.lines participant.answers).waits ≡ None →
       AreGiven (before_leave journal participant.number) (entries_of journal participant.number) participant.lines participant.answers → IsAfter count journal participant
@@ -108,23 +108,32 @@ other_turn count journal acting participant other h =
     others_add count journal (turn journal acting).journal acting.number participant other h
     (turn_adds (has_left journal acting.number) (evaluated acting.lines acting.answers).waits journal acting)
 
+-- so a user that made more acts than rounds is after these rounds too
+pub after_fewer : (count : ℕ) (journal : Entries) (participant : Participant) → IsAfter (suc count) journal participant → IsAfter count journal participant
+after_fewer count journal participant (present stays many few h) = present stays (omega (arith, many)) few h
+after_fewer count journal participant (gone left closed h) = gone left closed h
+
 -- one answer more
-one_more : (answers : List PlainAnswer) (answer : PlainAnswer) (count : ℕ) → length answers ≡ count → length (answers ++ answer ∷ []) ≡ suc count
-one_more answers answer count many = omega (arith, length-append answers (answer ∷ []))
+one_more : (answers : List PlainAnswer) (answer : PlainAnswer) (count : ℕ) → count ≤ length answers → suc count ≤ length (answers ++ answer ∷ [])
+one_more answers answer count many = omega (arith, many, length-append answers (answer ∷ []))
+
+-- an answer more where there were fewer than lines
+still_few : (answers : List PlainAnswer) (answer : PlainAnswer) (lines : List (List ℕ)) → length answers < length lines → length (answers ++ answer ∷ []) ≤ length lines
+still_few answers answer lines few = omega (arith, few, length-append answers (answer ∷ []))
 
 -- the turn in which a user asks an act
 asking_turn : (at_limit : Bool) (act : Act) (count : ℕ) (journal : Entries) (participant : Participant) → is_full journal ≡ at_limit → (evaluated participant.lines participant.answers).waits ≡ Some act →
-    IsFalse (has_left journal participant.number) → length participant.answers ≡ count → AreGiven journal (entries_of journal participant.number) participant.lines participant.answers →
+    IsFalse (has_left journal participant.number) → count ≤ length participant.answers → AreGiven journal (entries_of journal participant.number) participant.lines participant.answers →
     IsAfter (suc count) (if at_limit then journal else entry_for journal participant.number act ∷ journal)
     (record participant { answers = participant.answers ++ (if at_limit then full else (entry_for journal participant.number act).answer) ∷ [] })
 asking_turn true act count journal participant at_limit waits stays many h =
-    let more : suc count ≤ length participant.lines = omega (arith, many, (lines_take_answers participant.lines).few [] participant.answers act waits) in
-    present stays (one_more participant.answers full count many) more (refused_again journal (entries_of journal participant.number) participant.lines participant.answers act at_limit waits h)
+    let fewer : length participant.answers < length participant.lines = (lines_take_answers participant.lines).few [] participant.answers act waits in
+    present stays (one_more participant.answers full count many) (still_few participant.answers full participant.lines fewer) (refused_again journal (entries_of journal participant.number) participant.lines participant.answers act at_limit waits h)
 asking_turn false act count journal participant room waits stays many h =
-    let more : suc count ≤ length participant.lines = omega (arith, many, (lines_take_answers participant.lines).few [] participant.answers act waits) in
+    let fewer : length participant.answers < length participant.lines = (lines_take_answers participant.lines).few [] participant.answers act waits in
     let e : PlainEntry = entry_for journal participant.number act in
     let no_leave : is_leave act ≡ false = ((lines_take_answers participant.lines).asks [] participant.answers act waits).stays in
-    present (own_act_stays e journal participant.number refl no_leave ∙ stays) (one_more participant.answers e.answer count many) more
+    present (own_act_stays e journal participant.number refl no_leave ∙ stays) (one_more participant.answers e.answer count many) (still_few participant.answers e.answer participant.lines fewer)
     (subst (λ entries. AreGiven (e ∷ journal) entries participant.lines (participant.answers ++ e.answer ∷ [])) (sym (own_act_is_newest e journal participant.number refl no_leave))
     (entry_taken journal (entries_of journal participant.number) participant.lines participant.answers e room waits h))
 
@@ -143,7 +152,7 @@ turn_goes_on false None count journal participant left asked (present stays many
 turn_goes_on false (Some act) count journal participant left asked (present stays many few h) =
     asking_turn (is_full journal) act count journal participant refl asked stays many h
 
--- a user's turn takes it one round on
+-- a user's turn takes it one act on
 pub own_turn : (count : ℕ) (journal : Entries) (participant : Participant) → IsAfter count journal participant → IsAfter (suc count) (turn journal participant).journal (turn journal participant).participant
 own_turn count journal participant h =
     turn_goes_on (has_left journal participant.number) (evaluated participant.lines participant.answers).waits count journal participant refl refl h

@@ -1,32 +1,39 @@
-ghost use Rattle.std.specs.Prelude.{◌≡◌, ◌<◌, IsTrue, IfOk, OnOk, All, length, map, reverse};
-ghost use Rattle.sv_core.specs.Core.{ArePeople};
-ghost use Rattle.sv_rules.specs.Legal.{is_user};
+ghost use Rattle.std.specs.Prelude.{◌≡◌, ◌<◌, IfOk, All, length, map, reverse};
 ghost use Rattle.apl_arrays.specs.Ascending.{Ascend};
 ghost use Rattle.bundle_text.specs.User.{plain_user};
 ghost use Rattle.apl_session.specs.Run.{IsRun};
 ghost use Rattle.apl_session.specs.Transcripts.{plain_transcript};
 ghost use Rattle.aplsv_replay.specs.Participants.{participant_of, participants_of};
-ghost use Rattle.aplsv_replay.specs.TurnLaws.{IsDone, IsUnhindered, transcript_of};
-ghost use Rattle.aplsv_replay.specs.Turns.{newcomer, turn, round, IsJournalOfTurns};
+ghost use Rattle.aplsv_replay.specs.TurnLaws.{IsDone, transcript_of};
+ghost use Rattle.aplsv_replay.specs.Turns.{newcomer, IsJournalOfTurns};
 
+use crate::taking::{order_turns, round};
 use crate::turn_laws::rounds_end;
 use apl_arrays::WantOfMemory;
-use apl_session::{Run, Session, Transcript, Transcripts, Wants};
-use bundle_text::{Bundle, BundleUser};
+use apl_session::{Run, Session, Transcript, Transcripts};
+use bundle_text::{Bundle, BundleParts, BundleUser};
 use std::alloc::Global;
 use sv_core::Core;
 
-/// Runs a bundle on one thread: the users take turns, ascending, until all have left. `WantOfMemory` where memory ran
-/// out, and then there is no run. It takes memory for sessions, journal and transcripts.
+/// Runs a bundle on one thread: the parties of its order have their turns, and then both auxiliaries and the users,
+/// ascending, round after round until all users have left. Its files and readings are not used, since no auxiliary has
+/// work. `WantOfMemory` where memory ran out, and then there is no run. It takes memory for sessions, journal and
+/// transcripts.
 pub fn replay(alloc: Global, bundle: Bundle) -> Result<Run, WantOfMemory>
     ensures run { IfOk result (λ run. IsRun bundle (reverse run.journal.items) run.transcripts.items) }
     ensures turns { IfOk result (λ run. IsJournalOfTurns bundle (reverse run.journal.items)) }
 {
-    let users = bundle.into_users();
+    let BundleParts {
+        users,
+        order,
+        files: _files,
+        clock: _clock,
+    } = bundle.into_parts();
     let numbers = user_numbers(alloc, users.as_slice())?;
     let needed = rounds_needed(users.as_slice());
     let mut core = Core::new(alloc, &numbers)?;
     let mut sessions = sessions_of(alloc, users.into_vec())?;
+    order_turns(&mut core, &mut sessions, order.as_slice())?;
     for _round in 0..needed {
         round(&mut core, &mut sessions)?;
     }
@@ -91,46 +98,4 @@ fn transcripts_of(alloc: Global, sessions: Vec<Session>) -> Result<Transcripts, 
         transcripts.push(transcript_of(session)?)?;
     }
     Ok(transcripts)
-}
-
-// A turn for each session, in their order.
-fn round(core: &mut Core, sessions: &mut [Session]) -> Result<(), WantOfMemory>
-    requires users { All (λ participant. IsTrue (is_user core.old.users participant.number)) (participants_of sessions.old) }
-    requires people { ArePeople core.old.users }
-    requires unhindered { IsUnhindered core.old.journal }
-    ensures turns { OnOk result (record { journal = core.new.journal; participants = participants_of sessions.new } ≡ round core.old.journal (participants_of sessions.old)) }
-    ensures users { core.new.users ≡ core.old.users }
-{
-    match sessions.split_first_mut() {
-        None => Ok(()),
-        Some((session, others)) => {
-            turn(core, session)?;
-            round(core, others)
-        }
-    }
-}
-
-// A user that has not left makes its next act, or leaves where its lines are done. No act is to be made again: where no
-// entry sets a control nothing is refused.
-fn turn(core: &mut Core, session: &mut Session) -> Result<(), WantOfMemory>
-    requires user { IsTrue (is_user core.old.users session.old.user) }
-    requires people { ArePeople core.old.users }
-    requires unhindered { IsUnhindered core.old.journal }
-    ensures turn { OnOk result (record { journal = core.new.journal; participant = participant_of session.new } ≡ turn core.old.journal (participant_of session.old)) }
-    ensures users { core.new.users ≡ core.old.users }
-{
-    let user = session.user();
-    if core.has_left(user) {
-        return Ok(());
-    }
-    match session.next()? {
-        Wants::Finished => {
-            core.leave(user);
-            Ok(())
-        }
-        Wants::Act(act) => {
-            let answer = core.step(user, act)?;
-            session.answer(answer)
-        }
-    }
 }

@@ -1,5 +1,5 @@
 -- The first line that is no statement.
-use Rattle.std.proofs.Common.{◌≡◌, ℕ, ◌+◌, ◌<◌, ◌≤◌, Bool, true, false, not, cond, List, [], ◌∷◌, length, map, get_or, ltb, ap, ap₂, Option, Some, None, IsSome, IsTrue, is_none, refl, sym, subst, ◌∙◌, arith}
+use Rattle.std.proofs.Common.{◌≡◌, ℕ, ◌+◌, ◌<◌, ◌≤◌, Bool, true, false, not, cond, List, [], ◌∷◌, length, map, get_or, ltb, ap, ap₂, Option, Some, None, IsSome, is_none, refl, sym, subst, ◌∙◌, ◌⊎◌, inl, inr, arith}
 use Rattle.std.specs.List.{All, AllWithin, HoldsAt, position, position_or_len}
 use Rattle.std.specs.Prelude.{nat_lt, MatchOption}
 use Rattle.std.proofs.lemmas.Bool.{ltb-false}
@@ -8,16 +8,20 @@ use Rattle.std.proofs.lemmas.List.{length-map}
 use Rattle.std.proofs.lemmas.List.Elements.{All-nil, All-cons, All-head, All-tail}
 use Rattle.std.proofs.lemmas.List.Quantifiers.{position-Some}
 use Rattle.std.proofs.lemmas.List.Sums.{fails_before_first, position_or_len_is}
-use Rattle.bundle_text.specs.Bundle.{PlainBundle, BundleText, IsNoBundle}
+use Rattle.bundle_text.proofs.Reading.{one_bundle, never}
+use Rattle.bundle_text.specs.Breaks.{Breaks}
+use Rattle.bundle_text.specs.Bundle.{PlainBundle, BundleText}
 use Rattle.bundle_text.specs.Offset.{offset_of}
-use Rattle.bundle_text.specs.Refused.{IsReason}
+use Rattle.bundle_text.specs.Refused.{IsRefusal}
+use Rattle.bundle_text.specs.declared.refused.BundleRule.{BundleRule}
+use Rattle.bundle_text.specs.declared.refused.BundleRule.TheVariants.{Form}
 use Rattle.bundle_text.specs.declared.refused.BundleRefused.{BundleRefused}
 use Rattle.bundle_text.specs.declared.refused.BundleRefused.TheVariants.{Malformed, WantOfMemory}
 use Rattle.bundle_text.specs.User.{PlainUser}
 use Rattle.apl_session.specs.Statement.{statement_in}
 use Rattle.apl_session.specs.declared.statement.Statement.{Statement}
 use Rattle.aplsv_top.specs.declared.runnable.LinePlace.{LinePlace}
-use Rattle.aplsv_top.specs.Runnable.{AreStatements, IsNotRunnable, IsFormlessAt, formless_line, found_first, formless_place, has_users_alone, unready_by, unready_place}
+use Rattle.aplsv_top.specs.Runnable.{AreStatements, IsNotRunnable, IsFormlessAt, IsRefusedAt, formless_line, found_first, formless_place}
 
 none_is_false : (b : Bool) (n : ℕ) → cond b (Some n) None ≡ None → b ≡ false
 none_is_false true n e = absurd cc
@@ -67,42 +71,55 @@ pub not_all_statements : (users : List PlainUser) (place : LinePlace) → formle
 not_all_statements [] place e all = absurd cc
 not_all_statements (user ∷ users) place e all = none_by user users (formless_line user.lines) (formless_place users) place refl (not_all_statements users) e all
 
--- where every line can be run there are users alone, and all lines are statements
+-- a text that breaks a rule is no bundle's, so that none of its runs
+broken_runs_not : (bytes : List ℕ) (offset : ℕ) (rule : BundleRule) → Breaks bytes offset rule → IsNotRunnable bytes
+broken_runs_not bytes offset rule broken = λ bundle runnable. never bytes bundle offset rule runnable.text broken
 
-ready_by : (users : List PlainUser) (alone : Bool) → unready_by alone users ≡ None → (alone ≡ true) × All AreStatements users
-ready_by users true e = (refl, all_statements users e)
-ready_by users false e = absurd cc
+-- nor is one with a line that is no statement that of a bundle without
+formless_runs_not : (bytes : List ℕ) (offset : ℕ) (rule : BundleRule) → IsFormlessAt bytes offset rule → IsNotRunnable bytes
+formless_runs_not bytes offset rule h = λ other runnable.
+    let same = one_bundle bytes other h.bundle runnable.text h.text in
+    not_all_statements h.bundle.users h.place h.first (subst (λ b. All AreStatements b.users) same runnable.statements)
 
-pub all_ready : (bundle : PlainBundle) → unready_place bundle ≡ None → IsTrue (has_users_alone bundle) × All AreStatements bundle.users
-all_ready bundle e = ready_by bundle.users (has_users_alone bundle) e
+-- so bytes that are refused can't be run
+pub refused_runs_not : (bytes : List ℕ) (offset : ℕ) (rule : BundleRule) → IsRefusedAt bytes offset rule → IsNotRunnable bytes
+refused_runs_not bytes offset rule (inl broken) = broken_runs_not bytes offset rule broken
+refused_runs_not bytes offset rule (inr formless) = formless_runs_not bytes offset rule formless
 
-not_ready_by : (users : List PlainUser) (alone : Bool) (place : LinePlace) → unready_by alone users ≡ Some place → alone ≡ true → All AreStatements users → ⊥
-not_ready_by users true place e is all = not_all_statements users place e all
-not_ready_by users false place e is all = absurd cc
-
--- so the text of a bundle with a line that cannot be run is that of none that can
-pub not_runnable : (bytes : List ℕ) (bundle : PlainBundle) (place : LinePlace) → ((bytes : List ℕ) (bundle other : PlainBundle) → BundleText bytes bundle → BundleText bytes other → bundle ≡ other) → BundleText bytes bundle → unready_place bundle ≡ Some place → IsNotRunnable bytes
-not_runnable bytes bundle place one text found other runnable =
-    let same = one bytes other bundle runnable.text text in
-    not_ready_by bundle.users (has_users_alone bundle) place found (subst (λ b. IsTrue (has_users_alone b)) same runnable.alone) (subst (λ b. All AreStatements b.users) same runnable.statements)
-
--- what is no bundle's text is not that of one that can be run
-pub no_bundle_runs : (bytes : List ℕ) (why : BundleRefused) → IsReason why (IsNoBundle bytes) → IsReason why (IsNotRunnable bytes)
-no_bundle_runs bytes WantOfMemory none = tt
-no_bundle_runs bytes (Malformed offset rule) none = λ bundle runnable. none bundle runnable.text
-
--- nothing is said where memory ran out
-pub nothing_said : (users : List PlainUser) (place : LinePlace) (why : BundleRefused) → why ≡ WantOfMemory → IsFormlessAt users place why
-nothing_said users place why is = subst (IsFormlessAt users place) (sym is) tt
+-- what breaks a rule of bundles is refused
+pub broken_is_refused : (bytes : List ℕ) (why : BundleRefused) → IsRefusal why (Breaks bytes) → IsRefusal why (IsRefusedAt bytes)
+broken_is_refused bytes (Malformed offset rule) broken = inl broken
+broken_is_refused bytes WantOfMemory broken = tt
 
 same_place : (place other : LinePlace) → (let one : Option LinePlace = Some place in one ≡ Some other) → place ≡ other
 same_place place other e = cc
 
--- the line that cannot be run is one
-pub stands_there : (bundle mine : PlainBundle) (place other : LinePlace) (offset : ℕ) → bundle ≡ mine → unready_place bundle ≡ Some place → unready_place mine ≡ Some other → offset ≡ offset_of mine.users other.user other.line → offset ≡ offset_of bundle.users place.user place.line
-stands_there bundle mine place other offset same found is at =
-    let one : place ≡ other = same_place place other (sym found ∙ (ap unready_place same ∙ is)) in
-    at ∙ sym (ap₂ (λ (b : PlainBundle) (p : LinePlace). offset_of b.users p.user p.line) same one)
+-- the first line that is no statement stands at one offset
+pub stands_there : (bytes : List ℕ) (bundle : PlainBundle) (place : LinePlace) (offset there : ℕ) (rule : BundleRule) → BundleText bytes bundle → formless_place bundle.users ≡ Some place →
+    there ≡ offset_of bundle.users place.user place.line → IsFormlessAt bytes offset rule → (there ≡ offset) × (Form ≡ rule)
+stands_there bytes bundle place offset there rule text found at h =
+    let same : h.bundle ≡ bundle = one_bundle bytes h.bundle bundle h.text text in
+    let one : h.place ≡ place = same_place h.place place (sym h.first ∙ (ap (λ (b : PlainBundle). formless_place b.users) same ∙ found)) in
+    (at ∙ (sym (ap₂ (λ (b : PlainBundle) (p : LinePlace). offset_of b.users p.user p.line) same one) ∙ sym h.there), sym h.named)
+
+-- a text of a bundle whose lines are all statements is not refused
+pub none_is_refused : (bytes : List ℕ) (bundle : PlainBundle) (offset : ℕ) (rule : BundleRule) → BundleText bytes bundle → formless_place bundle.users ≡ None → IsRefusedAt bytes offset rule → ⊥
+none_is_refused bytes bundle offset rule text none refused =
+    refused_runs_not bytes offset rule refused bundle (record { text = text; statements = all_statements bundle.users none })
+
+-- where memory ran out no bundle was read, and the rule that is broken is named
+pub only_of : (bytes : List ℕ) (why : BundleRefused) → ((offset : ℕ) (rule : BundleRule) → Breaks bytes offset rule → (why ≡ Malformed offset rule) ⊎ (why ≡ WantOfMemory)) →
+    ((bundle : PlainBundle) → BundleText bytes bundle → why ≡ WantOfMemory) → (offset : ℕ) (rule : BundleRule) → IsRefusedAt bytes offset rule → (why ≡ Malformed offset rule) ⊎ (why ≡ WantOfMemory)
+only_of bytes why breaks reads offset rule (inl broken) = breaks offset rule broken
+only_of bytes why breaks reads offset rule (inr formless) = inr (reads formless.bundle formless.text)
+
+-- where a bundle was read the line that is no statement is named
+pub only_there : (bytes : List ℕ) (bundle : PlainBundle) (place : LinePlace) (there : ℕ) → BundleText bytes bundle → formless_place bundle.users ≡ Some place → there ≡ offset_of bundle.users place.user place.line →
+    (offset : ℕ) (rule : BundleRule) → IsRefusedAt bytes offset rule → (Malformed there Form ≡ Malformed offset rule) ⊎ (Malformed there Form ≡ WantOfMemory)
+only_there bytes bundle place there text found at offset rule (inl broken) = absurd (never bytes bundle offset rule text broken)
+only_there bytes bundle place there text found at offset rule (inr formless) =
+    let same = stands_there bytes bundle place offset there rule text found at formless in
+    inl (ap₂ (λ (o : ℕ) (r : BundleRule). Malformed o r) same.0 same.1)
 
 -- the first place where a test passes, of things seen otherwise
 

@@ -9,7 +9,8 @@ use Rattle.sv_journal.specs.Printable.{ArePrintable}
 use Rattle.bundle_text.specs.Bundle.{PlainBundle}
 use Rattle.apl_session.specs.Run.{IsRun}
 use Rattle.aplsv_replay.specs.Turns.{IsJournalOfTurns}
-use Rattle.aplsv_top.specs.Runnable.{RunnableText, IsNotRunnable}
+use Rattle.bundle_text.specs.declared.refused.BundleRule.{BundleRule}
+use Rattle.aplsv_top.specs.Runnable.{RunnableText, IsNotRunnable, IsRefusedAt}
 
 -- the text is the output of a run of this bundle: its transcripts, and its journal with the oldest entry first, which is
 -- the journal of the bundle's turns. They are printable, and no others that are have this output
@@ -43,8 +44,9 @@ pub record WritesFront (left rest held now : Option (List ℕ)) : Type 0 where
   pub run : IsOutputFor bytes text
   pub written : AppendsPrefix held now text
 
--- all bytes were read, to their end, and they are the text of no bundle that can be run
-pub record FindsNoBundle (left rest : Option (List ℕ)) : Type 0 where
+-- all bytes were read, to their end, and they can't be run, since this rule is broken at this offset
+pub record FindsNoBundle (left rest : Option (List ℕ)) (offset : ℕ) (rule : BundleRule) : Type 0 where
   pub bytes : List ℕ
   pub read : ReadsAll left rest bytes
+  pub refused : IsRefusedAt bytes offset rule
   pub none : IsNotRunnable bytes

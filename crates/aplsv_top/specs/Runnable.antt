@@ -1,12 +1,12 @@
--- The bundles that can be run: of users alone, whose lines are all statements.
-use Rattle.std.specs.Prelude.{◌≡◌, ℕ, ◌+◌, ◌==◌, ◌&&◌, Bool, true, false, List, [], ◌∷◌, All, IsTrue, length, Option, Some, None, IsSome, is_none}
+-- The bundles that can be run: those whose lines are all statements.
+use Rattle.std.specs.Prelude.{◌≡◌, ◌⊎◌, ℕ, ◌+◌, List, [], ◌∷◌, All, Option, Some, None, IsSome, is_none}
 use Rattle.std.specs.List.{position}
 use Rattle.std.specs.Option.{option_map}
+use Rattle.bundle_text.specs.Breaks.{Breaks}
 use Rattle.bundle_text.specs.Bundle.{PlainBundle, BundleText}
 use Rattle.bundle_text.specs.User.{PlainUser}
 use Rattle.bundle_text.specs.Offset.{offset_of}
-use Rattle.bundle_text.specs.declared.refused.BundleRefused.{BundleRefused}
-use Rattle.bundle_text.specs.declared.refused.BundleRefused.TheVariants.{Malformed, WantOfMemory}
+use Rattle.bundle_text.specs.declared.refused.BundleRule.{BundleRule}
 use Rattle.bundle_text.specs.declared.refused.BundleRule.TheVariants.{Form}
 use Rattle.apl_session.specs.Statement.{statement_in}
 use Rattle.aplsv_top.specs.declared.runnable.LinePlace.{LinePlace}
@@ -15,17 +15,12 @@ use Rattle.aplsv_top.specs.declared.runnable.LinePlace.{LinePlace}
 abbrev pub AreStatements : PlainUser → Type 0
 AreStatements user = All (λ line. IsSome (statement_in line)) user.lines
 
--- a bundle has nothing but users: no turns, no files and no readings
-abbrev pub has_users_alone : PlainBundle → Bool
-has_users_alone bundle = length bundle.order == 0 && length bundle.files == 0 && length bundle.clock == 0
-
--- the bytes are the text of this bundle, which has users alone, and each of their lines is a statement
+-- the bytes are the text of this bundle, and each line of its users is a statement
 pub record RunnableText (bytes : List ℕ) (bundle : PlainBundle) : Type 0 where
   pub text : BundleText bytes bundle
-  pub alone : IsTrue (has_users_alone bundle)
   pub statements : All AreStatements bundle.users
 
--- the bytes are the text of no bundle of users alone whose lines are all statements
+-- the bytes are the text of no bundle whose lines are all statements
 abbrev pub IsNotRunnable : List ℕ → Type 0
 IsNotRunnable bytes = (bundle : PlainBundle) → ¬ RunnableText bytes bundle
 
@@ -43,16 +38,16 @@ abbrev pub formless_place : List PlainUser → Option LinePlace
 formless_place [] = None
 formless_place (user ∷ users) = found_first (formless_line user.lines) (formless_place users)
 
--- the line behind those of the users where there is one, else the first line that is no statement
-abbrev pub unready_by : Bool → List PlainUser → Option LinePlace
-unready_by true users = formless_place users
-unready_by false users = Some (record { user = length users; line = 0 })
+-- the bytes are the text of a bundle with a line that is no statement: the first of these stands at this offset, and the
+-- rule is that of forms
+pub record IsFormlessAt (bytes : List ℕ) (offset : ℕ) (rule : BundleRule) : Type 0 where
+  pub bundle : PlainBundle
+  pub text : BundleText bytes bundle
+  pub place : LinePlace
+  pub first : formless_place bundle.users ≡ Some place
+  pub there : offset ≡ offset_of bundle.users place.user place.line
+  pub named : rule ≡ Form
 
--- the first line of a bundle that cannot be run
-abbrev pub unready_place : PlainBundle → Option LinePlace
-unready_place bundle = unready_by (has_users_alone bundle) bundle.users
-
--- the answer names the line's first byte and the rule of its form, unless memory ran out
-abbrev pub IsFormlessAt : List PlainUser → LinePlace → BundleRefused → Type 0
-IsFormlessAt users place (Malformed offset rule) = (offset ≡ offset_of users place.user place.line) × (rule ≡ Form)
-IsFormlessAt users place WantOfMemory = Unit {0}
+-- why bytes can't be run, and where: they break a rule of bundles, or a line of a user is no statement
+abbrev pub IsRefusedAt : List ℕ → ℕ → BundleRule → Type 0
+IsRefusedAt bytes offset rule = Breaks bytes offset rule ⊎ IsFormlessAt bytes offset rule

@@ -1,15 +1,13 @@
-ghost use Rattle.std.specs.Prelude.{◌≡◌, ◌⊎◌, ◌<◌, ℕ, Some, IfOk, IfErr, IfSome, MatchResult, is_none, length, map};
+ghost use Rattle.std.specs.Prelude.{◌≡◌, ◌⊎◌, ◌<◌, ℕ, IfOk, IfErr, IfSome, MatchResult, is_none, length, map};
 ghost use Rattle.apl_arrays.specs.List.{glyphs_in};
-ghost use Rattle.bundle_text.specs.Breaks.{Breaks};
-ghost use Rattle.bundle_text.specs.Bundle.{PlainBundle, BundleText};
-ghost use Rattle.bundle_text.specs.Refused.{IsReason};
+ghost use Rattle.bundle_text.specs.Refused.{IsRefusal};
 ghost use Rattle.bundle_text.specs.User.{plain_user};
 ghost use Rattle.apl_session.specs.Statement.{statement_in};
-ghost use Rattle.aplsv_top.specs.Runnable.{RunnableText, IsNotRunnable, IsFormlessAt, formless_line, formless_place, has_users_alone, unready_place};
+ghost use Rattle.aplsv_top.specs.Runnable.{RunnableText, IsRefusedAt, formless_line, formless_place};
 
 use apl_arrays::Line;
 use apl_session::statement_of;
-use bundle_text::{Bundle, BundleRefused, BundleRule, BundleUser, read, texts_are_of_one_bundle};
+use bundle_text::{Bundle, BundleRefused, BundleRule, BundleUser, read};
 use std::alloc::Global;
 
 /// The place of a line: its user, and its place among that user's lines, both counted from 0.
@@ -19,48 +17,22 @@ pub struct LinePlace {
     pub line: usize,
 }
 
-/// The bundle that the bytes are the text of, where it has users alone and each of their lines is a statement.
-/// `Malformed` where they are the text of no bundle, at the place where they break a rule; and with the rule `Form` at the line behind those of the users, where
-/// there is one before the end, else at the first line that is no statement. It takes memory for what the bundle has.
+/// The bundle that the bytes are the text of, where each line of its users is a statement. `Malformed` where they are the
+/// text of no bundle, at the place where they break a rule; else with the rule `Form` at the first line that is no
+/// statement. It takes memory for what the bundle has.
 pub fn read_runnable(alloc: Global, bytes: &[u8]) -> Result<Bundle, BundleRefused>
     ensures runnable { IfOk result (λ bundle. RunnableText bytes.now bundle) }
-    ensures breaks { (offset : ℕ) (rule : BundleRule) → Breaks bytes.now offset rule →
+    ensures refused { IfErr result (λ why. IsRefusal why (IsRefusedAt bytes.now)) }
+    ensures only { (offset : ℕ) (rule : BundleRule) → IsRefusedAt bytes.now offset rule →
         MatchResult result (λ _. ⊥) (λ why. (why ≡ BundleRefused.Malformed offset rule) ⊎ (why ≡ BundleRefused.WantOfMemory)) }
-    ensures malformed { IfErr result (λ why. IsReason why (IsNotRunnable bytes.now)) }
-    ensures formless { (bundle : PlainBundle) (place : LinePlace) → BundleText bytes.now bundle → unready_place bundle ≡ Some place
-        → IfErr result (λ why. IsFormlessAt bundle.users place why) }
 {
     let bundle = read(alloc, bytes)?;
-    texts_are_of_one_bundle();
-    match unready_place(&bundle) {
+    match formless_place(bundle.users()) {
         None => Ok(bundle),
         Some(place) => Err(BundleRefused::Malformed {
             offset: bundle.offset_of(place.user, place.line),
             rule: BundleRule::Form,
         }),
-    }
-}
-
-// Whether a bundle has nothing but users.
-fn has_users_alone(bundle: &Bundle) -> bool
-    ensures { result ≡ has_users_alone bundle.now }
-{
-    bundle.order().is_empty() && bundle.files().is_empty() && bundle.clock().is_empty()
-}
-
-// The place of the first line that cannot be run: the one behind those of the users where there is one before the end,
-// else the first that is no statement.
-fn unready_place(bundle: &Bundle) -> Option<LinePlace>
-    ensures { result ≡ unready_place bundle.now }
-{
-    let users = bundle.users();
-    if has_users_alone(bundle) {
-        formless_place(users)
-    } else {
-        Some(LinePlace {
-            user: users.len(),
-            line: 0,
-        })
     }
 }
 

@@ -3,7 +3,7 @@ use Rattle.std.proofs.lemmas.Bool.{or_left}
 use Rattle.sv_rules.specs.Legal.{is_user}
 use Rattle.sv_rules.specs.Work.{is_auxiliary}
 use Rattle.aplsv_replay.proofs.Unhindered.{any_act_is_due}
-use Rattle.aplsv_replay.proofs.driver.turn.Goals as goal
+use Rattle.aplsv_replay.proofs.taking.turn.Goals as goal
 
 pub step-requires-clause-member : goal.step-requires-clause-member
 step-requires-clause-member c = or_left (is_user c.args.core.now.users c.user-user.result) (is_auxiliary c.user-user.result) (search rules)
