@@ -13,7 +13,7 @@ use apl_arrays::WantOfMemory;
 use apl_session::{Session, Wants};
 use sv_core::Core;
 use sv_events::{Act, Work, act_of};
-use sv_rules::{CLOCK_PARTY, TEXT_PARTY, is_auxiliary};
+use sv_rules::is_auxiliary;
 use sv_story_laws::step_law;
 
 /// The turns of these parties, one after another. It takes memory for their entries and for what is printed.
@@ -35,7 +35,9 @@ pub fn order_turns(
     Ok(())
 }
 
-/// A round: a turn for each auxiliary, and then for each session. It takes memory for their entries and for what is printed.
+/// A round: a turn for each auxiliary, which has no work, so that nothing is done for it, and then for each session. It
+/// takes memory for their entries and for what is printed.
+#[tactic(auto, using(crate::proofs::Idle::round_of_users))]
 pub fn round(core: &mut Core, sessions: &mut [Session]) -> Result<(), WantOfMemory>
     requires users { All (λ participant. IsTrue (is_user core.old.users participant.number)) (participants_of sessions.old) }
     requires people { ArePeople core.old.users }
@@ -43,8 +45,6 @@ pub fn round(core: &mut Core, sessions: &mut [Session]) -> Result<(), WantOfMemo
     ensures turns { OnOk result (record { journal = core.new.journal; participants = participants_of sessions.new } ≡ round core.old.journal (participants_of sessions.old)) }
     ensures users { OnOk result (core.new.users ≡ core.old.users) }
 {
-    auxiliary_turn(core, sessions, CLOCK_PARTY)?;
-    auxiliary_turn(core, sessions, TEXT_PARTY)?;
     user_turns(core, sessions)
 }
 

@@ -1,0 +1,54 @@
+-- A function that is applied: the application counts once, and none does that may not be.
+use Rattle.std.proofs.Common.{◌≡◌, ℕ, ◌+◌, Bool, true, refl, sym, ap, ◌∙◌}
+use Rattle.std.specs.Prelude.{◌&&◌, ◌||◌, ℤ, Option, Some, None, Result, Ok, is_some, not, option_map, if◌then◌else◌}
+use Rattle.apl_arrays.specs.Array.{PlainArray}
+use Rattle.apl_arrays.specs.declared.report.Fail.{Fail}
+use Rattle.apl_arrays.specs.declared.report.Report.TheVariants.{Syntax}
+use Rattle.apl_arrays.specs.declared.verb.Verb.{Verb}
+use Rattle.apl_operators.specs.Apply.{applied, is_dyadic, takes_axis}
+use Rattle.apl_meaning.specs.Expressions.{valued}
+use Rattle.apl_meaning.specs.Meaning.{closed}
+use Rattle.apl_meaning.specs.State.{State, gives, refuses, outcome_of}
+use Rattle.apl_meaning.specs.Verbs.{application, both_or_neither, may_be_applied}
+use Rattle.apl_machine.specs.declared.evaluation.Evaluation.{Evaluation}
+use Rattle.apl_machine.specs.declared.flow.Flow.{Flow}
+use Rattle.apl_machine.specs.Evaluating.{caller_of}
+use Rattle.apl_machine.specs.Interpreter.{PlainInterpreter, here, state_at}
+use Rattle.apl_machine.specs.Moves.{Comes, Moves, part_gives}
+use Rattle.apl_machine.specs.Stack.{carried_on}
+use Rattle.apl_machine.proofs.Moving.{comes_then}
+use Rattle.apl_machine.proofs.Same.{comes_as}
+use Rattle.apl_machine.proofs.Taken.{answer_gives}
+
+may_as : {A : Type 0} (f : Verb) (value : A → PlainArray) (left : Option A) (axis : Option ℤ) → (both_or_neither (is_dyadic f) (is_some left) && (not (is_some axis) || takes_axis f)) ≡ may_be_applied f (option_map value left) axis
+may_as f value None None = refl
+may_as f value None (Some axis) = refl
+may_as f value (Some left) None = refl
+may_as f value (Some left) (Some axis) = refl
+
+-- whether a function may be applied, as it was tested
+pub may_tested : {A : Type 0} (f : Verb) (value : A → PlainArray) (left : Option A) (axis : Option ℤ) (has_left has_axis tested : Bool) → has_left ≡ is_some left → has_axis ≡ is_some axis
+    → tested ≡ (both_or_neither (is_dyadic f) has_left && (not has_axis || takes_axis f)) → may_be_applied f (option_map value left) axis ≡ tested
+may_tested f value left axis has_left has_axis tested one two is =
+    sym (may_as f value left axis)
+    ∙ ap (λ (b : Bool). both_or_neither (is_dyadic f) b && (not (is_some axis) || takes_axis f)) (sym one)
+    ∙ ap (λ (b : Bool). both_or_neither (is_dyadic f) has_left && (not b || takes_axis f)) (sym two)
+    ∙ sym is
+
+-- one that may be counts once
+counts_one : (m : PlainInterpreter) (e : Evaluation) (f : Verb) (left : Option PlainArray) (right : PlainArray) (axis : Option ℤ) (k : ℕ) → may_be_applied f left axis ≡ true → k ≡ 1
+    → Moves m (part_gives m e (λ s. valued (application f left right axis s))) k m (part_gives m e (λ s. valued (outcome_of (applied f left right axis) s)))
+counts_one m e f left right axis k may one = record {
+  same = λ asked count taken further.
+      let s : State = state_at m asked count taken further in
+      ap (λ (b : Bool). closed (carried_on (valued (if b then outcome_of (applied f left right axis) (record s { applications = s.applications + 1 }) else refuses Syntax s)) (caller_of m.workspace (here m) e) m.stack)) may
+      ∙ ap (λ (n : ℕ). closed (part_gives m e (λ t. valued (outcome_of (applied f left right axis) t)) (state_at m asked (count + n) taken further))) (sym one);
+}
+
+-- and then the statement gets its answer
+pub applies : (m : PlainInterpreter) (e : Evaluation) (f : Verb) (left : Option PlainArray) (right : PlainArray) (axis : Option ℤ) (k : ℕ) (array : PlainArray) (r : Result Flow Fail) → may_be_applied f left axis ≡ true → k ≡ 1 → applied f left right axis ≡ Ok array
+    → Comes m (part_gives m e (λ s. gives (Some array) s)) 0 m r → Comes m (part_gives m e (λ s. valued (application f left right axis s))) k m r
+applies m e f left right axis k array r may one is comes =
+    let answers = λ (s : State). valued (outcome_of (applied f left right axis) s) in
+    comes_then m m m (part_gives m e (λ s. valued (application f left right axis s))) (part_gives m e answers) k r (counts_one m e f left right axis k may one)
+    (comes_as m m (part_gives m e answers) (part_gives m e (λ s. gives (Some array) s)) 0 r (answer_gives m e (applied f left right axis) array is) comes)

@@ -1,0 +1,17 @@
+pub mod Evaluating
+pub mod Faults
+pub mod Interpreter
+pub mod Machine
+pub mod Moves
+pub mod Operands
+pub mod Parts
+pub mod Pending
+pub mod Rows
+pub mod Runs
+pub mod Sound
+pub mod Stack
+pub mod Stages
+pub mod Stops
+pub mod Values
+pub mod Waitings
+pub mod Work

@@ -1,0 +1,107 @@
+-- A machine as plain data, what is still to come of it, and what its calls change.
+use Rattle.std.specs.Prelude.{◌≡◌, ◌++◌, ℕ, List, []}
+use Rattle.apl_arrays.specs.declared.report.Report.{Report}
+use Rattle.apl_workspace.specs.Workspace.{PlainWorkspace}
+use Rattle.line_trees.specs.Parsing.{PlainTree}
+use Rattle.line_trees.specs.Trees.{line_tree_of}
+use Rattle.sv_events.specs.Answer.{PlainAnswer, plain_answer}
+use Rattle.sv_events.specs.declared.event.Act.{Act}
+use Rattle.apl_meaning.specs.State.{State, Outcome, gives, and_then}
+use Rattle.apl_meaning.specs.Tasks.{Next, goes_on, immediate, begun}
+use Rattle.apl_meaning.specs.Statements.{line_outcome}
+use Rattle.apl_meaning.specs.Meaning.{most_statements, ran}
+use Rattle.apl_meaning.specs.Printing.{report_lines}
+use Rattle.apl_machine.specs.declared.machine.Stage.{Stage}
+use Rattle.apl_machine.specs.declared.machine.Stage.TheVariants as stage
+use Rattle.apl_machine.specs.Evaluating.{caller_of}
+use Rattle.apl_machine.specs.Interpreter.{PlainInterpreter, here}
+use Rattle.apl_machine.specs.Parts.{reading_tree}
+use Rattle.apl_machine.specs.Pending.{PlainPending, act_of, asked_for, brought_by, plain_pending}
+use Rattle.apl_machine.specs.Stack.{PlainCaller, PlainWaiting, behind, carried_on}
+
+-- what a machine does between calls: it is idle; it is to begin a line of this tree; an act is open, behind which the statement goes on; the act has its answer; or memory ran out, for good
+pub data PlainStage : Type 0 where
+  idle : PlainStage
+  begins : PlainTree → PlainStage
+  is_open : PlainPending → PlainCaller → PlainStage
+  has_answer : PlainAnswer → PlainPending → PlainCaller → PlainStage
+  lost : PlainStage
+
+-- a machine: what is under way, and what the machine does
+pub record PlainMachine : Type 0 where
+  pub interpreter : PlainInterpreter
+  pub stage : PlainStage
+
+-- what a machine does, where reports have this second line
+abbrev pub plain_stage : PlainWorkspace → List ℕ → Stage → PlainStage
+plain_stage w shown stage.Idle = idle
+plain_stage w shown (stage.Begins reading) = begins (reading_tree reading)
+plain_stage w shown (stage.Open for_this e) = is_open (plain_pending for_this) (caller_of w shown e)
+plain_stage w shown (stage.Answered answer for_this e) = has_answer (plain_answer answer) (plain_pending for_this) (caller_of w shown e)
+plain_stage w shown stage.Lost = lost
+
+-- what is still to come of a stage over what waits; of a machine that is idle or lost nothing is asked
+abbrev pub stage_to_come : PlainStage → List PlainWaiting → State → Outcome Next
+stage_to_come idle ws s = gives goes_on s
+stage_to_come (begins tree) ws s = and_then (begun (line_outcome ran immediate (line_tree_of tree)) s) (λ next t. behind ws next t)
+stage_to_come (is_open for_this caller) ws s = carried_on (asked_for for_this s) caller ws
+stage_to_come (has_answer answer for_this caller) ws s = carried_on (brought_by answer for_this s) caller ws
+stage_to_come lost ws s = gives goes_on s
+
+-- what is still to come of a machine between calls
+abbrev pub still_to_come : PlainMachine → State → Outcome Next
+still_to_come m s = stage_to_come m.stage m.interpreter.stack s
+
+-- an idle machine on a workspace
+abbrev pub idle_on : PlainWorkspace → PlainMachine
+idle_on w = record { interpreter = record { workspace = w; output = []; statements = 0; input = []; stack = [] }; stage = idle }
+
+-- a machine is idle: no line is under way
+pub record IsIdle (m : PlainMachine) : Type 0 where
+  pub stage : m.stage ≡ idle
+  pub stack : m.interpreter.stack ≡ []
+  pub frames : m.interpreter.workspace.frames ≡ []
+
+-- this act is open in a stage
+abbrev pub IsOpenIn : PlainWorkspace → PlainStage → Act → Type 0
+IsOpenIn w idle asked = ⊥
+IsOpenIn w (begins tree) asked = ⊥
+IsOpenIn w (is_open for_this caller) asked = act_of for_this w ≡ asked
+IsOpenIn w (has_answer answer for_this caller) asked = ⊥
+IsOpenIn w lost asked = ⊥
+
+-- this act of a machine is open
+abbrev pub IsOpenAct : PlainMachine → Act → Type 0
+IsOpenAct m asked = IsOpenIn m.interpreter.workspace m.stage asked
+
+-- a machine may run: a line is to begin, or an act has its answer; one that is lost may too, and answers so
+abbrev pub MayRun : PlainStage → Type 0
+MayRun idle = ⊥
+MayRun (begins tree) = Unit {0}
+MayRun (is_open for_this caller) = ⊥
+MayRun (has_answer answer for_this caller) = Unit {0}
+MayRun lost = Unit {0}
+
+-- an act of a stage is open
+abbrev pub IsOpenStage : PlainStage → Type 0
+IsOpenStage idle = ⊥
+IsOpenStage (begins tree) = ⊥
+IsOpenStage (is_open for_this caller) = Unit {0}
+IsOpenStage (has_answer answer for_this caller) = ⊥
+IsOpenStage lost = ⊥
+
+-- a machine that is to begin a line of this tree
+abbrev pub machine_before : List ℕ → PlainTree → PlainMachine → PlainMachine
+machine_before line tree m = record { interpreter = record m.interpreter { statements = most_statements; input = line }; stage = begins tree }
+
+-- a line was ended by a report: its two lines are printed, and all functions under way are left
+abbrev pub ended_by : Report → PlainInterpreter → PlainInterpreter
+ended_by report m = record m { workspace = record m.workspace { frames = [] }; output = m.output ++ report_lines report (here m); stack = [] }
+
+-- a machine whose line was ended by a report
+abbrev pub machine_after : Report → PlainInterpreter → PlainMachine
+machine_after report m = record { interpreter = ended_by report m; stage = idle }
+
+-- a machine without the lines that were printed
+abbrev pub silent : PlainMachine → PlainMachine
+silent m = record m { interpreter = record m.interpreter { output = [] } }

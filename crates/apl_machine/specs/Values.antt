@@ -1,0 +1,85 @@
+-- Values that no part has taken yet, as arrays.
+use Rattle.std.specs.Prelude.{◌≡◌, ◌++◌, ℕ, ℤ, true, List, [], ◌∷◌, Option, Some, None, Ok, Err, IsSome, map, reverse, slice_get, unwrap_or}
+use Rattle.std.specs.Arc.{arc_value}
+use Rattle.apl_arrays.specs.Array.{PlainArray, chars}
+use Rattle.apl_arrays.specs.declared.report.Fail.{Fail}
+use Rattle.apl_arrays.specs.declared.report.Fail.TheVariants as fail
+use Rattle.apl_workspace.specs.Workspace.{PlainWorkspace, look}
+use Rattle.apl_meaning.specs.Deeds.{value_of}
+use Rattle.apl_meaning.specs.Verbs.{named_axis}
+use Rattle.apl_machine.specs.declared.evaluation.Evaluation.{Evaluation}
+use Rattle.apl_machine.specs.declared.part.Part.{Part}
+use Rattle.apl_machine.specs.declared.part.Part.TheVariants as part
+use Rattle.apl_machine.specs.declared.values.Held.{Held}
+use Rattle.apl_machine.specs.declared.values.Held.TheVariants as held
+
+-- no characters, in the place of a value that is no array; no machine holds one
+abbrev pub no_array : PlainArray
+no_array = record { shape = 0 ∷ []; items = chars [] }
+
+-- the array of a part that is a constant
+abbrev pub constant_of : Option Part → Option PlainArray
+constant_of None = None
+constant_of (Some (part.Constant array)) = Some array
+constant_of (Some (part.Other other)) = None
+
+-- the array that a value is, if it is one: the one that was made, a constant, or the value that a name has now, a shared one its own copy
+abbrev pub array_held : PlainWorkspace → List Part → Held → Option PlainArray
+array_held w parts (held.Made array) = Some array
+array_held w parts (held.Constant at) = constant_of (slice_get parts at)
+array_held w parts (held.Named name) = value_of (look w name)
+
+-- the array that a value is
+abbrev pub held_value : PlainWorkspace → List Part → Held → PlainArray
+held_value w parts value = unwrap_or (array_held w parts value) no_array
+
+-- the value is an array. On an empty workspace no name has one, so there it says that the value is not a name's
+abbrev pub IsHeld : PlainWorkspace → List Part → Held → Type 0
+IsHeld w parts value = IsSome (array_held w parts value)
+
+-- the parts of a statement
+abbrev pub parts_of : Evaluation → List Part
+parts_of e = (arc_value e.reading).parts.items
+
+-- the values that no part of a statement has taken yet, the newest first
+abbrev pub held_values : PlainWorkspace → Evaluation → List PlainArray
+held_values w e = reverse (map (held_value w (parts_of e)) e.values.items)
+
+-- a value that is a name's has one
+abbrev pub NameHasValue : PlainWorkspace → Held → Type 0
+NameHasValue w (held.Made array) = Unit {0}
+NameHasValue w (held.Constant at) = Unit {0}
+NameHasValue w (held.Named name) = IsSome (value_of (look w name))
+
+-- a value before the workspace changes: one that a name has is made an array
+abbrev pub settled : PlainWorkspace → Held → Held
+settled w (held.Made array) = held.Made array
+settled w (held.Constant at) = held.Constant at
+settled w (held.Named name) = held.Made (unwrap_or (value_of (look w name)) no_array)
+
+-- a statement that differs in its values alone, which are these
+pub record IsWithValues (before : Evaluation) (these : List Held) (after : Evaluation) : Type 0 where
+  pub same : after ≡ record before { values = after.values }
+  pub values : after.values.items ≡ these
+
+-- a statement got what a function gave: a value behind its others, or none, and then one is wanting
+abbrev pub IsResumedWith : Option PlainArray → Evaluation → Evaluation → Type 0
+IsResumedWith None before after = after ≡ record before { is_wanting = true }
+IsResumedWith (Some array) before after = IsWithValues before (before.values.items ++ held.Made array ∷ []) after
+
+-- what an assignment to a name gives: another value where there is one, else the one that the name has then
+abbrev pub held_given : List ℕ → Option PlainArray → Held
+held_given name None = held.Named name
+held_given name (Some array) = held.Made array
+
+-- this is the number of an axis, where there is an axis
+abbrev pub IsAxis : Option PlainArray → Option ℤ → Type 0
+IsAxis None number = number ≡ None
+IsAxis (Some axis) None = ⊥
+IsAxis (Some axis) (Some number) = named_axis axis ≡ Ok number
+
+-- why an axis has no number
+abbrev pub IsNoAxis : Option PlainArray → Fail → Type 0
+IsNoAxis None why = ⊥
+IsNoAxis (Some axis) (fail.Report report) = named_axis axis ≡ Err report
+IsNoAxis (Some axis) fail.WantOfMemory = ⊥

@@ -1,0 +1,77 @@
+ghost use Rattle.std.specs.Prelude.{◌≡◌, [], IfOk};
+ghost use Rattle.apl_machine.specs.Machine.{idle_on};
+ghost use Rattle.apl_machine.specs.Pending.{IsPending, act_of, plain_pending};
+
+use crate::pending::Pending;
+use crate::waiting::Waiting;
+use apl_arrays::{Line, LineList, List, WantOfMemory};
+use apl_workspace::Workspace;
+use std::alloc::Global;
+use std::marker::Model;
+use std::mem;
+use sv_events::Act;
+
+/// A workspace and what is under way on it: the lines that were not taken yet, the statements that may still be begun, the
+/// line as read, and the functions under way with the innermost last. It is seen as plain data.
+#[derive(Drop)]
+pub struct Interpreter {
+    pub alloc: Global,
+    pub workspace: Workspace,
+    pub output: LineList,
+    pub statements: u32,
+    pub input: Line,
+    pub callers: Vec<Waiting>,
+}
+
+impl Model for Interpreter {
+    ghost use Rattle.apl_machine.specs.Interpreter.{PlainInterpreter};
+
+    ghost Value = { PlainInterpreter };
+
+    ghost use Rattle.apl_machine.specs.Sound.{IsInterpreter, plain_interpreter};
+
+    ghost view = { plain_interpreter };
+
+    ghost invariant = { IsInterpreter };
+}
+
+impl Interpreter {
+    /// Nothing is under way on a workspace. No memory.
+    pub fn new(alloc: Global, workspace: Workspace) -> Interpreter
+        requires { workspace.frames ≡ [] }
+        ensures { result ≡ (idle_on workspace).interpreter }
+    {
+        Interpreter {
+            alloc,
+            workspace,
+            output: LineList::new(alloc),
+            statements: 0,
+            input: List::new(alloc),
+            callers: Vec::new(alloc),
+        }
+    }
+    /// A line is to begin, in which so many statements may be begun. No memory.
+    pub fn begin(&mut self, input: Line, statements: u32)
+        requires { self.old.stack ≡ [] }
+        ensures { self.new ≡ record self.old { statements = statements; input = input.items } }
+    {
+        self.input = input;
+        self.statements = statements;
+    }
+
+    /// The lines that were not taken yet. No memory.
+    pub fn take_output(&mut self) -> LineList
+        ensures lines { result.items ≡ self.old.output }
+        ensures rest { self.new ≡ record self.old { output = [] } }
+    {
+        mem::replace(&mut self.output, LineList::new(self.alloc))
+    }
+
+    /// The act that is open. It takes memory for its value.
+    pub fn act_of(&self, pending: &Pending) -> Result<Act, WantOfMemory>
+        requires { IsPending self.now.workspace pending.now }
+        ensures { IfOk result (λ act. act ≡ act_of (plain_pending pending.now) self.now.workspace) }
+    {
+        pending.act(self.alloc, &self.workspace)
+    }
+}

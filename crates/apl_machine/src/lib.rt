@@ -1,0 +1,31 @@
+//! The machine that evaluates a line, stops at its acts, and goes on with their answers.
+#![tactic(auto)]
+
+mod answering;
+mod applying;
+mod assigning;
+mod calling;
+mod changing;
+mod controls;
+mod ending;
+mod evaluation;
+mod flow;
+mod interpreter;
+pub mod laws;
+mod machine;
+mod naming;
+mod part;
+mod pending;
+mod place;
+mod printing;
+mod queries;
+mod reading;
+mod reports;
+mod rows;
+mod sharing;
+mod stepping;
+mod values;
+mod waiting;
+
+pub use flow::Stop;
+pub use machine::{Machine, STATEMENT_LIMIT};

@@ -1,0 +1,40 @@
+ghost use Rattle.std.specs.Prelude.{◌≡◌, ◌+◌, ◌≤◌, ◌++◌, ◌∷◌, [], IfErr, OnErr, OnOk, length, map};
+ghost use Rattle.apl_arrays.specs.List.{glyphs_in};
+ghost use Rattle.apl_workspace.specs.Limits.{most_printed};
+ghost use Rattle.apl_workspace.specs.Workspace.{with_printed};
+ghost use Rattle.apl_meaning.specs.Printing.{lines_printed};
+ghost use Rattle.apl_machine.specs.Moves.{HasDone, IsNotPrinted};
+
+use crate::interpreter::Interpreter;
+use apl_arrays::{Fail, Line, Report};
+use apl_workspace::PRINTED_LIMIT;
+
+impl Interpreter {
+    /// Prints lines, one after another, whose glyphs are counted. INTERRUPT at the line that would pass the limit. It takes
+    /// memory for the output.
+    pub(crate) fn print_lines(&mut self, lines: Vec<Line>) -> Result<(), Fail>
+        ensures printed { HasDone self.old (lines_printed (map glyphs_in lines.items)) self.new result }
+        ensures beside { self.new ≡ record self.old { output = self.new.output; workspace = record self.old.workspace { printed = self.new.workspace.printed } } }
+    {
+        for line in lines {
+            self.print_line(line)?;
+        }
+        Ok(())
+    }
+
+    // Prints a line, and counts its glyphs.
+    fn print_line(&mut self, line: Line) -> Result<(), Fail>
+        ensures ok { OnOk result (self.new ≡ record self.old { output = self.old.output ++ line.items ∷ []; workspace = with_printed self.old.workspace (length line.items) }) }
+        ensures fits { OnOk result (self.old.workspace.printed + length line.items ≤ most_printed) }
+        ensures err { OnErr result (self.new ≡ self.old) }
+        ensures refused { IfErr result (IsNotPrinted (self.old.workspace.printed + length line.items)) }
+    {
+        let glyphs = line.as_slice().len() as u64;
+        if self.workspace.printed() + glyphs > PRINTED_LIMIT {
+            return Err(Fail::Report(Report::Interrupt));
+        }
+        self.output.push(line)?;
+        self.workspace.count_printed(glyphs);
+        Ok(())
+    }
+}
