@@ -1,0 +1,5 @@
+pub mod SoFar
+pub mod SoFarLaws
+pub mod TurnLaws
+pub mod Turns
+pub mod Worked

@@ -1,0 +1,12 @@
+//! The turns of a replay, and how a user goes on in it: definitions over sessions and the rules of journals, and laws.
+#![tactic(auto)]
+
+mod laws;
+mod so_far_laws;
+pub mod worked;
+
+pub use laws::one_journal_of_turns;
+pub use so_far_laws::{
+    answers_are_heard, full_is_heard, held_users_wait, leavers_have_their_parts,
+    others_change_nothing,
+};
