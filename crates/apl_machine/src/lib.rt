@@ -29,4 +29,3 @@ mod waiting;
 pub use flow::Stop;
 pub use machine::{Machine, STATEMENT_LIMIT};
 pub use reading::tree_of;
-

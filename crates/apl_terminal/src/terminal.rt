@@ -98,7 +98,8 @@ impl Terminal {
 
     /// The workspace. No memory.
     pub fn workspace(&self) -> &Workspace
-        ensures { result.now ≡ self.now.workspace }
+        ensures value { result.now ≡ self.now.workspace }
+        ensures frames { result.now.frames ≡ [] }
     {
         &self.workspace
     }
@@ -117,6 +118,7 @@ impl Terminal {
         requires { self.old.definition ≡ None }
         ensures lent { result ≡ self.old.workspace }
         ensures left { self.new ≡ record self.old { workspace = empty_workspace } }
+        ensures frames { result.frames ≡ [] }
     {
         mem::replace(&mut self.workspace, Workspace::new(self.alloc))
     }
