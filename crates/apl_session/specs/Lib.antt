@@ -1,9 +1,6 @@
+pub mod Ended
 pub mod PlainSession
-pub mod Progress
-pub mod Run
-pub mod RunLaws
-pub mod Session
-pub mod Statement
+pub mod Receipts
+pub mod Standing
 pub mod Transcripts
 pub mod Wants
-pub mod Workspace

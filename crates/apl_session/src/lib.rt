@@ -1,20 +1,17 @@
-//! A user's lines: what they mean, a session that evaluates them, and what a run of a bundle is.
+//! A user's lines: a session that does them one after another, its transcript, and how a run ended.
 #![tactic(auto)]
 
-mod evaluation;
+mod lines;
+mod outcome;
 mod progress;
-mod run;
-mod run_laws;
+mod receipts;
 mod session;
-mod statement;
 #[cfg(test)]
 mod tests;
 mod transcripts;
-pub mod worked;
-mod workspace;
+mod under_way;
 
-pub use run::Run;
-pub use run_laws::{one_transcript_of_parts, others_change_no_part};
-pub use session::{Session, Stage, Wants};
-pub use statement::{Statement, statement_of};
+pub use outcome::{Ended, Outcome, RunOf};
+pub use receipts::{Receipt, Receipts};
+pub use session::{Parts, Session, Stage, Wants};
 pub use transcripts::{Transcript, Transcripts};

@@ -1,55 +1,99 @@
-ghost use Rattle.std.specs.Prelude.{◌≡◌, ◌≤◌, ◌∷◌, List, None, Some, IfOk, IsSome, OnOk, length, map};
+ghost use Rattle.std.specs.Prelude.{◌≡◌, ◌≤◌, ℕ, List, IfOk, IsOk, map};
 ghost use Rattle.apl_arrays.specs.List.{glyphs_in};
 ghost use Rattle.sv_events.specs.Answer.{PlainAnswer, plain_answer};
-ghost use Rattle.apl_session.specs.Progress.{ahead, open_at, statement_at};
-ghost use Rattle.apl_session.specs.Session.{after_act};
-ghost use Rattle.sv_events.specs.declared.event.Act.{Act as AnAct};
+ghost use Rattle.apl_terminal.specs.Terminal.{new_terminal};
+ghost use Rattle.apl_session.specs.Standing.{ComesTo, GoesOn, IsAnswered, IsOpenLine, MayAdvance, StandsIn};
 
-use crate::evaluation::Evaluation;
-use crate::statement::{Statement, statement_of};
-use apl_arrays::{Line, WantOfMemory};
+use crate::under_way::UnderWay;
+use apl_arrays::{Line, LineList, WantOfMemory};
+use apl_operators::Steps;
+use apl_terminal::Terminal;
+use std::alloc::Global;
+use std::mem;
+use std::sync::ledger::Ledger;
 use sv_events::{Act, Answer};
 
-/// How many lines are done, the statement of the line that was begun last, if it is one, and what the lines did.
+/// How far a user's lines are: what the user works on, how many lines were read, and the line that is under way.
 #[derive(Drop)]
 pub struct Progress {
-    pub done: usize,
-    pub statement: Option<Statement>,
-    pub evaluation: Evaluation,
+    pub(crate) alloc: Global,
+    pub(crate) terminal: Terminal,
+    pub(crate) read: usize,
+    pub(crate) under_way: UnderWay,
 }
 
 impl Progress {
-    /// Does lines up to the next that asks an act, or to the end. It takes memory for what is printed; where that runs
-    /// out, some of the lines may be done.
-    pub fn advance(&mut self, lines: &[Line]) -> Result<Option<Act>, WantOfMemory>
-        ensures ahead { OnOk result ((further : List PlainAnswer) → ahead (map glyphs_in lines.now) self.new further ≡ ahead (map glyphs_in lines.now) self.old further) }
-        ensures asks { IfOk result (λ asked. asked ≡ open_at (map glyphs_in lines.now) self.new) }
-        ensures over { IfOk result (λ asked. asked ≡ None → length lines.now ≤ self.new.done) }
-        ensures found { IfOk result (λ asked. IsSome asked → self.new.statement ≡ statement_at (map glyphs_in lines.now) self.new) }
+    /// No line was read. No memory.
+    pub fn new(alloc: Global) -> Progress
+        ensures terminal { result.terminal ≡ new_terminal }
+        ensures read { result.read ≡ 0 }
+        ensures under_way { result.under_way ≡ UnderWay.Nothing }
     {
-        while self.done < lines.len() {
-            let line = lines[self.done].as_slice();
-            self.statement = statement_of(line);
-            let asked = self.evaluation.start(line, &self.statement)?;
-            if asked.is_some() {
-                return Ok(asked);
-            }
-            self.done += 1;
+        Progress {
+            alloc,
+            terminal: Terminal::new(alloc),
+            read: 0,
+            under_way: UnderWay::Nothing,
         }
-        Ok(None)
     }
 
-    /// Does the line whose act is answered. It takes memory for what is printed; where that runs out, a part of the line
-    /// may be done.
-    pub fn take(&mut self, lines: &[Line], answer: &Answer) -> Result<(), WantOfMemory>
-        requires { self.old.statement ≡ statement_at (map glyphs_in lines.now) self.old }
-        ensures { (asked : AnAct) → open_at (map glyphs_in lines.now) self.old ≡ Some asked → OnOk result ((further : List PlainAnswer) → ahead (map glyphs_in lines.now) self.old (plain_answer answer.now ∷ further) ≡ after_act asked (ahead (map glyphs_in lines.now) self.new further)) }
+    /// Goes on with these lines, of which the first were read, up to the next act, or to the end. It takes the memory of
+    /// what is evaluated and printed; where that runs out, some of it may be done.
+    pub fn advance<L: Ledger>(
+        &mut self,
+        lines: &[Line],
+        steps: &mut Steps<L>,
+    ) -> Result<Option<Act>, WantOfMemory>
+        requires { MayAdvance self.old.under_way }
+        ensures { IfOk result (λ asked. (answers : List PlainAnswer) → StandsIn (map glyphs_in lines.now) answers self.old → ComesTo (map glyphs_in lines.now) answers asked self.new) }
     {
-        if self.done < lines.len() {
-            let line = lines[self.done].as_slice();
-            self.evaluation.finish(line, &self.statement, answer)?;
-            self.done += 1;
+        let mut asked = self.go_on(steps)?;
+        while asked.is_none() && self.read < lines.len() {
+            asked = self.take_line(&lines[self.read], steps)?;
         }
-        Ok(())
+        Ok(asked)
+    }
+
+    /// Hands the answer to the act that is open to its line, and gives back the act. Nothing is evaluated. No memory.
+    pub fn take_answer(&mut self, answer: Answer) -> Result<Act, WantOfMemory>
+        requires { IsOpenLine self.old.under_way }
+        ensures granted { IsOk result }
+        ensures stands { IfOk result (λ act. (lines : List (List ℕ)) (answers : List PlainAnswer) → StandsIn lines answers self.old → IsAnswered lines answers act (plain_answer answer) self.new) }
+    {
+        match mem::replace(&mut self.under_way, UnderWay::Nothing) {
+            UnderWay::Asking(machine, act) => {
+                let mut machine = machine;
+                machine.resume(answer)?;
+                self.under_way = UnderWay::Answered(machine);
+                Ok(act)
+            }
+            _ => Err(WantOfMemory),
+        }
+    }
+
+    /// The lines that were echoed and printed so far. No memory.
+    pub fn transcript(&self) -> &[Line]
+        ensures { map glyphs_in result.now ≡ self.now.terminal.transcript }
+    {
+        self.terminal.transcript()
+    }
+
+    /// The same as a list. No memory.
+    pub fn into_transcript(self) -> LineList
+        ensures { result.items ≡ self.terminal.transcript }
+    {
+        self.terminal.into_transcript()
+    }
+
+    // Goes on with the line whose act was answered, if there is one.
+    fn go_on<L: Ledger>(&mut self, steps: &mut Steps<L>) -> Result<Option<Act>, WantOfMemory>
+        requires { MayAdvance self.old.under_way }
+        ensures stands { IfOk result (λ asked. (lines : List (List ℕ)) (answers : List PlainAnswer) → StandsIn lines answers self.old → GoesOn lines answers asked self.new) }
+        ensures read { self.new.read ≡ self.old.read }
+    {
+        match mem::replace(&mut self.under_way, UnderWay::Nothing) {
+            UnderWay::Answered(machine) => self.run(machine, steps),
+            _ => Ok(None),
+        }
     }
 }

@@ -1,14 +1,17 @@
-ghost use Rattle.std.specs.Prelude.{◌≡◌, ◌∷◌, [], ◌++◌, IfOk, IsErr, OnErr, OnOk};
+ghost use Rattle.std.specs.Prelude.{◌≡◌, ◌≢◌, ◌<◌, ◌∷◌, [], ◌++◌, IfOk, IsErr, OnErr, OnOk, map};
+ghost use Rattle.apl_arrays.specs.List.{glyphs_in};
 ghost use Rattle.sv_events.specs.Answer.{plain_answer};
-ghost use Rattle.apl_session.specs.Session.{evaluated};
-ghost use Rattle.apl_session.specs.Wants.{IsOfPresent, wanted, stage_by};
+ghost use Rattle.apl_session.specs.Receipts.{acts_in, answers_in, plain_receipt};
+ghost use Rattle.session_rules.specs.Session.{session_of};
+ghost use Rattle.apl_session.specs.Wants.{HasHeardAll, IsOfPresent, MayGoOn, stage_by, wanted};
 
-use crate::evaluation::Evaluation;
 use crate::progress::Progress;
-use crate::transcripts::Transcript;
-use apl_arrays::{LineList, WantOfMemory};
+use crate::receipts::{Receipt, Receipts};
+use apl_arrays::{Line, LineList, WantOfMemory};
+use apl_operators::Steps;
 use std::alloc::Global;
-use std::marker::Model;
+use std::marker::{Brand, Model};
+use std::sync::ledger::{Blank, Ledger};
 use sv_events::{Act, Answer};
 
 /// What a session asks of its driver.
@@ -29,50 +32,57 @@ pub enum Stage {
     Waiting,
     /// All lines are done.
     Finished,
-    /// Memory ran out.
+    /// Memory ran out, for good.
     Failed,
 }
 
-/// One user's lines in their order, evaluated as far as the answers to their acts are there. It is seen as the user,
-/// the lines, the answers so far, and how far it is.
+/// What a session leaves: its transcript, and the shelf that it was lent.
+#[derive(Debug, Drop)]
+pub struct Parts<K> {
+    pub transcript: LineList,
+    pub shelf: K,
+}
+
+/// One user's lines in their order, done as far as the answers to their acts are there. It is seen as the user, the lines,
+/// the answers so far, how far it is, and its shelf.
 #[derive(Drop)]
-pub struct Session {
+pub struct Session<K> {
+    alloc: Global,
     user: u32,
     lines: LineList,
-    answers: Vec<Answer>,
+    receipts: Receipts,
     stage: Stage,
     progress: Progress,
+    shelf: K,
 }
 
-impl Model for Session {
-    ghost use Rattle.std.specs.Prelude.{◌≢◌, map};
-    ghost use Rattle.sv_events.specs.Answer.{plain_answer};
+impl<K> Model for Session<K> {
+    ghost use Rattle.std.specs.Prelude.{◌≢◌};
     ghost use Rattle.apl_session.specs.PlainSession.{PlainSession};
-    ghost use Rattle.apl_session.specs.Progress.{IsEvaluated};
+    ghost use Rattle.apl_session.specs.Receipts.{answers_in};
+    ghost use Rattle.apl_session.specs.Standing.{IsSession};
     ghost use Rattle.apl_session.specs.declared.session.Stage.TheVariants.{Failed};
 
-    ghost Value = { PlainSession };
+    ghost Value = { PlainSession K };
 
-    ghost view = { λ s. record { user = s.user; lines = s.lines.items; answers = map plain_answer s.answers.items; stage = s.stage } };
+    ghost view = { λ s. record { user = s.user; lines = s.lines.items; answers = answers_in s.receipts.items; stage = s.stage; shelf = s.shelf } };
 
-    ghost invariant = { λ s. s.stage ≢ Failed → IsEvaluated s.lines.items (map plain_answer s.answers.items) s.progress s.stage };
+    ghost invariant = { λ s. s.stage ≢ Failed → IsSession s.lines.items s.receipts.items s.progress s.stage };
 }
 
-impl Session {
-    /// The session of a user with these lines, of which none is done. It takes no memory.
-    pub fn new(alloc: Global, user: u32, lines: LineList) -> Session
-        ensures { result ≡ record { user = user; lines = lines.items; answers = []; stage = Stage.Ready } }
+impl<K> Session<K> {
+    /// The session of a user with these lines, of which none is done. No memory.
+    pub fn new(alloc: Global, user: u32, lines: LineList, shelf: K) -> Session<K>
+        ensures { result ≡ record { user = user; lines = lines.items; answers = []; stage = Stage.Ready; shelf = shelf } }
     {
         Session {
+            alloc,
             user,
             lines,
-            answers: Vec::new(alloc),
+            receipts: Receipts::new(alloc),
             stage: Stage::Ready,
-            progress: Progress {
-                done: 0,
-                statement: None,
-                evaluation: Evaluation::new(alloc),
-            },
+            progress: Progress::new(alloc),
+            shelf,
         }
     }
 
@@ -83,10 +93,18 @@ impl Session {
         self.user
     }
 
-    /// Goes on to the next act, or to the end of the lines. It takes memory for what is printed. After `WantOfMemory` the
-    /// session has failed, and answers it for good.
+    /// How far the session is. No memory.
+    pub fn stage(&self) -> Stage
+        ensures { result ≡ self.now.stage }
+    {
+        self.stage
+    }
+
+    /// Goes on to the next act, or to the end of the lines; a definition that is open there is dropped. It takes the memory
+    /// of what is evaluated and printed. After `WantOfMemory` the session has failed, and answers it for good.
     pub fn next(&mut self) -> Result<Wants, WantOfMemory>
-        ensures asks { IfOk result (λ wants. wanted wants ≡ (evaluated self.old.lines self.old.answers).waits) }
+        requires { MayGoOn self.old.stage }
+        ensures asks { IfOk result (λ wants. wanted wants ≡ (session_of self.old.lines self.old.answers).waits) }
         ensures stage { IfOk result (λ wants. self.new ≡ record self.old { stage = stage_by (wanted wants) }) }
         ensures present { IfOk result IsOfPresent }
         ensures err { OnErr result (self.new ≡ record self.old { stage = Stage.Failed }) }
@@ -96,7 +114,7 @@ impl Session {
             return Err(WantOfMemory);
         }
         self.stage = Stage::Failed;
-        match self.progress.advance(self.lines.as_slice())? {
+        match self.advance::<Brand>(Blank::new(1))? {
             Some(act) => {
                 self.stage = Stage::Waiting;
                 Ok(Wants::Act(act))
@@ -108,38 +126,54 @@ impl Session {
         }
     }
 
-    /// Goes on with the answer to the act that waits. It takes memory for the answer and for what is printed. After
-    /// `WantOfMemory` the session has failed.
+    /// Gives the answer to the act that waits. Nothing is evaluated. It takes memory for the receipt. After `WantOfMemory`
+    /// the session has failed.
     pub fn answer(&mut self, answer: Answer) -> Result<(), WantOfMemory>
         requires { self.old.stage ≡ Stage.Waiting }
         ensures ok { OnOk result (self.new ≡ record self.old { answers = self.old.answers ++ plain_answer answer ∷ []; stage = Stage.Ready }) }
         ensures err { OnErr result (self.new ≡ record self.old { stage = Stage.Failed }) }
     {
         self.stage = Stage::Failed;
-        if self.answers.reserve(1).is_err() {
-            discard(answer);
-            return Err(WantOfMemory);
-        }
-        if self.progress.take(self.lines.as_slice(), &answer).is_err() {
-            discard(answer);
-            return Err(WantOfMemory);
-        }
-        self.answers.push_reserved(answer);
+        let told = answer.copy(self.alloc)?;
+        let act = self.progress.take_answer(answer)?;
+        self.receipts.push(Receipt { act, answer: told })?;
         self.stage = Stage::Ready;
         Ok(())
     }
 
-    /// The lines that were read and printed, of a session that is at its end. No memory.
-    pub fn into_transcript(self) -> Transcript
-        requires { self.stage ≡ Stage.Finished }
-        ensures user { result.user ≡ self.user }
-        ensures lines { result.lines.items ≡ (evaluated self.lines self.answers).transcript }
+    /// The lines that were echoed and printed so far. No memory.
+    pub fn transcript(&self) -> &[Line]
+        ensures { HasHeardAll self.now.stage → map glyphs_in result.now ≡ (session_of self.now.lines self.now.answers).terminal.transcript }
     {
-        Transcript {
-            user: self.user,
-            lines: self.progress.evaluation.into_transcript(),
+        self.progress.transcript()
+    }
+
+    /// The acts that were answered so far, with their answers. No memory.
+    pub fn receipts(&self) -> &[Receipt]
+        ensures answers { answers_in (map plain_receipt result.now) ≡ self.now.answers }
+        ensures acts { self.now.stage ≢ Stage.Failed → acts_in (map plain_receipt result.now) ≡ (session_of self.now.lines self.now.answers).acts }
+    {
+        self.receipts.as_slice()
+    }
+
+    /// The lines that were echoed and printed, and the shelf. No memory.
+    pub fn into_parts(self) -> Parts<K>
+        ensures transcript { HasHeardAll self.stage → result.transcript.items ≡ (session_of self.lines self.answers).terminal.transcript }
+        ensures shelf { result.shelf ≡ self.shelf }
+    {
+        Parts {
+            transcript: self.progress.into_transcript(),
+            shelf: self.shelf,
         }
     }
-}
 
-fn discard(_answer: Answer) {}
+    // Goes on, and counts the applications for nobody.
+    fn advance<L: Ledger>(&mut self, blank: Blank) -> Result<Option<Act>, WantOfMemory>
+        requires name { blank.name ≡ L.name }
+        requires parts { blank.parts ≡ L.parts }
+        requires some { 0 < blank.parts }
+    {
+        let mut steps = Steps::<L>::new(blank);
+        self.progress.advance(self.lines.as_slice(), &mut steps)
+    }
+}

@@ -56,18 +56,18 @@ VALUE ERROR
       X
 ";
 
-fn started(alloc: Global) -> Result<Session, GlyphRefused> {
+fn started(alloc: Global) -> Result<Session<u8>, GlyphRefused> {
     let mut lines = LineList::new(alloc);
     for text in LINES {
         lines.push(glyphs_of(alloc, text.as_bytes())?)?;
     }
-    Ok(Session::new(alloc, 1001, lines))
+    Ok(Session::new(alloc, 1001, lines, 7))
 }
 
 fn discard(_answer: Answer) {}
 
 // Gives the answer to the next act, if there is one.
-fn give(session: &mut Session, answer: Answer) -> Result<(), WantOfMemory> {
+fn give(session: &mut Session<u8>, answer: Answer) -> Result<(), WantOfMemory> {
     match session.next()? {
         Wants::Act(_) => session.answer(answer),
         Wants::Finished => {
@@ -78,12 +78,12 @@ fn give(session: &mut Session, answer: Answer) -> Result<(), WantOfMemory> {
 }
 
 // What a session has printed that asks nothing more; nothing where it still asks.
-fn printed(alloc: Global, mut session: Session) -> Result<Vec<u8>, WantOfMemory> {
+fn printed(alloc: Global, mut session: Session<u8>) -> Result<Vec<u8>, WantOfMemory> {
     let mut bytes = Vec::new(alloc);
     match session.next()? {
         Wants::Act(_) => Ok(bytes),
         Wants::Finished => {
-            for line in session.into_transcript().lines.as_slice() {
+            for line in session.transcript() {
                 add_line(&mut bytes, line)?;
             }
             Ok(bytes)
@@ -122,11 +122,23 @@ fn used(alloc: Global) -> Result<Vec<u8>, GlyphRefused> {
     Ok(printed(alloc, session)?)
 }
 
+// Receipts are kept of all acts with their answers, and the shelf comes back.
+fn receipts(alloc: Global) -> Result<usize, GlyphRefused> {
+    let mut session = started(alloc)?;
+    give(&mut session, Answer::Degree(1))?;
+    give(&mut session, Answer::Granted)?;
+    give(&mut session, Answer::NoValue)?;
+    give(&mut session, Answer::Full)?;
+    let count = session.receipts().len();
+    let parts = session.into_parts();
+    Ok(count + usize::from(parts.shelf))
+}
+
 // What is made, tried once more where memory failed it.
-fn twice<F: Fn(Global) -> Result<Vec<u8>, GlyphRefused>>(
+fn twice<T: Drop, F: Fn(Global) -> Result<T, GlyphRefused>>(
     alloc: Global,
     make: F,
-) -> Result<Vec<u8>, GlyphRefused>
+) -> Result<T, GlyphRefused>
     requires { F.IsAlwaysCallable make }
 {
     match make(alloc) {
@@ -146,6 +158,7 @@ fn answers_are_reported_and_printed(rt: HostRuntime) -> Result<(), Fail> {
     let full = twice(alloc, full_from_the_set_on)?;
     assert_eq!(rt; full.as_slice(), FULL_FROM_THE_SET_ON.as_bytes());
     assert_eq!(rt; twice(alloc, used)?.as_slice(), USED.as_bytes());
+    assert_eq!(rt; twice(alloc, receipts)?, 11);
     Ok(())
 }
 

@@ -1,3 +1,4 @@
 pub mod Participants
-pub mod TurnLaws
-pub mod Turns
+pub mod Replayed
+pub mod SoFar
+pub mod Together

@@ -1,11 +1,12 @@
+-- Sessions as the users of a replay.
 use Rattle.std.specs.Prelude.{List, map}
 use Rattle.apl_session.specs.PlainSession.{PlainSession}
-use Rattle.aplsv_replay.specs.Turns.{Participant}
+use Rattle.replay_rules.specs.Turns.{Participant}
 
 -- the user of a session, with the lines and the answers of the session
-abbrev pub participant_of : PlainSession → Participant
+abbrev pub participant_of : {K : Type 0} → PlainSession K → Participant
 participant_of session = record { number = session.user; lines = session.lines; answers = session.answers }
 
 -- those of sessions
-abbrev pub participants_of : List PlainSession → List Participant
+abbrev pub participants_of : {K : Type 0} → List (PlainSession K) → List Participant
 participants_of sessions = map participant_of sessions

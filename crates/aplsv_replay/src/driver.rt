@@ -1,101 +1,132 @@
-ghost use Rattle.std.specs.Prelude.{◌≡◌, ◌<◌, IfOk, All, length, map, reverse};
-ghost use Rattle.apl_arrays.specs.Ascending.{Ascend};
-ghost use Rattle.bundle_text.specs.User.{plain_user};
-ghost use Rattle.apl_session.specs.Run.{IsRun};
-ghost use Rattle.apl_session.specs.Transcripts.{plain_transcript};
-ghost use Rattle.aplsv_replay.specs.Participants.{participant_of, participants_of};
-ghost use Rattle.aplsv_replay.specs.TurnLaws.{IsDone, transcript_of};
-ghost use Rattle.aplsv_replay.specs.Turns.{newcomer, IsJournalOfTurns};
+ghost use Rattle.std.specs.Prelude.{◌≡◌, ◌≤◌, length, vec_len};
+ghost use Rattle.auxiliaries.specs.Clock.{RepliesByReading};
+ghost use Rattle.auxiliaries.specs.Protocol.{idle};
+ghost use Rattle.auxiliaries.specs.Served.{Replies, forgotten};
+ghost use Rattle.session_rules.specs.Run.{IsRun};
+ghost use Rattle.apl_session.specs.Ended.{IfWhole};
+ghost use Rattle.aplsv_replay.specs.Replayed.{IsDeviceRun};
+ghost use Rattle.replay_rules.specs.Turns.{IsJournalOfTurns};
 
-use crate::taking::{order_turns, round};
-use crate::turn_laws::rounds_end;
-use apl_arrays::WantOfMemory;
-use apl_session::{Run, Session, Transcript, Transcripts};
-use bundle_text::{Bundle, BundleParts, BundleUser};
+use crate::auxiliary::Auxiliary;
+use crate::ending::{end_of, none_is_lost, take_apart};
+use crate::parties::Parties;
+use crate::start::{core_of, fill, room_for};
+use apl_io::{Clock, Devices, TextStore};
+use apl_session::{Ended, Outcome, RunOf};
+use auxiliaries::{ClockAux, Replier, TextAux};
+use bundle_text::{Bundle, BundleParts};
 use std::alloc::Global;
-use sv_core::Core;
+use sv_rules::{CLOCK_PARTY, TEXT_PARTY};
 
-/// Runs a bundle on one thread: the parties of its order have their turns, and then both auxiliaries and the users,
-/// ascending, round after round until all users have left. Its files and readings are not used, since no auxiliary has
-/// work. `WantOfMemory` where memory ran out, and then there is no run. It takes memory for sessions, journal and
-/// transcripts.
-pub fn replay(alloc: Global, bundle: Bundle) -> Result<Run, WantOfMemory>
-    ensures run { IfOk result (λ run. IsRun bundle (reverse run.journal.items) run.transcripts.items) }
-    ensures turns { IfOk result (λ run. IsJournalOfTurns bundle (reverse run.journal.items)) }
+/// Runs a bundle on one thread over a text store, a clock, and a shelf for each user: first the turns of the order, then
+/// rounds over 10, 20 and the users, ascending, until all users have left. The k-th user takes the k-th shelf, and all come
+/// back in their order. It takes the memory of the run; where that runs out for a party, the run ends as `WantOfMemory`
+/// when all users have left.
+pub fn replay<T: TextStore, C: Clock, K>(
+    alloc: Global,
+    bundle: Bundle,
+    devices: Devices<T, C, K>,
+) -> Outcome<T, C, K>
+    requires shelves { length bundle.users ≤ vec_len devices.shelves }
+    ensures run { IfWhole result.ended (λ transcripts journal. IsDeviceRun C.told C.faults T.told T.faults bundle journal transcripts devices.clock result.devices.clock devices.text result.devices.text) }
+    ensures turns { IfWhole result.ended (λ transcripts journal. IsJournalOfTurns bundle journal) }
+    ensures shelves { result.devices.shelves.items ≡ devices.shelves.items }
 {
+    let Devices {
+        text,
+        clock,
+        shelves,
+    } = devices;
+    let RunOf {
+        ended,
+        ten,
+        twenty,
+        shelves,
+    } = replay_with(
+        alloc,
+        bundle,
+        ClockAux::new(alloc, clock),
+        TextAux::new(alloc, text),
+        shelves,
+    );
+    Outcome {
+        ended,
+        devices: Devices {
+            text: twenty.into_store(),
+            clock: ten.into_clock(),
+            shelves,
+        },
+    }
+}
+
+/// Runs a bundle as `replay` does, with these two auxiliaries in the place of those over a clock and a text store.
+pub fn replay_with<X: Replier, Y: Replier, K>(
+    alloc: Global,
+    bundle: Bundle,
+    ten: X,
+    twenty: Y,
+    shelves: Vec<K>,
+) -> RunOf<X, Y, K>
+    requires shelves { length bundle.users ≤ vec_len shelves }
+    ensures run { IfWhole result.ended (λ transcripts journal. IsRun X.forgets X.replies Y.forgets Y.replies bundle journal transcripts ten result.ten twenty result.twenty) }
+    ensures turns { IfWhole result.ended (λ transcripts journal. IsJournalOfTurns bundle journal) }
+    ensures shelves { result.shelves.items ≡ shelves.items }
+{
+    let Ok(core) = core_of(alloc, bundle.users()) else {
+        return not_begun(ten, twenty, shelves);
+    };
+    let Ok(room) = room_for(alloc, bundle.users()) else {
+        return not_begun(ten, twenty, shelves);
+    };
+    let mut shelves = shelves;
     let BundleParts {
         users,
         order,
         files: _files,
         clock: _clock,
     } = bundle.into_parts();
-    let numbers = user_numbers(alloc, users.as_slice())?;
-    let needed = rounds_needed(users.as_slice());
-    let mut core = Core::new(alloc, &numbers)?;
-    let mut sessions = sessions_of(alloc, users.into_vec())?;
-    order_turns(&mut core, &mut sessions, order.as_slice())?;
-    for _round in 0..needed {
-        round(&mut core, &mut sessions)?;
-    }
-    rounds_end();
-    let transcripts = transcripts_of(alloc, sessions)?;
-    Ok(Run {
-        transcripts,
-        journal: core.into_journal(),
-    })
+    let mut parties = Parties {
+        core,
+        ten: Auxiliary::new(CLOCK_PARTY, ten),
+        twenty: Auxiliary::new(TEXT_PARTY, twenty),
+        seats: fill(alloc, users.into_vec(), room, &mut shelves),
+    };
+    parties.take_turns(order.as_slice());
+    parties.take_rounds();
+    close(alloc, parties, shelves)
 }
 
-// The users' numbers.
-fn user_numbers(alloc: Global, users: &[BundleUser]) -> Result<Vec<u32>, WantOfMemory>
-    ensures { IfOk result (λ numbers. numbers.items ≡ map (λ user. user.number) users.now) }
+// A run for which there was no memory.
+fn not_begun<X, Y, K>(ten: X, twenty: Y, shelves: Vec<K>) -> RunOf<X, Y, K>
+    ensures { result ≡ record { ended = Ended.WantOfMemory; ten = ten; twenty = twenty; shelves = shelves } }
 {
-    let mut numbers = Vec::new(alloc);
-    for user in users {
-        numbers.push(user.number)?;
+    RunOf {
+        ended: Ended::WantOfMemory,
+        ten,
+        twenty,
+        shelves,
     }
-    Ok(numbers)
 }
 
-// One round for each line of the user with the most, and one in which that user leaves.
-fn rounds_needed(users: &[BundleUser]) -> usize
-    ensures { All (λ user. length user.lines.items < result) users.now }
-{
-    let mut needed = 0;
-    for user in users {
-        needed = (user.lines.as_slice().len() + 1).max(needed);
+// Ends a run in which all users have left.
+fn close<X: Replier, Y: Replier, K>(
+    alloc: Global,
+    parties: Parties<X, Y, K>,
+    shelves: Vec<K>,
+) -> RunOf<X, Y, K> {
+    let Parties {
+        core,
+        ten,
+        twenty,
+        seats,
+    } = parties;
+    let mut shelves = shelves;
+    let is_whole = !ten.is_lost() && !twenty.is_lost() && none_is_lost(&seats);
+    let transcripts = take_apart(alloc, seats, &mut shelves);
+    RunOf {
+        ended: end_of(transcripts, core.into_journal(), is_whole),
+        ten: ten.into_replier(),
+        twenty: twenty.into_replier(),
+        shelves,
     }
-    needed
-}
-
-// A session for each user.
-fn sessions_of(alloc: Global, users: Vec<BundleUser>) -> Result<Vec<Session>, WantOfMemory>
-    ensures { IfOk result (λ sessions. participants_of sessions.items ≡ map newcomer (map plain_user users.items)) }
-{
-    let mut sessions = Vec::new(alloc);
-    for user in users {
-        sessions.push(Session::new(alloc, user.number, user.lines))?;
-    }
-    Ok(sessions)
-}
-
-// The transcript of a session in which no act waits. Lines that are left are done first.
-fn transcript_of(mut session: Session) -> Result<Transcript, WantOfMemory>
-    requires { IsDone (participant_of session) }
-    ensures { IfOk result (λ transcript. plain_transcript transcript ≡ transcript_of (participant_of session)) }
-{
-    let _finished = session.next()?;
-    Ok(session.into_transcript())
-}
-
-// The transcript of each session.
-fn transcripts_of(alloc: Global, sessions: Vec<Session>) -> Result<Transcripts, WantOfMemory>
-    requires done { All IsDone (participants_of sessions.items) }
-    requires ascending { Ascend (map (λ session. session.user) sessions.items) }
-    ensures { IfOk result (λ transcripts. transcripts.items ≡ map transcript_of (participants_of sessions.items)) }
-{
-    let mut transcripts = Transcripts::new(alloc);
-    for session in sessions {
-        transcripts.push(transcript_of(session)?)?;
-    }
-    Ok(transcripts)
 }

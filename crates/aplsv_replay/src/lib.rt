@@ -1,11 +1,13 @@
 //! The replay: all parties of a bundle on one thread, in turns.
 #![tactic(auto)]
 
+mod auxiliary;
 mod driver;
-mod taking;
-mod turn_laws;
+mod ending;
+mod parties;
+mod seat;
+mod start;
+#[cfg(test)]
+mod tests;
 
-pub use driver::replay;
-pub use turn_laws::{
-    auxiliaries_have_no_work, one_journal_of_turns, rounds_end, turns_are_unhindered,
-};
+pub use driver::{replay, replay_with};

@@ -1,4 +1,2 @@
 pub mod Causes
-pub mod Formless
-pub mod OneOutput
 pub mod SingleWords

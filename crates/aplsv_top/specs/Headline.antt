@@ -1,23 +1,32 @@
 -- What the program promises of the bytes that it reads and writes.
-use Rattle.std.specs.Prelude.{◌≡◌, ℕ, List, reverse}
+use Rattle.std.specs.Prelude.{◌≡◌, ℕ, List, [], Some, map, reverse}
 use Rattle.std.specs.declared.option.Option.{Option}
 use Rattle.std.specs.Io.KnownBytes.{Appends}
+use Rattle.apl_io.specs.Kept.{Keeper, Timer, file_entry, new_keeper}
 use Rattle.apl_io.specs.Whole.{ReadsAll, AppendsPrefix}
 use Rattle.sv_rules.specs.Entries.{Entries}
 use Rattle.sv_journal.specs.Output.{PlainTranscript, output_text}
 use Rattle.sv_journal.specs.Printable.{ArePrintable}
 use Rattle.bundle_text.specs.Bundle.{PlainBundle}
-use Rattle.apl_session.specs.Run.{IsRun}
-use Rattle.aplsv_replay.specs.Turns.{IsJournalOfTurns}
-use Rattle.bundle_text.specs.declared.refused.BundleRule.{BundleRule}
-use Rattle.aplsv_top.specs.Runnable.{RunnableText, IsNotRunnable, IsRefusedAt}
+use Rattle.aplsv_replay.specs.Replayed.{IsDeviceRun}
+use Rattle.replay_rules.specs.Turns.{IsJournalOfTurns}
+use Rattle.aplsv_top.specs.Runnable.{RunnableText, IsNotRunnable}
 
--- the text is the output of a run of this bundle: its transcripts, and its journal with the oldest entry first, which is
--- the journal of the bundle's turns. They are printable, and no others that are have this output
+-- the text store of a run: the bundle's files, before the first call, none of which is to fail
+abbrev pub text_of : PlainBundle → Keeper (List ℕ)
+text_of bundle = new_keeper (map file_entry bundle.files) []
+
+-- the clock of a run: the bundle's readings, before the first call, none of which is to fail
+abbrev pub clock_of : PlainBundle → Timer
+clock_of bundle = record { told = record { left = bundle.clock; calls = 0; fails = [] }; faults = 0 }
+
+-- the text is the output of a run of this bundle over its files and readings: its transcripts, and its journal with the oldest entry first, which is the journal of the bundle's turns. They are printable, and no others that are have this output
 pub record IsOutputOf (bundle : PlainBundle) (text : List ℕ) : Type 0 where
   pub transcripts : List PlainTranscript
   pub journal : Entries
-  pub run : IsRun bundle journal transcripts
+  pub clock : Timer
+  pub files : Keeper (List ℕ)
+  pub run : IsDeviceRun (λ c. Some c.told) (λ c. c.faults) (λ t. Some t.told) (λ t. t.faults) bundle journal transcripts (clock_of bundle) clock (text_of bundle) files
   pub turns : IsJournalOfTurns bundle journal
   pub output : text ≡ output_text transcripts (reverse journal)
   pub printable : ArePrintable transcripts (reverse journal)
@@ -44,9 +53,8 @@ pub record WritesFront (left rest held now : Option (List ℕ)) : Type 0 where
   pub run : IsOutputFor bytes text
   pub written : AppendsPrefix held now text
 
--- all bytes were read, to their end, and they can't be run, since this rule is broken at this offset
-pub record FindsNoBundle (left rest : Option (List ℕ)) (offset : ℕ) (rule : BundleRule) : Type 0 where
+-- all bytes were read, to their end, and they are the text of no bundle that can be run
+pub record FindsNoBundle (left rest : Option (List ℕ)) : Type 0 where
   pub bytes : List ℕ
   pub read : ReadsAll left rest bytes
-  pub refused : IsRefusedAt bytes offset rule
   pub none : IsNotRunnable bytes

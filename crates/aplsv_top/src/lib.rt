@@ -3,6 +3,7 @@
 
 mod bytes;
 mod laws;
+mod memory;
 mod output;
 mod runnable;
 mod status;

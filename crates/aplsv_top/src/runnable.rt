@@ -1,13 +1,14 @@
-ghost use Rattle.std.specs.Prelude.{◌≡◌, ◌⊎◌, ◌<◌, ℕ, IfOk, IfErr, IfSome, MatchResult, is_none, length, map};
+ghost use Rattle.std.specs.Prelude.{◌≡◌, ◌⊎◌, ◌<◌, ℕ, Some, IfOk, IfErr, IfSome, MatchResult, length, map};
 ghost use Rattle.apl_arrays.specs.List.{glyphs_in};
-ghost use Rattle.bundle_text.specs.Refused.{IsRefusal};
+ghost use Rattle.bundle_text.specs.Breaks.{Breaks};
+ghost use Rattle.bundle_text.specs.Bundle.{PlainBundle, BundleText};
+ghost use Rattle.bundle_text.specs.Refused.{IsReason};
 ghost use Rattle.bundle_text.specs.User.{plain_user};
-ghost use Rattle.apl_session.specs.Statement.{statement_in};
-ghost use Rattle.aplsv_top.specs.Runnable.{RunnableText, IsRefusedAt, formless_line, formless_place};
+ghost use Rattle.aplsv_top.specs.Runnable.{RunnableText, IsNotRunnable, IsFormlessAt, command_line, command_place};
 
 use apl_arrays::Line;
-use apl_session::statement_of;
-use bundle_text::{Bundle, BundleRefused, BundleRule, BundleUser, read};
+use apl_terminal::is_command;
+use bundle_text::{Bundle, BundleRefused, BundleRule, BundleUser, read, texts_are_of_one_bundle};
 use std::alloc::Global;
 
 /// The place of a line: its user, and its place among that user's lines, both counted from 0.
@@ -17,17 +18,20 @@ pub struct LinePlace {
     pub line: usize,
 }
 
-/// The bundle that the bytes are the text of, where each line of its users is a statement. `Malformed` where they are the
-/// text of no bundle, at the place where they break a rule; else with the rule `Form` at the first line that is no
-/// statement. It takes memory for what the bundle has.
+/// The bundle that the bytes are the text of, where no line of its users is a command. `Malformed` where they are the text
+/// of no bundle, at the place where they break a rule; else with the rule `Form` at the first line that is a command. It
+/// takes memory for what the bundle has.
 pub fn read_runnable(alloc: Global, bytes: &[u8]) -> Result<Bundle, BundleRefused>
     ensures runnable { IfOk result (λ bundle. RunnableText bytes.now bundle) }
-    ensures refused { IfErr result (λ why. IsRefusal why (IsRefusedAt bytes.now)) }
-    ensures only { (offset : ℕ) (rule : BundleRule) → IsRefusedAt bytes.now offset rule →
+    ensures breaks { (offset : ℕ) (rule : BundleRule) → Breaks bytes.now offset rule →
         MatchResult result (λ _. ⊥) (λ why. (why ≡ BundleRefused.Malformed offset rule) ⊎ (why ≡ BundleRefused.WantOfMemory)) }
+    ensures malformed { IfErr result (λ why. IsReason why (IsNotRunnable bytes.now)) }
+    ensures formless { (bundle : PlainBundle) (place : LinePlace) → BundleText bytes.now bundle → command_place bundle.users ≡ Some place
+        → IfErr result (λ why. IsFormlessAt bundle.users place why) }
 {
     let bundle = read(alloc, bytes)?;
-    match formless_place(bundle.users()) {
+    texts_are_of_one_bundle();
+    match command_place(bundle.users()) {
         None => Ok(bundle),
         Some(place) => Err(BundleRefused::Malformed {
             offset: bundle.offset_of(place.user, place.line),
@@ -36,30 +40,23 @@ pub fn read_runnable(alloc: Global, bytes: &[u8]) -> Result<Bundle, BundleRefuse
     }
 }
 
-// Whether a line is no statement.
-fn is_formless(line: &Line) -> bool
-    ensures { result ≡ is_none (statement_in line.now.items) }
+// The first of the lines that is a command.
+fn command_line(lines: &[Line]) -> Option<usize>
+    ensures { result ≡ command_line (map glyphs_in lines.now) }
 {
-    statement_of(line.as_slice()).is_none()
+    lines.iter().position(|line| is_command(line.as_slice()))
 }
 
-// The first of the lines that is no statement.
-fn formless_line(lines: &[Line]) -> Option<usize>
-    ensures { result ≡ formless_line (map glyphs_in lines.now) }
-{
-    lines.iter().position(|line| is_formless(line))
-}
-
-// The place of the first line that is no statement.
-fn formless_place(users: &[BundleUser]) -> Option<LinePlace>
-    ensures place { result ≡ formless_place (map plain_user users.now) }
+// The place of the first line that is a command.
+fn command_place(users: &[BundleUser]) -> Option<LinePlace>
+    ensures place { result ≡ command_place (map plain_user users.now) }
     ensures within { IfSome result (λ place. place.user < length users.now) }
 {
     let (first, others) = users.split_first()?;
-    match formless_line(first.lines.as_slice()) {
+    match command_line(first.lines.as_slice()) {
         Some(line) => Some(LinePlace { user: 0, line }),
         None => {
-            let place = formless_place(others)?;
+            let place = command_place(others)?;
             Some(LinePlace {
                 user: place.user + 1,
                 line: place.line,

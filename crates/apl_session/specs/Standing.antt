@@ -1,0 +1,113 @@
+-- Where the inside of a session stands in its lines.
+use Rattle.std.specs.Prelude.{◌≡◌, ◌≤◌, ◌++◌, ℕ, List, [], ◌∷◌, Option, Some, None, drop, length}
+use Rattle.apl_machine.specs.Machine.{PlainMachine, IsOpenAct, MayRun}
+use Rattle.apl_machine.specs.Runs.{Stands}
+use Rattle.apl_meaning.specs.Meaning.{mean, most_statements}
+use Rattle.line_trees.specs.Trees.{LineTree}
+use Rattle.sv_events.specs.Answer.{PlainAnswer}
+use Rattle.sv_events.specs.declared.event.Act.{Act}
+use Rattle.session_rules.specs.Course.{Course, behind}
+use Rattle.session_rules.specs.Session.{lines_done, session_of}
+use Rattle.apl_terminal.specs.Terminal.{PlainTerminal}
+use Rattle.apl_session.specs.Receipts.{PlainReceipt, acts_in, answers_in}
+use Rattle.apl_session.specs.declared.progress.Progress.{Progress}
+use Rattle.apl_session.specs.declared.session.Stage.{Stage}
+use Rattle.apl_session.specs.declared.session.Stage.TheVariants as stage
+use Rattle.apl_session.specs.declared.under_way.UnderWay.{UnderWay}
+use Rattle.apl_session.specs.declared.under_way.UnderWay.TheVariants as under_way
+
+-- how far a session has come between two lines, with these acts answered and these answers to come
+abbrev pub course_at : PlainTerminal → List Act → List PlainAnswer → Course
+course_at t acts further = record { terminal = t; acts = acts; answers = further; waits = None }
+
+-- the lines with these answers are done up to here: whatever answers follow, what comes of all lines is what comes of the rest of the line, and then of those that are left
+pub record IsAt (lines : List (List ℕ)) (answers : List PlainAnswer) (read : ℕ) (rest : Course → Course) (t : PlainTerminal) : Type 0 where
+  pub acts : List Act
+  pub same : (further : List PlainAnswer) → session_of lines (answers ++ further) ≡ lines_done most_statements (drop read lines) (rest (course_at t acts further))
+
+-- a session stands between two lines
+abbrev pub IsBetween : List (List ℕ) → List PlainAnswer → ℕ → PlainTerminal → Type 0
+IsBetween lines answers read t = IsAt lines answers read (λ c. c) t
+
+-- a line is under way: it was begun at a terminal with these answers given before it; the machine stands where the line has come with the answers since, and what it printed was taken to the terminal
+pub record IsUnderWay (lines : List (List ℕ)) (answers : List PlainAnswer) (read : ℕ) (transcript : List (List ℕ)) (m : PlainMachine) : Type 0 where
+  pub before : PlainTerminal
+  pub tree : LineTree
+  pub line : List ℕ
+  pub earlier : List PlainAnswer
+  pub here : List PlainAnswer
+  pub given : answers ≡ earlier ++ here
+  pub begun : IsAt lines earlier read (λ c. behind c (mean tree line c.terminal.workspace c.answers most_statements)) before
+  pub count : ℕ
+  pub taken : List (List ℕ)
+  pub stands : Stands m tree line before.workspace [] here count taken
+  pub printed : transcript ≡ before.transcript ++ taken
+
+-- the act that waits is open, and all that the lines print with these answers was printed
+pub record IsAsking (lines : List (List ℕ)) (answers : List PlainAnswer) (transcript : List (List ℕ)) (m : PlainMachine) (act : Act) : Type 0 where
+  pub waits : (session_of lines answers).waits ≡ Some act
+  pub printed : (session_of lines answers).terminal.transcript ≡ transcript
+  pub is_open : IsOpenAct m act
+
+-- the line that is under way stands so, if one is
+abbrev pub StandsBy : List (List ℕ) → List PlainAnswer → ℕ → PlainTerminal → UnderWay → Type 0
+StandsBy lines answers read t under_way.Nothing = IsBetween lines answers read t
+StandsBy lines answers read t (under_way.Asking m act) = (t.definition ≡ None) × IsUnderWay lines answers read t.transcript m × IsAsking lines answers t.transcript m act
+StandsBy lines answers read t (under_way.Answered m) = (t.definition ≡ None) × IsUnderWay lines answers read t.transcript m × MayRun m.stage
+
+-- the inside of a session stands in its lines, with these answers
+abbrev pub StandsIn : List (List ℕ) → List PlainAnswer → Progress → Type 0
+StandsIn lines answers p = StandsBy lines answers p.read p.terminal p.under_way
+
+-- no line is under way that waits for an answer
+abbrev pub MayAdvance : UnderWay → Type 0
+MayAdvance under_way.Nothing = Unit {0}
+MayAdvance (under_way.Asking m act) = ⊥
+MayAdvance (under_way.Answered m) = MayRun m.stage
+
+-- a line is under way that waits for an answer
+abbrev pub IsOpenLine : UnderWay → Type 0
+IsOpenLine under_way.Nothing = ⊥
+IsOpenLine (under_way.Asking m act) = IsOpenAct m act
+IsOpenLine (under_way.Answered m) = ⊥
+
+-- a line asked this act, or is over
+abbrev pub Asked : UnderWay → Option Act → Type 0
+Asked under_way.Nothing asked = asked ≡ None
+Asked (under_way.Asking m act) asked = asked ≡ Some act
+Asked (under_way.Answered m) asked = ⊥
+
+-- the inside of a session went on to this act, or to the end of a line
+pub record GoesOn (lines : List (List ℕ)) (answers : List PlainAnswer) (asked : Option Act) (p : Progress) : Type 0 where
+  pub stands : StandsIn lines answers p
+  pub paused : Asked p.under_way asked
+
+-- the inside of a session went on to the act that waits, or to the end of its lines
+pub record ComesTo (lines : List (List ℕ)) (answers : List PlainAnswer) (asked : Option Act) (p : Progress) : Type 0 where
+  pub goes_on : GoesOn lines answers asked p
+  pub over : asked ≡ None → length lines ≤ p.read
+
+-- the act that waited was given an answer
+pub record IsAnswered (lines : List (List ℕ)) (answers : List PlainAnswer) (act : Act) (answer : PlainAnswer) (p : Progress) : Type 0 where
+  pub waited : (session_of lines answers).waits ≡ Some act
+  pub stands : StandsIn lines (answers ++ answer ∷ []) p
+  pub may : MayAdvance p.under_way
+
+-- between two lines a session can go on, or it is finished where none is left
+abbrev pub IsFree : ℕ → ℕ → Stage → Type 0
+IsFree count read stage.Ready = Unit {0}
+IsFree count read stage.Waiting = ⊥
+IsFree count read stage.Finished = count ≤ read
+IsFree count read stage.Failed = ⊥
+
+-- a session of so many lines is this far
+abbrev pub IsThisFar : ℕ → ℕ → UnderWay → Stage → Type 0
+IsThisFar count read under_way.Nothing at = IsFree count read at
+IsThisFar count read (under_way.Asking m act) at = at ≡ stage.Waiting
+IsThisFar count read (under_way.Answered m) at = at ≡ stage.Ready
+
+-- what holds of a session while memory did not run out: its receipts have the acts that were asked, its inside stands in its lines, and it is this far
+pub record IsSession (lines : List (List ℕ)) (receipts : List PlainReceipt) (p : Progress) (at : Stage) : Type 0 where
+  pub acts : acts_in receipts ≡ (session_of lines (answers_in receipts)).acts
+  pub stands : StandsIn lines (answers_in receipts) p
+  pub far : IsThisFar (length lines) p.read p.under_way at

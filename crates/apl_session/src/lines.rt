@@ -1,0 +1,120 @@
+ghost use Rattle.std.specs.Prelude.{◌≡◌, ◌+◌, ◌<◌, ◌^◌, ℕ, List, ◌∷◌, IfOk, None, drop};
+ghost use Rattle.apl_machine.specs.Machine.{MayRun};
+ghost use Rattle.apl_meaning.specs.Meaning.{most_statements};
+ghost use Rattle.sv_events.specs.Answer.{PlainAnswer};
+ghost use Rattle.session_rules.specs.Course.{with_terminal};
+ghost use Rattle.session_rules.specs.Session.{free_line, statement_done};
+ghost use Rattle.apl_terminal.specs.Terminal.{echoing, free_prompt};
+ghost use Rattle.apl_session.specs.Standing.{GoesOn, IsAt, IsUnderWay, StandsIn};
+ghost use Rattle.apl_session.specs.declared.under_way.UnderWay.TheVariants as under_way;
+
+use crate::progress::Progress;
+use crate::under_way::UnderWay;
+use apl_arrays::{Fail, Line, WantOfMemory};
+use apl_machine::{Machine, Stop, tree_of};
+use apl_operators::Steps;
+use apl_terminal::is_opening;
+use std::sync::ledger::Ledger;
+use sv_events::Act;
+
+impl Progress {
+    /// Reads a line, and does it up to its first act, or to its end. It takes the memory of what is evaluated and printed;
+    /// where that runs out, some of it may be done.
+    pub(crate) fn take_line<L: Ledger>(
+        &mut self,
+        line: &Line,
+        steps: &mut Steps<L>,
+    ) -> Result<Option<Act>, WantOfMemory>
+        requires none { self.old.under_way ≡ under_way.Nothing }
+        requires count { self.old.read + 1 < 2 ^ 64 }
+        ensures stands { IfOk result (λ asked. (lines rest : List (List ℕ)) (answers : List PlainAnswer) → StandsIn lines answers self.old → drop self.old.read lines ≡ line.now.items ∷ rest → GoesOn lines answers asked self.new) }
+        ensures read { self.new.read ≡ self.old.read + 1 }
+    {
+        self.read += 1;
+        match self.terminal.take_definition() {
+            Some(editor) => {
+                self.terminal.feed(editor, line)?;
+                Ok(None)
+            }
+            None => self.begin_line(line, steps),
+        }
+    }
+
+    // Begins a line that is read while no definition is open: it is echoed, and opens one, or is evaluated.
+    fn begin_line<L: Ledger>(
+        &mut self,
+        line: &Line,
+        steps: &mut Steps<L>,
+    ) -> Result<Option<Act>, WantOfMemory>
+        requires none { self.old.under_way ≡ under_way.Nothing }
+        requires free { self.old.terminal.definition ≡ None }
+        ensures stands { IfOk result (λ asked. (lines : List (List ℕ)) (answers : List PlainAnswer)
+            → IsAt lines answers self.old.read (λ c. free_line most_statements line.now.items (with_terminal (echoing free_prompt line.now.items c.terminal) c)) self.old.terminal
+            → GoesOn lines answers asked self.new) }
+        ensures read { self.new.read ≡ self.old.read }
+    {
+        self.terminal.echo_free(line)?;
+        if is_opening(line.as_slice()) {
+            self.terminal.open(line)?;
+            Ok(None)
+        } else {
+            self.evaluate(line, steps)
+        }
+    }
+
+    // Evaluates a statement, or reports why it is none.
+    fn evaluate<L: Ledger>(
+        &mut self,
+        line: &Line,
+        steps: &mut Steps<L>,
+    ) -> Result<Option<Act>, WantOfMemory>
+        requires none { self.old.under_way ≡ under_way.Nothing }
+        requires free { self.old.terminal.definition ≡ None }
+        ensures stands { IfOk result (λ asked. (lines : List (List ℕ)) (answers : List PlainAnswer)
+            → IsAt lines answers self.old.read (statement_done most_statements line.now.items) self.old.terminal → GoesOn lines answers asked self.new) }
+        ensures read { self.new.read ≡ self.old.read }
+    {
+        match tree_of(self.alloc, self.terminal.workspace(), line) {
+            Ok(tree) => {
+                let mut machine = Machine::new(self.alloc, self.terminal.lend());
+                machine.begin(line, tree)?;
+                self.run(machine, steps)
+            }
+            Err(Fail::Report(report)) => {
+                self.terminal.report(report, line)?;
+                Ok(None)
+            }
+            Err(Fail::WantOfMemory) => Err(WantOfMemory),
+        }
+    }
+
+    /// Runs a machine up to the next act, or to the end of its line, and prints what it printed. It takes the memory of what
+    /// is evaluated and printed; where that runs out, the line is lost.
+    pub(crate) fn run<L: Ledger>(
+        &mut self,
+        machine: Machine,
+        steps: &mut Steps<L>,
+    ) -> Result<Option<Act>, WantOfMemory>
+        requires may { MayRun machine.stage }
+        requires none { self.old.under_way ≡ under_way.Nothing }
+        requires free { self.old.terminal.definition ≡ None }
+        ensures stands { IfOk result (λ asked. (lines : List (List ℕ)) (answers : List PlainAnswer)
+            → IsUnderWay lines answers self.old.read self.old.terminal.transcript machine → GoesOn lines answers asked self.new) }
+        ensures read { self.new.read ≡ self.old.read }
+    {
+        let mut machine = machine;
+        let stop = machine.run(steps)?;
+        self.terminal.print(machine.take_output())?;
+        match stop {
+            Stop::Asks(act) => {
+                let asked = act.copy(self.alloc)?;
+                self.under_way = UnderWay::Asking(machine, act);
+                Ok(Some(asked))
+            }
+            Stop::Done | Stop::Failed(_) => {
+                self.terminal.take_back(machine.into_workspace());
+                Ok(None)
+            }
+        }
+    }
+}

@@ -1,5 +1,0 @@
-use Rattle.std.proofs.Common.{length}
-use Rattle.aplsv_replay.proofs.taking.+user_turns.Given as goal
-
-abbrev pub decreases-user_turns : goal.decreases-user_turns
-decreases-user_turns l = length l.sessions.now

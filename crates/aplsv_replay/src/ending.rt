@@ -1,0 +1,54 @@
+use crate::seat::Seat;
+use apl_session::{Ended, Parts, Transcript, Transcripts};
+use std::alloc::Global;
+use sv_events::Journal;
+
+/// The end of a run in which all users have left, where the transcripts are there and memory ran out for nobody. No memory.
+pub fn end_of(transcripts: Option<Transcripts>, journal: Journal, is_whole: bool) -> Ended {
+    let Some(transcripts) = transcripts else {
+        return Ended::WantOfMemory;
+    };
+    if is_whole {
+        Ended::Whole {
+            transcripts,
+            journal,
+        }
+    } else {
+        Ended::WantOfMemory
+    }
+}
+
+/// Whether memory ran out for none of these users. No memory.
+pub fn none_is_lost<K>(seats: &[Seat<K>]) -> bool {
+    seats.iter().all(|seat| !seat.is_lost)
+}
+
+/// The users' transcripts, and their shelves back at the front of those that were left. The list of shelves has room for
+/// them. It takes memory for the list of transcripts; none where that runs out.
+pub fn take_apart<K>(
+    alloc: Global,
+    seats: Vec<Seat<K>>,
+    shelves: &mut Vec<K>,
+) -> Option<Transcripts> {
+    let left = shelves.len();
+    let mut seats = seats;
+    let mut transcripts = Transcripts::new(alloc);
+    let mut is_whole = true;
+    while !seats.is_empty() {
+        let Seat {
+            session,
+            is_lost: _,
+        } = seats.remove(0);
+        let user = session.user();
+        let Parts { transcript, shelf } = session.into_parts();
+        shelves.push_reserved(shelf);
+        let kept = transcripts.push(Transcript {
+            user,
+            lines: transcript,
+        });
+        is_whole = is_whole && kept.is_ok();
+    }
+    seats.destroy_empty();
+    shelves.rotate_left(left);
+    if is_whole { Some(transcripts) } else { None }
+}
