@@ -1,4 +1,5 @@
 pub mod Participants
 pub mod Replayed
+pub mod SeatTurns
 pub mod SoFar
 pub mod Together
