@@ -1,10 +1,19 @@
+ghost use Rattle.std.specs.Prelude.{◌≡◌, ◌+◌, ◌≤◌, ◌++◌, All, IfSome, map, not, vec_len};
+ghost use Rattle.std.specs.Vec.{vec_capacity};
+ghost use Rattle.std.specs.List.{list_all};
+ghost use Rattle.apl_arrays.specs.Ascending.{AscendBy};
+ghost use Rattle.apl_session.specs.Wants.{HasHeardAll};
+ghost use Rattle.aplsv_replay.specs.Seats.{end_by, transcript_of};
+
 use crate::seat::Seat;
 use apl_session::{Ended, Parts, Transcript, Transcripts};
 use std::alloc::Global;
 use sv_events::Journal;
 
 /// The end of a run in which all users have left, where the transcripts are there and memory ran out for nobody. No memory.
-pub fn end_of(transcripts: Option<Transcripts>, journal: Journal, is_whole: bool) -> Ended {
+pub fn end_of(transcripts: Option<Transcripts>, journal: Journal, is_whole: bool) -> Ended
+    ensures { result ≡ end_by transcripts journal is_whole }
+{
     let Some(transcripts) = transcripts else {
         return Ended::WantOfMemory;
     };
@@ -19,7 +28,9 @@ pub fn end_of(transcripts: Option<Transcripts>, journal: Journal, is_whole: bool
 }
 
 /// Whether memory ran out for none of these users. No memory.
-pub fn none_is_lost<K>(seats: &[Seat<K>]) -> bool {
+pub fn none_is_lost<K>(seats: &[Seat<K>]) -> bool
+    ensures { result ≡ list_all (λ seat. not seat.is_lost) seats.now }
+{
     seats.iter().all(|seat| !seat.is_lost)
 }
 
@@ -29,7 +40,12 @@ pub fn take_apart<K>(
     alloc: Global,
     seats: Vec<Seat<K>>,
     shelves: &mut Vec<K>,
-) -> Option<Transcripts> {
+) -> Option<Transcripts>
+    requires ascending { AscendBy (λ seat. seat.session.user) seats.items }
+    requires room { vec_len seats + vec_len shelves.old ≤ vec_capacity shelves.old }
+    ensures transcripts { IfSome result (λ transcripts. All (λ seat. HasHeardAll seat.session.stage) seats.items → transcripts.items ≡ map transcript_of seats.items) }
+    ensures shelves { shelves.new.items ≡ map (λ seat. seat.session.shelf) seats.items ++ shelves.old.items }
+{
     let left = shelves.len();
     let mut seats = seats;
     let mut transcripts = Transcripts::new(alloc);

@@ -1,4 +1,4 @@
-ghost use Rattle.std.specs.Prelude.{◌≡◌, false, IsTrue, OnErr, OnOk, Some};
+ghost use Rattle.std.specs.Prelude.{◌≡◌, false, true, IsSome, IsTrue, OnErr, OnOk, Some};
 ghost use Rattle.sv_core.specs.Core.{ArePeople};
 ghost use Rattle.sv_rules.specs.Entries.{has_left};
 ghost use Rattle.sv_rules.specs.Legal.{is_user};
@@ -49,6 +49,9 @@ impl<K> Seat<K> {
         ensures same { IsSameUser self.old.session self.new.session }
         ensures grows { GrowsBy self.old.session.user core.old core.new }
         ensures goes_on { GoesOn core.old self.old.session core.new self.new.session }
+        ensures gone { has_left core.old.journal self.old.session.user ≡ true → (core.new ≡ core.old) × (self.new ≡ self.old) }
+        ensures closed { closes ≡ true → has_left core.new.journal self.old.session.user ≡ true }
+        ensures lost { self.old.is_lost ≡ true → self.new.is_lost ≡ true }
         ensures whole { closes ≡ false → self.new.is_lost ≡ false → IsWhole core.old.journal self.old → IsWhole core.new.journal self.new }
         ensures turn { closes ≡ false → self.new.is_lost ≡ false → IsTurn core.old self.old.session core.new self.new.session }
     {
@@ -122,6 +125,7 @@ impl<K> Seat<K> {
         requires stays { has_left core.old.journal self.old.session.user ≡ false }
         requires waiting { self.old.session.stage ≡ Stage.Waiting }
         requires waits { IsTrue (waits core.old.journal self.old.session.user) }
+        requires asks { IsSome (session_of self.old.session.lines self.old.session.answers).waits }
         requires so_far { IsRetried core.old.journal self.old.session }
         ensures same { IsSameUser self.old.session self.new.session }
         ensures lost { self.new.is_lost ≡ self.old.is_lost }

@@ -1,3 +1,11 @@
+ghost use Rattle.std.specs.Prelude.{◌≡◌, ◌+◌, ◌≤◌, ◌++◌, [], false, All, IfOk, length, map, vec_len};
+ghost use Rattle.std.specs.Vec.{vec_capacity};
+ghost use Rattle.bundle_text.specs.User.{plain_user};
+ghost use Rattle.sv_core.specs.Core.{ArePeople};
+ghost use Rattle.replay_rules.specs.Turns.{newcomer};
+ghost use Rattle.aplsv_replay.specs.SoFar.{IsSeated, user_of};
+ghost use Rattle.aplsv_replay.specs.Participants.{users_of};
+
 use crate::seat::Seat;
 use apl_arrays::WantOfMemory;
 use apl_session::Session;
@@ -6,7 +14,10 @@ use std::alloc::Global;
 use sv_core::Core;
 
 /// The processor of these users. It takes memory for their numbers and for the room of their leaves.
-pub fn core_of(alloc: Global, users: &[BundleUser]) -> Result<Core, WantOfMemory> {
+pub fn core_of(alloc: Global, users: &[BundleUser]) -> Result<Core, WantOfMemory>
+    requires people { ArePeople (map (λ user. user.number) users.now) }
+    ensures { IfOk result (λ core. core ≡ record { users = map (λ user. user.number) users.now; journal = [] }) }
+{
     let mut numbers = Vec::new(alloc);
     for user in users {
         numbers.push(user.number)?;
@@ -15,7 +26,10 @@ pub fn core_of(alloc: Global, users: &[BundleUser]) -> Result<Core, WantOfMemory
 }
 
 /// A list of seats that has room for these users. It takes memory for it.
-pub fn room_for<K>(alloc: Global, users: &[BundleUser]) -> Result<Vec<Seat<K>>, WantOfMemory> {
+pub fn room_for<K>(alloc: Global, users: &[BundleUser]) -> Result<Vec<Seat<K>>, WantOfMemory>
+    ensures empty { IfOk result (λ seats. seats.items ≡ []) }
+    ensures room { IfOk result (λ seats. length users.now ≤ vec_capacity seats) }
+{
     Ok(Vec::with_capacity(alloc, users.len())?)
 }
 
@@ -26,7 +40,17 @@ pub fn fill<K>(
     users: Vec<BundleUser>,
     seats: Vec<Seat<K>>,
     shelves: &mut Vec<K>,
-) -> Vec<Seat<K>> {
+) -> Vec<Seat<K>>
+    requires empty { seats.items ≡ [] }
+    requires room { vec_len users ≤ vec_capacity seats }
+    requires shelves { vec_len users ≤ vec_len shelves.old }
+    ensures users { map (λ seat. user_of seat.session) result.items ≡ map plain_user users.items }
+    ensures newcomers { users_of result.items ≡ map newcomer (map plain_user users.items) }
+    ensures seated { All (IsSeated []) result.items }
+    ensures here { All (λ seat. seat.is_lost ≡ false) result.items }
+    ensures shelves { map (λ seat. seat.session.shelf) result.items ++ shelves.new.items ≡ shelves.old.items }
+    ensures room { vec_len result + vec_len shelves.new ≤ vec_capacity shelves.new }
+{
     let mut seats = seats;
     for user in users {
         let shelf = shelves.remove(0);
