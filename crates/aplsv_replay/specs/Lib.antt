@@ -1,3 +1,4 @@
+pub mod Endings
 pub mod Participants
 pub mod Replayed
 pub mod SeatTurns

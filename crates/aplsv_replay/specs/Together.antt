@@ -4,7 +4,7 @@ use Rattle.apl_arrays.specs.Array.{PlainArray}
 use Rattle.apl_arrays.specs.Ascending.{AscendBy}
 use Rattle.apl_arrays.specs.Parties.{clock_party, text_party}
 use Rattle.bundle_text.specs.Rules.{PlainBundle}
-use Rattle.sv_core.specs.Core.{ArePeople, PlainCore}
+use Rattle.sv_core.specs.Core.{ArePeople}
 use Rattle.sv_events.specs.declared.work.Work.TheVariants.{Idle}
 use Rattle.sv_rules.specs.Work.{work_of}
 use Rattle.session_rules.specs.Auxiliaries.{acts_among}
@@ -18,12 +18,12 @@ use Rattle.aplsv_replay.specs.declared.parties.Parties.{Parties}
 module _ {X Y K : Type 0} (forgets_ten : X → ℕ → X → Type 0) (replies_ten : X → ℕ → PlainArray → PlainArray → X → Type 0)
     (forgets_twenty : Y → ℕ → Y → Type 0) (replies_twenty : Y → ℕ → PlainArray → PlainArray → Y → Type 0) where
   -- the parties of a bundle, whose auxiliaries began at these states: its users in their order, each on its shelf, and so far, or with its part once it has left; what answers behind each auxiliary came to where it is by the auxiliary's entries, before each of which some user had not left. Where memory ran out for a party, nothing is said of its part
-  pub record AreTogether (bundle : PlainBundle) (ten : X) (twenty : Y) (shelves : List K) (p : Parties X Y K) : Type 0 where
+  pub record AreTogether (bundle : PlainBundle) (ten : X) (twenty : Y) (lent : List K) (p : Parties X Y K) : Type 0 where
     pub people : ArePeople p.core.users
     pub numbers : p.core.users ≡ user_numbers bundle
     pub ascending : AscendBy (λ user. user.number) bundle.users
     pub users : map (λ seat. user_of seat.session) p.seats.items ≡ bundle.users
-    pub shelves : map (λ seat. seat.session.shelf) p.seats.items ≡ shelves
+    pub shelves : map (λ seat. seat.session.shelf) p.seats.items ≡ lent
     pub seated : All (IsSeated p.core.journal) p.seats.items
     pub whole : p.ten.is_lost ≡ false → p.twenty.is_lost ≡ false → All (IsWholeUnlessLost p.core.journal) p.seats.items
     pub clock : p.ten.party ≡ clock_party
@@ -60,7 +60,7 @@ pub record TookTurns {X Y K : Type 0} (turns : Replay → Replay) (before after 
 -- where memory ran out for nobody, it had before, and they did
 pub record TakesTurns {X Y K : Type 0} (turns : Replay → Replay) (before after : Parties X Y K) : Type 0 where
   pub lost : IsTrue (none_is_lost after) → IsTrue (none_is_lost before)
-  pub turns : IsTrue (none_is_lost after) → TookTurns turns before after
+  pub took : IsTrue (none_is_lost after) → TookTurns turns before after
 
 -- how much may still be done
 abbrev pub left_to_do : {X Y K : Type 0} → Parties X Y K → ℕ
@@ -69,5 +69,5 @@ left_to_do p = work_left p.core.journal (users_of p.seats.items)
 -- an auxiliary's turn leaves less to do; or memory ran out for it; or it had no work, and nothing changed
 pub record LeavesLess {X Y K : Type 0} (party : ℕ) (lost : Bool) (before after : Parties X Y K) : Type 0 where
   pub most : left_to_do after ≤ left_to_do before
-  pub rests : (left_to_do after < left_to_do before) ⊎ (lost ≡ true) ⊎ ((after.core ≡ before.core) × (work_of before.core.journal party ≡ Idle))
+  pub rests : (left_to_do after < left_to_do before) ⊎ ((lost ≡ true) ⊎ ((after.core ≡ before.core) × (work_of before.core.journal party ≡ Idle)))
   pub seats : after.seats ≡ before.seats

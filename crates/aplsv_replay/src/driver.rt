@@ -1,14 +1,16 @@
-ghost use Rattle.std.specs.Prelude.{◌≡◌, ◌≤◌, length, vec_len};
+ghost use Rattle.std.specs.Prelude.{◌≡◌, ◌+◌, ◌≤◌, ◌++◌, length, map, vec_capacity, vec_len};
+ghost use Rattle.apl_arrays.specs.Ascending.{AscendBy};
 ghost use Rattle.auxiliaries.specs.Clock.{RepliesByReading};
 ghost use Rattle.auxiliaries.specs.Protocol.{idle};
 ghost use Rattle.auxiliaries.specs.Served.{Replies, forgotten};
 ghost use Rattle.session_rules.specs.Run.{IsRun};
 ghost use Rattle.apl_session.specs.Ended.{IfWhole};
 ghost use Rattle.aplsv_replay.specs.Replayed.{IsDeviceRun};
+ghost use Rattle.aplsv_replay.specs.Endings.{IsEnded};
 ghost use Rattle.replay_rules.specs.Turns.{IsJournalOfTurns};
 
 use crate::auxiliary::Auxiliary;
-use crate::ending::{end_of, none_is_lost, take_apart};
+use crate::ending::{end_of, take_apart};
 use crate::parties::Parties;
 use crate::start::{core_of, fill, room_for};
 use apl_io::{Clock, Devices, TextStore};
@@ -113,7 +115,15 @@ fn close<X: Replier, Y: Replier, K>(
     alloc: Global,
     parties: Parties<X, Y, K>,
     shelves: Vec<K>,
-) -> RunOf<X, Y, K> {
+) -> RunOf<X, Y, K>
+    requires ascending { AscendBy (λ seat. seat.session.user) parties.seats.items }
+    requires room { vec_len parties.seats + vec_len shelves ≤ vec_capacity shelves }
+    ensures whole { IfWhole result.ended (λ transcripts journal. IsEnded parties transcripts journal) }
+    ensures ten { result.ten ≡ parties.ten.replier }
+    ensures twenty { result.twenty ≡ parties.twenty.replier }
+    ensures shelves { result.shelves.items ≡ map (λ seat. seat.session.shelf) parties.seats.items ++ shelves.items }
+{
+    let is_whole = parties.is_whole();
     let Parties {
         core,
         ten,
@@ -121,7 +131,6 @@ fn close<X: Replier, Y: Replier, K>(
         seats,
     } = parties;
     let mut shelves = shelves;
-    let is_whole = !ten.is_lost() && !twenty.is_lost() && none_is_lost(&seats);
     let transcripts = take_apart(alloc, seats, &mut shelves);
     RunOf {
         ended: end_of(transcripts, core.into_journal(), is_whole),

@@ -1,4 +1,4 @@
-ghost use Rattle.std.specs.Prelude.{◌≡◌, ◌<◌, ◌||◌, ℕ, All, IsTrue, false, not, true};
+ghost use Rattle.std.specs.Prelude.{◌≡◌, ◌<◌, ◌||◌, ◌∷◌, [], ℕ, All, IsTrue, false, not, true};
 ghost use Rattle.apl_arrays.specs.Ascending.{AscendBy};
 ghost use Rattle.apl_arrays.specs.Parties.{clock_party, text_party};
 ghost use Rattle.sv_core.specs.Core.{ArePeople};
@@ -7,10 +7,11 @@ ghost use Rattle.session_rules.specs.Auxiliaries.{some_stay};
 ghost use Rattle.aplsv_replay.specs.Participants.{users_of};
 ghost use Rattle.aplsv_replay.specs.SeatTurns.{AreSeatTurns, IsSeatTurn, is_due};
 ghost use Rattle.aplsv_replay.specs.SoFar.{IsSeated};
-ghost use Rattle.aplsv_replay.specs.Together.{AreOfSomeBundle, LeavesLess, StayTogether, TakesTurns, left_to_do};
+ghost use Rattle.aplsv_replay.specs.Together.{AreOfSomeBundle, LeavesLess, StayTogether, TakesTurns, left_to_do, none_is_lost};
 ghost use Rattle.replay_rules.specs.Turns.{numbers_of, ordered, party_turn, round, rounds, turn_of_ten, turn_of_twenty};
 
 use crate::auxiliary::Auxiliary;
+use crate::ending::none_is_lost;
 use crate::seat::Seat;
 use auxiliaries::Replier;
 use sv_core::Core;
@@ -34,9 +35,7 @@ impl<X: Replier, Y: Replier, K> Parties<X, Y, K> {
         ensures turns { TakesTurns (ordered order.now) self.old self.new }
     {
         for party in order {
-            if !self.all_have_left() {
-                self.take_turn(*party);
-            }
+            self.take_next_turn(*party);
         }
     }
 
@@ -52,6 +51,13 @@ impl<X: Replier, Y: Replier, K> Parties<X, Y, K> {
         }
     }
 
+    /// Whether memory ran out for nobody. No memory.
+    pub fn is_whole(&self) -> bool
+        ensures { result ≡ none_is_lost self.now }
+    {
+        !self.ten.is_lost() && !self.twenty.is_lost() && none_is_lost(&self.seats)
+    }
+
     // One round.
     fn take_round(&mut self)
         requires together { AreOfSomeBundle X.forgets X.replies Y.forgets Y.replies self.old }
@@ -65,6 +71,18 @@ impl<X: Replier, Y: Replier, K> Parties<X, Y, K> {
         self.user_turns(None);
     }
 
+    // The turn of a party, unless all users have left.
+    fn take_next_turn(&mut self, party: u32)
+        requires together { AreOfSomeBundle X.forgets X.replies Y.forgets Y.replies self.old }
+        ensures together { StayTogether X.forgets X.replies Y.forgets Y.replies self.old self.new }
+        ensures turn { TakesTurns (ordered (party ∷ [])) self.old self.new }
+    {
+        if self.all_have_left() {
+            return;
+        }
+        self.take_turn(party);
+    }
+
     // The turn of a party.
     fn take_turn(&mut self, party: u32)
         requires together { AreOfSomeBundle X.forgets X.replies Y.forgets Y.replies self.old }
@@ -74,11 +92,13 @@ impl<X: Replier, Y: Replier, K> Parties<X, Y, K> {
     {
         if party == CLOCK_PARTY {
             self.turn_of_ten();
-        } else if party == TEXT_PARTY {
-            self.turn_of_twenty();
-        } else {
-            self.user_turns(Some(party));
+            return;
         }
+        if party == TEXT_PARTY {
+            self.turn_of_twenty();
+            return;
+        }
+        self.user_turns(Some(party));
     }
 
     // The turn of 10.
@@ -153,9 +173,10 @@ fn seat_turn<K>(core: &mut Core, seat: &mut Seat<K>, due: bool, closes: bool)
     requires seated { IsSeated core.old.journal seat.old }
     ensures { IsSeatTurn due closes core.old seat.old core.new seat.new }
 {
-    if due {
-        seat.take_turn(core, closes);
+    if !due {
+        return;
     }
+    seat.take_turn(core, closes);
 }
 
 // Whether a turn is a user's: it is that of each user, or of the one with this number.

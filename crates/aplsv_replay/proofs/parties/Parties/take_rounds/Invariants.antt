@@ -1,0 +1,15 @@
+use Rattle.std.proofs.Common.{ℕ}
+use Rattle.aplsv_replay.specs.Together.{AreOfSomeBundle, StayTogether, TakesTurns, left_to_do}
+use Rattle.replay_rules.specs.Turns.{rounds}
+use Rattle.aplsv_replay.proofs.parties.Parties.take_rounds.Given as goal
+
+-- so many rounds were taken
+abbrev pub invariant-loop : goal.invariant-loop
+invariant-loop g l = record {
+  some : AreOfSomeBundle g.X.Replier.forgets g.X.Replier.replies g.Y.Replier.forgets g.Y.Replier.replies l.self;
+  stay : StayTogether g.X.Replier.forgets g.X.Replier.replies g.Y.Replier.forgets g.Y.Replier.replies l.fn.self l.self;
+  turns : (count : ℕ) × TakesTurns (rounds count) l.fn.self l.self;
+}
+
+abbrev pub decreases-loop : goal.decreases-loop
+decreases-loop g l = left_to_do l.self

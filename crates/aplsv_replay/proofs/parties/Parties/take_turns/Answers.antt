@@ -1,0 +1,28 @@
+use Rattle.std.proofs.Common.{ℕ, List, [], get_or, refl, subst, sym, take}
+use Rattle.std.proofs.lemmas.List.{take_more}
+use Rattle.aplsv_replay.specs.Together.{TakesTurns}
+use Rattle.aplsv_replay.proofs.AllTogether.{of_some_still}
+use Rattle.aplsv_replay.proofs.Taking.{takes_next, takes_none}
+use Rattle.replay_rules.specs.Turns.{ordered}
+use Rattle.aplsv_replay.proofs.parties.Parties.take_turns.Goals as goal
+
+pub loop-party-init : goal.loop-party-init
+loop-party-init g c = record {
+  some = c.requires.together;
+  stay = λ bundle ten twenty shelves h. h;
+  turns = takes_none (ordered []) c.args.self.now (λ r. refl);
+}
+
+pub loop-party-preserved : goal.loop-party-preserved
+loop-party-preserved g c =
+    let start = c.args.self.now in
+    let here = c.loop-party.self in
+    let next = c.take_next_turn.new.self in
+    let order = c.args.order.now in
+    let index = c.loop-party.party-index in
+    record {
+      some = of_some_still g.X.Replier.forgets g.X.Replier.replies g.Y.Replier.forgets g.Y.Replier.replies here next c.loop-party.invariant.some c.take_next_turn.ensures.together;
+      stay = λ bundle ten twenty shelves h. c.take_next_turn.ensures.together bundle ten twenty shelves (c.loop-party.invariant.stay bundle ten twenty shelves h);
+      turns = subst (λ (taken : List ℕ). TakesTurns (ordered taken) start next) (sym (take_more order index 0 c.loop-party-test.true))
+          (takes_next (take index order) (get_or order index 0) start here next c.loop-party.invariant.turns c.take_next_turn.ensures.turn);
+    }
