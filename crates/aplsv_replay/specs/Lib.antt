@@ -1,5 +1,6 @@
 pub mod Participants
 pub mod Replayed
+pub mod SeatTurns
 pub mod Seats
 pub mod SoFar
 pub mod Together

@@ -1,27 +1,31 @@
 -- All parties of a replay between two turns.
-use Rattle.std.specs.Prelude.{◌≡◌, ◌++◌, ◌&&◌, ℕ, Bool, false, not, List, All, IsTrue, map}
-use Rattle.std.specs.List.{list_all}
+use Rattle.std.specs.Prelude.{◌≡◌, ◌⊎◌, ◌<◌, ◌≤◌, ◌++◌, ◌&&◌, ℕ, Bool, true, false, not, List, All, IsTrue, map}
 use Rattle.apl_arrays.specs.Array.{PlainArray}
+use Rattle.apl_arrays.specs.Ascending.{AscendBy}
 use Rattle.apl_arrays.specs.Parties.{clock_party, text_party}
 use Rattle.bundle_text.specs.Rules.{PlainBundle}
-use Rattle.sv_core.specs.Core.{ArePeople}
+use Rattle.sv_core.specs.Core.{ArePeople, PlainCore}
+use Rattle.sv_events.specs.declared.work.Work.TheVariants.{Idle}
+use Rattle.sv_rules.specs.Work.{work_of}
 use Rattle.session_rules.specs.Auxiliaries.{acts_among}
 use Rattle.session_rules.specs.Run.{user_numbers}
-use Rattle.aplsv_replay.specs.Participants.{participant_of}
-use Rattle.aplsv_replay.specs.SoFar.{HasAnswered, IsSeated, IsWhole, user_of}
-use Rattle.replay_rules.specs.Turns.{Participant, Replay}
+use Rattle.aplsv_replay.specs.Participants.{users_of}
+use Rattle.aplsv_replay.specs.SeatTurns.{IsWholeUnlessLost, none_lost, work_left}
+use Rattle.aplsv_replay.specs.SoFar.{HasAnswered, IsSeated, user_of}
+use Rattle.replay_rules.specs.Turns.{Replay}
 use Rattle.aplsv_replay.specs.declared.parties.Parties.{Parties}
-use Rattle.aplsv_replay.specs.declared.seat.Seat.{Seat}
 
 module _ {X Y K : Type 0} (forgets_ten : X → ℕ → X → Type 0) (replies_ten : X → ℕ → PlainArray → PlainArray → X → Type 0)
     (forgets_twenty : Y → ℕ → Y → Type 0) (replies_twenty : Y → ℕ → PlainArray → PlainArray → Y → Type 0) where
-  -- the parties of a bundle, whose auxiliaries began at these states: its users in their order, each so far, or with its part once it has left; what answers behind each auxiliary came to where it is by the auxiliary's entries, before each of which some user had not left. Where memory ran out for a party, nothing is said of its part
-  pub record AreTogether (bundle : PlainBundle) (ten : X) (twenty : Y) (p : Parties X Y K) : Type 0 where
+  -- the parties of a bundle, whose auxiliaries began at these states: its users in their order, each on its shelf, and so far, or with its part once it has left; what answers behind each auxiliary came to where it is by the auxiliary's entries, before each of which some user had not left. Where memory ran out for a party, nothing is said of its part
+  pub record AreTogether (bundle : PlainBundle) (ten : X) (twenty : Y) (shelves : List K) (p : Parties X Y K) : Type 0 where
     pub people : ArePeople p.core.users
     pub numbers : p.core.users ≡ user_numbers bundle
+    pub ascending : AscendBy (λ user. user.number) bundle.users
     pub users : map (λ seat. user_of seat.session) p.seats.items ≡ bundle.users
+    pub shelves : map (λ seat. seat.session.shelf) p.seats.items ≡ shelves
     pub seated : All (IsSeated p.core.journal) p.seats.items
-    pub whole : p.ten.is_lost ≡ false → p.twenty.is_lost ≡ false → All (λ seat. seat.is_lost ≡ false → IsWhole p.core.journal seat) p.seats.items
+    pub whole : p.ten.is_lost ≡ false → p.twenty.is_lost ≡ false → All (IsWholeUnlessLost p.core.journal) p.seats.items
     pub clock : p.ten.party ≡ clock_party
     pub text : p.twenty.party ≡ text_party
     pub ten_answered : p.ten.is_lost ≡ false → HasAnswered forgets_ten replies_ten ten p.core.journal p.ten
@@ -34,19 +38,16 @@ module _ {X Y K : Type 0} (forgets_ten : X → ℕ → X → Type 0) (replies_te
     pub bundle : PlainBundle
     pub ten : X
     pub twenty : Y
-    pub together : AreTogether bundle ten twenty p
+    pub shelves : List K
+    pub together : AreTogether bundle ten twenty shelves p
 
   -- they stay those of the bundle
   abbrev pub StayTogether : Parties X Y K → Parties X Y K → Type 0
-  StayTogether before after = (bundle : PlainBundle) (ten : X) (twenty : Y) → AreTogether bundle ten twenty before → AreTogether bundle ten twenty after
-
--- the users of a replay
-abbrev pub users_of : {K : Type 0} → List (Seat K) → List Participant
-users_of seats = map (λ seat. participant_of seat.session) seats
+  StayTogether before after = (bundle : PlainBundle) (ten : X) (twenty : Y) (shelves : List K) → AreTogether bundle ten twenty shelves before → AreTogether bundle ten twenty shelves after
 
 -- memory ran out for nobody
 abbrev pub none_is_lost : {X Y K : Type 0} → Parties X Y K → Bool
-none_is_lost p = not p.ten.is_lost && not p.twenty.is_lost && list_all (λ seat. not seat.is_lost) p.seats.items
+none_is_lost p = not p.ten.is_lost && not p.twenty.is_lost && none_lost p.seats.items
 
 -- the parties took the turns of a replay that a function says: with the replies that 10 and 20 gave in them
 pub record TookTurns {X Y K : Type 0} (turns : Replay → Replay) (before after : Parties X Y K) : Type 0 where
@@ -56,6 +57,17 @@ pub record TookTurns {X Y K : Type 0} (turns : Replay → Replay) (before after 
       turns (record { journal = before.core.journal; ten = ten ++ more_ten; twenty = twenty ++ more_twenty; users = users_of before.seats.items })
       ≡ record { journal = after.core.journal; ten = more_ten; twenty = more_twenty; users = users_of after.seats.items }
 
--- where memory ran out for nobody, they did
-abbrev pub TakesTurns : {X Y K : Type 0} → (Replay → Replay) → Parties X Y K → Parties X Y K → Type 0
-TakesTurns turns before after = IsTrue (none_is_lost after) → TookTurns turns before after
+-- where memory ran out for nobody, it had before, and they did
+pub record TakesTurns {X Y K : Type 0} (turns : Replay → Replay) (before after : Parties X Y K) : Type 0 where
+  pub lost : IsTrue (none_is_lost after) → IsTrue (none_is_lost before)
+  pub turns : IsTrue (none_is_lost after) → TookTurns turns before after
+
+-- how much may still be done
+abbrev pub left_to_do : {X Y K : Type 0} → Parties X Y K → ℕ
+left_to_do p = work_left p.core.journal (users_of p.seats.items)
+
+-- an auxiliary's turn leaves less to do; or memory ran out for it; or it had no work, and nothing changed
+pub record LeavesLess {X Y K : Type 0} (party : ℕ) (lost : Bool) (before after : Parties X Y K) : Type 0 where
+  pub most : left_to_do after ≤ left_to_do before
+  pub rests : (left_to_do after < left_to_do before) ⊎ (lost ≡ true) ⊎ ((after.core ≡ before.core) × (work_of before.core.journal party ≡ Idle))
+  pub seats : after.seats ≡ before.seats

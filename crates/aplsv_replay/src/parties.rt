@@ -1,7 +1,14 @@
-ghost use Rattle.std.specs.Prelude.{◌≡◌, ◌||◌, ℕ, IsTrue, false, not};
+ghost use Rattle.std.specs.Prelude.{◌≡◌, ◌<◌, ◌||◌, ℕ, All, IsTrue, false, not, true};
+ghost use Rattle.apl_arrays.specs.Ascending.{AscendBy};
+ghost use Rattle.apl_arrays.specs.Parties.{clock_party, text_party};
+ghost use Rattle.sv_core.specs.Core.{ArePeople};
+ghost use Rattle.sv_rules.specs.Legal.{is_user};
 ghost use Rattle.session_rules.specs.Auxiliaries.{some_stay};
-ghost use Rattle.aplsv_replay.specs.Together.{AreOfSomeBundle, StayTogether, TakesTurns, users_of};
-ghost use Rattle.replay_rules.specs.Turns.{numbers_of, ordered, party_turn, round, rounds};
+ghost use Rattle.aplsv_replay.specs.Participants.{users_of};
+ghost use Rattle.aplsv_replay.specs.SeatTurns.{AreSeatTurns, IsSeatTurn, is_due};
+ghost use Rattle.aplsv_replay.specs.SoFar.{IsSeated};
+ghost use Rattle.aplsv_replay.specs.Together.{AreOfSomeBundle, LeavesLess, StayTogether, TakesTurns, left_to_do};
+ghost use Rattle.replay_rules.specs.Turns.{numbers_of, ordered, party_turn, round, rounds, turn_of_ten, turn_of_twenty};
 
 use crate::auxiliary::Auxiliary;
 use crate::seat::Seat;
@@ -51,11 +58,11 @@ impl<X: Replier, Y: Replier, K> Parties<X, Y, K> {
         requires stay { IsTrue (some_stay self.old.core.users self.old.core.journal) }
         ensures together { StayTogether X.forgets X.replies Y.forgets Y.replies self.old self.new }
         ensures turns { TakesTurns round self.old self.new }
+        ensures less { left_to_do self.new < left_to_do self.old }
     {
-        self.ten.take_turn(&mut self.core);
-        self.twenty.take_turn(&mut self.core);
-        let closes = self.closes();
-        seat_turns(&mut self.core, &mut self.seats, closes);
+        self.turn_of_ten();
+        self.turn_of_twenty();
+        self.user_turns(None);
     }
 
     // The turn of a party.
@@ -66,20 +73,49 @@ impl<X: Replier, Y: Replier, K> Parties<X, Y, K> {
         ensures turns { TakesTurns (party_turn party) self.old self.new }
     {
         if party == CLOCK_PARTY {
-            self.ten.take_turn(&mut self.core);
+            self.turn_of_ten();
         } else if party == TEXT_PARTY {
-            self.twenty.take_turn(&mut self.core);
+            self.turn_of_twenty();
         } else {
-            let closes = self.closes();
-            seat_turn(&mut self.core, &mut self.seats, party, closes);
+            self.user_turns(Some(party));
         }
     }
 
-    // Whether each user leaves at its next turn: memory ran out for an auxiliary.
-    fn closes(&self) -> bool
-        ensures { result ≡ (self.now.ten.is_lost || self.now.twenty.is_lost) }
+    // The turn of 10.
+    fn turn_of_ten(&mut self)
+        requires together { AreOfSomeBundle X.forgets X.replies Y.forgets Y.replies self.old }
+        requires stay { IsTrue (some_stay self.old.core.users self.old.core.journal) }
+        ensures together { StayTogether X.forgets X.replies Y.forgets Y.replies self.old self.new }
+        ensures stay { IsTrue (some_stay self.new.core.users self.new.core.journal) }
+        ensures turn { TakesTurns turn_of_ten self.old self.new }
+        ensures less { LeavesLess clock_party self.new.ten.is_lost self.old self.new }
     {
-        self.ten.is_lost() || self.twenty.is_lost()
+        self.ten.take_turn(&mut self.core);
+    }
+
+    // The turn of 20.
+    fn turn_of_twenty(&mut self)
+        requires together { AreOfSomeBundle X.forgets X.replies Y.forgets Y.replies self.old }
+        requires stay { IsTrue (some_stay self.old.core.users self.old.core.journal) }
+        ensures together { StayTogether X.forgets X.replies Y.forgets Y.replies self.old self.new }
+        ensures stay { IsTrue (some_stay self.new.core.users self.new.core.journal) }
+        ensures turn { TakesTurns turn_of_twenty self.old self.new }
+        ensures same { self.new.ten ≡ self.old.ten }
+        ensures less { LeavesLess text_party self.new.twenty.is_lost self.old self.new }
+    {
+        self.twenty.take_turn(&mut self.core);
+    }
+
+    // A turn for each user, in their order, or for the one with this number alone. Each user leaves at its turn where memory
+    // ran out for an auxiliary.
+    fn user_turns(&mut self, only: Option<u32>)
+        requires together { AreOfSomeBundle X.forgets X.replies Y.forgets Y.replies self.old }
+        ensures turns { AreSeatTurns (is_due only) (self.old.ten.is_lost || self.old.twenty.is_lost) self.old.core self.old.seats.items self.new.core self.new.seats.items }
+        ensures ten { self.new.ten ≡ self.old.ten }
+        ensures twenty { self.new.twenty ≡ self.old.twenty }
+    {
+        let closes = self.ten.is_lost() || self.twenty.is_lost();
+        seat_turns(&mut self.core, &mut self.seats, only, closes);
     }
 
     // Whether all users have left.
@@ -92,18 +128,42 @@ impl<X: Replier, Y: Replier, K> Parties<X, Y, K> {
     }
 }
 
-// A turn for each user, in their order.
-fn seat_turns<K>(core: &mut Core, seats: &mut [Seat<K>], closes: bool) {
-    for seat in seats.iter_mut() {
+// The turns of those users that are due, in their order: of each, or of the one with this number.
+fn seat_turns<K>(core: &mut Core, seats: &mut [Seat<K>], only: Option<u32>, closes: bool)
+    requires users { All (λ seat. IsTrue (is_user core.old.users seat.session.user)) seats.old }
+    requires people { ArePeople core.old.users }
+    requires ascending { AscendBy (λ seat. seat.session.user) seats.old }
+    requires seated { All (IsSeated core.old.journal) seats.old }
+    ensures { AreSeatTurns (is_due only) closes core.old seats.old core.new seats.new }
+{
+    match seats.split_first_mut() {
+        None => {}
+        Some((seat, others)) => {
+            let due = is_due(only, seat.user());
+            seat_turn(core, seat, due, closes);
+            seat_turns(core, others, only, closes);
+        }
+    }
+}
+
+// The turn of a user, where it is due.
+fn seat_turn<K>(core: &mut Core, seat: &mut Seat<K>, due: bool, closes: bool)
+    requires user { IsTrue (is_user core.old.users seat.old.session.user) }
+    requires people { ArePeople core.old.users }
+    requires seated { IsSeated core.old.journal seat.old }
+    ensures { IsSeatTurn due closes core.old seat.old core.new seat.new }
+{
+    if due {
         seat.take_turn(core, closes);
     }
 }
 
-// The turn of the user with this number.
-fn seat_turn<K>(core: &mut Core, seats: &mut [Seat<K>], user: u32, closes: bool) {
-    for seat in seats.iter_mut() {
-        if seat.user() == user {
-            seat.take_turn(core, closes);
-        }
+// Whether a turn is a user's: it is that of each user, or of the one with this number.
+fn is_due(only: Option<u32>, user: u32) -> bool
+    ensures { result ≡ is_due only user }
+{
+    match only {
+        None => true,
+        Some(party) => user == party,
     }
 }

@@ -3,7 +3,7 @@ ghost use Rattle.bundle_text.specs.User.{plain_user};
 ghost use Rattle.sv_core.specs.Core.{ArePeople};
 ghost use Rattle.replay_rules.specs.Turns.{newcomer};
 ghost use Rattle.aplsv_replay.specs.SoFar.{IsSeated, user_of};
-ghost use Rattle.aplsv_replay.specs.Together.{users_of};
+ghost use Rattle.aplsv_replay.specs.Participants.{users_of};
 
 use crate::seat::Seat;
 use apl_arrays::WantOfMemory;
