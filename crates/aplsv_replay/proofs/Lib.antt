@@ -1,2 +1,6 @@
+pub mod Ascents
+pub mod Beginning
+pub mod Hearing
+pub mod Leaving
 pub mod Making
-pub mod SeatTurns
+pub mod Rows

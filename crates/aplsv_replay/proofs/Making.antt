@@ -1,17 +1,17 @@
 -- What becomes of an act that a party makes, or tries again: a full journal refuses it, or it is entered.
 use Rattle.std.proofs.Common.{◌≡◌, ◌≢◌, ℕ, ◌+◌, ◌-◌, ◌<◌, ◌≤◌, ◌&&◌, ◌||◌, Bool, true, false, not, cond, eqb, List, [], ◌∷◌, ◌++◌, length, Option, Some, None, IsTrue, if◌then◌else◌, refl, sym, ap, ◌∙◌, subst, arith}
 use Rattle.std.proofs.lemmas.Bool.{both_ways, eq-eqb}
+use Rattle.std.proofs.lemmas.Option.{none-some, same_Some}
 use Rattle.std.proofs.lemmas.List.Elements.{All-cons, All-nil}
 use Rattle.std.specs.Prelude.{count_by, option_map}
-use Rattle.sv_events.specs.Answer.{PlainAnswer, abandoned, full, held}
+use Rattle.sv_events.specs.Answer.{PlainAnswer, full}
 use Rattle.sv_events.specs.Entry.{PlainEntry}
 use Rattle.sv_events.specs.declared.event.Act.{Act}
-use Rattle.sv_events.specs.declared.event.Hold.{Hold}
 use Rattle.sv_rules.specs.Entries.{Entries, counted_entries, has_left, is_full, is_held, is_leave, kind_of}
 use Rattle.sv_rules.specs.Legal.{answer_to, entry_for, is_still_held, journal_after, retried}
 use Rattle.sv_rules.specs.Outcome.{outcome}
-use Rattle.sv_rules.specs.Refused.{awaited, refused, waits}
-use Rattle.sv_story_laws.proofs.AnswerLemmas.{Answered, answered, given_up, held_first, unrefused}
+use Rattle.sv_rules.specs.Refused.{awaited, waits}
+use Rattle.replay_rules.proofs.Retrying.{waiters_are_answered}
 use Rattle.sv_core.specs.Core.{PlainCore}
 use Rattle.sv_core.specs.Retry.{core_retried, journal_retried}
 use Rattle.aplsv_replay.specs.SoFar.{GrowsBy}
@@ -47,25 +47,23 @@ made_now journal party act = made_by journal party act (is_full journal) refl
 
 -- ---- a retry
 
-none_is : {A B : Type 0} (a : A) → (let n : Option A = None in n) ≡ Some a → B
-none_is a e = absurd cc
-
 -- the answer at a retry says that the party was not held still
 retried_free : (users : List ℕ) (journal : Entries) (party : ℕ) (act : Act) (answer : PlainAnswer) (still : Bool) → is_still_held users journal party ≡ still → awaited journal party ≡ Some act
     → retried users journal party ≡ Some answer → (still ≡ false) × (answer_to journal party act ≡ answer)
 retried_free users journal party act answer true is awaits got =
-    none_is answer (sym (ap (λ (b : Bool). if b then None else option_map (answer_to journal party) (awaited journal party)) is) ∙ got)
+    absurd (none-some answer (sym (ap (λ (b : Bool). if b then None else option_map (answer_to journal party) (awaited journal party)) is) ∙ got))
 retried_free users journal party act answer false is awaits got =
     let same : Some (answer_to journal party act) ≡ Some answer =
     sym (ap (λ (b : Bool). if b then None else option_map (answer_to journal party) (awaited journal party)) is ∙ ap (λ (o : Option Act). option_map (answer_to journal party) o) awaits) ∙ got in
-    (refl, cc)
+    (refl, same_Some (answer_to journal party act) answer same)
 
 -- no answer at a retry says that it is
 retried_held : (users : List ℕ) (journal : Entries) (party : ℕ) (act : Act) (still : Bool) → is_still_held users journal party ≡ still → awaited journal party ≡ Some act → retried users journal party ≡ None → still ≡ true
 retried_held users journal party act true is awaits got = refl
 retried_held users journal party act false is awaits got =
-    none_is (answer_to journal party act)
-    (sym got ∙ ap (λ (b : Bool). if b then None else option_map (answer_to journal party) (awaited journal party)) is ∙ ap (λ (o : Option Act). option_map (answer_to journal party) o) awaits)
+    absurd
+    (none-some (answer_to journal party act)
+    (sym got ∙ ap (λ (b : Bool). if b then None else option_map (answer_to journal party) (awaited journal party)) is ∙ ap (λ (o : Option Act). option_map (answer_to journal party) o) awaits))
 
 pub held_again : (core : PlainCore) (party : ℕ) (act : Act) → awaited core.journal party ≡ Some act → retried core.users core.journal party ≡ None → (is_still_held core.users core.journal party ≡ true) × (core_retried core party ≡ core)
 held_again core party act awaits got =
@@ -93,21 +91,12 @@ retried_users core party = by (is_still_held core.users core.journal party)
     by true = refl
     by false = refl
 
--- a party that waits is not held again: an act is made, refused by a full journal, or given up
-unheld : (refusal : Option Hold) (waiting : Bool) (given : PlainAnswer) → Answered refusal waiting given → waiting ≡ true → is_held (kind_of given) ≡ false
-unheld refusal waiting given (unrefused none plain) waits = plain.0
-unheld refusal waiting given (held_first hold is first same) waits = absurd (both_ways waiting first waits)
-unheld refusal waiting given (given_up hold is first same) waits = ap (λ (a : PlainAnswer). is_held (kind_of a)) same
-
-answer_unheld : (journal : Entries) (party : ℕ) (act : Act) (limit : Bool) → waits journal party ≡ true → is_held (kind_of (if limit then full else (outcome journal party act).answer)) ≡ false
-answer_unheld journal party act true waiting = refl
-answer_unheld journal party act false waiting = unheld (refused journal party act) (waits journal party) (outcome journal party act).answer (answered journal party act) waiting
-
+-- a party that waits is not held again
 pub waiter_is_unheld : (users : List ℕ) (journal : Entries) (party : ℕ) (act : Act) (answer : PlainAnswer) → waits journal party ≡ true → awaited journal party ≡ Some act → retried users journal party ≡ Some answer
     → is_held (kind_of answer) ≡ false
 waiter_is_unheld users journal party act answer waiting awaits got =
     let free = retried_free users journal party act answer (is_still_held users journal party) refl awaits got in
-    subst (λ (a : PlainAnswer). is_held (kind_of a) ≡ false) free.1 (answer_unheld journal party act (is_full journal) waiting)
+    subst (λ (a : PlainAnswer). is_held (kind_of a) ≡ false) free.1 (waiters_are_answered journal party act waiting)
 
 -- ---- what an act adds
 

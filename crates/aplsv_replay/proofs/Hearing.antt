@@ -1,10 +1,13 @@
 -- A user's turn: what its session hears, and that it goes on.
 use Rattle.std.proofs.Common.{◌≡◌, ℕ, ◌+◌, ◌-◌, ◌<◌, ◌≤◌, ◌⊎◌, inl, inr, Bool, true, false, not, cond, leb, List, [], ◌∷◌, ◌++◌, length, Option, Some, None, IsTrue, if◌then◌else◌, refl, sym, ap, ◌∙◌, subst, subst₂, arith}
-use Rattle.std.proofs.lemmas.Bool.{both_ways, not-true, leb-false, or_parts_false}
+use Rattle.std.proofs.lemmas.Bool.{both_ways, not-true, leb-false, or_parts}
+use Rattle.std.proofs.lemmas.Option.{same_Some}
+use Rattle.std.proofs.lemmas.List.Elements.{All-cons, All-nil}
 use Rattle.std.proofs.lemmas.List.Sums.{sum_by-append, sum_by-cons}
-use Rattle.std.specs.Prelude.{IsSome, count_by, option_map_or}
+use Rattle.std.specs.Prelude.{IfSome, IsSome, count_by, option_map_or}
 use Rattle.apl_meaning.specs.Laws.{is_reported}
 use Rattle.sv_events.specs.Answer.{PlainAnswer, full}
+use Rattle.sv_events.specs.Entry.{PlainEntry}
 use Rattle.sv_events.specs.declared.event.Act.{Act}
 use Rattle.sv_events.specs.declared.event.Act.TheVariants.{Leave}
 use Rattle.sv_rules.specs.Entries.{Entries, counted_entries, has_left, held_elements, is_full, is_held, is_leave, kind_of}
@@ -90,16 +93,16 @@ made_so_far {K = K} journal s waiting act after answer made so asks at =
 -- ---- less is left to do
 
 -- how much may still be done, by a user that has not left
-work_of_one : {K : Type 0} (journal : Entries) (s : PlainSession K) → has_left journal s.user ≡ false
+pub work_of_one : {K : Type 0} (journal : Entries) (s : PlainSession K) → has_left journal s.user ≡ false
     → work_with journal s ≡ (200000 - counted_entries journal) + (1 + (length s.lines - count_by is_reported s.answers))
 work_of_one journal s stays = ap (λ (left : Bool). (200000 - counted_entries journal) + (if left then 0 else 1 + (length s.lines - count_by is_reported s.answers))) stays
 
 -- where there is room there are fewer entries
 few_entries : (journal : Entries) → is_full journal ≡ false → counted_entries journal < 200000
-few_entries journal room = leb-false 200000 (counted_entries journal) (or_parts_false (leb 200000 (counted_entries journal)) (leb 4194304 (held_elements journal)) room).0
+few_entries journal room = leb-false 200000 (counted_entries journal) (or_parts (leb 200000 (counted_entries journal)) (leb 4194304 (held_elements journal)) room).0
 
 some_is : {A : Type 0} (o : Option A) (a : A) → o ≡ Some a → IsSome o
-some_is o a is = subst (λ (p : Option _). IsSome p) (sym is) refl
+some_is {A = A} o a is = subst (λ (p : Option A). IsSome p) (sym is) refl
 
 -- one answer more is reported at the most
 count_push : (answers : List PlainAnswer) (answer : PlainAnswer) → count_by is_reported (answers ++ answer ∷ []) ≡ count_by is_reported answers + count_by is_reported (answer ∷ [])
@@ -175,9 +178,52 @@ held_still {K = K} before after s act present asks waiting awaits so got became 
     ∙ ap (λ (o : Option PlainAnswer). let t : Turn = record { journal = before.journal; user = option_map_or (λ answer. given answer (participant_of s)) o (participant_of s) } in t) got in
     let gone : HasGoneOn before s before s = record {
       same = refl;
-      grows = record { users = refl; entries = []; own = All_none s.user; journal = refl };
+      grows = record { users = refl; entries = []; own = All-nil (λ (e : PlainEntry). e.party ≡ s.user); journal = refl };
       so_far = so;
       goes_on = λ here. inr (h.0, refl, refl);
       turn = turned;
     } in
     subst (λ (d : PlainCore). HasGoneOn before s d s) (sym stays) gone
+
+-- in a full journal the act that is tried again is refused, whichever it is
+full_again : {K : Type 0} (before after : PlainCore) (s : PlainSession K) (tried act : Act) (answer : PlainAnswer) → IsTrue (is_full before.journal) → IsMade before.journal s.user tried after.journal answer
+    → IsMade before.journal s.user act after.journal answer
+full_again before after s tried act answer limit (refusing h) = refusing h
+full_again before after s tried act answer limit (entering h) = absurd (both_ways (is_full before.journal) h.room limit)
+
+-- the act that a user waits for is the one that its session asks, unless the journal is full
+asked_is : {K : Type 0} (before : PlainCore) (s : PlainSession K) (tried act : Act) (refused : List Act) → awaited before.journal s.user ≡ Some tried → Asks (participant_of s) act → refused ≡ []
+    → IfSome (awaited before.journal s.user) (IsWaitedFor (participant_of s) true refused) → tried ≡ act
+asked_is before s tried act refused awaits asks none h =
+    let k : IsWaitedFor (participant_of s) true [] tried =
+    subst₂ (λ (o : Option Act) (r : List Act). IfSome o (IsWaitedFor (participant_of s) true r)) awaits none h in
+    same_Some tried act (sym k.1 ∙ asks)
+
+-- so an act that is tried again is made as the one that the session asks
+made_as_asked : {K : Type 0} (before after : PlainCore) (s : PlainSession K) (tried act : Act) (answer : PlainAnswer) → s.stage ≡ stage.Waiting → awaited before.journal s.user ≡ Some tried → Asks (participant_of s) act
+    → IsRetried before.journal s → IsMade before.journal s.user tried after.journal answer → (going : Bool) × IsSoFar before.journal (participant_of s) going × IsMade before.journal s.user act after.journal answer
+made_as_asked {K = K} before after s tried act answer at awaits asks (inl h) made =
+    let so : IsSoFar before.journal (participant_of s) true = subst (λ (w : Bool). IsSoFar before.journal (participant_of s) w) (ap is_waiting at) h in
+    let same : tried ≡ act = asked_is before s tried act so.refused awaits asks (so.going refl).0 so.waited in
+    (true, so, subst (λ (a : Act). IsMade before.journal s.user a after.journal answer) same made)
+made_as_asked {K = K} before after s tried act answer at awaits asks (inr h) made = (false, h.1, full_again before after s tried act answer h.0 made)
+
+-- the turn of a user that tries again and is answered
+retried_turn : {K : Type 0} (before : PlainCore) (s : PlainSession K) (act : Act) (answer : PlainAnswer) → has_left before.journal s.user ≡ false → Asks (participant_of s) act → waits before.journal s.user ≡ true
+    → retried before.users before.journal s.user ≡ Some answer → IsTurn before s (core_retried before s.user) (heard answer s)
+retried_turn before s act answer present asks waiting got =
+    turn_is before.users before.journal (participant_of s) act true present asks waiting
+    ∙ ap (λ (o : Option PlainAnswer). let t : Turn = record { journal = (core_retried before s.user).journal; user = option_map_or (λ a. given a (participant_of s)) o (participant_of s) } in t) got
+    ∙ ap (λ (p : Participant). let t : Turn = record { journal = (core_retried before s.user).journal; user = p } in t) (sym (heard_participant answer s))
+
+-- a user that tries its act again and is answered
+pub tried : {K : Type 0} (before after : PlainCore) (s now : PlainSession K) (answer : PlainAnswer) → has_left before.journal s.user ≡ false → s.stage ≡ stage.Waiting → IsSome (session_of s.lines s.answers).waits
+    → waits before.journal s.user ≡ true → IsRetried before.journal s → Some answer ≡ retried before.users before.journal s.user → after ≡ core_retried before s.user → now ≡ heard answer s → HasGoneOn before s after now
+tried {K = K} before after s now answer present at some waiting h got became hears =
+    let asked = some_act (session_of s.lines s.answers).waits some in
+    let awaited' = some_act (awaited before.journal s.user) waiting in
+    let c : PlainCore = core_retried before s.user in
+    let m = made_as_asked before c s awaited'.0 asked.0 answer at awaited'.1 asked.1 h (made_again before s.user awaited'.0 answer awaited'.1 (sym got)) in
+    let turned : IsTurn before s c (heard answer s) = retried_turn before s asked.0 answer present asked.1 waiting (sym got) in
+    let gone : HasGoneOn before s c (heard answer s) = gone_on before c s m.0 asked.0 answer m.2 (retried_users before s.user) present at asked.1 m.1 turned in
+    subst₂ (λ (d : PlainCore) (t : PlainSession K). HasGoneOn before s d t) (sym became) (sym hears) gone
