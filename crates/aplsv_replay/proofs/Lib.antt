@@ -1,7 +1,13 @@
 pub mod AllTogether
+pub mod Ascents
 pub mod AuxiliaryTurns
+pub mod Beginning
 pub mod Ends
 pub mod Growth
+pub mod Hearing
+pub mod Leaving
+pub mod Making
 pub mod RoundsEnd
+pub mod Rows
 pub mod SeatTurns
 pub mod Taking

@@ -60,10 +60,13 @@ impl<K> Seat<K> {
         }
         if closes {
             core.leave(self.user());
-        } else if self.go_on(core).is_err() {
-            self.is_lost = true;
-            core.leave(self.user());
+            return;
         }
+        if self.go_on(core).is_ok() {
+            return;
+        }
+        self.is_lost = true;
+        core.leave(self.user());
     }
 
     // Goes on by one act, or leaves where the lines are done.

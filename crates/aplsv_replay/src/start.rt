@@ -1,5 +1,4 @@
-ghost use Rattle.std.specs.Prelude.{◌≡◌, ◌+◌, ◌≤◌, ◌++◌, [], false, All, IfOk, length, map, vec_len};
-ghost use Rattle.std.specs.Vec.{vec_capacity};
+ghost use Rattle.std.specs.Prelude.{◌≡◌, ◌+◌, ◌≤◌, ◌++◌, [], false, All, IfOk, length, map, vec_capacity, vec_len};
 ghost use Rattle.bundle_text.specs.User.{plain_user};
 ghost use Rattle.sv_core.specs.Core.{ArePeople};
 ghost use Rattle.replay_rules.specs.Turns.{newcomer};

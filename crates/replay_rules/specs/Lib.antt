@@ -1,3 +1,4 @@
+pub mod ServingLaws
 pub mod SoFar
 pub mod SoFarLaws
 pub mod TurnLaws

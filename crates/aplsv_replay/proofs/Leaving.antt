@@ -1,0 +1,100 @@
+-- A user that leaves, and one that has left.
+use Rattle.std.proofs.Common.{◌≡◌, ℕ, ◌+◌, ◌-◌, ◌<◌, ◌≤◌, inl, Bool, true, false, not, cond, List, [], ◌∷◌, ◌++◌, length, All, Option, Some, None, IsTrue, if◌then◌else◌, refl, sym, ap, ◌∙◌, subst, arith}
+use Rattle.std.proofs.lemmas.Bool.{both_ways}
+use Rattle.std.proofs.lemmas.List.Elements.{All-cons, All-nil}
+use Rattle.std.proofs.lemmas.List.Sums.{sum_by-append}
+use Rattle.std.specs.Prelude.{count_by}
+use Rattle.apl_meaning.specs.Laws.{is_reported}
+use Rattle.sv_events.specs.Entry.{PlainEntry}
+use Rattle.sv_events.specs.declared.event.Act.{Act}
+use Rattle.sv_events.specs.declared.event.Act.TheVariants.{Leave}
+use Rattle.sv_rules.specs.Entries.{Entries, counted_entries, has_left, is_leave}
+use Rattle.sv_rules.specs.Legal.{entry_for}
+use Rattle.sv_core.specs.Core.{PlainCore, core_after}
+use Rattle.session_rules.specs.Session.{session_of}
+use Rattle.replay_rules.specs.Turns.{Participant, Turn, turn, turn_by}
+use Rattle.replay_rules.proofs.SoFar.{left_on, own_leave_leaves}
+use Rattle.apl_session.specs.PlainSession.{PlainSession}
+use Rattle.apl_session.specs.declared.session.Stage.TheVariants as stage
+use Rattle.aplsv_replay.specs.Participants.{participant_of}
+use Rattle.aplsv_replay.specs.SoFar.{GoesOn, GrowsBy, HasPart, IsSameUser, IsSeated, IsSessionSoFar, IsTurn, IsWhole, is_waiting, printed_by, user_of, work_with}
+use Rattle.session_rules.specs.UserPart.{IsUserPart}
+use Rattle.aplsv_replay.specs.declared.seat.Seat.{Seat}
+use Rattle.aplsv_replay.proofs.Hearing.{work_of_one}
+
+-- the user of a session that is the same user's
+pub user_is : {K : Type 0} (s now : PlainSession K) → IsSameUser s now → now.user ≡ s.user
+user_is {K = K} s now same = ap (λ (t : PlainSession K). t.user) same
+
+pub participant_is : {K : Type 0} (s now : PlainSession K) → IsSameUser s now → now.answers ≡ s.answers → participant_of now ≡ participant_of s
+participant_is {K = K} s now same answers = ap (λ (t : PlainSession K). participant_of t) same ∙ ap (λ a. let p : Participant = record { number = s.user; lines = s.lines; answers = a } in p) answers
+
+-- ---- a party that leaves
+
+-- after its leave a party has left
+pub has_left_now : (before after : PlainCore) (party : ℕ) → after ≡ core_after before party Leave → has_left after.journal party ≡ true
+has_left_now before after party became = ap (λ (c : PlainCore). has_left c.journal party) became ∙ own_leave_leaves (entry_for before.journal party Leave) before.journal party refl refl
+
+pub leave_grows : (before middle after : PlainCore) (party : ℕ) → GrowsBy party before middle → after ≡ core_after middle party Leave → GrowsBy party before after
+leave_grows before middle after party grows became = record {
+  users = ap (λ (c : PlainCore). c.users) became ∙ grows.users;
+  entries = entry_for middle.journal party Leave ∷ grows.entries;
+  own = All-cons (λ (e : PlainEntry). e.party ≡ party) (entry_for middle.journal party Leave) grows.entries refl grows.own;
+  journal = ap (λ (c : PlainCore). c.journal) became ∙ ap (λ (j : Entries). entry_for middle.journal party Leave ∷ j) grows.journal;
+}
+
+pub grows_none : (party : ℕ) (core : PlainCore) → GrowsBy party core core
+grows_none party core = record { users = refl; entries = []; own = All-nil (λ (e : PlainEntry). e.party ≡ party); journal = refl }
+
+-- entries are not taken back
+more_entries : (party : ℕ) (before after : PlainCore) → GrowsBy party before after → counted_entries before.journal ≤ counted_entries after.journal
+more_entries party before after grows =
+    let sum : counted_entries (grows.entries ++ before.journal) ≡ counted_entries grows.entries + counted_entries before.journal =
+    sum_by-append (λ (e : PlainEntry). cond (not (is_leave e.act)) 1 0) grows.entries before.journal in
+    omega (arith, sum, ap counted_entries grows.journal)
+
+-- nothing is left to do for a user that has left
+no_work : {K : Type 0} (journal : Entries) (s : PlainSession K) → has_left journal s.user ≡ true → work_with journal s ≡ (200000 - counted_entries journal) + 0
+no_work journal s left = ap (λ (l : Bool). (200000 - counted_entries journal) + (if l then 0 else 1 + (length s.lines - count_by is_reported s.answers))) left
+
+-- so a user that leaves goes on
+pub leaving_goes_on : {K : Type 0} (before after : PlainCore) (s now : PlainSession K) → IsSameUser s now → GrowsBy s.user before after → has_left after.journal s.user ≡ true → GoesOn before s after now
+leaving_goes_on before after s now same grows left stays =
+    let there : has_left after.journal now.user ≡ true = ap (λ (u : ℕ). has_left after.journal u) (user_is s now same) ∙ left in
+    let few : counted_entries before.journal ≤ counted_entries after.journal = more_entries s.user before after grows in
+    inl (omega (arith, no_work after.journal now there, work_of_one before.journal s stays, few))
+
+-- the turn of a user whose lines are done
+pub leaving_turn : {K : Type 0} (before after : PlainCore) (s now : PlainSession K) → has_left before.journal s.user ≡ false → (session_of s.lines s.answers).waits ≡ None → after ≡ core_after before s.user Leave
+    → now ≡ (let t : PlainSession K = record s { stage = stage.Finished } in t) → IsTurn before s after now
+leaving_turn {K = K} before after s now present over became hears =
+    ap (λ (left : Bool). turn_by left (session_of s.lines s.answers).waits before.users before.journal (participant_of s)) present
+    ∙ ap (λ (next : Option Act). turn_by false next before.users before.journal (participant_of s)) over
+    ∙ ap (λ (c : PlainCore). let t : Turn = record { journal = c.journal; user = participant_of s } in t) (sym became)
+    ∙ ap (λ (t : PlainSession K). let u : Turn = record { journal = after.journal; user = participant_of t } in u) (sym hears)
+
+-- and it has its part
+pub leaver_has_part : {K : Type 0} (before after : PlainCore) (s : PlainSession K) (seat : Seat K) → IsSessionSoFar before.journal s → (session_of s.lines s.answers).waits ≡ None → after ≡ core_after before s.user Leave
+    → seat.session ≡ (let t : PlainSession K = record s { stage = stage.Finished } in t) → HasPart after.journal seat
+leaver_has_part {K = K} before after s seat so over became hears =
+    subst (λ (c : PlainCore). HasPart c.journal seat) (sym became)
+    (record {
+      finished = ap (λ (t : PlainSession K). t.stage) hears;
+      part = subst (λ (t : PlainSession K). IsUserPart (core_after before s.user Leave).journal (user_of t) (printed_by t)) (sym hears)
+          (left_on before.journal (participant_of s) (is_waiting s.stage) (entry_for before.journal s.user Leave) so refl refl over);
+    })
+
+-- ---- a user that has left
+
+pub gone_turn : {K : Type 0} (core : PlainCore) (s : PlainSession K) → has_left core.journal s.user ≡ true → IsTurn core s core s
+gone_turn core s left = ap (λ (l : Bool). turn_by l (session_of s.lines s.answers).waits core.users core.journal (participant_of s)) left
+
+-- ---- a user that stays
+
+-- a user that stays has no part yet
+pub stays_whole : {K : Type 0} (journal : Entries) (s : PlainSession K) (seat : Seat K) → IsSameUser s seat.session → has_left journal s.user ≡ false → IsWhole journal seat
+stays_whole journal s seat same stays left = absurd (both_ways (has_left journal s.user) stays (ap (λ (u : ℕ). has_left journal u) (sym (user_is s seat.session same)) ∙ left))
+
+-- a user that has left is not looked at any more
+pub left_seated : {K : Type 0} (journal : Entries) (s : PlainSession K) (seat : Seat K) → IsSameUser s seat.session → has_left journal s.user ≡ true → IsSeated journal seat
+left_seated journal s seat same left stays = absurd (both_ways (has_left journal s.user) (ap (λ (u : ℕ). has_left journal u) (sym (user_is s seat.session same)) ∙ stays) left)
