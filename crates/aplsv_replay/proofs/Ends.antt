@@ -1,8 +1,9 @@
 -- A replay from its beginning to its end.
-use Rattle.std.proofs.Common.{◌≡◌, ℕ, ◌<◌, ◌≤◌, ◌&&◌, ◌||◌, Bool, true, false, not, eqb, List, [], ◌∷◌, ◌++◌, map, reverse, IsTrue, refl, sym, ap, ap₂, subst, ◌∙◌, append-nil, arith}
+use Rattle.std.proofs.Common.{◌≡◌, ℕ, ◌<◌, ◌≤◌, ◌&&◌, ◌||◌, Bool, true, false, not, eqb, List, [], ◌∷◌, ◌++◌, length, map, reverse, IsTrue, refl, sym, ap, ap₂, subst, ◌∙◌, append-nil, arith}
 use Rattle.std.specs.List.{All, AllByRecursion}
-use Rattle.std.specs.Prelude.{Option, Some, None}
+use Rattle.std.specs.Prelude.{IfSome, Option, Some, None}
 use Rattle.std.proofs.lemmas.Bool.{and_parts, ne_eqb, not-true, or_from, or_parts}
+use Rattle.std.proofs.lemmas.List.{length-map}
 use Rattle.std.proofs.lemmas.List.Elements.{All-cons, All-head, All-nil, All-tail, All-from_recursion, recursion_from_All}
 use Rattle.apl_arrays.specs.Array.{PlainArray, chars}
 use Rattle.apl_arrays.specs.List.{Listed}
@@ -26,12 +27,12 @@ use Rattle.apl_session.specs.declared.outcome.Ended.TheVariants.{Whole, WantOfMe
 use Rattle.apl_session.specs.declared.session.Stage.{Stage}
 use Rattle.apl_session.specs.declared.session.Stage.TheVariants as stage
 use Rattle.auxiliaries.specs.Run.{IsReplierRun}
-use Rattle.aplsv_replay.specs.Endings.{IsEnded}
+use Rattle.aplsv_replay.specs.Endings.{ComesOf, IsEnded}
 use Rattle.aplsv_replay.specs.Participants.{users_of}
 use Rattle.aplsv_replay.specs.SeatTurns.{IsWholeUnlessLost, none_lost, seat_numbers}
 use Rattle.aplsv_replay.specs.Seats.{end_by, transcript_of}
 use Rattle.aplsv_replay.specs.SoFar.{IsSeated, printed_by, user_of}
-use Rattle.aplsv_replay.specs.Together.{AreTogether, TakesTurns, TookTurns, none_is_lost}
+use Rattle.aplsv_replay.specs.Together.{AreTogether, StayTogether, TakesTurns, TookTurns, none_is_lost}
 use Rattle.aplsv_replay.specs.declared.auxiliary.Auxiliary.{Auxiliary}
 use Rattle.aplsv_replay.specs.declared.parties.Parties.{Parties}
 use Rattle.aplsv_replay.specs.declared.seat.Seat.{Seat}
@@ -108,10 +109,8 @@ parts_of (seat ∷ seats) (user ∷ users) journal same here whole left =
     let mine = and_parts (not seat.is_lost) (none_lost seats) here in
     let number : seat.session.user ≡ user.number = ap (λ (u : PlainUser). u.number) first in (
       number,
-      (
-        subst (λ (u : PlainUser). IsUserPart journal u (printed_by seat.session)) first (whole.0 (not-true seat.is_lost mine.0) (ap (λ (n : ℕ). has_left journal n) number ∙ left.0)).part,
-        parts_of seats users journal others mine.1 whole.1 left.1,
-      ),
+      subst (λ (u : PlainUser). IsUserPart journal u (printed_by seat.session)) first (whole.0 (not-true seat.is_lost mine.0) (ap (λ (n : ℕ). has_left journal n) number ∙ left.0)).part,
+      parts_of seats users journal others mine.1 whole.1 left.1,
     )
 
 -- and all were heard
@@ -170,10 +169,10 @@ module _ {X Y K : Type 0} (forgets_ten : X → ℕ → X → Type 0) (replies_te
     all_turns : TookTurns (λ replay. rounds count (ordered order replay)) start p
     all_turns = (takes_both (ordered order) (rounds count) start middle p first rest).took ended.here
 
-    replies_ten_given : List PlainArray
+    abbrev replies_ten_given : List PlainArray
     replies_ten_given = all_turns.ten ++ spare ∷ []
 
-    replies_twenty_given : List PlainArray
+    abbrev replies_twenty_given : List PlainArray
     replies_twenty_given = all_turns.twenty ++ spare ∷ []
 
     came_to : rounds count (ordered bundle.order (beginning bundle replies_ten_given replies_twenty_given)) ≡ record { journal = p.core.journal; ten = spare ∷ []; twenty = spare ∷ []; users = users_of p.seats.items }
@@ -205,3 +204,43 @@ if_whole (Some list) journal false P h = tt
 pub whole_more : (ended : Ended) (P Q : List PlainTranscript → Entries → Type 0) → ((transcripts : List PlainTranscript) (journal : Entries) → P transcripts journal → Q transcripts journal) → IfWhole ended P → IfWhole ended Q
 whole_more (Whole transcripts journal) P Q more h = more transcripts.items (reverse journal.items) h
 whole_more WantOfMemory P Q more h = tt
+
+-- the end of a run whose parties are these
+pub ends_as : {X Y K : Type 0} (p : Parties X Y K) (transcripts : Option (Listed PlainTranscript)) (journal : Listed PlainEntry) (is_whole : Bool) (result : Ended) → result ≡ end_by transcripts journal is_whole → is_whole ≡ none_is_lost p
+    → IfSome transcripts (λ list. All (λ seat. HasHeardAll seat.session.stage) p.seats.items → list.items ≡ map transcript_of p.seats.items) → reverse journal.items ≡ p.core.journal → IsLegal p.core.users p.core.journal
+    → IfWhole result (λ texts entries. IsEnded p texts entries)
+ends_as p transcripts journal is_whole result is here printed same legal =
+    subst (λ (e : Ended). IfWhole e (λ texts entries. IsEnded p texts entries)) (sym is)
+    (if_whole transcripts journal is_whole (λ texts entries. IsEnded p texts entries)
+    (λ list some true_now. record {
+      here = sym here ∙ true_now;
+      same = same;
+      legal = subst (λ (j : Entries). IsLegal p.core.users j) (sym same) legal;
+      printed = subst (λ (o : Option (Listed PlainTranscript)). IfSome o (λ texts. All (λ seat. HasHeardAll seat.session.stage) p.seats.items → texts.items ≡ map transcript_of p.seats.items)) some printed;
+    }))
+
+module _ {X Y K : Type 0} (forgets_ten : X → ℕ → X → Type 0) (replies_ten : X → ℕ → PlainArray → PlainArray → X → Type 0)
+    (forgets_twenty : Y → ℕ → Y → Type 0) (replies_twenty : Y → ℕ → PlainArray → PlainArray → Y → Type 0) where
+  -- what came of parties and an order
+  pub comes_of : (order : List ℕ) (start middle p : Parties X Y K) (count : ℕ) (result : Ended) (ten_then : X) (twenty_then : Y)
+      → StayTogether forgets_ten replies_ten forgets_twenty replies_twenty start middle → StayTogether forgets_ten replies_ten forgets_twenty replies_twenty middle p
+      → TakesTurns (ordered order) start middle → TakesTurns (rounds count) middle p → some_stay p.core.users p.core.journal ≡ false → IfWhole result (λ texts entries. IsEnded p texts entries)
+      → ten_then ≡ p.ten.replier → twenty_then ≡ p.twenty.replier
+      → IfWhole result (λ texts entries. ComesOf forgets_ten replies_ten forgets_twenty replies_twenty order start texts entries ten_then twenty_then)
+  comes_of order start middle p count result ten_then twenty_then one two first rest over whole ten_is twenty_is =
+      whole_more result (λ texts entries. IsEnded p texts entries) (λ texts entries. ComesOf forgets_ten replies_ten forgets_twenty replies_twenty order start texts entries ten_then twenty_then)
+      (λ texts entries ended. record {
+        run = λ bundle ten twenty lent h.
+            subst (λ (x : X). IsRun forgets_ten replies_ten forgets_twenty replies_twenty bundle entries texts ten x twenty twenty_then) (sym ten_is)
+            (subst (λ (y : Y). IsRun forgets_ten replies_ten forgets_twenty replies_twenty bundle entries texts ten p.ten.replier twenty y) (sym twenty_is)
+            (is_run forgets_ten replies_ten forgets_twenty replies_twenty bundle ten twenty lent p (two bundle ten twenty lent (one bundle ten twenty lent h)) texts entries over ended));
+        turns = λ bundle ten twenty lent h none users same.
+            is_of_turns forgets_ten replies_ten forgets_twenty replies_twenty bundle ten twenty lent p (two bundle ten twenty lent (one bundle ten twenty lent h)) texts entries over ended
+            start middle none users order same first count rest;
+      }) whole
+
+  -- as many seats as there were
+  pub same_seats : (bundle : PlainBundle) (ten : X) (twenty : Y) (lent : List K) (p q : Parties X Y K) → AreTogether forgets_ten replies_ten forgets_twenty replies_twenty bundle ten twenty lent p
+      → AreTogether forgets_ten replies_ten forgets_twenty replies_twenty bundle ten twenty lent q → length q.seats.items ≡ length p.seats.items
+  same_seats bundle ten twenty lent p q h also =
+      sym (length-map q.seats.items (λ seat. seat.session.shelf)) ∙ ap (λ (list : List K). length list) (also.shelves ∙ sym h.shelves) ∙ length-map p.seats.items (λ seat. seat.session.shelf)

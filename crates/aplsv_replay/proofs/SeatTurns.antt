@@ -176,7 +176,7 @@ module _ {K : Type 0} (due : ℕ → Bool) (closes : Bool) (before middle after 
   grows_more = record {
     users = rest.grows.users ∙ first.grows.users;
     entries = rest.grows.entries ++ first.grows.entries;
-    own = All-append _ rest.grows.entries first.grows.entries
+    own = All-append (λ (e : PlainEntry). IsTrue (is_user (seat_numbers (seat ∷ others)) e.party)) rest.grows.entries first.grows.entries
         (All-from_recursion _ rest.grows.entries (others_weaker number (seat_numbers others) rest.grows.entries (recursion_from_All _ rest.grows.entries rest.grows.own)))
         (All-from_recursion _ first.grows.entries (own_weaker number (seat_numbers others) first.grows.entries (recursion_from_All _ first.grows.entries first.grows.own)));
     journal = rest.grows.journal ∙ ap (λ (j : Entries). rest.grows.entries ++ j) first.grows.journal ∙ sym (append_assoc rest.grows.entries first.grows.entries before.journal);

@@ -6,7 +6,8 @@ ghost use Rattle.auxiliaries.specs.Served.{Replies, forgotten};
 ghost use Rattle.session_rules.specs.Run.{IsRun};
 ghost use Rattle.apl_session.specs.Ended.{IfWhole};
 ghost use Rattle.aplsv_replay.specs.Replayed.{IsDeviceRun};
-ghost use Rattle.aplsv_replay.specs.Endings.{IsEnded};
+ghost use Rattle.aplsv_replay.specs.Endings.{ComesOf, IsEnded};
+ghost use Rattle.aplsv_replay.specs.Together.{AreOfSomeBundle};
 ghost use Rattle.replay_rules.specs.Turns.{IsJournalOfTurns};
 
 use crate::auxiliary::Auxiliary;
@@ -87,13 +88,30 @@ pub fn replay_with<X: Replier, Y: Replier, K>(
         files: _files,
         clock: _clock,
     } = bundle.into_parts();
-    let mut parties = Parties {
+    let seats = fill(alloc, users.into_vec(), room, &mut shelves);
+    let parties = Parties {
         core,
         ten: Auxiliary::new(CLOCK_PARTY, ten),
         twenty: Auxiliary::new(TEXT_PARTY, twenty),
-        seats: fill(alloc, users.into_vec(), room, &mut shelves),
+        seats,
     };
-    parties.take_turns(order.as_slice());
+    go_through(alloc, parties, order.as_slice(), shelves)
+}
+
+// Takes the turns of an order, and then rounds until all users have left.
+fn go_through<X: Replier, Y: Replier, K>(
+    alloc: Global,
+    parties: Parties<X, Y, K>,
+    order: &[u32],
+    shelves: Vec<K>,
+) -> RunOf<X, Y, K>
+    requires together { AreOfSomeBundle X.forgets X.replies Y.forgets Y.replies parties }
+    requires room { vec_len parties.seats + vec_len shelves ≤ vec_capacity shelves }
+    ensures whole { IfWhole result.ended (λ transcripts journal. ComesOf X.forgets X.replies Y.forgets Y.replies order.now parties transcripts journal result.ten result.twenty) }
+    ensures shelves { result.shelves.items ≡ map (λ seat. seat.session.shelf) parties.seats.items ++ shelves.items }
+{
+    let mut parties = parties;
+    parties.take_turns(order);
     parties.take_rounds();
     close(alloc, parties, shelves)
 }
