@@ -26,6 +26,7 @@ use Rattle.aplsv_replay.specs.declared.parties.Parties.{Parties}
 use Rattle.aplsv_replay.specs.declared.seat.Seat.{Seat}
 use Rattle.replay_rules.specs.Turns.{Turns, numbers_of, turns_where, user_turns}
 use Rattle.aplsv_replay.proofs.Growth.{AreNone, AreOthers, among_are_others, among_grows, among_stays, counted_grows, events_stay, is_no_user, none_of_people, own_are_others, some_stay_same}
+use Rattle.aplsv_replay.proofs.Taking.{stays_at}
 use Rattle.aplsv_replay.proofs.SeatTurns.{all_grown_seated, all_grown_whole, not_lost_before, seats_work_stays}
 
 -- ---- the numbers of seats
@@ -249,9 +250,28 @@ module _ {X Y K : Type 0} (forgets_ten : X → ℕ → X → Type 0) (replies_te
 
 -- ---- as callers have it
 
+-- whether some user stays, by an answer whether all have left
+stays_by : (result stay : Bool) → result ≡ not stay → result ≡ false → stay ≡ true
+stays_by result true is here = refl
+stays_by result false is here = absurd (let both : true ≡ false = sym is ∙ here in cc)
+
+over_by : (result stay : Bool) → result ≡ not stay → result ≡ true → stay ≡ false
+over_by result true is here = absurd (let both : false ≡ true = sym is ∙ here in cc)
+over_by result false is here = refl
+
 module _ {X Y K : Type 0} (forgets_ten : X → ℕ → X → Type 0) (replies_ten : X → ℕ → PlainArray → PlainArray → X → Type 0)
     (forgets_twenty : Y → ℕ → Y → Type 0) (replies_twenty : Y → ℕ → PlainArray → PlainArray → Y → Type 0) where
   -- parties that stay together are still of some bundle
   pub of_some_still : (p q : Parties X Y K) → AreOfSomeBundle forgets_ten replies_ten forgets_twenty replies_twenty p → StayTogether forgets_ten replies_ten forgets_twenty replies_twenty p q
       → AreOfSomeBundle forgets_ten replies_ten forgets_twenty replies_twenty q
   of_some_still p q h stay = record { bundle = h.bundle; ten = h.ten; twenty = h.twenty; shelves = h.shelves; together = stay h.bundle h.ten h.twenty h.shelves h.together }
+
+  pub stays_on : (p : Parties X Y K) (result : Bool) → result ≡ not (stays_at p) → result ≡ false → stays_at p ≡ true
+  stays_on p result is here = stays_by result (stays_at p) is here
+
+  pub all_gone : (p : Parties X Y K) (result : Bool) → result ≡ not (stays_at p) → result ≡ true → stays_at p ≡ false
+  all_gone p result is here = over_by result (stays_at p) is here
+
+  pub users_stay_on : (p : Parties X Y K) → AreOfSomeBundle forgets_ten replies_ten forgets_twenty replies_twenty p → some_stay p.core.users p.core.journal ≡ stays_at p
+  users_stay_on p h =
+      ap (λ (users : List ℕ). some_stay users p.core.journal) (sym (participants_are_users forgets_ten replies_ten forgets_twenty replies_twenty h.bundle h.ten h.twenty h.shelves p h.together))

@@ -10,7 +10,8 @@ use Rattle.apl_arrays.specs.List.{Listed}
 use Rattle.apl_arrays.specs.Ascending.{AscendBy}
 use Rattle.apl_arrays.specs.Parties.{clock_party, text_party, first_user}
 use Rattle.bundle_text.specs.Rules.{IsBundle, IsUser, PlainBundle}
-use Rattle.bundle_text.specs.User.{PlainUser}
+use Rattle.bundle_text.specs.User.{PlainUser, plain_user}
+use Rattle.bundle_text.specs.declared.user.BundleUser.{BundleUser}
 use Rattle.sv_core.specs.Core.{ArePeople, PlainCore}
 use Rattle.sv_events.specs.Entry.{PlainEntry}
 use Rattle.sv_journal.specs.Output.{PlainTranscript}
@@ -244,3 +245,8 @@ module _ {X Y K : Type 0} (forgets_ten : X → ℕ → X → Type 0) (replies_te
       → AreTogether forgets_ten replies_ten forgets_twenty replies_twenty bundle ten twenty lent q → length q.seats.items ≡ length p.seats.items
   same_seats bundle ten twenty lent p q h also =
       sym (length-map q.seats.items (λ seat. seat.session.shelf)) ∙ ap (λ (list : List K). length list) (also.shelves ∙ sym h.shelves) ∙ length-map p.seats.items (λ seat. seat.session.shelf)
+
+-- the numbers of users as they are kept
+pub plain_numbers : (kept : List BundleUser) (users : List PlainUser) → map plain_user kept ≡ users → map (λ user. user.number) kept ≡ map (λ user. user.number) users
+plain_numbers [] users is = ap (λ (list : List PlainUser). map (λ (user : PlainUser). user.number) list) is
+plain_numbers (user ∷ kept) users is = ap (λ (list : List ℕ). user.number ∷ list) (plain_numbers kept (map plain_user kept) refl) ∙ ap (λ (list : List PlainUser). map (λ (user : PlainUser). user.number) list) is

@@ -1,8 +1,10 @@
 -- Turns of users, one after another.
-use Rattle.std.proofs.Common.{◌≡◌, ◌≢◌, ℕ, ◌+◌, ◌-◌, ◌<◌, ◌≤◌, ◌⊎◌, ◌||◌, Bool, true, false, not, cond, eqb, List, [], ◌∷◌, ◌++◌, length, map, inl, inr, IsTrue, refl, sym, ap, ap₂, subst, ◌∙◌, append_assoc, arith}
+use Rattle.std.proofs.Common.{◌≡◌, ◌≢◌, ℕ, ◌+◌, ◌-◌, ◌<◌, ◌≤◌, ◌⊎◌, ◌||◌, Bool, true, false, not, cond, eqb, List, [], ◌∷◌, ◌++◌, length, map, take, inl, inr, IsTrue, refl, sym, ap, ap₂, subst, ◌∙◌, append_assoc, arith}
 use Rattle.std.specs.List.{All, AllByRecursion}
 use Rattle.std.specs.Prelude.{◌==◌, count_by, sum_by, if◌then◌else◌}
 use Rattle.std.proofs.lemmas.Bool.{and_from, and_parts, eq-eqb, not-true, not_from_false, or_left, or_right}
+use Rattle.std.proofs.Math.Seq.{take-append_seam}
+use Rattle.std.proofs.lemmas.List.{length-map}
 use Rattle.std.proofs.lemmas.List.Elements.{All-append, All-cons, All-head, All-nil, All-tail, All-weaker, All-from_recursion, recursion_from_All}
 use Rattle.std.proofs.lemmas.List.Sums.{sum_by-cons}
 use Rattle.apl_arrays.specs.Ascending.{Ascend, AscendBy}
@@ -297,3 +299,19 @@ module _ {K : Type 0} (due : ℕ → Bool) (closes : Bool) (before middle after 
     turns = turns_more;
     less = less_more;
   }
+
+-- those behind the first are so far after its turn
+pub others_seated : {K : Type 0} (due closes : Bool) (before middle : PlainCore) (seat now : Seat K) (others : List (Seat K)) → AscendBy (λ s. s.session.user) (seat ∷ others) → IsSeatTurn due closes before seat middle now
+    → All (IsSeated before.journal) (seat ∷ others) → All (IsSeated middle.journal) others
+others_seated due closes before middle seat now others ascend first h =
+    let own = recursion_from_All (λ (e : PlainEntry). e.party ≡ seat.session.user) first.grows.entries first.grows.own in
+    let below = first_below seat.session.user (seat_numbers others) ascend in
+    All-from_recursion (IsSeated middle.journal) others
+    (all_grown_seated first.grows.entries before.journal middle.journal others first.grows.journal (behind_others seat.session.user (seat_numbers others) first.grows.entries below own)
+    (recursion_from_All (IsSeated before.journal) others (All-tail (IsSeated before.journal) seat others h)))
+
+-- as many seats as before, which are put back where they were
+pub all_put_back : {K : Type 0} (due : ℕ → Bool) (closes : Bool) (before after : PlainCore) (seats new others : List (Seat K)) (len : ℕ) → AreSeatTurns due closes before seats after new → length seats ≡ len → take len (new ++ others) ≡ new
+all_put_back due closes before after seats new others len turns many =
+    let same : length new ≡ len = sym (length-map new (λ seat. user_of seat.session)) ∙ ap (λ (list : List PlainUser). length list) turns.users ∙ length-map seats (λ seat. user_of seat.session) ∙ many in
+    subst (λ (n : ℕ). take n (new ++ others) ≡ new) same (take-append_seam new others)

@@ -1,7 +1,6 @@
 -- Turns of all parties, one after another.
-use Rattle.std.proofs.Common.{◌≡◌, ◌≢◌, ℕ, suc, ◌&&◌, Bool, true, false, not, eqb, List, [], ◌∷◌, ◌++◌, map, IsTrue, refl, sym, ap, ap₂, subst, ◌∙◌, append_assoc}
+use Rattle.std.proofs.Common.{◌≡◌, ℕ, suc, ◌&&◌, Bool, true, false, not, eqb, List, [], ◌∷◌, ◌++◌, map, IsTrue, refl, sym, ap, ap₂, subst, ◌∙◌, append_assoc}
 use Rattle.std.specs.Prelude.{if◌then◌else◌}
-use Rattle.std.proofs.lemmas.Bool.{eq-eqb, ne_eqb}
 use Rattle.apl_arrays.specs.Array.{PlainArray}
 use Rattle.apl_arrays.specs.Parties.{clock_party, text_party}
 use Rattle.session_rules.specs.Auxiliaries.{some_stay}
@@ -98,19 +97,17 @@ module _ {X Y K : Type 0} where
   takes_round count p q r so_far stay next = takes_both (rounds count) (unless_over round) p q r so_far (takes_while round q r stay next)
 
   -- the turn of a party by its number
-  pub ten_is_party : (party : ℕ) (p q : Parties X Y K) → party ≡ clock_party → TakesTurns turn_of_ten p q → TakesTurns (party_turn party) p q
+  pub ten_is_party : (party : ℕ) (p q : Parties X Y K) → eqb party clock_party ≡ true → TakesTurns turn_of_ten p q → TakesTurns (party_turn party) p q
   ten_is_party party p q is h =
       takes_same turn_of_ten (party_turn party) p q
-      (λ replay. ap (λ (same : Bool). if same then turn_of_ten replay else if eqb party text_party then turn_of_twenty replay else user_turns (λ user. eqb user.number party) replay) (eq-eqb party clock_party is)) h
+      (λ replay. ap (λ (same : Bool). if same then turn_of_ten replay else if eqb party text_party then turn_of_twenty replay else user_turns (λ user. eqb user.number party) replay) is) h
 
-  pub twenty_is_party : (party : ℕ) (p q : Parties X Y K) → party ≢ clock_party → party ≡ text_party → TakesTurns turn_of_twenty p q → TakesTurns (party_turn party) p q
+  pub twenty_is_party : (party : ℕ) (p q : Parties X Y K) → eqb party clock_party ≡ false → eqb party text_party ≡ true → TakesTurns turn_of_twenty p q → TakesTurns (party_turn party) p q
   twenty_is_party party p q other is h =
       takes_same turn_of_twenty (party_turn party) p q
-      (λ replay.
-      ap₂ (λ (ten twenty : Bool). if ten then turn_of_ten replay else if twenty then turn_of_twenty replay else user_turns (λ user. eqb user.number party) replay) (ne_eqb party clock_party other) (eq-eqb party text_party is)) h
+      (λ replay. ap₂ (λ (ten twenty : Bool). if ten then turn_of_ten replay else if twenty then turn_of_twenty replay else user_turns (λ user. eqb user.number party) replay) other is) h
 
-  pub user_is_party : (party : ℕ) (p q : Parties X Y K) → party ≢ clock_party → party ≢ text_party → TakesTurns (user_turns (λ user. eqb user.number party)) p q → TakesTurns (party_turn party) p q
+  pub user_is_party : (party : ℕ) (p q : Parties X Y K) → eqb party clock_party ≡ false → eqb party text_party ≡ false → TakesTurns (user_turns (λ user. eqb user.number party)) p q → TakesTurns (party_turn party) p q
   user_is_party party p q other another h =
       takes_same (user_turns (λ user. eqb user.number party)) (party_turn party) p q
-      (λ replay.
-      ap₂ (λ (ten twenty : Bool). if ten then turn_of_ten replay else if twenty then turn_of_twenty replay else user_turns (λ user. eqb user.number party) replay) (ne_eqb party clock_party other) (ne_eqb party text_party another)) h
+      (λ replay. ap₂ (λ (ten twenty : Bool). if ten then turn_of_ten replay else if twenty then turn_of_twenty replay else user_turns (λ user. eqb user.number party) replay) other another) h

@@ -1,4 +1,4 @@
-ghost use Rattle.std.specs.Prelude.{◌≡◌, ◌<◌, ◌||◌, ◌∷◌, [], ℕ, All, IsTrue, false, not, true};
+ghost use Rattle.std.specs.Prelude.{◌≡◌, ◌==◌, ◌<◌, ◌||◌, ◌∷◌, [], ℕ, All, IsTrue, false, not, true};
 ghost use Rattle.apl_arrays.specs.Ascending.{AscendBy};
 ghost use Rattle.apl_arrays.specs.Parties.{clock_party, text_party};
 ghost use Rattle.sv_core.specs.Core.{ArePeople};
@@ -46,7 +46,7 @@ impl<X: Replier, Y: Replier, K> Parties<X, Y, K> {
         ensures turns { (count : ℕ) × TakesTurns (rounds count) self.old self.new }
         ensures over { some_stay self.new.core.users self.new.core.journal ≡ false }
     {
-        while !self.all_have_left() {
+        'rounds: while !self.all_have_left() {
             self.take_round();
         }
     }
@@ -90,11 +90,11 @@ impl<X: Replier, Y: Replier, K> Parties<X, Y, K> {
         ensures together { StayTogether X.forgets X.replies Y.forgets Y.replies self.old self.new }
         ensures turns { TakesTurns (party_turn party) self.old self.new }
     {
-        if party == CLOCK_PARTY {
+        if is_clock(party) {
             self.turn_of_ten();
             return;
         }
-        if party == TEXT_PARTY {
+        if is_text(party) {
             self.turn_of_twenty();
             return;
         }
@@ -134,8 +134,15 @@ impl<X: Replier, Y: Replier, K> Parties<X, Y, K> {
         ensures ten { self.new.ten ≡ self.old.ten }
         ensures twenty { self.new.twenty ≡ self.old.twenty }
     {
-        let closes = self.ten.is_lost() || self.twenty.is_lost();
+        let closes = self.closes();
         seat_turns(&mut self.core, &mut self.seats, only, closes);
+    }
+
+    // Whether each user leaves at its next turn: memory ran out for an auxiliary.
+    fn closes(&self) -> bool
+        ensures { result ≡ (self.now.ten.is_lost || self.now.twenty.is_lost) }
+    {
+        self.ten.is_lost() || self.twenty.is_lost()
     }
 
     // Whether all users have left.
@@ -146,6 +153,20 @@ impl<X: Replier, Y: Replier, K> Parties<X, Y, K> {
             .iter()
             .all(|seat| self.core.has_left(seat.user()))
     }
+}
+
+// Whether a party is the clock.
+fn is_clock(party: u32) -> bool
+    ensures { result ≡ (party == clock_party) }
+{
+    party == CLOCK_PARTY
+}
+
+// Whether a party is the text files.
+fn is_text(party: u32) -> bool
+    ensures { result ≡ (party == text_party) }
+{
+    party == TEXT_PARTY
 }
 
 // The turns of those users that are due, in their order: of each, or of the one with this number.

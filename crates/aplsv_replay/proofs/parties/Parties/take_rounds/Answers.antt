@@ -1,6 +1,32 @@
+use Rattle.std.proofs.Common.{◌∙◌, refl, suc}
+use Rattle.aplsv_replay.proofs.AllTogether.{all_gone, of_some_still, stays_on, users_stay_on}
 use Rattle.aplsv_replay.proofs.Taking.{takes_none, takes_round}
-use Rattle.aplsv_replay.proofs.AllTogether.{of_some_still, participants_are_users}
+use Rattle.replay_rules.specs.Turns.{rounds}
 use Rattle.aplsv_replay.proofs.parties.Parties.take_rounds.Goals as goal
 
-pub returns : goal.returns
-returns g c = ?
+pub rounds-init : goal.rounds-init
+rounds-init g c = record { some = c.requires.together; stay = λ bundle ten twenty shelves h. h; turns = (0, takes_none (rounds 0) c.args.self.now (λ r. refl)) }
+
+pub take_round-requires-clause-stay : goal.take_round-requires-clause-stay
+take_round-requires-clause-stay g c =
+    users_stay_on g.X.Replier.forgets g.X.Replier.replies g.Y.Replier.forgets g.Y.Replier.replies c.rounds.self c.rounds.invariant.some
+    ∙ stays_on g.X.Replier.forgets g.X.Replier.replies g.Y.Replier.forgets g.Y.Replier.replies c.rounds.self c.all_have_left.result c.all_have_left.ensures c.rounds-test.true
+
+pub rounds-preserved : goal.rounds-preserved
+rounds-preserved g c =
+    let here = c.rounds.self in
+    let next = c.take_round.new.self in
+    record {
+      some = of_some_still g.X.Replier.forgets g.X.Replier.replies g.Y.Replier.forgets g.Y.Replier.replies here next c.rounds.invariant.some c.take_round.ensures.together;
+      stay = λ bundle ten twenty shelves h. c.take_round.ensures.together bundle ten twenty shelves (c.rounds.invariant.stay bundle ten twenty shelves h);
+      turns = (
+        suc c.rounds.invariant.turns.0,
+        takes_round c.rounds.invariant.turns.0 c.args.self.now here next c.rounds.invariant.turns.1
+            (stays_on g.X.Replier.forgets g.X.Replier.replies g.Y.Replier.forgets g.Y.Replier.replies here c.all_have_left.result c.all_have_left.ensures c.rounds-test.true) c.take_round.ensures.turns,
+      );
+    }
+
+pub returns-clause-over : goal.returns-clause-over
+returns-clause-over g c =
+    users_stay_on g.X.Replier.forgets g.X.Replier.replies g.Y.Replier.forgets g.Y.Replier.replies c.rounds.self c.rounds.invariant.some
+    ∙ all_gone g.X.Replier.forgets g.X.Replier.replies g.Y.Replier.forgets g.Y.Replier.replies c.rounds.self c.all_have_left.result c.all_have_left.ensures c.rounds-test.false

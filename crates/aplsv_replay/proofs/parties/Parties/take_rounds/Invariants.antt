@@ -4,12 +4,12 @@ use Rattle.replay_rules.specs.Turns.{rounds}
 use Rattle.aplsv_replay.proofs.parties.Parties.take_rounds.Given as goal
 
 -- so many rounds were taken
-abbrev pub invariant-loop : goal.invariant-loop
-invariant-loop g l = record {
+abbrev pub invariant-rounds : goal.invariant-rounds
+invariant-rounds g l = record {
   some : AreOfSomeBundle g.X.Replier.forgets g.X.Replier.replies g.Y.Replier.forgets g.Y.Replier.replies l.self;
   stay : StayTogether g.X.Replier.forgets g.X.Replier.replies g.Y.Replier.forgets g.Y.Replier.replies l.fn.self l.self;
   turns : (count : ℕ) × TakesTurns (rounds count) l.fn.self l.self;
 }
 
-abbrev pub decreases-loop : goal.decreases-loop
-decreases-loop g l = left_to_do l.self
+abbrev pub decreases-rounds : goal.decreases-rounds
+decreases-rounds g l = left_to_do l.self
