@@ -16,9 +16,7 @@ use Rattle.sv_rules.specs.Legal.{act_due, answer_to, entry_for, is_still_held, i
 use Rattle.sv_rules.specs.Refused.{awaited, still_refused, waits}
 use Rattle.sv_rules.specs.Work.{is_auxiliary, is_stuck}
 use Rattle.sv_core.specs.Core.{ArePeople, PlainCore, core_after}
-use Rattle.sv_core.proofs.WaitingLemmas.{people_are}
 use Rattle.sv_core.specs.Retry.{core_retried}
-use Rattle.sv_core.proofs.RetryLemmas.{some_act}
 use Rattle.session_rules.specs.Session.{session_of}
 use Rattle.session_rules.proofs.Taking.{none_leaves, reports_are_few}
 use Rattle.replay_rules.specs.SoFar.{IsSoFar, IsWaitedFor}
@@ -31,14 +29,14 @@ use Rattle.apl_session.specs.declared.session.Stage.TheVariants as stage
 use Rattle.aplsv_replay.specs.Participants.{participant_of}
 use Rattle.aplsv_replay.specs.SoFar.{GoesOn, GrowsBy, IsSameUser, IsRetried, IsSessionSoFar, IsTurn, heard, is_waiting, user_work, work_with}
 use Rattle.aplsv_replay.specs.declared.seat.Seat.{Seat}
-use Rattle.aplsv_replay.proofs.Making.{IsEntered, IsMade, IsRefused, entering, held_again, made_again, made_grows, made_now, made_stays, refusing, retried_users, waiter_is_unheld}
+use Rattle.aplsv_replay.proofs.Making.{IsMade, entering, held_again, is_person, made_again, made_grows, made_now, made_stays, refusing, retried_users, some_act}
 
 -- a user that has not left went on by an act
 pub record HasGoneOn {K : Type 0} (before : PlainCore) (s : PlainSession K) (after : PlainCore) (now : PlainSession K) : Type 0 where
   pub same : IsSameUser s now
   pub grows : GrowsBy s.user before after
   pub so_far : IsSessionSoFar after.journal now
-  pub goes_on : GoesOn before s after now
+  pub less : work_with after.journal now < work_with before.journal s
   pub turn : IsTurn before s after now
 
 -- ---- what a user did so far
@@ -170,7 +168,7 @@ none_waits journal party free = none_awaited (awaited journal party) free
 -- a user that does not wait may make whatever act it comes to
 pub any_is_due : (users : List ℕ) (journal : Entries) (party : ℕ) (act : Act) → ArePeople users → is_user users party ≡ true → waits journal party ≡ false → act_due (is_auxiliary party) journal party act ≡ Some act
 any_is_due users journal party act people user free =
-    ap (λ (auxiliary : Bool). act_due auxiliary journal party act) (people_are users people party user)
+    ap (λ (auxiliary : Bool). act_due auxiliary journal party act) (is_person users party people user)
     ∙ ap (λ (waited : Option Act). Some (may_do waited act)) (none_waits journal party free)
 
 -- ---- the turn
@@ -191,7 +189,7 @@ gone_on before after s waiting act answer made users present at asks so turned =
   same = heard_same_user answer s;
   grows = made_grows s.user act answer before after users made;
   so_far = made_so_far before.journal s waiting act after.journal answer made so asks at;
-  goes_on = λ here. inl (work_falls before.journal s (is_held (kind_of answer)) act after.journal answer made present asks refl);
+  less = work_falls before.journal s (is_held (kind_of answer)) act after.journal answer made present asks refl;
   turn = turned;
 }
 
@@ -219,6 +217,14 @@ stepped {K = K} before after s now waiting act answer present at asks free so st
 
 -- ---- an act that is tried again
 
+-- a user that is held still: nothing has changed
+pub record IsStillAsBefore {K : Type 0} (before : PlainCore) (s : PlainSession K) (after : PlainCore) : Type 0 where
+  pub stays : after ≡ before
+  pub grows : GrowsBy s.user before after
+  pub so_far : IsSessionSoFar after.journal s
+  pub held : is_still_held before.users before.journal s.user ≡ true
+  pub turn : IsTurn before s after s
+
 -- a user that is held still is so far, since there is room
 still_so_far : {K : Type 0} (before : PlainCore) (s : PlainSession K) → is_still_held before.users before.journal s.user ≡ true → IsRetried before.journal s → IsSessionSoFar before.journal s
 still_so_far before s held (inl h) = h
@@ -228,7 +234,7 @@ still_so_far before s held (inr h) =
 
 -- a user that is held still
 pub held_still : {K : Type 0} (before after : PlainCore) (s : PlainSession K) → has_left before.journal s.user ≡ false → s.stage ≡ stage.Waiting → IsSome (session_of s.lines s.answers).waits
-    → waits before.journal s.user ≡ true → IsRetried before.journal s → IsTriedAgain before s.user after None → HasGoneOn before s after s
+    → waits before.journal s.user ≡ true → IsRetried before.journal s → IsTriedAgain before s.user after None → IsStillAsBefore before s after
 held_still {K = K} before after s present at some waiting retrying try =
     let asked = some_act (session_of s.lines s.answers).waits some in
     let awaited' = some_act (awaited before.journal s.user) waiting in
@@ -242,14 +248,14 @@ held_still {K = K} before after s present at some waiting retrying try =
     turn_is before.users before.journal (participant_of s) act true present asks waiting
     ∙ ap (λ (c : PlainCore). let t : Turn = record { journal = c.journal; user = option_map_or (λ answer. given answer (participant_of s)) (retried before.users before.journal s.user) (participant_of s) } in t) h.1
     ∙ ap (λ (o : Option PlainAnswer). let t : Turn = record { journal = before.journal; user = option_map_or (λ answer. given answer (participant_of s)) o (participant_of s) } in t) got in
-    let gone : HasGoneOn before s before s = record {
-      same = refl;
+    let still : IsStillAsBefore before s before = record {
+      stays = refl;
       grows = record { users = refl; entries = []; own = All-nil (λ (e : PlainEntry). e.party ≡ s.user); journal = refl };
       so_far = so;
-      goes_on = λ here. inr (h.0, refl, refl);
+      held = h.0;
       turn = turned;
     } in
-    subst (λ (d : PlainCore). HasGoneOn before s d s) (sym stays) gone
+    subst (λ (d : PlainCore). IsStillAsBefore before s d) (sym stays) still
 
 -- in a full journal the act that is tried again is refused, whichever it is
 full_again : {K : Type 0} (before after : PlainCore) (s : PlainSession K) (tried act : Act) (answer : PlainAnswer) → IsTrue (is_full before.journal) → IsMade before.journal s.user tried after.journal answer

@@ -98,3 +98,11 @@ stays_whole journal s seat same stays left = absurd (both_ways (has_left journal
 -- a user that has left is not looked at any more
 pub left_seated : {K : Type 0} (journal : Entries) (s : PlainSession K) (seat : Seat K) → IsSameUser s seat.session → has_left journal s.user ≡ true → IsSeated journal seat
 left_seated journal s seat same left stays = absurd (both_ways (has_left journal s.user) (ap (λ (u : ℕ). has_left journal u) (sym (user_is s seat.session same)) ∙ stays) left)
+
+-- ---- what the code's leave says, for a party that is the user
+
+pub has_left_of : (before after : PlainCore) (party user : ℕ) → party ≡ user → after ≡ core_after before party Leave → has_left after.journal user ≡ true
+has_left_of before after party user is became = has_left_now before after user (became ∙ ap (λ (p : ℕ). core_after before p Leave) is)
+
+pub leave_grows_of : (before middle after : PlainCore) (party user : ℕ) → party ≡ user → GrowsBy user before middle → after ≡ core_after middle party Leave → GrowsBy user before after
+leave_grows_of before middle after party user is grows became = leave_grows before middle after user grows (became ∙ ap (λ (p : ℕ). core_after middle p Leave) is)

@@ -4,6 +4,7 @@ pub mod AuxiliaryTurns
 pub mod Beginning
 pub mod Devices
 pub mod Ends
+pub mod Filling
 pub mod Growth
 pub mod Hearing
 pub mod Leaving
@@ -11,4 +12,5 @@ pub mod Making
 pub mod RoundsEnd
 pub mod Rows
 pub mod SeatTurns
+pub mod Staging
 pub mod Taking

@@ -1,4 +1,4 @@
-ghost use Rattle.std.specs.Prelude.{◌≡◌, false, true, IsSome, IsTrue, OnErr, OnOk, Some};
+ghost use Rattle.std.specs.Prelude.{◌≡◌, ◌<◌, false, true, IsSome, IsTrue, OnErr, OnOk, Some};
 ghost use Rattle.sv_core.specs.Core.{ArePeople};
 ghost use Rattle.sv_rules.specs.Entries.{has_left};
 ghost use Rattle.sv_rules.specs.Legal.{is_user};
@@ -7,7 +7,7 @@ ghost use Rattle.sv_rules.specs.Refused.{waits};
 ghost use Rattle.session_rules.specs.Session.{session_of};
 ghost use Rattle.replay_rules.specs.SoFar.{IsSoFar};
 ghost use Rattle.aplsv_replay.specs.Participants.{participant_of};
-ghost use Rattle.aplsv_replay.specs.SoFar.{GoesOn, GrowsBy, IsSameUser, IsRetried, IsSeated, IsSessionSoFar, IsTurn, IsWhole, heard};
+ghost use Rattle.aplsv_replay.specs.SoFar.{GoesOn, GrowsBy, IsSameUser, IsRetried, IsSeated, IsSessionSoFar, IsTurn, IsWhole, heard, work_with};
 
 use apl_arrays::WantOfMemory;
 use apl_session::{Session, Stage, Wants};
@@ -109,7 +109,7 @@ impl<K> Seat<K> {
         ensures lost { self.new.is_lost ≡ self.old.is_lost }
         ensures grows { GrowsBy self.old.session.user core.old core.new }
         ensures so_far { OnOk result (IsSessionSoFar core.new.journal self.new.session) }
-        ensures goes_on { OnOk result (GoesOn core.old self.old.session core.new self.new.session) }
+        ensures less { OnOk result (work_with core.new.journal self.new.session < work_with core.old.journal self.old.session) }
         ensures turn { OnOk result (IsTurn core.old self.old.session core.new self.new.session) }
         ensures stays { has_left core.new.journal self.old.session.user ≡ false }
     {
