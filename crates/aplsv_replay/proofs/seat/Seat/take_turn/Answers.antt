@@ -8,7 +8,7 @@ pub returns-then-has_left-clause-grows : goal.returns-then-has_left-clause-grows
 returns-then-has_left-clause-grows g c = grows_none c.args.self.now.session.user c.args.core.now
 
 pub returns-then-has_left-clause-turn : goal.returns-then-has_left-clause-turn
-returns-then-has_left-clause-turn g c = λ open whole.
+returns-then-has_left-clause-turn g c = λ unclosed whole.
     gone_turn c.args.core.now c.args.self.now.session (ap (λ (u : ℕ). has_left c.args.core.now.journal u) (sym c.user.ensures) ∙ sym c.has_left.ensures ∙ c.if-has_left.true)
 
 pub returns-then-closes-clause-seated : goal.returns-then-closes-clause-seated
@@ -35,7 +35,7 @@ pub returns-then-is_ok-clause-goes_on : goal.returns-then-is_ok-clause-goes_on
 returns-then-is_ok-clause-goes_on g c = on_ok_is c.go_on.result (sym c.is_ok.ensures ∙ c.if-is_ok.true) c.go_on.ensures.goes_on
 
 pub returns-then-is_ok-clause-whole : goal.returns-then-is_ok-clause-whole
-returns-then-is_ok-clause-whole g c = λ open here before. on_ok_is c.go_on.result (sym c.is_ok.ensures ∙ c.if-is_ok.true) c.go_on.ensures.whole
+returns-then-is_ok-clause-whole g c = λ unclosed here before. on_ok_is c.go_on.result (sym c.is_ok.ensures ∙ c.if-is_ok.true) c.go_on.ensures.whole
 
 pub returns-then-is_ok-clause-turn : goal.returns-then-is_ok-clause-turn
-returns-then-is_ok-clause-turn g c = λ open here. on_ok_is c.go_on.result (sym c.is_ok.ensures ∙ c.if-is_ok.true) c.go_on.ensures.turn
+returns-then-is_ok-clause-turn g c = λ unclosed here. on_ok_is c.go_on.result (sym c.is_ok.ensures ∙ c.if-is_ok.true) c.go_on.ensures.turn
