@@ -1,6 +1,6 @@
 -- Parties that stay those of a bundle while they take turns.
 use Rattle.std.proofs.Common.{◌≡◌, ◌≢◌, ℕ, ◌<◌, ◌≤◌, ◌-◌, ◌+◌, ◌⊎◌, ◌&&◌, ◌||◌, Bool, true, false, not, eqb, List, [], ◌∷◌, ◌++◌, map, inl, inr, IsTrue, refl, sym, ap, ap₂, subst, ◌∙◌, arith}
-use Rattle.std.specs.List.{All, AllByRecursion}
+use Rattle.std.specs.List.{All, AllByRecursion, list_all}
 use Rattle.std.specs.Prelude.{sum_by}
 use Rattle.std.proofs.lemmas.Bool.{and_from, and_parts, eq-eqb, not-true, or_from, or_left, or_right}
 use Rattle.std.proofs.lemmas.List.Elements.{All-from_recursion, recursion_from_All}
@@ -12,7 +12,7 @@ use Rattle.auxiliaries.specs.Run.{Event, IsReplierRun}
 use Rattle.bundle_text.specs.Rules.{PlainBundle}
 use Rattle.bundle_text.specs.User.{PlainUser}
 use Rattle.sv_core.specs.Core.{ArePeople, PlainCore}
-use Rattle.sv_rules.specs.Entries.{Entries, counted_entries}
+use Rattle.sv_rules.specs.Entries.{Entries, counted_entries, has_left}
 use Rattle.sv_rules.specs.Legal.{is_user}
 use Rattle.sv_rules.specs.Work.{is_auxiliary}
 use Rattle.session_rules.specs.Auxiliaries.{acts_among, events_of, some_stay}
@@ -275,3 +275,13 @@ module _ {X Y K : Type 0} (forgets_ten : X → ℕ → X → Type 0) (replies_te
   pub users_stay_on : (p : Parties X Y K) → AreOfSomeBundle forgets_ten replies_ten forgets_twenty replies_twenty p → some_stay p.core.users p.core.journal ≡ stays_at p
   users_stay_on p h =
       ap (λ (users : List ℕ). some_stay users p.core.journal) (sym (participants_are_users forgets_ten replies_ten forgets_twenty replies_twenty h.bundle h.ten h.twenty h.shelves p h.together))
+
+-- all have left where none stays
+left_or_stays : (left rest stay : Bool) → rest ≡ not stay → (left && rest) ≡ not (not left || stay)
+left_or_stays true rest stay is = is
+left_or_stays false rest stay is = refl
+
+pub all_left_by : {K : Type 0} (journal : Entries) (seats : List (Seat K)) → list_all (λ seat. has_left journal seat.session.user) seats ≡ not (some_stay (numbers_of (users_of seats)) journal)
+all_left_by journal [] = refl
+all_left_by journal (seat ∷ seats) =
+    left_or_stays (has_left journal seat.session.user) (list_all (λ s. has_left journal s.session.user) seats) (some_stay (numbers_of (users_of seats)) journal) (all_left_by journal seats)
