@@ -24,12 +24,12 @@ use Rattle.aplsv_replay.proofs.Rows.{mapped_more, shelf_given, shelf_taken}
 -- ---- filling
 
 -- these seats are those of the users so far, and took their shelves
-pub record AreFilled {K : Type 0} (done : List BundleUser) (seats : List (Seat K)) (shelves all : List K) : Type 0 where
+pub record AreFilled {K : Type 0} (done : List BundleUser) (seats : List (Seat K)) (left all : List K) : Type 0 where
   pub users : map (λ seat. user_of seat.session) seats ≡ map plain_user done
   pub newcomers : users_of seats ≡ map newcomer (map plain_user done)
   pub seated : All (IsSeated []) seats
   pub here : All (λ seat. seat.is_lost ≡ false) seats
-  pub shelves : map (λ seat. seat.session.shelf) seats ++ shelves ≡ all
+  pub shelves : map (λ seat. seat.session.shelf) seats ++ left ≡ all
 
 -- a seat more
 pub filled_more : {K : Type 0} (done : List BundleUser) (seats : List (Seat K)) (shelves rest all : List K) (user : BundleUser) (seat : Seat K) (shelf : K) → AreFilled done seats shelves all → shelves ≡ shelf ∷ rest
@@ -48,11 +48,11 @@ filled_more {K = K} done seats shelves rest all user seat shelf h first is = rec
 -- ---- taking apart
 
 -- of all seats these are left; the others gave their shelves and, while there was memory, their transcripts
-pub record AreApart {K : Type 0} (all : List (Seat K)) (before : List K) (seats : List (Seat K)) (shelves : List K) (transcripts : List PlainTranscript) (whole : Bool) : Type 0 where
-  pub shelves : shelves ++ map (λ seat. seat.session.shelf) seats ≡ before ++ map (λ seat. seat.session.shelf) all
-  pub ascending : Ascend (map (λ transcript. transcript.user) transcripts ++ map (λ seat. seat.session.user) seats)
+pub record AreApart {K : Type 0} (all : List (Seat K)) (before : List K) (seats : List (Seat K)) (given : List K) (told : List PlainTranscript) (whole : Bool) : Type 0 where
+  pub shelves : given ++ map (λ seat. seat.session.shelf) seats ≡ before ++ map (λ seat. seat.session.shelf) all
+  pub ascending : Ascend (map (λ transcript. transcript.user) told ++ map (λ seat. seat.session.user) seats)
   pub heard : All (λ seat. HasHeardAll seat.session.stage) all → All (λ seat. HasHeardAll seat.session.stage) seats
-  pub transcripts : whole ≡ true → All (λ seat. HasHeardAll seat.session.stage) all → transcripts ++ map transcript_of seats ≡ map transcript_of all
+  pub transcripts : whole ≡ true → All (λ seat. HasHeardAll seat.session.stage) all → told ++ map transcript_of seats ≡ map transcript_of all
 
 -- the transcript of a seat: its user's, and its lines where all answers were heard
 pub record IsOfSeat {K : Type 0} (seat : Seat K) (transcript : PlainTranscript) : Type 0 where

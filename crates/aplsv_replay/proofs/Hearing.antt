@@ -120,7 +120,8 @@ work_falls journal s false act after answer (refusing h) present asks is =
     subst₂ (λ (j : Entries) (a : PlainAnswer). work_with j (heard_by false a s) < work_with journal s) (sym h.same) (sym h.given) less
 work_falls journal s held act after answer (entering h) present asks is =
     let stays : is_leave h.e.act ≡ false = ap is_leave h.made ∙ asked_stays s.lines s.answers act asks in
-    let one : counted_entries (h.e ∷ journal) ≡ 1 + counted_entries journal = ap (λ (leaves : Bool). cond (not leaves) 1 0 + counted_entries journal) stays in
+    let one : counted_entries (h.e ∷ journal) ≡ 1 + counted_entries journal =
+    sum_by-cons (λ (o : PlainEntry). cond (not (is_leave o.act)) 1 0) h.e journal ∙ ap (λ (leaves : Bool). cond (not leaves) 1 0 + counted_entries journal) stays in
     let few : counted_entries journal < 200000 = few_entries journal h.room in
     let there : has_left after s.user ≡ false = made_stays journal s.user act after answer (asked_stays s.lines s.answers act asks) (entering h) ∙ present in
     let added : counted_entries after ≡ 1 + counted_entries journal = ap counted_entries h.added ∙ one in
