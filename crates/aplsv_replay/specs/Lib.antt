@@ -1,4 +1,5 @@
 pub mod Participants
 pub mod Replayed
+pub mod Serving
 pub mod SoFar
 pub mod Together
