@@ -12,5 +12,6 @@ pub mod Making
 pub mod RoundsEnd
 pub mod Rows
 pub mod SeatTurns
+pub mod Serving
 pub mod Staging
 pub mod Taking

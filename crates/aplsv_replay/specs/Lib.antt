@@ -3,5 +3,6 @@ pub mod Participants
 pub mod Replayed
 pub mod SeatTurns
 pub mod Seats
+pub mod Serving
 pub mod SoFar
 pub mod Together

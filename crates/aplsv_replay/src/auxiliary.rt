@@ -1,15 +1,16 @@
-ghost use Rattle.std.specs.Prelude.{◌≡◌, false, true, IsSome, IsTrue, OnOk, OnErr, Some};
+ghost use Rattle.std.specs.Prelude.{◌≡◌, false, true, IsSome, IsTrue, OnOk, OnErr, None};
+ghost use Rattle.sv_core.specs.Due.{is_service};
 ghost use Rattle.sv_events.specs.Work.{act_of};
+ghost use Rattle.sv_events.specs.declared.work.Work.TheVariants as work;
 ghost use Rattle.sv_rules.specs.Entries.{next_place};
-ghost use Rattle.sv_rules.specs.Legal.{journal_after};
 ghost use Rattle.sv_rules.specs.Work.{is_auxiliary, work_of};
-ghost use Rattle.sv_events.specs.declared.event.Act.{Act as AnAct};
+ghost use Rattle.aplsv_replay.specs.Serving.{MakesWork, TookTurn};
 ghost use Rattle.aplsv_replay.specs.SoFar.{GrowsBy, HasAnswered, IsIdleIf, IsServed};
 
-use apl_arrays::{Array, WantOfMemory};
+use apl_arrays::{Array, Name, WantOfMemory};
 use auxiliaries::Replier;
 use sv_core::Core;
-use sv_events::{Work, act_of};
+use sv_events::{Answer, Work, act_of};
 
 /// An auxiliary in a run: its party, what answers behind it, and whether memory ran out for it.
 #[derive(Drop)]
@@ -56,37 +57,68 @@ impl<X: Replier> Auxiliary<X> {
         ensures idle { self.new.is_lost ≡ false → IsIdleIf self.old.party core.old.journal core.new.journal }
         ensures lost { self.old.is_lost ≡ true → (self.new ≡ self.old) × (core.new ≡ core.old) }
     {
-        if !self.is_lost && self.make_work(core).is_err() {
-            self.is_lost = true;
+        if !self.is_lost {
+            match self.make_work(core) {
+                Ok(()) => {}
+                Err(_) => self.is_lost = true,
+            }
         }
     }
 
-    // Makes its work: what answers begins anew where a control is set, and is asked where a reply is due.
+    // Makes its work, if there is any.
     fn make_work(&mut self, core: &mut Core) -> Result<(), WantOfMemory>
         requires { IsTrue (is_auxiliary self.old.party) }
         ensures party { self.new.party ≡ self.old.party }
         ensures lost { self.new.is_lost ≡ self.old.is_lost }
-        ensures grows { GrowsBy self.old.party core.old core.new }
-        ensures answered { OnOk result ((start : X) → HasAnswered X.forgets X.replies start core.old.journal self.old → HasAnswered X.forgets X.replies start core.new.journal self.new) }
-        ensures turn { OnOk result (IsServed self.old.party core.old.journal core.new.journal) }
-        ensures idle { OnOk result (IsIdleIf self.old.party core.old.journal core.new.journal) }
+        ensures ok { OnOk result (TookTurn X.forgets X.replies self.old self.new core.old core.new) }
         ensures err { OnErr result (core.new ≡ core.old) }
     {
-        let work = core.work_of(self.party);
-        match work {
+        match core.work_of(self.party) {
             Work::Idle => Ok(()),
-            Work::Reply(_) => {
-                let reply = self
-                    .replier
-                    .reply(core.customer(self.party), core.command(self.party))?;
-                self.enter(core, work, Some(reply))
-            }
-            Work::Control(_) => {
-                self.replier.forget(core.customer(self.party));
-                self.enter(core, work, None)
-            }
-            Work::Retract(_) | Work::Counter { .. } | Work::Use(_) => self.enter(core, work, None),
+            Work::Control(local) => self.begin(core, local),
+            Work::Reply(local) => self.reply(core, local),
+            work => self.make(core, work),
         }
+    }
+
+    // Sets a control: what answers begins anew with the partner.
+    fn begin(&mut self, core: &mut Core, local: Name) -> Result<(), WantOfMemory>
+        requires auxiliary { IsTrue (is_auxiliary self.old.party) }
+        requires due { work_of core.old.journal self.old.party ≡ work.Control local }
+        ensures party { self.new.party ≡ self.old.party }
+        ensures lost { self.new.is_lost ≡ self.old.is_lost }
+        ensures ok { OnOk result (TookTurn X.forgets X.replies self.old self.new core.old core.new) }
+        ensures err { OnErr result (core.new ≡ core.old) }
+    {
+        self.replier.forget(core.customer(self.party));
+        self.enter(core, Work::Control(local), None)
+    }
+
+    // Replies to the partner's value.
+    fn reply(&mut self, core: &mut Core, local: Name) -> Result<(), WantOfMemory>
+        requires auxiliary { IsTrue (is_auxiliary self.old.party) }
+        requires due { work_of core.old.journal self.old.party ≡ work.Reply local }
+        ensures party { self.new.party ≡ self.old.party }
+        ensures lost { self.new.is_lost ≡ self.old.is_lost }
+        ensures ok { OnOk result (TookTurn X.forgets X.replies self.old self.new core.old core.new) }
+        ensures err { OnErr result (core.new ≡ core.old) }
+    {
+        let reply = self
+            .replier
+            .reply(core.customer(self.party), core.command(self.party))?;
+        self.enter(core, Work::Reply(local), Some(reply))
+    }
+
+    // Does any other work.
+    fn make(&self, core: &mut Core, work: Work) -> Result<(), WantOfMemory>
+        requires auxiliary { IsTrue (is_auxiliary self.now.party) }
+        requires due { work_of core.old.journal self.now.party ≡ work }
+        requires act { IsSome (act_of work (next_place core.old.journal) None) }
+        requires plain { is_service work ≡ false }
+        ensures ok { OnOk result (TookTurn X.forgets X.replies self.now self.now core.old core.new) }
+        ensures err { OnErr result (core.new ≡ core.old) }
+    {
+        self.enter(core, work, None)
     }
 
     // Enters the act of its work.
@@ -94,11 +126,19 @@ impl<X: Replier> Auxiliary<X> {
         requires auxiliary { IsTrue (is_auxiliary self.now.party) }
         requires due { work_of core.old.journal self.now.party ≡ work }
         requires act { IsSome (act_of work (next_place core.old.journal) reply) }
-        ensures ok { OnOk result ((act : AnAct) → act_of work (next_place core.old.journal) reply ≡ Some act → core.new ≡ record core.old { journal = journal_after core.old.journal self.now.party act }) }
+        ensures ok { OnOk result (MakesWork self.now.party reply core.old core.new) }
         ensures err { OnErr result (core.new ≡ core.old) }
     {
         let place = core.journal().len() as u64 + 1;
-        let _answer = core.step(self.party, act_of(work, place, reply))?;
-        Ok(())
+        match core.step(self.party, act_of(work, place, reply)) {
+            Ok(answer) => {
+                let_go(answer);
+                Ok(())
+            }
+            Err(_) => Err(WantOfMemory),
+        }
     }
 }
+
+// Lets go of an answer.
+fn let_go(_answer: Answer) {}

@@ -29,19 +29,18 @@ free refusing waiting given (given_up hold r w g) n = absurd (none-some hold (sy
 -- no entry of an auxiliary is held, so that it waits for nothing
 pub auxiliaries_never_wait : (users : List ℕ) (journal : Entries) → IsLegal users journal → (party : ℕ) → IsTrue (is_auxiliary party) → awaited journal party ≡ None
 auxiliaries_never_wait users [] legal party aux = refl
-auxiliaries_never_wait users (e ∷ journal) legal party aux = by (eqb e.party party) refl
+auxiliaries_never_wait users (e ∷ journal) legal party aux = by (auxiliaries_never_wait users journal legal.1 party aux) (eqb e.party party) refl
   where
     unheld : IsTrue (is_auxiliary e.party) → is_held (kind_of e.answer) ≡ false
     unheld its =
         ap (λ (a : PlainAnswer). is_held (kind_of a)) legal.0.answer
         ∙ free (refused journal e.party e.act) (waits journal e.party) (outcome journal e.party e.act).answer (answered journal e.party e.act) (auxiliaries_are_never_refused users journal e legal its)
 
-    by : (own : Bool) → eqb e.party party ≡ own → awaited (e ∷ journal) party ≡ None
-    by true own =
+    by : awaited journal party ≡ None → (own : Bool) → eqb e.party party ≡ own → awaited (e ∷ journal) party ≡ None
+    by before true own =
         ap (λ (b : Bool). option_and_then act_held (if b then Some e else last_entry journal party)) own
         ∙ ap (λ (b : Bool). if b then Some e.act else None) (unheld (ap is_auxiliary (eqb-true e.party party own) ∙ aux))
-    by false others =
-        ap (λ (b : Bool). option_and_then act_held (if b then Some e else last_entry journal party)) others ∙ auxiliaries_never_wait users journal legal.1 party aux
+    by before false others = ap (λ (b : Bool). option_and_then act_held (if b then Some e else last_entry journal party)) others ∙ before
 
 -- no work is a leave
 no_leave : (due : Work) (place : ℕ) (reply : Option PlainArray) (made : Act) → act_of due place reply ≡ Some made → is_leave made ≡ false

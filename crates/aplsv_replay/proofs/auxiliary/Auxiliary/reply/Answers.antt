@@ -1,0 +1,13 @@
+use Rattle.std.proofs.Common.{Some}
+use Rattle.aplsv_replay.specs.Serving.{MakesWork, TookTurn}
+use Rattle.aplsv_replay.proofs.Serving.{reply_turn, then_so}
+use Rattle.aplsv_replay.proofs.auxiliary.Auxiliary.reply.Goals as goal
+
+pub returns-clause-ok : goal.returns-clause-ok
+returns-clause-ok g c =
+    let old = c.args.self.now in
+    let answer = c.in_ok-reply.reply in
+    then_so (MakesWork old.party (Some answer) c.args.core.now c.enter.new.core)
+    (TookTurn {X = g.row.X.Denot} g.X.Replier.forgets g.X.Replier.replies old (record old { replier = c.reply.new.self }) c.args.core.now c.enter.new.core) c.enter.result
+    (λ made. reply_turn {X = g.row.X.Denot} g.X.Replier.forgets g.X.Replier.replies old c.args.core.now c.enter.new.core c.args.local c.customer.result c.command.result.now answer c.reply.new.self made c.requires.due c.customer.ensures c.command.ensures c.in_ok-reply.ensures)
+    c.enter.ensures.ok
