@@ -1,4 +1,4 @@
-use Rattle.std.proofs.Common.{◌∙◌, ◌++◌, List, ap, arith, sym}
+use Rattle.std.proofs.Common.{◌≡◌, ◌∙◌, ◌++◌, List, ap, arith, length, rules, sym, vec_len}
 use Rattle.aplsv_replay.proofs.AllTogether.{of_some_still, seats_ascend}
 use Rattle.aplsv_replay.proofs.Ends.{comes_of, same_seats}
 use Rattle.aplsv_replay.proofs.driver.go_through.Goals as goal
@@ -19,7 +19,9 @@ close-requires-clause-room g c =
     let same =
     same_seats g.X.Replier.forgets g.X.Replier.replies g.Y.Replier.forgets g.Y.Replier.replies some.bundle some.ten some.twenty some.shelves c.args.parties c.take_rounds.new.self some.together
     (c.take_rounds.ensures.together some.bundle some.ten some.twenty some.shelves (c.take_turns.ensures.together some.bundle some.ten some.twenty some.shelves some.together)) in
-    ?
+    let many : vec_len c.take_rounds.new.self.seats ≡ length c.take_rounds.new.self.seats.items = search rules in
+    let before : vec_len c.args.parties.seats ≡ length c.args.parties.seats.items = search rules in
+    omega (arith, same, c.requires.room)
 
 pub returns-clause-whole : goal.returns-clause-whole
 returns-clause-whole g c =

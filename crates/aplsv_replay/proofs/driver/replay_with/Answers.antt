@@ -1,6 +1,61 @@
-use Rattle.std.proofs.Common.{refl}
-use Rattle.aplsv_replay.proofs.Ends.{begins_together, users_are_people}
+use Rattle.std.proofs.Common.{◌≡◌, ◌∙◌, [], ℕ, List, ap, arith, length, map, rules, subst, sym, vec_len}
+use Rattle.std.proofs.lemmas.List.{length-map}
+use Rattle.bundle_text.specs.Rules.{PlainBundle}
+use Rattle.bundle_text.specs.User.{PlainUser, plain_user}
+use Rattle.session_rules.specs.Run.{IsRun}
+use Rattle.sv_core.specs.Core.{ArePeople, PlainCore}
+use Rattle.aplsv_replay.specs.Endings.{ComesOf}
+use Rattle.replay_rules.specs.Turns.{IsJournalOfTurns, newcomer}
+use Rattle.aplsv_replay.proofs.Ends.{begins_together, plain_numbers, users_are_people, whole_more}
 use Rattle.aplsv_replay.proofs.driver.replay_with.Goals as goal
 
+pub core_of-requires : goal.core_of-requires
+core_of-requires g c =
+    subst ArePeople (sym (plain_numbers c.users.result.now c.args.bundle.users c.users.ensures.value)) (users_are_people c.args.bundle.users c.users.ensures.bundle.each)
+
+pub fill-seats-requires-clause-room : goal.fill-seats-requires-clause-room
+fill-seats-requires-clause-room g c =
+    let kept : map plain_user c.into_vec.result.items ≡ c.args.bundle.users = c.into_vec.ensures.value ∙ ap (λ (b : PlainBundle). b.users) c.into_parts-users.ensures.value in
+    let one : length c.into_vec.result.items ≡ length c.args.bundle.users = sym (length-map c.into_vec.result.items plain_user) ∙ ap (λ (list : List PlainUser). length list) kept in
+    let two : length c.users-2.result.now ≡ length c.args.bundle.users = sym (length-map c.users-2.result.now plain_user) ∙ ap (λ (list : List PlainUser). length list) c.users-2.ensures.value in
+    let many : vec_len c.into_vec.result ≡ length c.into_vec.result.items = search rules in
+    omega (arith, c.in-Ok-2.ensures.room)
+
+pub fill-seats-requires-clause-shelves : goal.fill-seats-requires-clause-shelves
+fill-seats-requires-clause-shelves g c =
+    let kept : map plain_user c.into_vec.result.items ≡ c.args.bundle.users = c.into_vec.ensures.value ∙ ap (λ (b : PlainBundle). b.users) c.into_parts-users.ensures.value in
+    let one : length c.into_vec.result.items ≡ length c.args.bundle.users = sym (length-map c.into_vec.result.items plain_user) ∙ ap (λ (list : List PlainUser). length list) kept in
+    let many : vec_len c.into_vec.result ≡ length c.into_vec.result.items = search rules in
+    omega (arith, c.requires)
+
 pub go_through-requires-clause-together : goal.go_through-requires-clause-together
-go_through-requires-clause-together g c = ?
+go_through-requires-clause-together g c =
+    let kept : map plain_user c.into_vec.result.items ≡ c.args.bundle.users = c.into_vec.ensures.value ∙ ap (λ (b : PlainBundle). b.users) c.into_parts-users.ensures.value in
+    let core = c.in-Ok.ensures ∙ ap (λ (list : List ℕ). record { users = list; journal = [] }) (plain_numbers c.users.result.now c.args.bundle.users c.users.ensures.value) in
+    let together = begins_together g.X.Replier.forgets g.X.Replier.replies g.Y.Replier.forgets g.Y.Replier.replies c.args.bundle c.args.ten c.args.twenty (record { core = c.in-Ok.core; ten = c.new.result; twenty = c.new-2.result; seats = c.fill-seats.result }) c.into_parts-users.ensures.bundle core c.new.ensures c.new-2.ensures (c.fill-seats.ensures.users ∙ kept) c.fill-seats.ensures.seated in
+    record { bundle = c.args.bundle; ten = c.args.ten; twenty = c.args.twenty; shelves = map (λ seat. seat.session.shelf) c.fill-seats.result.items; together = together }
+
+pub returns-clause-run : goal.returns-clause-run
+returns-clause-run g c =
+    let kept : map plain_user c.into_vec.result.items ≡ c.args.bundle.users = c.into_vec.ensures.value ∙ ap (λ (b : PlainBundle). b.users) c.into_parts-users.ensures.value in
+    let core = c.in-Ok.ensures ∙ ap (λ (list : List ℕ). record { users = list; journal = [] }) (plain_numbers c.users.result.now c.args.bundle.users c.users.ensures.value) in
+    let together = begins_together g.X.Replier.forgets g.X.Replier.replies g.Y.Replier.forgets g.Y.Replier.replies c.args.bundle c.args.ten c.args.twenty (record { core = c.in-Ok.core; ten = c.new.result; twenty = c.new-2.result; seats = c.fill-seats.result }) c.into_parts-users.ensures.bundle core c.new.ensures c.new-2.ensures (c.fill-seats.ensures.users ∙ kept) c.fill-seats.ensures.seated in
+    let result = c.go_through.result in
+    whole_more result.ended (λ transcripts journal. ComesOf g.X.Replier.forgets g.X.Replier.replies g.Y.Replier.forgets g.Y.Replier.replies c.as_slice.result.now (record { core = c.in-Ok.core; ten = c.new.result; twenty = c.new-2.result; seats = c.fill-seats.result }) transcripts journal result.ten result.twenty)
+    (λ transcripts journal. IsRun g.X.Replier.forgets g.X.Replier.replies g.Y.Replier.forgets g.Y.Replier.replies c.args.bundle journal transcripts c.args.ten result.ten c.args.twenty result.twenty)
+    (λ transcripts journal comes. comes.run c.args.bundle c.args.ten c.args.twenty (map (λ seat. seat.session.shelf) c.fill-seats.result.items) together) c.go_through.ensures.whole
+
+pub returns-clause-turns : goal.returns-clause-turns
+returns-clause-turns g c =
+    let kept : map plain_user c.into_vec.result.items ≡ c.args.bundle.users = c.into_vec.ensures.value ∙ ap (λ (b : PlainBundle). b.users) c.into_parts-users.ensures.value in
+    let core = c.in-Ok.ensures ∙ ap (λ (list : List ℕ). record { users = list; journal = [] }) (plain_numbers c.users.result.now c.args.bundle.users c.users.ensures.value) in
+    let together = begins_together g.X.Replier.forgets g.X.Replier.replies g.Y.Replier.forgets g.Y.Replier.replies c.args.bundle c.args.ten c.args.twenty (record { core = c.in-Ok.core; ten = c.new.result; twenty = c.new-2.result; seats = c.fill-seats.result }) c.into_parts-users.ensures.bundle core c.new.ensures c.new-2.ensures (c.fill-seats.ensures.users ∙ kept) c.fill-seats.ensures.seated in
+    let result = c.go_through.result in
+    whole_more result.ended (λ transcripts journal. ComesOf g.X.Replier.forgets g.X.Replier.replies g.Y.Replier.forgets g.Y.Replier.replies c.as_slice.result.now (record { core = c.in-Ok.core; ten = c.new.result; twenty = c.new-2.result; seats = c.fill-seats.result }) transcripts journal result.ten result.twenty) (λ transcripts journal. IsJournalOfTurns c.args.bundle journal)
+    (λ transcripts journal comes.
+    comes.turns c.args.bundle c.args.ten c.args.twenty (map (λ seat. seat.session.shelf) c.fill-seats.result.items) together (ap (λ (p : PlainCore). p.journal) c.in-Ok.ensures)
+    (c.fill-seats.ensures.newcomers ∙ ap (λ (list : List PlainUser). map newcomer list) kept) (c.as_slice.ensures ∙ ap (λ (b : PlainBundle). b.order) c.into_parts-users.ensures.value))
+    c.go_through.ensures.whole
+
+pub returns-clause-shelves : goal.returns-clause-shelves
+returns-clause-shelves g c = c.go_through.ensures.shelves ∙ c.fill-seats.ensures.shelves
