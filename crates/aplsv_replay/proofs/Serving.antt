@@ -1,9 +1,9 @@
 -- The turns of auxiliaries.
-use Rattle.std.proofs.Common.{◌≡◌, ℕ, suc, ◌+◌, ◌++◌, Bool, true, false, List, [], ◌∷◌, All, IsTrue, Option, Some, None, Result, Ok, Err, OnOk, length, refl, sym, ap, subst, ◌∙◌, arith}
+use Rattle.std.proofs.Common.{◌≡◌, ℕ, ◌+◌, false, List, [], ◌∷◌, IsTrue, Option, Some, None, Result, Ok, Err, OnOk, length, refl, sym, ap, subst, ◌∙◌, arith}
 use Rattle.std.proofs.lemmas.List.Elements.{All-cons, All-nil}
 use Rattle.std.proofs.lemmas.Option.{same_Some}
 use Rattle.apl_arrays.specs.Array.{PlainArray}
-use Rattle.auxiliaries.specs.Run.{Event, IsReplierRun, answered, began}
+use Rattle.auxiliaries.specs.Run.{Event, IsReplierRun}
 use Rattle.sv_core.specs.Core.{PlainCore}
 use Rattle.sv_core.specs.Due.{command_of, customer_of, is_reply, is_service}
 use Rattle.sv_events.specs.Entry.{PlainEntry}
@@ -23,7 +23,7 @@ use Rattle.replay_rules.specs.Turns.{served}
 use Rattle.replay_rules.proofs.Serving.{controls_begin, entered, others_tell_nothing, replies_answer, room_for_work, served_idle, served_reply, served_work}
 use Rattle.replay_rules.proofs.Stepping.{MayStep, work_may_step}
 use Rattle.aplsv_replay.specs.Serving.{MakesWork, TookTurn}
-use Rattle.aplsv_replay.specs.SoFar.{GrowsBy, HasAnswered, IsIdleIf, IsServed}
+use Rattle.aplsv_replay.specs.SoFar.{GrowsBy, HasAnswered, IsIdleIf}
 use Rattle.aplsv_replay.specs.declared.auxiliary.Auxiliary.{Auxiliary}
 
 -- what follows from a success

@@ -1,5 +1,5 @@
 -- What the turn of an auxiliary does.
-use Rattle.std.specs.Prelude.{◌≡◌, ℕ, Bool, Option, Some}
+use Rattle.std.specs.Prelude.{◌≡◌, ℕ, Option, Some}
 use Rattle.apl_arrays.specs.Array.{PlainArray}
 use Rattle.sv_core.specs.Core.{PlainCore}
 use Rattle.sv_events.specs.Work.{act_of}

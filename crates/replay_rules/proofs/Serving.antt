@@ -1,10 +1,10 @@
 -- The turn of an auxiliary: what its entry is to what answers behind it, and that the turn is that of a replay.
-use Rattle.std.proofs.Common.{◌≡◌, ℕ, ◌≤◌, ◌<◌, ◌&&◌, ◌++◌, Bool, true, false, not, cond, eqb, find, List, [], ◌∷◌, inl, inr, refl, sym, ap, ap₂, subst, ◌∙◌, option_and_then, option_map, option_to_list, arith}
+use Rattle.std.proofs.Common.{◌≡◌, ℕ, ◌≤◌, ◌++◌, Bool, true, false, not, cond, eqb, find, List, [], ◌∷◌, inl, inr, refl, sym, ap, ap₂, subst, ◌∙◌, option_and_then, option_map, option_to_list, arith}
 use Rattle.std.proofs.lemmas.Bool.{and_from, and_right, cases_lt, eq-eqb, le-ltb, lt-ltb}
 use Rattle.std.proofs.lemmas.Cmp.{nat_list_eq_equiv}
 use Rattle.std.proofs.lemmas.Option.{none-some, same_Some}
 use Rattle.std.specs.Option.{option_map_or, option_or}
-use Rattle.std.specs.Prelude.{Contains, Option, Some, None, IsTrue, nat_lt, unwrap_or, if◌then◌else◌}
+use Rattle.std.specs.Prelude.{Contains, Option, Some, None, nat_lt, unwrap_or, if◌then◌else◌}
 use Rattle.apl_arrays.specs.Array.{PlainArray}
 use Rattle.apl_arrays.specs.Name.{same_name}
 use Rattle.auxiliaries.specs.Run.{Event, began, answered}

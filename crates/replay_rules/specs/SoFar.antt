@@ -1,5 +1,5 @@
 -- A user between two turns: what it did so far.
-use Rattle.std.specs.Prelude.{◌≡◌, ◌≢◌, ◌++◌, ℕ, Bool, true, List, [], ◌∷◌, Some, IfSome, IsTrue, map}
+use Rattle.std.specs.Prelude.{◌≡◌, ◌≢◌, ◌++◌, Bool, true, List, [], ◌∷◌, Some, IfSome, IsTrue, map}
 use Rattle.sv_events.specs.Answer.{full}
 use Rattle.sv_events.specs.declared.event.Act.{Act}
 use Rattle.sv_rules.specs.Entries.{Entries, is_full}

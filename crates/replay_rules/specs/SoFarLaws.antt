@@ -1,5 +1,5 @@
 -- How a user goes on.
-use Rattle.std.specs.Prelude.{◌≡◌, ◌≢◌, ◌++◌, ℕ, Bool, true, false, List, [], ◌∷◌, Some, None, IsTrue}
+use Rattle.std.specs.Prelude.{◌≡◌, ◌≢◌, ◌++◌, Bool, true, false, [], ◌∷◌, Some, None, IsTrue}
 use Rattle.sv_events.specs.Answer.{PlainAnswer, full}
 use Rattle.sv_events.specs.Entry.{PlainEntry}
 use Rattle.sv_events.specs.declared.event.Act.{Act}
