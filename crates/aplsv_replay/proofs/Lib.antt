@@ -5,4 +5,5 @@ pub mod Hearing
 pub mod Leaving
 pub mod Making
 pub mod Rows
+pub mod SeatSteps
 pub mod Staging

@@ -4,10 +4,10 @@ use Rattle.aplsv_replay.proofs.Filling.{AreApart}
 use Rattle.aplsv_replay.proofs.ending.take_apart.Given as goal
 
 abbrev pub invariant-loop-seats : goal.invariant-loop-seats
-invariant-loop-seats l = record {
+invariant-loop-seats g l = record {
   apart : AreApart l.fn.seats.items l.fn.shelves.items l.seats.items l.shelves.items l.transcripts.items l.is_whole;
   room : vec_len l.seats + vec_len l.shelves ≤ vec_capacity l.shelves;
 }
 
 abbrev pub decreases-loop-seats : goal.decreases-loop-seats
-decreases-loop-seats l = vec_len l.seats
+decreases-loop-seats g l = vec_len l.seats

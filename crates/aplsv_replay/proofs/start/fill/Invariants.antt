@@ -4,7 +4,7 @@ use Rattle.aplsv_replay.proofs.Filling.{AreFilled}
 use Rattle.aplsv_replay.proofs.start.fill.Given as goal
 
 abbrev pub invariant-loop-user : goal.invariant-loop-user
-invariant-loop-user l = record {
+invariant-loop-user g l = record {
   filled : AreFilled l.yielded l.seats.items l.shelves.items l.fn.shelves.items;
   count : vec_len l.seats ≡ length l.yielded;
   total : vec_len l.seats + vec_len l.shelves ≡ vec_len l.fn.shelves;

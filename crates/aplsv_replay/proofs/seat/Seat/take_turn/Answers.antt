@@ -8,25 +8,25 @@ pub returns-then-has_left-clause-grows : goal.returns-then-has_left-clause-grows
 returns-then-has_left-clause-grows g c = grows_none c.args.self.now.session.user c.args.core.now
 
 pub returns-then-has_left-clause-turn : goal.returns-then-has_left-clause-turn
-returns-then-has_left-clause-turn g c = λ open whole.
+returns-then-has_left-clause-turn g c = λ stays whole.
     gone_turn c.args.core.now c.args.self.now.session (ap (λ (u : ℕ). has_left c.args.core.now.journal u) (sym c.user.ensures) ∙ sym c.has_left.ensures ∙ c.if-has_left.true)
 
 pub returns-then-closes-clause-seated : goal.returns-then-closes-clause-seated
 returns-then-closes-clause-seated g c =
-    left_seated c.leave.new.core.journal c.args.self.now.session c.args.self.now refl (has_left_of c.args.core.now c.leave.new.core c.user-2.result c.args.self.now.session.user c.user-2.ensures c.leave.ensures)
+    left_seated c.leave.new.self.journal c.args.self.now.session c.args.self.now refl (has_left_of c.args.core.now c.leave.new.self c.user-2.result c.args.self.now.session.user c.user-2.ensures c.leave.ensures)
 
 pub returns-then-closes-clause-grows : goal.returns-then-closes-clause-grows
 returns-then-closes-clause-grows g c =
-    leave_grows_of c.args.core.now c.args.core.now c.leave.new.core c.user-2.result c.args.self.now.session.user c.user-2.ensures (grows_none c.args.self.now.session.user c.args.core.now) c.leave.ensures
+    leave_grows_of c.args.core.now c.args.core.now c.leave.new.self c.user-2.result c.args.self.now.session.user c.user-2.ensures (grows_none c.args.self.now.session.user c.args.core.now) c.leave.ensures
 
 pub returns-then-closes-clause-goes_on : goal.returns-then-closes-clause-goes_on
 returns-then-closes-clause-goes_on g c =
-    leaving_goes_on c.args.core.now c.leave.new.core c.args.self.now.session c.args.self.now.session refl
-    (leave_grows_of c.args.core.now c.args.core.now c.leave.new.core c.user-2.result c.args.self.now.session.user c.user-2.ensures (grows_none c.args.self.now.session.user c.args.core.now) c.leave.ensures)
-    (has_left_of c.args.core.now c.leave.new.core c.user-2.result c.args.self.now.session.user c.user-2.ensures c.leave.ensures)
+    leaving_goes_on c.args.core.now c.leave.new.self c.args.self.now.session c.args.self.now.session refl
+    (leave_grows_of c.args.core.now c.args.core.now c.leave.new.self c.user-2.result c.args.self.now.session.user c.user-2.ensures (grows_none c.args.self.now.session.user c.args.core.now) c.leave.ensures)
+    (has_left_of c.args.core.now c.leave.new.self c.user-2.result c.args.self.now.session.user c.user-2.ensures c.leave.ensures)
 
 pub returns-then-closes-clause-closed : goal.returns-then-closes-clause-closed
-returns-then-closes-clause-closed g c = λ closed. has_left_of c.args.core.now c.leave.new.core c.user-2.result c.args.self.now.session.user c.user-2.ensures c.leave.ensures
+returns-then-closes-clause-closed g c = λ closed. has_left_of c.args.core.now c.leave.new.self c.user-2.result c.args.self.now.session.user c.user-2.ensures c.leave.ensures
 
 pub returns-then-is_ok-clause-seated : goal.returns-then-is_ok-clause-seated
 returns-then-is_ok-clause-seated g c = on_ok_is c.go_on.result (sym c.is_ok.ensures ∙ c.if-is_ok.true) c.go_on.ensures.seated
@@ -35,7 +35,7 @@ pub returns-then-is_ok-clause-goes_on : goal.returns-then-is_ok-clause-goes_on
 returns-then-is_ok-clause-goes_on g c = on_ok_is c.go_on.result (sym c.is_ok.ensures ∙ c.if-is_ok.true) c.go_on.ensures.goes_on
 
 pub returns-then-is_ok-clause-whole : goal.returns-then-is_ok-clause-whole
-returns-then-is_ok-clause-whole g c = λ open here before. on_ok_is c.go_on.result (sym c.is_ok.ensures ∙ c.if-is_ok.true) c.go_on.ensures.whole
+returns-then-is_ok-clause-whole g c = λ stays here before. on_ok_is c.go_on.result (sym c.is_ok.ensures ∙ c.if-is_ok.true) c.go_on.ensures.whole
 
 pub returns-then-is_ok-clause-turn : goal.returns-then-is_ok-clause-turn
-returns-then-is_ok-clause-turn g c = λ open here. on_ok_is c.go_on.result (sym c.is_ok.ensures ∙ c.if-is_ok.true) c.go_on.ensures.turn
+returns-then-is_ok-clause-turn g c = λ stays here. on_ok_is c.go_on.result (sym c.is_ok.ensures ∙ c.if-is_ok.true) c.go_on.ensures.turn
