@@ -28,13 +28,13 @@ next-requires g c = let free : c.args.self.now.session.stage ≢ stage.Waiting =
 
 pub returns-in-Finished-clause-grows : goal.returns-in-Finished-clause-grows
 returns-in-Finished-clause-grows g c =
-    let is = c.user.ensures ∙ ap (λ (t : PlainSession g.row.K). t.user) c.in_ok-act.ensures.stage in
+    let is = c.user.ensures ∙ ap (λ (t : PlainSession g.row.K.Denot). t.user) c.in_ok-act.ensures.stage in
     leave_grows_of c.args.core.now c.args.core.now c.leave.new.self c.user.result c.args.self.now.session.user is (grows_none c.args.self.now.session.user c.args.core.now) c.leave.ensures
 
 pub returns-in-Finished-clause-turn : goal.returns-in-Finished-clause-turn
 returns-in-Finished-clause-turn g c =
-    let is = c.user.ensures ∙ ap (λ (t : PlainSession g.row.K). t.user) c.in_ok-act.ensures.stage in
+    let is = c.user.ensures ∙ ap (λ (t : PlainSession g.row.K.Denot). t.user) c.in_ok-act.ensures.stage in
     let session = c.args.self.now.session in
     leaving_turn c.args.core.now c.leave.new.self session c.next.new.self c.requires.stays (sym c.in_ok-act.ensures.asks ∙ ap wanted c.in-Finished.is)
     (c.leave.ensures ∙ ap (λ (p : ℕ). core_after c.args.core.now p Leave) is)
-    (c.in_ok-act.ensures.stage ∙ ap (λ (w : Wants). let t : PlainSession g.row.K = record session { stage = stage_by (wanted w) } in t) c.in-Finished.is)
+    (c.in_ok-act.ensures.stage ∙ ap (λ (w : Wants). let t : PlainSession g.row.K.Denot = record session { stage = stage_by (wanted w) } in t) c.in-Finished.is)
