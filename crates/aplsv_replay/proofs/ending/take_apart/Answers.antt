@@ -1,8 +1,10 @@
-use Rattle.std.proofs.Common.{◌∙◌, ◌&&◌, ◌++◌, ◌∷◌, ◌<◌, Bool, [], ap, arith, length, sym}
+use Rattle.std.proofs.Common.{◌≡◌, ◌∙◌, ◌&&◌, ◌++◌, ◌∷◌, ◌<◌, Bool, List, [], ap, append-nil, arith, length, map, sym, vec_len}
+use Rattle.std.proofs.lemmas.Bool.{eqb-true}
 use Rattle.std.specs.Result.{is_ok}
 use Rattle.sv_journal.specs.Output.{PlainTranscript}
+use Rattle.aplsv_replay.specs.declared.seat.Seat.{Seat}
 use Rattle.aplsv_replay.proofs.Filling.{IsOfSeat, apart_as, apart_more, kept_as_before, transcript_ascends}
-use Rattle.aplsv_replay.proofs.Rows.{front_and_rest}
+use Rattle.aplsv_replay.proofs.Rows.{front_and_rest, none_there, turned_round}
 use Rattle.aplsv_replay.proofs.ending.take_apart.Goals as goal
 
 pub push-kept-requires : goal.push-kept-requires
@@ -44,3 +46,13 @@ loop-seats-preserved g c =
           (sym c.push_reserved.ensures.items) (ap (λ (b : Bool). b && is_ok c.push-kept.result) c.if-is_whole.false ∙ sym c.if-is_whole.false) more;
       room = omega (arith, loop.invariant.room, c.remove-session.ensures.len, c.push_reserved.ensures.len, c.push_reserved.ensures.capacity);
     }
+
+pub returns-then-is_whole-2-clause-shelves : goal.returns-then-is_whole-2-clause-shelves
+returns-then-is_whole-2-clause-shelves g c =
+    let loop = c.loop-seats in
+    let left = c.args.shelves.now.items in
+    let given = map (λ (s : Seat g.row.K.Denot). s.session.shelf) c.args.seats.items in
+    let none = none_there loop.seats.items (sym loop.seats.ok.0 ∙ eqb-true (vec_len loop.seats) 0 (sym c.is_empty.ensures ∙ c.loop-seats-test.false)) in
+    let row : loop.shelves.items ≡ left ++ given =
+    sym (append-nil loop.shelves.items) ∙ ap (λ (ss : List (Seat g.row.K.Denot)). loop.shelves.items ++ map (λ (s : Seat g.row.K.Denot). s.session.shelf) ss) (sym none) ∙ loop.invariant.apart.shelves in
+    c.rotate_left.ensures.items ∙ turned_round left given loop.shelves.items c.len-left.result row (c.len-left.ensures ∙ c.args.shelves.now.ok.0)
