@@ -5,6 +5,7 @@ use Rattle.std.proofs.lemmas.List.{map_push}
 use Rattle.std.proofs.lemmas.List.Elements.{All-head, All-push, All-tail}
 use Rattle.std.specs.Prelude.{All, OnErr, OnOk}
 use Rattle.std.specs.Result.{is_ok}
+use Rattle.apl_arrays.specs.List.{Listed}
 use Rattle.apl_arrays.specs.Ascending.{Ascend, AscendBy}
 use Rattle.bundle_text.specs.User.{plain_user}
 use Rattle.bundle_text.specs.declared.user.BundleUser.{BundleUser}
@@ -111,3 +112,14 @@ apart_more {K = K} (Err e) all seats rest before shelves transcripts new whole s
   heard = λ every. All-tail (λ (s : Seat K). HasHeardAll s.session.stage) seat rest (subst (λ (ss : List (Seat K)). All (λ s. HasHeardAll s.session.stage) ss) first (h.heard every));
   transcripts = λ is every. absurd (let no : false ≡ true = sym (and_false whole) ∙ is in cc);
 }
+
+-- a list of transcripts that was left as it was has the same items
+pub kept_as_before : {E : Type 0} (r : Result (Unit {0}) E) (before after : Listed PlainTranscript) → OnErr r (after ≡ before) → OnErr r (after.items ≡ before.items)
+kept_as_before (Ok u) before after h = tt
+kept_as_before (Err e) before after h = ap (λ (l : Listed PlainTranscript). l.items) h
+
+-- the same for equal shelves, and an equal verdict
+pub apart_as : {K : Type 0} (all : List (Seat K)) (before : List K) (seats : List (Seat K)) (given there : List K) (told : List PlainTranscript) (whole now : Bool) → given ≡ there → whole ≡ now
+    → AreApart all before seats given told whole → AreApart all before seats there told now
+apart_as {K = K} all before seats given there told whole now same is h =
+    subst (λ (shelves : List K). AreApart all before seats shelves told now) same (subst (λ (b : Bool). AreApart all before seats given told b) is h)

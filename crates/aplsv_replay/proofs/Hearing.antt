@@ -273,7 +273,7 @@ asked_is before s tried act refused awaits asks none h =
     same_Some tried act (sym k.1 ∙ asks)
 
 -- so an act that is tried again is made as the one that the session asks
-made_as_asked : {K : Type 0} (before after : PlainCore) (s : PlainSession K) (tried act : Act) (answer : PlainAnswer) → s.stage ≡ stage.Waiting → awaited before.journal s.user ≡ Some tried → Asks (participant_of s) act
+pub made_as_asked : {K : Type 0} (before after : PlainCore) (s : PlainSession K) (tried act : Act) (answer : PlainAnswer) → s.stage ≡ stage.Waiting → awaited before.journal s.user ≡ Some tried → Asks (participant_of s) act
     → IsRetried before.journal s → IsMade before.journal s.user tried after.journal answer → (going : Bool) × IsSoFar before.journal (participant_of s) going × IsMade before.journal s.user act after.journal answer
 made_as_asked {K = K} before after s tried act answer at awaits asks (inl h) made =
     let so : IsSoFar before.journal (participant_of s) true = subst (λ (w : Bool). IsSoFar before.journal (participant_of s) w) (ap is_waiting at) h in

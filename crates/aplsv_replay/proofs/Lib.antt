@@ -11,6 +11,7 @@ pub mod Leaving
 pub mod Making
 pub mod RoundsEnd
 pub mod Rows
+pub mod SeatSteps
 pub mod SeatTurns
 pub mod Serving
 pub mod Staging

@@ -1,5 +1,5 @@
 -- Seats and shelves in rows: one is added behind, or taken from the front.
-use Rattle.std.proofs.Common.{◌≡◌, ℕ, ◌<◌, List, [], ◌∷◌, ◌++◌, length, map, take, drop, get_or, sym, ap, ◌∙◌, arith, append_assoc}
+use Rattle.std.proofs.Common.{◌≡◌, ℕ, ◌<◌, List, [], ◌∷◌, ◌++◌, length, map, take, drop, get_or, refl, sym, ap, ◌∙◌, arith, append_assoc}
 use Rattle.std.proofs.Math.Seq.{drop-append_seam, take-append_seam}
 use Rattle.std.proofs.lemmas.List.{map_push}
 
@@ -44,3 +44,8 @@ turned_round {K = K} left given row count is many =
     ∙ ap (λ (n : ℕ). drop n (left ++ given) ++ take n (left ++ given)) many
     ∙ ap (λ front. front ++ take (length left) (left ++ given)) (drop-append_seam left given)
     ∙ ap (λ back. given ++ back) (take-append_seam left given)
+
+-- a row without length has no items
+pub none_there : {X : Type 0} (xs : List X) → length xs ≡ 0 → xs ≡ []
+none_there [] h = refl
+none_there (x ∷ xs) h = absurd (omega arith)
