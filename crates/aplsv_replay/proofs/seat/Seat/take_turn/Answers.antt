@@ -8,11 +8,7 @@ pub returns-then-has_left-clause-grows : goal.returns-then-has_left-clause-grows
 returns-then-has_left-clause-grows g c = grows_none c.args.self.now.session.user c.args.core.now
 
 pub returns-then-has_left-clause-turn : goal.returns-then-has_left-clause-turn
-<<<<<<< HEAD
-returns-then-has_left-clause-turn g c = λ unclosed whole.
-=======
 returns-then-has_left-clause-turn g c = λ stays whole.
->>>>>>> 752cf6873ca14e2b4e525d704eb4cc03fa37ee2d
     gone_turn c.args.core.now c.args.self.now.session (ap (λ (u : ℕ). has_left c.args.core.now.journal u) (sym c.user.ensures) ∙ sym c.has_left.ensures ∙ c.if-has_left.true)
 
 pub returns-then-closes-clause-seated : goal.returns-then-closes-clause-seated
@@ -39,12 +35,6 @@ pub returns-then-is_ok-clause-goes_on : goal.returns-then-is_ok-clause-goes_on
 returns-then-is_ok-clause-goes_on g c = on_ok_is c.go_on.result (sym c.is_ok.ensures.value ∙ c.if-is_ok.true) c.go_on.ensures.goes_on
 
 pub returns-then-is_ok-clause-whole : goal.returns-then-is_ok-clause-whole
-<<<<<<< HEAD
-returns-then-is_ok-clause-whole g c = λ unclosed here before. on_ok_is c.go_on.result (sym c.is_ok.ensures ∙ c.if-is_ok.true) c.go_on.ensures.whole
-
-pub returns-then-is_ok-clause-turn : goal.returns-then-is_ok-clause-turn
-returns-then-is_ok-clause-turn g c = λ unclosed here. on_ok_is c.go_on.result (sym c.is_ok.ensures ∙ c.if-is_ok.true) c.go_on.ensures.turn
-=======
 returns-then-is_ok-clause-whole g c = λ stays here before. on_ok_is c.go_on.result (sym c.is_ok.ensures.value ∙ c.if-is_ok.true) c.go_on.ensures.whole
 
 pub returns-then-is_ok-clause-turn : goal.returns-then-is_ok-clause-turn
@@ -62,4 +52,3 @@ returns-clause-goes_on g c =
     leaving_goes_on c.args.core.now c.leave-2.new.self session c.go_on.new.self.session c.go_on.ensures.same
     (leave_grows_of c.args.core.now c.go_on.new.core c.leave-2.new.self c.user-2.result session.user is c.go_on.ensures.grows c.leave-2.ensures)
     (has_left_of c.go_on.new.core c.leave-2.new.self c.user-2.result session.user is c.leave-2.ensures)
->>>>>>> 752cf6873ca14e2b4e525d704eb4cc03fa37ee2d
