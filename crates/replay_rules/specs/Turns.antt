@@ -1,5 +1,5 @@
 -- The turns of a replay: those of the order, and then rounds over 10, 20 and the users, ascending, until all users have left.
-use Rattle.std.specs.Prelude.{◌≡◌, ◌++◌, ◌==◌, ℕ, zero, suc, Bool, true, false, List, [], ◌∷◌, map, Option, Some, None, All, IsTrue, if◌then◌else◌}
+use Rattle.std.specs.Prelude.{◌≡◌, ◌≢◌, ◌++◌, ◌==◌, ℕ, zero, suc, Bool, true, false, List, [], ◌∷◌, map, Option, Some, None, All, IsTrue, if◌then◌else◌}
 use Rattle.std.specs.Option.{option_map_or}
 use Rattle.apl_arrays.specs.Array.{PlainArray}
 use Rattle.apl_arrays.specs.Parties.{clock_party, text_party}
@@ -146,10 +146,16 @@ newcomer user = record { number = user.number; lines = user.lines; answers = [] 
 abbrev pub beginning : PlainBundle → List PlainArray → List PlainArray → Replay
 beginning bundle ten twenty = record { journal = []; ten = ten; twenty = twenty; users = map newcomer bundle.users }
 
--- the journal of a bundle's turns: with the replies that 10 and 20 gave in it, it is the one after the order and so many rounds that all users have left
+-- 10 and 20 have replies left to give
+pub record HasReplies (replay : Replay) : Type 0 where
+  pub ten : replay.ten ≢ []
+  pub twenty : replay.twenty ≢ []
+
+-- the journal of a bundle's turns: with the replies that 10 and 20 gave in it, and some that they never gave, so that no turn wanted one, it is the one after the order and so many rounds that all users have left
 pub record IsJournalOfTurns (bundle : PlainBundle) (journal : Entries) : Type 0 where
   pub ten : List PlainArray
   pub twenty : List PlainArray
   pub count : ℕ
   pub last : (rounds count (ordered bundle.order (beginning bundle ten twenty))).journal ≡ journal
+  pub enough : HasReplies (rounds count (ordered bundle.order (beginning bundle ten twenty)))
   pub left : All (λ user. IsTrue (has_left journal user.number)) bundle.users
