@@ -20,7 +20,7 @@ pub fn memory_devices(
     let files = copied_files(alloc, bundle.files())?;
     let readings = List::from(bundle.clock().to_vec(alloc)?);
     let mut shelves = Vec::new(alloc);
-    for _ in bundle.users() {
+    for _user in bundle.users() {
         shelves.push(MemoryShelf::new(alloc, CallNumbers::new(alloc)))?;
     }
     Ok(Devices {
