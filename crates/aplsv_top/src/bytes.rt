@@ -7,7 +7,7 @@ use crate::memory::memory_devices;
 use crate::output::output_of;
 use crate::runnable::read_runnable;
 use apl_arrays::{Bytes, WantOfMemory};
-use apl_session::Ended;
+use apl_session::{Ended, Outcome};
 use aplsv_replay::replay;
 use bundle_text::{Bundle, BundleRefused, BundleRule};
 use std::alloc::Global;
@@ -32,7 +32,11 @@ fn output_for(alloc: Global, bundle: Bundle) -> Result<Bytes, WantOfMemory>
     ensures { IfOk result (λ text. IsOutputOf bundle text.items) }
 {
     let devices = memory_devices(alloc, &bundle)?;
-    match replay(alloc, bundle, devices).ended {
+    let Outcome {
+        ended,
+        devices: _devices,
+    } = replay(alloc, bundle, devices);
+    match ended {
         Ended::Whole {
             transcripts,
             journal,
