@@ -14,14 +14,15 @@ ascending_first (suc (suc n)) (file ∷ []) h = tt
 ascending_first (suc (suc n)) (file ∷ next ∷ files) h = (h.0, ascending_first (suc n) (next ∷ files) h.1)
 
 -- one file more of those that were copied
-pub one_more_copied : (files : List File) (i : ℕ) (file : File) (copied : List PlainFile) (added : PlainFile) → i < length files → file ≡ get_or files i file → added ≡ plain_file file → copied ≡ map plain_file (take i files)
-    → copied ++ added ∷ [] ≡ map plain_file (take (i + 1) files)
-one_more_copied files i file copied added within is same far =
-    ap (λ (items : List PlainFile). items ++ added ∷ []) far
-    ∙ (ap (λ (one : PlainFile). map plain_file (take i files) ++ one ∷ []) (same ∙ ap plain_file is) ∙ sym (map_more plain_file files i file within))
+pub one_more_copied : (files : List File) (i : ℕ) (file : File) (copied : List PlainFile) (bytes : List ℕ) → i < length files → file ≡ get_or files i file → bytes ≡ file.bytes.items → copied ≡ map plain_file (take i files)
+    → copied ++ record { name = file.name; bytes = bytes } ∷ [] ≡ map plain_file (take (i + 1) files)
+one_more_copied files i file copied bytes within is same far =
+    ap (λ (items : List PlainFile). items ++ record { name = file.name; bytes = bytes } ∷ []) far
+    ∙ (ap (λ (text : List ℕ). map plain_file (take i files) ++ record { name = file.name; bytes = text } ∷ []) same
+    ∙ (ap (λ (one : File). map plain_file (take i files) ++ plain_file one ∷ []) is ∙ sym (map_more plain_file files i file within)))
 
 -- it comes after the others
-pub copied_ascends : (files : List File) (i : ℕ) (file : File) (copied : List PlainFile) (added : PlainFile) → IsAscending (map plain_file files) → i < length files → file ≡ get_or files i file → added ≡ plain_file file
-    → copied ≡ map plain_file (take i files) → IsAscending (copied ++ added ∷ [])
-copied_ascends files i file copied added ascend within is same far =
-    subst IsAscending (take-map plain_file (i + 1) files ∙ sym (one_more_copied files i file copied added within is same far)) (ascending_first (i + 1) (map plain_file files) ascend)
+pub copied_ascends : (files : List File) (i : ℕ) (file : File) (copied : List PlainFile) (bytes : List ℕ) → IsAscending (map plain_file files) → i < length files → file ≡ get_or files i file → bytes ≡ file.bytes.items
+    → copied ≡ map plain_file (take i files) → IsAscending (copied ++ record { name = file.name; bytes = bytes } ∷ [])
+copied_ascends files i file copied bytes ascend within is same far =
+    subst IsAscending (take-map plain_file (i + 1) files ∙ sym (one_more_copied files i file copied bytes within is same far)) (ascending_first (i + 1) (map plain_file files) ascend)

@@ -90,14 +90,17 @@ module _ (one_text : OneText) where
   changed_alike a b c d name bytes (Err Failed) s answer other before also state another alike change changed after later = absurd (none_fails (Unit {0}) a.calls a.fails alike.sound change.numbered)
   changed_alike a b c d name bytes (Ok r) (Err WantOfMemory) answer other before also state another alike change changed after later = absurd later
   changed_alike a b c d name bytes (Ok r) (Err Failed) answer other before also state another alike change changed after later = absurd (none_fails (Unit {0}) b.calls b.fails alike.also_sound changed.numbered)
-  changed_alike a b c d name bytes (Ok r) (Ok s) answer other before also state another alike change changed after later =
-      (after.0 ∙ sym later.0, after.1 ∙ sym later.1, record {
-        sound = change.fails ∙ alike.sound;
-        also_sound = changed.fails ∙ alike.also_sound;
-        entries = λ key. change.entries key
-            ∙ (ap (λ (entry : Option (Option (List ℕ))). if is_at (name_order name) key then Some (Some bytes) else entry) (alike.entries key) ∙ sym (changed.entries key));
-        told = λ key. subst (λ (entry : Option (Option (List ℕ))). entry ≢ Some None) (sym (change.entries key)) (wanted_told (is_at (name_order name) key) bytes (entry_of name_order a key) (alike.told key));
-      })
+  changed_alike a b c d name bytes (Ok r) (Ok s) answer other before also state another alike change changed after later = (
+    after.0 ∙ sym later.0,
+    after.1 ∙ sym later.1,
+    record {
+      sound = change.fails ∙ alike.sound;
+      also_sound = changed.fails ∙ alike.also_sound;
+      entries = λ key. change.entries key
+          ∙ (ap (λ (entry : Option (Option (List ℕ))). if is_at (name_order name) key then Some (Some bytes) else entry) (alike.entries key) ∙ sym (changed.entries key));
+      told = λ key. subst (λ (entry : Option (Option (List ℕ))). entry ≢ Some None) (sym (change.entries key)) (wanted_told (is_at (name_order name) key) bytes (entry_of name_order a key) (alike.told key));
+    },
+  )
 
   -- ---- a step
 
