@@ -7,6 +7,5 @@ pub mod Files
 pub mod Level
 pub mod OneOutput
 pub mod OneRun
-pub mod Outputs
 pub mod ReplyWork
 pub mod SingleWords
