@@ -1,5 +1,5 @@
 -- A clock that tells its readings answers in one way.
-use Rattle.std.proofs.Common.{◌≡◌, ◌≤◌, ℕ, ℤ, negsuc, Bool, true, false, Option, Some, None, sym, ap, ◌∙◌}
+use Rattle.std.proofs.Common.{◌≡◌, ℕ, negsuc, Bool, true, false, Option, Some, sym, ap, ◌∙◌}
 use Rattle.std.specs.Bool.{MatchBool}
 use Rattle.apl_arrays.specs.Array.{PlainArray, scalar}
 use Rattle.apl_io.specs.Clock.{Ticks, next_reading, after_reading}

@@ -1,5 +1,5 @@
 -- Repliers that answer in one way.
-use Rattle.std.proofs.Common.{◌≡◌, ℕ, List, [], ◌∷◌, ◌++◌, sym, subst, subst₂}
+use Rattle.std.proofs.Common.{◌≡◌, ℕ, List, [], ◌∷◌, ◌++◌, sym, subst₂}
 use Rattle.std.specs.Prelude.{◌==◌, option_to_list, if◌then◌else◌}
 use Rattle.apl_arrays.specs.Array.{PlainArray}
 use Rattle.auxiliaries.specs.Run.{Event, began, answered, Leads, IsReplierRun}

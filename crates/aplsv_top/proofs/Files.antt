@@ -1,19 +1,19 @@
 -- Text files in a store that tells what it keeps, and never fails, are answered in one way.
-use Rattle.std.proofs.Common.{◌≡◌, ◌≢◌, ℕ, Bool, true, false, List, [], ◌∷◌, map, Option, Some, None, refl, sym, ap, ap₂, subst, subst₂, ◌∙◌, inl, inr, ◌⊎◌}
-use Rattle.std.specs.Prelude.{Result, Ok, Err, IfOk, cond, if◌then◌else◌}
+use Rattle.std.proofs.Common.{◌≡◌, ◌≢◌, ℕ, Bool, true, false, List, [], ◌∷◌, map, Option, Some, None, refl, sym, ap, subst, subst₂, ◌∙◌, inl, inr}
+use Rattle.std.specs.Prelude.{Result, Ok, Err, cond, if◌then◌else◌}
 use Rattle.std.specs.BTreeMap.{is_at}
 use Rattle.std.specs.Map.{lookup}
 use Rattle.apl_arrays.specs.Array.{PlainArray}
 use Rattle.apl_arrays.specs.FileList.{PlainFile}
 use Rattle.apl_arrays.specs.Name.{name_order}
-use Rattle.apl_io.specs.Content.{Told, FailsByNumber, IsChange, IsRead, MayRead, after_call, entry_of, entry_after}
+use Rattle.apl_io.specs.Content.{Told, FailsByNumber, IsChange, IsRead, MayRead, after_call, entry_of}
 use Rattle.apl_io.specs.Kept.{Keeper, file_entry}
 use Rattle.apl_io.specs.declared.store_error.StoreError.{StoreError}
 use Rattle.apl_io.specs.declared.store_error.StoreError.TheVariants.{Failed, WantOfMemory}
 use Rattle.auxiliaries.specs.Command.{command_of}
-use Rattle.auxiliaries.specs.File.{IsText, IsNoText}
-use Rattle.auxiliaries.specs.Protocol.{AfterRead, AfterReplace, Step, TextState, answers, code, idle, reading, reads, replaces, step}
-use Rattle.auxiliaries.specs.Served.{IsReadStep, IsReplaceStep, Replies, Served, Takes, forgotten}
+use Rattle.auxiliaries.specs.File.{IsText}
+use Rattle.auxiliaries.specs.Protocol.{AfterRead, AfterReplace, Step, TextState, answers, reading, reads, replaces, step}
+use Rattle.auxiliaries.specs.Served.{Replies, Served, Takes, forgotten}
 use Rattle.aplsv_top.proofs.Determined.{IsDetermined}
 
 -- what a keeper tells, and how many faults it had

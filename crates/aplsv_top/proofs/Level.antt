@@ -1,7 +1,7 @@
 -- Two replays of one bundle go on side by side.
-use Rattle.std.proofs.Common.{◌≡◌, ◌≢◌, ℕ, zero, suc, ◌≤◌, Bool, true, false, leb, List, [], ◌∷◌, ◌++◌, Option, Some, None, refl, sym, ap, ap₂, subst, subst₂, ◌∙◌}
+use Rattle.std.proofs.Common.{◌≡◌, ◌≢◌, ℕ, zero, suc, Bool, true, false, List, [], ◌∷◌, ◌++◌, Option, Some, None, refl, sym, ap, ap₂, subst, ◌∙◌}
 use Rattle.std.proofs.lemmas.Bool.{eq-eqb}
-use Rattle.std.specs.Prelude.{◌==◌, map, option_to_list, if◌then◌else◌}
+use Rattle.std.specs.Prelude.{◌==◌, option_to_list, if◌then◌else◌}
 use Rattle.std.specs.Option.{option_map_or}
 use Rattle.apl_arrays.specs.Array.{PlainArray}
 use Rattle.apl_arrays.specs.Parties.{clock_party, text_party}
@@ -19,9 +19,9 @@ use Rattle.sv_rules.specs.Refused.{awaited, waits}
 use Rattle.sv_rules.specs.Work.{work_of}
 use Rattle.sv_core.specs.Core.{PlainCore}
 use Rattle.sv_core.specs.Retry.{journal_retried}
-use Rattle.session_rules.specs.Auxiliaries.{event_of, events_of, partner_on, reply_to, value_used, some_stay}
+use Rattle.session_rules.specs.Auxiliaries.{event_of, events_of, reply_to, some_stay}
 use Rattle.session_rules.specs.Session.{session_of}
-use Rattle.replay_rules.specs.Turns.{HasReplies, Participant, Replay, Served, Turn, Turns, act_made, given, goes_on, numbers_of, ordered, party_turn, round, rounds, served, served_by, serving, turn, turn_by, turn_of_ten, turn_of_twenty, turns_where, user_turns}
+use Rattle.replay_rules.specs.Turns.{HasReplies, Participant, Replay, Turn, act_made, given, goes_on, numbers_of, ordered, party_turn, round, rounds, served, served_by, serving, turn, turn_by, turn_of_ten, turn_of_twenty, turns_where, user_turns}
 use Rattle.aplsv_top.proofs.Determined.{Answers, IsDetermined, older_answers, one_answer}
 use Rattle.aplsv_top.proofs.ReplyWork.{IsAsked, replies_are_asked}
 
