@@ -1,16 +1,17 @@
 -- Why the program ends as it does.
-use Rattle.std.proofs.Common.{◌≡◌, ◌≢◌, ◌≤◌, ◌+◌, ℕ, List, [], length, Option, Some, None, IsSomeAnd, ap, sym, subst, refl, arith}
+use Rattle.std.proofs.Common.{◌≡◌, ◌≢◌, ◌≤◌, ◌+◌, ℕ, List, [], length, Option, Some, None, IsSomeAnd, ap, sym, subst, subst₂, refl, arith}
 use Rattle.std.proofs.lemmas.List.{drop_all}
 use Rattle.std.specs.Io.KnownBytes.{Appends}
 use Rattle.apl_arrays.specs.Limits.{most_input_bytes}
 use Rattle.apl_io.specs.Faults.{Rose}
 use Rattle.apl_io.specs.Whole.{ReadsAll, TakesExactly, TakesAtMost, AppendsPrefix}
+use Rattle.bundle_text.specs.declared.refused.BundleRule.{BundleRule}
 use Rattle.aplsv_top.specs.Causes.{Device, HasCause}
 use Rattle.aplsv_top.specs.Headline.{IsOutputFor, WritesRun, WritesFront, FindsNoBundle}
-use Rattle.aplsv_top.specs.Runnable.{RunnableText, IsNotRunnable}
-use Rattle.aplsv_top.specs.Words.{IsMalformed}
+use Rattle.aplsv_top.specs.Runnable.{RunnableText, IsNotRunnable, IsRefusedAt}
 use Rattle.aplsv_top.specs.declared.status.Status.{Status}
 use Rattle.aplsv_top.specs.declared.status.Status.TheVariants as status
+use Rattle.aplsv_top.proofs.Commands.{refused_runs_not}
 
 -- where bytes can't be run, no run of them is written
 no_run : (left rest held now : Option (List ℕ)) → IsSomeAnd left IsNotRunnable → WritesRun left rest held now → ⊥
@@ -30,7 +31,7 @@ module _ (ending : Status) (source rest sink grown : Device) where
       → (ending ≡ status.WriteFault → Rose sink.faults grown.faults)
       → (ending ≡ status.TooLong → TakesExactly source.bytes rest.bytes (most_input_bytes + 1))
       → (ending ≢ status.TooLong → TakesAtMost source.bytes rest.bytes most_input_bytes)
-      → (IsMalformed ending → FindsNoBundle source.bytes rest.bytes)
+      → ((offset : ℕ) (rule : BundleRule) → ending ≡ status.Malformed offset rule → FindsNoBundle source.bytes rest.bytes offset rule)
       → HasCause ending source rest sink grown
   caused done front read_fault write_fault too_long taken malformed = record {
     done = done;
@@ -61,8 +62,8 @@ module _ (ending : Status) (bytes : List ℕ) (source rest sink grown : Device) 
   front_of : WritesFront (Some bytes) (Some []) sink.bytes grown.bytes → WritesFront source.bytes rest.bytes sink.bytes grown.bytes
   front_of run = record { bytes = run.bytes; text = run.text; read = same_bytes run.bytes run.read; run = run.run; written = run.written }
 
-  none_of : FindsNoBundle (Some bytes) (Some []) → FindsNoBundle source.bytes rest.bytes
-  none_of found = record { bytes = found.bytes; read = same_bytes found.bytes found.read; none = found.none }
+  none_of : (offset : ℕ) (rule : BundleRule) → FindsNoBundle (Some bytes) (Some []) offset rule → FindsNoBundle source.bytes rest.bytes offset rule
+  none_of offset rule found = record { bytes = found.bytes; read = same_bytes found.bytes found.read; refused = found.refused; none = found.none }
 
   -- what becomes of bytes is what becomes of a source of which they were read
   pub by_bytes : TakesAtMost source.bytes rest.bytes most_input_bytes → HasCause ending source rest sink grown
@@ -73,11 +74,25 @@ module _ (ending : Status) (bytes : List ℕ) (source rest sink grown : Device) 
       h.write_fault
       (λ is. let many : most_input_bytes + 1 ≤ length bytes = (h.too_long is).0 in absurd (omega (arith, many, few)))
       (λ other. taken)
-      (λ malformed. none_of (h.malformed malformed))
+      (λ offset rule is. none_of offset rule (h.malformed offset rule is))
 
 -- all of few bytes are few
 all_taken : (bytes : List ℕ) → length bytes ≤ most_input_bytes → TakesAtMost (Some bytes) (Some []) most_input_bytes
 all_taken bytes few = (length bytes, few, (omega arith, ap Some (sym (drop_all (length bytes) bytes (omega arith)))))
+
+-- few bytes that can't be run are refused, and nothing is written
+pub bytes_refused : (bytes : List ℕ) (offset : ℕ) (rule : BundleRule) (sink : Device) → length bytes ≤ most_input_bytes → IsRefusedAt bytes offset rule → HasCause (status.Malformed offset rule) (given bytes) used_up sink sink
+bytes_refused bytes offset rule sink few refused = caused (status.Malformed offset rule) (given bytes) used_up sink sink
+    (λ is. absurd cc)
+    (λ is. absurd cc)
+    (λ is. absurd cc)
+    (λ is. absurd cc)
+    (λ is. absurd cc)
+    (λ other. all_taken bytes few)
+    (λ o r is.
+    let at : offset ≡ o = cc in
+    let named : rule ≡ r = cc in
+    record { bytes = bytes; read = (refl, refl); refused = subst₂ (λ (p : ℕ) (q : BundleRule). IsRefusedAt bytes p q) at named refused; none = refused_runs_not bytes offset rule refused })
 
 module _ (bytes text slice : List ℕ) (sink grown : Device) (few : length bytes ≤ most_input_bytes) (run : IsOutputFor bytes text) (same : slice ≡ text) where
   of_slice : IsOutputFor bytes slice
@@ -92,7 +107,7 @@ module _ (bytes text slice : List ℕ) (sink grown : Device) (few : length bytes
       (λ is. absurd cc)
       (λ is. absurd cc)
       (λ other. all_taken bytes few)
-      (λ malformed. absurd malformed)
+      (λ offset rule is. absurd cc)
 
   -- a front part of it was written, and the sink failed
   pub front_written : AppendsPrefix sink.bytes grown.bytes slice → Rose sink.faults grown.faults → HasCause status.WriteFault (given bytes) used_up sink grown
@@ -103,4 +118,4 @@ module _ (bytes text slice : List ℕ) (sink grown : Device) (few : length bytes
       (λ is. rose)
       (λ is. absurd cc)
       (λ other. all_taken bytes few)
-      (λ malformed. absurd malformed)
+      (λ offset rule is. absurd cc)

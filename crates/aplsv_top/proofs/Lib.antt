@@ -1,2 +1,11 @@
 pub mod Causes
+pub mod Clocks
+pub mod Commands
+pub mod Copies
+pub mod Determined
+pub mod Files
+pub mod Level
+pub mod OneOutput
+pub mod OneRun
+pub mod ReplyWork
 pub mod SingleWords

@@ -8,9 +8,10 @@ use Rattle.sv_rules.specs.Entries.{Entries}
 use Rattle.sv_journal.specs.Output.{PlainTranscript, output_text}
 use Rattle.sv_journal.specs.Printable.{ArePrintable}
 use Rattle.bundle_text.specs.Bundle.{PlainBundle}
+use Rattle.bundle_text.specs.declared.refused.BundleRule.{BundleRule}
 use Rattle.aplsv_replay.specs.Replayed.{IsDeviceRun}
 use Rattle.replay_rules.specs.Turns.{IsJournalOfTurns}
-use Rattle.aplsv_top.specs.Runnable.{RunnableText, IsNotRunnable}
+use Rattle.aplsv_top.specs.Runnable.{RunnableText, IsNotRunnable, IsRefusedAt}
 
 -- the text store of a run: the bundle's files, before the first call, none of which is to fail
 abbrev pub text_of : PlainBundle → Keeper (List ℕ)
@@ -53,8 +54,9 @@ pub record WritesFront (left rest held now : Option (List ℕ)) : Type 0 where
   pub run : IsOutputFor bytes text
   pub written : AppendsPrefix held now text
 
--- all bytes were read, to their end, and they are the text of no bundle that can be run
-pub record FindsNoBundle (left rest : Option (List ℕ)) : Type 0 where
+-- all bytes were read, to their end, and they can't be run, since this rule is broken at this offset
+pub record FindsNoBundle (left rest : Option (List ℕ)) (offset : ℕ) (rule : BundleRule) : Type 0 where
   pub bytes : List ℕ
   pub read : ReadsAll left rest bytes
+  pub refused : IsRefusedAt bytes offset rule
   pub none : IsNotRunnable bytes

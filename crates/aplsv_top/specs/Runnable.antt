@@ -1,12 +1,12 @@
--- The bundles that can be run: no line of a user is a command.
-use Rattle.std.specs.Prelude.{◌≡◌, ℕ, ◌+◌, List, [], ◌∷◌, All, IsTrue, not, Option, Some, None}
+-- The bundles that can be run: those without a line that is a command.
+use Rattle.std.specs.Prelude.{◌≡◌, ◌⊎◌, ℕ, ◌+◌, List, [], ◌∷◌, All, IsTrue, not, Option, Some, None}
 use Rattle.std.specs.List.{position}
 use Rattle.std.specs.Option.{option_map}
+use Rattle.bundle_text.specs.Breaks.{Breaks}
 use Rattle.bundle_text.specs.Bundle.{PlainBundle, BundleText}
 use Rattle.bundle_text.specs.User.{PlainUser}
 use Rattle.bundle_text.specs.Offset.{offset_of}
-use Rattle.bundle_text.specs.declared.refused.BundleRefused.{BundleRefused}
-use Rattle.bundle_text.specs.declared.refused.BundleRefused.TheVariants.{Malformed, WantOfMemory}
+use Rattle.bundle_text.specs.declared.refused.BundleRule.{BundleRule}
 use Rattle.bundle_text.specs.declared.refused.BundleRule.TheVariants.{Form}
 use Rattle.apl_terminal.specs.LineKind.{is_command}
 use Rattle.aplsv_top.specs.declared.runnable.LinePlace.{LinePlace}
@@ -20,7 +20,7 @@ pub record RunnableText (bytes : List ℕ) (bundle : PlainBundle) : Type 0 where
   pub text : BundleText bytes bundle
   pub free : All HasNoCommand bundle.users
 
--- the bytes are the text of no bundle that can be run
+-- the bytes are the text of no bundle without commands
 abbrev pub IsNotRunnable : List ℕ → Type 0
 IsNotRunnable bytes = (bundle : PlainBundle) → ¬ RunnableText bytes bundle
 
@@ -38,7 +38,16 @@ abbrev pub command_place : List PlainUser → Option LinePlace
 command_place [] = None
 command_place (user ∷ users) = found_first (command_line user.lines) (command_place users)
 
--- the answer names the line's first byte and the rule of its form, unless memory ran out
-abbrev pub IsFormlessAt : List PlainUser → LinePlace → BundleRefused → Type 0
-IsFormlessAt users place (Malformed offset rule) = (offset ≡ offset_of users place.user place.line) × (rule ≡ Form)
-IsFormlessAt users place WantOfMemory = Unit {0}
+-- the bytes are the text of a bundle with a command: the first of these stands at this offset, and the rule is that of
+-- forms
+pub record HasCommandAt (bytes : List ℕ) (offset : ℕ) (rule : BundleRule) : Type 0 where
+  pub bundle : PlainBundle
+  pub text : BundleText bytes bundle
+  pub place : LinePlace
+  pub first : command_place bundle.users ≡ Some place
+  pub there : offset ≡ offset_of bundle.users place.user place.line
+  pub named : rule ≡ Form
+
+-- why bytes can't be run, and where: they break a rule of bundles, or a line of a user is a command
+abbrev pub IsRefusedAt : List ℕ → ℕ → BundleRule → Type 0
+IsRefusedAt bytes offset rule = Breaks bytes offset rule ⊎ HasCommandAt bytes offset rule

@@ -6,16 +6,6 @@ use Rattle.aplsv_top.specs.declared.status.Status.TheVariants as status
 abbrev pub AskReplay : List (List ℕ) → Type 0
 AskReplay words = words ≡ codes "--replay" ∷ []
 
--- the bytes are said to be no bundle
-abbrev pub IsMalformed : Status → Type 0
-IsMalformed (status.Malformed offset rule) = Unit {0}
-IsMalformed status.Done = ⊥
-IsMalformed status.Usage = ⊥
-IsMalformed status.ReadFault = ⊥
-IsMalformed status.WriteFault = ⊥
-IsMalformed status.TooLong = ⊥
-IsMalformed status.WantOfMemory = ⊥
-
 -- the bytes themselves decided: their run was written, or they are said to be no bundle, or memory ran out
 abbrev pub IsConclusion : Status → Type 0
 IsConclusion status.Done = Unit {0}

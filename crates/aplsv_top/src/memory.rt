@@ -19,15 +19,23 @@ pub fn memory_devices(
 {
     let files = copied_files(alloc, bundle.files())?;
     let readings = List::from(bundle.clock().to_vec(alloc)?);
-    let mut shelves = Vec::new(alloc);
-    for _ in bundle.users() {
-        shelves.push(MemoryShelf::new(alloc, CallNumbers::new(alloc)))?;
-    }
+    let shelves = empty_shelves(alloc, bundle.users().len())?;
     Ok(Devices {
         text: MemoryText::new(alloc, files, CallNumbers::new(alloc)),
         clock: MemoryClock::new(readings, CallNumbers::new(alloc)),
         shelves,
     })
+}
+
+// So many shelves without an entry.
+fn empty_shelves(alloc: Global, count: usize) -> Result<Vec<MemoryShelf>, WantOfMemory>
+    ensures { IfOk result (λ shelves. vec_len shelves ≡ count) }
+{
+    let mut shelves = Vec::new(alloc);
+    for _made in 0..count {
+        shelves.push(MemoryShelf::new(alloc, CallNumbers::new(alloc)))?;
+    }
+    Ok(shelves)
 }
 
 // Equal files, in memory of their own.

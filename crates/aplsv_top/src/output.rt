@@ -13,6 +13,9 @@ use std::alloc::Global;
 use sv_events::Entry;
 use sv_journal::add_journal;
 
+/// How many bytes an entry often takes, with the lines of its party: room for them is made at once.
+const ENTRY_BYTES: usize = 64;
+
 // Adds a transcript.
 fn add_transcript(
     alloc: Global,
@@ -54,6 +57,7 @@ pub fn output_of(
     ensures printable { OnOk result (ArePrintable transcripts.now.items (map plain_entry journal.now)) }
 {
     let mut bytes = Vec::new(alloc);
+    bytes.reserve(journal.len().saturating_mul(ENTRY_BYTES))?;
     add_transcripts(alloc, &mut bytes, transcripts.as_slice())?;
     add_journal(alloc, &mut bytes, journal)?;
     Ok(List::from(bytes))

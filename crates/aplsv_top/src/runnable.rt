@@ -1,14 +1,13 @@
-ghost use Rattle.std.specs.Prelude.{◌≡◌, ◌⊎◌, ◌<◌, ℕ, Some, IfOk, IfErr, IfSome, MatchResult, length, map};
+ghost use Rattle.std.specs.Prelude.{◌≡◌, ◌⊎◌, ◌<◌, ℕ, IfOk, IfErr, IfSome, MatchResult, length, map};
 ghost use Rattle.apl_arrays.specs.List.{glyphs_in};
-ghost use Rattle.bundle_text.specs.Breaks.{Breaks};
-ghost use Rattle.bundle_text.specs.Bundle.{PlainBundle, BundleText};
-ghost use Rattle.bundle_text.specs.Refused.{IsReason};
+ghost use Rattle.bundle_text.specs.Refused.{IsRefusal};
 ghost use Rattle.bundle_text.specs.User.{plain_user};
-ghost use Rattle.aplsv_top.specs.Runnable.{RunnableText, IsNotRunnable, IsFormlessAt, command_line, command_place};
+ghost use Rattle.apl_terminal.specs.LineKind.{is_command};
+ghost use Rattle.aplsv_top.specs.Runnable.{RunnableText, IsRefusedAt, command_line, command_place};
 
 use apl_arrays::Line;
 use apl_terminal::is_command;
-use bundle_text::{Bundle, BundleRefused, BundleRule, BundleUser, read, texts_are_of_one_bundle};
+use bundle_text::{Bundle, BundleRefused, BundleRule, BundleUser, read};
 use std::alloc::Global;
 
 /// The place of a line: its user, and its place among that user's lines, both counted from 0.
@@ -23,14 +22,11 @@ pub struct LinePlace {
 /// takes memory for what the bundle has.
 pub fn read_runnable(alloc: Global, bytes: &[u8]) -> Result<Bundle, BundleRefused>
     ensures runnable { IfOk result (λ bundle. RunnableText bytes.now bundle) }
-    ensures breaks { (offset : ℕ) (rule : BundleRule) → Breaks bytes.now offset rule →
+    ensures refused { IfErr result (λ why. IsRefusal why (IsRefusedAt bytes.now)) }
+    ensures only { (offset : ℕ) (rule : BundleRule) → IsRefusedAt bytes.now offset rule →
         MatchResult result (λ _. ⊥) (λ why. (why ≡ BundleRefused.Malformed offset rule) ⊎ (why ≡ BundleRefused.WantOfMemory)) }
-    ensures malformed { IfErr result (λ why. IsReason why (IsNotRunnable bytes.now)) }
-    ensures formless { (bundle : PlainBundle) (place : LinePlace) → BundleText bytes.now bundle → command_place bundle.users ≡ Some place
-        → IfErr result (λ why. IsFormlessAt bundle.users place why) }
 {
     let bundle = read(alloc, bytes)?;
-    texts_are_of_one_bundle();
     match command_place(bundle.users()) {
         None => Ok(bundle),
         Some(place) => Err(BundleRefused::Malformed {
@@ -40,11 +36,18 @@ pub fn read_runnable(alloc: Global, bytes: &[u8]) -> Result<Bundle, BundleRefuse
     }
 }
 
+// Whether a line is a command.
+fn is_refused(line: &Line) -> bool
+    ensures { result ≡ is_command line.now.items }
+{
+    is_command(line.as_slice())
+}
+
 // The first of the lines that is a command.
 fn command_line(lines: &[Line]) -> Option<usize>
     ensures { result ≡ command_line (map glyphs_in lines.now) }
 {
-    lines.iter().position(|line| is_command(line.as_slice()))
+    lines.iter().position(|line| is_refused(line))
 }
 
 // The place of the first line that is a command.

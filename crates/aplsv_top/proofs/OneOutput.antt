@@ -1,0 +1,52 @@
+-- The output is one function of the bytes read.
+use Rattle.std.proofs.Common.{◌≡◌, ℕ, List, reverse, refl, sym, ap₂, ◌∙◌, subst}
+use Rattle.apl_io.specs.Kept.{Keeper}
+use Rattle.auxiliaries.specs.Clock.{RepliesByReading}
+use Rattle.auxiliaries.specs.Protocol.{idle}
+use Rattle.auxiliaries.specs.Served.{Replies, Served, forgotten}
+use Rattle.bundle_text.specs.Bundle.{PlainBundle, BundleText}
+use Rattle.sv_journal.specs.Output.{output_text}
+use Rattle.session_rules.specs.Run.{AreUserParts}
+use Rattle.session_rules.specs.RunLaws.{PartsMakeOneTranscript}
+use Rattle.aplsv_top.specs.Headline.{IsOutputOf, clock_of, text_of}
+use Rattle.aplsv_top.specs.OutputLaws.{BundlesHaveOneOutput}
+use Rattle.aplsv_top.proofs.Clocks.{TellAlike, clock_faults, clocks_are_determined, ticks}
+use Rattle.aplsv_top.proofs.Files.{OneText, ServeAlike, files_are_determined, files_keep_alike, store_faults, told_by}
+use Rattle.aplsv_top.proofs.OneRun.{IsRepliedJournal, one_journal}
+
+module _ (one_text : OneText) (bundle : PlainBundle) where
+  -- the text files at the start
+  abbrev files : Served (Keeper (List ℕ))
+  files = record { store = text_of bundle; state = idle }
+
+  files_alike : ServeAlike files files
+  files_alike = record { stores = files_keep_alike bundle.files; state = refl }
+
+  replied : (text : List ℕ) (out : IsOutputOf bundle text) → IsRepliedJournal (λ old party new. new ≡ old) (λ old party value answer new. RepliesByReading ticks clock_faults old value answer new) TellAlike clocks_are_determined
+      (λ old party new. new ≡ forgotten old) (λ old party value answer new. Replies told_by store_faults old value answer new) ServeAlike (files_are_determined one_text) (clock_of bundle) refl files files_alike bundle out.journal
+  replied text out = record {
+    turns = out.turns;
+    ten_answers = (out.clock, out.run.run.ten_part.answers);
+    twenty_answers = (record { store = out.files; state = out.run.state }, out.run.run.twenty_part.answers);
+  }
+
+  -- two outputs are of one journal
+  same_journal : (text other : List ℕ) (one : IsOutputOf bundle text) (another : IsOutputOf bundle other) → one.journal ≡ another.journal
+  same_journal text other one another =
+      one_journal (λ old party new. new ≡ old) (λ old party value answer new. RepliesByReading ticks clock_faults old value answer new) TellAlike clocks_are_determined
+      (λ old party new. new ≡ forgotten old) (λ old party value answer new. Replies told_by store_faults old value answer new) ServeAlike (files_are_determined one_text) (clock_of bundle) refl files files_alike bundle
+      one.journal another.journal (replied text one) (replied other another)
+
+  -- a bundle has one output
+  pub one_output : PartsMakeOneTranscript → (text other : List ℕ) → IsOutputOf bundle text → IsOutputOf bundle other → text ≡ other
+  one_output one_transcript text other one another =
+      let journal : one.journal ≡ another.journal = same_journal text other one another in
+      let parts : AreUserParts one.journal bundle.users another.transcripts = subst (λ j. AreUserParts j bundle.users another.transcripts) (sym journal) another.run.run.users in
+      let transcripts : one.transcripts ≡ another.transcripts = one_transcript bundle one.journal one.transcripts another.transcripts one.run.run.users parts in
+      one.output ∙ (ap₂ (λ t j. output_text t (reverse j)) transcripts journal ∙ sym another.output)
+
+-- so bytes have one output, since they are the text of one bundle
+pub one_output_of_bytes : OneText → PartsMakeOneTranscript → ((bytes : List ℕ) (bundle other : PlainBundle) → BundleText bytes bundle → BundleText bytes other → bundle ≡ other) → BundlesHaveOneOutput
+one_output_of_bytes one_text one_transcript one_bundle bytes text other one another =
+    let bundle = one_bundle bytes one.bundle another.bundle one.read.text another.read.text in
+    one_output one_text one.bundle one_transcript text other one.run (subst (λ b. IsOutputOf b other) (sym bundle) another.run)

@@ -1,0 +1,79 @@
+-- A bundle has one journal of turns that its devices replied to.
+use Rattle.std.proofs.Common.{◌≡◌, ℕ, ◌≤◌, ◌||◌, Bool, true, false, not, leb, List, [], ◌∷◌, map, IsTrue, refl, sym, ap, ap₂, subst, ◌∙◌, arith}
+use Rattle.std.specs.Prelude.{All}
+use Rattle.std.proofs.lemmas.Bool.{leb-true, leb-false}
+use Rattle.std.proofs.lemmas.List.Elements.{All-head, All-tail}
+use Rattle.apl_arrays.specs.Array.{PlainArray}
+use Rattle.apl_arrays.specs.Parties.{clock_party, text_party}
+use Rattle.bundle_text.specs.Rules.{PlainBundle}
+use Rattle.bundle_text.specs.User.{PlainUser}
+use Rattle.sv_rules.specs.Entries.{Entries, has_left}
+use Rattle.session_rules.specs.Auxiliaries.{some_stay}
+use Rattle.replay_rules.proofs.Rounds.{stays}
+use Rattle.replay_rules.specs.Turns.{IsJournalOfTurns, Replay, beginning, goes_on, newcomer, numbers_of, ordered, rounds}
+use Rattle.aplsv_top.proofs.Determined.{Answers, IsDetermined}
+use Rattle.aplsv_top.proofs.Level.{AreTame, IsLevel, IsRepliedTo, tame_replay}
+
+-- where all users have left none stays
+none_stay : (journal : Entries) (users : List PlainUser) → All (λ (user : PlainUser). IsTrue (has_left journal user.number)) users → some_stay (numbers_of (map newcomer users)) journal ≡ false
+none_stay journal [] left = refl
+none_stay journal (user ∷ users) left =
+    ap (λ (gone : Bool). not gone || some_stay (numbers_of (map newcomer users)) journal) (All-head (λ (user : PlainUser). IsTrue (has_left journal user.number)) user users left)
+    ∙ none_stay journal users (All-tail (λ (user : PlainUser). IsTrue (has_left journal user.number)) user users left)
+
+module _ {X Y : Type 0} (forgets_ten : X → ℕ → X → Type 0) (replies_ten : X → ℕ → PlainArray → PlainArray → X → Type 0) (AlikeTen : X → X → Type 0) (one_ten : IsDetermined forgets_ten replies_ten AlikeTen)
+    (forgets_twenty : Y → ℕ → Y → Type 0) (replies_twenty : Y → ℕ → PlainArray → PlainArray → Y → Type 0) (AlikeTwenty : Y → Y → Type 0) (one_twenty : IsDetermined forgets_twenty replies_twenty AlikeTwenty)
+    (ten : X) (alike_ten : AlikeTen ten ten) (twenty : Y) (alike_twenty : AlikeTwenty twenty twenty) (bundle : PlainBundle) where
+  -- a journal of the bundle's turns that both auxiliaries replied to
+  pub record IsRepliedJournal (journal : Entries) : Type 0 where
+    pub turns : IsJournalOfTurns bundle journal
+    pub ten_answers : Answers forgets_ten replies_ten clock_party ten journal
+    pub twenty_answers : Answers forgets_twenty replies_twenty text_party twenty journal
+
+  abbrev RepliedTo : Replay → Type 0
+  RepliedTo = IsRepliedTo forgets_ten replies_ten AlikeTen one_ten forgets_twenty replies_twenty AlikeTwenty one_twenty ten alike_ten twenty alike_twenty
+
+  tame : (count : ℕ) → AreTame forgets_ten replies_ten AlikeTen one_ten forgets_twenty replies_twenty AlikeTwenty one_twenty ten alike_ten twenty alike_twenty (λ a. rounds count (ordered bundle.order a))
+  tame count = tame_replay forgets_ten replies_ten AlikeTen one_ten forgets_twenty replies_twenty AlikeTwenty one_twenty ten alike_ten twenty alike_twenty bundle.order count
+
+  module _ (journal : Entries) (h : IsRepliedJournal journal) where
+    -- the replay of a journal, before its first turn and after so many rounds
+    abbrev before : Replay
+    before = beginning bundle h.turns.ten h.turns.twenty
+
+    abbrev after : ℕ → Replay
+    after count = rounds count (ordered bundle.order before)
+
+    over : goes_on (after h.turns.count) ≡ false
+    over = ap₂ some_stay ((tame h.turns.count).numbers before) h.turns.last ∙ none_stay journal bundle.users h.turns.left
+
+    last_replied : RepliedTo (after h.turns.count)
+    last_replied = record {
+      ten_answers = subst (Answers forgets_ten replies_ten clock_party ten) (sym h.turns.last) h.ten_answers;
+      twenty_answers = subst (Answers forgets_twenty replies_twenty text_party twenty) (sym h.turns.last) h.twenty_answers;
+      left = h.turns.enough;
+    }
+
+    -- more rounds change nothing of it
+    same_after : (count : ℕ) → h.turns.count ≤ count → after count ≡ after h.turns.count
+    same_after count more = stays count h.turns.count (ordered bundle.order before) more over
+
+    replied_after : (count : ℕ) → h.turns.count ≤ count → RepliedTo (after count)
+    replied_after count more = subst RepliedTo (sym (same_after count more)) last_replied
+
+    journal_after : (count : ℕ) → h.turns.count ≤ count → (after count).journal ≡ journal
+    journal_after count more = ap (λ (a : Replay). a.journal) (same_after count more) ∙ h.turns.last
+
+  module _ (journal other : Entries) (h : IsRepliedJournal journal) (k : IsRepliedJournal other) where
+    by_count : (count : ℕ) → h.turns.count ≤ count → k.turns.count ≤ count → journal ≡ other
+    by_count count more also =
+        let start : IsLevel (before journal h) (before other k) = record { journal = refl; users = refl } in
+        let end = (tame count).level (before journal h) (before other k) start (replied_after journal h count more) (replied_after other k count also) in
+        sym (journal_after journal h count more) ∙ (end.journal ∙ journal_after other k count also)
+
+    -- there is one
+    pub one_journal : journal ≡ other
+    one_journal = by (leb h.turns.count k.turns.count) refl where
+      by : (b : Bool) → leb h.turns.count k.turns.count ≡ b → journal ≡ other
+      by true e = by_count k.turns.count (leb-true h.turns.count k.turns.count e) (omega arith)
+      by false e = by_count h.turns.count (omega arith) (let less = leb-false h.turns.count k.turns.count e in omega (arith, less))
