@@ -16,7 +16,7 @@ pub const SOUND: Device = Device {
 };
 
 /// What a sink has room for where nothing else is said.
-pub const ROOM: usize = 8_388_608;
+pub const ROOM: usize = 9_437_184;
 
 /// What the program is given: its words, one a line, the bytes of its input, and how its devices work.
 #[derive(Clone, Copy, Debug)]
