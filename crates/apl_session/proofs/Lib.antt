@@ -1,3 +1,4 @@
 pub mod Around
 pub mod Going
 pub mod Inside
+pub mod Moves
