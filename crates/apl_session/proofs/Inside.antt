@@ -90,7 +90,6 @@ statement_at lines line answers read t opens h = subst (λ (b : Bool). IsAt line
 pub asked_on : (lines : List (List ℕ)) (answers : List PlainAnswer) (read counted : ℕ) (act : Act) (m n after : PlainMachine) (p : Progress) (t : PlainTerminal) → t.definition ≡ None → AsksThere act m counted n → after ≡ silent n
     → StandsOn n 0 [] n.interpreter.output after → p.terminal ≡ printing n.interpreter.output t → p.read ≡ read → p.under_way ≡ under_way.Asking after act → IsUnderWay lines answers read t.transcript m → GoesOn lines answers (Some act) p
 asked_on lines answers read counted act m n after p t free asks is taken printed same waiting h =
-    let whole : answers ++ [] ++ [] ≡ answers = append-nil answers in
     let on : IsUnderWay lines ((answers ++ []) ++ []) read ((t.transcript ++ []) ++ n.interpreter.output) after =
     taken_on lines (answers ++ []) [] read 0 (t.transcript ++ []) n.interpreter.output n after (taken_on lines answers [] read counted t.transcript [] m n h asks.stands) taken in
     let here : IsUnderWay lines answers read (t.transcript ++ n.interpreter.output) after =
@@ -101,7 +100,7 @@ asked_on lines answers read counted act m n after p t free asks is taken printed
     let stands : StandsBy lines answers read (printing n.interpreter.output t) (under_way.Asking after act) = (free, here, waits) in
     record {
       stands = subst (λ (u : UnderWay). StandsBy lines answers p.read p.terminal u) (sym waiting)
-          (subst (λ (s : PlainTerminal). StandsBy lines answers p.read s (under_way.Asking after act)) (sym printed) (subst (λ n. StandsBy lines answers n (printing _ t) (under_way.Asking after act)) (sym same) stands));
+          (subst (λ (s : PlainTerminal). StandsBy lines answers p.read s (under_way.Asking after act)) (sym printed) (subst (λ (k : ℕ). StandsBy lines answers k (printing n.interpreter.output t) (under_way.Asking after act)) (sym same) stands));
       paused = subst (λ (u : UnderWay). Asked u (Some act)) (sym waiting) refl;
     }
 
@@ -116,7 +115,7 @@ done_on lines answers read counted m n after p t free ends is printed same nothi
     let there : p.terminal ≡ record { workspace = n.interpreter.workspace; definition = None; transcript = t.transcript ++ n.interpreter.output } =
     printed ∙ ap (λ (k : PlainMachine). record (printing n.interpreter.output t) { workspace = k.interpreter.workspace }) is ∙ back_again t n.interpreter.output n.interpreter.workspace free in
     rests lines answers p nothing
-    (subst (λ (s : PlainTerminal). IsBetween lines answers p.read s) (sym there) (subst (λ k. IsBetween lines answers k _) (sym same) (goes_done lines answers read counted t m n h ends)))
+    (subst (λ (s : PlainTerminal). IsBetween lines answers p.read s) (sym there) (subst (λ (k : ℕ). IsBetween lines answers k (record { workspace = n.interpreter.workspace; definition = None; transcript = t.transcript ++ n.interpreter.output })) (sym same) (goes_done lines answers read counted t m n h ends)))
 
 -- or to a report
 pub reported_on : (lines : List (List ℕ)) (answers : List PlainAnswer) (read counted : ℕ) (report : Report) (m n after : PlainMachine) (p : Progress) (t : PlainTerminal) → t.definition ≡ None → EndsBy report m counted n → after ≡ silent n
@@ -125,7 +124,7 @@ reported_on lines answers read counted report m n after p t free ends is printed
     let there : p.terminal ≡ record { workspace = n.interpreter.workspace; definition = None; transcript = t.transcript ++ n.interpreter.output } =
     printed ∙ ap (λ (k : PlainMachine). record (printing n.interpreter.output t) { workspace = k.interpreter.workspace }) is ∙ back_again t n.interpreter.output n.interpreter.workspace free in
     rests lines answers p nothing
-    (subst (λ (s : PlainTerminal). IsBetween lines answers p.read s) (sym there) (subst (λ k. IsBetween lines answers k _) (sym same) (goes_reported lines answers read counted t report m n h ends)))
+    (subst (λ (s : PlainTerminal). IsBetween lines answers p.read s) (sym there) (subst (λ (k : ℕ). IsBetween lines answers k (record { workspace = n.interpreter.workspace; definition = None; transcript = t.transcript ++ n.interpreter.output })) (sym same) (goes_reported lines answers read counted t report m n h ends)))
 
 -- ---- the session around it
 
@@ -184,7 +183,7 @@ is_open_line lines receipts p at waiting h =
 
 ready_by : (count read : ℕ) (t : PlainTerminal) (u : UnderWay) → MayAdvance t u → IsThisFar count read u stage.Ready
 ready_by count read t under_way.Nothing may = tt
-ready_by count read t (under_way.Asking m act) may = may
+ready_by count read t (under_way.Asking m act) may = absurd may
 ready_by count read t (under_way.Answered m) may = refl
 
 -- a session that was given an answer
