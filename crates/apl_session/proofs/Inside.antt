@@ -1,6 +1,6 @@
 -- What each call does to the inside of a session.
 use Rattle.std.proofs.Common.{◌≡◌, ◌≢◌, ℕ, ◌+◌, ◌≤◌, Bool, true, false, List, [], ◌∷◌, ◌++◌, drop, length, refl, sym, ap, subst, ◌∙◌, append-nil, arith}
-use Rattle.std.proofs.lemmas.List.{drop_all, map_push}
+use Rattle.std.proofs.lemmas.List.{drop-drop, drop_all, map_push}
 use Rattle.std.specs.Prelude.{Option, Some, None, map, if◌then◌else◌}
 use Rattle.apl_arrays.specs.declared.report.Report.{Report}
 use Rattle.apl_machine.specs.Machine.{PlainMachine, IsOpenAct, MayRun, silent}
@@ -36,6 +36,14 @@ rests lines answers p nothing h = record {
   stands = subst (λ (u : UnderWay). StandsBy lines answers p.read p.terminal u) (sym nothing) h;
   paused = subst (λ (u : UnderWay). Asked u None) (sym nothing) refl;
 }
+
+-- where nothing is under way a session stands between two lines
+pub between_of : (lines : List (List ℕ)) (answers : List PlainAnswer) (p : Progress) → p.under_way ≡ under_way.Nothing → StandsIn lines answers p → IsBetween lines answers p.read p.terminal
+between_of lines answers p nothing h = subst (λ (u : UnderWay). StandsBy lines answers p.read p.terminal u) nothing h
+
+-- the lines behind the one that is next
+pub lines_behind : (lines rest : List (List ℕ)) (line : List ℕ) (read : ℕ) → drop read lines ≡ line ∷ rest → drop (read + 1) lines ≡ rest
+lines_behind lines rest line read here = sym (drop-drop 1 read lines) ∙ ap (drop 1) here
 
 -- a line that an open definition takes
 pub fed_line : (lines rest : List (List ℕ)) (line : List ℕ) (answers : List PlainAnswer) (read : ℕ) (t now : PlainTerminal) (editor : PlainEditor) → drop read lines ≡ line ∷ rest → drop (read + 1) lines ≡ rest → t.definition ≡ Some editor
@@ -82,7 +90,6 @@ statement_at lines line answers read t opens h = subst (λ (b : Bool). IsAt line
 pub asked_on : (lines : List (List ℕ)) (answers : List PlainAnswer) (read counted : ℕ) (act : Act) (m n after : PlainMachine) (p : Progress) (t : PlainTerminal) → t.definition ≡ None → AsksThere act m counted n → after ≡ silent n
     → StandsOn n 0 [] n.interpreter.output after → p.terminal ≡ printing n.interpreter.output t → p.read ≡ read → p.under_way ≡ under_way.Asking after act → IsUnderWay lines answers read t.transcript m → GoesOn lines answers (Some act) p
 asked_on lines answers read counted act m n after p t free asks is taken printed same waiting h =
-    let whole : answers ++ [] ++ [] ≡ answers = append-nil answers in
     let on : IsUnderWay lines ((answers ++ []) ++ []) read ((t.transcript ++ []) ++ n.interpreter.output) after =
     taken_on lines (answers ++ []) [] read 0 (t.transcript ++ []) n.interpreter.output n after (taken_on lines answers [] read counted t.transcript [] m n h asks.stands) taken in
     let here : IsUnderWay lines answers read (t.transcript ++ n.interpreter.output) after =
@@ -93,7 +100,7 @@ asked_on lines answers read counted act m n after p t free asks is taken printed
     let stands : StandsBy lines answers read (printing n.interpreter.output t) (under_way.Asking after act) = (free, here, waits) in
     record {
       stands = subst (λ (u : UnderWay). StandsBy lines answers p.read p.terminal u) (sym waiting)
-          (subst (λ (s : PlainTerminal). StandsBy lines answers p.read s (under_way.Asking after act)) (sym printed) (subst (λ n. StandsBy lines answers n (printing _ t) (under_way.Asking after act)) (sym same) stands));
+          (subst (λ (s : PlainTerminal). StandsBy lines answers p.read s (under_way.Asking after act)) (sym printed) (subst (λ (k : ℕ). StandsBy lines answers k (printing n.interpreter.output t) (under_way.Asking after act)) (sym same) stands));
       paused = subst (λ (u : UnderWay). Asked u (Some act)) (sym waiting) refl;
     }
 
@@ -108,7 +115,7 @@ done_on lines answers read counted m n after p t free ends is printed same nothi
     let there : p.terminal ≡ record { workspace = n.interpreter.workspace; definition = None; transcript = t.transcript ++ n.interpreter.output } =
     printed ∙ ap (λ (k : PlainMachine). record (printing n.interpreter.output t) { workspace = k.interpreter.workspace }) is ∙ back_again t n.interpreter.output n.interpreter.workspace free in
     rests lines answers p nothing
-    (subst (λ (s : PlainTerminal). IsBetween lines answers p.read s) (sym there) (subst (λ k. IsBetween lines answers k _) (sym same) (goes_done lines answers read counted t m n h ends)))
+    (subst (λ (s : PlainTerminal). IsBetween lines answers p.read s) (sym there) (subst (λ (k : ℕ). IsBetween lines answers k (record { workspace = n.interpreter.workspace; definition = None; transcript = t.transcript ++ n.interpreter.output })) (sym same) (goes_done lines answers read counted t m n h ends)))
 
 -- or to a report
 pub reported_on : (lines : List (List ℕ)) (answers : List PlainAnswer) (read counted : ℕ) (report : Report) (m n after : PlainMachine) (p : Progress) (t : PlainTerminal) → t.definition ≡ None → EndsBy report m counted n → after ≡ silent n
@@ -117,7 +124,7 @@ reported_on lines answers read counted report m n after p t free ends is printed
     let there : p.terminal ≡ record { workspace = n.interpreter.workspace; definition = None; transcript = t.transcript ++ n.interpreter.output } =
     printed ∙ ap (λ (k : PlainMachine). record (printing n.interpreter.output t) { workspace = k.interpreter.workspace }) is ∙ back_again t n.interpreter.output n.interpreter.workspace free in
     rests lines answers p nothing
-    (subst (λ (s : PlainTerminal). IsBetween lines answers p.read s) (sym there) (subst (λ k. IsBetween lines answers k _) (sym same) (goes_reported lines answers read counted t report m n h ends)))
+    (subst (λ (s : PlainTerminal). IsBetween lines answers p.read s) (sym there) (subst (λ (k : ℕ). IsBetween lines answers k (record { workspace = n.interpreter.workspace; definition = None; transcript = t.transcript ++ n.interpreter.output })) (sym same) (goes_reported lines answers read counted t report m n h ends)))
 
 -- ---- the session around it
 
@@ -132,13 +139,13 @@ begun_session lines p terminal read nothing =
       far = subst (λ (u : UnderWay). IsThisFar (length lines) p.read u stage.Ready) (sym nothing) tt;
     }
 
-may_by : (lines : List (List ℕ)) (answers : List PlainAnswer) (read : ℕ) (t : PlainTerminal) (u : UnderWay) (at : Stage) → StandsBy lines answers read t u → IsThisFar (length lines) read u at → MayGoOn at → MayAdvance u
+may_by : (lines : List (List ℕ)) (answers : List PlainAnswer) (read : ℕ) (t : PlainTerminal) (u : UnderWay) (at : Stage) → StandsBy lines answers read t u → IsThisFar (length lines) read u at → MayGoOn at → MayAdvance t u
 may_by lines answers read t under_way.Nothing at h far may = tt
-may_by lines answers read t (under_way.Asking m act) at h far may = absurd (subst MayGoOn far may)
-may_by lines answers read t (under_way.Answered m) at h far may = h.2
+may_by lines answers read t (under_way.Asking m act) at h far may = subst MayGoOn far may
+may_by lines answers read t (under_way.Answered m) at h far may = (h.0, h.2)
 
 -- it may go on
-pub may_advance : (lines : List (List ℕ)) (receipts : List PlainReceipt) (p : Progress) (at : Stage) → IsSession lines receipts p at → MayGoOn at → MayAdvance p.under_way
+pub may_advance : (lines : List (List ℕ)) (receipts : List PlainReceipt) (p : Progress) (at : Stage) → IsSession lines receipts p at → MayGoOn at → MayAdvance p.terminal p.under_way
 may_advance lines receipts p at h may = may_by lines (answers_in receipts) p.read p.terminal p.under_way at h.stands h.far may
 
 -- all lines are done
@@ -174,10 +181,10 @@ pub is_open_line : (lines : List (List ℕ)) (receipts : List PlainReceipt) (p :
 is_open_line lines receipts p at waiting h =
     open_by lines (answers_in receipts) p.read p.terminal p.under_way h.stands (subst (λ (s : Stage). IsThisFar (length lines) p.read p.under_way s) waiting h.far)
 
-ready_by : (count read : ℕ) (u : UnderWay) → MayAdvance u → IsThisFar count read u stage.Ready
-ready_by count read under_way.Nothing may = tt
-ready_by count read (under_way.Asking m act) may = absurd may
-ready_by count read (under_way.Answered m) may = refl
+ready_by : (count read : ℕ) (t : PlainTerminal) (u : UnderWay) → MayAdvance t u → IsThisFar count read u stage.Ready
+ready_by count read t under_way.Nothing may = tt
+ready_by count read t (under_way.Asking m act) may = absurd may
+ready_by count read t (under_way.Answered m) may = refl
 
 -- a session that was given an answer
 pub answered_session : (lines : List (List ℕ)) (receipts : List PlainReceipt) (receipt : PlainReceipt) (before after : Progress) (at : Stage) → IsSession lines receipts before at → IsAnswered lines (answers_in receipts) receipt.act receipt.answer after
@@ -190,7 +197,7 @@ answered_session lines receipts receipt before after at h is =
           ∙ sym (next_is_taken lines (answers_in receipts) receipt.answer receipt.act is.waited)
           ∙ ap (λ given. (session_of lines given).acts) (sym answers);
       stands = subst (λ given. StandsIn lines given after) (sym answers) is.stands;
-      far = ready_by (length lines) after.read after.under_way is.may;
+      far = ready_by (length lines) after.read after.terminal after.under_way is.may;
     }
 
 heard_by : (lines : List (List ℕ)) (answers : List PlainAnswer) (read : ℕ) (t : PlainTerminal) (u : UnderWay) (at : Stage) → StandsBy lines answers read t u → IsThisFar (length lines) read u at → HasHeardAll at

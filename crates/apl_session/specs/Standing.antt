@@ -59,11 +59,11 @@ StandsBy lines answers read t (under_way.Answered m) = (t.definition ≡ None) �
 abbrev pub StandsIn : List (List ℕ) → List PlainAnswer → Progress → Type 0
 StandsIn lines answers p = StandsBy lines answers p.read p.terminal p.under_way
 
--- no line is under way that waits for an answer
-abbrev pub MayAdvance : UnderWay → Type 0
-MayAdvance under_way.Nothing = Unit {0}
-MayAdvance (under_way.Asking m act) = ⊥
-MayAdvance (under_way.Answered m) = MayRun m.stage
+-- no line is under way that waits for an answer, and where one was answered no definition is open
+abbrev pub MayAdvance : PlainTerminal → UnderWay → Type 0
+MayAdvance t under_way.Nothing = Unit {0}
+MayAdvance t (under_way.Asking m act) = ⊥
+MayAdvance t (under_way.Answered m) = (t.definition ≡ None) × MayRun m.stage
 
 -- a line is under way that waits for an answer
 abbrev pub IsOpenLine : UnderWay → Type 0
@@ -91,7 +91,7 @@ pub record ComesTo (lines : List (List ℕ)) (answers : List PlainAnswer) (asked
 pub record IsAnswered (lines : List (List ℕ)) (answers : List PlainAnswer) (act : Act) (answer : PlainAnswer) (p : Progress) : Type 0 where
   pub waited : (session_of lines answers).waits ≡ Some act
   pub stands : StandsIn lines (answers ++ answer ∷ []) p
-  pub may : MayAdvance p.under_way
+  pub may : MayAdvance p.terminal p.under_way
 
 -- between two lines a session can go on, or it is finished where none is left
 abbrev pub IsFree : ℕ → ℕ → Stage → Type 0

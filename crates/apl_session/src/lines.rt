@@ -5,7 +5,7 @@ ghost use Rattle.sv_events.specs.Answer.{PlainAnswer};
 ghost use Rattle.session_rules.specs.Course.{with_terminal};
 ghost use Rattle.session_rules.specs.Session.{free_line, statement_done};
 ghost use Rattle.apl_terminal.specs.Terminal.{echoing, free_prompt};
-ghost use Rattle.apl_session.specs.Standing.{GoesOn, IsAt, IsUnderWay, StandsIn};
+ghost use Rattle.apl_session.specs.Standing.{Asked, GoesOn, IsAt, IsUnderWay, StandsIn};
 ghost use Rattle.apl_session.specs.declared.under_way.UnderWay.TheVariants as under_way;
 
 use crate::progress::Progress;
@@ -28,6 +28,7 @@ impl Progress {
         requires none { self.old.under_way ≡ under_way.Nothing }
         requires count { self.old.read + 1 < 2 ^ 64 }
         ensures stands { IfOk result (λ asked. (lines rest : List (List ℕ)) (answers : List PlainAnswer) → StandsIn lines answers self.old → drop self.old.read lines ≡ line.now.items ∷ rest → GoesOn lines answers asked self.new) }
+        ensures paused { IfOk result (Asked self.new.under_way) }
         ensures read { self.new.read ≡ self.old.read + 1 }
     {
         self.read += 1;
@@ -51,6 +52,7 @@ impl Progress {
         ensures stands { IfOk result (λ asked. (lines : List (List ℕ)) (answers : List PlainAnswer)
             → IsAt lines answers self.old.read (λ c. free_line most_statements line.now.items (with_terminal (echoing free_prompt line.now.items c.terminal) c)) self.old.terminal
             → GoesOn lines answers asked self.new) }
+        ensures paused { IfOk result (Asked self.new.under_way) }
         ensures read { self.new.read ≡ self.old.read }
     {
         self.terminal.echo_free(line)?;
@@ -72,6 +74,7 @@ impl Progress {
         requires free { self.old.terminal.definition ≡ None }
         ensures stands { IfOk result (λ asked. (lines : List (List ℕ)) (answers : List PlainAnswer)
             → IsAt lines answers self.old.read (statement_done most_statements line.now.items) self.old.terminal → GoesOn lines answers asked self.new) }
+        ensures paused { IfOk result (Asked self.new.under_way) }
         ensures read { self.new.read ≡ self.old.read }
     {
         match tree_of(self.alloc, self.terminal.workspace(), line) {
@@ -100,6 +103,7 @@ impl Progress {
         requires free { self.old.terminal.definition ≡ None }
         ensures stands { IfOk result (λ asked. (lines : List (List ℕ)) (answers : List PlainAnswer)
             → IsUnderWay lines answers self.old.read self.old.terminal.transcript machine → GoesOn lines answers asked self.new) }
+        ensures paused { IfOk result (Asked self.new.under_way) }
         ensures read { self.new.read ≡ self.old.read }
     {
         let mut machine = machine;

@@ -2,7 +2,7 @@ ghost use Rattle.std.specs.Prelude.{◌≡◌, ◌≤◌, ℕ, List, IfOk, IsOk,
 ghost use Rattle.apl_arrays.specs.List.{glyphs_in};
 ghost use Rattle.sv_events.specs.Answer.{PlainAnswer, plain_answer};
 ghost use Rattle.apl_terminal.specs.Terminal.{new_terminal};
-ghost use Rattle.apl_session.specs.Standing.{ComesTo, GoesOn, IsAnswered, IsOpenLine, MayAdvance, StandsIn};
+ghost use Rattle.apl_session.specs.Standing.{Asked, ComesTo, GoesOn, IsAnswered, IsOpenLine, MayAdvance, StandsIn};
 
 use crate::under_way::UnderWay;
 use apl_arrays::{Line, LineList, WantOfMemory};
@@ -44,7 +44,7 @@ impl Progress {
         lines: &[Line],
         steps: &mut Steps<L>,
     ) -> Result<Option<Act>, WantOfMemory>
-        requires { MayAdvance self.old.under_way }
+        requires { MayAdvance self.old.terminal self.old.under_way }
         ensures { IfOk result (λ asked. (answers : List PlainAnswer) → StandsIn (map glyphs_in lines.now) answers self.old → ComesTo (map glyphs_in lines.now) answers asked self.new) }
     {
         let mut asked = self.go_on(steps)?;
@@ -87,13 +87,15 @@ impl Progress {
 
     // Goes on with the line whose act was answered, if there is one.
     fn go_on<L: Ledger>(&mut self, steps: &mut Steps<L>) -> Result<Option<Act>, WantOfMemory>
-        requires { MayAdvance self.old.under_way }
+        requires { MayAdvance self.old.terminal self.old.under_way }
         ensures stands { IfOk result (λ asked. (lines : List (List ℕ)) (answers : List PlainAnswer) → StandsIn lines answers self.old → GoesOn lines answers asked self.new) }
+        ensures paused { IfOk result (Asked self.new.under_way) }
         ensures read { self.new.read ≡ self.old.read }
     {
         match mem::replace(&mut self.under_way, UnderWay::Nothing) {
+            UnderWay::Nothing => Ok(None),
             UnderWay::Answered(machine) => self.run(machine, steps),
-            _ => Ok(None),
+            UnderWay::Asking(..) => Err(WantOfMemory),
         }
     }
 }

@@ -1,0 +1,106 @@
+-- From what the parts of a call promise to what the call does.
+use Rattle.std.proofs.Common.{◌≡◌, ℕ, ◌+◌, ◌<◌, Bool, true, false, List, [], ◌∷◌, ◌++◌, drop, get_or, length, refl, sym, ap, subst, ◌∙◌, append-nil, arith}
+use Rattle.std.proofs.lemmas.List.{drop_more, get_or-map, length-map}
+use Rattle.std.specs.Prelude.{Option, Some, None, Err, map}
+use Rattle.apl_arrays.specs.List.{Listed, glyphs_in}
+use Rattle.apl_arrays.specs.declared.report.Report.{Report}
+use Rattle.apl_machine.specs.Machine.{IsIdle, IsOpenAct, IsOpenStage, MayRun, PlainMachine, idle_on, silent}
+use Rattle.apl_machine.specs.Runs.{IsTreeOf, Stands, StandsOn}
+use Rattle.apl_machine.proofs.OpenStage.{open_stage}
+use Rattle.apl_meaning.specs.Meaning.{most_statements}
+use Rattle.apl_meaning.specs.Reading.{read_with}
+use Rattle.apl_workspace.specs.Workspace.{PlainWorkspace, empty_workspace}
+use Rattle.fn_editor.specs.Opening.{opened}
+use Rattle.line_trees.specs.Parsing.{PlainTree}
+use Rattle.line_trees.specs.Trees.{line_tree_of}
+use Rattle.sv_events.specs.Answer.{PlainAnswer}
+use Rattle.sv_events.specs.declared.event.Act.{Act}
+use Rattle.apl_terminal.specs.LineKind.{is_opening}
+use Rattle.apl_terminal.specs.Terminal.{PlainTerminal, echoing, editing, free_prompt, reporting}
+use Rattle.session_rules.specs.Course.{with_terminal}
+use Rattle.session_rules.specs.Session.{free_line, statement_done}
+use Rattle.apl_session.specs.Standing.{Asked, ComesTo, GoesOn, IsAnswered, IsAt, IsOpenLine, IsUnderWay, MayAdvance, StandsBy, StandsIn}
+use Rattle.apl_session.specs.declared.progress.Progress.{Progress}
+use Rattle.apl_session.specs.declared.under_way.UnderWay.{UnderWay}
+use Rattle.apl_session.specs.declared.under_way.UnderWay.TheVariants as under_way
+use Rattle.apl_session.proofs.Going.{begun_at, refused_at, taken_on}
+use Rattle.apl_session.proofs.Inside.{echoed_at, opening_at, rests, statement_at}
+
+-- ---- what asked
+
+-- where nothing is under way nothing was asked
+pub none_asked_by : (u : UnderWay) → u ≡ under_way.Nothing → Asked u None
+none_asked_by u nothing = subst (λ (x : UnderWay). Asked x None) (sym nothing) refl
+
+-- and where nothing was asked nothing is under way
+pub nothing_by : (u : UnderWay) (asked : Option Act) → Asked u asked → asked ≡ None → u ≡ under_way.Nothing
+nothing_by under_way.Nothing asked is none = refl
+nothing_by (under_way.Asking m act) asked is none = absurd (let no : Some act ≡ None = sym is ∙ none in cc)
+nothing_by (under_way.Answered m) asked is none = absurd is
+
+-- ---- lines
+
+-- the line at a place, and those behind it
+pub line_at : (lines : List (Listed ℕ)) (read : ℕ) (found : Listed ℕ) → read < length lines → found ≡ get_or lines read found → drop read (map glyphs_in lines) ≡ glyphs_in found ∷ drop (read + 1) (map glyphs_in lines)
+line_at lines read found within is =
+    drop_more (map glyphs_in lines) read found.items (omega (arith, within, length-map lines glyphs_in))
+    ∙ ap (λ first. first ∷ drop (read + 1) (map glyphs_in lines)) (get_or-map glyphs_in lines read found found.items within ∙ sym (ap glyphs_in is))
+
+-- a line that opens a definition
+pub opened_on : (lines : List (List ℕ)) (line : List ℕ) (answers : List PlainAnswer) (t told : PlainTerminal) (p : Progress) → is_opening line ≡ true → told ≡ echoing free_prompt line t → p.terminal ≡ editing line (opened told.workspace line) told
+    → p.under_way ≡ under_way.Nothing → IsAt lines answers p.read (λ c. free_line most_statements line (with_terminal (echoing free_prompt line c.terminal) c)) t → GoesOn lines answers None p
+opened_on lines line answers t told p opens echoed is nothing h =
+    let there : p.terminal ≡ editing line (opened (echoing free_prompt line t).workspace line) (echoing free_prompt line t) = is ∙ ap (λ (s : PlainTerminal). editing line (opened s.workspace line) s) echoed in
+    rests lines answers p nothing (subst (λ (s : PlainTerminal). IsAt lines answers p.read (λ c. c) s) (sym there) (opening_at lines line answers p.read (echoing free_prompt line t) opens (echoed_at lines line answers p.read t h)))
+
+-- a line that is a statement
+pub statement_on : (lines : List (List ℕ)) (line : List ℕ) (answers : List PlainAnswer) (read : ℕ) (t told : PlainTerminal) → is_opening line ≡ false → told ≡ echoing free_prompt line t
+    → IsAt lines answers read (λ c. free_line most_statements line (with_terminal (echoing free_prompt line c.terminal) c)) t → IsAt lines answers read (statement_done most_statements line) told
+statement_on lines line answers read t told opens echoed h =
+    subst (λ (s : PlainTerminal). IsAt lines answers read (statement_done most_statements line) s) (sym echoed) (statement_at lines line answers read (echoing free_prompt line t) opens (echoed_at lines line answers read t h))
+
+-- ---- the machine
+
+-- a statement that was begun
+pub evaluated_on : (lines : List (List ℕ)) (line : List ℕ) (answers : List PlainAnswer) (read : ℕ) (t lent : PlainTerminal) (w seen : PlainWorkspace) (tree : PlainTree) (fresh m : PlainMachine) → lent ≡ record t { workspace = empty_workspace } → w ≡ t.workspace
+    → fresh ≡ idle_on w → seen ≡ t.workspace → IsTreeOf seen line tree → Stands m (line_tree_of tree) line fresh.interpreter.workspace fresh.interpreter.output [] 0 [] → IsAt lines answers read (statement_done most_statements line) t
+    → IsUnderWay lines answers read lent.transcript m
+evaluated_on lines line answers read t lent w seen tree fresh m left same new here is stands h =
+    let tree_there : IsTreeOf t.workspace line tree = subst (λ (x : PlainWorkspace). IsTreeOf x line tree) here is in
+    let there : Stands m (line_tree_of tree) line t.workspace [] [] 0 [] =
+    subst (λ (x : PlainMachine). Stands m (line_tree_of tree) line x.interpreter.workspace x.interpreter.output [] 0 []) (new ∙ ap idle_on same) stands in
+    subst (λ (printed : List (List ℕ)). IsUnderWay lines answers read printed m) (sym (ap (λ (s : PlainTerminal). s.transcript) left)) (begun_at lines line answers read t tree m h tree_there there)
+
+-- or refused
+pub refused_on : (lines : List (List ℕ)) (line : List ℕ) (answers : List PlainAnswer) (t : PlainTerminal) (seen : PlainWorkspace) (report : Report) (p : Progress) → p.under_way ≡ under_way.Nothing → p.terminal ≡ reporting report line t → seen ≡ t.workspace → seen.frames ≡ []
+    → t.definition ≡ None → read_with seen line ≡ Err report → IsAt lines answers p.read (statement_done most_statements line) t → GoesOn lines answers None p
+refused_on lines line answers t seen report p nothing is here frames free refused h =
+    rests lines answers p nothing
+    (subst (λ (s : PlainTerminal). IsAt lines answers p.read (λ c. c) s) (sym is)
+    (refused_at lines line answers p.read t report h (subst (λ (w : PlainWorkspace). read_with w line ≡ Err report) here refused) (sym (ap (λ (w : PlainWorkspace). w.frames) here) ∙ frames) free))
+
+-- a machine that is idle is so without its lines
+pub idle_after : (n after : PlainMachine) → IsIdle n → after ≡ silent n → IsIdle after
+idle_after n after idle is = subst IsIdle (sym is) (record { stage = idle.stage; stack = idle.stack; frames = idle.frames })
+
+-- the act of a line that waits is open
+pub open_there : (u : UnderWay) (m : PlainMachine) (act : Act) → u ≡ under_way.Asking m act → IsOpenLine u → IsOpenStage m.stage
+open_there u m act waiting h =
+    let is : IsOpenAct m act = subst IsOpenLine waiting h in open_stage m.interpreter.workspace m.stage act is
+
+-- a line whose act is answered
+pub answered_on : (lines : List (List ℕ)) (answers : List PlainAnswer) (act : Act) (answer : PlainAnswer) (m n : PlainMachine) (before after : Progress) → before.under_way ≡ under_way.Asking m act → after ≡ record before { under_way = under_way.Answered n }
+    → StandsOn m 0 (answer ∷ []) [] n → MayRun n.stage → StandsIn lines answers before → IsAnswered lines answers act answer after
+answered_on lines answers act answer m n before after waiting is on runs h =
+    let at : StandsBy lines answers before.read before.terminal (under_way.Asking m act) = subst (λ (u : UnderWay). StandsBy lines answers before.read before.terminal u) waiting h in
+    let there : IsUnderWay lines (answers ++ answer ∷ []) before.read before.terminal.transcript n =
+    subst (λ printed. IsUnderWay lines (answers ++ answer ∷ []) before.read printed n) (append-nil before.terminal.transcript) (taken_on lines answers (answer ∷ []) before.read 0 before.terminal.transcript [] m n at.1 on) in
+    subst (λ (p : Progress). IsAnswered lines answers act answer p) (sym is) (record { waited = at.2.waits; stands = (at.0, there, runs); may = (at.0, runs) })
+
+-- a line that was answered is under way
+pub answered_there : (lines : List (List ℕ)) (answers : List PlainAnswer) (p : Progress) (m : PlainMachine) → p.under_way ≡ under_way.Answered m → StandsIn lines answers p → IsUnderWay lines answers p.read p.terminal.transcript m
+answered_there lines answers p m waits h = let at : StandsBy lines answers p.read p.terminal (under_way.Answered m) = subst (λ (u : UnderWay). StandsBy lines answers p.read p.terminal u) waits h in at.1
+
+-- and it may run
+pub answered_runs : (t : PlainTerminal) (u : UnderWay) (m : PlainMachine) → u ≡ under_way.Answered m → MayAdvance t u → (t.definition ≡ None) × MayRun m.stage
+answered_runs t u m waits may = subst (MayAdvance t) waits may
