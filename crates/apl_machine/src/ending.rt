@@ -18,12 +18,12 @@ ghost use Rattle.apl_machine.specs.Work.{Falls};
 use crate::evaluation::{Evaluation, Purpose};
 use crate::flow::{Flow, Next};
 use crate::interpreter::Interpreter;
-use crate::reports::{function_line_shown, input_shown, report_line};
 use crate::values::{Held, array_of};
 use crate::waiting::{Waiting, function_of, header_of, line_numbered};
 use apl_arrays::{Array, Fail, Items, Line, Report, WantOfMemory};
 use apl_display::lines_of;
 use apl_execute::text_of;
+use apl_meaning::{function_line_shown, input_shown, report_line};
 use apl_workspace::{Function, Workspace};
 use std::alloc::Global;
 

@@ -20,7 +20,6 @@ mod place;
 mod printing;
 mod queries;
 mod reading;
-mod reports;
 mod rows;
 mod sharing;
 mod stepping;
@@ -29,3 +28,4 @@ mod waiting;
 
 pub use flow::Stop;
 pub use machine::{Machine, STATEMENT_LIMIT};
+pub use reading::tree_of;

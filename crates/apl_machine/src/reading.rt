@@ -6,6 +6,7 @@ ghost use Rattle.line_trees.specs.Trees.{line_tree_of};
 ghost use Rattle.apl_meaning.specs.Reading.{read_with};
 ghost use Rattle.apl_meaning.specs.Statements.{is_misplaced};
 ghost use Rattle.apl_machine.specs.Evaluating.{plain_place};
+ghost use Rattle.apl_machine.specs.Runs.{IsTreeOf};
 ghost use Rattle.apl_machine.specs.Parts.{IsNotParsed, IsNotRead, IsNotScanned, IsPart, IsReadFrom, IsReading, begins_silent, is_assignment_node, plain_part, plain_parts, reading_statement, reading_tree};
 
 use crate::part::Part;
@@ -88,10 +89,19 @@ pub fn read(alloc: Global, workspace: &Workspace, text: &Line) -> Result<Reading
     ensures read { IfOk result (IsReadFrom workspace.now text.now.items) }
     ensures refused { IfErr result (IsNotRead (read_with workspace.now text.now.items)) }
 {
+    let tree = tree_of(alloc, workspace, text)?;
+    Ok(Reading::of(alloc, tree)?)
+}
+
+/// The tree of a text, with the classes of this moment: CHARACTER ERROR where a glyph stands that no token has, else SYNTAX
+/// ERROR where the text is no statement. It takes memory for tokens, classes and nodes.
+pub fn tree_of(alloc: Global, workspace: &Workspace, text: &Line) -> Result<Tree, Fail>
+    ensures tree { IfOk result (λ tree. IsTreeOf workspace.now text.now.items (plain_tree tree)) }
+    ensures refused { IfErr result (IsNotRead (read_with workspace.now text.now.items)) }
+{
     let tokens = scanned(alloc, text)?;
     let classes = classes_of(alloc, workspace)?;
-    let tree = parsed(alloc, &tokens, &classes)?;
-    Ok(Reading::of(alloc, tree)?)
+    parsed(alloc, &tokens, &classes)
 }
 
 // The tokens of a text, or the report of its first error.

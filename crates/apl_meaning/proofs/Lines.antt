@@ -1,5 +1,5 @@
 -- Lines are steady, and so is what is begun under them.
-use Rattle.std.proofs.Common.{◌≡◌, ℕ, zero, suc, ◌+◌, Bool, true, false, List, [], ◌∷◌, ◌++◌, refl, sym, ap, subst, arith, append-nil, length}
+use Rattle.std.proofs.Common.{◌≡◌, ℕ, zero, suc, ◌+◌, Bool, true, false, List, [], ◌∷◌, ◌++◌, refl, sym, ap, ◌∙◌, subst, arith, append-nil, length}
 use Rattle.std.specs.Prelude.{Option, Some, None, Ok, Err, nat_le}
 use Rattle.apl_arrays.specs.declared.report.Report.TheVariants.{Interrupt, Syntax}
 use Rattle.apl_display.specs.Display.{display_lines}
@@ -16,14 +16,14 @@ use Rattle.apl_meaning.specs.Printing.{line_printed, lines_printed, report_lines
 use Rattle.apl_meaning.specs.Reading.{Read, read_with}
 use Rattle.apl_meaning.specs.Statements.{branch_to, is_misplaced, is_silent, line_by, line_outcome, place_of_text, read_outcome, shown, statement_outcome, text_outcome}
 use Rattle.apl_meaning.specs.Meaning.{closed, ended_by_report, function_line, mean, run_below, start_of}
-use Rattle.apl_meaning.specs.Laws.{with_more, IsOver, and_more, IsAfter}
-use Rattle.apl_meaning.proofs.Steady.{IsSteady, as_before, later, itself, quiet, given, refused, resulting, by_bool, by_workspace, shown_at, both}
+use Rattle.apl_meaning.specs.Laws.{with_more, IsOver, and_more, IsAfter, GoesOnIn, Takes}
+use Rattle.apl_meaning.proofs.Steady.{IsSteady, as_before, later, itself, quiet, given, refused, resulting, takes_from, by_bool, by_workspace, shown_at, both}
 use Rattle.apl_meaning.proofs.Trees.{IsSteadyRun, needs, evaluates}
 
 -- ---- what is printed
 
 pub printing : (line : List ℕ) (w : PlainWorkspace) → IsSteady {T = Unit {0}} (λ (s : State). gives tt (record s { printed = s.printed ++ line ∷ []; workspace = with_printed w (length line) }))
-printing line w = quiet (λ s. tt) (λ s more. refl) (λ s. record { lines = line ∷ []; printed = refl; acts = []; asked = sym (append-nil s.asked); applications = omega arith; statements = omega arith })
+printing line w = quiet (λ s. tt) (λ s more. refl) (λ s. record { lines = line ∷ []; printed = refl; acts = []; asked = sym (append-nil s.asked); applications = omega arith; statements = omega arith }) (λ s. refl) (λ s. refl)
 
 prints : (line : List ℕ) → IsSteady (line_printed line)
 prints line = by_workspace (λ w. by_bool (nat_le (w.printed + length line) most_printed) (printing line w) (refused Interrupt))
@@ -74,11 +74,21 @@ begun_further : {T : Type 0} (next : State → Outcome T) → IsSteady next → 
 begun_further next h zero s more = as_before s (with_more more s) refl refl (omega arith) (omega arith)
 begun_further next h (suc left) s more = h.further (record s { statements = left }) more
 
+begun_takes : {T : Type 0} (next : State → Outcome T) → IsSteady next → (n : ℕ) (s : State) → Takes s (begun_by n next s)
+begun_takes {T} next h zero s = (refused {T = T} Interrupt).takes s
+begun_takes next h (suc left) s = takes_from (record s { statements = left }) s (next (record s { statements = left })) refl refl (h.takes (record s { statements = left }))
+
+begun_next : {T : Type 0} (next : State → Outcome T) → IsSteady next → (n : ℕ) (s : State) (answer : PlainAnswer) (more : List PlainAnswer) → GoesOnIn (begun_by n next s) (begun_by n next (with_more (answer ∷ more) s))
+begun_next next h zero s answer more = tt
+begun_next next h (suc left) s answer more = h.next (record s { statements = left }) answer more
+
 pub begins : {T : Type 0} (next : State → Outcome T) → IsSteady next → IsSteady (begun next)
 begins next h = record {
   back = λ s more over. begun_back next h s.statements s more over;
   after = λ s. begun_after next h s.statements s refl;
   further = λ s more. begun_further next h s.statements s more;
+  takes = λ s. begun_takes next h s.statements s;
+  next = λ s answer more. begun_next next h s.statements s answer more;
 }
 
 function_lines : (run : Run) → IsSteadyRun run → (function : PlainFunction) (number : ℕ) (line : Option (List ℕ)) → IsSteady (function_line run function number line)
@@ -130,3 +140,31 @@ comes_first tree line w answers more left =
     let h = line_alone tree left in
     let s = start_of line w answers left in
     closed_further more (begun (line_outcome (run_below left) immediate tree) s) (begun (line_outcome (run_below left) immediate tree) (with_more more s)) (h.back s more) (h.further s more)
+
+-- ---- the answers that a line takes
+
+closed_takes : (s : State) (o : Outcome Next) → Takes s o → Takes s (closed o)
+closed_takes s (gives next t) k = record { taken = k.taken; acts = k.acts; answers = k.answers; asked = k.asked; one_by_one = k.one_by_one; reported = k.reported; in_need = tt }
+closed_takes s (refuses report t) k = record { taken = k.taken; acts = k.acts; answers = k.answers; asked = k.asked; one_by_one = k.one_by_one; reported = k.reported; in_need = tt }
+closed_takes s (asks act t) k = record { taken = k.taken; acts = k.acts; answers = k.answers; asked = k.asked; one_by_one = k.one_by_one; reported = k.reported; in_need = k.in_need }
+
+closed_asked : (o : Outcome Next) → (state_of (closed o)).asked ≡ (state_of o).asked
+closed_asked (gives next s) = refl
+closed_asked (refuses report s) = refl
+closed_asked (asks act s) = refl
+
+closed_next : (o p : Outcome Next) → GoesOnIn o p → GoesOnIn (closed o) (closed p)
+closed_next (gives next s) p n = tt
+closed_next (refuses report s) p n = tt
+closed_next (asks act s) p n = (n.0, closed_asked p ∙ n.1)
+
+-- a line takes its answers one by each act
+pub line_takes : (tree : LineTree) (line : List ℕ) (w : PlainWorkspace) (answers : List PlainAnswer) (left : ℕ) → Takes (start_of line w answers left) (mean tree line w answers left)
+line_takes tree line w answers left =
+    let s = start_of line w answers left in closed_takes s (begun (line_outcome (run_below left) immediate tree) s) ((line_alone tree left).takes s)
+
+-- with an answer more, the act that waits is the next that is asked and answered
+pub line_next : (tree : LineTree) (line : List ℕ) (w : PlainWorkspace) (answers more : List PlainAnswer) (answer : PlainAnswer) (left : ℕ) → GoesOnIn (mean tree line w answers left) (mean tree line w (answers ++ answer ∷ more) left)
+line_next tree line w answers more answer left =
+    let s = start_of line w answers left in
+    closed_next (begun (line_outcome (run_below left) immediate tree) s) (begun (line_outcome (run_below left) immediate tree) (with_more (answer ∷ more) s)) ((line_alone tree left).next s answer more)

@@ -1,5 +1,5 @@
 -- References, assignments and shared variable functions are steady.
-use Rattle.std.proofs.Common.{ℕ, ◌+◌, Bool, true, false, List, [], ◌∷◌, ◌++◌, refl, arith}
+use Rattle.std.proofs.Common.{◌≡◌, ℕ, ◌+◌, Bool, true, false, List, [], ◌∷◌, ◌++◌, refl, arith}
 use Rattle.std.specs.Prelude.{ℤ, pos, ◌==◌, map, Option, Some, None, Result, Ok, Err, unsigned_abs, unwrap_or}
 use Rattle.apl_arrays.specs.Array.{PlainArray, item_count, numbers_in, scalar}
 use Rattle.apl_arrays.specs.declared.report.Report.{Report}
@@ -15,7 +15,8 @@ use Rattle.apl_workspace.specs.declared.meaning.Meaning.TheVariants as meaning
 use Rattle.apl_arrays.specs.declared.system.SystemName.{SystemName}
 use Rattle.apl_arrays.specs.declared.system.SystemName.TheVariants.{Svo, Svc, Svr, Svq, Svs}
 use Rattle.sv_events.specs.Answer.{PlainAnswer}
-use Rattle.sv_events.specs.Row.{answer_row}
+use Rattle.sv_events.specs.Fits.{ends_all}
+use Rattle.sv_events.specs.Row.{act_row, answer_row}
 use Rattle.sv_events.specs.declared.event.Act.{Act}
 use Rattle.sv_events.specs.declared.event.Act.TheVariants as act
 use Rattle.apl_meaning.specs.State.{State, Outcome, outcome_of}
@@ -39,10 +40,10 @@ taken_over name None = refused Value
 taken_over name (Some value) = both (copied name value) (λ _. given value)
 
 used : (name : List ℕ) → IsSteady (use_of name)
-used name = both (answered (act.Use name)) (λ answer. taken_over name (answer_row answer).value)
+used name = both (answered (act.Use name) refl) (λ answer. taken_over name (answer_row answer).value)
 
 set : (name : List ℕ) (value : PlainArray) → IsSteady (set_of name value)
-set name value = both (answered (act.Set name value)) (λ _. copied name value)
+set name value = both (answered (act.Set name value) refl) (λ _. copied name value)
 
 pub referred_by : (m : Meaning) (name : List ℕ) → IsSteady (reference_by m name)
 referred_by meaning.Nothing name = refused Value
@@ -81,21 +82,21 @@ pub applies : (f : Verb) (left : Option PlainArray) (right : PlainArray) (axis :
 applies f left right axis = by_bool (may_be_applied f left axis) (counted (applied f left right axis)) (refused Syntax)
   where
     counted : (r : Result PlainArray Report) → IsSteady (λ (s : State). outcome_of r (record s { applications = s.applications + 1 }))
-    counted (Ok value) = quiet (λ s. tt) (λ s more. refl) (λ s. as_before s (record s { applications = s.applications + 1 }) refl refl (omega arith) (omega arith))
-    counted (Err report) = quiet (λ s. tt) (λ s more. refl) (λ s. as_before s (record s { applications = s.applications + 1 }) refl refl (omega arith) (omega arith))
+    counted (Ok value) = quiet (λ s. tt) (λ s more. refl) (λ s. as_before s (record s { applications = s.applications + 1 }) refl refl (omega arith) (omega arith)) (λ s. refl) (λ s. refl)
+    counted (Err report) = quiet (λ s. tt) (λ s more. refl) (λ s. as_before s (record s { applications = s.applications + 1 }) refl refl (omega arith) (omega arith)) (λ s. refl) (λ s. refl)
 
 -- ---- rows
 
-questioned : (told : PlainAnswer → List ℤ) (asked : Act) → IsSteady (question told asked)
-questioned told asked = both (answered asked) (λ answer. given (told answer))
+questioned : (told : PlainAnswer → List ℤ) (asked : Act) → ends_all (act_row asked).row.ends ≡ false → IsSteady (question told asked)
+questioned told asked stays = both (answered asked stays) (λ answer. given (told answer))
 
 offered : (to : ℕ) (names : Naming) (value : Option PlainArray) → IsSteady (offering to names value)
 offered to names value =
-    both (answered (act.Offer to names.local names.surrogate value)) (λ answer.
+    both (answered (act.Offer to names.local names.surrogate value) refl) (λ answer.
     changed (degree_in answer) (λ w. marked w (record { local = names.local; surrogate = names.surrogate; to = to }) value))
 
 retracted : (name : List ℕ) → IsSteady (retraction name)
-retracted name = both (answered (act.Retract name)) (λ answer. changed (degree_in answer) (λ w. unmarked w name (answer_row answer).value))
+retracted name = both (answered (act.Retract name) refl) (λ answer. changed (degree_in answer) (λ w. unmarked w name (answer_row answer).value))
 
 shared_by : (b : Bool) (none : List ℤ) (next : State → Outcome (List ℤ)) → IsSteady next → IsSteady (where_shared b none next)
 shared_by true none next h = h
@@ -106,10 +107,10 @@ if_it_is name none next h = by_workspace (λ w. shared_by _ none next h)
 
 pub does : (deed : Deed) (names : Naming) → IsSteady (done_for deed names)
 does (offer to) names = by_workspace (λ w. offered to names _)
-does ask_degree names = if_it_is names.local _ _ (questioned degree_in (act.AskDegree names.local))
-does (set_control control) names = if_it_is names.local _ _ (questioned vector_in (act.SetControl names.local control))
-does ask_control names = if_it_is names.local _ _ (questioned vector_in (act.AskControl names.local))
-does ask_state names = if_it_is names.local _ _ (questioned vector_in (act.AskState names.local))
+does ask_degree names = if_it_is names.local _ _ (questioned degree_in (act.AskDegree names.local) refl)
+does (set_control control) names = if_it_is names.local _ _ (questioned vector_in (act.SetControl names.local control) refl)
+does ask_control names = if_it_is names.local _ _ (questioned vector_in (act.AskControl names.local) refl)
+does ask_state names = if_it_is names.local _ _ (questioned vector_in (act.AskState names.local) refl)
 does retract names = if_it_is names.local _ _ (retracted names.local)
 
 does_all : (rows : List (Naming × Deed)) → IsSteady (done_for_all rows)
@@ -129,8 +130,8 @@ pub listed : (array : PlainArray) → IsSteady (list_outcome array)
 listed array = resulting _
 
 asked_by : (b : Bool) (array : PlainArray) → IsSteady (query_by b array)
-asked_by true array = both (answered act.AskParties) (λ answer. listed (party_vector (unwrap_or (answer_row answer).parties [])))
-asked_by false array = both (answered (act.AskNames (unsigned_abs (number_at (numbers_in array.items) 0)))) (λ answer. listed (name_matrix (unwrap_or (answer_row answer).names [])))
+asked_by true array = both (answered act.AskParties refl) (λ answer. listed (party_vector (unwrap_or (answer_row answer).parties [])))
+asked_by false array = both (answered (act.AskNames (unsigned_abs (number_at (numbers_in array.items) 0))) refl) (λ answer. listed (name_matrix (unwrap_or (answer_row answer).names [])))
 
 pub systematic : (f : SystemName) (left : Option PlainArray) (argument : PlainArray) → IsSteady (system_outcome f left argument)
 systematic Svo None n = all_rows (naming_faults n []) n [] (for_each_row n ask_degree)

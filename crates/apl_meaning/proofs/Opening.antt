@@ -20,8 +20,10 @@ use Rattle.apl_workspace.specs.declared.args.Args.{Args}
 use Rattle.apl_workspace.specs.declared.meaning.Meaning.{Meaning}
 use Rattle.apl_workspace.specs.declared.meaning.Meaning.TheVariants as meaning
 use Rattle.sv_events.specs.Answer.{PlainAnswer}
-use Rattle.sv_events.specs.Row.{answer_row}
+use Rattle.sv_events.specs.Fits.{ends_all}
+use Rattle.sv_events.specs.Row.{act_row, answer_row}
 use Rattle.sv_events.specs.declared.event.Act.{Act}
+use Rattle.sv_events.specs.declared.event.Act.TheVariants as act
 use Rattle.apl_meaning.specs.State.{State, Outcome, gives, refuses, asks, and_then, state_of, outcome_of, with_workspace}
 use Rattle.apl_meaning.specs.Answers.{answer_to, report_of_kind, taken_from, unless_ended}
 use Rattle.apl_meaning.specs.Laws.{IsAfter, IsOpening, NoneShared, NoneSharedIn, SharesNothing}
@@ -247,9 +249,23 @@ good_resulting (Err r) = good_refused r
 pub good_both : {A B : Type 0} {f : State → Outcome A} {g : A → State → Outcome B} → IsGood f → ((v : A) → IsGood (g v)) → IsGood (λ (s : State). and_then (f s) g)
 good_both {A} {B} {f} {g} hf hg = record { steady = both hf.steady (λ v. (hg v).steady); opens = λ s h. opens_joined s (f s) g (λ v. (hg v).steady) (λ v. (hg v).opens) (hf.opens s h) }
 
+-- an opening act is no leave
+opening_stays : (a : Act) → IsOpening a → ends_all (act_row a).row.ends ≡ false
+opening_stays (act.Offer to local surrogate value) h = refl
+opening_stays (act.Retract name) h = absurd h
+opening_stays (act.SetControl name control) h = absurd h
+opening_stays (act.AskControl name) h = absurd h
+opening_stays (act.AskState name) h = absurd h
+opening_stays (act.AskDegree name) h = absurd h
+opening_stays act.AskParties h = refl
+opening_stays (act.AskNames party) h = refl
+opening_stays (act.Set name value) h = absurd h
+opening_stays (act.Use name) h = absurd h
+opening_stays act.Leave h = absurd h
+
 -- an opening act, and whatever follows
 pub good_opening : {B : Type 0} {g : PlainAnswer → State → Outcome B} (a : Act) → IsOpening a → ((v : PlainAnswer) → IsSteady (g v)) → IsGood (λ (s : State). and_then (answer_to a s) g)
-good_opening {B} {g} a h steady = record { steady = both (answered a) steady; opens = λ s none. surely_joined s (answer_to a s) g steady (surely s.answers s a h) }
+good_opening {B} {g} a h steady = record { steady = both (answered a (opening_stays a h)) steady; opens = λ s none. surely_joined s (answer_to a s) g steady (surely s.answers s a h) }
 
 pub good_by_workspace : {T : Type 0} {f : PlainWorkspace → State → Outcome T} → ((w : PlainWorkspace) → IsSteady (f w)) → ((w : PlainWorkspace) → SharesNothing w → Opens (f w)) → IsGood (λ (s : State). f s.workspace s)
 good_by_workspace {T} {f} steady opens = record { steady = by_workspace steady; opens = λ s h. opens s.workspace h s h }

@@ -32,7 +32,7 @@ pub enters : (name : List ℕ) (args : Args) → IsSteady (entering name args)
 enters name args = by_workspace (λ w. by_bool (nat_le most_depth (length w.frames)) (refused WsFull) (weighed (λ _. with_frame w name args)))
 
 pub leaves : (function : PlainFunction) (caller : List ℕ) → IsSteady (leaving function caller)
-leaves function caller = quiet (λ s. tt) (λ s more. refl) (λ s. as_before s (record s { workspace = without_frame s.workspace; here = caller }) refl refl (omega arith) (omega arith))
+leaves function caller = quiet (λ s. tt) (λ s more. refl) (λ s. as_before s (record s { workspace = without_frame s.workspace; here = caller }) refl refl (omega arith) (omega arith)) (λ s. refl) (λ s. refl)
 
 called_by : (run : Run) → IsSteadyRun run → (m : Meaning) (name : List ℕ) (args : Args) → IsSteady (call_by run m name args)
 called_by run h meaning.Nothing name args = refused Syntax

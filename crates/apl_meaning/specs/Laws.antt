@@ -1,11 +1,14 @@
--- What holds of every line: answers that it does not take come back; what came of it with fewer answers is the beginning of what comes of it with more; and where no name is shared its first act is an offer or a query.
-use Rattle.std.specs.Prelude.{◌≡◌, ◌≤◌, ◌++◌, ℕ, false, List, [], ◌∷◌, Option, Some, None}
+-- What holds of every line: it takes its answers one by each act, and those that it does not take come back; what came of it with fewer answers is the beginning of what comes of it with more; and where no name is shared its first act is an offer or a query.
+use Rattle.std.specs.Prelude.{◌≡◌, ◌≤◌, ◌++◌, ℕ, Bool, false, List, [], ◌∷◌, Option, Some, None, count_by, is_some, length}
 use Rattle.apl_workspace.specs.Meaning.{NameTable, is_shared_meaning}
 use Rattle.apl_workspace.specs.Workspace.{PlainWorkspace}
 use Rattle.sv_events.specs.Answer.{PlainAnswer}
+use Rattle.sv_events.specs.Fits.{ends_all}
+use Rattle.sv_events.specs.Row.{act_row, answer_row}
 use Rattle.sv_events.specs.declared.event.Act.{Act}
 use Rattle.sv_events.specs.declared.event.Act.TheVariants as act
-use Rattle.apl_meaning.specs.State.{State, Outcome, gives, refuses, asks}
+use Rattle.apl_meaning.specs.Answers.{report_of_kind}
+use Rattle.apl_meaning.specs.State.{State, Outcome, gives, refuses, asks, state_of}
 
 -- more answers behind those that are left
 abbrev pub with_more : List PlainAnswer → State → State
@@ -31,6 +34,40 @@ pub record IsAfter (earlier later : State) : Type 0 where
   pub asked : later.asked ≡ earlier.asked ++ acts
   pub applications : earlier.applications ≤ later.applications
   pub statements : later.statements ≤ earlier.statements
+
+-- ---- the answers that a line takes
+
+-- an answer that is reported, which ends its line
+abbrev pub is_reported : PlainAnswer → Bool
+is_reported answer = is_some (report_of_kind (answer_row answer).row.kind)
+
+-- how many answers may have been reported: one, where the line ended by a report
+abbrev pub most_reported : {T : Type 0} → Outcome T → ℕ
+most_reported (gives value s) = 0
+most_reported (refuses report s) = 1
+most_reported (asks act s) = 0
+
+-- an act waits where all answers were taken, and it is no leave
+abbrev pub WaitsInNeed : {T : Type 0} → Outcome T → Type 0
+WaitsInNeed (gives value s) = Unit {0}
+WaitsInNeed (refuses report s) = Unit {0}
+WaitsInNeed (asks act s) = (s.answers ≡ []) × (ends_all (act_row act).row.ends ≡ false)
+
+-- a part of an evaluation took these answers, the first that there were, one by each act that it asked
+pub record Takes {T : Type 0} (s : State) (o : Outcome T) : Type 0 where
+  pub taken : List PlainAnswer
+  pub acts : List Act
+  pub answers : s.answers ≡ taken ++ (state_of o).answers
+  pub asked : (state_of o).asked ≡ s.asked ++ acts
+  pub one_by_one : length acts ≡ length taken
+  pub reported : count_by is_reported taken ≤ most_reported o
+  pub in_need : WaitsInNeed o
+
+-- where an act waited, it is the next one that was asked and answered in another outcome
+abbrev pub GoesOnIn : {A B : Type 0} → Outcome A → Outcome B → Type 0
+GoesOnIn (gives value s) o = Unit {0}
+GoesOnIn (refuses report s) o = Unit {0}
+GoesOnIn (asks act s) o = (acts : List Act) × ((state_of o).asked ≡ s.asked ++ act ∷ acts)
 
 -- ---- the first act of a line
 

@@ -1,5 +1,5 @@
 //! What holds of every line.
-ghost use Rattle.std.specs.Prelude.{◌≡◌, ◌<◌, ◌≤◌, ◌++◌, ℕ, List, []};
+ghost use Rattle.std.specs.Prelude.{◌≡◌, ◌<◌, ◌≤◌, ◌++◌, ◌∷◌, ℕ, List, []};
 ghost use Rattle.apl_workspace.specs.Workspace.{PlainWorkspace};
 ghost use Rattle.line_trees.specs.Trees.{Expr, LineTree, placed};
 ghost use Rattle.sv_events.specs.Answer.{PlainAnswer};
@@ -10,7 +10,7 @@ ghost use Rattle.apl_meaning.specs.Tasks.{Place, Run, Task, begun, immediate, li
 ghost use Rattle.apl_meaning.specs.Meaning.{closed, function_line, mean, ran, run_below, start_of};
 ghost use Rattle.apl_meaning.specs.Expressions.{evaluated};
 ghost use Rattle.apl_meaning.specs.Nodes.{after_nodes, found_in, ready};
-ghost use Rattle.apl_meaning.specs.Laws.{BeginsWithOpening, IsAfter, IsOver, SharesNothing, and_more, waiting_act};
+ghost use Rattle.apl_meaning.specs.Laws.{BeginsWithOpening, GoesOnIn, IsAfter, IsOver, SharesNothing, Takes, and_more, waiting_act};
 
 /// With more answers than a line takes, all is as without them, and they come back. The call does nothing. No memory.
 #[tactic(auto, using(crate::proofs::Lines::rest_comes_back))]
@@ -52,4 +52,16 @@ pub fn nodes_give_what_trees_give()
 pub fn offers_and_queries_come_first()
     ensures { (tree : LineTree) (line : List ℕ) (w : PlainWorkspace) (answers : List PlainAnswer) (left : ℕ)
         → SharesNothing w → BeginsWithOpening (state_of (mean tree line w answers left)).asked (waiting_act (mean tree line w answers left)) }
+{}
+
+/// A line takes its answers one by each act that it asks, of which none is a leave, and at most one answer is reported: that
+/// ends the line. The call does nothing. No memory.
+pub fn answers_are_taken_one_by_one()
+    ensures { (tree : LineTree) (line : List ℕ) (w : PlainWorkspace) (answers : List PlainAnswer) (left : ℕ) → Takes (start_of line w answers left) (mean tree line w answers left) }
+{}
+
+/// With an answer more, the act that waits is the next that is asked and answered. The call does nothing. No memory.
+pub fn the_act_that_waits_is_next()
+    ensures { (tree : LineTree) (line : List ℕ) (w : PlainWorkspace) (answers more : List PlainAnswer) (answer : PlainAnswer) (left : ℕ)
+        → GoesOnIn (mean tree line w answers left) (mean tree line w (answers ++ answer ∷ more) left) }
 {}

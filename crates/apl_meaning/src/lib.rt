@@ -3,6 +3,8 @@
 
 mod classes;
 pub mod laws;
+mod reports;
 pub mod worked;
 
 pub use classes::classes_of;
+pub use reports::{function_line_shown, input_shown, report_line};

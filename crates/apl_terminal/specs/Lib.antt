@@ -1,0 +1,2 @@
+pub mod LineKind
+pub mod Terminal

@@ -1,0 +1,5 @@
+pub mod Retrying
+pub mod Rounds
+pub mod Serving
+pub mod SoFar
+pub mod Stepping

@@ -1,0 +1,6 @@
+pub mod ServingLaws
+pub mod SoFar
+pub mod SoFarLaws
+pub mod TurnLaws
+pub mod Turns
+pub mod Worked

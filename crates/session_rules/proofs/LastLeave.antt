@@ -1,0 +1,34 @@
+-- Before each entry of a run some user has not left.
+use Rattle.std.proofs.Common.{◌≡◌, ℕ, ◌==◌, ◌||◌, ◌⊎◌, Bool, true, false, not, List, [], ◌∷◌, IsTrue, inl, inr, sym, ap, subst, ◌∙◌}
+use Rattle.std.proofs.lemmas.Bool.{and_parts, eq-eqb, eqb-true, or_cases, or_left, or_right}
+use Rattle.std.specs.List.{list_any}
+use Rattle.apl_arrays.specs.Parties.{clock_party, text_party}
+use Rattle.sv_events.specs.Entry.{PlainEntry}
+use Rattle.sv_rules.specs.Entries.{Entries, has_left}
+use Rattle.sv_rules.specs.Legal.{IsLegal, is_user}
+use Rattle.sv_rules.specs.Work.{is_auxiliary}
+use Rattle.session_rules.specs.Auxiliaries.{acts_among, some_stay}
+use Rattle.session_rules.specs.RunLaws.{NothingFollowsTheLastLeave}
+
+-- a user that has not left is one of those that stay
+user_stays : (users : List ℕ) (journal : Entries) (party : ℕ) → IsTrue (is_user users party) → IsTrue (not (has_left journal party)) → IsTrue (some_stay users journal)
+user_stays [] journal party is stays = absurd (let no : false ≡ true = is in cc)
+user_stays (user ∷ users) journal party is stays = elim (or_cases (user == party) (is_user users party) is) [
+  | inl same ↦ or_left _ _ (subst (λ number. not (has_left journal number) ≡ true) (sym (eqb-true user party same)) stays)
+  | inr other ↦ or_right _ _ (user_stays users journal party other stays)
+]
+
+-- an entry of an auxiliary comes while some user stays
+auxiliary_stays : (users : List ℕ) (party : ℕ) (journal : Entries) (e : PlainEntry) → e.party ≡ party → IsTrue (acts_among users party (e ∷ journal)) → IsTrue (some_stay users journal)
+auxiliary_stays users party journal e own among =
+    let first : (not (e.party == party) || some_stay users journal) ≡ true = (and_parts _ _ among).0 in
+    ap (λ (same : Bool). not same || some_stay users journal) (sym (eq-eqb e.party party own)) ∙ first
+
+pub last_leave : NothingFollowsTheLastLeave
+last_leave users journal e legal clock text = elim (or_cases (is_user users e.party) (is_auxiliary e.party) legal.0.party) [
+  | inl user ↦ user_stays users journal e.party user legal.0.present
+  | inr auxiliary ↦ elim (or_cases (e.party == clock_party) (e.party == text_party) auxiliary) [
+    | inl ten ↦ auxiliary_stays users clock_party journal e (eqb-true e.party clock_party ten) clock
+    | inr twenty ↦ auxiliary_stays users text_party journal e (eqb-true e.party text_party twenty) text
+  ]
+]

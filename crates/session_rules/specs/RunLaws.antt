@@ -1,0 +1,37 @@
+-- What holds of the parts of a run.
+use Rattle.std.specs.Prelude.{◌≡◌, ◌≢◌, ℕ, List, ◌∷◌, IsTrue}
+use Rattle.apl_arrays.specs.Array.{PlainArray}
+use Rattle.apl_arrays.specs.Parties.{clock_party, text_party}
+use Rattle.sv_events.specs.Entry.{PlainEntry}
+use Rattle.sv_rules.specs.Entries.{Entries}
+use Rattle.sv_rules.specs.Legal.{IsLegal}
+use Rattle.bundle_text.specs.Rules.{PlainBundle}
+use Rattle.bundle_text.specs.User.{PlainUser}
+use Rattle.sv_journal.specs.Output.{PlainTranscript}
+use Rattle.session_rules.specs.Auxiliaries.{IsAuxiliaryPart, acts_among, some_stay}
+use Rattle.session_rules.specs.Run.{AreUserParts}
+use Rattle.session_rules.specs.UserPart.{IsUserPart}
+
+-- a user's part stays true when an entry of another party follows
+abbrev pub OthersChangeNoUserPart : Type 0
+OthersChangeNoUserPart =
+    (journal : Entries) (user : PlainUser) (transcript : List (List ℕ)) (e : PlainEntry) →
+    IsUserPart journal user transcript → e.party ≢ user.number → IsUserPart (e ∷ journal) user transcript
+
+-- and so does an auxiliary's part
+abbrev pub OthersChangeNoAuxiliaryPart : {S : Type 0} → (S → ℕ → S → Type 0) → (S → ℕ → PlainArray → PlainArray → S → Type 0) → Type 0
+OthersChangeNoAuxiliaryPart {S = S} forgets replies =
+    (users : List ℕ) (party : ℕ) (journal : Entries) (start end : S) (e : PlainEntry) →
+    IsAuxiliaryPart forgets replies users party journal start end → e.party ≢ party → IsAuxiliaryPart forgets replies users party (e ∷ journal) start end
+
+-- a journal gives each user one transcript
+abbrev pub PartsMakeOneTranscript : Type 0
+PartsMakeOneTranscript =
+    (bundle : PlainBundle) (journal : Entries) (transcripts others : List PlainTranscript) →
+    AreUserParts journal bundle.users transcripts → AreUserParts journal bundle.users others → transcripts ≡ others
+
+-- before each entry of a run some user has not left: so nothing follows the last leave, and without users there is no entry
+abbrev pub NothingFollowsTheLastLeave : Type 0
+NothingFollowsTheLastLeave =
+    (users : List ℕ) (journal : Entries) (e : PlainEntry) → IsLegal users (e ∷ journal)
+    → IsTrue (acts_among users clock_party (e ∷ journal)) → IsTrue (acts_among users text_party (e ∷ journal)) → IsTrue (some_stay users journal)

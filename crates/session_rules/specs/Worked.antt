@@ -1,0 +1,23 @@
+-- Worked sessions: lines as they are written, and what comes of them.
+use Rattle.std.specs.Prelude.{ℕ, List, Option}
+use Rattle.apl_meaning.specs.Worked.{texts, worked_statements}
+use Rattle.sv_events.specs.Answer.{PlainAnswer}
+use Rattle.sv_events.specs.declared.event.Act.{Act}
+use Rattle.session_rules.specs.Course.{Course, beginning}
+use Rattle.session_rules.specs.Session.{lines_done}
+
+-- what comes of lines with these answers, where each may begin as many statements as a worked line
+abbrev pub worked : List (List ℕ) → List PlainAnswer → Course
+worked lines answers = lines_done worked_statements (texts lines) (beginning answers)
+
+-- what they echo and print
+abbrev pub shown_by : List (List ℕ) → List PlainAnswer → List (List ℕ)
+shown_by lines answers = (worked lines answers).terminal.transcript
+
+-- the acts that they ask and that are answered
+abbrev pub asked_by : List (List ℕ) → List PlainAnswer → List Act
+asked_by lines answers = (worked lines answers).acts
+
+-- the act that waits, if one does
+abbrev pub waits_in : List (List ℕ) → List PlainAnswer → Option Act
+waits_in lines answers = (worked lines answers).waits

@@ -1,0 +1,15 @@
+//! What a user's lines do, given the answers to their acts, and what a run of a bundle is: definitions, and their laws.
+#![tactic(auto)]
+
+mod run_laws;
+mod session_laws;
+pub mod worked;
+
+pub use run_laws::{
+    nothing_follows_the_last_leave, one_transcript_of_parts, others_change_no_auxiliary_part,
+    others_change_no_user_part,
+};
+pub use session_laws::{
+    answers_are_taken_one_by_one, more_answers_come_back, no_line_leaves, reports_end_their_lines,
+    the_next_answer_is_taken, transcripts_grow,
+};
