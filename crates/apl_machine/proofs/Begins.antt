@@ -12,11 +12,12 @@ use Rattle.apl_arrays.specs.declared.report.Fail.TheVariants as fail
 use Rattle.sv_events.specs.Answer.{PlainAnswer}
 use Rattle.sv_events.specs.declared.event.Act.{Act}
 use Rattle.apl_meaning.specs.State.{State, Outcome, refuses, and_then}
-use Rattle.apl_meaning.specs.Tasks.{Next, Place, begun, begun_by}
+use Rattle.apl_meaning.specs.Tasks.{Next, Place, begun, begun_by, text_at}
 use Rattle.apl_meaning.specs.Meaning.{closed, ran}
 use Rattle.apl_meaning.specs.Nodes.{ready}
 use Rattle.apl_meaning.specs.Reading.{Read, read_with}
 use Rattle.apl_meaning.specs.Statements.{is_misplaced, is_silent, line_by, line_outcome, read_outcome, statement_outcome, text_outcome}
+use Rattle.apl_meaning.proofs.Ran.{ran_text}
 use Rattle.apl_machine.specs.declared.evaluation.Evaluation.{Evaluation}
 use Rattle.apl_machine.specs.declared.evaluation.Purpose.{Purpose}
 use Rattle.apl_machine.specs.declared.flow.Flow.{Flow}
@@ -67,6 +68,15 @@ pub not_counted_comes : (m n : PlainInterpreter) (next : State → Outcome Next)
 not_counted_comes m n next why same is none =
     subst (λ (x : PlainInterpreter). Moves m (statement_leads m (λ s. begun next s)) 0 x (λ s. refuses why s)) (sym same)
     (subst (λ (r : Report). Moves m (statement_leads m (λ s. begun next s)) 0 m (λ s. refuses r s)) (sym is) (at_once m (statement_leads m (λ s. begun next s)) (λ s. refuses Interrupt s) (none_may m next none)))
+
+-- a text at a place is begun
+pub text_is_begun : (m : PlainInterpreter) (place : Place) (text : List ℕ) (s : State) → statement_leads m (λ s. ran (text_at place text) s) s ≡ statement_leads m (λ s. begun (text_outcome ran place text) s) s
+text_is_begun m place text s = ap (λ (o : Outcome Next). and_then o (λ next t. behind m.stack next t)) (ran_text place text s)
+
+-- what comes of it
+pub text_comes : (m n : PlainInterpreter) (place : Place) (text : List ℕ) (r : Result Flow Fail) → Comes m (statement_leads m (λ s. begun (text_outcome ran place text) s)) 0 n r → Comes m (statement_leads m (λ s. ran (text_at place text) s)) 0 n r
+text_comes m n place text r comes =
+    comes_as m n (statement_leads m (λ s. ran (text_at place text) s)) (statement_leads m (λ s. begun (text_outcome ran place text) s)) 0 r (λ asked count taken further. text_is_begun m place text (state_at m asked count taken further)) comes
 
 -- a text that was read
 pub text_read : (m : PlainInterpreter) (place : Place) (text : List ℕ) (reading : Reading) → IsReadFrom m.workspace text reading

@@ -6,7 +6,6 @@ pub mod Behind
 pub mod Brings
 pub mod Changed
 pub mod Controlled
-pub mod Ends
 pub mod Entered
 pub mod Enters
 pub mod Falling

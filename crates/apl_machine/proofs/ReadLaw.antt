@@ -1,12 +1,12 @@
 -- What is parsed are the nodes of the line for which they stand.
-use Rattle.std.proofs.Common.{◌≡◌, ℕ, List, length, refl, sym, ap, ◌∙◌}
+use Rattle.std.proofs.Common.{◌≡◌, ℕ, List, length, sym, ap, ◌∙◌}
 use Rattle.std.specs.Prelude.{All, Result, Ok, Err, IfOk, IfErr}
 use Rattle.line_scanner.specs.Scanning.{Scanned, reading_of}
 use Rattle.line_scanner.specs.Token.{PlainToken}
 use Rattle.line_trees.specs.declared.class.Class.{Class}
 use Rattle.line_trees.specs.Parsing.{Parsed, PlainTree, parsed, plain_tree}
 use Rattle.line_trees.specs.declared.tree.Tree.{Tree}
-use Rattle.line_trees.specs.Trees.{LineTree, as_nodes, line_tree_of}
+use Rattle.line_trees.specs.Trees.{as_nodes, line_tree_of}
 use Rattle.line_trees.proofs.Places.{tree_is_line}
 use Rattle.line_trees.proofs.TreeLaw.{line_again}
 use Rattle.apl_arrays.specs.declared.report.Fail.{Fail}

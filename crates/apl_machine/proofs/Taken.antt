@@ -5,7 +5,6 @@ use Rattle.std.proofs.lemmas.List.Elements.{All-cons, All-head, All-nil, All-tai
 use Rattle.apl_arrays.specs.Array.{PlainArray}
 use Rattle.apl_arrays.specs.declared.report.Fail.{Fail}
 use Rattle.apl_arrays.specs.declared.report.Fail.TheVariants as fail
-use Rattle.apl_arrays.specs.declared.report.Report.{Report}
 use Rattle.apl_items.specs.Answers.{Answer, Answers}
 use Rattle.apl_selection.specs.Assignment.{assign_of}
 use Rattle.apl_selection.specs.Indexing.{selection_of}

@@ -1,5 +1,5 @@
 -- What a step owes: what is still to come before it is still to come behind it.
-use Rattle.std.specs.Prelude.{◌≡◌, ◌<◌, ◌+◌, ◌++◌, ℕ, Bool, true, false, List, [], ◌∷◌, Option, Some, None, Result, Ok, Err}
+use Rattle.std.specs.Prelude.{◌≡◌, ◌<◌, ◌+◌, ℕ, Bool, true, false, List, Option, Some, None, Result, Ok, Err}
 use Rattle.apl_arrays.specs.Array.{PlainArray}
 use Rattle.apl_arrays.specs.declared.report.Fail.{Fail}
 use Rattle.apl_arrays.specs.declared.report.Fail.TheVariants as fail

@@ -1,5 +1,5 @@
 -- Where a machine stands in a line, and how it may stop: what the calls of a machine promise.
-use Rattle.std.specs.Prelude.{◌≡◌, ◌+◌, ◌++◌, ℕ, List, [], ◌∷◌, Ok, length}
+use Rattle.std.specs.Prelude.{◌≡◌, ◌+◌, ◌++◌, ℕ, List, [], Ok, length}
 use Rattle.apl_arrays.specs.declared.report.Report.{Report}
 use Rattle.apl_workspace.specs.Workspace.{PlainWorkspace}
 use Rattle.line_scanner.specs.Scanning.{reading_of}

@@ -1,4 +1,4 @@
-ghost use Rattle.std.specs.Prelude.{◌≡◌, ◌-◌, ◌≤◌, [], ◌∷◌, Ok, Err, IfErr, IfOk, IsErr, IsOk, OnErr, OnOk};
+ghost use Rattle.std.specs.Prelude.{◌≡◌, ◌-◌, ◌≤◌, [], ◌∷◌, Ok, Err, IfOk, IsErr, IsOk, OnErr, OnOk};
 ghost use Rattle.apl_arrays.specs.declared.report.Fail.TheVariants as fail;
 ghost use Rattle.line_trees.specs.Parsing.{plain_tree};
 ghost use Rattle.line_trees.specs.Trees.{line_tree_of};

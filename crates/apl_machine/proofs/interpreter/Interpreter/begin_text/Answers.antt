@@ -10,8 +10,7 @@ use Rattle.apl_machine.specs.Evaluating.{plain_place}
 use Rattle.apl_machine.specs.Interpreter.{PlainInterpreter}
 use Rattle.apl_machine.specs.Moves.{statement_leads}
 use Rattle.apl_machine.specs.Parts.{IsNotRead, IsReadFrom}
-use Rattle.apl_machine.proofs.Begins.{counted_comes, not_counted_comes, not_read_comes, read_comes}
-use Rattle.apl_machine.proofs.Ends.{text_comes}
+use Rattle.apl_machine.proofs.Begins.{counted_comes, not_counted_comes, not_read_comes, read_comes, text_comes}
 use Rattle.apl_machine.proofs.Same.{comes_exit}
 use Rattle.apl_machine.proofs.interpreter.Interpreter.begin_text.Goals as goal
 

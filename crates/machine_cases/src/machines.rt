@@ -1,0 +1,156 @@
+ghost use Rattle.std.specs.Prelude.{◌≡◌, ◌<◌, [], IfOk, OnOk};
+ghost use Rattle.line_trees.specs.Parsing.{plain_tree};
+ghost use Rattle.apl_machine.specs.Machine.{IsIdle, MayRun};
+ghost use Rattle.apl_machine.specs.Runs.{IsTreeOf};
+
+use crate::notes::Notes;
+use anyhow::{Context, Result, bail};
+use apl_arrays::{Line, LineList};
+use apl_machine::{Machine, Stop};
+use apl_meaning::classes_of;
+use apl_operators::Steps;
+use apl_workspace::Workspace;
+use case_fields::{line_of, push_glyphs, unescaped};
+use line_scanner::scan;
+use line_trees::{Tree, parse};
+use std::alloc::Global;
+use std::marker::Brand;
+use std::sync::ledger::{Blank, Ledger};
+use sv_events::{Act, Answer, Entry, PairList};
+use sv_journal::{read, text_of};
+
+/// A script that is played: the answers that are left, the last one first, and the printed lines and acts so far.
+#[derive(Debug, Drop)]
+pub struct Play {
+    pub alloc: Global,
+    pub answers: Vec<Answer>,
+    pub printed: Notes,
+    pub acts: Notes,
+}
+
+impl Play {
+    /// Evaluates a line on a workspace.
+    pub fn evaluate(&mut self, workspace: Workspace, text: &str) -> Result<Workspace>
+        requires { workspace.frames ≡ [] }
+        ensures { IfOk result (λ after. after.frames ≡ []) }
+    {
+        let line = line_of(self.alloc, text)?;
+        let tree = tree_of(self.alloc, &workspace, &line)?;
+        let mut machine = Machine::new(self.alloc, workspace);
+        machine.begin(&line, tree)?;
+        self.run::<Brand>(&mut machine, Blank::new(1))?;
+        Ok(machine.into_workspace())
+    }
+
+    // Runs a machine until its line is over.
+    fn run<L: Ledger>(&mut self, machine: &mut Machine, blank: Blank) -> Result<()>
+        requires may { MayRun machine.old.stage }
+        requires name { blank.name ≡ L.name }
+        requires parts { blank.parts ≡ L.parts }
+        requires some { 0 < blank.parts }
+        ensures { OnOk result (IsIdle machine.new) }
+    {
+        let mut steps = Steps::<L>::new(blank);
+        'acts: loop {
+            let stop = machine.run(&mut steps)?;
+            note_lines(self.alloc, &mut self.printed, machine.take_output())?;
+            match stop {
+                Stop::Done | Stop::Failed(_) => return Ok(()),
+                Stop::Asks(act) => {
+                    note_act(self.alloc, &mut self.acts, act)?;
+                    machine.resume(self.answers.pop().context("no answer is left")?)?;
+                }
+            }
+        }
+    }
+}
+
+// The tree of a line, which is a statement.
+fn tree_of(alloc: Global, workspace: &Workspace, line: &Line) -> Result<Tree>
+    ensures { IfOk result (λ tree. IsTreeOf workspace.now line.now.items (plain_tree tree)) }
+{
+    let Ok(tokens) = scan(alloc, line) else {
+        bail!("a line has no tokens");
+    };
+    let classes = classes_of(alloc, workspace)?;
+    let Ok(tree) = parse(alloc, &tokens, &classes) else {
+        bail!("a line has no tree");
+    };
+    Ok(tree)
+}
+
+// Notes lines that were printed.
+fn note_lines(alloc: Global, printed: &mut Notes, lines: LineList) -> Result<()> {
+    for line in lines.as_slice() {
+        let mut text = String::new(alloc);
+        push_glyphs(alloc, &mut text, line.as_slice())?;
+        printed.push(text)?;
+    }
+    Ok(())
+}
+
+// Notes an act that was asked: the text of its entry without its place, its party and its answer.
+fn note_act(alloc: Global, acts: &mut Notes, act: Act) -> Result<()> {
+    let entry = Entry {
+        party: 1001,
+        act,
+        answer: Answer::Done,
+        made: PairList::new(alloc),
+    };
+    let line = text_of(alloc, 1, &entry)?;
+    let mut text = String::new(alloc);
+    push_glyphs(alloc, &mut text, line.as_slice())?;
+    let act = text
+        .strip_prefix("1 1001 ")
+        .and_then(|rest| rest.strip_suffix(" : done"))
+        .context("no text of an act")?;
+    acts.push(String::from_str(alloc, act)?)
+}
+
+/// The answers that a text says, the last one first: each as the journal writes it, or `full`; `N×` before one says that it
+/// comes N times. None where it is `-`. It may have escapes.
+pub fn answers_of(alloc: Global, text: &str) -> Result<Vec<Answer>> {
+    let mut answers = Vec::new(alloc);
+    if text == "-" {
+        return Ok(answers);
+    }
+    for part in unescaped(alloc, text)?.split(" · ") {
+        let (times, answer) = part.split_once("×").unwrap_or(("1", part));
+        let times: u64 = times.parse().context("no number of answers")?;
+        for _ in 0..times {
+            answers.push(answer_of(alloc, answer)?)?;
+        }
+    }
+    answers.reverse();
+    Ok(answers)
+}
+
+// One answer.
+fn answer_of(alloc: Global, text: &str) -> Result<Answer> {
+    if text == "full" {
+        return Ok(Answer::Full);
+    }
+    let mut whole = String::from_str(alloc, "1 1001 ")?;
+    whole.push_str(act_answered(text))?;
+    whole.push_str(" : ")?;
+    whole.push_str(text)?;
+    let line = line_of(alloc, whole.as_str())?;
+    match read(alloc, &line) {
+        Ok((_, entry)) => Ok(entry.answer),
+        Err(_) => bail!("no answer: {text}"),
+    }
+}
+
+// An act that has such an answer in a journal.
+fn act_answered(text: &str) -> &str {
+    match text.split(' ').next().unwrap_or("") {
+        "degree" => "askdegree X",
+        "granted" => "set X N()0",
+        "limit" => "offer 0 X X none",
+        "vector" => "askcontrol X",
+        "parties" => "askparties",
+        "names" => "asknames 1001",
+        "kept" => "retract X",
+        _ => "use X",
+    }
+}
