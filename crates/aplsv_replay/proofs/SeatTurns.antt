@@ -315,3 +315,8 @@ pub all_put_back : {K : Type 0} (due : ℕ → Bool) (closes : Bool) (before aft
 all_put_back due closes before after seats new others len turns many =
     let same : length new ≡ len = sym (length-map new (λ seat. user_of seat.session)) ∙ ap (λ (list : List PlainUser). length list) turns.users ∙ length-map seats (λ seat. user_of seat.session) ∙ many in
     subst (λ (n : ℕ). take n (new ++ others) ≡ new) same (take-append_seam new others)
+
+-- a list of no length
+pub is_empty : {A : Type 0} (list : List A) → length list ≡ 0 → list ≡ []
+is_empty [] none = refl
+is_empty (x ∷ list) none = absurd (omega (arith, none))

@@ -4,8 +4,9 @@ use Rattle.aplsv_replay.proofs.Ends.{comes_of, same_seats}
 use Rattle.aplsv_replay.proofs.driver.go_through.Goals as goal
 
 pub take_rounds-requires : goal.take_rounds-requires
-take_rounds-requires g c =
-    of_some_still g.X.Replier.forgets g.X.Replier.replies g.Y.Replier.forgets g.Y.Replier.replies c.args.parties c.take_turns.new.self c.requires.together c.take_turns.ensures.together
+take_rounds-requires g c = record {
+  together = of_some_still g.X.Replier.forgets g.X.Replier.replies g.Y.Replier.forgets g.Y.Replier.replies c.args.parties c.take_turns.new.self c.requires.together c.take_turns.ensures.together;
+}
 
 pub close-requires-clause-ascending : goal.close-requires-clause-ascending
 close-requires-clause-ascending g c =

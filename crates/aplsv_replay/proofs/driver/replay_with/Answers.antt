@@ -11,7 +11,7 @@ use Rattle.aplsv_replay.proofs.driver.replay_with.Goals as goal
 
 pub core_of-requires : goal.core_of-requires
 core_of-requires g c =
-    subst ArePeople (sym (plain_numbers c.users.result.now c.args.bundle.users c.users.ensures.value)) (users_are_people c.args.bundle.users c.users.ensures.bundle.each)
+    record { people = subst ArePeople (sym (plain_numbers c.users.result.now c.args.bundle.users c.users.ensures.value)) (users_are_people c.args.bundle.users c.users.ensures.bundle.each) }
 
 pub fill-seats-requires-clause-room : goal.fill-seats-requires-clause-room
 fill-seats-requires-clause-room g c =
@@ -19,7 +19,7 @@ fill-seats-requires-clause-room g c =
     let one : length c.into_vec.result.items ≡ length c.args.bundle.users = sym (length-map c.into_vec.result.items plain_user) ∙ ap (λ (list : List PlainUser). length list) kept in
     let two : length c.users-2.result.now ≡ length c.args.bundle.users = sym (length-map c.users-2.result.now plain_user) ∙ ap (λ (list : List PlainUser). length list) c.users-2.ensures.value in
     let many : vec_len c.into_vec.result ≡ length c.into_vec.result.items = search rules in
-    omega (arith, c.in-Ok-2.ensures.room)
+    omega (arith, c.in-Ok-room_for.ensures.room)
 
 pub fill-seats-requires-clause-shelves : goal.fill-seats-requires-clause-shelves
 fill-seats-requires-clause-shelves g c =

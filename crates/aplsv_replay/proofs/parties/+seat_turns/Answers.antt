@@ -1,4 +1,4 @@
-use Rattle.std.proofs.Common.{◌≡◌, ◌∷◌, ◌∙◌, [], ℕ, Bool, List, ap, rules, subst, sym}
+use Rattle.std.proofs.Common.{◌≡◌, ◌<◌, ◌∷◌, ◌∙◌, ℕ, Bool, List, ap, arith, length, rules, subst, sym}
 use Rattle.std.specs.List.{All}
 use Rattle.std.specs.Prelude.{IsTrue}
 use Rattle.std.proofs.lemmas.List.Elements.{All-head, All-tail}
@@ -7,8 +7,9 @@ use Rattle.sv_core.specs.Core.{ArePeople}
 use Rattle.sv_rules.specs.Legal.{is_user}
 use Rattle.aplsv_replay.specs.SeatTurns.{AreSeatTurns, IsSeatTurn, is_due, seat_numbers}
 use Rattle.aplsv_replay.specs.SoFar.{IsSeated}
+use Rattle.aplsv_replay.specs.declared.seat.Seat.{Seat}
 use Rattle.aplsv_replay.proofs.Growth.{others_ascend}
-use Rattle.aplsv_replay.proofs.SeatTurns.{first_and_others, no_turns, others_seated}
+use Rattle.aplsv_replay.proofs.SeatTurns.{first_and_others, is_empty, no_turns, others_seated}
 use Rattle.aplsv_replay.proofs.parties.+seat_turns.Goals as goal
 
 pub seat_turn-requires-clause-user : goal.seat_turn-requires-clause-user
@@ -23,22 +24,27 @@ seat_turn-requires-clause-seated g t c =
     All-head (IsSeated c.args.core.now.journal) c.in-Some.seat.now c.in-Some.others.now (subst (λ list. All (IsSeated c.args.core.now.journal) list) is c.requires.seated)
 
 pub seat_turns-requires : goal.seat_turns-requires
-seat_turns-requires g t c =
+seat_turns-requires g t c κs within =
     let is : c.args.seats.now ≡ c.in-Some.seat.now ∷ c.in-Some.others.now = search rules in
     let first = c.in-Some.seat.now in
     let others = c.in-Some.others.now in
     let turn = c.seat_turn.ensures in
     let ascend = subst (λ list. AscendBy (λ seat. seat.session.user) list) is c.requires.ascending in
     let users =
-    All-tail (λ seat. IsTrue (is_user c.args.core.now.users seat.session.user)) first others (subst (λ list. All (λ seat. IsTrue (is_user c.args.core.now.users seat.session.user)) list) is c.requires.users) in (
-      search rules,
+    All-tail (λ seat. IsTrue (is_user c.args.core.now.users seat.session.user)) first others (subst (λ list. All (λ seat. IsTrue (is_user c.args.core.now.users seat.session.user)) list) is c.requires.users) in
+    let counted : length c.args.seats.now ≡ length (first ∷ others) = ap (λ (list : List (Seat _)). length list) is in
+    let smaller : length others < t = omega (arith, counted, c.decreases) in (
+      smaller,
       (
-        subst (λ (list : List ℕ). All (λ seat. IsTrue (is_user list seat.session.user)) others) (sym turn.grows.users) users,
+        within,
         (
-          subst ArePeople (sym turn.grows.users) c.requires.people,
+          subst (λ (list : List ℕ). All (λ seat. IsTrue (is_user list seat.session.user)) others) (sym turn.grows.users) users,
           (
-            others_ascend first.session.user (seat_numbers others) ascend,
-            others_seated c.is_due-due.result c.args.closes c.args.core.now c.seat_turn.new.core first c.seat_turn.new.seat others ascend turn (subst (λ list. All (IsSeated c.args.core.now.journal) list) is c.requires.seated),
+            subst ArePeople (sym turn.grows.users) c.requires.people,
+            (
+              others_ascend first.session.user (seat_numbers others) ascend,
+              others_seated c.is_due-due.result c.args.closes c.args.core.now c.seat_turn.new.core first c.seat_turn.new.seat others ascend turn (subst (λ list. All (IsSeated c.args.core.now.journal) list) is c.requires.seated),
+            ),
           ),
         ),
       ),
@@ -46,7 +52,8 @@ seat_turns-requires g t c =
 
 pub returns-in-None : goal.returns-in-None
 returns-in-None g t c =
-    let is : c.args.seats.now ≡ [] = search rules in
+    let none : length c.args.seats.now ≡ 0 = search rules in
+    let is = is_empty c.args.seats.now none in
     subst (λ list. AreSeatTurns (is_due c.args.only) c.args.closes c.args.core.now list c.args.core.now list) (sym is) (no_turns (is_due c.args.only) c.args.closes c.args.core.now)
 
 pub returns-in-Some : goal.returns-in-Some

@@ -14,7 +14,7 @@ turn_of_twenty-requires-clause-together g c =
 pub user_turns-requires : goal.user_turns-requires
 user_turns-requires g c =
     let middle = of_some_still g.X.Replier.forgets g.X.Replier.replies g.Y.Replier.forgets g.Y.Replier.replies c.args.self.now c.turn_of_ten.new.self c.requires.together c.turn_of_ten.ensures.together in
-    of_some_still g.X.Replier.forgets g.X.Replier.replies g.Y.Replier.forgets g.Y.Replier.replies c.turn_of_ten.new.self c.turn_of_twenty.new.self middle c.turn_of_twenty.ensures.together
+    record { together = of_some_still g.X.Replier.forgets g.X.Replier.replies g.Y.Replier.forgets g.Y.Replier.replies c.turn_of_ten.new.self c.turn_of_twenty.new.self middle c.turn_of_twenty.ensures.together }
 
 pub returns-clause-together : goal.returns-clause-together
 returns-clause-together g c = λ bundle ten twenty shelves h.
