@@ -1,31 +1,30 @@
 -- Parties that stay those of a bundle while they take turns.
-use Rattle.std.proofs.Common.{◌≡◌, ◌≢◌, ℕ, ◌<◌, ◌≤◌, ◌-◌, ◌+◌, ◌⊎◌, ◌&&◌, ◌||◌, Bool, true, false, not, eqb, List, [], ◌∷◌, ◌++◌, map, inl, inr, IsTrue, refl, sym, ap, ap₂, subst, ◌∙◌, arith}
+use Rattle.std.proofs.Common.{◌≡◌, ◌≢◌, ℕ, ◌&&◌, ◌||◌, Bool, true, false, not, eqb, List, [], ◌∷◌, map, IsTrue, refl, sym, ap, ap₂, subst, ◌∙◌, arith}
 use Rattle.std.specs.List.{All, AllByRecursion, list_all}
 use Rattle.std.specs.Prelude.{sum_by}
 use Rattle.std.proofs.lemmas.Bool.{and_from, and_parts, eq-eqb, not-true, or_from, or_left, or_right}
 use Rattle.std.proofs.lemmas.List.Elements.{All-from_recursion, recursion_from_All}
 use Rattle.apl_arrays.specs.Array.{PlainArray}
 use Rattle.apl_arrays.specs.Ascending.{Ascend, AscendBy}
-use Rattle.apl_arrays.specs.Limits.{most_entries}
 use Rattle.apl_arrays.specs.Parties.{clock_party, text_party}
 use Rattle.auxiliaries.specs.Run.{Event, IsReplierRun}
 use Rattle.bundle_text.specs.Rules.{PlainBundle}
 use Rattle.bundle_text.specs.User.{PlainUser}
 use Rattle.sv_core.specs.Core.{ArePeople, PlainCore}
-use Rattle.sv_rules.specs.Entries.{Entries, counted_entries, has_left}
+use Rattle.sv_rules.specs.Entries.{Entries, has_left}
 use Rattle.sv_rules.specs.Legal.{is_user}
 use Rattle.sv_rules.specs.Work.{is_auxiliary}
 use Rattle.session_rules.specs.Auxiliaries.{acts_among, events_of, some_stay}
 use Rattle.session_rules.specs.Run.{user_numbers}
 use Rattle.aplsv_replay.specs.Participants.{users_of}
-use Rattle.aplsv_replay.specs.SeatTurns.{AreSeatTurns, IsWholeUnlessLost, none_lost, seat_numbers, work_left}
+use Rattle.aplsv_replay.specs.SeatTurns.{AreSeatTurns, IsWholeUnlessLost, none_lost, seat_numbers}
 use Rattle.aplsv_replay.specs.SoFar.{GrowsBy, HasAnswered, IsSeated, user_of, user_work}
 use Rattle.aplsv_replay.specs.Together.{AreOfSomeBundle, AreTogether, StayTogether, TakesTurns, TookTurns, none_is_lost}
 use Rattle.aplsv_replay.specs.declared.auxiliary.Auxiliary.{Auxiliary}
 use Rattle.aplsv_replay.specs.declared.parties.Parties.{Parties}
 use Rattle.aplsv_replay.specs.declared.seat.Seat.{Seat}
 use Rattle.replay_rules.specs.Turns.{Turns, numbers_of, turns_where, user_turns}
-use Rattle.aplsv_replay.proofs.Growth.{AreNone, AreOthers, among_are_others, among_grows, among_stays, counted_grows, events_stay, is_no_user, none_of_people, own_are_others, some_stay_same}
+use Rattle.aplsv_replay.proofs.Growth.{AreNone, AreOthers, among_are_others, among_grows, among_stays, events_stay, is_no_user, none_of_people, own_are_others, some_stay_same}
 use Rattle.aplsv_replay.proofs.Taking.{stays_at}
 use Rattle.aplsv_replay.proofs.SeatTurns.{all_grown_seated, all_grown_whole, not_lost_before, seats_work_stays}
 

@@ -1,5 +1,5 @@
 -- Numbers that ascend, without one of them.
-use Rattle.std.proofs.Common.{◌≡◌, ℕ, ◌<◌, List, [], ◌∷◌, ◌++◌, arith}
+use Rattle.std.proofs.Common.{ℕ, List, [], ◌∷◌, ◌++◌, arith}
 use Rattle.apl_arrays.specs.Ascending.{Ascend}
 
 -- without one of them the others ascend

@@ -1,6 +1,6 @@
 -- Turns of an auxiliary as those of a replay, and what they leave to do.
-use Rattle.std.proofs.Common.{◌≡◌, ℕ, suc, ◌<◌, ◌≤◌, ◌-◌, ◌+◌, ◌⊎◌, ◌&&◌, ◌||◌, Bool, true, false, not, cond, leb, List, [], ◌∷◌, ◌++◌, inl, inr, IsTrue, refl, sym, ap, ap₂, subst, ◌∙◌, arith}
-use Rattle.std.specs.Prelude.{Option, Some, None, IfSome, sum_by}
+use Rattle.std.proofs.Common.{◌≡◌, ℕ, ◌<◌, ◌≤◌, ◌-◌, ◌+◌, ◌⊎◌, ◌&&◌, Bool, true, false, not, cond, leb, List, [], ◌∷◌, ◌++◌, inl, inr, refl, sym, ap, ap₂, subst, ◌∙◌, arith}
+use Rattle.std.specs.Prelude.{sum_by}
 use Rattle.std.proofs.lemmas.Bool.{and_from, and_parts, leb-false, not-true, not_from_false, or_parts}
 use Rattle.std.proofs.lemmas.List.Sums.{sum_by-cons}
 use Rattle.apl_arrays.specs.Array.{PlainArray}
@@ -8,20 +8,19 @@ use Rattle.apl_arrays.specs.Limits.{most_entries, most_journal_elements}
 use Rattle.apl_arrays.specs.Parties.{clock_party, text_party}
 use Rattle.sv_core.specs.Core.{PlainCore}
 use Rattle.sv_events.specs.Entry.{PlainEntry}
-use Rattle.sv_events.specs.Work.{act_of}
 use Rattle.sv_events.specs.declared.event.Act.{Act}
 use Rattle.sv_events.specs.declared.work.Work.{Work}
 use Rattle.sv_events.specs.declared.work.Work.TheVariants as work
-use Rattle.sv_rules.specs.Entries.{Entries, counted_entries, held_elements, is_full, is_leave, next_place}
+use Rattle.sv_rules.specs.Entries.{Entries, counted_entries, held_elements, is_full, is_leave}
 use Rattle.sv_rules.specs.Legal.{entry_for, journal_after}
 use Rattle.sv_rules.specs.Work.{work_of}
 use Rattle.aplsv_replay.specs.Participants.{users_of}
 use Rattle.aplsv_replay.specs.SeatTurns.{none_lost, work_left}
 use Rattle.aplsv_replay.specs.SoFar.{GrowsBy, IsIdleIf, IsServed, user_work}
-use Rattle.aplsv_replay.specs.Together.{LeavesLess, TakesTurns, TookTurns, left_to_do, none_is_lost}
+use Rattle.aplsv_replay.specs.Together.{LeavesLess, TakesTurns, TookTurns}
 use Rattle.aplsv_replay.specs.declared.auxiliary.Auxiliary.{Auxiliary}
 use Rattle.aplsv_replay.specs.declared.parties.Parties.{Parties}
-use Rattle.replay_rules.specs.Turns.{Participant, Served, served, served_by, serving, turn_of_ten, turn_of_twenty}
+use Rattle.replay_rules.specs.Turns.{Participant, Served, served_by, turn_of_ten, turn_of_twenty}
 use Rattle.aplsv_replay.proofs.Growth.{counted_grows}
 use Rattle.aplsv_replay.proofs.SeatTurns.{not_lost_before}
 

@@ -1,11 +1,8 @@
 -- A user whose lines were given no answer yet.
-use Rattle.std.proofs.Common.{◌≡◌, ℕ, ◌∷◌, ◌++◌, List, [], Bool, true, false, None, refl, sym, subst}
-use Rattle.std.specs.Prelude.{IfSome}
-use Rattle.apl_session.specs.PlainSession.{PlainSession}
+use Rattle.std.proofs.Common.{◌≡◌, ℕ, List, [], false, refl, sym, subst}
 use Rattle.apl_session.specs.declared.session.Stage.TheVariants as stage
-use Rattle.session_rules.specs.Session.{session_of}
 use Rattle.session_rules.proofs.Taking.{none_asked}
-use Rattle.aplsv_replay.specs.SoFar.{IsSeated, IsSessionSoFar}
+use Rattle.aplsv_replay.specs.SoFar.{IsSeated}
 use Rattle.aplsv_replay.specs.declared.seat.Seat.{Seat}
 
 -- is so far in a journal without entries

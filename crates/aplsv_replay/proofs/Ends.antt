@@ -1,5 +1,5 @@
 -- A replay from its beginning to its end.
-use Rattle.std.proofs.Common.{◌≡◌, ℕ, ◌<◌, ◌≤◌, ◌&&◌, ◌||◌, Bool, true, false, not, eqb, List, [], ◌∷◌, ◌++◌, length, map, reverse, IsTrue, refl, sym, ap, ap₂, subst, ◌∙◌, append-nil, arith}
+use Rattle.std.proofs.Common.{◌≡◌, ℕ, ◌≤◌, ◌&&◌, Bool, true, false, not, eqb, List, [], ◌∷◌, ◌++◌, length, map, reverse, IsTrue, refl, sym, ap, ap₂, subst, ◌∙◌, arith}
 use Rattle.std.specs.List.{All, AllByRecursion}
 use Rattle.std.specs.Prelude.{IfSome, Option, Some, None}
 use Rattle.std.proofs.lemmas.Bool.{and_parts, ne_eqb, not-true, or_from, or_parts}
@@ -7,7 +7,6 @@ use Rattle.std.proofs.lemmas.List.{length-map}
 use Rattle.std.proofs.lemmas.List.Elements.{All-cons, All-head, All-nil, All-tail, All-from_recursion, recursion_from_All}
 use Rattle.apl_arrays.specs.Array.{PlainArray, chars}
 use Rattle.apl_arrays.specs.List.{Listed}
-use Rattle.apl_arrays.specs.Ascending.{AscendBy}
 use Rattle.apl_arrays.specs.Parties.{clock_party, text_party, first_user}
 use Rattle.bundle_text.specs.Rules.{IsBundle, IsUser, PlainBundle}
 use Rattle.bundle_text.specs.User.{PlainUser, plain_user}
@@ -30,7 +29,7 @@ use Rattle.apl_session.specs.declared.session.Stage.TheVariants as stage
 use Rattle.auxiliaries.specs.Run.{IsReplierRun}
 use Rattle.aplsv_replay.specs.Endings.{ComesOf, IsEnded}
 use Rattle.aplsv_replay.specs.Participants.{users_of}
-use Rattle.aplsv_replay.specs.SeatTurns.{IsWholeUnlessLost, none_lost, seat_numbers}
+use Rattle.aplsv_replay.specs.SeatTurns.{IsWholeUnlessLost, none_lost}
 use Rattle.aplsv_replay.specs.Seats.{end_by, transcript_of}
 use Rattle.aplsv_replay.specs.SoFar.{IsSeated, printed_by, user_of}
 use Rattle.aplsv_replay.specs.Together.{AreTogether, StayTogether, TakesTurns, TookTurns, none_is_lost}
@@ -38,7 +37,6 @@ use Rattle.aplsv_replay.specs.declared.auxiliary.Auxiliary.{Auxiliary}
 use Rattle.aplsv_replay.specs.declared.parties.Parties.{Parties}
 use Rattle.aplsv_replay.specs.declared.seat.Seat.{Seat}
 use Rattle.replay_rules.specs.Turns.{HasReplies, IsJournalOfTurns, Participant, Replay, beginning, newcomer, ordered, rounds}
-use Rattle.aplsv_replay.proofs.AllTogether.{seats_are_users}
 use Rattle.aplsv_replay.proofs.Taking.{takes_both}
 
 -- ---- the beginning

@@ -1,5 +1,5 @@
 -- Seats that are filled, user by user, and seats that are taken apart.
-use Rattle.std.proofs.Common.{◌≡◌, ℕ, ◌<◌, ◌&&◌, Bool, true, false, List, [], ◌∷◌, ◌++◌, map, Result, Ok, Err, refl, sym, ap, ◌∙◌, subst, append_assoc}
+use Rattle.std.proofs.Common.{◌≡◌, ℕ, ◌&&◌, Bool, true, false, List, [], ◌∷◌, ◌++◌, map, Result, Ok, Err, refl, sym, ap, ◌∙◌, subst, append_assoc}
 use Rattle.std.proofs.lemmas.Bool.{and_parts}
 use Rattle.std.proofs.lemmas.List.{map_push}
 use Rattle.std.proofs.lemmas.List.Elements.{All-head, All-push, All-tail}
@@ -9,9 +9,8 @@ use Rattle.apl_arrays.specs.List.{Listed}
 use Rattle.apl_arrays.specs.Ascending.{Ascend, AscendBy}
 use Rattle.bundle_text.specs.User.{plain_user}
 use Rattle.bundle_text.specs.declared.user.BundleUser.{BundleUser}
-use Rattle.replay_rules.specs.Turns.{Participant, newcomer}
+use Rattle.replay_rules.specs.Turns.{newcomer}
 use Rattle.sv_journal.specs.Output.{PlainTranscript}
-use Rattle.apl_session.specs.PlainSession.{PlainSession}
 use Rattle.apl_session.specs.Wants.{HasHeardAll}
 use Rattle.apl_session.specs.declared.session.Stage.TheVariants as stage
 use Rattle.aplsv_replay.specs.Participants.{participant_of, users_of}

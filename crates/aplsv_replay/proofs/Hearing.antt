@@ -1,34 +1,31 @@
 -- A user's turn: what its session hears, and that it goes on.
-use Rattle.std.proofs.Common.{◌≡◌, ◌≢◌, ℕ, ◌+◌, ◌-◌, ◌<◌, ◌≤◌, ◌⊎◌, inl, inr, ◌&&◌, Bool, true, false, not, cond, leb, List, [], ◌∷◌, ◌++◌, length, Option, Some, None, Result, Ok, Err, IsTrue, if◌then◌else◌, refl, sym, ap, ◌∙◌, subst, subst₂, arith}
+use Rattle.std.proofs.Common.{◌≡◌, ◌≢◌, ℕ, ◌+◌, ◌-◌, ◌<◌, inl, inr, ◌&&◌, Bool, true, false, not, cond, leb, List, [], ◌∷◌, ◌++◌, length, Option, Some, None, IsTrue, if◌then◌else◌, refl, sym, ap, ◌∙◌, subst, subst₂, arith}
 use Rattle.std.proofs.lemmas.Bool.{and_parts, both_ways, leb-false, not-true, or_parts}
 use Rattle.std.proofs.lemmas.Option.{same_Some}
-use Rattle.std.proofs.lemmas.List.Elements.{All-cons, All-nil}
+use Rattle.std.proofs.lemmas.List.Elements.{All-nil}
 use Rattle.std.proofs.lemmas.List.Sums.{sum_by-append, sum_by-cons}
-use Rattle.std.specs.Prelude.{IfSome, IsSome, OnErr, OnOk, count_by, is_some}
+use Rattle.std.specs.Prelude.{IfSome, IsSome, count_by, is_some}
 use Rattle.std.specs.Option.{option_map_or}
 use Rattle.apl_meaning.specs.Laws.{is_reported}
 use Rattle.sv_events.specs.Answer.{PlainAnswer, full}
 use Rattle.sv_events.specs.Entry.{PlainEntry}
 use Rattle.sv_events.specs.declared.event.Act.{Act}
-use Rattle.sv_events.specs.declared.event.Act.TheVariants.{Leave}
 use Rattle.sv_rules.specs.Entries.{Entries, counted_entries, has_left, held_elements, is_full, is_held, is_leave, kind_of}
-use Rattle.sv_rules.specs.Legal.{act_due, answer_to, entry_for, is_still_held, is_user, journal_after, may_do, retried}
+use Rattle.sv_rules.specs.Legal.{act_due, answer_to, is_still_held, is_user, journal_after, may_do, retried}
 use Rattle.sv_rules.specs.Refused.{awaited, still_refused, waits}
 use Rattle.sv_rules.specs.Work.{is_auxiliary, is_stuck}
-use Rattle.sv_core.specs.Core.{ArePeople, PlainCore, core_after}
+use Rattle.sv_core.specs.Core.{ArePeople, PlainCore}
 use Rattle.sv_core.specs.Retry.{core_retried}
 use Rattle.session_rules.specs.Session.{session_of}
 use Rattle.session_rules.proofs.Taking.{none_leaves, reports_are_few}
 use Rattle.replay_rules.specs.SoFar.{IsSoFar, IsWaitedFor}
-use Rattle.replay_rules.specs.SoFarLaws.{Asks, IsActOf, with_answer}
+use Rattle.replay_rules.specs.SoFarLaws.{Asks, with_answer}
 use Rattle.replay_rules.specs.Turns.{Participant, Turn, act_made, given, turn, turn_by}
 use Rattle.replay_rules.proofs.SoFar.{answered_on, held_on, refused_on}
 use Rattle.apl_session.specs.PlainSession.{PlainSession}
-use Rattle.apl_session.specs.declared.session.Stage.{Stage}
 use Rattle.apl_session.specs.declared.session.Stage.TheVariants as stage
 use Rattle.aplsv_replay.specs.Participants.{participant_of}
-use Rattle.aplsv_replay.specs.SoFar.{GoesOn, GrowsBy, IsSameUser, IsRetried, IsSessionSoFar, IsTurn, heard, is_waiting, user_work, work_with}
-use Rattle.aplsv_replay.specs.declared.seat.Seat.{Seat}
+use Rattle.aplsv_replay.specs.SoFar.{GrowsBy, IsSameUser, IsRetried, IsSessionSoFar, IsTurn, heard, is_waiting, work_with}
 use Rattle.aplsv_replay.proofs.Making.{IsMade, entering, held_again, is_person, made_again, made_grows, made_now, made_stays, refusing, retried_users, some_act}
 
 -- a user that has not left went on by an act
@@ -64,9 +61,6 @@ so_far_made journal user waiting false act after answer (entering h) so asks is 
 -- a session that is given an answer, or is to wait
 abbrev heard_by : {K : Type 0} → Bool → PlainAnswer → PlainSession K → PlainSession K
 heard_by held answer s = if held then s else record s { answers = s.answers ++ answer ∷ []; stage = stage.Ready }
-
-heard_is : {K : Type 0} (answer : PlainAnswer) (s : PlainSession K) (held : Bool) → is_held (kind_of answer) ≡ held → heard answer s ≡ heard_by held answer s
-heard_is answer s held is = ap (λ (b : Bool). heard_by b answer s) is
 
 pub heard_same_user : {K : Type 0} (answer : PlainAnswer) (s : PlainSession K) → IsSameUser s (heard answer s)
 heard_same_user {K = K} answer s = by (is_held (kind_of answer))
@@ -310,12 +304,3 @@ step_of before after party user act answer is told became = subst (λ (p : ℕ).
 
 pub try_of : (before after : PlainCore) (party user : ℕ) (got : Option PlainAnswer) → party ≡ user → got ≡ retried before.users before.journal party → after ≡ core_retried before party → IsTriedAgain before user after got
 try_of before after party user got is told became = subst (λ (p : ℕ). IsTriedAgain before p after got) is (record { told = told; became = became })
-
--- a seat whose session heard an answer, or failed
-pub seat_heard : {K E : Type 0} (r : Result (Unit {0}) E) (answer : PlainAnswer) (seat now : Seat K) → OnOk r (now ≡ (let t : Seat K = record seat { session = heard answer seat.session } in t))
-    → OnErr r (now ≡ (let t : Seat K = record seat { session = record seat.session { stage = stage.Failed } } in t)) → IsSameUser seat.session now.session × (now.is_lost ≡ seat.is_lost)
-seat_heard {K = K} (Ok u) answer seat now ok err = (
-  subst (λ (t : Seat K). IsSameUser seat.session t.session) (sym ok) (heard_same_user answer seat.session),
-  ap (λ (t : Seat K). t.is_lost) ok,
-)
-seat_heard {K = K} (Err e) answer seat now ok err = (subst (λ (t : Seat K). IsSameUser seat.session t.session) (sym err) refl, ap (λ (t : Seat K). t.is_lost) err)

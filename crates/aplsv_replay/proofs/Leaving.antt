@@ -1,5 +1,5 @@
 -- A user that leaves, and one that has left.
-use Rattle.std.proofs.Common.{◌≡◌, ℕ, ◌+◌, ◌-◌, ◌<◌, ◌≤◌, inl, Bool, true, false, not, cond, List, [], ◌∷◌, ◌++◌, length, All, Option, Some, None, IsTrue, if◌then◌else◌, refl, sym, ap, ◌∙◌, subst, arith}
+use Rattle.std.proofs.Common.{◌≡◌, ℕ, ◌+◌, ◌-◌, ◌≤◌, inl, Bool, true, false, not, cond, [], ◌∷◌, ◌++◌, length, Option, None, if◌then◌else◌, refl, sym, ap, ◌∙◌, arith}
 use Rattle.std.proofs.lemmas.Bool.{both_ways}
 use Rattle.std.proofs.lemmas.List.Elements.{All-cons, All-nil}
 use Rattle.std.proofs.lemmas.List.Sums.{sum_by-append}
@@ -12,22 +12,18 @@ use Rattle.sv_rules.specs.Entries.{Entries, counted_entries, has_left, is_leave}
 use Rattle.sv_rules.specs.Legal.{entry_for}
 use Rattle.sv_core.specs.Core.{PlainCore, core_after}
 use Rattle.session_rules.specs.Session.{session_of}
-use Rattle.replay_rules.specs.Turns.{Participant, Turn, turn, turn_by}
-use Rattle.replay_rules.proofs.SoFar.{left_on, own_leave_leaves}
+use Rattle.replay_rules.specs.Turns.{Turn, turn_by}
+use Rattle.replay_rules.proofs.SoFar.{own_leave_leaves}
 use Rattle.apl_session.specs.PlainSession.{PlainSession}
 use Rattle.apl_session.specs.declared.session.Stage.TheVariants as stage
 use Rattle.aplsv_replay.specs.Participants.{participant_of}
-use Rattle.aplsv_replay.specs.SoFar.{GoesOn, GrowsBy, HasPart, IsSameUser, IsSeated, IsSessionSoFar, IsTurn, IsWhole, is_waiting, printed_by, user_of, work_with}
-use Rattle.session_rules.specs.UserPart.{IsUserPart}
+use Rattle.aplsv_replay.specs.SoFar.{GoesOn, GrowsBy, IsSameUser, IsSeated, IsTurn, work_with}
 use Rattle.aplsv_replay.specs.declared.seat.Seat.{Seat}
 use Rattle.aplsv_replay.proofs.Hearing.{work_of_one}
 
 -- the user of a session that is the same user's
 pub user_is : {K : Type 0} (s now : PlainSession K) → IsSameUser s now → now.user ≡ s.user
 user_is {K = K} s now same = ap (λ (t : PlainSession K). t.user) same
-
-pub participant_is : {K : Type 0} (s now : PlainSession K) → IsSameUser s now → now.answers ≡ s.answers → participant_of now ≡ participant_of s
-participant_is {K = K} s now same answers = ap (λ (t : PlainSession K). participant_of t) same ∙ ap (λ a. let p : Participant = record { number = s.user; lines = s.lines; answers = a } in p) answers
 
 -- ---- a party that leaves
 
@@ -73,27 +69,12 @@ leaving_turn {K = K} before after s now present over became hears =
     ∙ ap (λ (c : PlainCore). let t : Turn = record { journal = c.journal; user = participant_of s } in t) (sym became)
     ∙ ap (λ (t : PlainSession K). let u : Turn = record { journal = after.journal; user = participant_of t } in u) (sym hears)
 
--- and it has its part
-pub leaver_has_part : {K : Type 0} (before after : PlainCore) (s : PlainSession K) (seat : Seat K) → IsSessionSoFar before.journal s → (session_of s.lines s.answers).waits ≡ None → after ≡ core_after before s.user Leave
-    → seat.session ≡ (let t : PlainSession K = record s { stage = stage.Finished } in t) → HasPart after.journal seat
-leaver_has_part {K = K} before after s seat so over became hears =
-    subst (λ (c : PlainCore). HasPart c.journal seat) (sym became)
-    (record {
-      finished = ap (λ (t : PlainSession K). t.stage) hears;
-      part = subst (λ (t : PlainSession K). IsUserPart (core_after before s.user Leave).journal (user_of t) (printed_by t)) (sym hears)
-          (left_on before.journal (participant_of s) (is_waiting s.stage) (entry_for before.journal s.user Leave) so refl refl over);
-    })
-
 -- ---- a user that has left
 
 pub gone_turn : {K : Type 0} (core : PlainCore) (s : PlainSession K) → has_left core.journal s.user ≡ true → IsTurn core s core s
 gone_turn core s left = ap (λ (l : Bool). turn_by l (session_of s.lines s.answers).waits core.users core.journal (participant_of s)) left
 
 -- ---- a user that stays
-
--- a user that stays has no part yet
-pub stays_whole : {K : Type 0} (journal : Entries) (s : PlainSession K) (seat : Seat K) → IsSameUser s seat.session → has_left journal s.user ≡ false → IsWhole journal seat
-stays_whole journal s seat same stays left = absurd (both_ways (has_left journal s.user) stays (ap (λ (u : ℕ). has_left journal u) (sym (user_is s seat.session same)) ∙ left))
 
 -- a user that has left is not looked at any more
 pub left_seated : {K : Type 0} (journal : Entries) (s : PlainSession K) (seat : Seat K) → IsSameUser s seat.session → has_left journal s.user ≡ true → IsSeated journal seat

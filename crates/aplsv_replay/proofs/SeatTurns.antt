@@ -1,13 +1,13 @@
 -- Turns of users, one after another.
-use Rattle.std.proofs.Common.{◌≡◌, ◌≢◌, ℕ, ◌+◌, ◌-◌, ◌<◌, ◌≤◌, ◌⊎◌, ◌||◌, Bool, true, false, not, cond, eqb, List, [], ◌∷◌, ◌++◌, length, map, take, inl, inr, IsTrue, refl, sym, ap, ap₂, subst, ◌∙◌, append_assoc, arith}
+use Rattle.std.proofs.Common.{◌≡◌, ℕ, ◌+◌, ◌-◌, ◌<◌, ◌⊎◌, Bool, true, false, not, List, [], ◌∷◌, ◌++◌, length, take, inl, inr, IsTrue, refl, sym, ap, ap₂, subst, ◌∙◌, append_assoc, arith}
 use Rattle.std.specs.List.{All, AllByRecursion}
 use Rattle.std.specs.Prelude.{◌==◌, count_by, sum_by, if◌then◌else◌}
 use Rattle.std.proofs.lemmas.Bool.{and_from, and_parts, eq-eqb, not-true, not_from_false, or_left, or_right}
 use Rattle.std.proofs.Math.Seq.{take-append_seam}
 use Rattle.std.proofs.lemmas.List.{length-map}
-use Rattle.std.proofs.lemmas.List.Elements.{All-append, All-cons, All-head, All-nil, All-tail, All-weaker, All-from_recursion, recursion_from_All}
+use Rattle.std.proofs.lemmas.List.Elements.{All-append, All-cons, All-head, All-nil, All-tail, All-from_recursion, recursion_from_All}
 use Rattle.std.proofs.lemmas.List.Sums.{sum_by-cons}
-use Rattle.apl_arrays.specs.Ascending.{Ascend, AscendBy}
+use Rattle.apl_arrays.specs.Ascending.{AscendBy}
 use Rattle.apl_arrays.specs.Limits.{most_entries}
 use Rattle.apl_meaning.specs.Laws.{is_reported}
 use Rattle.bundle_text.specs.User.{PlainUser}
@@ -16,12 +16,12 @@ use Rattle.sv_events.specs.Entry.{PlainEntry}
 use Rattle.sv_rules.specs.Entries.{Entries, counted_entries, has_left}
 use Rattle.sv_rules.specs.Legal.{is_still_held, is_user}
 use Rattle.apl_session.specs.PlainSession.{PlainSession}
-use Rattle.replay_rules.specs.Turns.{Participant, Turn, Turns, turn, turns_where}
+use Rattle.replay_rules.specs.Turns.{Participant, Turn, Turns, turns_where}
 use Rattle.aplsv_replay.specs.Participants.{participant_of, users_of}
 use Rattle.aplsv_replay.specs.SeatTurns.{AreSeatTurns, GrowsAmong, IsHeld, IsSeatTurn, IsWholeUnlessLost, none_lost, seat_numbers, work_left}
 use Rattle.aplsv_replay.specs.SoFar.{GoesOn, GrowsBy, IsSameUser, IsSeated, IsTurn, IsWhole, user_of, user_work, work_with}
 use Rattle.aplsv_replay.specs.declared.seat.Seat.{Seat}
-use Rattle.aplsv_replay.proofs.Growth.{AreOthers, among_are_others, below_is_none, counted_grows, first_below, has_left_stays, others_ascend, own_are_others, part_stays, so_far_stays}
+use Rattle.aplsv_replay.proofs.Growth.{AreOthers, among_are_others, below_is_none, first_below, has_left_stays, own_are_others, part_stays, so_far_stays}
 
 -- ---- one user
 

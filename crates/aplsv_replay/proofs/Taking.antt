@@ -1,11 +1,11 @@
 -- Turns of all parties, one after another.
-use Rattle.std.proofs.Common.{◌≡◌, ℕ, suc, ◌&&◌, Bool, true, false, not, eqb, List, [], ◌∷◌, ◌++◌, map, IsTrue, refl, sym, ap, ap₂, subst, ◌∙◌, append_assoc}
+use Rattle.std.proofs.Common.{◌≡◌, ℕ, suc, Bool, true, false, eqb, List, [], ◌∷◌, ◌++◌, refl, ap, ap₂, ◌∙◌, append_assoc}
 use Rattle.std.specs.Prelude.{if◌then◌else◌}
 use Rattle.apl_arrays.specs.Array.{PlainArray}
 use Rattle.apl_arrays.specs.Parties.{clock_party, text_party}
 use Rattle.session_rules.specs.Auxiliaries.{some_stay}
 use Rattle.aplsv_replay.specs.Participants.{users_of}
-use Rattle.aplsv_replay.specs.Together.{TakesTurns, TookTurns, none_is_lost}
+use Rattle.aplsv_replay.specs.Together.{TakesTurns, TookTurns}
 use Rattle.aplsv_replay.specs.declared.parties.Parties.{Parties}
 use Rattle.replay_rules.specs.Turns.{Replay, goes_on, numbers_of, ordered, party_turn, round, rounds, turn_of_ten, turn_of_twenty, user_turns}
 
