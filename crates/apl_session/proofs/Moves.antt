@@ -5,7 +5,9 @@ use Rattle.std.specs.Prelude.{Option, Some, None, Err, map}
 use Rattle.apl_arrays.specs.List.{Listed, glyphs_in}
 use Rattle.apl_arrays.specs.declared.report.Report.{Report}
 use Rattle.apl_machine.specs.Machine.{IsIdle, IsOpenAct, IsOpenStage, MayRun, PlainMachine, idle_on, silent}
-use Rattle.apl_machine.specs.Runs.{IsTreeOf, Stands, StandsOn}
+use Rattle.apl_machine.specs.Runs.{IsTreeOf, Stands, StandsOn, StopsAs}
+use Rattle.apl_machine.specs.declared.flow.Stop.{Stop}
+use Rattle.apl_machine.specs.declared.flow.Stop.TheVariants as stop
 use Rattle.apl_machine.proofs.OpenStage.{open_stage}
 use Rattle.apl_meaning.specs.Meaning.{most_statements}
 use Rattle.apl_meaning.specs.Reading.{read_with}
@@ -16,15 +18,15 @@ use Rattle.line_trees.specs.Trees.{line_tree_of}
 use Rattle.sv_events.specs.Answer.{PlainAnswer}
 use Rattle.sv_events.specs.declared.event.Act.{Act}
 use Rattle.apl_terminal.specs.LineKind.{is_opening}
-use Rattle.apl_terminal.specs.Terminal.{PlainTerminal, echoing, editing, free_prompt, reporting}
+use Rattle.apl_terminal.specs.Terminal.{PlainTerminal, echoing, editing, free_prompt, printing, reporting}
 use Rattle.session_rules.specs.Course.{with_terminal}
 use Rattle.session_rules.specs.Session.{free_line, statement_done}
-use Rattle.apl_session.specs.Standing.{Asked, ComesTo, GoesOn, IsAnswered, IsAt, IsOpenLine, IsUnderWay, MayAdvance, StandsBy, StandsIn}
+use Rattle.apl_session.specs.Standing.{Asked, ComesTo, GoesOn, IsAnswered, IsAt, IsIdleAt, IsOpenLine, IsUnderWay, MayAdvance, PausesAt, StandsBy, StandsIn, with_workspace_of}
 use Rattle.apl_session.specs.declared.progress.Progress.{Progress}
 use Rattle.apl_session.specs.declared.under_way.UnderWay.{UnderWay}
 use Rattle.apl_session.specs.declared.under_way.UnderWay.TheVariants as under_way
 use Rattle.apl_session.proofs.Going.{begun_at, refused_at, taken_on}
-use Rattle.apl_session.proofs.Inside.{echoed_at, opening_at, rests, statement_at}
+use Rattle.apl_session.proofs.Inside.{asked_on, done_on, echoed_at, opening_at, reported_on, rests, statement_at}
 
 -- ---- what asked
 
@@ -82,6 +84,28 @@ refused_on lines line answers t seen report p nothing is here frames free refuse
 -- a machine that is idle is so without its lines
 pub idle_after : (n after : PlainMachine) → IsIdle n → after ≡ silent n → IsIdle after
 idle_after n after idle is = subst IsIdle (sym is) (record { stage = idle.stage; stack = idle.stack; frames = idle.frames })
+
+-- where a run stopped, the machine is idle if the line is over
+pub idle_at : (counted : ℕ) (m n after : PlainMachine) (stop : Stop) → StopsAs m counted n stop → after ≡ silent n → IsIdleAt after stop
+idle_at counted m n after stop.Done ends is = idle_after n after ends.idle is
+idle_at counted m n after (stop.Failed report) ends is = idle_after n after ends.idle is
+idle_at counted m n after (stop.Asks act) asks is = tt
+
+-- where it stopped, the session went on
+pub stopped_on : (lines : List (List ℕ)) (answers : List PlainAnswer) (counted : ℕ) (m n after : PlainMachine) (stop : Stop) (asked : Option Act) (before p told : Progress) → before.under_way ≡ under_way.Nothing → before.terminal.definition ≡ None → StopsAs m counted n stop → after ≡ silent n
+    → StandsOn n 0 [] n.interpreter.output after → told ≡ record before { terminal = printing n.interpreter.output before.terminal } → PausesAt after stop asked told p → IsUnderWay lines answers before.read before.terminal.transcript m → GoesOn lines answers asked p
+stopped_on lines answers counted m n after stop.Done asked before p told none free ends is on printed pauses h =
+    let there : p ≡ with_workspace_of after (record before { terminal = printing n.interpreter.output before.terminal }) = pauses.1 ∙ ap (with_workspace_of after) printed in
+    subst (λ (a : Option Act). GoesOn lines answers a p) (sym pauses.0)
+    (done_on lines answers before.read counted m n after p before.terminal free ends is (ap (λ (x : Progress). x.terminal) there) (ap (λ (x : Progress). x.read) there) (ap (λ (x : Progress). x.under_way) there ∙ none) h)
+stopped_on lines answers counted m n after (stop.Failed report) asked before p told none free ends is on printed pauses h =
+    let there : p ≡ with_workspace_of after (record before { terminal = printing n.interpreter.output before.terminal }) = pauses.1 ∙ ap (with_workspace_of after) printed in
+    subst (λ (a : Option Act). GoesOn lines answers a p) (sym pauses.0)
+    (reported_on lines answers before.read counted report m n after p before.terminal free ends is (ap (λ (x : Progress). x.terminal) there) (ap (λ (x : Progress). x.read) there) (ap (λ (x : Progress). x.under_way) there ∙ none) h)
+stopped_on lines answers counted m n after (stop.Asks act) asked before p told none free asks is on printed pauses h =
+    let there : p ≡ record (record before { terminal = printing n.interpreter.output before.terminal }) { under_way = under_way.Asking after act } = pauses.1 ∙ ap (λ (x : Progress). record x { under_way = under_way.Asking after act }) printed in
+    subst (λ (a : Option Act). GoesOn lines answers a p) (sym pauses.0)
+    (asked_on lines answers before.read counted act m n after p before.terminal free asks is on (ap (λ (x : Progress). x.terminal) there) (ap (λ (x : Progress). x.read) there) (ap (λ (x : Progress). x.under_way) there) h)
 
 -- the act of a line that waits is open
 pub open_there : (u : UnderWay) (m : PlainMachine) (act : Act) → u ≡ under_way.Asking m act → IsOpenLine u → IsOpenStage m.stage

@@ -1,7 +1,9 @@
 -- Where the inside of a session stands in its lines.
 use Rattle.std.specs.Prelude.{◌≡◌, ◌≤◌, ◌++◌, ℕ, List, [], ◌∷◌, Option, Some, None, drop, length}
-use Rattle.apl_machine.specs.Machine.{PlainMachine, IsOpenAct, MayRun}
+use Rattle.apl_machine.specs.Machine.{PlainMachine, IsIdle, IsOpenAct, MayRun}
 use Rattle.apl_machine.specs.Runs.{Stands}
+use Rattle.apl_machine.specs.declared.flow.Stop.{Stop}
+use Rattle.apl_machine.specs.declared.flow.Stop.TheVariants as stop
 use Rattle.apl_meaning.specs.Meaning.{mean, most_statements}
 use Rattle.line_trees.specs.Trees.{LineTree}
 use Rattle.sv_events.specs.Answer.{PlainAnswer}
@@ -76,6 +78,22 @@ abbrev pub Asked : UnderWay → Option Act → Type 0
 Asked under_way.Nothing asked = asked ≡ None
 Asked (under_way.Asking m act) asked = asked ≡ Some act
 Asked (under_way.Answered m) asked = ⊥
+
+-- where a run stops and the line is over, the machine is idle
+abbrev pub IsIdleAt : PlainMachine → Stop → Type 0
+IsIdleAt m stop.Done = IsIdle m
+IsIdleAt m (stop.Failed report) = IsIdle m
+IsIdleAt m (stop.Asks act) = Unit {0}
+
+-- the workspace of a line that is over is taken back
+abbrev pub with_workspace_of : PlainMachine → Progress → Progress
+with_workspace_of m p = record p { terminal = record p.terminal { workspace = m.interpreter.workspace } }
+
+-- where a run stops, the act that it asked waits, or the workspace is taken back
+abbrev pub PausesAt : PlainMachine → Stop → Option Act → Progress → Progress → Type 0
+PausesAt m stop.Done asked before after = (asked ≡ None) × (after ≡ with_workspace_of m before)
+PausesAt m (stop.Failed report) asked before after = (asked ≡ None) × (after ≡ with_workspace_of m before)
+PausesAt m (stop.Asks act) asked before after = (asked ≡ Some act) × (after ≡ record before { under_way = under_way.Asking m act })
 
 -- the inside of a session went on to this act, or to the end of a line
 pub record GoesOn (lines : List (List ℕ)) (answers : List PlainAnswer) (asked : Option Act) (p : Progress) : Type 0 where

@@ -1,11 +1,11 @@
-ghost use Rattle.std.specs.Prelude.{◌≡◌, ◌+◌, ◌<◌, ◌^◌, ℕ, List, ◌∷◌, IfOk, None, drop};
-ghost use Rattle.apl_machine.specs.Machine.{MayRun};
+ghost use Rattle.std.specs.Prelude.{◌≡◌, ◌+◌, ◌<◌, ◌^◌, ℕ, List, ◌∷◌, IfOk, None, OnOk, Some, drop};
+ghost use Rattle.apl_machine.specs.Machine.{IsIdle, MayRun};
 ghost use Rattle.apl_meaning.specs.Meaning.{most_statements};
 ghost use Rattle.sv_events.specs.Answer.{PlainAnswer};
 ghost use Rattle.session_rules.specs.Course.{with_terminal};
 ghost use Rattle.session_rules.specs.Session.{free_line, statement_done};
 ghost use Rattle.apl_terminal.specs.Terminal.{echoing, free_prompt};
-ghost use Rattle.apl_session.specs.Standing.{Asked, GoesOn, IsAt, IsUnderWay, StandsIn};
+ghost use Rattle.apl_session.specs.Standing.{Asked, GoesOn, IsAt, IsIdleAt, IsUnderWay, PausesAt, StandsIn};
 ghost use Rattle.apl_session.specs.declared.under_way.UnderWay.TheVariants as under_way;
 
 use crate::progress::Progress;
@@ -109,16 +109,43 @@ impl Progress {
         let mut machine = machine;
         let stop = machine.run(steps)?;
         self.terminal.print(machine.take_output())?;
+        self.stop(machine, stop)
+    }
+
+    // Waits for the act that was asked, or goes on behind a line that is over.
+    fn stop(&mut self, machine: Machine, stop: Stop) -> Result<Option<Act>, WantOfMemory>
+        requires idle { IsIdleAt machine stop }
+        requires free { self.old.terminal.definition ≡ None }
+        requires none { self.old.under_way ≡ under_way.Nothing }
+        ensures pauses { IfOk result (λ asked. PausesAt machine stop asked self.old self.new) }
+        ensures read { self.new.read ≡ self.old.read }
+    {
         match stop {
-            Stop::Asks(act) => {
-                let asked = act.copy(self.alloc)?;
-                self.under_way = UnderWay::Asking(machine, act);
-                Ok(Some(asked))
-            }
-            Stop::Done | Stop::Failed(_) => {
-                self.terminal.take_back(machine.into_workspace());
-                Ok(None)
-            }
+            Stop::Asks(act) => self.wait_for(machine, act),
+            Stop::Done => self.finish(machine),
+            Stop::Failed(_) => self.finish(machine),
         }
+    }
+
+    // Waits for the answer to an act.
+    fn wait_for(&mut self, machine: Machine, act: Act) -> Result<Option<Act>, WantOfMemory>
+        ensures asked { IfOk result (λ asked. asked ≡ Some act) }
+        ensures waits { OnOk result (self.new ≡ record self.old { under_way = under_way.Asking machine act }) }
+        ensures read { self.new.read ≡ self.old.read }
+    {
+        let asked = act.copy(self.alloc)?;
+        self.under_way = UnderWay::Asking(machine, act);
+        Ok(Some(asked))
+    }
+
+    // Takes back the workspace of a line that is over.
+    fn finish(&mut self, machine: Machine) -> Result<Option<Act>, WantOfMemory>
+        requires idle { IsIdle machine }
+        requires free { self.old.terminal.definition ≡ None }
+        ensures asked { IfOk result (λ asked. asked ≡ None) }
+        ensures rests { self.new ≡ record self.old { terminal = record self.old.terminal { workspace = machine.interpreter.workspace } } }
+    {
+        self.terminal.take_back(machine.into_workspace());
+        Ok(None)
     }
 }
