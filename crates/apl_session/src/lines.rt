@@ -5,7 +5,7 @@ ghost use Rattle.sv_events.specs.Answer.{PlainAnswer};
 ghost use Rattle.session_rules.specs.Course.{with_terminal};
 ghost use Rattle.session_rules.specs.Session.{free_line, statement_done};
 ghost use Rattle.apl_terminal.specs.Terminal.{echoing, free_prompt};
-ghost use Rattle.apl_session.specs.Standing.{Asked, GoesOn, IsAt, IsIdleAt, IsUnderWay, PausesAt, StandsIn};
+ghost use Rattle.apl_session.specs.Standing.{Asked, GoesOn, IsAt, IsIdleAt, IsUnderWay, PausesAt, StandsIn, open_act};
 ghost use Rattle.apl_session.specs.declared.under_way.UnderWay.TheVariants as under_way;
 
 use crate::progress::Progress;
@@ -14,6 +14,7 @@ use apl_arrays::{Fail, Line, WantOfMemory};
 use apl_machine::{Machine, Stop, tree_of};
 use apl_operators::Steps;
 use apl_terminal::is_opening;
+use std::mem;
 use std::sync::ledger::Ledger;
 use sv_events::Act;
 
@@ -133,9 +134,18 @@ impl Progress {
         ensures waits { OnOk result (self.new ≡ record self.old { under_way = under_way.Asking machine act }) }
         ensures read { self.new.read ≡ self.old.read }
     {
-        let asked = act.copy(self.alloc)?;
-        self.under_way = UnderWay::Asking(machine, act);
-        Ok(Some(asked))
+        discard(mem::replace(&mut self.under_way, UnderWay::Asking(machine, act)));
+        self.open_act()
+    }
+
+    // The act that waits for its answer, if one does. It takes memory for its value.
+    fn open_act(&self) -> Result<Option<Act>, WantOfMemory>
+        ensures { IfOk result (λ asked. asked ≡ open_act self.now.under_way) }
+    {
+        match &self.under_way {
+            UnderWay::Asking(_, act) => Ok(Some(act.copy(self.alloc)?)),
+            _ => Ok(None),
+        }
     }
 
     // Takes back the workspace of a line that is over.
@@ -149,3 +159,6 @@ impl Progress {
         Ok(None)
     }
 }
+
+// Lets go of a line.
+fn discard(_line: UnderWay) {}
