@@ -1,11 +1,12 @@
-ghost use Rattle.std.specs.Prelude.{◌≡◌, ◌+◌, ◌<◌, ◌^◌, ℕ, List, ◌∷◌, IfOk, None, OnOk, Some, drop};
+ghost use Rattle.std.specs.Prelude.{◌≡◌, ◌+◌, ◌<◌, ◌^◌, ℕ, List, ◌∷◌, IfOk, None, drop};
 ghost use Rattle.apl_machine.specs.Machine.{IsIdle, MayRun};
+ghost use Rattle.apl_machine.specs.declared.flow.Stop.TheVariants as stopped;
 ghost use Rattle.apl_meaning.specs.Meaning.{most_statements};
 ghost use Rattle.sv_events.specs.Answer.{PlainAnswer};
 ghost use Rattle.session_rules.specs.Course.{with_terminal};
 ghost use Rattle.session_rules.specs.Session.{free_line, statement_done};
 ghost use Rattle.apl_terminal.specs.Terminal.{echoing, free_prompt};
-ghost use Rattle.apl_session.specs.Standing.{Asked, GoesOn, IsAt, IsIdleAt, IsUnderWay, PausesAt, StandsIn, open_act};
+ghost use Rattle.apl_session.specs.Standing.{Asked, GoesOn, IsAt, IsIdleAt, IsUnderWay, PausesAt, StandsIn, open_act, with_workspace_of};
 ghost use Rattle.apl_session.specs.declared.under_way.UnderWay.TheVariants as under_way;
 
 use crate::progress::Progress;
@@ -119,6 +120,7 @@ impl Progress {
         requires free { self.old.terminal.definition ≡ None }
         requires none { self.old.under_way ≡ under_way.Nothing }
         ensures pauses { IfOk result (λ asked. PausesAt machine stop asked self.old self.new) }
+        ensures paused { IfOk result (Asked self.new.under_way) }
         ensures read { self.new.read ≡ self.old.read }
     {
         match stop {
@@ -130,8 +132,8 @@ impl Progress {
 
     // Waits for the answer to an act.
     fn wait_for(&mut self, machine: Machine, act: Act) -> Result<Option<Act>, WantOfMemory>
-        ensures asked { IfOk result (λ asked. asked ≡ Some act) }
-        ensures waits { OnOk result (self.new ≡ record self.old { under_way = under_way.Asking machine act }) }
+        ensures pauses { IfOk result (λ asked. PausesAt machine (stopped.Asks act) asked self.old self.new) }
+        ensures paused { IfOk result (Asked self.new.under_way) }
         ensures read { self.new.read ≡ self.old.read }
     {
         discard(mem::replace(&mut self.under_way, UnderWay::Asking(machine, act)));
@@ -152,8 +154,8 @@ impl Progress {
     fn finish(&mut self, machine: Machine) -> Result<Option<Act>, WantOfMemory>
         requires idle { IsIdle machine }
         requires free { self.old.terminal.definition ≡ None }
-        ensures asked { IfOk result (λ asked. asked ≡ None) }
-        ensures rests { self.new ≡ record self.old { terminal = record self.old.terminal { workspace = machine.interpreter.workspace } } }
+        ensures pauses { IfOk result (λ asked. PausesAt machine stopped.Done asked self.old self.new) }
+        ensures rest { self.new ≡ with_workspace_of machine self.old }
     {
         self.terminal.take_back(machine.into_workspace());
         Ok(None)
