@@ -93,8 +93,9 @@ impl Progress {
         ensures read { self.new.read ≡ self.old.read }
     {
         match mem::replace(&mut self.under_way, UnderWay::Nothing) {
+            UnderWay::Nothing => Ok(None),
             UnderWay::Answered(machine) => self.run(machine, steps),
-            _ => Ok(None),
+            UnderWay::Asking(..) => Err(WantOfMemory),
         }
     }
 }

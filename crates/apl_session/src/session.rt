@@ -1,8 +1,9 @@
-ghost use Rattle.std.specs.Prelude.{◌≡◌, ◌≢◌, ◌<◌, ◌∷◌, [], ◌++◌, IfOk, IsErr, OnErr, OnOk, map};
+ghost use Rattle.std.specs.Prelude.{◌≡◌, ◌≢◌, ◌<◌, ◌∷◌, [], ◌++◌, List, IfOk, IsErr, OnErr, OnOk, map};
 ghost use Rattle.apl_arrays.specs.List.{glyphs_in};
-ghost use Rattle.sv_events.specs.Answer.{plain_answer};
+ghost use Rattle.sv_events.specs.Answer.{PlainAnswer, plain_answer};
 ghost use Rattle.apl_session.specs.Receipts.{acts_in, answers_in, plain_receipt};
 ghost use Rattle.session_rules.specs.Session.{session_of};
+ghost use Rattle.apl_session.specs.Standing.{ComesTo, MayAdvance, StandsIn};
 ghost use Rattle.apl_session.specs.Wants.{HasHeardAll, IsOfPresent, MayGoOn, stage_by, wanted};
 
 use crate::progress::Progress;
@@ -114,7 +115,7 @@ impl<K> Session<K> {
             return Err(WantOfMemory);
         }
         self.stage = Stage::Failed;
-        match self.advance::<Brand>(Blank::new(1))? {
+        match advance::<Brand>(&mut self.progress, self.lines.as_slice(), Blank::new(1))? {
             Some(act) => {
                 self.stage = Stage::Waiting;
                 Ok(Wants::Act(act))
@@ -166,14 +167,20 @@ impl<K> Session<K> {
             shelf: self.shelf,
         }
     }
+}
 
-    // Goes on, and counts the applications for nobody.
-    fn advance<L: Ledger>(&mut self, blank: Blank) -> Result<Option<Act>, WantOfMemory>
-        requires name { blank.name ≡ L.name }
-        requires parts { blank.parts ≡ L.parts }
-        requires some { 0 < blank.parts }
-    {
-        let mut steps = Steps::<L>::new(blank);
-        self.progress.advance(self.lines.as_slice(), &mut steps)
-    }
+// Goes on, and counts the applications for nobody.
+fn advance<L: Ledger>(
+    progress: &mut Progress,
+    lines: &[Line],
+    blank: Blank,
+) -> Result<Option<Act>, WantOfMemory>
+    requires may { MayAdvance progress.old.terminal progress.old.under_way }
+    requires name { blank.name ≡ L.name }
+    requires parts { blank.parts ≡ L.parts }
+    requires some { 0 < blank.parts }
+    ensures { IfOk result (λ asked. (answers : List PlainAnswer) → StandsIn (map glyphs_in lines.now) answers progress.old → ComesTo (map glyphs_in lines.now) answers asked progress.new) }
+{
+    let mut steps = Steps::<L>::new(blank);
+    progress.advance(lines, &mut steps)
 }

@@ -1,4 +1,8 @@
 // Sessions that are given answers which no bundle of today comes to, and lists that find no memory.
+ghost use Rattle.std.specs.Prelude.{◌≡◌, IfOk};
+ghost use Rattle.apl_session.specs.Wants.{MayGoOn};
+ghost use Rattle.apl_session.specs.declared.session.Stage.TheVariants as stage;
+
 use crate::{Session, Transcript, Transcripts, Wants};
 use apl_arrays::{Array, GlyphRefused, LineList, WantOfMemory, glyphs_of};
 use line_text::add_line;
@@ -56,7 +60,10 @@ VALUE ERROR
       X
 ";
 
-fn started(alloc: Global) -> Result<Session<u8>, GlyphRefused> {
+// A session of the user that is lent 7.
+fn started(alloc: Global) -> Result<Session<u8>, GlyphRefused>
+    ensures { IfOk result (λ session. session.stage ≡ stage.Ready) }
+{
     let mut lines = LineList::new(alloc);
     for text in LINES {
         lines.push(glyphs_of(alloc, text.as_bytes())?)?;
@@ -67,7 +74,10 @@ fn started(alloc: Global) -> Result<Session<u8>, GlyphRefused> {
 fn discard(_answer: Answer) {}
 
 // Gives the answer to the next act, if there is one.
-fn give(session: &mut Session<u8>, answer: Answer) -> Result<(), WantOfMemory> {
+fn give(session: &mut Session<u8>, answer: Answer) -> Result<(), WantOfMemory>
+    requires { MayGoOn session.old.stage }
+    ensures { IfOk result (λ done. MayGoOn session.new.stage) }
+{
     match session.next()? {
         Wants::Act(_) => session.answer(answer),
         Wants::Finished => {
@@ -78,7 +88,9 @@ fn give(session: &mut Session<u8>, answer: Answer) -> Result<(), WantOfMemory> {
 }
 
 // What a session has printed that asks nothing more; nothing where it still asks.
-fn printed(alloc: Global, mut session: Session<u8>) -> Result<Vec<u8>, WantOfMemory> {
+fn printed(alloc: Global, mut session: Session<u8>) -> Result<Vec<u8>, WantOfMemory>
+    requires { MayGoOn session.stage }
+{
     let mut bytes = Vec::new(alloc);
     match session.next()? {
         Wants::Act(_) => Ok(bytes),
@@ -122,16 +134,19 @@ fn used(alloc: Global) -> Result<Vec<u8>, GlyphRefused> {
     Ok(printed(alloc, session)?)
 }
 
-// Receipts are kept of all acts with their answers, and the shelf comes back.
+// Receipts are kept of all acts with their answers.
 fn receipts(alloc: Global) -> Result<usize, GlyphRefused> {
     let mut session = started(alloc)?;
     give(&mut session, Answer::Degree(1))?;
     give(&mut session, Answer::Granted)?;
     give(&mut session, Answer::NoValue)?;
     give(&mut session, Answer::Full)?;
-    let count = session.receipts().len();
-    let parts = session.into_parts();
-    Ok(count + usize::from(parts.shelf))
+    Ok(session.receipts().len())
+}
+
+// The shelf comes back.
+fn shelf(alloc: Global) -> Result<u8, GlyphRefused> {
+    Ok(started(alloc)?.into_parts().shelf)
 }
 
 // What is made, tried once more where memory failed it.
@@ -158,7 +173,8 @@ fn answers_are_reported_and_printed(rt: HostRuntime) -> Result<(), Fail> {
     let full = twice(alloc, full_from_the_set_on)?;
     assert_eq!(rt; full.as_slice(), FULL_FROM_THE_SET_ON.as_bytes());
     assert_eq!(rt; twice(alloc, used)?.as_slice(), USED.as_bytes());
-    assert_eq!(rt; twice(alloc, receipts)?, 11);
+    assert_eq!(rt; twice(alloc, receipts)?, 4);
+    assert_eq!(rt; twice(alloc, shelf)?, 7);
     Ok(())
 }
 

@@ -1,0 +1,27 @@
+-- How the lines of a session go on, one call after another.
+use Rattle.std.proofs.Common.{◌≡◌, ℕ, ◌+◌, ◌<◌, List, ◌∷◌, drop, get_or, length}
+use Rattle.std.specs.Prelude.{Option, None, map}
+use Rattle.apl_arrays.specs.List.{Listed, glyphs_in}
+use Rattle.apl_machine.specs.Machine.{PlainMachine}
+use Rattle.sv_events.specs.Answer.{PlainAnswer}
+use Rattle.sv_events.specs.declared.event.Act.{Act}
+use Rattle.apl_session.specs.Standing.{GoesOn, IsUnderWay, StandsIn}
+use Rattle.apl_session.specs.declared.progress.Progress.{Progress}
+use Rattle.apl_session.specs.declared.under_way.UnderWay.{UnderWay}
+use Rattle.apl_session.specs.declared.under_way.UnderWay.TheVariants as under_way
+use Rattle.apl_session.proofs.Inside.{between_of, rests}
+use Rattle.apl_session.proofs.Moves.{answered_there, line_at}
+
+-- where nothing was under way it stands as before
+pub still_on : (lines : List (List ℕ)) (answers : List PlainAnswer) (before : Progress) (u : UnderWay) → before.under_way ≡ under_way.Nothing → u ≡ under_way.Nothing → StandsIn lines answers before → GoesOn lines answers None (record before { under_way = u })
+still_on lines answers before u nothing now h = rests lines answers (record before { under_way = u }) now (between_of lines answers before nothing h)
+
+-- where a line was answered, it goes on as the line does
+pub run_on : (lines : List (List ℕ)) (answers : List PlainAnswer) (before after : Progress) (m : PlainMachine) (asked : Option Act) → before.under_way ≡ under_way.Answered m → (IsUnderWay lines answers before.read before.terminal.transcript m → GoesOn lines answers asked after)
+    → StandsIn lines answers before → GoesOn lines answers asked after
+run_on lines answers before after m asked waits goes h = goes (answered_there lines answers before m waits h)
+
+-- one line more
+pub line_on : (lines : List (Listed ℕ)) (answers : List PlainAnswer) (before after : Progress) (found : Listed ℕ) (earlier asked : Option Act) → before.read < length lines → found ≡ get_or lines before.read found → GoesOn (map glyphs_in lines) answers earlier before
+    → ((list rest : List (List ℕ)) (given : List PlainAnswer) → StandsIn list given before → drop before.read list ≡ found.items ∷ rest → GoesOn list given asked after) → GoesOn (map glyphs_in lines) answers asked after
+line_on lines answers before after found earlier asked within is h goes = goes (map glyphs_in lines) (drop (before.read + 1) (map glyphs_in lines)) answers h.stands (line_at lines before.read found within is)

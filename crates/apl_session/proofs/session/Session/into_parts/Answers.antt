@@ -1,0 +1,7 @@
+use Rattle.apl_session.proofs.Around.{shows_all}
+use Rattle.apl_session.proofs.session.Session.into_parts.Goals as goal
+
+pub returns-clause-transcript : goal.returns-clause-transcript
+returns-clause-transcript g c =
+    let inside = c.self.inside in
+    shows_all c.args.self inside.user inside.lines.items _ inside.receipts.items inside.progress inside.stage inside.shelf c.self.view_is c.self.invariant c.into_transcript.ensures
