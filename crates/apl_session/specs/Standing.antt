@@ -85,6 +85,12 @@ IsIdleAt m stop.Done = IsIdle m
 IsIdleAt m (stop.Failed report) = IsIdle m
 IsIdleAt m (stop.Asks act) = Unit {0}
 
+-- the act that waits for its answer, if one does
+abbrev pub open_act : UnderWay → Option Act
+open_act under_way.Nothing = None
+open_act (under_way.Asking m act) = Some act
+open_act (under_way.Answered m) = None
+
 -- the workspace of a line that is over is taken back
 abbrev pub with_workspace_of : PlainMachine → Progress → Progress
 with_workspace_of m p = record p { terminal = record p.terminal { workspace = m.interpreter.workspace } }

@@ -1,11 +1,12 @@
-ghost use Rattle.std.specs.Prelude.{◌≡◌, ◌+◌, ◌<◌, ◌^◌, ℕ, List, ◌∷◌, IfOk, None, OnOk, Some, drop};
+ghost use Rattle.std.specs.Prelude.{◌≡◌, ◌+◌, ◌<◌, ◌^◌, ℕ, List, ◌∷◌, IfOk, None, drop};
 ghost use Rattle.apl_machine.specs.Machine.{IsIdle, MayRun};
+ghost use Rattle.apl_machine.specs.declared.flow.Stop.TheVariants as stopped;
 ghost use Rattle.apl_meaning.specs.Meaning.{most_statements};
 ghost use Rattle.sv_events.specs.Answer.{PlainAnswer};
 ghost use Rattle.session_rules.specs.Course.{with_terminal};
 ghost use Rattle.session_rules.specs.Session.{free_line, statement_done};
 ghost use Rattle.apl_terminal.specs.Terminal.{echoing, free_prompt};
-ghost use Rattle.apl_session.specs.Standing.{Asked, GoesOn, IsAt, IsIdleAt, IsUnderWay, PausesAt, StandsIn};
+ghost use Rattle.apl_session.specs.Standing.{Asked, GoesOn, IsAt, IsIdleAt, IsUnderWay, PausesAt, StandsIn, open_act, with_workspace_of};
 ghost use Rattle.apl_session.specs.declared.under_way.UnderWay.TheVariants as under_way;
 
 use crate::progress::Progress;
@@ -14,6 +15,7 @@ use apl_arrays::{Fail, Line, WantOfMemory};
 use apl_machine::{Machine, Stop, tree_of};
 use apl_operators::Steps;
 use apl_terminal::is_opening;
+use std::mem;
 use std::sync::ledger::Ledger;
 use sv_events::Act;
 
@@ -118,6 +120,7 @@ impl Progress {
         requires free { self.old.terminal.definition ≡ None }
         requires none { self.old.under_way ≡ under_way.Nothing }
         ensures pauses { IfOk result (λ asked. PausesAt machine stop asked self.old self.new) }
+        ensures paused { IfOk result (Asked self.new.under_way) }
         ensures read { self.new.read ≡ self.old.read }
     {
         match stop {
@@ -129,23 +132,35 @@ impl Progress {
 
     // Waits for the answer to an act.
     fn wait_for(&mut self, machine: Machine, act: Act) -> Result<Option<Act>, WantOfMemory>
-        ensures asked { IfOk result (λ asked. asked ≡ Some act) }
-        ensures waits { OnOk result (self.new ≡ record self.old { under_way = under_way.Asking machine act }) }
+        ensures pauses { IfOk result (λ asked. PausesAt machine (stopped.Asks act) asked self.old self.new) }
+        ensures paused { IfOk result (Asked self.new.under_way) }
         ensures read { self.new.read ≡ self.old.read }
     {
-        let asked = act.copy(self.alloc)?;
-        self.under_way = UnderWay::Asking(machine, act);
-        Ok(Some(asked))
+        discard(mem::replace(&mut self.under_way, UnderWay::Asking(machine, act)));
+        self.open_act()
+    }
+
+    // The act that waits for its answer, if one does. It takes memory for its value.
+    fn open_act(&self) -> Result<Option<Act>, WantOfMemory>
+        ensures { IfOk result (λ asked. asked ≡ open_act self.now.under_way) }
+    {
+        match &self.under_way {
+            UnderWay::Asking(_, act) => Ok(Some(act.copy(self.alloc)?)),
+            _ => Ok(None),
+        }
     }
 
     // Takes back the workspace of a line that is over.
     fn finish(&mut self, machine: Machine) -> Result<Option<Act>, WantOfMemory>
         requires idle { IsIdle machine }
         requires free { self.old.terminal.definition ≡ None }
-        ensures asked { IfOk result (λ asked. asked ≡ None) }
-        ensures rests { self.new ≡ record self.old { terminal = record self.old.terminal { workspace = machine.interpreter.workspace } } }
+        ensures pauses { IfOk result (λ asked. PausesAt machine stopped.Done asked self.old self.new) }
+        ensures rest { self.new ≡ with_workspace_of machine self.old }
     {
         self.terminal.take_back(machine.into_workspace());
         Ok(None)
     }
 }
+
+// Lets go of a line.
+fn discard(_line: UnderWay) {}
