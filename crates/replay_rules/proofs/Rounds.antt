@@ -16,8 +16,8 @@ up_to n m le = by (leb n m) refl where
 one_more : (count : ℕ) (replay : Replay) → goes_on (rounds count replay) ≡ false → rounds (suc count) replay ≡ rounds count replay
 one_more count replay over = ap (λ (goes : Bool). if goes then round (rounds count replay) else rounds count replay) over
 
--- and so many
-stays : (m n : ℕ) (replay : Replay) → n ≤ m → goes_on (rounds n replay) ≡ false → rounds m replay ≡ rounds n replay
+-- nor do so many
+pub stays : (m n : ℕ) (replay : Replay) → n ≤ m → goes_on (rounds n replay) ≡ false → rounds m replay ≡ rounds n replay
 stays zero n replay le over = ap (λ count. rounds count replay) (let none : zero ≡ n = omega arith in none)
 stays (suc m) n replay le over = elim (up_to n m le) [
   | inl before ↦
