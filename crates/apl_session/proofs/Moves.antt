@@ -21,7 +21,7 @@ use Rattle.apl_terminal.specs.LineKind.{is_opening}
 use Rattle.apl_terminal.specs.Terminal.{PlainTerminal, echoing, editing, free_prompt, printing, reporting}
 use Rattle.session_rules.specs.Course.{with_terminal}
 use Rattle.session_rules.specs.Session.{free_line, statement_done}
-use Rattle.apl_session.specs.Standing.{Asked, ComesTo, GoesOn, IsAnswered, IsAt, IsIdleAt, IsOpenLine, IsUnderWay, MayAdvance, PausesAt, StandsBy, StandsIn, with_workspace_of}
+use Rattle.apl_session.specs.Standing.{Asked, ComesTo, GoesOn, IsAnswered, IsAt, IsHanded, IsIdleAt, IsOpenLine, IsUnderWay, MayAdvance, PausesAt, StandsBy, StandsIn, with_output_of}
 use Rattle.apl_session.specs.declared.progress.Progress.{Progress}
 use Rattle.apl_session.specs.declared.under_way.UnderWay.{UnderWay}
 use Rattle.apl_session.specs.declared.under_way.UnderWay.TheVariants as under_way
@@ -92,20 +92,17 @@ idle_at counted m n after (stop.Failed report) ends is = idle_after n after ends
 idle_at counted m n after (stop.Asks act) asks is = tt
 
 -- where it stopped, the session went on
-pub stopped_on : (lines : List (List ℕ)) (answers : List PlainAnswer) (counted : ℕ) (m n after : PlainMachine) (stop : Stop) (asked : Option Act) (before p told : Progress) → before.under_way ≡ under_way.Nothing → before.terminal.definition ≡ None → StopsAs m counted n stop → after ≡ silent n
-    → StandsOn n 0 [] n.interpreter.output after → told ≡ record before { terminal = printing n.interpreter.output before.terminal } → PausesAt after stop asked told p → IsUnderWay lines answers before.read before.terminal.transcript m → GoesOn lines answers asked p
-stopped_on lines answers counted m n after stop.Done asked before p told none free ends is on printed pauses h =
-    let there : p ≡ with_workspace_of after (record before { terminal = printing n.interpreter.output before.terminal }) = pauses.1 ∙ ap (with_workspace_of after) printed in
+pub stopped_on : (lines : List (List ℕ)) (answers : List PlainAnswer) (counted : ℕ) (m n : PlainMachine) (stop : Stop) (asked : Option Act) (before p : Progress) → before.under_way ≡ under_way.Nothing → before.terminal.definition ≡ None → StopsAs m counted n stop
+    → StandsOn n 0 [] n.interpreter.output (silent n) → PausesAt (silent n) stop asked (with_output_of n before) p → IsUnderWay lines answers before.read before.terminal.transcript m → GoesOn lines answers asked p
+stopped_on lines answers counted m n stop.Done asked before p none free ends on pauses h =
     subst (λ (a : Option Act). GoesOn lines answers a p) (sym pauses.0)
-    (done_on lines answers before.read counted m n after p before.terminal free ends is (ap (λ (x : Progress). x.terminal) there) (ap (λ (x : Progress). x.read) there) (ap (λ (x : Progress). x.under_way) there ∙ none) h)
-stopped_on lines answers counted m n after (stop.Failed report) asked before p told none free ends is on printed pauses h =
-    let there : p ≡ with_workspace_of after (record before { terminal = printing n.interpreter.output before.terminal }) = pauses.1 ∙ ap (with_workspace_of after) printed in
+    (done_on lines answers before.read counted m n (silent n) p before.terminal free ends refl (ap (λ (x : Progress). x.terminal) pauses.1) (ap (λ (x : Progress). x.read) pauses.1) (ap (λ (x : Progress). x.under_way) pauses.1 ∙ none) h)
+stopped_on lines answers counted m n (stop.Failed report) asked before p none free ends on pauses h =
     subst (λ (a : Option Act). GoesOn lines answers a p) (sym pauses.0)
-    (reported_on lines answers before.read counted report m n after p before.terminal free ends is (ap (λ (x : Progress). x.terminal) there) (ap (λ (x : Progress). x.read) there) (ap (λ (x : Progress). x.under_way) there ∙ none) h)
-stopped_on lines answers counted m n after (stop.Asks act) asked before p told none free asks is on printed pauses h =
-    let there : p ≡ record (record before { terminal = printing n.interpreter.output before.terminal }) { under_way = under_way.Asking after act } = pauses.1 ∙ ap (λ (x : Progress). record x { under_way = under_way.Asking after act }) printed in
+    (reported_on lines answers before.read counted report m n (silent n) p before.terminal free ends refl (ap (λ (x : Progress). x.terminal) pauses.1) (ap (λ (x : Progress). x.read) pauses.1) (ap (λ (x : Progress). x.under_way) pauses.1 ∙ none) h)
+stopped_on lines answers counted m n (stop.Asks act) asked before p none free asks on pauses h =
     subst (λ (a : Option Act). GoesOn lines answers a p) (sym pauses.0)
-    (asked_on lines answers before.read counted act m n after p before.terminal free asks is on (ap (λ (x : Progress). x.terminal) there) (ap (λ (x : Progress). x.read) there) (ap (λ (x : Progress). x.under_way) there) h)
+    (asked_on lines answers before.read counted act m n (silent n) p before.terminal free asks refl on (ap (λ (x : Progress). x.terminal) pauses.1) (ap (λ (x : Progress). x.read) pauses.1) (ap (λ (x : Progress). x.under_way) pauses.1) h)
 
 -- the act of a line that waits is open
 pub open_there : (u : UnderWay) (m : PlainMachine) (act : Act) → u ≡ under_way.Asking m act → IsOpenLine u → IsOpenStage m.stage
@@ -113,13 +110,14 @@ open_there u m act waiting h =
     let is : IsOpenAct m act = subst IsOpenLine waiting h in open_stage m.interpreter.workspace m.stage act is
 
 -- a line whose act is answered
-pub answered_on : (lines : List (List ℕ)) (answers : List PlainAnswer) (act : Act) (answer : PlainAnswer) (m n : PlainMachine) (before after : Progress) → before.under_way ≡ under_way.Asking m act → after ≡ record before { under_way = under_way.Answered n }
-    → StandsOn m 0 (answer ∷ []) [] n → MayRun n.stage → StandsIn lines answers before → IsAnswered lines answers act answer after
-answered_on lines answers act answer m n before after waiting is on runs h =
+pub answered_on : (lines : List (List ℕ)) (answers : List PlainAnswer) (act given : Act) (answer : PlainAnswer) (m : PlainMachine) (before after : Progress) (left : UnderWay) → given ≡ act → before.under_way ≡ under_way.Asking m act
+    → IsHanded m answer (record before { under_way = left }) after → StandsIn lines answers before → IsAnswered lines answers given answer after
+answered_on lines answers act given answer m before after left same waiting is h =
     let at : StandsBy lines answers before.read before.terminal (under_way.Asking m act) = subst (λ (u : UnderWay). StandsBy lines answers before.read before.terminal u) waiting h in
-    let there : IsUnderWay lines (answers ++ answer ∷ []) before.read before.terminal.transcript n =
-    subst (λ printed. IsUnderWay lines (answers ++ answer ∷ []) before.read printed n) (append-nil before.terminal.transcript) (taken_on lines answers (answer ∷ []) before.read 0 before.terminal.transcript [] m n at.1 on) in
-    subst (λ (p : Progress). IsAnswered lines answers act answer p) (sym is) (record { waited = at.2.waits; stands = (at.0, there, runs); may = (at.0, runs) })
+    let there : IsUnderWay lines (answers ++ answer ∷ []) before.read before.terminal.transcript is.handed =
+    subst (λ printed. IsUnderWay lines (answers ++ answer ∷ []) before.read printed is.handed) (append-nil before.terminal.transcript) (taken_on lines answers (answer ∷ []) before.read 0 before.terminal.transcript [] m is.handed at.1 is.stands) in
+    subst (λ (a : Act). IsAnswered lines answers a answer after) (sym same)
+    (subst (λ (p : Progress). IsAnswered lines answers act answer p) (sym is.rest) (record { waited = at.2.waits; stands = (at.0, there, is.may); may = (at.0, is.may) }))
 
 -- a line that was answered is under way
 pub answered_there : (lines : List (List ℕ)) (answers : List PlainAnswer) (p : Progress) (m : PlainMachine) → p.under_way ≡ under_way.Answered m → StandsIn lines answers p → IsUnderWay lines answers p.read p.terminal.transcript m

@@ -22,6 +22,6 @@ pub run_on : (lines : List (List ℕ)) (answers : List PlainAnswer) (before afte
 run_on lines answers before after m asked waits goes h = goes (answered_there lines answers before m waits h)
 
 -- one line more
-pub line_on : (lines : List (Listed ℕ)) (answers : List PlainAnswer) (before after : Progress) (found : Listed ℕ) (earlier asked : Option Act) → before.read < length lines → found ≡ get_or lines before.read found → GoesOn (map glyphs_in lines) answers earlier before
+pub line_on : (lines : List (Listed ℕ)) (answers : List PlainAnswer) (before after : Progress) (found : Listed ℕ) (asked : Option Act) → before.read < length lines → found ≡ get_or lines before.read found → StandsIn (map glyphs_in lines) answers before
     → ((list rest : List (List ℕ)) (given : List PlainAnswer) → StandsIn list given before → drop before.read list ≡ found.items ∷ rest → GoesOn list given asked after) → GoesOn (map glyphs_in lines) answers asked after
-line_on lines answers before after found earlier asked within is h goes = goes (map glyphs_in lines) (drop (before.read + 1) (map glyphs_in lines)) answers h.stands (line_at lines before.read found within is)
+line_on lines answers before after found asked within is h goes = goes (map glyphs_in lines) (drop (before.read + 1) (map glyphs_in lines)) answers h (line_at lines before.read found within is)

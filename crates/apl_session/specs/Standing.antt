@@ -1,7 +1,7 @@
 -- Where the inside of a session stands in its lines.
 use Rattle.std.specs.Prelude.{◌≡◌, ◌≤◌, ◌++◌, ℕ, List, [], ◌∷◌, Option, Some, None, drop, length}
 use Rattle.apl_machine.specs.Machine.{PlainMachine, IsIdle, IsOpenAct, MayRun}
-use Rattle.apl_machine.specs.Runs.{Stands}
+use Rattle.apl_machine.specs.Runs.{Stands, StandsOn}
 use Rattle.apl_machine.specs.declared.flow.Stop.{Stop}
 use Rattle.apl_machine.specs.declared.flow.Stop.TheVariants as stop
 use Rattle.apl_meaning.specs.Meaning.{mean, most_statements}
@@ -10,7 +10,7 @@ use Rattle.sv_events.specs.Answer.{PlainAnswer}
 use Rattle.sv_events.specs.declared.event.Act.{Act}
 use Rattle.session_rules.specs.Course.{Course, behind}
 use Rattle.session_rules.specs.Session.{lines_done, session_of}
-use Rattle.apl_terminal.specs.Terminal.{PlainTerminal}
+use Rattle.apl_terminal.specs.Terminal.{PlainTerminal, printing}
 use Rattle.apl_session.specs.Receipts.{PlainReceipt, acts_in, answers_in}
 use Rattle.apl_session.specs.declared.progress.Progress.{Progress}
 use Rattle.apl_session.specs.declared.session.Stage.{Stage}
@@ -95,6 +95,10 @@ open_act (under_way.Answered m) = None
 abbrev pub with_workspace_of : PlainMachine → Progress → Progress
 with_workspace_of m p = record p { terminal = record p.terminal { workspace = m.interpreter.workspace } }
 
+-- what a machine printed stands behind what was printed before
+abbrev pub with_output_of : PlainMachine → Progress → Progress
+with_output_of m p = record p { terminal = printing m.interpreter.output p.terminal }
+
 -- where a run stops, the act that it asked waits, or the workspace is taken back
 abbrev pub PausesAt : PlainMachine → Stop → Option Act → Progress → Progress → Type 0
 PausesAt m stop.Done asked before after = (asked ≡ None) × (after ≡ with_workspace_of m before)
@@ -110,6 +114,13 @@ pub record GoesOn (lines : List (List ℕ)) (answers : List PlainAnswer) (asked 
 pub record ComesTo (lines : List (List ℕ)) (answers : List PlainAnswer) (asked : Option Act) (p : Progress) : Type 0 where
   pub goes_on : GoesOn lines answers asked p
   pub over : asked ≡ None → length lines ≤ p.read
+
+-- the line that asked an act was handed this answer, and may go on
+pub record IsHanded (m : PlainMachine) (answer : PlainAnswer) (before after : Progress) : Type 0 where
+  pub handed : PlainMachine
+  pub stands : StandsOn m 0 (answer ∷ []) [] handed
+  pub may : MayRun handed.stage
+  pub rest : after ≡ record before { under_way = under_way.Answered handed }
 
 -- the act that waited was given an answer
 pub record IsAnswered (lines : List (List ℕ)) (answers : List PlainAnswer) (act : Act) (answer : PlainAnswer) (p : Progress) : Type 0 where

@@ -1,14 +1,16 @@
-ghost use Rattle.std.specs.Prelude.{◌≡◌, ◌+◌, ◌<◌, ◌^◌, ℕ, List, ◌∷◌, IfOk, None, drop};
-ghost use Rattle.apl_machine.specs.Machine.{IsIdle, MayRun};
+ghost use Rattle.std.specs.Prelude.{◌≡◌, ◌+◌, ◌<◌, ◌^◌, ℕ, List, [], ◌∷◌, IfOk, None, drop};
+ghost use Rattle.apl_machine.specs.Machine.{IsIdle, MayRun, silent};
+ghost use Rattle.apl_machine.specs.Runs.{StandsOn};
 ghost use Rattle.apl_machine.specs.declared.flow.Stop.TheVariants as stopped;
 ghost use Rattle.apl_meaning.specs.Meaning.{most_statements};
 ghost use Rattle.sv_events.specs.Answer.{PlainAnswer};
 ghost use Rattle.session_rules.specs.Course.{with_terminal};
 ghost use Rattle.session_rules.specs.Session.{free_line, statement_done};
 ghost use Rattle.apl_terminal.specs.Terminal.{echoing, free_prompt};
-ghost use Rattle.apl_session.specs.Standing.{Asked, GoesOn, IsAt, IsIdleAt, IsUnderWay, PausesAt, StandsIn, open_act, with_workspace_of};
+ghost use Rattle.apl_session.specs.Standing.{Asked, GoesOn, IsAt, IsIdleAt, IsUnderWay, PausesAt, StandsIn, open_act, with_output_of, with_workspace_of};
 ghost use Rattle.apl_session.specs.declared.under_way.UnderWay.TheVariants as under_way;
 
+use crate::letting_go::let_go;
 use crate::progress::Progress;
 use crate::under_way::UnderWay;
 use apl_arrays::{Fail, Line, WantOfMemory};
@@ -82,8 +84,13 @@ impl Progress {
         match tree_of(self.alloc, self.terminal.workspace(), line) {
             Ok(tree) => {
                 let mut machine = Machine::new(self.alloc, self.terminal.lend());
-                machine.begin(line, tree)?;
-                self.run(machine, steps)
+                match machine.begin(line, tree) {
+                    Ok(()) => self.run(machine, steps),
+                    Err(WantOfMemory) => {
+                        let_go(machine);
+                        Err(WantOfMemory)
+                    }
+                }
             }
             Err(Fail::Report(report)) => {
                 self.terminal.report(report, line)?;
@@ -109,9 +116,34 @@ impl Progress {
         ensures read { self.new.read ≡ self.old.read }
     {
         let mut machine = machine;
-        let stop = machine.run(steps)?;
-        self.terminal.print(machine.take_output())?;
-        self.stop(machine, stop)
+        match machine.run(steps) {
+            Ok(stop) => self.show(machine, stop),
+            Err(WantOfMemory) => {
+                let_go(machine);
+                Err(WantOfMemory)
+            }
+        }
+    }
+
+    // Prints what a run printed, and goes on as it stopped.
+    fn show(&mut self, machine: Machine, stop: Stop) -> Result<Option<Act>, WantOfMemory>
+        requires idle { IsIdleAt machine stop }
+        requires free { self.old.terminal.definition ≡ None }
+        requires none { self.old.under_way ≡ under_way.Nothing }
+        ensures pauses { IfOk result (λ asked. PausesAt (silent machine) stop asked (with_output_of machine self.old) self.new) }
+        ensures taken { StandsOn machine 0 [] machine.interpreter.output (silent machine) }
+        ensures paused { IfOk result (Asked self.new.under_way) }
+        ensures read { self.new.read ≡ self.old.read }
+    {
+        let mut machine = machine;
+        match self.terminal.print(machine.take_output()) {
+            Ok(()) => self.stop(machine, stop),
+            Err(WantOfMemory) => {
+                let_go(machine);
+                let_go(stop);
+                Err(WantOfMemory)
+            }
+        }
     }
 
     // Waits for the act that was asked, or goes on behind a line that is over.
@@ -136,7 +168,7 @@ impl Progress {
         ensures paused { IfOk result (Asked self.new.under_way) }
         ensures read { self.new.read ≡ self.old.read }
     {
-        discard(mem::replace(&mut self.under_way, UnderWay::Asking(machine, act)));
+        let_go(mem::replace(&mut self.under_way, UnderWay::Asking(machine, act)));
         self.open_act()
     }
 
@@ -161,6 +193,3 @@ impl Progress {
         Ok(None)
     }
 }
-
-// Lets go of a line.
-fn discard(_line: UnderWay) {}

@@ -2,10 +2,14 @@ ghost use Rattle.std.specs.Prelude.{◌≡◌, ◌≤◌, ℕ, List, IfOk, IsOk,
 ghost use Rattle.apl_arrays.specs.List.{glyphs_in};
 ghost use Rattle.sv_events.specs.Answer.{PlainAnswer, plain_answer};
 ghost use Rattle.apl_terminal.specs.Terminal.{new_terminal};
-ghost use Rattle.apl_session.specs.Standing.{Asked, ComesTo, GoesOn, IsAnswered, IsOpenLine, MayAdvance, StandsIn};
+ghost use Rattle.apl_machine.specs.Machine.{IsOpenStage};
+ghost use Rattle.apl_session.specs.Standing.{Asked, ComesTo, GoesOn, IsAnswered, IsHanded, IsOpenLine, MayAdvance, StandsIn};
+ghost use Rattle.apl_session.specs.declared.under_way.UnderWay.TheVariants as under_way;
 
+use crate::letting_go::let_go;
 use crate::under_way::UnderWay;
 use apl_arrays::{Line, LineList, WantOfMemory};
+use apl_machine::Machine;
 use apl_operators::Steps;
 use apl_terminal::Terminal;
 use std::alloc::Global;
@@ -47,11 +51,28 @@ impl Progress {
         requires { MayAdvance self.old.terminal self.old.under_way }
         ensures { IfOk result (λ asked. (answers : List PlainAnswer) → StandsIn (map glyphs_in lines.now) answers self.old → ComesTo (map glyphs_in lines.now) answers asked self.new) }
     {
-        let mut asked = self.go_on(steps)?;
-        while asked.is_none() && self.read < lines.len() {
-            asked = self.take_line(&lines[self.read], steps)?;
+        match self.go_on(steps)? {
+            Some(act) => Ok(Some(act)),
+            None => self.take_lines(lines, steps),
         }
-        Ok(asked)
+    }
+
+    // Reads the lines that are left, up to the first act.
+    fn take_lines<L: Ledger>(
+        &mut self,
+        lines: &[Line],
+        steps: &mut Steps<L>,
+    ) -> Result<Option<Act>, WantOfMemory>
+        requires { self.old.under_way ≡ under_way.Nothing }
+        ensures { IfOk result (λ asked. (answers : List PlainAnswer) → StandsIn (map glyphs_in lines.now) answers self.old → ComesTo (map glyphs_in lines.now) answers asked self.new) }
+    {
+        while self.read < lines.len() {
+            match self.take_line(&lines[self.read], steps)? {
+                Some(act) => return Ok(Some(act)),
+                None => {}
+            }
+        }
+        Ok(None)
     }
 
     /// Hands the answer to the act that is open to its line, and gives back the act. Nothing is evaluated. No memory.
@@ -61,13 +82,33 @@ impl Progress {
         ensures stands { IfOk result (λ act. (lines : List (List ℕ)) (answers : List PlainAnswer) → StandsIn lines answers self.old → IsAnswered lines answers act (plain_answer answer) self.new) }
     {
         match mem::replace(&mut self.under_way, UnderWay::Nothing) {
-            UnderWay::Asking(machine, act) => {
-                let mut machine = machine;
-                machine.resume(answer)?;
-                self.under_way = UnderWay::Answered(machine);
+            UnderWay::Asking(machine, act) => self.hand(machine, act, answer),
+            other => {
+                let_go(other);
+                let_go(answer);
+                Err(WantOfMemory)
+            }
+        }
+    }
+
+    // Hands an answer to the line that asked an act, and gives back the act.
+    fn hand(&mut self, machine: Machine, act: Act, answer: Answer) -> Result<Act, WantOfMemory>
+        requires { IsOpenStage machine.stage }
+        ensures granted { IfOk result (λ given. given ≡ act) }
+        ensures act { IsOk result }
+        ensures stands { IsHanded machine (plain_answer answer) self.old self.new }
+    {
+        let mut machine = machine;
+        match machine.resume(answer) {
+            Ok(()) => {
+                let_go(mem::replace(&mut self.under_way, UnderWay::Answered(machine)));
                 Ok(act)
             }
-            _ => Err(WantOfMemory),
+            Err(WantOfMemory) => {
+                let_go(machine);
+                let_go(act);
+                Err(WantOfMemory)
+            }
         }
     }
 
@@ -82,7 +123,13 @@ impl Progress {
     pub fn into_transcript(self) -> LineList
         ensures { result.items ≡ self.terminal.transcript }
     {
-        self.terminal.into_transcript()
+        let Progress {
+            terminal,
+            under_way,
+            ..
+        } = self;
+        let_go(under_way);
+        terminal.into_transcript()
     }
 
     // Goes on with the line whose act was answered, if there is one.
@@ -95,7 +142,10 @@ impl Progress {
         match mem::replace(&mut self.under_way, UnderWay::Nothing) {
             UnderWay::Nothing => Ok(None),
             UnderWay::Answered(machine) => self.run(machine, steps),
-            UnderWay::Asking(..) => Err(WantOfMemory),
+            other => {
+                let_go(other);
+                Err(WantOfMemory)
+            }
         }
     }
 }

@@ -13,8 +13,8 @@ use Rattle.apl_session.specs.declared.progress.Progress.{Progress}
 use Rattle.apl_session.proofs.Moves.{none_asked_by, opened_on, statement_on}
 use Rattle.apl_session.proofs.progress.Progress.begin_line.Goals as goal
 
-pub returns-then-is_opening-clause-stands : goal.returns-then-is_opening-clause-stands
-returns-then-is_opening-clause-stands g c =
+pub returns-in_ok-open-clause-stands : goal.returns-in_ok-open-clause-stands
+returns-in_ok-open-clause-stands g c =
     let p : Progress = c.args.self.now in
     let line : List ℕ = c.args.line.now.items in
     let opens : is_opening line ≡ true = cc in
@@ -30,8 +30,8 @@ returns-else-is_opening-clause-stands g c =
     (λ (asked : Option Act). (lines : List (List ℕ)) (answers : List PlainAnswer) → IsAt lines answers p.read (λ c. free_line most_statements line (with_terminal (echoing free_prompt line c.terminal) c)) p.terminal → GoesOn lines answers asked c.evaluate.new.self)
     (λ asked so. λ lines answers at. so lines answers (statement_on lines line answers p.read p.terminal told opens c.in_ok-echo_free.ensures at)) c.evaluate.ensures.stands
 
-pub returns-then-is_opening-clause-paused : goal.returns-then-is_opening-clause-paused
-returns-then-is_opening-clause-paused g c = none_asked_by c.args.self.now.under_way c.requires.none
+pub returns-in_ok-open-clause-paused : goal.returns-in_ok-open-clause-paused
+returns-in_ok-open-clause-paused g c = none_asked_by c.args.self.now.under_way c.requires.none
 
 pub returns-else-is_opening-clause-paused : goal.returns-else-is_opening-clause-paused
 returns-else-is_opening-clause-paused g c = c.evaluate.ensures.paused

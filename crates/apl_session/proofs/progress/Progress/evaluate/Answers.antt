@@ -1,38 +1,31 @@
-use Rattle.std.proofs.Common.{◌≡◌, ℕ, List}
+use Rattle.std.proofs.Common.{◌≡◌, ℕ, List, subst}
 use Rattle.std.proofs.lemmas.Result.{IfOk-weaker}
-use Rattle.std.specs.Prelude.{Option}
-use Rattle.apl_meaning.specs.Meaning.{most_statements}
+use Rattle.std.specs.Prelude.{Err}
+use Rattle.apl_arrays.specs.declared.report.Fail.{Fail}
+use Rattle.apl_arrays.specs.declared.report.Fail.TheVariants as fail
+use Rattle.apl_meaning.specs.Reading.{read_with}
 use Rattle.line_trees.specs.Parsing.{plain_tree}
-use Rattle.sv_events.specs.Answer.{PlainAnswer}
-use Rattle.sv_events.specs.declared.event.Act.{Act}
-use Rattle.session_rules.specs.Session.{statement_done}
-use Rattle.apl_session.specs.Standing.{GoesOn, IsAt, IsUnderWay}
+use Rattle.apl_machine.specs.Parts.{IsNotRead}
 use Rattle.apl_session.specs.declared.progress.Progress.{Progress}
-use Rattle.apl_session.proofs.Moves.{evaluated_on, none_asked_by, refused_on}
+use Rattle.apl_session.proofs.Moves.{evaluated_on, refused_on}
 use Rattle.apl_session.proofs.progress.Progress.evaluate.Goals as goal
 
-pub returns-in-Ok-clause-stands : goal.returns-in-Ok-clause-stands
-returns-in-Ok-clause-stands g c =
+pub returns-in-Ok-begin-clause-stands : goal.returns-in-Ok-begin-clause-stands
+returns-in-Ok-begin-clause-stands g c =
     let p : Progress = c.args.self.now in
     let line : List ℕ = c.args.line.now.items in
-    IfOk-weaker c.run.result
-    (λ (asked : Option Act). (lines : List (List ℕ)) (answers : List PlainAnswer) → IsUnderWay lines answers p.read c.lend.new.self.transcript c.begin.new.self → GoesOn lines answers asked c.run.new.self)
-    (λ (asked : Option Act). (lines : List (List ℕ)) (answers : List PlainAnswer) → IsAt lines answers p.read (statement_done most_statements line) p.terminal → GoesOn lines answers asked c.run.new.self)
-    (λ asked so. λ lines answers at.
-    so lines answers
+    IfOk-weaker c.run.result _ _
+    (λ asked goes lines answers at.
+    goes lines answers
     (evaluated_on lines line answers p.read p.terminal c.lend.new.self c.lend.result c.workspace.result.now (plain_tree c.in-Ok.tree) c.new-machine.result c.begin.new.self c.lend.ensures.left c.lend.ensures.lent c.new-machine.ensures c.workspace.ensures.value
-    c.in-Ok.ensures.tree c.in_ok-begin.ensures.stands at))
+    c.in-Ok.ensures.tree c.in-Ok-begin.ensures.stands at))
     c.run.ensures.stands
 
-pub returns-in-Err-Report-clause-stands : goal.returns-in-Err-Report-clause-stands
-returns-in-Err-Report-clause-stands g c =
+pub returns-in_ok-report-in-Err-Report-clause-stands : goal.returns-in_ok-report-in-Err-Report-clause-stands
+returns-in_ok-report-in-Err-Report-clause-stands g c =
     let p : Progress = c.args.self.now in
     let line : List ℕ = c.args.line.now.items in
+    let is_not : IsNotRead (read_with c.workspace.result.now line) c.in-Err-Report.field-0 = c.in-Err-Report.ensures.refused in
+    let refused : read_with c.workspace.result.now line ≡ Err c.in-Err-Report.report = subst (λ (why : Fail). IsNotRead (read_with c.workspace.result.now line) why) c.in-Err-Report.field-0-is is_not in
     λ lines answers at.
-    refused_on lines line answers p.terminal c.workspace.result.now c.in-Err-Report.report _ c.requires.none c.in_ok-report.ensures c.workspace.ensures.value c.workspace.ensures.frames c.requires.free ? at
-
-pub returns-in-Ok-clause-paused : goal.returns-in-Ok-clause-paused
-returns-in-Ok-clause-paused g c = c.run.ensures.paused
-
-pub returns-in-Err-Report-clause-paused : goal.returns-in-Err-Report-clause-paused
-returns-in-Err-Report-clause-paused g c = none_asked_by c.args.self.now.under_way c.requires.none
+    refused_on lines line answers p.terminal c.workspace.result.now c.in-Err-Report.report _ c.requires.none c.in_ok-report-in-Err-Report.ensures c.workspace.ensures.value c.workspace.ensures.frames c.requires.free refused at

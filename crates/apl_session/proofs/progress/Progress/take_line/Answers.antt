@@ -15,14 +15,14 @@ use Rattle.apl_session.proofs.Inside.{fed_line, free_at, rests, between_of, line
 use Rattle.apl_session.proofs.Moves.{none_asked_by}
 use Rattle.apl_session.proofs.progress.Progress.take_line.Goals as goal
 
-pub returns-in-Some-clause-stands : goal.returns-in-Some-clause-stands
-returns-in-Some-clause-stands g c =
+pub returns-in_ok-feed-in-Some-clause-stands : goal.returns-in_ok-feed-in-Some-clause-stands
+returns-in_ok-feed-in-Some-clause-stands g c =
     let p : Progress = c.args.self.now in
     let line : List ℕ = c.args.line.now.items in
     λ lines rest answers at here.
     rests lines answers _ c.requires.none
     (fed_line lines rest line answers p.read p.terminal c.feed.new.self c.in-Some.editor here (lines_behind lines rest line p.read here) (sym c.take_definition.ensures.taken ∙ c.in-Some.is)
-    (c.in_ok-feed.ensures ∙ ap (λ (s : PlainTerminal). editing line (fed c.in-Some.editor line) (echoing (prompt_text c.in-Some.editor.number) line (record s { definition = Some c.in-Some.editor }))) c.take_definition.ensures.left)
+    (c.in_ok-feed-in-Some.ensures ∙ ap (λ (s : PlainTerminal). editing line (fed c.in-Some.editor line) (echoing (prompt_text c.in-Some.editor.number) line (record s { definition = Some c.in-Some.editor }))) c.take_definition.ensures.left)
     (between_of lines answers p c.requires.none at))
 
 pub returns-in-None-clause-stands : goal.returns-in-None-clause-stands
@@ -38,8 +38,8 @@ returns-in-None-clause-stands g c =
     (free_at lines rest line answers p.read p.terminal here (lines_behind lines rest line p.read here) (sym c.take_definition.ensures.taken ∙ c.in-None.is) (between_of lines answers p c.requires.none at))))
     c.begin_line.ensures.stands
 
-pub returns-in-Some-clause-paused : goal.returns-in-Some-clause-paused
-returns-in-Some-clause-paused g c = none_asked_by c.args.self.now.under_way c.requires.none
+pub returns-in_ok-feed-in-Some-clause-paused : goal.returns-in_ok-feed-in-Some-clause-paused
+returns-in_ok-feed-in-Some-clause-paused g c = none_asked_by c.args.self.now.under_way c.requires.none
 
 pub returns-in-None-clause-paused : goal.returns-in-None-clause-paused
 returns-in-None-clause-paused g c = c.begin_line.ensures.paused
