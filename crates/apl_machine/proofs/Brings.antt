@@ -77,7 +77,7 @@ local_by : (first second : Option Meaning) → IfSome first IsLocal → IfSome s
 local_by None second h k = k
 local_by (Some m) second h k = h
 
-frames_are_local : (frames : List NameTable) (name : List ℕ) → All HasLocals frames → IfSome (innermost frames name) IsLocal
+pub frames_are_local : (frames : List NameTable) (name : List ℕ) → All HasLocals frames → IfSome (innermost frames name) IsLocal
 frames_are_local [] name h = tt
 frames_are_local (table ∷ tables) name h =
     local_by (meaning_in table name) (innermost tables name) (IfSome-lookup_from_All IsLocal (same_name name) table (All-head HasLocals table tables h)) (frames_are_local tables name (All-tail HasLocals table tables h))

@@ -6,6 +6,7 @@ pub mod Behind
 pub mod Brings
 pub mod Changed
 pub mod Controlled
+pub mod EnoughClasses
 pub mod Entered
 pub mod Enters
 pub mod Falling

@@ -24,8 +24,8 @@ stops_at_pause before counted m pause.Ends after stopped comes sound so =
     let done : EndsDone before counted n = record { comes = comes_to_end before m counted idle comes; idle = record { stage = refl; stack = sound.0; frames = sound.1 } } in
     subst (λ (after : PlainMachine). StopsAs before counted after stopped) (sym so.1) (subst (λ (stopped : Stop). StopsAs before counted n stopped) (sym so.0) done)
 stops_at_pause before counted m (pause.Opens for_this e) after stopped comes sound so =
-    let n : PlainMachine = record { interpreter = m; stage = is_open (plain_pending for_this) (caller_of m.workspace (here m) e) } in
-    let asked : Act = act_of (plain_pending for_this) m.workspace in
+    let n : PlainMachine = record { interpreter = m; stage = is_open (plain_pending for_this.value) (caller_of m.workspace (here m) e) } in
+    let asked : Act = act_of (plain_pending for_this.value) m.workspace in
     let asks : AsksThere asked before counted n = record { comes = comes_to_act before n counted asked comes refl; stands = stands_on before n counted comes; is_open = refl } in
     subst (λ (after : PlainMachine). StopsAs before counted after stopped) (sym so.1) (subst (λ (stopped : Stop). StopsAs before counted n stopped) (sym so.0) asks)
 

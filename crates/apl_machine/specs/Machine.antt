@@ -36,8 +36,8 @@ pub record PlainMachine : Type 0 where
 abbrev pub plain_stage : PlainWorkspace → List ℕ → Stage → PlainStage
 plain_stage w shown stage.Idle = idle
 plain_stage w shown (stage.Begins reading) = begins (reading_tree reading)
-plain_stage w shown (stage.Open for_this e) = is_open (plain_pending for_this) (caller_of w shown e)
-plain_stage w shown (stage.Answered answer for_this e) = has_answer (plain_answer answer) (plain_pending for_this) (caller_of w shown e)
+plain_stage w shown (stage.Open for_this e) = is_open (plain_pending for_this.value) (caller_of w shown e)
+plain_stage w shown (stage.Answered answer for_this e) = has_answer (plain_answer answer) (plain_pending for_this.value) (caller_of w shown e)
 plain_stage w shown stage.Lost = lost
 
 -- what is still to come of a stage over what waits; of a machine that is idle or lost nothing is asked

@@ -37,7 +37,7 @@ abbrev pub flow_to_come : PlainInterpreter → Flow → Coming
 flow_to_come m (flow.Evaluates e) s = onward (evaluation_of m.workspace e) m.stack s
 flow_to_come m (flow.Begins e) s = onward (evaluation_of m.workspace e) m.stack s
 flow_to_come m (flow.Leads next) s = behind m.stack (plain_next next) s
-flow_to_come m (flow.Opens for_this e) s = carried_on (asked_for (plain_pending for_this) s) (caller_of m.workspace (here m) e) m.stack
+flow_to_come m (flow.Opens for_this e) s = carried_on (asked_for (plain_pending for_this.value) s) (caller_of m.workspace (here m) e) m.stack
 flow_to_come m flow.Ends s = gives goes_on s
 
 -- a step comes to a flow, or to a report that ends the line, and changes nothing of what is to come; where memory ran out nothing is said

@@ -70,7 +70,7 @@ abbrev pub IsFlow : PlainInterpreter → Flow → Type 0
 IsFlow m (flow.Evaluates e) = IsEvaluation m.workspace e
 IsFlow m (flow.Begins e) = IsEvaluation m.workspace e
 IsFlow m (flow.Leads next) = Unit {0}
-IsFlow m (flow.Opens for_this e) = IsPending m.workspace for_this × IsCaller m.workspace e
+IsFlow m (flow.Opens for_this e) = IsPending m.workspace for_this.value × IsCaller m.workspace e
 IsFlow m flow.Ends = (m.stack ≡ []) × (m.workspace.frames ≡ [])
 
 -- what holds of each pause

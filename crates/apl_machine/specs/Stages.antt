@@ -13,8 +13,8 @@ use Rattle.apl_machine.specs.Sound.{IsCaller}
 abbrev pub IsStage : PlainWorkspace → Stage → Type 0
 IsStage w stage.Idle = Unit {0}
 IsStage w (stage.Begins reading) = IsReading reading
-IsStage w (stage.Open for_this e) = IsPending w for_this × IsCaller w e
-IsStage w (stage.Answered answer for_this e) = IsPending w for_this × IsCaller w e
+IsStage w (stage.Open for_this e) = IsPending w for_this.value × IsCaller w e
+IsStage w (stage.Answered answer for_this e) = IsPending w for_this.value × IsCaller w e
 IsStage w stage.Lost = Unit {0}
 
 -- what holds of every machine

@@ -15,7 +15,7 @@ use Rattle.apl_machine.specs.Pending.{act_of, plain_pending}
 abbrev pub PausesAs : PlainInterpreter → Pause → PlainMachine → Stop → Type 0
 PausesAs m pause.Ends after stopped = (stopped ≡ stop.Done) × (after ≡ record { interpreter = m; stage = idle })
 PausesAs m (pause.Opens for_this e) after stopped =
-    (stopped ≡ stop.Asks (act_of (plain_pending for_this) m.workspace)) × (after ≡ record { interpreter = m; stage = is_open (plain_pending for_this) (caller_of m.workspace (here m) e) })
+    (stopped ≡ stop.Asks (act_of (plain_pending for_this.value) m.workspace)) × (after ≡ record { interpreter = m; stage = is_open (plain_pending for_this.value) (caller_of m.workspace (here m) e) })
 
 -- a line ended so: by a report; where memory ran out it is not ended
 abbrev pub EndsAs : PlainInterpreter → Fail → PlainMachine → Stop → Type 0

@@ -155,7 +155,7 @@ impl Interpreter {
         let mut rows = rows;
         while let Some(row) = rows.next() {
             if self.opens(&row) {
-                return Ok(Flow::Opens(Pending::Row(rows), e));
+                return self.open(Pending::Row(rows), e);
             }
             rows.tell_zeros(row.deed.width())?;
         }

@@ -51,7 +51,7 @@ impl Interpreter {
     {
         let mut e = e;
         if self.is_seen_shared(&name) {
-            return Ok(Flow::Opens(Pending::Sets { name, value, gives }, e));
+            return self.open(Pending::Sets { name, value, gives }, e);
         }
         self.assign_value(&mut e, &name, value)?;
         self.give(e, given(name, gives))
@@ -81,7 +81,7 @@ impl Interpreter {
                 self.put(e, name, new, Some(right))
             }
             Seen::Function(_) | Seen::Label(_) => Err(Fail::Report(Report::Syntax)),
-            Seen::Shared(_) => Ok(Flow::Opens(Pending::Replaces { name, subs, right }, e)),
+            Seen::Shared(_) => self.open(Pending::Replaces { name, subs, right }, e),
         }
     }
 

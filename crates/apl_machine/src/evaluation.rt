@@ -83,7 +83,8 @@ impl Evaluation {
     pub fn push(&mut self, value: Held) -> Result<(), WantOfMemory>
         ensures { OnOk result (IsWithValues self.old (self.old.values.items ++ value ∷ []) self.new) }
     {
-        self.values.push(value)?;
+        self.values.reserve(1)?;
+        self.values.push_reserved(value);
         Ok(())
     }
 

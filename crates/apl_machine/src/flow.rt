@@ -25,7 +25,7 @@ pub enum Flow {
     Evaluates(Evaluation),
     Begins(Evaluation),
     Leads(Next),
-    Opens(Pending, Evaluation),
+    Opens(Box<Pending>, Evaluation),
     Ends,
 }
 
@@ -33,5 +33,5 @@ pub enum Flow {
 #[derive(Debug, Drop)]
 pub enum Pause {
     Ends,
-    Opens(Pending, Evaluation),
+    Opens(Box<Pending>, Evaluation),
 }

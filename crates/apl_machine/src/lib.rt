@@ -6,6 +6,7 @@ mod applying;
 mod assigning;
 mod calling;
 mod changing;
+mod classing;
 mod controls;
 mod ending;
 mod evaluation;

@@ -33,8 +33,8 @@ pub const STATEMENT_LIMIT: u32 = 100_000;
 pub enum Stage {
     Idle,
     Begins(Reading),
-    Open(Pending, Evaluation),
-    Answered(Answer, Pending, Evaluation),
+    Open(Box<Pending>, Evaluation),
+    Answered(Answer, Box<Pending>, Evaluation),
     Lost,
 }
 
@@ -158,7 +158,8 @@ impl Machine {
         match mem::replace(&mut self.stage, Stage::Lost) {
             Stage::Begins(reading) => self.interpreter.begin_input(reading),
             Stage::Answered(answer, pending, evaluation) => {
-                self.interpreter.bring(answer, pending, evaluation)
+                self.interpreter
+                    .bring(answer, Box::into_inner(pending), evaluation)
             }
             _ => Err(Fail::WantOfMemory),
         }

@@ -53,6 +53,13 @@ impl Pending {
     }
 }
 
+/// What an act is for, in a place of its own. It takes memory for it.
+pub fn boxed(alloc: Global, pending: Pending) -> Result<Box<Pending>, WantOfMemory>
+    ensures { IfOk result (λ boxed. boxed.value ≡ pending) }
+{
+    Ok(Box::new(alloc, pending)?)
+}
+
 // The act of a row.
 fn act_of_row(alloc: Global, row: Option<Row>, workspace: &Workspace) -> Result<Act, WantOfMemory>
     requires { IsSome row }

@@ -33,8 +33,8 @@ impl Interpreter {
     {
         self.refuse(query_wrong(b))?;
         match b.numbers().first() {
-            Some(party) => Ok(Flow::Opens(Pending::Names(party.unsigned_abs() as u32), e)),
-            None => Ok(Flow::Opens(Pending::Parties, e)),
+            Some(party) => self.open(Pending::Names(party.unsigned_abs() as u32), e),
+            None => self.open(Pending::Parties, e),
         }
     }
 

@@ -9,10 +9,10 @@ ghost use Rattle.apl_machine.specs.Evaluating.{plain_place};
 ghost use Rattle.apl_machine.specs.Runs.{IsTreeOf};
 ghost use Rattle.apl_machine.specs.Parts.{IsNotParsed, IsNotRead, IsNotScanned, IsPart, IsReadFrom, IsReading, begins_silent, is_assignment_node, plain_part, plain_parts, reading_statement, reading_tree};
 
+use crate::classing::classes_for;
 use crate::part::Part;
 use crate::place::Place;
 use apl_arrays::{Fail, Line, Name, Report, WantOfMemory};
-use apl_meaning::classes_of;
 use apl_workspace::Workspace;
 use line_scanner::{ScanRefused, Tokens, scan};
 use line_trees::{Classes, Form, Node, ParseRefused, Tree, parse};
@@ -100,7 +100,7 @@ pub fn tree_of(alloc: Global, workspace: &Workspace, text: &Line) -> Result<Tree
     ensures refused { IfErr result (IsNotRead (read_with workspace.now text.now.items)) }
 {
     let tokens = scanned(alloc, text)?;
-    let classes = classes_of(alloc, workspace)?;
+    let classes = classes_for(alloc, workspace, &tokens)?;
     parsed(alloc, &tokens, &classes)
 }
 

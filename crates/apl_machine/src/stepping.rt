@@ -8,6 +8,7 @@ ghost use Rattle.apl_meaning.specs.Variables.{reference};
 ghost use Rattle.apl_machine.specs.Evaluating.{evaluation_of};
 ghost use Rattle.apl_machine.specs.Moves.{Comes, ComesToPause, flow_to_come, part_gives, part_takes};
 ghost use Rattle.apl_machine.specs.Parts.{is_paren, plain_part};
+ghost use Rattle.apl_machine.specs.Pending.{IsPending, asked_for, plain_pending};
 ghost use Rattle.apl_machine.specs.Sound.{IsCaller, IsEvaluation, IsFlow, IsPause};
 ghost use Rattle.apl_machine.specs.Stack.{assignment_step, onward};
 ghost use Rattle.apl_machine.specs.Values.{IsHeld, held_value, parts_of};
@@ -18,7 +19,7 @@ use crate::evaluation::Evaluation;
 use crate::flow::{Flow, Pause};
 use crate::interpreter::Interpreter;
 use crate::part::Part;
-use crate::pending::Pending;
+use crate::pending::{Pending, boxed};
 use crate::values::{Held, array_of, owned};
 use apl_arrays::{Array, Fail, Name, Report, WantOfMemory};
 use apl_operators::Steps;
@@ -167,7 +168,7 @@ impl Interpreter {
                 let number = Array::scalar(self.alloc, i64::from(line))?;
                 self.give(e, Held::Made(number))
             }
-            Seen::Shared(_) => Ok(Flow::Opens(Pending::Refers(name), e)),
+            Seen::Shared(_) => self.open(Pending::Refers(name), e),
         }
     }
 
@@ -200,6 +201,17 @@ impl Interpreter {
         let mut e = e;
         e.push(value)?;
         Ok(Flow::Evaluates(e))
+    }
+
+    /// An act is opened, behind which the statement goes on. It takes memory for what the act is for.
+    pub(crate) fn open(&self, pending: Pending, e: Evaluation) -> Result<Flow, Fail>
+        requires sound { IsCaller self.now.workspace e }
+        requires pending { IsPending self.now.workspace pending }
+        ensures comes { Comes self.now (part_gives self.now e (asked_for (plain_pending pending))) 0 self.now result }
+        ensures sound { IfOk result (IsFlow self.now) }
+        ensures within { IfOk result (StaysWithin self.now e self.now) }
+    {
+        Ok(Flow::Opens(boxed(self.alloc, pending)?, e))
     }
 
     /// A value as an array of its own.

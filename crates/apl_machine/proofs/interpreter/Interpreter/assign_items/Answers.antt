@@ -13,7 +13,7 @@ use Rattle.apl_machine.specs.Pending.{asked_for, assigned_giving, replaced, repl
 use Rattle.apl_machine.specs.Sound.{IsCaller, IsEvaluation}
 use Rattle.apl_machine.specs.Values.{held_values}
 use Rattle.apl_machine.proofs.Replacing.{items_open, replaced_as, replaced_ends, value_replaced}
-use Rattle.apl_machine.proofs.Same.{SameAt, at_once, comes_as, comes_exit}
+use Rattle.apl_machine.proofs.Same.{SameAt, comes_as, comes_exit}
 use Rattle.apl_machine.proofs.Taken.{caller_from, items_take_where, same_twice, subs_then_one, taken_sound}
 use Rattle.apl_machine.proofs.interpreter.Interpreter.assign_items.Goals as goal
 use Rattle.apl_machine.proofs.interpreter.Interpreter.assign_items.Goals.{In_ok-right, In-Value}
@@ -90,9 +90,11 @@ returns-in-Shared-clause-comes c =
     let d = (goal.at.returns-in-Shared-clause-comes c).In_ok-right in
     let m : PlainInterpreter = c.args.self.now in
     let seen : look m.workspace c.args.name ≡ meaning.Shared (option_copied c.in-Shared.field-0) = ap (λ (x : PlainInterpreter). look x.workspace c.args.name) (sym c.self.view_is) ∙ sym c.in-Shared.ensures.value in
-    at_once m (coming d) (part_gives m c.take.new.self (asked_for (replaces c.args.name c.in_ok-subs.subs.items c.in_ok-right.right)))
-    (items_open m c.args.e c.take.new.self c.args.name c.args.places.now.items c.in_ok-subs.subs.items c.in_ok-right.right (option_copied c.in-Shared.field-0) (same d) (subs d) (rest d) seen)
+    comes_as m m (coming d) (part_gives m c.take.new.self (asked_for (replaces c.args.name c.in_ok-subs.subs.items c.in_ok-right.right))) 0 c.open.result
+    (items_open m c.args.e c.take.new.self c.args.name c.args.places.now.items c.in_ok-subs.subs.items c.in_ok-right.right (option_copied c.in-Shared.field-0) (same d) (subs d) (rest d) seen) c.open.ensures.comes
 
-pub returns-in-Shared-clause-sound : goal.returns-in-Shared-clause-sound
-returns-in-Shared-clause-sound c =
-    (ap (λ (x : PlainInterpreter). is_shared_meaning (look x.workspace c.args.name)) (sym c.self.view_is) ∙ ap is_shared_meaning (sym c.in-Shared.ensures.value), sound (goal.at.returns-in-Shared-clause-sound c).In_ok-right)
+pub open-requires-clause-sound : goal.open-requires-clause-sound
+open-requires-clause-sound c = sound (goal.at.open-requires-clause-sound c).In_ok-right
+
+pub open-requires-clause-pending : goal.open-requires-clause-pending
+open-requires-clause-pending c = ap (λ (x : PlainInterpreter). is_shared_meaning (look x.workspace c.args.name)) (sym c.self.view_is) ∙ ap is_shared_meaning (sym c.in-Shared.ensures.value)

@@ -4,18 +4,18 @@ use Rattle.std.proofs.lemmas.List.{length-replicate}
 use Rattle.apl_arrays.specs.Array.{PlainArray}
 use Rattle.apl_meaning.specs.Expressions.{Found}
 use Rattle.apl_meaning.specs.State.{Outcome, gives}
-use Rattle.apl_machine.specs.declared.flow.Flow.TheVariants as flow
 use Rattle.apl_machine.specs.declared.pending.Pending.TheVariants as pending
 use Rattle.apl_machine.specs.declared.rows.Rows.{Rows}
 use Rattle.apl_machine.specs.declared.values.Held.TheVariants as held
 use Rattle.apl_machine.specs.Evaluating.{caller_of}
 use Rattle.apl_machine.specs.Interpreter.{PlainInterpreter, here, state_at}
-use Rattle.apl_machine.specs.Moves.{Coming, flow_to_come, part_gives}
+use Rattle.apl_machine.specs.Moves.{Coming, part_gives}
+use Rattle.apl_machine.specs.Pending.{asked_for, plain_pending}
 use Rattle.apl_machine.specs.Rows.{HasTold, PlainRow, asks_act, plain_row, rest_of_rows, row_zeros, rows_left}
 use Rattle.apl_machine.specs.Stack.{carried_on}
 use Rattle.apl_machine.specs.Values.{held_value, parts_of}
 use Rattle.apl_machine.proofs.RowsGo.{all_told, first_and_others, none_at_first, row_opens, row_tells, rows_end, rows_stay}
-use Rattle.apl_machine.proofs.Same.{at_once, comes_as}
+use Rattle.apl_machine.proofs.Same.{comes_as}
 use Rattle.apl_machine.proofs.interpreter.Interpreter.next_row.Goals as goal
 
 pub returns-then-opens-clause-comes : goal.returns-then-opens-clause-comes
@@ -25,9 +25,9 @@ returns-then-opens-clause-comes c =
     let row : PlainRow = plain_row c.in-Some.row in
     let left : rows_left rows ≡ row ∷ drop 1 (rows_left rows) = first_and_others (rows_left rows) row (sym c.in-Some.ensures.row) in
     let acts : asks_act m.workspace row ≡ true = sym c.opens.ensures ∙ c.if-opens.true in
-    at_once m (part_gives m c.args.e (rest_of_rows c.args.rows.numbers.items (rows_left c.args.rows) c.args.rows.shape.items)) (flow_to_come m (flow.Opens (pending.Row rows) c.args.e)) (λ asked count taken further.
+    comes_as m m (part_gives m c.args.e (rest_of_rows c.args.rows.numbers.items (rows_left c.args.rows) c.args.rows.shape.items)) (part_gives m c.args.e (asked_for (plain_pending (pending.Row rows)))) 0 c.open.result (λ asked count taken further.
     c.loop-row.invariant.same asked count taken further
-    ∙ ap (λ (found : Outcome Found). carried_on found (caller_of m.workspace (here m) c.args.e) m.stack) (row_opens rows row (drop 1 (rows_left rows)) (state_at m asked count taken further) left acts))
+    ∙ ap (λ (found : Outcome Found). carried_on found (caller_of m.workspace (here m) c.args.e) m.stack) (row_opens rows row (drop 1 (rows_left rows)) (state_at m asked count taken further) left acts)) c.open.ensures.comes
 
 pub loop-row-preserved : goal.loop-row-preserved
 loop-row-preserved c =

@@ -14,15 +14,15 @@ use Rattle.apl_machine.specs.Values.{IsHeld, held_value, parts_of}
 use Rattle.apl_machine.proofs.Behind.{gets, given_is_held, given_value, goes_behind, set_stays_open}
 use Rattle.apl_machine.proofs.Brings.{assigned_value}
 use Rattle.apl_machine.proofs.Renewing.{settled_sound}
-use Rattle.apl_machine.proofs.Same.{at_once}
+use Rattle.apl_machine.proofs.Same.{comes_as}
 use Rattle.apl_machine.proofs.interpreter.Interpreter.put.Goals as goal
 
 pub returns-then-is_seen_shared-clause-comes : goal.returns-then-is_seen_shared-clause-comes
 returns-then-is_seen_shared-clause-comes c =
     let m : PlainInterpreter = c.args.self.now in
     let other : PlainArray = unwrap_or c.args.gives c.args.value in
-    at_once m (part_gives m c.args.e (assigned_giving c.args.name c.args.value other)) (part_gives m c.args.e (asked_for (sets c.args.name c.args.value other)))
-    (set_stays_open m c.args.e c.args.name c.args.value other (sym c.is_seen_shared.ensures ∙ c.if-is_seen_shared.true))
+    comes_as m m (part_gives m c.args.e (assigned_giving c.args.name c.args.value other)) (part_gives m c.args.e (asked_for (sets c.args.name c.args.value other))) 0 c.open.result
+    (set_stays_open m c.args.e c.args.name c.args.value other (sym c.is_seen_shared.ensures ∙ c.if-is_seen_shared.true)) c.open.ensures.comes
 
 pub give-requires-clause-sound : goal.give-requires-clause-sound
 give-requires-clause-sound c = settled_sound c.args.self.now.workspace c.assign_value.new.self.workspace c.args.e c.assign_value.new.e c.requires.sound c.in_ok-assign_value.ensures.settled
