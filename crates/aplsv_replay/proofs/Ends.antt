@@ -29,14 +29,16 @@ use Rattle.apl_session.specs.declared.session.Stage.TheVariants as stage
 use Rattle.auxiliaries.specs.Run.{IsReplierRun}
 use Rattle.aplsv_replay.specs.Endings.{ComesOf, IsEnded}
 use Rattle.aplsv_replay.specs.Participants.{users_of}
+use Rattle.aplsv_replay.specs.Rounds.{IsReplay}
 use Rattle.aplsv_replay.specs.SeatTurns.{IsWholeUnlessLost, none_lost}
 use Rattle.aplsv_replay.specs.Seats.{end_by, transcript_of}
 use Rattle.aplsv_replay.specs.SoFar.{IsSeated, printed_by, user_of}
-use Rattle.aplsv_replay.specs.Together.{AreTogether, StayTogether, TakesTurns, TookTurns, none_is_lost}
+use Rattle.aplsv_replay.specs.Together.{AreTogether, StayTogether, TakesRounds, TakesTurns, TookTurns, none_is_lost}
 use Rattle.aplsv_replay.specs.declared.auxiliary.Auxiliary.{Auxiliary}
 use Rattle.aplsv_replay.specs.declared.parties.Parties.{Parties}
 use Rattle.aplsv_replay.specs.declared.seat.Seat.{Seat}
-use Rattle.replay_rules.specs.Turns.{HasReplies, IsJournalOfTurns, Participant, Replay, beginning, newcomer, ordered, rounds}
+use Rattle.replay_rules.specs.Turns.{HasReplies, Participant, Replay, beginning, newcomer, ordered, rounds}
+use Rattle.aplsv_replay.proofs.Bound.{few_rounds}
 use Rattle.aplsv_replay.proofs.Taking.{takes_both}
 
 -- ---- the beginning
@@ -164,9 +166,9 @@ module _ {X Y K : Type 0} (forgets_ten : X → ℕ → X → Type 0) (replies_te
 
   -- and its journal is that of the turns
   module _ (start middle : Parties X Y K) (none : start.core.journal ≡ []) (users : users_of start.seats.items ≡ map newcomer bundle.users) (order : List ℕ) (same : order ≡ bundle.order)
-      (first : TakesTurns (ordered order) start middle) (count : ℕ) (rest : TakesTurns (rounds count) middle p) where
-    all_turns : TookTurns (λ replay. rounds count (ordered order replay)) start p
-    all_turns = (takes_both (ordered order) (rounds count) start middle p first rest).took ended.here
+      (first : TakesTurns (ordered order) start middle) (still : map (λ seat. user_of seat.session) middle.seats.items ≡ bundle.users) (rest : TakesRounds middle p) where
+    all_turns : TookTurns (λ replay. rounds rest.count (ordered order replay)) start p
+    all_turns = (takes_both (ordered order) (rounds rest.count) start middle p first rest.turns).took ended.here
 
     abbrev replies_ten_given : List PlainArray
     replies_ten_given = all_turns.ten ++ spare ∷ []
@@ -174,20 +176,23 @@ module _ {X Y K : Type 0} (forgets_ten : X → ℕ → X → Type 0) (replies_te
     abbrev replies_twenty_given : List PlainArray
     replies_twenty_given = all_turns.twenty ++ spare ∷ []
 
-    came_to : rounds count (ordered bundle.order (beginning bundle replies_ten_given replies_twenty_given)) ≡ record { journal = p.core.journal; ten = spare ∷ []; twenty = spare ∷ []; users = users_of p.seats.items }
+    came_to : rounds rest.count (ordered bundle.order (beginning bundle replies_ten_given replies_twenty_given)) ≡ record { journal = p.core.journal; ten = spare ∷ []; twenty = spare ∷ []; users = users_of p.seats.items }
     came_to =
-        ap (λ (parties : List ℕ). rounds count (ordered parties (beginning bundle replies_ten_given replies_twenty_given))) (sym same)
-        ∙ ap₂ (λ (j : Entries) (list : List Participant). rounds count (ordered order (record { journal = j; ten = replies_ten_given; twenty = replies_twenty_given; users = list }))) (sym none) (sym users)
+        ap (λ (parties : List ℕ). rounds rest.count (ordered parties (beginning bundle replies_ten_given replies_twenty_given))) (sym same)
+        ∙ ap₂ (λ (j : Entries) (list : List Participant). rounds rest.count (ordered order (record { journal = j; ten = replies_ten_given; twenty = replies_twenty_given; users = list }))) (sym none) (sym users)
         ∙ all_turns.same (spare ∷ []) (spare ∷ [])
 
-    pub is_of_turns : IsJournalOfTurns bundle journal
-    is_of_turns = record {
-      ten = replies_ten_given;
-      twenty = replies_twenty_given;
-      count = count;
-      last = ap (λ (r : Replay). r.journal) came_to ∙ sym ended.same;
-      enough = subst (λ (r : Replay). HasReplies r) (sym came_to) (record { ten = λ e. cc; twenty = λ e. cc });
-      left = All-from_recursion _ bundle.users (subst (λ (j : Entries). AllByRecursion (λ (user : PlainUser). IsTrue (has_left j user.number)) bundle.users) (sym ended.same) left);
+    pub is_replay : IsReplay bundle journal
+    is_replay = record {
+      turns = record {
+        ten = replies_ten_given;
+        twenty = replies_twenty_given;
+        count = rest.count;
+        last = ap (λ (r : Replay). r.journal) came_to ∙ sym ended.same;
+        enough = subst (λ (r : Replay). HasReplies r) (sym came_to) (record { ten = λ e. cc; twenty = λ e. cc });
+        left = All-from_recursion _ bundle.users (subst (λ (j : Entries). AllByRecursion (λ (user : PlainUser). IsTrue (has_left j user.number)) bundle.users) (sym ended.same) left);
+      };
+      few = few_rounds bundle middle p still rest;
     }
 
 -- ---- the answer
@@ -221,12 +226,12 @@ ends_as p transcripts journal is_whole result is here printed same legal =
 module _ {X Y K : Type 0} (forgets_ten : X → ℕ → X → Type 0) (replies_ten : X → ℕ → PlainArray → PlainArray → X → Type 0)
     (forgets_twenty : Y → ℕ → Y → Type 0) (replies_twenty : Y → ℕ → PlainArray → PlainArray → Y → Type 0) where
   -- what came of parties and an order
-  pub comes_of : (order : List ℕ) (start middle p : Parties X Y K) (count : ℕ) (result : Ended) (ten_then : X) (twenty_then : Y)
+  pub comes_of : (order : List ℕ) (start middle p : Parties X Y K) (result : Ended) (ten_then : X) (twenty_then : Y)
       → StayTogether forgets_ten replies_ten forgets_twenty replies_twenty start middle → StayTogether forgets_ten replies_ten forgets_twenty replies_twenty middle p
-      → TakesTurns (ordered order) start middle → TakesTurns (rounds count) middle p → some_stay p.core.users p.core.journal ≡ false → IfWhole result (λ texts entries. IsEnded p texts entries)
+      → TakesTurns (ordered order) start middle → TakesRounds middle p → some_stay p.core.users p.core.journal ≡ false → IfWhole result (λ texts entries. IsEnded p texts entries)
       → ten_then ≡ p.ten.replier → twenty_then ≡ p.twenty.replier
       → IfWhole result (λ texts entries. ComesOf forgets_ten replies_ten forgets_twenty replies_twenty order start texts entries ten_then twenty_then)
-  comes_of order start middle p count result ten_then twenty_then one two first rest over whole ten_is twenty_is =
+  comes_of order start middle p result ten_then twenty_then one two first rest over whole ten_is twenty_is =
       whole_more result (λ texts entries. IsEnded p texts entries) (λ texts entries. ComesOf forgets_ten replies_ten forgets_twenty replies_twenty order start texts entries ten_then twenty_then)
       (λ texts entries ended. record {
         run = λ bundle ten twenty lent h.
@@ -234,8 +239,8 @@ module _ {X Y K : Type 0} (forgets_ten : X → ℕ → X → Type 0) (replies_te
             (subst (λ (y : Y). IsRun forgets_ten replies_ten forgets_twenty replies_twenty bundle entries texts ten p.ten.replier twenty y) (sym twenty_is)
             (is_run forgets_ten replies_ten forgets_twenty replies_twenty bundle ten twenty lent p (two bundle ten twenty lent (one bundle ten twenty lent h)) texts entries over ended));
         turns = λ bundle ten twenty lent h none users same.
-            is_of_turns forgets_ten replies_ten forgets_twenty replies_twenty bundle ten twenty lent p (two bundle ten twenty lent (one bundle ten twenty lent h)) texts entries over ended
-            start middle none users order same first count rest;
+            is_replay forgets_ten replies_ten forgets_twenty replies_twenty bundle ten twenty lent p (two bundle ten twenty lent (one bundle ten twenty lent h)) texts entries over ended
+            start middle none users order same first (one bundle ten twenty lent h).users rest;
       }) whole
 
   -- as many seats as there were

@@ -2,6 +2,7 @@ pub mod AllTogether
 pub mod Ascents
 pub mod AuxiliaryTurns
 pub mod Beginning
+pub mod Bound
 pub mod Devices
 pub mod Ends
 pub mod Filling

@@ -1,6 +1,7 @@
 pub mod Endings
 pub mod Participants
 pub mod Replayed
+pub mod Rounds
 pub mod SeatTurns
 pub mod Seats
 pub mod Serving

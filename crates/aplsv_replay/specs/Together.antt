@@ -1,5 +1,5 @@
 -- All parties of a replay between two turns.
-use Rattle.std.specs.Prelude.{◌≡◌, ◌⊎◌, ◌<◌, ◌≤◌, ◌++◌, ◌&&◌, ℕ, Bool, true, false, not, List, All, IsTrue, map}
+use Rattle.std.specs.Prelude.{◌≡◌, ◌⊎◌, ◌<◌, ◌≤◌, ◌+◌, ◌++◌, ◌&&◌, ℕ, Bool, true, false, not, List, All, IsTrue, map}
 use Rattle.apl_arrays.specs.Array.{PlainArray}
 use Rattle.apl_arrays.specs.Ascending.{AscendBy}
 use Rattle.apl_arrays.specs.Parties.{clock_party, text_party}
@@ -12,7 +12,7 @@ use Rattle.session_rules.specs.Run.{user_numbers}
 use Rattle.aplsv_replay.specs.Participants.{users_of}
 use Rattle.aplsv_replay.specs.SeatTurns.{IsWholeUnlessLost, none_lost, work_left}
 use Rattle.aplsv_replay.specs.SoFar.{HasAnswered, IsSeated, user_of}
-use Rattle.replay_rules.specs.Turns.{Replay}
+use Rattle.replay_rules.specs.Turns.{Replay, rounds}
 use Rattle.aplsv_replay.specs.declared.parties.Parties.{Parties}
 
 module _ {X Y K : Type 0} (forgets_ten : X → ℕ → X → Type 0) (replies_ten : X → ℕ → PlainArray → PlainArray → X → Type 0)
@@ -71,3 +71,9 @@ pub record LeavesLess {X Y K : Type 0} (party : ℕ) (lost : Bool) (before after
   pub most : left_to_do after ≤ left_to_do before
   pub rests : (left_to_do after < left_to_do before) ⊎ ((lost ≡ true) ⊎ ((after.core ≡ before.core) × (work_of before.core.journal party ≡ Idle)))
   pub seats : after.seats ≡ before.seats
+
+-- the parties took some rounds, and each of them left less to do
+pub record TakesRounds {X Y K : Type 0} (before after : Parties X Y K) : Type 0 where
+  pub count : ℕ
+  pub less : count + left_to_do after ≤ left_to_do before
+  pub turns : TakesTurns (rounds count) before after

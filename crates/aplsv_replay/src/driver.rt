@@ -7,14 +7,14 @@ ghost use Rattle.session_rules.specs.Run.{IsRun};
 ghost use Rattle.apl_session.specs.Ended.{IfWhole};
 ghost use Rattle.aplsv_replay.specs.Replayed.{IsDeviceRun};
 ghost use Rattle.aplsv_replay.specs.Endings.{ComesOf, IsEnded};
+ghost use Rattle.aplsv_replay.specs.Rounds.{IsReplay};
 ghost use Rattle.aplsv_replay.specs.Together.{AreOfSomeBundle};
-ghost use Rattle.replay_rules.specs.Turns.{IsJournalOfTurns};
 
 use crate::auxiliary::Auxiliary;
 use crate::ending::{end_of, take_apart};
 use crate::parties::Parties;
 use crate::start::{core_of, fill, room_for};
-use apl_io::{Clock, Devices, TextStore};
+use apl_io::{Clock, Devices, Shelf, TextStore};
 use apl_session::{Ended, Outcome, RunOf};
 use auxiliaries::{ClockAux, Replier, TextAux};
 use bundle_text::{Bundle, BundleParts};
@@ -23,16 +23,16 @@ use sv_rules::{CLOCK_PARTY, TEXT_PARTY};
 
 /// Runs a bundle on one thread over a text store, a clock, and a shelf for each user: first the turns of the order, then
 /// rounds over 10, 20 and the users, ascending, until all users have left. The k-th user takes the k-th shelf, and all come
-/// back in their order. It takes the memory of the run; where that runs out for a party, the run ends as `WantOfMemory`
-/// when all users have left.
-pub fn replay<T: TextStore, C: Clock, K>(
+/// back in their order. No more rounds are taken than the journal may have entries and the users have lines and leaves. It
+/// takes the memory of the run; where that runs out for a party, the run ends as `WantOfMemory` when all users have left.
+pub fn replay<T: TextStore, C: Clock, K: Shelf>(
     alloc: Global,
     bundle: Bundle,
     devices: Devices<T, C, K>,
 ) -> Outcome<T, C, K>
     requires shelves { length bundle.users ≤ vec_len devices.shelves }
     ensures run { IfWhole result.ended (λ transcripts journal. IsDeviceRun C.told C.faults T.told T.faults bundle journal transcripts devices.clock result.devices.clock devices.text result.devices.text) }
-    ensures turns { IfWhole result.ended (λ transcripts journal. IsJournalOfTurns bundle journal) }
+    ensures turns { IfWhole result.ended (λ transcripts journal. IsReplay bundle journal) }
     ensures shelves { result.devices.shelves.items ≡ devices.shelves.items }
 {
     let Devices {
@@ -63,7 +63,7 @@ pub fn replay<T: TextStore, C: Clock, K>(
 }
 
 /// Runs a bundle as `replay` does, with these two auxiliaries in the place of those over a clock and a text store.
-pub fn replay_with<X: Replier, Y: Replier, K>(
+pub fn replay_with<X: Replier, Y: Replier, K: Shelf>(
     alloc: Global,
     bundle: Bundle,
     ten: X,
@@ -72,7 +72,7 @@ pub fn replay_with<X: Replier, Y: Replier, K>(
 ) -> RunOf<X, Y, K>
     requires shelves { length bundle.users ≤ vec_len shelves }
     ensures run { IfWhole result.ended (λ transcripts journal. IsRun X.forgets X.replies Y.forgets Y.replies bundle journal transcripts ten result.ten twenty result.twenty) }
-    ensures turns { IfWhole result.ended (λ transcripts journal. IsJournalOfTurns bundle journal) }
+    ensures turns { IfWhole result.ended (λ transcripts journal. IsReplay bundle journal) }
     ensures shelves { result.shelves.items ≡ shelves.items }
 {
     let Ok(core) = core_of(alloc, bundle.users()) else {

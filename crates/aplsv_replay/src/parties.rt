@@ -1,4 +1,4 @@
-ghost use Rattle.std.specs.Prelude.{◌≡◌, ◌==◌, ◌<◌, ◌||◌, ◌∷◌, [], ℕ, All, IsTrue, false, not, true};
+ghost use Rattle.std.specs.Prelude.{◌≡◌, ◌==◌, ◌<◌, ◌||◌, ◌∷◌, [], All, IsTrue, false, not, true};
 ghost use Rattle.apl_arrays.specs.Ascending.{AscendBy};
 ghost use Rattle.apl_arrays.specs.Parties.{clock_party, text_party};
 ghost use Rattle.sv_core.specs.Core.{ArePeople};
@@ -7,8 +7,8 @@ ghost use Rattle.session_rules.specs.Auxiliaries.{some_stay};
 ghost use Rattle.aplsv_replay.specs.Participants.{users_of};
 ghost use Rattle.aplsv_replay.specs.SeatTurns.{AreSeatTurns, IsSeatTurn, is_due};
 ghost use Rattle.aplsv_replay.specs.SoFar.{IsSeated};
-ghost use Rattle.aplsv_replay.specs.Together.{AreOfSomeBundle, LeavesLess, StayTogether, TakesTurns, left_to_do, none_is_lost};
-ghost use Rattle.replay_rules.specs.Turns.{numbers_of, ordered, party_turn, round, rounds, turn_of_ten, turn_of_twenty};
+ghost use Rattle.aplsv_replay.specs.Together.{AreOfSomeBundle, LeavesLess, StayTogether, TakesRounds, TakesTurns, left_to_do, none_is_lost};
+ghost use Rattle.replay_rules.specs.Turns.{numbers_of, ordered, party_turn, round, turn_of_ten, turn_of_twenty};
 
 use crate::auxiliary::Auxiliary;
 use crate::ending::none_is_lost;
@@ -43,7 +43,7 @@ impl<X: Replier, Y: Replier, K> Parties<X, Y, K> {
     pub fn take_rounds(&mut self)
         requires together { AreOfSomeBundle X.forgets X.replies Y.forgets Y.replies self.old }
         ensures together { StayTogether X.forgets X.replies Y.forgets Y.replies self.old self.new }
-        ensures turns { (count : ℕ) × TakesTurns (rounds count) self.old self.new }
+        ensures rounds { TakesRounds self.old self.new }
         ensures over { some_stay self.new.core.users self.new.core.journal ≡ false }
     {
         'rounds: while !self.all_have_left() {

@@ -52,6 +52,7 @@ impl<K> Seat<K> {
         ensures gone { has_left core.old.journal self.old.session.user ≡ true → (core.new ≡ core.old) × (self.new ≡ self.old) }
         ensures closed { closes ≡ true → has_left core.new.journal self.old.session.user ≡ true }
         ensures lost { self.old.is_lost ≡ true → self.new.is_lost ≡ true }
+        ensures leaves { self.old.is_lost ≡ false → self.new.is_lost ≡ true → has_left core.new.journal self.old.session.user ≡ true }
         ensures whole { closes ≡ false → self.new.is_lost ≡ false → IsWhole core.old.journal self.old → IsWhole core.new.journal self.new }
         ensures turn { closes ≡ false → self.new.is_lost ≡ false → IsTurn core.old self.old.session core.new self.new.session }
     {

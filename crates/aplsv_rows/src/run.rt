@@ -1,7 +1,10 @@
+ghost use Rattle.std.specs.Prelude.{◌≡◌, IfOk, vec_len};
+ghost use Rattle.apl_arrays.specs.Limits.{most_users};
+
 use crate::case::Case;
 use anyhow::Result;
-use apl_arrays::{Bytes, USER_LIMIT, WantOfMemory};
-use apl_io::{CallNumbers, MemorySink, MemorySource};
+use apl_arrays::{Bytes, FileList, List, USER_LIMIT, WantOfMemory};
+use apl_io::{CallNumbers, MemoryClock, MemoryShelf, MemorySink, MemorySource, MemoryText};
 use aplsv_top::{Status, aplsv_replay_words};
 use std::alloc::Global;
 
@@ -29,14 +32,27 @@ fn words_of(alloc: Global, lines: &str) -> Result<Vec<String>, WantOfMemory> {
     Ok(words)
 }
 
+// A shelf for each user, without an entry.
+fn shelves(alloc: Global) -> Result<Vec<MemoryShelf>, WantOfMemory>
+    ensures { IfOk result (λ shelves. vec_len shelves ≡ most_users) }
+{
+    let mut shelves = Vec::new(alloc);
+    for _made in 0..USER_LIMIT {
+        shelves.push(MemoryShelf::new(alloc, CallNumbers::new(alloc)))?;
+    }
+    Ok(shelves)
+}
+
 fn run_once(alloc: Global, case: &Case<'_>) -> Result<Ended, WantOfMemory> {
     let words = words_of(alloc, case.words)?;
     let input = Bytes::from(Vec::from_slice(alloc, case.input)?);
     let (from, to) = (case.source, case.sink);
     let mut source = MemorySource::new(input, from.piece.max(1), numbers(alloc, from.fails)?);
     let mut sink = MemorySink::new(alloc, case.room, to.piece.max(1), numbers(alloc, to.fails)?)?;
-    let shelves = Vec::from_slice(alloc, &[(); USER_LIMIT])?;
-    let finish = aplsv_replay_words(alloc, &words, &mut source, &mut sink, (), (), shelves);
+    let text = MemoryText::new(alloc, FileList::new(alloc), CallNumbers::new(alloc));
+    let clock = MemoryClock::new(List::new(alloc), CallNumbers::new(alloc));
+    let shelves = shelves(alloc)?;
+    let finish = aplsv_replay_words(alloc, &words, &mut source, &mut sink, text, clock, shelves);
     if finish.status == Status::WantOfMemory {
         return Err(WantOfMemory);
     }

@@ -25,7 +25,7 @@ module _ (one_text : OneText) (bundle : PlainBundle) where
   replied : (text : List ℕ) (out : IsOutputOf bundle text) → IsRepliedJournal (λ old party new. new ≡ old) (λ old party value answer new. RepliesByReading ticks clock_faults old value answer new) TellAlike clocks_are_determined
       (λ old party new. new ≡ forgotten old) (λ old party value answer new. Replies told_by store_faults old value answer new) ServeAlike (files_are_determined one_text) (clock_of bundle) refl files files_alike bundle out.journal
   replied text out = record {
-    turns = out.turns;
+    turns = out.replay.turns;
     ten_answers = (out.clock, out.run.run.ten_part.answers);
     twenty_answers = (record { store = out.files; state = out.run.state }, out.run.run.twenty_part.answers);
   }

@@ -10,7 +10,7 @@ use Rattle.sv_journal.specs.Printable.{ArePrintable}
 use Rattle.bundle_text.specs.Bundle.{PlainBundle}
 use Rattle.bundle_text.specs.declared.refused.BundleRule.{BundleRule}
 use Rattle.aplsv_replay.specs.Replayed.{IsDeviceRun}
-use Rattle.replay_rules.specs.Turns.{IsJournalOfTurns}
+use Rattle.aplsv_replay.specs.Rounds.{IsReplay}
 use Rattle.aplsv_top.specs.Runnable.{RunnableText, IsNotRunnable, IsRefusedAt}
 
 -- the text store of a run: the bundle's files, before the first call, none of which is to fail
@@ -21,14 +21,14 @@ text_of bundle = new_keeper (map file_entry bundle.files) []
 abbrev pub clock_of : PlainBundle → Timer
 clock_of bundle = record { told = record { left = bundle.clock; calls = 0; fails = [] }; faults = 0 }
 
--- the text is the output of a run of this bundle over its files and readings: its transcripts, and its journal with the oldest entry first, which is the journal of the bundle's turns. They are printable, and no others that are have this output
+-- the text is the output of a run of this bundle over its files and readings: its transcripts, and its journal with the oldest entry first, which is the journal of the bundle's replay. They are printable, and no others that are have this output
 pub record IsOutputOf (bundle : PlainBundle) (text : List ℕ) : Type 0 where
   pub transcripts : List PlainTranscript
   pub journal : Entries
   pub clock : Timer
   pub files : Keeper (List ℕ)
   pub run : IsDeviceRun (λ c. Some c.told) (λ c. c.faults) (λ t. Some t.told) (λ t. t.faults) bundle journal transcripts (clock_of bundle) clock (text_of bundle) files
-  pub turns : IsJournalOfTurns bundle journal
+  pub replay : IsReplay bundle journal
   pub output : text ≡ output_text transcripts (reverse journal)
   pub printable : ArePrintable transcripts (reverse journal)
 

@@ -8,7 +8,7 @@ ghost use Rattle.aplsv_top.specs.declared.status.Status.TheVariants as status;
 
 use crate::bytes::replay_bytes;
 use crate::status::{Finish, Status};
-use apl_io::{ReadRefused, Sink, Source, WriteFault, read_all, write_all};
+use apl_io::{Clock, ReadRefused, Shelf, Sink, Source, TextStore, WriteFault, read_all, write_all};
 use bundle_text::BundleRefused;
 use std::alloc::Global;
 
@@ -18,10 +18,11 @@ const INPUT_LIMIT: usize = 4_194_304;
 /// What the program does for the word `--replay`: it reads a bundle to its end, runs it on one thread, and writes the
 /// transcripts and the journal. Where it is `Done`, the journal written is one legal history: each set and each use is
 /// answered by the rules over the entries before it, and each transcript is its user's lines evaluated alone with the
-/// answers that the journal gives that user. Every other list of words is `Usage`. It returns for every source and
-/// sink. The text, the clock and the 32 shelves are handed back as they came. Nothing is written unless a bundle was
-/// run, where memory runs out too.
-pub fn aplsv_replay_words<S: Source, W: Sink, T, C, K>(
+/// answers that the journal gives that user. Its text files and its clock are the bundle's own. Every other list of words
+/// is `Usage`. It returns for every source and sink. No word names the text store, the clock or the 32 shelves that are
+/// handed in: they are not called, and come back as they came. Nothing is written unless a bundle was run, where memory
+/// runs out too.
+pub fn aplsv_replay_words<S: Source, W: Sink, T: TextStore, C: Clock, K: Shelf>(
     alloc: Global,
     words: &[String],
     input: &mut S,

@@ -26,8 +26,8 @@ close-requires-clause-room g c =
 
 pub returns-clause-whole : goal.returns-clause-whole
 returns-clause-whole g c =
-    comes_of g.X.Replier.forgets g.X.Replier.replies g.Y.Replier.forgets g.Y.Replier.replies c.args.order.now c.args.parties c.take_turns.new.self c.take_rounds.new.self c.take_rounds.ensures.turns.0 c.close.result.ended c.close.result.ten c.close.result.twenty
-    c.take_turns.ensures.together c.take_rounds.ensures.together c.take_turns.ensures.turns c.take_rounds.ensures.turns.1 c.take_rounds.ensures.over c.close.ensures.whole c.close.ensures.ten c.close.ensures.twenty
+    comes_of g.X.Replier.forgets g.X.Replier.replies g.Y.Replier.forgets g.Y.Replier.replies c.args.order.now c.args.parties c.take_turns.new.self c.take_rounds.new.self c.close.result.ended c.close.result.ten c.close.result.twenty
+    c.take_turns.ensures.together c.take_rounds.ensures.together c.take_turns.ensures.turns c.take_rounds.ensures.rounds c.take_rounds.ensures.over c.close.ensures.whole c.close.ensures.ten c.close.ensures.twenty
 
 pub returns-clause-shelves : goal.returns-clause-shelves
 returns-clause-shelves g c =

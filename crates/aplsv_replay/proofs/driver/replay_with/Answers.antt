@@ -5,7 +5,8 @@ use Rattle.bundle_text.specs.User.{PlainUser, plain_user}
 use Rattle.session_rules.specs.Run.{IsRun}
 use Rattle.sv_core.specs.Core.{ArePeople, PlainCore}
 use Rattle.aplsv_replay.specs.Endings.{ComesOf}
-use Rattle.replay_rules.specs.Turns.{IsJournalOfTurns, newcomer}
+use Rattle.aplsv_replay.specs.Rounds.{IsReplay}
+use Rattle.replay_rules.specs.Turns.{newcomer}
 use Rattle.aplsv_replay.proofs.Ends.{begins_together, plain_numbers, users_are_people, whole_more}
 use Rattle.aplsv_replay.proofs.driver.replay_with.Goals as goal
 
@@ -51,7 +52,7 @@ returns-clause-turns g c =
     let core = c.in-Ok.ensures ∙ ap (λ (list : List ℕ). record { users = list; journal = [] }) (plain_numbers c.users.result.now c.args.bundle.users c.users.ensures.value) in
     let together = begins_together g.X.Replier.forgets g.X.Replier.replies g.Y.Replier.forgets g.Y.Replier.replies c.args.bundle c.args.ten c.args.twenty (record { core = c.in-Ok.core; ten = c.new.result; twenty = c.new-2.result; seats = c.fill-seats.result }) c.into_parts-users.ensures.bundle core c.new.ensures c.new-2.ensures (c.fill-seats.ensures.users ∙ kept) c.fill-seats.ensures.seated in
     let result = c.go_through.result in
-    whole_more result.ended (λ transcripts journal. ComesOf g.X.Replier.forgets g.X.Replier.replies g.Y.Replier.forgets g.Y.Replier.replies c.as_slice.result.now (record { core = c.in-Ok.core; ten = c.new.result; twenty = c.new-2.result; seats = c.fill-seats.result }) transcripts journal result.ten result.twenty) (λ transcripts journal. IsJournalOfTurns c.args.bundle journal)
+    whole_more result.ended (λ transcripts journal. ComesOf g.X.Replier.forgets g.X.Replier.replies g.Y.Replier.forgets g.Y.Replier.replies c.as_slice.result.now (record { core = c.in-Ok.core; ten = c.new.result; twenty = c.new-2.result; seats = c.fill-seats.result }) transcripts journal result.ten result.twenty) (λ transcripts journal. IsReplay c.args.bundle journal)
     (λ transcripts journal comes.
     comes.turns c.args.bundle c.args.ten c.args.twenty (map (λ seat. seat.session.shelf) c.fill-seats.result.items) together (ap (λ (p : PlainCore). p.journal) c.in-Ok.ensures)
     (c.fill-seats.ensures.newcomers ∙ ap (λ (list : List PlainUser). map newcomer list) kept) (c.as_slice.ensures ∙ ap (λ (b : PlainBundle). b.order) c.into_parts-users.ensures.value))

@@ -1,11 +1,10 @@
-use Rattle.std.proofs.Common.{◌∙◌, refl, suc}
+use Rattle.std.proofs.Common.{◌∙◌}
 use Rattle.aplsv_replay.proofs.AllTogether.{all_gone, of_some_still, stays_on, users_stay_on}
-use Rattle.aplsv_replay.proofs.Taking.{takes_none, takes_round}
-use Rattle.replay_rules.specs.Turns.{rounds}
+use Rattle.aplsv_replay.proofs.Bound.{no_rounds, one_more}
 use Rattle.aplsv_replay.proofs.parties.Parties.take_rounds.Goals as goal
 
 pub rounds-init : goal.rounds-init
-rounds-init g c = record { some = c.requires.together; stay = λ bundle ten twenty shelves h. h; turns = (0, takes_none (rounds 0) c.args.self.now (λ r. refl)) }
+rounds-init g c = record { some = c.requires.together; stay = λ bundle ten twenty shelves h. h; rounds = no_rounds c.args.self.now }
 
 pub take_round-requires-clause-stay : goal.take_round-requires-clause-stay
 take_round-requires-clause-stay g c =
@@ -19,11 +18,8 @@ rounds-preserved g c =
     record {
       some = of_some_still g.X.Replier.forgets g.X.Replier.replies g.Y.Replier.forgets g.Y.Replier.replies here next c.rounds.invariant.some c.take_round.ensures.together;
       stay = λ bundle ten twenty shelves h. c.take_round.ensures.together bundle ten twenty shelves (c.rounds.invariant.stay bundle ten twenty shelves h);
-      turns = (
-        suc c.rounds.invariant.turns.0,
-        takes_round c.rounds.invariant.turns.0 c.args.self.now here next c.rounds.invariant.turns.1
-            (stays_on g.X.Replier.forgets g.X.Replier.replies g.Y.Replier.forgets g.Y.Replier.replies here c.all_have_left.result c.all_have_left.ensures c.rounds-test.true) c.take_round.ensures.turns,
-      );
+      rounds = one_more c.args.self.now here next c.rounds.invariant.rounds
+          (stays_on g.X.Replier.forgets g.X.Replier.replies g.Y.Replier.forgets g.Y.Replier.replies here c.all_have_left.result c.all_have_left.ensures c.rounds-test.true) c.take_round.ensures.turns c.take_round.ensures.less;
     }
 
 pub returns-clause-over : goal.returns-clause-over

@@ -1,6 +1,4 @@
-use Rattle.std.proofs.Common.{ℕ}
-use Rattle.aplsv_replay.specs.Together.{AreOfSomeBundle, StayTogether, TakesTurns, left_to_do}
-use Rattle.replay_rules.specs.Turns.{rounds}
+use Rattle.aplsv_replay.specs.Together.{AreOfSomeBundle, StayTogether, TakesRounds, left_to_do}
 use Rattle.aplsv_replay.proofs.parties.Parties.take_rounds.Given as goal
 
 -- so many rounds were taken
@@ -8,7 +6,7 @@ abbrev pub invariant-rounds : goal.invariant-rounds
 invariant-rounds g l = record {
   some : AreOfSomeBundle g.X.Replier.forgets g.X.Replier.replies g.Y.Replier.forgets g.Y.Replier.replies l.self;
   stay : StayTogether g.X.Replier.forgets g.X.Replier.replies g.Y.Replier.forgets g.Y.Replier.replies l.fn.self l.self;
-  turns : (count : ℕ) × TakesTurns (rounds count) l.fn.self l.self;
+  rounds : TakesRounds l.fn.self l.self;
 }
 
 abbrev pub decreases-rounds : goal.decreases-rounds

@@ -1,4 +1,4 @@
-use Rattle.std.proofs.Common.{◌∙◌, ap, refl, sym, ℕ}
+use Rattle.std.proofs.Common.{◌≡◌, ◌∙◌, ap, false, refl, sym, true, ℕ}
 use Rattle.sv_rules.specs.Entries.{has_left}
 use Rattle.aplsv_replay.proofs.Leaving.{gone_turn, grows_none, has_left_of, leave_grows_of, leaving_goes_on, left_seated, user_is}
 use Rattle.aplsv_replay.proofs.Staging.{on_ok_is}
@@ -52,3 +52,12 @@ returns-clause-goes_on g c =
     leaving_goes_on c.args.core.now c.leave-2.new.self session c.go_on.new.self.session c.go_on.ensures.same
     (leave_grows_of c.args.core.now c.go_on.new.core c.leave-2.new.self c.user-2.result session.user is c.go_on.ensures.grows c.leave-2.ensures)
     (has_left_of c.go_on.new.core c.leave-2.new.self c.user-2.result session.user is c.leave-2.ensures)
+
+pub returns-then-is_ok-clause-leaves : goal.returns-then-is_ok-clause-leaves
+returns-then-is_ok-clause-leaves g c = λ here lost. absurd (let no : false ≡ true = sym here ∙ (sym c.go_on.ensures.lost ∙ lost) in cc)
+
+pub returns-clause-leaves : goal.returns-clause-leaves
+returns-clause-leaves g c =
+    let session = c.args.self.now.session in
+    let is = c.user-2.ensures ∙ user_is session c.go_on.new.self.session c.go_on.ensures.same in
+    λ here lost. has_left_of c.go_on.new.core c.leave-2.new.self c.user-2.result session.user is c.leave-2.ensures
