@@ -26,6 +26,7 @@ pub mod MadeRows
 pub mod Marks
 pub mod Moving
 pub mod NamingSteps
+pub mod NextHeld
 pub mod Offered
 pub mod OpenStage
 pub mod Opened

@@ -4,6 +4,7 @@ pub mod Faults
 pub mod Interpreter
 pub mod Machine
 pub mod Moves
+pub mod Nexts
 pub mod Operands
 pub mod Parts
 pub mod Pending

@@ -1,12 +1,14 @@
-ghost use Rattle.std.specs.Prelude.{◌≡◌, ◌+◌, ◌-◌, ◌<◌, ◌≤◌, Some, None, true, false, IfErr, IfOk, IfSome, length, option_map, slice_get};
+ghost use Rattle.std.specs.Prelude.{◌≡◌, ◌+◌, ◌-◌, ◌<◌, ◌≤◌, Some, None, true, false, IfErr, IfOk, IfSome, OnOk, length, option_map, slice_get};
 ghost use Rattle.apl_arrays.specs.declared.report.Fail.TheVariants as fail;
 ghost use Rattle.apl_arrays.specs.declared.report.Report.TheVariants as report;
+ghost use Rattle.apl_workspace.specs.Workspace.{look};
 ghost use Rattle.apl_meaning.specs.State.{gives};
 ghost use Rattle.apl_meaning.specs.Expressions.{valued};
 ghost use Rattle.apl_meaning.specs.Nodes.{indexed_step};
 ghost use Rattle.apl_meaning.specs.Variables.{reference};
 ghost use Rattle.apl_machine.specs.Evaluating.{evaluation_of};
-ghost use Rattle.apl_machine.specs.Moves.{Comes, ComesToPause, flow_to_come, part_gives, part_takes};
+ghost use Rattle.apl_machine.specs.Moves.{Comes, ComesToPause, Moves, flow_to_come, part_gives, part_takes};
+ghost use Rattle.apl_machine.specs.Nexts.{HasPassed, IsNextHeld, IsValueSeen};
 ghost use Rattle.apl_machine.specs.Parts.{is_paren, plain_part};
 ghost use Rattle.apl_machine.specs.Pending.{IsPending, asked_for, plain_pending};
 ghost use Rattle.apl_machine.specs.Sound.{IsCaller, IsEvaluation, IsFlow, IsPause};
@@ -67,12 +69,61 @@ impl Interpreter {
     {
         let mut e = evaluation;
         'parts: while e.goes_on() {
-            match self.go_on(e, steps)? {
-                Flow::Evaluates(next) => e = next,
-                other => return Ok(other),
+            if !self.pass_plain(&mut e)? {
+                match self.go_on(e, steps)? {
+                    Flow::Evaluates(next) => e = next,
+                    other => return Ok(other),
+                }
             }
         }
         self.end_statement(e)
+    }
+
+    // The next part is done at once where it only gives a value: a constant, or a name that has one. It takes memory for
+    // the value.
+    fn pass_plain(&self, e: &mut Evaluation) -> Result<bool, WantOfMemory>
+        requires sound { IsEvaluation self.now.workspace e.old }
+        requires next { e.old.at < length (parts_of e.old) }
+        ensures moves { OnOk result (Moves self.now (λ s. onward (evaluation_of self.now.workspace e.old) self.now.stack s) 0 self.now (λ s. onward (evaluation_of self.now.workspace e.new) self.now.stack s)) }
+        ensures sound { OnOk result (IsEvaluation self.now.workspace e.new) }
+        ensures passed { IfOk result (HasPassed e.old e.new) }
+    {
+        match self.next_held(e) {
+            None => Ok(false),
+            Some(held) => {
+                e.at += 1;
+                e.push(held)?;
+                Ok(true)
+            }
+        }
+    }
+
+    // The value that the next part gives, where it is a constant, or a name that has one.
+    fn next_held(&self, e: &Evaluation) -> Option<Held>
+        requires sound { IsEvaluation self.now.workspace e.now }
+        requires next { e.now.at < length (parts_of e.now) }
+        ensures { IfSome result (IsNextHeld self.now e.now) }
+    {
+        if e.is_wanting {
+            return None;
+        }
+        match &e.reading.parts[e.at] {
+            Part::Constant(_) => Some(Held::Constant(e.at)),
+            Part::Other(node) => match node {
+                Node::Value(name) => self.held_of(*name),
+                _ => None,
+            },
+        }
+    }
+
+    // A name as a value, where it has one.
+    fn held_of(&self, name: Name) -> Option<Held>
+        ensures { IfSome result (λ held. (held ≡ Held.Named name) × IsValueSeen (look self.now.workspace name)) }
+    {
+        match self.workspace.look(&name) {
+            Seen::Value(_) => Some(Held::Named(name)),
+            _ => None,
+        }
     }
 
     // A statement goes on with its next part.

@@ -52,10 +52,8 @@ pub fn stand_at(callers: &mut Vec<Waiting>, number: usize)
     requires { callers.old.items ≢ [] }
     ensures { IsStandingAt number callers.old.items callers.new.items }
 {
-    if let Some(mut waiting) = callers.pop() {
-        waiting.number = number;
-        callers.push_reserved(waiting);
-    }
+    let last = callers.len() - 1;
+    callers[last].number = number;
 }
 
 /// A reading at its place among those that are kept; places before it may be empty. It takes memory for them.

@@ -1,0 +1,48 @@
+-- A part that only gives a value is done at once.
+use Rattle.std.proofs.Common.{◌≡◌, ℕ, false, List, refl, sym, ap, subst, ◌∙◌}
+use Rattle.std.specs.Prelude.{Option, Some, None, IfSome, IsSome, slice_get, unwrap_or}
+use Rattle.apl_workspace.specs.Workspace.{look}
+use Rattle.apl_workspace.specs.declared.meaning.Meaning.{Meaning}
+use Rattle.apl_workspace.specs.declared.meaning.Meaning.TheVariants as meaning
+use Rattle.line_trees.specs.Nodes as node
+use Rattle.apl_meaning.specs.Deeds.{value_of}
+use Rattle.apl_meaning.specs.Expressions.{valued}
+use Rattle.apl_meaning.specs.State.{gives}
+use Rattle.apl_meaning.specs.Variables.{reference}
+use Rattle.apl_machine.specs.declared.evaluation.Evaluation.{Evaluation}
+use Rattle.apl_machine.specs.declared.part.Part.{Part}
+use Rattle.apl_machine.specs.declared.part.Part.TheVariants as part
+use Rattle.apl_machine.specs.declared.values.Held.{Held}
+use Rattle.apl_machine.specs.declared.values.Held.TheVariants as held
+use Rattle.apl_machine.specs.Evaluating.{caller_of}
+use Rattle.apl_machine.specs.Interpreter.{PlainInterpreter, here, state_at}
+use Rattle.apl_machine.specs.Moves.{part_gives}
+use Rattle.apl_machine.specs.Nexts.{IsNextHeld, IsValueSeen}
+use Rattle.apl_machine.specs.Parts.{IsConstant}
+use Rattle.apl_machine.specs.Stack.{carried_on}
+use Rattle.apl_machine.specs.Values.{constant_of, held_value, no_array, parts_of}
+use Rattle.apl_arrays.specs.Array.{PlainArray}
+use Rattle.apl_machine.proofs.Same.{at_once}
+use Rattle.apl_machine.proofs.StepParts.{IsNext, next_constant, next_gives, passed, refers_to, to_come}
+
+-- a constant
+pub constant_next : (m : PlainInterpreter) (e : Evaluation) (array : PlainArray) → slice_get (parts_of e) e.at ≡ Some (part.Constant array) → e.is_wanting ≡ false → IsConstant array → IsNextHeld m e (held.Constant e.at)
+constant_next m e array is there constant = record {
+  there = there;
+  is_held = subst (λ (found : Option Part). IsSome (constant_of found)) (sym is) refl;
+  moves = at_once m (to_come m e) (part_gives m (passed e) (λ s. gives (Some (held_value m.workspace (parts_of e) (held.Constant e.at))) s)) (next_constant m e array is there constant);
+}
+
+-- a name that has a value
+pub name_next : (m : PlainInterpreter) (e : Evaluation) (name : List ℕ) (found : Option Held) → IsNext e (node.value name) → e.is_wanting ≡ false → IfSome found (λ one. (one ≡ held.Named name) × IsValueSeen (look m.workspace name)) → IfSome found (IsNextHeld m e)
+name_next m e name None next there is = tt
+name_next m e name (Some one) next there is =
+    let seen : look m.workspace name ≡ meaning.Value is.1.0 = is.1.1 in
+    subst (IsNextHeld m e) (sym is.0) (record {
+      there = there;
+      is_held = subst (λ (found : Meaning). IsSome (value_of found)) (sym seen) refl;
+      moves = at_once m (to_come m e) (part_gives m (passed e) (λ s. gives (Some (held_value m.workspace (parts_of e) (held.Named name))) s)) (λ asked count taken further.
+          next_gives m e (node.value name) (λ s. valued (reference name s)) next there (λ values t. refl) asked count taken further
+          ∙ refers_to m (passed e) name (meaning.Value is.1.0) seen asked count taken further
+          ∙ ap (λ (found : Meaning). carried_on (gives (Some (unwrap_or (value_of found) no_array)) (state_at m asked count taken further)) (caller_of m.workspace (here m) (passed e)) m.stack) (sym seen));
+    })

@@ -1,0 +1,29 @@
+-- The next part of a statement where it only gives a value.
+use Rattle.std.specs.Prelude.{◌≡◌, ◌<◌, ◌+◌, Bool, true, false, Some}
+use Rattle.apl_arrays.specs.Array.{PlainArray}
+use Rattle.apl_workspace.specs.declared.meaning.Meaning.{Meaning}
+use Rattle.apl_workspace.specs.declared.meaning.Meaning.TheVariants as meaning
+use Rattle.apl_meaning.specs.State.{gives}
+use Rattle.apl_machine.specs.declared.evaluation.Evaluation.{Evaluation}
+use Rattle.apl_machine.specs.declared.values.Held.{Held}
+use Rattle.apl_machine.specs.Evaluating.{evaluation_of}
+use Rattle.apl_machine.specs.Interpreter.{PlainInterpreter}
+use Rattle.apl_machine.specs.Moves.{Moves, part_gives}
+use Rattle.apl_machine.specs.Stack.{onward}
+use Rattle.apl_machine.specs.Values.{IsHeld, held_value, parts_of}
+use Rattle.apl_machine.specs.Work.{parts_left}
+
+-- a name stands for a value
+abbrev pub IsValueSeen : Meaning → Type 0
+IsValueSeen m = (value : PlainArray) × (m ≡ meaning.Value value)
+
+-- no value is wanting, and the next part gives this one
+pub record IsNextHeld (m : PlainInterpreter) (e : Evaluation) (held : Held) : Type 0 where
+  pub there : e.is_wanting ≡ false
+  pub is_held : IsHeld m.workspace (parts_of e) held
+  pub moves : Moves m (λ s. onward (evaluation_of m.workspace e) m.stack s) 0 m (part_gives m (record e { at = e.at + 1 }) (λ s. gives (Some (held_value m.workspace (parts_of e) held)) s))
+
+-- a part was done, or the statement is as it was
+abbrev pub HasPassed : Evaluation → Evaluation → Bool → Type 0
+HasPassed before after true = parts_left after < parts_left before
+HasPassed before after false = after ≡ before
