@@ -9,7 +9,6 @@ use Rattle.bundle_text.specs.User.{PlainUser}
 use Rattle.sv_rules.specs.Entries.{Entries, counted_entries, has_left}
 use Rattle.aplsv_replay.specs.Participants.{participant_of, users_of}
 use Rattle.aplsv_replay.specs.Rounds.{most_rounds}
-use Rattle.aplsv_replay.specs.SeatTurns.{work_left}
 use Rattle.aplsv_replay.specs.SoFar.{user_of, user_work}
 use Rattle.aplsv_replay.specs.Together.{TakesRounds, TakesTurns, left_to_do}
 use Rattle.aplsv_replay.specs.declared.parties.Parties.{Parties}

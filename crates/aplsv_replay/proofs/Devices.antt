@@ -1,7 +1,6 @@
 -- A run over a clock and a text store.
-use Rattle.std.proofs.Common.{◌≡◌, ℕ, ℤ, List, subst, sym}
+use Rattle.std.proofs.Common.{◌≡◌, ℕ, List, subst, sym}
 use Rattle.std.specs.Prelude.{Option}
-use Rattle.apl_arrays.specs.Array.{PlainArray}
 use Rattle.apl_io.specs.Clock.{Ticks}
 use Rattle.apl_io.specs.Content.{Told}
 use Rattle.apl_session.specs.Ended.{IfWhole}

@@ -25,7 +25,6 @@ use Rattle.apl_session.specs.Wants.{HasHeardAll}
 use Rattle.apl_session.specs.declared.outcome.Ended.{Ended}
 use Rattle.apl_session.specs.declared.outcome.Ended.TheVariants.{Whole, WantOfMemory}
 use Rattle.apl_session.specs.declared.session.Stage.{Stage}
-use Rattle.apl_session.specs.declared.session.Stage.TheVariants as stage
 use Rattle.auxiliaries.specs.Run.{IsReplierRun}
 use Rattle.aplsv_replay.specs.Endings.{ComesOf, IsEnded}
 use Rattle.aplsv_replay.specs.Participants.{users_of}

@@ -1,11 +1,10 @@
 -- What a replay over a clock and a text store promises.
-use Rattle.std.specs.Prelude.{◌≡◌, ℕ, ℤ, List, Option}
-use Rattle.apl_arrays.specs.Array.{PlainArray}
+use Rattle.std.specs.Prelude.{◌≡◌, ℕ, List, Option}
 use Rattle.apl_io.specs.Clock.{Ticks}
 use Rattle.apl_io.specs.Content.{Told}
 use Rattle.auxiliaries.specs.Clock.{RepliesByReading}
 use Rattle.auxiliaries.specs.Protocol.{TextState, idle}
-use Rattle.auxiliaries.specs.Served.{Replies, Served, forgotten}
+use Rattle.auxiliaries.specs.Served.{Replies, forgotten}
 use Rattle.bundle_text.specs.Rules.{PlainBundle}
 use Rattle.sv_journal.specs.Output.{PlainTranscript}
 use Rattle.sv_rules.specs.Entries.{Entries}

@@ -1,8 +1,5 @@
 ghost use Rattle.std.specs.Prelude.{◌≡◌, ◌+◌, ◌≤◌, ◌++◌, length, map, vec_capacity, vec_len};
 ghost use Rattle.apl_arrays.specs.Ascending.{AscendBy};
-ghost use Rattle.auxiliaries.specs.Clock.{RepliesByReading};
-ghost use Rattle.auxiliaries.specs.Protocol.{idle};
-ghost use Rattle.auxiliaries.specs.Served.{Replies, forgotten};
 ghost use Rattle.session_rules.specs.Run.{IsRun};
 ghost use Rattle.apl_session.specs.Ended.{IfWhole};
 ghost use Rattle.aplsv_replay.specs.Replayed.{IsDeviceRun};
