@@ -3,6 +3,7 @@ ghost use Rattle.std.specs.Prelude.{◌≡◌, IfOk};
 ghost use Rattle.apl_session.specs.Wants.{MayGoOn};
 ghost use Rattle.apl_session.specs.declared.session.Stage.TheVariants as stage;
 
+use crate::letting_go::let_go;
 use crate::{Session, Transcript, Transcripts, Wants};
 use apl_arrays::{Array, GlyphRefused, LineList, WantOfMemory, glyphs_of};
 use line_text::add_line;
@@ -71,7 +72,14 @@ fn started(alloc: Global) -> Result<Session<u8>, GlyphRefused>
     Ok(Session::new(alloc, 1001, lines, 7))
 }
 
-fn discard(_answer: Answer) {}
+// The answers that a session is given.
+#[derive(Clone, Copy, Debug)]
+enum Told {
+    NotTaken,
+    PastTheLimit,
+    FullFromTheSetOn,
+    Used,
+}
 
 // Gives the answer to the next act, if there is one.
 fn give(session: &mut Session<u8>, answer: Answer) -> Result<(), WantOfMemory>
@@ -79,69 +87,96 @@ fn give(session: &mut Session<u8>, answer: Answer) -> Result<(), WantOfMemory>
     ensures { IfOk result (λ done. MayGoOn session.new.stage) }
 {
     match session.next()? {
-        Wants::Act(_) => session.answer(answer),
+        Wants::Act(act) => {
+            let_go(act);
+            session.answer(answer)
+        }
         Wants::Finished => {
-            discard(answer);
+            let_go(answer);
             Ok(())
         }
     }
 }
 
-// What a session has printed that asks nothing more; nothing where it still asks.
-fn printed(alloc: Global, mut session: Session<u8>) -> Result<Vec<u8>, WantOfMemory>
-    requires { MayGoOn session.stage }
+// Gives these answers, one after another.
+fn give_all(alloc: Global, session: &mut Session<u8>, told: Told) -> Result<(), WantOfMemory>
+    requires { MayGoOn session.old.stage }
+    ensures { IfOk result (λ done. MayGoOn session.new.stage) }
 {
-    let mut bytes = Vec::new(alloc);
-    match session.next()? {
-        Wants::Act(_) => Ok(bytes),
-        Wants::Finished => {
-            for line in session.transcript() {
-                add_line(&mut bytes, line)?;
-            }
-            Ok(bytes)
+    match told {
+        Told::NotTaken => give(session, Answer::Full),
+        Told::PastTheLimit => give(session, Answer::OfferLimit),
+        Told::FullFromTheSetOn => {
+            give(session, Answer::Degree(1))?;
+            give_full(session)
+        }
+        Told::Used => {
+            give(session, Answer::Degree(2))?;
+            give(session, Answer::Granted)?;
+            give(session, Answer::Value(Array::scalar(alloc, 7)?))?;
+            give(session, Answer::NoValue)
         }
     }
 }
 
-fn not_taken(alloc: Global) -> Result<Vec<u8>, GlyphRefused> {
-    let mut session = started(alloc)?;
-    give(&mut session, Answer::Full)?;
-    Ok(printed(alloc, session)?)
+// Answers Full to the set and to both uses.
+fn give_full(session: &mut Session<u8>) -> Result<(), WantOfMemory>
+    requires { MayGoOn session.old.stage }
+    ensures { IfOk result (λ done. MayGoOn session.new.stage) }
+{
+    give(session, Answer::Full)?;
+    give(session, Answer::Full)?;
+    give(session, Answer::Full)
 }
 
-fn past_the_limit(alloc: Global) -> Result<Vec<u8>, GlyphRefused> {
-    let mut session = started(alloc)?;
-    give(&mut session, Answer::OfferLimit)?;
-    Ok(printed(alloc, session)?)
+// What a session has printed that asks nothing more; nothing where it still asks.
+fn printed(alloc: Global, session: &mut Session<u8>) -> Result<Vec<u8>, WantOfMemory>
+    requires { MayGoOn session.old.stage }
+{
+    let mut bytes = Vec::new(alloc);
+    match session.next()? {
+        Wants::Act(act) => let_go(act),
+        Wants::Finished => {
+            for line in session.transcript() {
+                add_line(&mut bytes, line)?;
+            }
+        }
+    }
+    Ok(bytes)
 }
 
-fn full_from_the_set_on(alloc: Global) -> Result<Vec<u8>, GlyphRefused> {
-    let mut session = started(alloc)?;
-    give(&mut session, Answer::Degree(1))?;
-    give(&mut session, Answer::Full)?;
-    give(&mut session, Answer::Full)?;
-    give(&mut session, Answer::Full)?;
-    Ok(printed(alloc, session)?)
+// What a session prints that is given these answers.
+fn walked(alloc: Global, session: &mut Session<u8>, told: Told) -> Result<Vec<u8>, WantOfMemory>
+    requires { MayGoOn session.old.stage }
+{
+    give_all(alloc, session, told)?;
+    printed(alloc, session)
 }
 
-fn used(alloc: Global) -> Result<Vec<u8>, GlyphRefused> {
+// The same of a session of its own.
+fn tried(alloc: Global, told: Told) -> Result<Vec<u8>, GlyphRefused> {
     let mut session = started(alloc)?;
-    let seven = Array::scalar(alloc, 7)?;
-    give(&mut session, Answer::Degree(2))?;
-    give(&mut session, Answer::Granted)?;
-    give(&mut session, Answer::Value(seven))?;
-    give(&mut session, Answer::NoValue)?;
-    Ok(printed(alloc, session)?)
+    let bytes = walked(alloc, &mut session, told);
+    let_go(session);
+    Ok(bytes?)
 }
 
-// Receipts are kept of all acts with their answers.
+// The same, tried once more where memory failed it.
+fn outcome(alloc: Global, told: Told) -> Result<Vec<u8>, GlyphRefused> {
+    match tried(alloc, told) {
+        Err(GlyphRefused::WantOfMemory) => tried(alloc, told),
+        outcome => outcome,
+    }
+}
+
+// How many receipts are kept of a session that is given an answer to each act.
 fn receipts(alloc: Global) -> Result<usize, GlyphRefused> {
     let mut session = started(alloc)?;
-    give(&mut session, Answer::Degree(1))?;
-    give(&mut session, Answer::Granted)?;
-    give(&mut session, Answer::NoValue)?;
-    give(&mut session, Answer::Full)?;
-    Ok(session.receipts().len())
+    let given = give_all(alloc, &mut session, Told::Used);
+    let count = session.receipts().len();
+    let_go(session);
+    given?;
+    Ok(count)
 }
 
 // The shelf comes back.
@@ -149,32 +184,36 @@ fn shelf(alloc: Global) -> Result<u8, GlyphRefused> {
     Ok(started(alloc)?.into_parts().shelf)
 }
 
-// What is made, tried once more where memory failed it.
-fn twice<T: Drop, F: Fn(Global) -> Result<T, GlyphRefused>>(
-    alloc: Global,
-    make: F,
-) -> Result<T, GlyphRefused>
-    requires { F.IsAlwaysCallable make }
-{
-    match make(alloc) {
-        Err(GlyphRefused::WantOfMemory) => make(alloc),
-        outcome => outcome,
-    }
-}
-
 #[test]
 fn answers_are_reported_and_printed(rt: HostRuntime) -> Result<(), Fail> {
     let alloc = rt.alloc();
-    assert_eq!(rt; twice(alloc, not_taken)?.as_slice(), NOT_TAKEN.as_bytes());
     assert_eq!(rt;
-        twice(alloc, past_the_limit)?.as_slice(),
+        outcome(alloc, Told::NotTaken)?.as_slice(),
+        NOT_TAKEN.as_bytes()
+    );
+    assert_eq!(rt;
+        outcome(alloc, Told::PastTheLimit)?.as_slice(),
         PAST_THE_LIMIT.as_bytes()
     );
-    let full = twice(alloc, full_from_the_set_on)?;
+    let full = outcome(alloc, Told::FullFromTheSetOn)?;
     assert_eq!(rt; full.as_slice(), FULL_FROM_THE_SET_ON.as_bytes());
-    assert_eq!(rt; twice(alloc, used)?.as_slice(), USED.as_bytes());
-    assert_eq!(rt; twice(alloc, receipts)?, 4);
-    assert_eq!(rt; twice(alloc, shelf)?, 7);
+    assert_eq!(rt; outcome(alloc, Told::Used)?.as_slice(), USED.as_bytes());
+    Ok(())
+}
+
+#[test]
+fn receipts_and_shelf_are_kept(rt: HostRuntime) -> Result<(), Fail> {
+    let alloc = rt.alloc();
+    let count = match receipts(alloc) {
+        Ok(count) => count,
+        Err(_) => receipts(alloc)?,
+    };
+    assert_eq!(rt; count, 4);
+    let lent = match shelf(alloc) {
+        Ok(lent) => lent,
+        Err(_) => shelf(alloc)?,
+    };
+    assert_eq!(rt; lent, 7);
     Ok(())
 }
 
