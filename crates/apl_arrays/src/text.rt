@@ -1,4 +1,4 @@
-ghost use Rattle.std.specs.Prelude.{◌≡◌, ◌≢◌, ◌+◌, ◌<◌, ◌≤◌, ◌^◌, ◌++◌, ◌∷◌, [], ◌⊎◌, ◌==◌, ℕ, List as ListOf, All, length, drop, IfOk, IfErr, OnOk, MatchResult, MatchOption, encode_utf8};
+ghost use Rattle.std.specs.Prelude.{◌≡◌, ◌≢◌, ◌+◌, ◌<◌, ◌≤◌, ◌^◌, ◌++◌, ◌∷◌, [], ◌⊎◌, ◌==◌, ℕ, List as ListOf, All, length, drop, IfOk, IfErr, OnOk, MatchResult, MatchOption, encode_utf8, vec_len, vec_capacity};
 ghost use Rattle.std.specs.List.{position};
 ghost use Rattle.apl_arrays.specs.Glyph.{IsGlyph, scalar_of, glyph_utf8, line_utf8, Spells, StartsWithNoGlyph, IsBadFrom};
 ghost use Rattle.apl_arrays.specs.Text.{IsReasonToRefuse, StartsWithNoScalar};
@@ -160,15 +160,21 @@ fn char_of(glyph: Glyph) -> char
     char::from_u32(u32::from(SCALARS[usize::from(code) - 0x80])).unwrap()
 }
 
-// Adds a glyph in UTF-8.
+// No glyph takes more bytes.
+const GLYPH_BYTES: usize = 4;
+
+// Adds a glyph in UTF-8, where there is room for it.
 #[tactic(auto, using(crate::proofs::Spelling::bytes_of_low))]
 fn add_glyph(bytes: &mut Vec<u8>, glyph: Glyph) -> Result<(), WantOfMemory>
+    requires room { vec_len bytes.old + 4 ≤ vec_capacity bytes.old }
     ensures text { OnOk result (bytes.new.items ≡ bytes.old.items ++ glyph_utf8 glyph) }
     ensures glyph { IsGlyph glyph }
+    ensures len { vec_len bytes.new ≤ vec_len bytes.old + 4 }
+    ensures capacity { vec_capacity bytes.old ≤ vec_capacity bytes.new }
 {
     let code = glyph.code();
     if code < 0x80 {
-        bytes.push(code)?;
+        bytes.push_reserved(code);
         return Ok(());
     }
     let mut buffer = [0; 4];
@@ -176,11 +182,16 @@ fn add_glyph(bytes: &mut Vec<u8>, glyph: Glyph) -> Result<(), WantOfMemory>
     Ok(())
 }
 
-/// Adds glyphs in UTF-8. It takes memory for the bytes; where that runs out, a part of them may stand there.
+/// Adds glyphs in UTF-8. It takes memory once, as if each glyph took its most bytes; where that runs out, a part
+/// of them may stand there.
 pub fn add_utf8(bytes: &mut Vec<u8>, line: &[Glyph]) -> Result<(), WantOfMemory>
     ensures text { OnOk result (bytes.new.items ≡ bytes.old.items ++ line_utf8 line.now) }
     ensures glyphs { OnOk result (All IsGlyph line.now) }
 {
+    let Some(room) = line.len().checked_mul(GLYPH_BYTES) else {
+        return Err(WantOfMemory);
+    };
+    bytes.reserve(room)?;
     for glyph in line {
         add_glyph(bytes, *glyph)?;
     }
