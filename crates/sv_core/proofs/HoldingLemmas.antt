@@ -1,18 +1,15 @@
 -- What a core looks up is what the definitions say.
-use Rattle.std.proofs.Common.{◌≡◌, refl, sym, ap, ◌∙◌, subst, ℕ, Bool, true, false, not, eqb, List, Option, Some, None, ◌⊎◌, inl, inr, Bor}
+use Rattle.std.proofs.Common.{◌≡◌, refl, sym, ap, ◌∙◌, subst, ℕ, Bool, true, false, not, eqb, List, Option, Some, None, inl, inr, Bor}
 use Rattle.std.specs.Prelude.{Contains, IsSome, is_some, if◌then◌else◌}
 use Rattle.std.specs.Option.{option_copied}
 use Rattle.std.proofs.lemmas.Bool.{eq-eqb, eqb-true, eqb-false, not_from_false}
 use Rattle.std.proofs.lemmas.Option.{none-some, same_Some}
-use Rattle.apl_arrays.specs.Array.{PlainArray}
-use Rattle.sv_access.specs.declared.access.Side.{Side}
 use Rattle.sv_access.specs.declared.access.Side.TheVariants.{A, B}
 use Rattle.sv_cells.specs.Cell.{known_alone, share_in}
 use Rattle.sv_cells.specs.Cells.{cell_at}
 use Rattle.sv_cells.specs.declared.cell.Cell.{Cell}
-use Rattle.sv_cells.specs.declared.cell.Held.TheVariants.{Alone, Shared, Lent}
 use Rattle.sv_cells.specs.declared.cells.Cells.{Cells}
-use Rattle.sv_rules.specs.Control.{side_at, vector_of}
+use Rattle.sv_rules.specs.Control.{side_at}
 use Rattle.sv_access.specs.Story.{state_of_story}
 use Rattle.sv_access.specs.declared.state.State.TheVariants.{Quiet}
 use Rattle.sv_rules.specs.Coupling.{coupling_now, couplings, is_coupled as is_coupled_there}
@@ -22,7 +19,7 @@ use Rattle.sv_rules.specs.Standing.{standing}
 use Rattle.sv_rules.specs.Story.{known, opening}
 use Rattle.sv_rules.specs.declared.coupling.Coupling.{Coupling}
 use Rattle.sv_rules.specs.declared.standing.Standing.{Standing}
-use Rattle.sv_story.specs.Share.{PlainShare, alone, known_to}
+use Rattle.sv_story.specs.Share.{PlainShare, alone}
 use Rattle.sv_offer_laws.specs.CouplingLaws.{IsCouplingOf}
 use Rattle.sv_offer_laws.proofs.LookupLemmas.{found_as_made, found_where_coupled}
 use Rattle.sv_offer_laws.proofs.Members.{Contains-filter}

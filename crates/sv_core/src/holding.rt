@@ -7,16 +7,18 @@ ghost use Rattle.sv_rules.specs.Outcome.{value_for};
 ghost use Rattle.sv_rules.specs.Refused.{hold_on};
 ghost use Rattle.sv_rules.specs.Standing.{standing};
 ghost use Rattle.sv_cell_laws.specs.Fits.{FitsShare};
+ghost use Rattle.sv_cells.specs.Cell.{share_in};
 ghost use Rattle.sv_core.specs.Core.{IsFound};
 ghost use Rattle.sv_core.specs.Due.{is_partners_unseen};
 ghost use Rattle.sv_rules.specs.Story.{known, opening, story};
 ghost use Rattle.sv_rules.specs.Work.{has_unseen};
+ghost use Rattle.sv_story.specs.Share.{PlainShare};
 ghost use Rattle.sv_story_laws.specs.StoryLaws.{offer_on};
 
 use crate::Core;
 use apl_arrays::Array;
 use sv_access::{Control, Kind, Side, State, join, view};
-use sv_cells::NO_CONTROL;
+use sv_cells::{Held, NO_CONTROL};
 use sv_events::Hold;
 use sv_rules::{Coupling, Standing, hold_by_state, side_at};
 use sv_story::{Share, alone};
@@ -131,6 +133,21 @@ impl Core {
         }
     }
 
+    // The vector of the lower offer of a coupling, in its party's view, and the state: one cell has both.
+    fn lower(&self, coupling: &Coupling) -> Lower
+        requires { coupling_now self.now.journal coupling.now.a.place ≡ Some coupling.now }
+        ensures vector { result.vector ≡ vector_of self.now.journal coupling.now.a }
+        ensures state { result.state ≡ state_of_story (story self.now.journal coupling.now) }
+    {
+        match self.cells.get(coupling.a.place) {
+            None => unreachable!(),
+            Some(cell) => Lower {
+                vector: cell.vector,
+                state: state_held(&cell.held),
+            },
+        }
+    }
+
     // What refuses an access on a standing offer, if anything does, by its coupling.
     pub(crate) fn hold_on(
         &self,
@@ -149,10 +166,10 @@ impl Core {
                 hold_by_state(self.vector(offer), NO_CONTROL, state, Side::A, kind)
             }
             Some(coupling) => {
-                let of_a = self.vector(&coupling.a);
+                let lower = self.lower(coupling);
                 let of_b = self.vector(&coupling.b);
                 let side = side_at(coupling, offer.place);
-                hold_by_state(of_a, of_b, self.state(coupling), side, kind)
+                hold_by_state(lower.vector, of_b, lower.state, side, kind)
             }
         }
     }
@@ -199,6 +216,23 @@ impl Core {
         ensures { result ≡ has_unseen self.now.journal offer.now coupling.now }
     {
         is_partners_unseen(self.state(coupling), side_at(coupling, offer.place))
+    }
+}
+
+// What is asked of the lower offer of a coupling.
+#[derive(Clone, Copy, Debug, PartialEq, Eq)]
+struct Lower {
+    vector: Control,
+    state: State,
+}
+
+// The state of the share that is held.
+fn state_held(held: &Held) -> State
+    ensures { (share : PlainShare) → share_in held.now ≡ Some share → result ≡ share.state }
+{
+    match held.share() {
+        None => State::Quiet,
+        Some(share) => share.state(),
     }
 }
 

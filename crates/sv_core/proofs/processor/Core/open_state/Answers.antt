@@ -1,11 +1,8 @@
 use Rattle.std.proofs.Common.{◌≡◌, ap, sym, ◌∙◌, subst, Some, None, Option}
-use Rattle.std.specs.Prelude.{Contains, IfSome, is_some, option_and_then}
-use Rattle.std.specs.Option.{option_copied}
-use Rattle.sv_core.specs.Core.{PlainCore, IsFound}
-use Rattle.sv_rules.specs.Legal.{IsLegal}
+use Rattle.std.specs.Prelude.{Contains, is_some, option_and_then}
+use Rattle.sv_core.specs.Core.{PlainCore}
 use Rattle.sv_rules.specs.Standing.{standing}
 use Rattle.sv_rules.specs.Coupling.{coupling_now}
-use Rattle.sv_rules.specs.declared.coupling.Coupling.{Coupling}
 use Rattle.sv_cells.specs.Cells.{cell_at}
 use Rattle.std.proofs.Common.{refl}
 use Rattle.sv_access.specs.Story.{state_of_story}
