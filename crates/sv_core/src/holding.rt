@@ -43,6 +43,15 @@ impl Core {
         self.offers.coupling(place)
     }
 
+    // The coupling of a standing offer, if it has one.
+    pub(crate) fn coupling_on(&self, offer: &Standing) -> Option<Coupling>
+        requires { Contains (standing self.now.journal) offer.now }
+        ensures value { result ≡ coupling_now self.now.journal offer.now.place }
+        ensures found { IfSome result (IsFound self.now.journal offer.now.place) }
+    {
+        self.offers.coupling_on(offer)
+    }
+
     // The value that is known of an open offer.
     fn known_alone(&self, offer: &Standing) -> Option<&Array>
         requires stands { Contains (standing self.now.journal) offer.now }
@@ -114,7 +123,7 @@ impl Core {
         requires { Contains (standing self.now.journal) offer.now }
         ensures { option_copied result ≡ known self.now.journal offer.now }
     {
-        match self.coupling(offer.place) {
+        match self.coupling_on(offer) {
             None => self.known_alone(offer),
             Some(coupling) => self.known_to(&coupling, side_at(&coupling, offer.place)),
         }
@@ -179,7 +188,7 @@ impl Core {
         requires { Contains (standing self.now.journal) offer.now }
         ensures { result ≡ partners_vector self.now.journal offer.now.place (coupling_now self.now.journal offer.now.place) }
     {
-        match self.coupling(offer.place) {
+        match self.coupling_on(offer) {
             None => NO_CONTROL,
             Some(coupling) => {
                 if coupling.a.place == offer.place {
@@ -204,7 +213,7 @@ impl Core {
         requires { Contains (standing self.now.journal) offer.now }
         ensures { result ≡ state_vector self.now.journal (Some offer.now) }
     {
-        match self.coupling(offer.place) {
+        match self.coupling_on(offer) {
             None => NO_CONTROL,
             Some(coupling) => view(self.state(&coupling), side_at(&coupling, offer.place)),
         }

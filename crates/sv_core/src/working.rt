@@ -104,7 +104,7 @@ impl Core {
         requires own { IsTrue (is_auxiliary offer.now.party) }
         ensures { result ≡ is_due_on self.now.journal due offer.now }
     {
-        match self.coupling(offer.place) {
+        match self.coupling_on(offer) {
             None => false,
             Some(coupling) => self.is_due_in(offer, &coupling, due),
         }
@@ -291,7 +291,7 @@ impl Core {
         match self.own(party, &access.local) {
             None => false,
             Some(offer) => {
-                let coupling = self.coupling(offer.place);
+                let coupling = self.coupling_on(&offer);
                 self.hold_on(&offer, &coupling, access.kind).is_some()
             }
         }
