@@ -99,6 +99,10 @@ pub copied_some : {X : Type 0} (o : Option (Bor X)) (x : X) → option_copied o 
 copied_some None x h = absurd (none-some x h)
 copied_some (Some b) x h = refl
 
+pub copied_is : {X : Type 0} (o : Option (Bor X)) → is_some o ≡ is_some (option_copied o)
+copied_is None = refl
+copied_is (Some b) = refl
+
 -- the lower offer of a coupling has it
 pub at_its_a : (users : List ℕ) (journal : Entries) → IsLegal users journal → (place : ℕ) (coupling : Coupling) → coupling_now journal place ≡ Some coupling → coupling_now journal coupling.a.place ≡ Some coupling
 at_its_a users journal legal place coupling now = found_at_a users journal legal place coupling (found_as_made users journal legal place coupling now)

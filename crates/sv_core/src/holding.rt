@@ -64,13 +64,20 @@ impl Core {
         }
     }
 
-    // The state of an open offer.
-    fn open_state(&self, offer: &Standing) -> State
+    // The vector of an open offer, in its party's view, and its state.
+    fn opened(&self, offer: &Standing) -> VectorAndState
         requires stands { Contains (standing self.now.journal) offer.now }
         requires open { coupling_now self.now.journal offer.now.place ≡ None }
-        ensures { result ≡ state_of_story (opening Side.A self.now.journal offer.now) }
+        ensures vector { result.vector ≡ vector_of self.now.journal offer.now }
+        ensures state { result.state ≡ state_of_story (opening Side.A self.now.journal offer.now) }
     {
-        alone(self.cells.knows(offer.place))
+        match self.cells.get(offer.place) {
+            None => unreachable!(),
+            Some(cell) => VectorAndState {
+                vector: cell.vector,
+                state: alone(cell.held.known().is_some()),
+            },
+        }
     }
 
     // The share of a coupling.
@@ -142,15 +149,15 @@ impl Core {
         }
     }
 
-    // The vector of the lower offer of a coupling, in its party's view, and the state: one cell has both.
-    fn lower(&self, coupling: &Coupling) -> Lower
+    // The vector of the lower offer of a coupling, in its party's view, and the state of the coupling.
+    fn lower(&self, coupling: &Coupling) -> VectorAndState
         requires { coupling_now self.now.journal coupling.now.a.place ≡ Some coupling.now }
         ensures vector { result.vector ≡ vector_of self.now.journal coupling.now.a }
         ensures state { result.state ≡ state_of_story (story self.now.journal coupling.now) }
     {
         match self.cells.get(coupling.a.place) {
             None => unreachable!(),
-            Some(cell) => Lower {
+            Some(cell) => VectorAndState {
                 vector: cell.vector,
                 state: state_held(&cell.held),
             },
@@ -171,8 +178,8 @@ impl Core {
     {
         match coupling {
             None => {
-                let state = self.open_state(offer);
-                hold_by_state(self.vector(offer), NO_CONTROL, state, Side::A, kind)
+                let open = self.opened(offer);
+                hold_by_state(open.vector, NO_CONTROL, open.state, Side::A, kind)
             }
             Some(coupling) => {
                 let lower = self.lower(coupling);
@@ -228,9 +235,9 @@ impl Core {
     }
 }
 
-// What is asked of the lower offer of a coupling.
+// What one cell tells of an access: the look-up is made once for both.
 #[derive(Clone, Copy, Debug, PartialEq, Eq)]
-struct Lower {
+struct VectorAndState {
     vector: Control,
     state: State,
 }

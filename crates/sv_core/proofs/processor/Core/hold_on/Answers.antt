@@ -22,6 +22,6 @@ returns-in-None c =
     let offer = c.args.offer.now in
     let none : coupling_now journal offer.place ≡ None = sym c.requires.coupled ∙ c.in-None.is in
     let told = opening A journal offer in
-    c.hold_by_state.ensures told (sym c.open_state-state.ensures)
-    ∙ ap (λ (own : Control). let s : Sharing = record { story = told; a = own; b = no_control; side = A } in hold_under s c.args.kind) c.vector.ensures
+    c.hold_by_state.ensures told (sym c.opened-open.ensures.state)
+    ∙ ap (λ (own : Control). let s : Sharing = record { story = told; a = own; b = no_control; side = A } in hold_under s c.args.kind) c.opened-open.ensures.vector
     ∙ sym (ap (λ (k : Option Coupling). hold_under (sharing_of journal offer k) c.args.kind) none)
