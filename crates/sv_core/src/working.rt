@@ -35,7 +35,7 @@ impl Core {
         self.work_among(party, self.own_offers(party))
     }
 
-    // The work that is due of an auxiliary with these offers of its own: of one without any they are looked up once.
+    // The work that is due of an auxiliary, by the offers of its own, which are looked up once for all that may be due.
     fn work_among(&self, party: u32, own: &[Standing]) -> Work
         requires stand { (offer : Standing) → Contains own.now offer → Contains (standing self.now.journal) offer }
         requires own { (offer : Standing) → Contains own.now offer → IsTrue (is_auxiliary offer.party) }
