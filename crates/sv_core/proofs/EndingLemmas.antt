@@ -1,6 +1,6 @@
 -- The cells while offers end together, one offer and one pair after another.
-use Rattle.std.proofs.Common.{◌≡◌, refl, sym, ap, ◌∙◌, subst, ℕ, ◌<◌, Bool, true, false, ◌&&◌, ◌||◌, eqb, List, [], ◌∷◌, ◌++◌, Option, Some, None, arith}
-use Rattle.std.specs.Prelude.{Contains, IsTrue, IsSome, if◌then◌else◌}
+use Rattle.std.proofs.Common.{◌≡◌, refl, sym, ap, ◌∙◌, subst, ℕ, Bool, true, false, ◌&&◌, ◌||◌, eqb, List, [], ◌∷◌, ◌++◌, Option, Some, None, arith}
+use Rattle.std.specs.Prelude.{Contains, IsSome, if◌then◌else◌}
 use Rattle.std.specs.List.{filter, list_any}
 use Rattle.std.proofs.lemmas.Bool.{and_parts, or_right}
 use Rattle.std.proofs.lemmas.Map.Views.{any-filter_same}
@@ -8,7 +8,7 @@ use Rattle.apl_arrays.specs.Name.{same_name}
 use Rattle.sv_cells.specs.Cells.{PutsAt, cell_at}
 use Rattle.sv_cells.specs.declared.cell.Cell.{Cell}
 use Rattle.sv_cells.specs.declared.cells.Cells.{Cells}
-use Rattle.sv_cell_laws.specs.Ends.{CellsIn, FitsIn, IsTable, Joins, MayPart, Parts, coupled_without, ends_one, taken_now, unless_ended}
+use Rattle.sv_cell_laws.specs.Ends.{IsTable, Joins, MayPart, Parts, coupled_without, ends_one, unless_ended}
 use Rattle.sv_cell_laws.proofs.JoinSteps.{cells_join, pair_coupling}
 use Rattle.sv_cell_laws.proofs.EndSteps.{cells_alike, cells_part, list_any-more, parts_none}
 use Rattle.sv_events.specs.declared.entry.Pair.{Pair}
@@ -16,8 +16,7 @@ use Rattle.sv_events.specs.declared.row.Ending.{Ending}
 use Rattle.sv_events.specs.declared.row.Ending.TheVariants.{One, All as AllOffers}
 use Rattle.sv_offer_laws.proofs.LookupLemmas.{found_as_made}
 use Rattle.sv_rules.specs.Coupling.{coupling_at}
-use Rattle.sv_rules.specs.Entries.{Entries}
-use Rattle.sv_rules.specs.Standing.{is_ended, standing}
+use Rattle.sv_rules.specs.Standing.{is_ended}
 use Rattle.sv_rules.specs.declared.coupling.Coupling.{Coupling}
 use Rattle.sv_rules.specs.declared.coupling.Made.{Made}
 use Rattle.sv_rules.specs.declared.standing.Standing.{Standing}

@@ -1,18 +1,16 @@
 -- What a core looks up is what the definitions say.
-use Rattle.std.proofs.Common.{◌≡◌, refl, sym, ap, ◌∙◌, subst, ℕ, Bool, true, false, not, eqb, List, Option, Some, None, ◌⊎◌, inl, inr, Bor}
-use Rattle.std.specs.Prelude.{Contains, IsSome, is_some, if◌then◌else◌}
+use Rattle.std.proofs.Common.{◌≡◌, refl, sym, ap, ◌∙◌, subst, ℕ, Bool, true, false, not, eqb, List, Option, Some, None, inl, inr, Bor}
+use Rattle.std.specs.Prelude.{Contains, IfSome, IsSome, is_some, if◌then◌else◌}
 use Rattle.std.specs.Option.{option_copied}
 use Rattle.std.proofs.lemmas.Bool.{eq-eqb, eqb-true, eqb-false, not_from_false}
 use Rattle.std.proofs.lemmas.Option.{none-some, same_Some}
-use Rattle.apl_arrays.specs.Array.{PlainArray}
-use Rattle.sv_access.specs.declared.access.Side.{Side}
 use Rattle.sv_access.specs.declared.access.Side.TheVariants.{A, B}
+use Rattle.sv_core.specs.Core.{IsFound}
 use Rattle.sv_cells.specs.Cell.{known_alone, share_in}
 use Rattle.sv_cells.specs.Cells.{cell_at}
 use Rattle.sv_cells.specs.declared.cell.Cell.{Cell}
-use Rattle.sv_cells.specs.declared.cell.Held.TheVariants.{Alone, Shared, Lent}
 use Rattle.sv_cells.specs.declared.cells.Cells.{Cells}
-use Rattle.sv_rules.specs.Control.{side_at, vector_of}
+use Rattle.sv_rules.specs.Control.{side_at}
 use Rattle.sv_access.specs.Story.{state_of_story}
 use Rattle.sv_access.specs.declared.state.State.TheVariants.{Quiet}
 use Rattle.sv_rules.specs.Coupling.{coupling_now, couplings, is_coupled as is_coupled_there}
@@ -22,7 +20,7 @@ use Rattle.sv_rules.specs.Standing.{standing}
 use Rattle.sv_rules.specs.Story.{known, opening}
 use Rattle.sv_rules.specs.declared.coupling.Coupling.{Coupling}
 use Rattle.sv_rules.specs.declared.standing.Standing.{Standing}
-use Rattle.sv_story.specs.Share.{PlainShare, alone, known_to}
+use Rattle.sv_story.specs.Share.{PlainShare, alone}
 use Rattle.sv_offer_laws.specs.CouplingLaws.{IsCouplingOf}
 use Rattle.sv_offer_laws.proofs.LookupLemmas.{found_as_made, found_where_coupled}
 use Rattle.sv_offer_laws.proofs.Members.{Contains-filter}
@@ -101,6 +99,21 @@ pub copied_some : {X : Type 0} (o : Option (Bor X)) (x : X) → option_copied o 
 copied_some None x h = absurd (none-some x h)
 copied_some (Some b) x h = refl
 
+pub copied_is : {X : Type 0} (o : Option (Bor X)) → is_some o ≡ is_some (option_copied o)
+copied_is None = refl
+copied_is (Some b) = refl
+
 -- the lower offer of a coupling has it
 pub at_its_a : (users : List ℕ) (journal : Entries) → IsLegal users journal → (place : ℕ) (coupling : Coupling) → coupling_now journal place ≡ Some coupling → coupling_now journal coupling.a.place ≡ Some coupling
 at_its_a users journal legal place coupling now = found_at_a users journal legal place coupling (found_as_made users journal legal place coupling now)
+
+-- what is found is a coupling of the journal
+pub found_now : (users : List ℕ) (journal : Entries) → IsLegal users journal → (place : ℕ) (got : Option Coupling) → coupling_now journal place ≡ got → IfSome got (IsFound journal place)
+found_now users journal legal place None now = tt
+found_now users journal legal place (Some c) now = record {
+  has_a = a_stands users journal legal place c now;
+  has_b = b_stands users journal legal place c now;
+  at_a = at_its_a users journal legal place c now;
+  side = λ offer has at.
+      ap (λ n. offer_on c (side_at c n)) (sym at) ∙ on_its_side users journal legal offer has c (ap (coupling_now journal) at ∙ now);
+}

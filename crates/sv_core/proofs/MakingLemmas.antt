@@ -1,20 +1,17 @@
 -- What a core keeps, after each kind of act.
-use Rattle.std.proofs.Common.{◌≡◌, refl, sym, ap, ◌∙◌, subst, ℕ, ◌≤◌, ◌<◌, Bool, true, false, ◌&&◌, not, leb, List, [], ◌∷◌, ◌++◌, length, cond, Option, Some, None, is_none, arith}
-use Rattle.std.specs.Prelude.{Contains, IsTrue, if◌then◌else◌}
+use Rattle.std.proofs.Common.{◌≡◌, refl, sym, ap, ◌∙◌, ℕ, ◌≤◌, Bool, true, false, not, leb, List, [], ◌∷◌, ◌++◌, length, cond, Option, Some, None, is_none}
+use Rattle.std.specs.Prelude.{Contains}
 use Rattle.std.proofs.lemmas.Bool.{and_parts, not-true}
 use Rattle.std.proofs.lemmas.Option.{none-some, same_Some}
-use Rattle.sv_access.specs.declared.control.Control.{Control}
-use Rattle.sv_events.specs.Answer.{degree, offer_limit}
+use Rattle.sv_events.specs.Answer.{offer_limit}
 use Rattle.sv_events.specs.Entry.{PlainEntry}
 use Rattle.sv_events.specs.Row.{act_row}
-use Rattle.sv_events.specs.declared.entry.Pair.{Pair}
 use Rattle.sv_events.specs.declared.event.Act.{Act}
 use Rattle.sv_events.specs.declared.event.Act.TheVariants.{Offer}
 use Rattle.sv_events.specs.declared.row.Controlling.{Controlling}
 use Rattle.sv_events.specs.declared.row.Opening.{Opening}
 use Rattle.sv_cells.specs.Cell.{controlled}
 use Rattle.sv_cells.specs.Cells.{ChangesAt}
-use Rattle.sv_cells.specs.declared.cell.Cell.{Cell}
 use Rattle.sv_cells.specs.declared.cells.Cells.{Cells}
 use Rattle.sv_cell_laws.specs.Fits.{FitCells}
 use Rattle.sv_cell_laws.specs.Steps.{MakesAccess, OpensOffer, made_with}
@@ -24,7 +21,7 @@ use Rattle.sv_cell_laws.proofs.TouchSteps.{cells_controlled}
 use Rattle.sv_offer_laws.proofs.Members.{find_passed}
 use Rattle.sv_offer_laws.proofs.NowLemmas.{none_now}
 use Rattle.sv_offer_laws.proofs.OwnLemmas.{own_offer-parts}
-use Rattle.sv_rules.specs.Coupling.{coupling_now, couplings, is_coupled, is_open_match, open_match, pair_of}
+use Rattle.sv_rules.specs.Coupling.{coupling_now, couplings, is_coupled, is_open_match, open_match}
 use Rattle.sv_events.specs.Fits.{is_degree}
 use Rattle.sv_rules.specs.Entries.{Entries, next_place, is_leave, kind_of}
 use Rattle.sv_rules.specs.Legal.{IsLegal, MayFollow, entry_for}

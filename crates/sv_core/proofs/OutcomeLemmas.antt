@@ -5,15 +5,14 @@ use Rattle.sv_access.specs.declared.access.Kind.{Kind}
 use Rattle.sv_events.specs.Answer.{granted, vector}
 use Rattle.sv_events.specs.Row.{act_row}
 use Rattle.sv_events.specs.declared.event.Act.{Act}
-use Rattle.sv_events.specs.declared.event.Act.TheVariants.{AskControl, AskDegree, AskNames, AskParties, AskState, Offer, Set, SetControl, Use}
+use Rattle.sv_events.specs.declared.event.Act.TheVariants.{Offer, Set, SetControl, Use}
 use Rattle.sv_events.specs.declared.row.Accessing.{Accessing}
 use Rattle.sv_events.specs.declared.row.Controlling.{Controlling}
 use Rattle.sv_events.specs.declared.row.Opening.{Opening}
-use Rattle.sv_events.specs.declared.row.Question.{Question}
 use Rattle.sv_rules.specs.Control.{in_force_with}
 use Rattle.sv_rules.specs.Coupling.{coupling_now}
 use Rattle.sv_rules.specs.Entries.{Entries}
-use Rattle.sv_rules.specs.Outcome.{Outcome, access_answer, access_outcome, control_answer, control_outcome, granted_answer, opening_outcome, outcome, question_outcome, unless_refused, value_answer, value_for}
+use Rattle.sv_rules.specs.Outcome.{Outcome, access_answer, access_outcome, control_answer, control_outcome, granted_answer, opening_outcome, outcome, unless_refused, value_answer, value_for}
 use Rattle.sv_rules.specs.Refused.{hold_on}
 use Rattle.sv_rules.specs.Standing.{own_offer, standing}
 use Rattle.sv_rules.specs.declared.standing.Standing.{Standing}

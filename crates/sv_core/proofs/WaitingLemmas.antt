@@ -1,6 +1,6 @@
 -- Who has left and who waits: what is kept of users tells it of every party.
-use Rattle.std.proofs.Common.{◌≡◌, refl, sym, ap, ◌∙◌, subst, ℕ, suc, ◌+◌, ◌-◌, ◌≤◌, ◌<◌, Bool, true, false, ◌&&◌, ◌||◌, not, eqb, List, [], ◌∷◌, length, map, reverse, get_or, All, Option, Some, None, ◌⊎◌, inl, inr, arith}
-use Rattle.std.specs.Prelude.{IsTrue, is_some, if◌then◌else◌}
+use Rattle.std.proofs.Common.{◌≡◌, refl, sym, ap, ◌∙◌, ℕ, suc, ◌-◌, ◌≤◌, ◌<◌, Bool, true, false, ◌&&◌, ◌||◌, not, eqb, List, [], ◌∷◌, length, map, get_or, Option, Some, None, ◌⊎◌, inl, inr, arith}
+use Rattle.std.specs.Prelude.{is_some, if◌then◌else◌}
 use Rattle.std.proofs.lemmas.Bool.{cases_Bool, or_cases, or_from, and_right, both_ways, not-true, eqb-true}
 use Rattle.std.proofs.lemmas.List.{get_or-map, get_or-reverse, length-map, length-reverse}
 use Rattle.std.proofs.lemmas.List.Elements.{All-head, All-tail}
@@ -12,13 +12,13 @@ use Rattle.sv_events.specs.declared.event.Act.{Act}
 use Rattle.sv_events.specs.declared.event.Act.TheVariants.{Leave}
 use Rattle.sv_events.specs.declared.event.Hold.{Hold}
 use Rattle.sv_log.specs.declared.member.Member.{Member}
-use Rattle.sv_log.specs.Member.{member_of, waiting_at}
+use Rattle.sv_log.specs.Member.{waiting_at}
 use Rattle.sv_rules.specs.Entries.{Entries, next_place, has_left, is_leave, kind_of, is_held}
 use Rattle.sv_rules.specs.Journal.{journal_of}
 use Rattle.sv_rules.specs.Legal.{IsLegal, is_user}
 use Rattle.sv_rules.specs.Outcome.{outcome}
 use Rattle.sv_rules.specs.Refused.{awaited, waits}
-use Rattle.sv_rules.specs.Work.{is_auxiliary, is_halted}
+use Rattle.sv_rules.specs.Work.{is_auxiliary}
 use Rattle.sv_story_laws.specs.StepLaws.{IsPresent}
 use Rattle.sv_story_laws.proofs.AnswerLemmas.{holds_are_given_or_given_up}
 use Rattle.sv_story_laws.proofs.AuxiliaryLemmas.{auxiliaries_are_never_refused}

@@ -1,5 +1,5 @@
 -- What an auxiliary may have to do on a coupled offer of its own, and for whom.
-use Rattle.std.specs.Prelude.{ℕ, Bool, true, false, ◌==◌, not, Option, option_and_then, option_map, if◌then◌else◌}
+use Rattle.std.specs.Prelude.{ℕ, Bool, true, false, ◌==◌, not, Option, option_and_then, option_map, List, find, if◌then◌else◌}
 use Rattle.std.specs.Option.{option_map_or, option_or}
 use Rattle.apl_arrays.specs.Array.{PlainArray}
 use Rattle.sv_access.specs.declared.access.Side.{Side}
@@ -13,7 +13,7 @@ use Rattle.sv_events.specs.declared.work.Work.TheVariants as work
 use Rattle.sv_rules.specs.Coupling.{coupling_now, couplings, is_coupled}
 use Rattle.sv_rules.specs.Entries.{Entries}
 use Rattle.sv_rules.specs.Story.{known}
-use Rattle.sv_rules.specs.Work.{first_coupled, has_unseen, lacks_control, owes_reply}
+use Rattle.sv_rules.specs.Work.{first_coupled, first_work, has_unseen, lacks_control, owes_reply, to_counter}
 use Rattle.sv_rules.specs.declared.coupling.Coupling.{Coupling}
 use Rattle.sv_rules.specs.declared.standing.Standing.{Standing}
 
@@ -55,6 +55,12 @@ is_due_on journal due offer = option_map_or (is_due journal due offer) (coupling
 -- the offer is in no coupling
 abbrev pub is_open : Entries → Standing → Bool
 is_open journal offer = not (is_coupled (couplings journal) offer.place)
+
+-- the work that is due of a party with these offers of its own, if any is
+abbrev pub work_among : Entries → ℕ → List Standing → Option Work
+work_among journal party own =
+    first_work (find (is_open journal) own) (find (is_due_on journal due.Control) own) (find (is_due_on journal due.Reply) own) (to_counter journal party)
+    (find (is_due_on journal due.Use) own)
 
 -- the coupled offer on which a party has to set a control, else the one on which it has to reply
 abbrev pub served_by : Entries → ℕ → Option Standing

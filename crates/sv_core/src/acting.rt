@@ -179,7 +179,7 @@ impl Core {
         ensures journal { OnOk result (self.new ≡ core_after self.old party act) }
         ensures err { OnErr result (self.new ≡ self.old) }
     {
-        let coupling = self.coupling(offer.place);
+        let coupling = self.coupling_on(&offer);
         match self.hold_on(&offer, &coupling, access.kind) {
             None => self.grant(party, &offer, &coupling, access, act),
             Some(hold) => {

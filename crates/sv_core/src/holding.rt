@@ -7,16 +7,18 @@ ghost use Rattle.sv_rules.specs.Outcome.{value_for};
 ghost use Rattle.sv_rules.specs.Refused.{hold_on};
 ghost use Rattle.sv_rules.specs.Standing.{standing};
 ghost use Rattle.sv_cell_laws.specs.Fits.{FitsShare};
+ghost use Rattle.sv_cells.specs.Cell.{share_in};
 ghost use Rattle.sv_core.specs.Core.{IsFound};
 ghost use Rattle.sv_core.specs.Due.{is_partners_unseen};
 ghost use Rattle.sv_rules.specs.Story.{known, opening, story};
 ghost use Rattle.sv_rules.specs.Work.{has_unseen};
+ghost use Rattle.sv_story.specs.Share.{PlainShare};
 ghost use Rattle.sv_story_laws.specs.StoryLaws.{offer_on};
 
 use crate::Core;
 use apl_arrays::Array;
 use sv_access::{Control, Kind, Side, State, join, view};
-use sv_cells::NO_CONTROL;
+use sv_cells::{Held, NO_CONTROL};
 use sv_events::Hold;
 use sv_rules::{Coupling, Standing, hold_by_state, side_at};
 use sv_story::{Share, alone};
@@ -41,6 +43,15 @@ impl Core {
         self.offers.coupling(place)
     }
 
+    // The coupling of a standing offer, if it has one.
+    pub(crate) fn coupling_on(&self, offer: &Standing) -> Option<Coupling>
+        requires { Contains (standing self.now.journal) offer.now }
+        ensures value { result ≡ coupling_now self.now.journal offer.now.place }
+        ensures found { IfSome result (IsFound self.now.journal offer.now.place) }
+    {
+        self.offers.coupling_on(offer)
+    }
+
     // The value that is known of an open offer.
     fn known_alone(&self, offer: &Standing) -> Option<&Array>
         requires stands { Contains (standing self.now.journal) offer.now }
@@ -53,13 +64,20 @@ impl Core {
         }
     }
 
-    // The state of an open offer.
-    fn open_state(&self, offer: &Standing) -> State
+    // The vector of an open offer, in its party's view, and its state.
+    fn opened(&self, offer: &Standing) -> VectorAndState
         requires stands { Contains (standing self.now.journal) offer.now }
         requires open { coupling_now self.now.journal offer.now.place ≡ None }
-        ensures { result ≡ state_of_story (opening Side.A self.now.journal offer.now) }
+        ensures vector { result.vector ≡ vector_of self.now.journal offer.now }
+        ensures state { result.state ≡ state_of_story (opening Side.A self.now.journal offer.now) }
     {
-        alone(self.cells.knows(offer.place))
+        match self.cells.get(offer.place) {
+            None => unreachable!(),
+            Some(cell) => VectorAndState {
+                vector: cell.vector,
+                state: alone(cell.held.known().is_some()),
+            },
+        }
     }
 
     // The share of a coupling.
@@ -112,7 +130,7 @@ impl Core {
         requires { Contains (standing self.now.journal) offer.now }
         ensures { option_copied result ≡ known self.now.journal offer.now }
     {
-        match self.coupling(offer.place) {
+        match self.coupling_on(offer) {
             None => self.known_alone(offer),
             Some(coupling) => self.known_to(&coupling, side_at(&coupling, offer.place)),
         }
@@ -131,6 +149,21 @@ impl Core {
         }
     }
 
+    // The vector of the lower offer of a coupling, in its party's view, and the state of the coupling.
+    fn lower(&self, coupling: &Coupling) -> VectorAndState
+        requires { coupling_now self.now.journal coupling.now.a.place ≡ Some coupling.now }
+        ensures vector { result.vector ≡ vector_of self.now.journal coupling.now.a }
+        ensures state { result.state ≡ state_of_story (story self.now.journal coupling.now) }
+    {
+        match self.cells.get(coupling.a.place) {
+            None => unreachable!(),
+            Some(cell) => VectorAndState {
+                vector: cell.vector,
+                state: state_held(&cell.held),
+            },
+        }
+    }
+
     // What refuses an access on a standing offer, if anything does, by its coupling.
     pub(crate) fn hold_on(
         &self,
@@ -145,14 +178,14 @@ impl Core {
     {
         match coupling {
             None => {
-                let state = self.open_state(offer);
-                hold_by_state(self.vector(offer), NO_CONTROL, state, Side::A, kind)
+                let open = self.opened(offer);
+                hold_by_state(open.vector, NO_CONTROL, open.state, Side::A, kind)
             }
             Some(coupling) => {
-                let of_a = self.vector(&coupling.a);
+                let lower = self.lower(coupling);
                 let of_b = self.vector(&coupling.b);
                 let side = side_at(coupling, offer.place);
-                hold_by_state(of_a, of_b, self.state(coupling), side, kind)
+                hold_by_state(lower.vector, of_b, lower.state, side, kind)
             }
         }
     }
@@ -162,7 +195,7 @@ impl Core {
         requires { Contains (standing self.now.journal) offer.now }
         ensures { result ≡ partners_vector self.now.journal offer.now.place (coupling_now self.now.journal offer.now.place) }
     {
-        match self.coupling(offer.place) {
+        match self.coupling_on(offer) {
             None => NO_CONTROL,
             Some(coupling) => {
                 if coupling.a.place == offer.place {
@@ -187,7 +220,7 @@ impl Core {
         requires { Contains (standing self.now.journal) offer.now }
         ensures { result ≡ state_vector self.now.journal (Some offer.now) }
     {
-        match self.coupling(offer.place) {
+        match self.coupling_on(offer) {
             None => NO_CONTROL,
             Some(coupling) => view(self.state(&coupling), side_at(&coupling, offer.place)),
         }
@@ -199,6 +232,23 @@ impl Core {
         ensures { result ≡ has_unseen self.now.journal offer.now coupling.now }
     {
         is_partners_unseen(self.state(coupling), side_at(coupling, offer.place))
+    }
+}
+
+// What one cell tells of an access: the look-up is made once for both.
+#[derive(Clone, Copy, Debug, PartialEq, Eq)]
+struct VectorAndState {
+    vector: Control,
+    state: State,
+}
+
+// The state of the share that is held.
+fn state_held(held: &Held) -> State
+    ensures { (share : PlainShare) → share_in held.now ≡ Some share → result ≡ share.state }
+{
+    match held.share() {
+        None => State::Quiet,
+        Some(share) => share.state(),
     }
 }
 

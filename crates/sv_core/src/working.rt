@@ -1,14 +1,14 @@
 ghost use Rattle.std.specs.Prelude.{◌≡◌, true, false, not, find, nat_lt, Contains, IsTrue, Some, is_some, unwrap_or};
 ghost use Rattle.std.specs.List.{list_all, list_any};
 ghost use Rattle.std.specs.Option.{option_copied};
-ghost use Rattle.sv_core.specs.Due.{command_of, customer_of, is_due, is_due_on, is_open, is_reply, is_service, partner_at, partner_of, served_by};
+ghost use Rattle.sv_core.specs.Due.{command_of, customer_of, is_due, is_due_on, is_open, is_reply, is_service, partner_at, partner_of, served_by, work_among};
 ghost use Rattle.sv_log.specs.Member.{waiting_at};
 ghost use Rattle.sv_rules.specs.Coupling.{coupling_now, open_to};
 ghost use Rattle.sv_rules.specs.Entries.{has_left};
 ghost use Rattle.sv_rules.specs.Refused.{hold_of, hold_on, refused, still_refused};
 ghost use Rattle.sv_rules.specs.Standing.{offer_count, own_offer, standing};
 ghost use Rattle.sv_rules.specs.declared.standing.Standing.{Standing};
-ghost use Rattle.sv_rules.specs.Work.{first_coupled, first_open, is_auxiliary, is_halted, is_idle, is_stuck, lacks_control, most_counters, owes_reply, to_counter, work_due, work_of};
+ghost use Rattle.sv_rules.specs.Work.{first_coupled, is_auxiliary, is_halted, is_idle, is_stuck, lacks_control, most_counters, owes_reply, to_counter, work_due, work_of};
 
 use crate::Core;
 use apl_arrays::Array;
@@ -32,31 +32,34 @@ impl Core {
         requires { IsTrue (is_auxiliary party) }
         ensures { result ≡ unwrap_or (work_due self.now.journal party) Work.Idle }
     {
-        if let Some(offer) = self.first_open(party) {
+        self.work_among(party, self.own_offers(party))
+    }
+
+    // The work that is due of an auxiliary, by the offers of its own, which are looked up once for all that may be due.
+    fn work_among(&self, party: u32, own: &[Standing]) -> Work
+        requires stand { (offer : Standing) → Contains own.now offer → Contains (standing self.now.journal) offer }
+        requires own { (offer : Standing) → Contains own.now offer → IsTrue (is_auxiliary offer.party) }
+        ensures { result ≡ unwrap_or (work_among self.now.journal party own.now) Work.Idle }
+    {
+        if let Some(offer) = self.first_open_among(own) {
             Work::Retract(offer.local)
-        } else if let Some(offer) = self.first_coupled(party, Due::Control) {
+        } else if let Some(offer) = self.first_coupled_among(own, Due::Control) {
             Work::Control(offer.local)
-        } else if let Some(offer) = self.first_coupled(party, Due::Reply) {
+        } else if let Some(offer) = self.first_coupled_among(own, Due::Reply) {
             Work::Reply(offer.local)
         } else if let Some(offer) = self.to_counter(party) {
             Work::Counter {
                 to: offer.party,
                 surrogate: offer.surrogate,
             }
-        } else if let Some(offer) = self.first_coupled(party, Due::Use) {
+        } else if let Some(offer) = self.first_coupled_among(own, Due::Use) {
             Work::Use(offer.local)
         } else {
             Work::Idle
         }
     }
 
-    // The open offer of a party of the lowest place.
-    fn first_open(&self, party: u32) -> Option<Standing>
-        ensures { result ≡ first_open self.now.journal party }
-    {
-        self.first_open_among(self.own_offers(party))
-    }
-
+    // The open offer of the lowest place among some.
     fn first_open_among(&self, offers: &[Standing]) -> Option<Standing>
         ensures { result ≡ find (is_open self.now.journal) offers.now }
     {
@@ -101,7 +104,7 @@ impl Core {
         requires own { IsTrue (is_auxiliary offer.now.party) }
         ensures { result ≡ is_due_on self.now.journal due offer.now }
     {
-        match self.coupling(offer.place) {
+        match self.coupling_on(offer) {
             None => false,
             Some(coupling) => self.is_due_in(offer, &coupling, due),
         }
@@ -147,14 +150,19 @@ impl Core {
         }
     }
 
-    // The open offer that an auxiliary is to counter.
+    // The open offer that an auxiliary is to counter: its own are counted only where there is one.
     fn to_counter(&self, party: u32) -> Option<Standing>
         ensures { result ≡ to_counter self.now.journal party }
     {
-        if self.may_counter(party) {
-            self.oldest_to(party)
-        } else {
-            None
+        match self.oldest_to(party) {
+            None => None,
+            Some(offer) => {
+                if self.may_counter(party) {
+                    Some(offer)
+                } else {
+                    None
+                }
+            }
         }
     }
 
@@ -283,7 +291,7 @@ impl Core {
         match self.own(party, &access.local) {
             None => false,
             Some(offer) => {
-                let coupling = self.coupling(offer.place);
+                let coupling = self.coupling_on(&offer);
                 self.hold_on(&offer, &coupling, access.kind).is_some()
             }
         }

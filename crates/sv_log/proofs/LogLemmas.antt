@@ -1,61 +1,55 @@
 -- What is kept of a journal goes on with one entry more.
-use Rattle.std.proofs.Common.{◌≡◌, refl, sym, ap, ◌∙◌, ℕ, zero, suc, ◌+◌, ◌≤◌, ◌<◌, Bool, true, false, ◌&&◌, ◌||◌, not, eqb, List, [], ◌∷◌, length, take, min, get_or, cond, Option, Some, None, inl, inr, arith, add_comm}
+use Rattle.std.proofs.Common.{◌≡◌, refl, sym, ap, ◌∙◌, ℕ, ◌+◌, Bool, true, false, ◌&&◌, ◌||◌, not, eqb, List, [], ◌∷◌, find, map, min, cond, Option, Some, None, inl, inr, arith, add_comm}
 use Rattle.std.specs.Prelude.{option_map, if◌then◌else◌}
 use Rattle.std.proofs.Math.Nat.{min-eq_left, min-eq_right}
-use Rattle.std.proofs.lemmas.Bool.{cases_lt}
+use Rattle.std.proofs.lemmas.Bool.{cases_lt, eqb-true}
 use Rattle.std.proofs.lemmas.List.Sums.{sum_by-cons}
 use Rattle.sv_events.specs.Entry.{PlainEntry}
 use Rattle.sv_rules.specs.Entries.{Entries, next_place, has_left, is_leave, kind_of, is_held, counted_entries, held_elements, entry_weight}
 use Rattle.sv_rules.specs.Legal.{is_user}
-use Rattle.sv_log.specs.declared.member.Member.{Member}
-use Rattle.sv_log.specs.Member.{member_of, noted, waiting_at}
+use Rattle.sv_log.specs.declared.member.Kept.{Kept}
+use Rattle.sv_log.specs.Member.{kept_of, member_of, noted, noted_of, waiting_at}
 
--- users with one more
-users_more : (users : List ℕ) (i user : ℕ) → i < length users → is_user (take (suc i) users) user ≡ (eqb (get_or users i 0) user || is_user (take i users) user)
-users_more [] i user within = absurd (omega arith)
-users_more (first ∷ users) zero user within = refl
-users_more (first ∷ users) (suc i) user within =
-    ap (λ b. eqb first user || b) (users_more users i user (omega arith)) ∙ either (eqb first user) (eqb (get_or users i 0) user) (is_user (take i users) user)
+-- what is read where nothing is kept
+abbrev pub nobody : Kept
+nobody = record { user = 0; member = record { has_left = false; waiting = None } }
+
+-- who is found of those that are kept
+pub member_found : (journal : Entries) (users : List ℕ) (user : ℕ) →
+    option_map (λ (k : Kept). k.member) (find (λ (k : Kept). eqb k.user user) (map (kept_of journal) users)) ≡ (if is_user users user then Some (member_of journal user) else None)
+member_found journal [] user = refl
+member_found journal (first ∷ users) user = by (member_found journal users user) (eqb first user) refl
   where
-    either : (a b c : Bool) → (a || (b || c)) ≡ (b || (a || c))
-    either true true c = refl
-    either true false c = refl
-    either false true c = refl
-    either false false c = refl
-
--- what is kept where one more user has done nothing
-pub member_more : (users : List ℕ) (i user : ℕ) (got : Option Member) → i < length users → got ≡ (if is_user (take i users) user then Some (member_of [] user) else None) →
-    cond (eqb (get_or users i 0) user) (Some (member_of [] user)) got ≡ (if is_user (take (i + 1) users) user then Some (member_of [] user) else None)
-member_more users i user got within is =
-    ap (λ (o : Option Member). cond (eqb (get_or users i 0) user) (Some (member_of [] user)) o) is ∙ by (eqb (get_or users i 0) user)
-    ∙ ap (λ (b : Bool). if b then Some (member_of [] user) else None) (sym (users_more users i user within))
-    ∙ ap (λ n. if is_user (take n users) user then Some (member_of [] user) else None) next
-  where
-    next : suc i ≡ i + 1
-    next = omega arith
-
-    by : (b : Bool) → cond b (Some (member_of [] user)) (if is_user (take i users) user then Some (member_of [] user) else None)
-        ≡ (if b || is_user (take i users) user then Some (member_of [] user) else None)
-    by true = refl
-    by false = refl
+    by : option_map (λ (k : Kept). k.member) (find (λ (k : Kept). eqb k.user user) (map (kept_of journal) users)) ≡ (if is_user users user then Some (member_of journal user) else None) →
+        (b : Bool) → eqb first user ≡ b →
+        option_map (λ (k : Kept). k.member) (cond (eqb first user) (Some (kept_of journal first)) (find (λ (k : Kept). eqb k.user user) (map (kept_of journal) users)))
+        ≡ (if eqb first user || is_user users user then Some (member_of journal user) else None)
+    by rest true h =
+        ap (λ (b : Bool). option_map (λ (k : Kept). k.member) (cond b (Some (kept_of journal first)) (find (λ (k : Kept). eqb k.user user) (map (kept_of journal) users)))) h
+        ∙ ap (λ u. Some (member_of journal u)) (eqb-true first user h) ∙ sym (ap (λ (b : Bool). if b || is_user users user then Some (member_of journal user) else None) h)
+    by rest false h =
+        ap (λ (b : Bool). option_map (λ (k : Kept). k.member) (cond b (Some (kept_of journal first)) (find (λ (k : Kept). eqb k.user user) (map (kept_of journal) users)))) h
+        ∙ rest ∙ sym (ap (λ (b : Bool). if b || is_user users user then Some (member_of journal user) else None) h)
 
 -- where a party waits since an entry
 abbrev pub waiting_since : Entries → PlainEntry → Option ℕ
 waiting_since journal e = if is_held (kind_of e.answer) then Some (next_place journal) else None
 
 -- what is kept of a user after an entry is that of the journal with it
-pub member_noted : (users : List ℕ) (journal : Entries) (e : PlainEntry) (user : ℕ) (got : Option Member) → got ≡ (if is_user users user then Some (member_of journal user) else None) →
-    (if eqb e.party user then option_map (noted (is_leave e.act) (waiting_since journal e)) got else got) ≡ (if is_user users user then Some (member_of (e ∷ journal) user) else None)
-member_noted users journal e user got is =
-    ap (λ (o : Option Member). if eqb e.party user then option_map (noted (is_leave e.act) (waiting_since journal e)) o else o) is ∙ by (eqb e.party user) (is_user users user)
+kept_noted : (journal : Entries) (e : PlainEntry) (user : ℕ) → noted_of e.party (is_leave e.act) (waiting_since journal e) (kept_of journal user) ≡ kept_of (e ∷ journal) user
+kept_noted journal e user = by (eqb e.party user)
   where
-    by : (own among : Bool) →
-        (let old : Option Member = if among then Some (member_of journal user) else None in if own then option_map (noted (is_leave e.act) (waiting_since journal e)) old else old)
-        ≡ (if among then Some (record { has_left = (own && is_leave e.act) || has_left journal user; waiting = if own then waiting_since journal e else waiting_at journal user }) else None)
-    by true true = refl
-    by true false = refl
-    by false true = refl
-    by false false = refl
+    by : (own : Bool) → (if own then record { user = user; member = noted (is_leave e.act) (waiting_since journal e) (member_of journal user) } else kept_of journal user)
+        ≡ record { user = user; member = record { has_left = (own && is_leave e.act) || has_left journal user; waiting = if own then waiting_since journal e else waiting_at journal user } }
+    by true = refl
+    by false = refl
+
+pub members_noted : (journal : Entries) (e : PlainEntry) (users : List ℕ) →
+    map (noted_of e.party (is_leave e.act) (waiting_since journal e)) (map (kept_of journal) users) ≡ map (kept_of (e ∷ journal)) users
+members_noted journal e [] = refl
+members_noted journal e (user ∷ users) =
+    ap (λ (k : Kept). k ∷ map (noted_of e.party (is_leave e.act) (waiting_since journal e)) (map (kept_of journal) users)) (kept_noted journal e user)
+    ∙ ap (λ (ks : List Kept). kept_of (e ∷ journal) user ∷ ks) (members_noted journal e users)
 
 -- a sum that is capped may be capped before
 pub capped_sum : (a b limit : ℕ) → min (min a limit + min b limit) limit ≡ min (a + b) limit

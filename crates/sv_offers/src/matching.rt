@@ -1,6 +1,6 @@
-ghost use Rattle.std.specs.Prelude.{◌≡◌, filter};
+ghost use Rattle.std.specs.Prelude.{◌≡◌, Some, filter};
 ghost use Rattle.sv_offers.specs.Table.{may_match};
-ghost use Rattle.sv_rules.specs.Coupling.{coupling_at, coupling_of, is_open_match, open_match, rejoined};
+ghost use Rattle.sv_rules.specs.Coupling.{coupling_at, coupling_of, is_open_match, offer_at, open_match, rejoined};
 
 use crate::couplings::Couplings;
 use crate::standings::Standings;
@@ -64,4 +64,35 @@ pub fn coupling_at(offers: &Standings, coupled: &Couplings, place: u64) -> Optio
 {
     let made = coupled.with(place)?;
     coupling_of(offers, &made)
+}
+
+// The offer at a place, which is looked up unless it is the one at hand.
+fn at_hand(offers: &Standings, place: u64, offer: &Standing) -> Option<Standing>
+    requires { offer_at offers.now offer.now.place ≡ Some offer.now }
+    ensures { result ≡ offer_at offers.now place }
+{
+    if offer.place == place {
+        Some(*offer)
+    } else {
+        offers.at(place)
+    }
+}
+
+// The offers of a coupling, of which one is at hand.
+fn coupling_with(offers: &Standings, made: &Made, offer: &Standing) -> Option<Coupling>
+    requires { offer_at offers.now offer.now.place ≡ Some offer.now }
+    ensures { result ≡ coupling_of offers.now made.now }
+{
+    let a = at_hand(offers, made.pair.a, offer)?;
+    let b = at_hand(offers, made.pair.b, offer)?;
+    Some(Coupling { a, b, at: made.at })
+}
+
+/// The coupling of an offer that stands, if it has one: only its partner is looked up. No memory.
+pub fn coupling_on(offers: &Standings, coupled: &Couplings, offer: &Standing) -> Option<Coupling>
+    requires { offer_at offers.now offer.now.place ≡ Some offer.now }
+    ensures { result ≡ coupling_at offers.now coupled.now.items offer.now.place }
+{
+    let made = coupled.with(offer.place)?;
+    coupling_with(offers, &made, offer)
 }

@@ -1,14 +1,14 @@
-ghost use Rattle.std.specs.Prelude.{◌≡◌, ◌==◌, ◌≤◌, [], ◌++◌, true, filter, find, length, IfOk, OnOk, OnErr};
+ghost use Rattle.std.specs.Prelude.{◌≡◌, ◌==◌, ◌≤◌, [], ◌++◌, true, Some, filter, find, length, IfOk, OnOk, OnErr};
 ghost use Rattle.sv_offers.specs.Places.{IsNext};
 ghost use Rattle.sv_offers.specs.Table.{after_ending, after_offer, open_among, pairs_made};
 ghost use Rattle.sv_rules.specs.Questions.{parties_of, surrogates_of};
-ghost use Rattle.sv_rules.specs.Coupling.{coupling_at, degree_at, is_coupled, open_match, reopened_by_ending};
+ghost use Rattle.sv_rules.specs.Coupling.{coupling_at, degree_at, is_coupled, offer_at, open_match, reopened_by_ending};
 ghost use Rattle.sv_rules.specs.Standing.{offer_count, own_offer};
 
 use crate::couplings::Couplings;
 use crate::ending::end_all;
 use crate::listing::{first_to, open_to};
-use crate::matching::{coupling_at, open_match};
+use crate::matching::{coupling_at, coupling_on, open_match};
 use crate::room::{join, recouple};
 use crate::standings::Standings;
 use apl_arrays::{Name, NameList, PartyList, WantOfMemory};
@@ -90,6 +90,14 @@ impl Offers {
         ensures { result ≡ coupling_at self.now.offers self.now.coupled place }
     {
         coupling_at(&self.offers, &self.coupled, place)
+    }
+
+    /// The coupling of an offer that stands, if it has one: only its partner is looked up. No memory.
+    pub fn coupling_on(&self, offer: &Standing) -> Option<Coupling>
+        requires { offer_at self.now.offers offer.now.place ≡ Some offer.now }
+        ensures { result ≡ coupling_at self.now.offers self.now.coupled offer.now.place }
+    {
+        coupling_on(&self.offers, &self.coupled, offer)
     }
 
     /// The open match of an offer, of the lowest place, if there is one. No memory.

@@ -3,4 +3,4 @@ use Rattle.sv_log.specs.Member.{HasMembers}
 use Rattle.sv_log.proofs.member.members_of.Given as goal
 
 abbrev pub invariant-loop-user : goal.invariant-loop-user
-invariant-loop-user l = HasMembers [] (take l.user-index l.users) l.members
+invariant-loop-user l = HasMembers [] (take l.user-index l.users) l.members.items

@@ -1,9 +1,6 @@
-use Rattle.std.proofs.Common.{◌≡◌, ap, sym, ◌∙◌, subst, Some, None, Option}
-use Rattle.std.specs.Prelude.{Contains, IfSome, is_some, option_and_then}
-use Rattle.std.specs.Option.{option_copied}
-use Rattle.sv_core.specs.Core.{PlainCore, IsFound}
-use Rattle.sv_rules.specs.Legal.{IsLegal}
-use Rattle.sv_rules.specs.Standing.{standing}
+use Rattle.std.proofs.Common.{◌≡◌, ap, sym, ◌∙◌, subst, None, Option}
+use Rattle.std.specs.Prelude.{IfSome}
+use Rattle.sv_core.specs.Core.{IsFound}
 use Rattle.sv_rules.specs.Coupling.{coupling_now}
 use Rattle.sv_rules.specs.declared.coupling.Coupling.{Coupling}
 use Rattle.sv_access.specs.declared.access.Side.TheVariants.{A}
@@ -13,14 +10,11 @@ use Rattle.sv_rules.specs.Refused.{hold_under}
 use Rattle.sv_rules.specs.Story.{opening}
 use Rattle.sv_core.proofs.processor.Core.hold_on.Goals as goal
 
-pub vector-of_a-requires : goal.vector-of_a-requires
-vector-of_a-requires c = (subst (λ (k : Option Coupling). IfSome k (IsFound c.args.self.now.journal c.args.offer.now.place)) c.in-Some.is c.requires.found).has_a
-
 pub vector-of_b-requires : goal.vector-of_b-requires
 vector-of_b-requires c = (subst (λ (k : Option Coupling). IfSome k (IsFound c.args.self.now.journal c.args.offer.now.place)) c.in-Some.is c.requires.found).has_b
 
-pub state-requires : goal.state-requires
-state-requires c = (subst (λ (k : Option Coupling). IfSome k (IsFound c.args.self.now.journal c.args.offer.now.place)) c.in-Some.is c.requires.found).at_a
+pub lower-lower-requires : goal.lower-lower-requires
+lower-lower-requires c = (subst (λ (k : Option Coupling). IfSome k (IsFound c.args.self.now.journal c.args.offer.now.place)) c.in-Some.is c.requires.found).at_a
 
 pub returns-in-None : goal.returns-in-None
 returns-in-None c =
@@ -28,6 +22,6 @@ returns-in-None c =
     let offer = c.args.offer.now in
     let none : coupling_now journal offer.place ≡ None = sym c.requires.coupled ∙ c.in-None.is in
     let told = opening A journal offer in
-    c.hold_by_state.ensures told (sym c.open_state-state.ensures)
-    ∙ ap (λ (own : Control). let s : Sharing = record { story = told; a = own; b = no_control; side = A } in hold_under s c.args.kind) c.vector.ensures
+    c.hold_by_state.ensures told (sym c.opened-open.ensures.state)
+    ∙ ap (λ (own : Control). let s : Sharing = record { story = told; a = own; b = no_control; side = A } in hold_under s c.args.kind) c.opened-open.ensures.vector
     ∙ sym (ap (λ (k : Option Coupling). hold_under (sharing_of journal offer k) c.args.kind) none)

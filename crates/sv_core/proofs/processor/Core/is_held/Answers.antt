@@ -7,6 +7,9 @@ use Rattle.sv_rules.specs.Standing.{standing}
 use Rattle.sv_rules.specs.declared.standing.Standing.{Standing}
 use Rattle.sv_core.proofs.processor.Core.is_held.Goals as goal
 
+pub coupling_on-coupling-requires : goal.coupling_on-coupling-requires
+coupling_on-coupling-requires c = (own_offer-parts (standing c.args.self.now.journal) c.args.party c.args.access.local c.in-Some.offer (sym c.own.ensures ∙ c.in-Some.is)).2
+
 pub hold_on-requires-clause-stands : goal.hold_on-requires-clause-stands
 hold_on-requires-clause-stands c = (own_offer-parts (standing c.args.self.now.journal) c.args.party c.args.access.local c.in-Some.offer (sym c.own.ensures ∙ c.in-Some.is)).2
 

@@ -4,6 +4,9 @@ use Rattle.sv_offer_laws.proofs.OwnLemmas.{own_offer-parts}
 use Rattle.sv_rules.specs.Standing.{standing}
 use Rattle.sv_core.proofs.processor.Core.make_own_access.Goals as goal
 
+pub coupling_on-coupling-requires : goal.coupling_on-coupling-requires
+coupling_on-coupling-requires c = (own_offer-parts (standing c.args.self.now.journal) c.args.party c.args.access.local c.args.offer c.requires.own).2
+
 pub hold_on-requires-clause-stands : goal.hold_on-requires-clause-stands
 hold_on-requires-clause-stands c = (own_offer-parts (standing c.args.self.now.journal) c.args.party c.args.access.local c.args.offer c.requires.own).2
 

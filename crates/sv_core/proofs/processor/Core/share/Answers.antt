@@ -1,10 +1,7 @@
-use Rattle.std.proofs.Common.{◌≡◌, ap, sym, ◌∙◌, subst, Some, None, Option}
-use Rattle.std.specs.Prelude.{Contains, IfSome, is_some}
+use Rattle.std.proofs.Common.{◌≡◌, ap, sym, ◌∙◌, subst, Some, Option}
+use Rattle.std.specs.Prelude.{IfSome}
 use Rattle.std.specs.Option.{option_copied}
-use Rattle.sv_cells.specs.Cells.{cell_at}
 use Rattle.sv_core.specs.Core.{PlainCore}
-use Rattle.sv_rules.specs.Legal.{IsLegal}
-use Rattle.sv_rules.specs.Standing.{standing}
 use Rattle.sv_rules.specs.Coupling.{coupling_now}
 use Rattle.sv_story.specs.Share.{PlainShare}
 use Rattle.sv_cell_laws.specs.Fits.{FitsShare}

@@ -18,7 +18,7 @@ use Rattle.sv_core.specs.Core.{IsFound}
 use Rattle.sv_core.proofs.processor.Core.state_vector.Goals as goal
 
 pub state-requires : goal.state-requires
-state-requires c = (subst (λ (k : Option Coupling). IfSome k (IsFound c.args.self.now.journal c.args.offer.now.place)) c.in-Some.is c.coupling.ensures.found).at_a
+state-requires c = (subst (λ (k : Option Coupling). IfSome k (IsFound c.args.self.now.journal c.args.offer.now.place)) c.in-Some.is c.coupling_on.ensures.found).at_a
 
 pub returns-in-Some : goal.returns-in-Some
 returns-in-Some c =
@@ -27,4 +27,4 @@ returns-in-Some c =
     c.view.ensures ∙ ap (λ (s : State). vector_of_state s c.side_at.result) c.state.ensures
     ∙ ap (λ (side : Side). vector_of_state (state_of_story told) side) c.side_at.ensures
     ∙ vector_by_state told (side_at c.in-Some.coupling c.args.offer.now.place)
-    ∙ sym (ap (λ (k : Option Coupling). state_of journal c.args.offer.now.place k) (sym c.coupling.ensures.value ∙ c.in-Some.is))
+    ∙ sym (ap (λ (k : Option Coupling). state_of journal c.args.offer.now.place k) (sym c.coupling_on.ensures.value ∙ c.in-Some.is))

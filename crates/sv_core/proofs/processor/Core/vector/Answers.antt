@@ -1,11 +1,8 @@
-use Rattle.std.proofs.Common.{◌≡◌, ap, sym, ◌∙◌, subst, Some, None, Option}
-use Rattle.std.specs.Prelude.{Contains, IfSome, is_some}
+use Rattle.std.proofs.Common.{ap, sym, ◌∙◌, subst}
+use Rattle.std.specs.Prelude.{Contains}
 use Rattle.std.specs.Option.{option_copied}
-use Rattle.sv_cells.specs.Cells.{cell_at}
 use Rattle.sv_core.specs.Core.{PlainCore}
-use Rattle.sv_rules.specs.Legal.{IsLegal}
 use Rattle.sv_rules.specs.Standing.{standing}
-use Rattle.sv_rules.specs.Coupling.{coupling_now}
 use Rattle.sv_rules.specs.Control.{vector_of}
 use Rattle.sv_core.proofs.HoldingLemmas.{cell_fits, cell_is}
 use Rattle.sv_core.proofs.processor.Core.vector.Goals as goal
