@@ -240,65 +240,70 @@ impl Builder {
         }
     }
 
-    fn niladic_by(&mut self, alloc: Global, symbol: Symbol) -> Result<(), WantOfMemory>
-        ensures { OnOk result (plain_builder self.new ≡ niladic_by symbol (plain_builder self.old)) }
+    fn niladic_by(
+        &mut self,
+        alloc: Global,
+        classes: &Classes,
+        kind: &TokenKind,
+    ) -> Result<(), WantOfMemory>
+        ensures { OnOk result (plain_builder self.new ≡ niladic_by (symbol_of classes.now.items (plain_kind kind.now)) (plain_builder self.old)) }
     {
-        match symbol {
+        match symbol_of(classes, kind) {
             Symbol::Niladic(name) => self.operand(alloc, Node::Niladic(name)),
             _ => Ok(()),
         }
     }
 
-    fn lead_by(&mut self, symbol: Symbol) -> Result<(), WantOfMemory>
-        ensures { OnOk result (plain_builder self.new ≡ lead_by symbol (plain_builder self.old)) }
+    fn lead_by(&mut self, classes: &Classes, kind: &TokenKind) -> Result<(), WantOfMemory>
+        ensures { OnOk result (plain_builder self.new ≡ lead_by (symbol_of classes.now.items (plain_kind kind.now)) (plain_builder self.old)) }
     {
-        match symbol {
+        match symbol_of(classes, kind) {
             Symbol::Scalar(monad, dyad) => self.lead(monad, dyad),
             _ => Ok(()),
         }
     }
 
-    fn slash_by(&mut self, symbol: Symbol) -> Result<(), WantOfMemory>
-        ensures { OnOk result (plain_builder self.new ≡ slash_by symbol (plain_builder self.old)) }
+    fn slash_by(&mut self, classes: &Classes, kind: &TokenKind) -> Result<(), WantOfMemory>
+        ensures { OnOk result (plain_builder self.new ≡ slash_by (symbol_of classes.now.items (plain_kind kind.now)) (plain_builder self.old)) }
     {
-        match symbol {
+        match symbol_of(classes, kind) {
             Symbol::Slash(fold) => pending::slash(&mut self.waiting, fold),
             _ => Ok(()),
         }
     }
 
-    fn monadic_by(&mut self, symbol: Symbol) -> Result<(), WantOfMemory>
-        ensures { OnOk result (plain_builder self.new ≡ monadic_by symbol (plain_builder self.old)) }
+    fn monadic_by(&mut self, classes: &Classes, kind: &TokenKind) -> Result<(), WantOfMemory>
+        ensures { OnOk result (plain_builder self.new ≡ monadic_by (symbol_of classes.now.items (plain_kind kind.now)) (plain_builder self.old)) }
     {
-        match symbol {
+        match symbol_of(classes, kind) {
             Symbol::Function(Some(function), _) => self.monadic(function),
             _ => Ok(()),
         }
     }
 
-    fn dyadic_by(&mut self, symbol: Symbol) -> Result<(), WantOfMemory>
-        ensures { OnOk result (plain_builder self.new ≡ dyadic_by symbol (plain_builder self.old)) }
+    fn dyadic_by(&mut self, classes: &Classes, kind: &TokenKind) -> Result<(), WantOfMemory>
+        ensures { OnOk result (plain_builder self.new ≡ dyadic_by (symbol_of classes.now.items (plain_kind kind.now)) (plain_builder self.old)) }
     {
-        match symbol {
+        match symbol_of(classes, kind) {
             Symbol::Function(_, Some(function)) => pending::dyadic(&mut self.waiting, function),
             Symbol::Slash(fold) => pending::dyadic(&mut self.waiting, Fun::Verb(between(fold))),
             _ => Ok(()),
         }
     }
 
-    fn scalar_by(&mut self, symbol: Symbol) -> Result<(), WantOfMemory>
-        ensures { OnOk result (plain_builder self.new ≡ scalar_by symbol (plain_builder self.old)) }
+    fn scalar_by(&mut self, classes: &Classes, kind: &TokenKind) -> Result<(), WantOfMemory>
+        ensures { OnOk result (plain_builder self.new ≡ scalar_by (symbol_of classes.now.items (plain_kind kind.now)) (plain_builder self.old)) }
     {
-        match symbol {
+        match symbol_of(classes, kind) {
             Symbol::Scalar(_, Some(dyad)) => pending::scalar(&mut self.waiting, dyad),
             _ => Ok(()),
         }
     }
 
-    fn factor_by(&mut self, symbol: Symbol) -> Result<(), WantOfMemory>
-        ensures { OnOk result (plain_builder self.new ≡ factor_by symbol (plain_builder self.old)) }
+    fn factor_by(&mut self, classes: &Classes, kind: &TokenKind) -> Result<(), WantOfMemory>
+        ensures { OnOk result (plain_builder self.new ≡ factor_by (symbol_of classes.now.items (plain_kind kind.now)) (plain_builder self.old)) }
     {
-        match symbol {
+        match symbol_of(classes, kind) {
             Symbol::Scalar(_, Some(dyad)) => pending::factor(&mut self.waiting, dyad),
             _ => Ok(()),
         }
@@ -321,7 +326,7 @@ impl Builder {
                 self.operand(alloc, Node::Constant(items))
             }
             Mark::Name => self.name_of(alloc, classes, kind),
-            Mark::Niladic => self.niladic_by(alloc, symbol_of(classes, kind)),
+            Mark::Niladic => self.niladic_by(alloc, classes, kind),
             Mark::LeftParenthesis => self.parenthesis(alloc),
             Mark::RightParenthesis => self.waiting.push(Pending::Parenthesis),
             Mark::OpenSubscripts => self.subscripts(alloc),
@@ -329,14 +334,14 @@ impl Builder {
             Mark::CloseSubscripts => self.waiting.push(Pending::Subscripts),
             Mark::OpenAxis => pending::axis(&mut self.waiting),
             Mark::CloseAxis => self.waiting.push(Pending::Axis),
-            Mark::Lead => self.lead_by(symbol_of(classes, kind)),
-            Mark::Slash => self.slash_by(symbol_of(classes, kind)),
-            Mark::Monadic => self.monadic_by(symbol_of(classes, kind)),
-            Mark::Dyadic => self.dyadic_by(symbol_of(classes, kind)),
-            Mark::Scalar => self.scalar_by(symbol_of(classes, kind)),
+            Mark::Lead => self.lead_by(classes, kind),
+            Mark::Slash => self.slash_by(classes, kind),
+            Mark::Monadic => self.monadic_by(classes, kind),
+            Mark::Dyadic => self.dyadic_by(classes, kind),
+            Mark::Scalar => self.scalar_by(classes, kind),
             Mark::Dot => Ok(()),
             Mark::Jot => pending::jot(&mut self.waiting),
-            Mark::Factor => self.factor_by(symbol_of(classes, kind)),
+            Mark::Factor => self.factor_by(classes, kind),
             Mark::Gets => pending::gets(&mut self.waiting),
             Mark::Colon => self.waiting.push(Pending::Label),
             Mark::Branch => pending::branch(&mut self.waiting),
