@@ -127,6 +127,16 @@ pub anew_is_reckoned : (entries : Entries) (names : NameTable) (name : List ℕ)
 anew_is_reckoned entries names name there meaning weight before after reckoned most e table bound is b a r =
     put_is_reckoned (sorted entries) names name meaning weight before after reckoned most e table bound (weighs entries names name there weight before e table is b).value a r
 
+-- the same keeps within the limit, where the table does
+pub anew_is_within : (entries : Entries) (names : NameTable) (name : List ℕ) (there meaning : Meaning) (weight before after reckoned : ℕ) → sorted entries ≡ names → IsTable weight (sorted entries) → Some there ≡ found entries name
+    → before ≡ min (meaning_weight there) (most_weight + 1) → after ≡ min (meaning_weight meaning) (most_weight + 1) → reckoned ≡ weight - before + after → table_weight (with_meaning names name meaning) ≤ most_weight → reckoned ≤ most_weight
+anew_is_within entries names name there meaning weight before after reckoned e table is b a r fits =
+    let own = (weighs entries names name there weight before e table is b).value in
+    let same : weight ≡ table_weight names = table.counted ∙ ap table_weight e in
+    let sum = weight_with names name meaning (subst (λ (n : NameTable). IsStrictlySortedBy name_order (keys_of n)) e table.ascending) in
+    let less = weight_without names name in
+    omega (arith, same, sum, less, own, a, r, fits)
+
 -- a table weighs at most as much more as what is put in
 pub at_most_heavier : (names : NameTable) (name : List ℕ) (meaning : Meaning) → table_weight (with_meaning names name meaning) ≤ table_weight names + meaning_weight meaning
 at_most_heavier [] name meaning = omega (arith, sum_by-cons meaning_weight meaning [])

@@ -67,19 +67,13 @@ impl Table {
         self.weight
     }
 
-    /// The name stands for this, and what it stood for is handed out. `WsFull` where the table would weigh more than
-    /// `most`; it leaves the table as it was, and so does `WantOfMemory`. It takes memory for a name that is not there
-    /// yet, and for no other.
-    fn exchange(
-        &mut self,
-        name: Name,
-        meaning: Meaning,
-        most: usize,
-    ) -> Result<Option<Meaning>, Fail>
+    /// The name stands for this, in place of what it stood for. `WsFull` where the table would weigh more than `most`;
+    /// it leaves the table as it was, and so does `WantOfMemory`. It takes memory for a name that is not there yet, and
+    /// for no other.
+    pub fn put(&mut self, name: Name, meaning: Meaning, most: usize) -> Result<(), Fail>
         requires limit { most ≤ most_weight }
         requires whole { IsWhole name meaning }
         ensures ok { OnOk result (self.new ≡ with_meaning self.old name meaning) }
-        ensures before { IfOk result (λ before. before ≡ meaning_in self.old name) }
         ensures err { OnErr result (self.new ≡ self.old) }
         ensures fits { OnOk result (table_weight (with_meaning self.old name meaning) ≤ most) }
         ensures full { IfErr result (λ fail. IsFullFor most (with_meaning self.old name meaning) fail) }
@@ -96,7 +90,8 @@ impl Table {
             return Err(Fail::Report(Report::WsFull));
         }
         self.weight = weight;
-        Ok(Some(replace(there, meaning)))
+        *there = meaning;
+        Ok(())
     }
 
     /// A name that is not there comes in, and stands for this, of this weight. `WsFull` where the table would weigh more
@@ -107,13 +102,12 @@ impl Table {
         meaning: Meaning,
         after: usize,
         most: usize,
-    ) -> Result<Option<Meaning>, Fail>
+    ) -> Result<(), Fail>
         requires new { meaning_in self.old name ≡ None }
         requires after { after ≡ min (meaning_weight meaning) (most_weight + 1) }
         requires limit { most ≤ most_weight }
         requires whole { IsWhole name meaning }
         ensures ok { OnOk result (self.new ≡ with_meaning self.old name meaning) }
-        ensures before { IfOk result (λ before. before ≡ None) }
         ensures err { OnErr result (self.new ≡ self.old) }
         ensures fits { OnOk result (table_weight (with_meaning self.old name meaning) ≤ most) }
         ensures full { IfErr result (λ fail. IsFullFor most (with_meaning self.old name meaning) fail) }
@@ -123,31 +117,9 @@ impl Table {
             discard(meaning);
             return Err(Fail::Report(Report::WsFull));
         }
-        let before = put_in(&mut self.names, name, meaning)?;
+        discard_old(put_in(&mut self.names, name, meaning)?);
         self.weight = weight;
-        Ok(before)
-    }
-
-    /// The name stands for this, in place of what it stood for. `WsFull` where the table would weigh more than `most`;
-    /// it leaves the table as it was, and so does `WantOfMemory`. It takes memory for a name that is not there yet, and
-    /// for no other.
-    pub fn put(&mut self, name: Name, meaning: Meaning, most: usize) -> Result<(), Fail>
-        requires limit { most ≤ most_weight }
-        requires whole { IsWhole name meaning }
-        ensures ok { OnOk result (self.new ≡ with_meaning self.old name meaning) }
-        ensures err { OnErr result (self.new ≡ self.old) }
-        ensures fits { OnOk result (table_weight (with_meaning self.old name meaning) ≤ most) }
-        ensures full { IfErr result (λ fail. IsFullFor most (with_meaning self.old name meaning) fail) }
-        ensures granted { IsSome (meaning_in self.old name) → table_weight (with_meaning self.old name meaning) ≤ most → IsOk result }
-        ensures there { IsSome (meaning_in self.old name) → IfErr result (λ fail. fail ≡ Fail.Report Report.WsFull) }
-    {
-        match self.exchange(name, meaning, most) {
-            Ok(before) => {
-                discard_old(before);
-                Ok(())
-            }
-            Err(fail) => Err(fail),
-        }
+        Ok(())
     }
 
     /// The name stands for this, where there is weight left for it. It takes memory for a name that is not there yet, and
@@ -235,9 +207,13 @@ impl Table {
         ensures before { result ≡ meaning_in self.old name.now }
         ensures value { self.new ≡ with_meaning self.old name.now meaning }
     {
-        match self.exchange(*name, meaning, WEIGHT_LIMIT) {
-            Ok(before) => before,
-            Err(_) => unreachable!(),
+        let after = meaning.weight();
+        match self.names.get_mut(name) {
+            None => unreachable!(),
+            Some(there) => {
+                self.weight = self.weight - there.weight() + after;
+                Some(replace(there, meaning))
+            }
         }
     }
 

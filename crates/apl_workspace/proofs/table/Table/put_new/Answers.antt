@@ -8,7 +8,7 @@ returns-then-weight-most-clause-full c = (refl, (new_is_reckoned _ _ c.args.name
 pub invariant_of-self-2 : goal.invariant_of-self-2
 invariant_of-self-2 c =
     is_table_with _ c.args.self.now _ c.args.name c.args.meaning _ _ c.args.most c.self.view_is c.self.invariant c.requires.whole (new_is_reckoned _ _ c.args.name c.args.meaning _ _ _ c.args.most c.self.view_is c.self.invariant c.requires.limit c.requires.new c.requires.after refl)
-    c.if-weight-most.false c.requires.limit c.in_ok-before.ensures.ok
+    c.if-weight-most.false c.requires.limit c.in_ok-put_in.ensures.ok
 
 pub returns-clause-fits : goal.returns-clause-fits
 returns-clause-fits c =

@@ -1,22 +1,16 @@
-use Rattle.std.proofs.Common.{◌≡◌, ◌∙◌, Option, Some, None, ap, sym, subst, refl, arith, false, true}
-use Rattle.std.specs.Prelude.{IfOk, is_some}
+use Rattle.std.proofs.Common.{◌≡◌, ◌∙◌, None, ap, sym, subst, refl, arith, false, true}
+use Rattle.std.specs.Prelude.{is_some}
 use Rattle.std.specs.Option.{option_copied_mut}
-use Rattle.apl_workspace.specs.declared.meaning.Meaning.{Meaning}
 use Rattle.apl_workspace.specs.Meaning.{IsTable, NameTable, meaning_in, table_weight, with_meaning}
 use Rattle.apl_workspace.specs.Sorted.{sorted}
 use Rattle.apl_workspace.proofs.Ascending.{found}
 use Rattle.apl_workspace.proofs.InOrder.{kept_in_order, looked_up, put_in_order}
 use Rattle.apl_workspace.proofs.Tables.{anew_is_reckoned, is_table_with, never_over, weighs}
-use Rattle.apl_workspace.proofs.table.Table.exchange.Goals as goal
+use Rattle.apl_workspace.proofs.table.Table.put.Goals as goal
 
 pub put_new-requires-clause-new : goal.put_new-requires-clause-new
 put_new-requires-clause-new c =
     ap (λ (m : _). meaning_in (sorted m.entries) c.args.name) c.get_mut.follows.holds-at-none ∙ sym (looked_up c.self.inside.names.entries c.args.name) ∙ sym c.get_mut.ensures.value ∙ ap option_copied_mut c.in_default.is
-
-pub returns-in_default-clause-before : goal.returns-in_default-clause-before
-returns-in_default-clause-before c =
-    let none : meaning_in c.args.self.now c.args.name ≡ None = ap (λ (n : NameTable). meaning_in n c.args.name) (sym c.self.view_is) ∙ sym (looked_up c.self.inside.names.entries c.args.name) ∙ sym c.get_mut.ensures.value ∙ ap option_copied_mut c.in_default.is in
-    subst (λ (o : Option Meaning). IfOk c.put_new.result (λ before. before ≡ o)) (sym none) c.put_new.ensures.before
 
 pub returns-in_default-clause-granted : goal.returns-in_default-clause-granted
 returns-in_default-clause-granted c =
@@ -66,20 +60,15 @@ pub invariant_of-self-2 : goal.invariant_of-self-2
 invariant_of-self-2 c =
     let there = sym (ap option_copied_mut c.in-Some.is) ∙ c.get_mut.ensures.value in
     let among : is_some (found c.self.inside.names.entries c.args.name) ≡ true = ap is_some (sym there) in
-    let written = put_in_order c.self.inside.names.entries _ c.args.name _ ((c.get_mut.follows.holds c.replace.new.dest).3 among).0 ∙ ap (λ (m : Meaning). with_meaning (sorted c.self.inside.names.entries) c.args.name m) c.replace.ensures.after in
+    let written = put_in_order c.self.inside.names.entries _ c.args.name _ ((c.get_mut.follows.holds c.args.meaning).3 among).0 in
     is_table_with _ c.args.self.now _ c.args.name c.args.meaning _ _ c.args.most c.self.view_is c.self.invariant c.requires.whole (anew_is_reckoned c.self.inside.names.entries _ c.args.name _ c.args.meaning _ _ _ _ c.args.most c.self.view_is c.self.invariant c.requires.limit there c.weight.ensures c.weight-after.ensures refl) c.if-weight-most.false c.requires.limit written
 
 pub returns-clause-ok : goal.returns-clause-ok
 returns-clause-ok c =
     let there = sym (ap option_copied_mut c.in-Some.is) ∙ c.get_mut.ensures.value in
     let among : is_some (found c.self.inside.names.entries c.args.name) ≡ true = ap is_some (sym there) in
-    let written = put_in_order c.self.inside.names.entries _ c.args.name _ ((c.get_mut.follows.holds c.replace.new.dest).3 among).0 ∙ ap (λ (m : Meaning). with_meaning (sorted c.self.inside.names.entries) c.args.name m) c.replace.ensures.after in
+    let written = put_in_order c.self.inside.names.entries _ c.args.name _ ((c.get_mut.follows.holds c.args.meaning).3 among).0 in
     written ∙ ap (λ (n : NameTable). with_meaning n c.args.name c.args.meaning) c.self.view_is
-
-pub returns-clause-before : goal.returns-clause-before
-returns-clause-before c =
-    let there = sym (ap option_copied_mut c.in-Some.is) ∙ c.get_mut.ensures.value in
-    ap (λ (m : Meaning). Some m) c.replace.ensures.value ∙ there ∙ looked_up c.self.inside.names.entries c.args.name ∙ ap (λ (n : NameTable). meaning_in n c.args.name) c.self.view_is
 
 pub returns-clause-fits : goal.returns-clause-fits
 returns-clause-fits c =
