@@ -1,5 +1,5 @@
 -- Entries in any order against the table of them in order.
-use Rattle.std.proofs.Common.{◌≡◌, ℕ, true, false, cond, List, [], ◌∷◌, Option, Some, None, refl, sym, ap, ◌∙◌}
+use Rattle.std.proofs.Common.{◌≡◌, ℕ, Bool, true, false, cond, List, [], ◌∷◌, Option, Some, None, refl, sym, ap, ◌∙◌}
 use Rattle.std.specs.Prelude.{IsSome, is_some}
 use Rattle.std.specs.Map.{keys_of}
 use Rattle.apl_workspace.specs.Meaning.{NameTable, meaning_in, with_meaning, without_name}
@@ -7,7 +7,7 @@ use Rattle.apl_arrays.specs.Name.{same_name}
 use Rattle.apl_workspace.specs.Sorted.{sorted}
 use Rattle.apl_workspace.specs.declared.meaning.Meaning.{Meaning}
 use Rattle.apl_workspace.proofs.Ascending.{Ascend, found, found_with, found_without, none_ascend, told_by_look_ups, with_ascends, without_ascends}
-use Rattle.apl_workspace.proofs.NameLaw.{name_flips}
+use Rattle.apl_workspace.proofs.NameLaw.{equal_names, name_flips}
 
 -- entries in any order
 abbrev pub Entries : Type 0
@@ -37,6 +37,15 @@ put_in_order old new name meaning updates =
     (λ other.
     updates other ∙ ap (λ (o : Option Meaning). cond (same_name name other) (Some meaning) o) (looked_up old other)
     ∙ sym (found_with (sorted old) name meaning other))
+
+-- an entry was written anew with what it had
+pub kept_in_order : (old new : Entries) (name : List ℕ) (meaning : Meaning) → ((other : List ℕ) → found new other ≡ cond (same_name name other) (Some meaning) (found old other)) → Some meaning ≡ found old name → sorted new ≡ sorted old
+kept_in_order old new name meaning updates there =
+    same_table new (sorted old) (sorted_ascends old) (λ other. updates other ∙ by (same_name name other) other refl ∙ looked_up old other)
+  where
+    by : (b : Bool) (other : List ℕ) → same_name name other ≡ b → cond b (Some meaning) (found old other) ≡ found old other
+    by true other p = there ∙ ap (λ (n : List ℕ). found old n) (equal_names name other p)
+    by false other p = refl
 
 -- an entry was taken out
 pub taken_in_order : (old new : Entries) (name : List ℕ) → ((other : List ℕ) → found new other ≡ cond (same_name name other) None (found old other)) → sorted new ≡ without_name (sorted old) name

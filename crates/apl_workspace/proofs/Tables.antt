@@ -47,6 +47,12 @@ put_is_reckoned entries names name meaning weight before after reckoned most e t
     ordered : (entries names : NameTable) → entries ≡ names → IsStrictlySortedBy name_order (keys_of entries) → IsStrictlySortedBy name_order (keys_of names)
     ordered entries names e s = rw (← e) s
 
+-- what is reckoned for a name that is not there
+pub new_is_reckoned : (entries names : NameTable) (name : List ℕ) (meaning : Meaning) (weight after reckoned most : ℕ) → entries ≡ names → IsTable weight entries → most ≤ most_weight → meaning_in names name ≡ None
+    → after ≡ min (meaning_weight meaning) (most_weight + 1) → reckoned ≡ weight + after → IsReckoned names name meaning reckoned most
+new_is_reckoned entries names name meaning weight after reckoned most e table bound none a r =
+    put_is_reckoned entries names name meaning weight 0 after reckoned most e table bound (sym (ap (λ (o : Option Meaning). unwrap_or (option_map meaning_weight o) 0) none)) a (omega (arith, r))
+
 -- a reckoned weight over the limit, for a table that keeps within it
 pub never_over : (names : NameTable) (name : List ℕ) (meaning : Meaning) (reckoned most : ℕ) → IsReckoned names name meaning reckoned most → most < reckoned → table_weight (with_meaning names name meaning) ≤ most → false ≡ true
 never_over names name meaning reckoned most h over fits = absurd (omega (arith, h.over over, fits))
@@ -114,6 +120,22 @@ weighs entries names name meaning whole weight e table is m =
     let same : whole ≡ table_weight names = table.counted ∙ ap table_weight e in
     let less = weight_without names name in
     record { value = omega (arith, own, same, less, m, table.within); within = omega (arith, own, same, less, m, table.within) }
+
+-- what is reckoned for a name that was looked up
+pub anew_is_reckoned : (entries : Entries) (names : NameTable) (name : List ℕ) (there meaning : Meaning) (weight before after reckoned most : ℕ) → sorted entries ≡ names → IsTable weight (sorted entries) → most ≤ most_weight
+    → Some there ≡ found entries name → before ≡ min (meaning_weight there) (most_weight + 1) → after ≡ min (meaning_weight meaning) (most_weight + 1) → reckoned ≡ weight - before + after → IsReckoned names name meaning reckoned most
+anew_is_reckoned entries names name there meaning weight before after reckoned most e table bound is b a r =
+    put_is_reckoned (sorted entries) names name meaning weight before after reckoned most e table bound (weighs entries names name there weight before e table is b).value a r
+
+-- the same keeps within the limit, where the table does
+pub anew_is_within : (entries : Entries) (names : NameTable) (name : List ℕ) (there meaning : Meaning) (weight before after reckoned : ℕ) → sorted entries ≡ names → IsTable weight (sorted entries) → Some there ≡ found entries name
+    → before ≡ min (meaning_weight there) (most_weight + 1) → after ≡ min (meaning_weight meaning) (most_weight + 1) → reckoned ≡ weight - before + after → table_weight (with_meaning names name meaning) ≤ most_weight → reckoned ≤ most_weight
+anew_is_within entries names name there meaning weight before after reckoned e table is b a r fits =
+    let own = (weighs entries names name there weight before e table is b).value in
+    let same : weight ≡ table_weight names = table.counted ∙ ap table_weight e in
+    let sum = weight_with names name meaning (subst (λ (n : NameTable). IsStrictlySortedBy name_order (keys_of n)) e table.ascending) in
+    let less = weight_without names name in
+    omega (arith, same, sum, less, own, a, r, fits)
 
 -- a table weighs at most as much more as what is put in
 pub at_most_heavier : (names : NameTable) (name : List ℕ) (meaning : Meaning) → table_weight (with_meaning names name meaning) ≤ table_weight names + meaning_weight meaning

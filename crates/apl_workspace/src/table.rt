@@ -1,4 +1,4 @@
-ghost use Rattle.std.specs.Prelude.{◌≡◌, ◌==◌, ◌+◌, ◌<◌, ◌≤◌, ◌++◌, ◌∷◌, ℕ, List as ListOf, [], Some, filter, if◌then◌else◌, true, length, slice_get, unwrap_or, IsOk, IsSome, OnOk, OnErr, IfErr, IfOk, IfSome};
+ghost use Rattle.std.specs.Prelude.{◌≡◌, ◌==◌, ◌+◌, ◌<◌, ◌≤◌, ◌++◌, ◌∷◌, ℕ, List as ListOf, [], Some, None, filter, min, if◌then◌else◌, true, length, slice_get, unwrap_or, IsOk, IsSome, OnOk, OnErr, IfErr, IfOk, IfSome};
 ghost use Rattle.std.specs.List.{IsDistinct};
 ghost use Rattle.std.specs.List.Sorted.{IsStrictlySortedBy};
 ghost use Rattle.apl_arrays.specs.Name.{name_order, same_name};
@@ -17,6 +17,7 @@ use apl_arrays::{Array, Fail, List, Name, NameList, Report, WantOfMemory};
 use indexmap::IndexMap;
 use std::alloc::Global;
 use std::marker::Model;
+use std::mem::replace;
 
 /// Names, each with what it stands for. It is seen as the list of them that ascends by the names.
 #[derive(Drop)]
@@ -66,36 +67,6 @@ impl Table {
         self.weight
     }
 
-    /// The name stands for this, and what it stood for is handed out. `WsFull` where the table would weigh more than
-    /// `most`; it leaves the table as it was, and so does `WantOfMemory`. It takes memory for a name that is not there
-    /// yet, and for no other.
-    fn exchange(
-        &mut self,
-        name: Name,
-        meaning: Meaning,
-        most: usize,
-    ) -> Result<Option<Meaning>, Fail>
-        requires limit { most ≤ most_weight }
-        requires whole { IsWhole name meaning }
-        ensures ok { OnOk result (self.new ≡ with_meaning self.old name meaning) }
-        ensures before { IfOk result (λ before. before ≡ meaning_in self.old name) }
-        ensures err { OnErr result (self.new ≡ self.old) }
-        ensures fits { OnOk result (table_weight (with_meaning self.old name meaning) ≤ most) }
-        ensures full { IfErr result (λ fail. IsFullFor most (with_meaning self.old name meaning) fail) }
-        ensures granted { IsSome (meaning_in self.old name) → table_weight (with_meaning self.old name meaning) ≤ most → IsOk result }
-        ensures there { IsSome (meaning_in self.old name) → IfErr result (λ fail. fail ≡ Fail.Report Report.WsFull) }
-    {
-        let before = self.weight_at(&name);
-        let weight = self.weight - before + meaning.weight();
-        if weight > most {
-            discard(meaning);
-            return Err(Fail::Report(Report::WsFull));
-        }
-        let before = put_in(&mut self.names, name, meaning)?;
-        self.weight = weight;
-        Ok(before)
-    }
-
     /// The name stands for this, in place of what it stood for. `WsFull` where the table would weigh more than `most`;
     /// it leaves the table as it was, and so does `WantOfMemory`. It takes memory for a name that is not there yet, and
     /// for no other.
@@ -109,13 +80,46 @@ impl Table {
         ensures granted { IsSome (meaning_in self.old name) → table_weight (with_meaning self.old name meaning) ≤ most → IsOk result }
         ensures there { IsSome (meaning_in self.old name) → IfErr result (λ fail. fail ≡ Fail.Report Report.WsFull) }
     {
-        match self.exchange(name, meaning, most) {
-            Ok(before) => {
-                discard_old(before);
-                Ok(())
-            }
-            Err(fail) => Err(fail),
+        let after = meaning.weight();
+        let Some(there) = self.names.get_mut(&name) else {
+            return self.put_new(name, meaning, after, most);
+        };
+        let weight = self.weight - there.weight() + after;
+        if weight > most {
+            discard(meaning);
+            return Err(Fail::Report(Report::WsFull));
         }
+        self.weight = weight;
+        *there = meaning;
+        Ok(())
+    }
+
+    /// A name that is not there comes in, and stands for this, of this weight. `WsFull` where the table would weigh more
+    /// than `most`; it leaves the table as it was, and so does `WantOfMemory`.
+    fn put_new(
+        &mut self,
+        name: Name,
+        meaning: Meaning,
+        after: usize,
+        most: usize,
+    ) -> Result<(), Fail>
+        requires new { meaning_in self.old name ≡ None }
+        requires after { after ≡ min (meaning_weight meaning) (most_weight + 1) }
+        requires limit { most ≤ most_weight }
+        requires whole { IsWhole name meaning }
+        ensures ok { OnOk result (self.new ≡ with_meaning self.old name meaning) }
+        ensures err { OnErr result (self.new ≡ self.old) }
+        ensures fits { OnOk result (table_weight (with_meaning self.old name meaning) ≤ most) }
+        ensures full { IfErr result (λ fail. IsFullFor most (with_meaning self.old name meaning) fail) }
+    {
+        let weight = self.weight + after;
+        if weight > most {
+            discard(meaning);
+            return Err(Fail::Report(Report::WsFull));
+        }
+        discard_old(put_in(&mut self.names, name, meaning)?);
+        self.weight = weight;
+        Ok(())
     }
 
     /// The name stands for this, where there is weight left for it. It takes memory for a name that is not there yet, and
@@ -203,9 +207,13 @@ impl Table {
         ensures before { result ≡ meaning_in self.old name.now }
         ensures value { self.new ≡ with_meaning self.old name.now meaning }
     {
-        match self.exchange(*name, meaning, WEIGHT_LIMIT) {
-            Ok(before) => before,
-            Err(_) => unreachable!(),
+        let after = meaning.weight();
+        match self.names.get_mut(name) {
+            None => unreachable!(),
+            Some(there) => {
+                self.weight = self.weight - there.weight() + after;
+                Some(replace(there, meaning))
+            }
         }
     }
 

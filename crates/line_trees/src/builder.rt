@@ -4,6 +4,7 @@ ghost use Rattle.std.specs.Prelude.{◌≡◌, ◌∷◌, ◌++◌, [], List, Op
 ghost use Rattle.line_scanner.specs.Token.{plain_kind};
 ghost use Rattle.apl_arrays.specs.Array.{plain_items};
 ghost use Rattle.line_trees.specs.Nodes.{plain_node};
+ghost use Rattle.line_trees.specs.Symbols.{symbol_of};
 ghost use Rattle.line_trees.specs.Building.{Built, attached, finished, is_indexing, built_by, items_of, operand_built, name_built, parenthesis_built, parenthesis_behind, subscript_built, subscripts_built, subscripts, behind_subscripts, indexing, target_or_operand, axis_built, axis_before, monadic_built, lead_built, slash_built, dyadic_built, scalar_built, jot_built, factor_built, gets_built, branch_built, execute_built, name_by, niladic_by, lead_by, slash_by, monadic_by, dyadic_by, scalar_by, factor_by, with_waiting, with_whole, whole_expression, nothing_built, first_list, other_lists};
 ghost use Rattle.apl_arrays.specs.List.{first_of, others_of};
 ghost use Rattle.line_trees.specs.Builders.{plain_builder};
@@ -12,9 +13,9 @@ ghost use Rattle.line_trees.specs.Parsing.{plain_tree, tree_of, form_of};
 use crate::place_stack::PlaceStack;
 use crate::signs::{between, folded};
 use crate::stack::Stack;
-use crate::symbol::{Fold, Symbol};
+use crate::symbol::{Fold, Symbol, name_symbol, symbol_of};
 use crate::tree::{Mark, Pending};
-use crate::{Form, Fun, Node, NodeList, Places, Tree, pending};
+use crate::{Classes, Form, Fun, Node, NodeList, Places, Tree, pending};
 use apl_arrays::{Dyad, Items, List, Monad, Name, Verb, WantOfMemory};
 use line_scanner::TokenKind;
 use std::alloc::Global;
@@ -222,65 +223,87 @@ impl Builder {
         }
     }
 
-    fn niladic_by(&mut self, alloc: Global, symbol: Symbol) -> Result<(), WantOfMemory>
-        ensures { OnOk result (plain_builder self.new ≡ niladic_by symbol (plain_builder self.old)) }
+    /// A name of a value.
+    fn name_of(
+        &mut self,
+        alloc: Global,
+        classes: &Classes,
+        kind: &TokenKind,
+    ) -> Result<(), WantOfMemory>
+        ensures { OnOk result (plain_builder self.new ≡ name_by (symbol_of classes.now.items (plain_kind kind.now)) (plain_builder self.old)) }
     {
-        match symbol {
+        match kind {
+            TokenKind::Name(name) => {
+                self.name_by(alloc, name_symbol(classes.arguments_of(name), *name))
+            }
+            _ => self.name_by(alloc, symbol_of(classes, kind)),
+        }
+    }
+
+    fn niladic_by(
+        &mut self,
+        alloc: Global,
+        classes: &Classes,
+        kind: &TokenKind,
+    ) -> Result<(), WantOfMemory>
+        ensures { OnOk result (plain_builder self.new ≡ niladic_by (symbol_of classes.now.items (plain_kind kind.now)) (plain_builder self.old)) }
+    {
+        match symbol_of(classes, kind) {
             Symbol::Niladic(name) => self.operand(alloc, Node::Niladic(name)),
             _ => Ok(()),
         }
     }
 
-    fn lead_by(&mut self, symbol: Symbol) -> Result<(), WantOfMemory>
-        ensures { OnOk result (plain_builder self.new ≡ lead_by symbol (plain_builder self.old)) }
+    fn lead_by(&mut self, classes: &Classes, kind: &TokenKind) -> Result<(), WantOfMemory>
+        ensures { OnOk result (plain_builder self.new ≡ lead_by (symbol_of classes.now.items (plain_kind kind.now)) (plain_builder self.old)) }
     {
-        match symbol {
+        match symbol_of(classes, kind) {
             Symbol::Scalar(monad, dyad) => self.lead(monad, dyad),
             _ => Ok(()),
         }
     }
 
-    fn slash_by(&mut self, symbol: Symbol) -> Result<(), WantOfMemory>
-        ensures { OnOk result (plain_builder self.new ≡ slash_by symbol (plain_builder self.old)) }
+    fn slash_by(&mut self, classes: &Classes, kind: &TokenKind) -> Result<(), WantOfMemory>
+        ensures { OnOk result (plain_builder self.new ≡ slash_by (symbol_of classes.now.items (plain_kind kind.now)) (plain_builder self.old)) }
     {
-        match symbol {
+        match symbol_of(classes, kind) {
             Symbol::Slash(fold) => pending::slash(&mut self.waiting, fold),
             _ => Ok(()),
         }
     }
 
-    fn monadic_by(&mut self, symbol: Symbol) -> Result<(), WantOfMemory>
-        ensures { OnOk result (plain_builder self.new ≡ monadic_by symbol (plain_builder self.old)) }
+    fn monadic_by(&mut self, classes: &Classes, kind: &TokenKind) -> Result<(), WantOfMemory>
+        ensures { OnOk result (plain_builder self.new ≡ monadic_by (symbol_of classes.now.items (plain_kind kind.now)) (plain_builder self.old)) }
     {
-        match symbol {
+        match symbol_of(classes, kind) {
             Symbol::Function(Some(function), _) => self.monadic(function),
             _ => Ok(()),
         }
     }
 
-    fn dyadic_by(&mut self, symbol: Symbol) -> Result<(), WantOfMemory>
-        ensures { OnOk result (plain_builder self.new ≡ dyadic_by symbol (plain_builder self.old)) }
+    fn dyadic_by(&mut self, classes: &Classes, kind: &TokenKind) -> Result<(), WantOfMemory>
+        ensures { OnOk result (plain_builder self.new ≡ dyadic_by (symbol_of classes.now.items (plain_kind kind.now)) (plain_builder self.old)) }
     {
-        match symbol {
+        match symbol_of(classes, kind) {
             Symbol::Function(_, Some(function)) => pending::dyadic(&mut self.waiting, function),
             Symbol::Slash(fold) => pending::dyadic(&mut self.waiting, Fun::Verb(between(fold))),
             _ => Ok(()),
         }
     }
 
-    fn scalar_by(&mut self, symbol: Symbol) -> Result<(), WantOfMemory>
-        ensures { OnOk result (plain_builder self.new ≡ scalar_by symbol (plain_builder self.old)) }
+    fn scalar_by(&mut self, classes: &Classes, kind: &TokenKind) -> Result<(), WantOfMemory>
+        ensures { OnOk result (plain_builder self.new ≡ scalar_by (symbol_of classes.now.items (plain_kind kind.now)) (plain_builder self.old)) }
     {
-        match symbol {
+        match symbol_of(classes, kind) {
             Symbol::Scalar(_, Some(dyad)) => pending::scalar(&mut self.waiting, dyad),
             _ => Ok(()),
         }
     }
 
-    fn factor_by(&mut self, symbol: Symbol) -> Result<(), WantOfMemory>
-        ensures { OnOk result (plain_builder self.new ≡ factor_by symbol (plain_builder self.old)) }
+    fn factor_by(&mut self, classes: &Classes, kind: &TokenKind) -> Result<(), WantOfMemory>
+        ensures { OnOk result (plain_builder self.new ≡ factor_by (symbol_of classes.now.items (plain_kind kind.now)) (plain_builder self.old)) }
     {
-        match symbol {
+        match symbol_of(classes, kind) {
             Symbol::Scalar(_, Some(dyad)) => pending::factor(&mut self.waiting, dyad),
             _ => Ok(()),
         }
@@ -292,18 +315,18 @@ impl Builder {
         &mut self,
         alloc: Global,
         mark: Mark,
-        symbol: Symbol,
+        classes: &Classes,
         kind: &TokenKind,
     ) -> Result<(), WantOfMemory>
-        ensures { OnOk result (plain_builder self.new ≡ built_by mark symbol (plain_kind kind.now) (plain_builder self.old)) }
+        ensures { OnOk result (plain_builder self.new ≡ built_by mark (symbol_of classes.now.items (plain_kind kind.now)) (plain_kind kind.now) (plain_builder self.old)) }
     {
         match mark {
             Mark::Constant => {
                 let items = items_of(alloc, kind)?;
                 self.operand(alloc, Node::Constant(items))
             }
-            Mark::Name => self.name_by(alloc, symbol),
-            Mark::Niladic => self.niladic_by(alloc, symbol),
+            Mark::Name => self.name_of(alloc, classes, kind),
+            Mark::Niladic => self.niladic_by(alloc, classes, kind),
             Mark::LeftParenthesis => self.parenthesis(alloc),
             Mark::RightParenthesis => self.waiting.push(Pending::Parenthesis),
             Mark::OpenSubscripts => self.subscripts(alloc),
@@ -311,14 +334,14 @@ impl Builder {
             Mark::CloseSubscripts => self.waiting.push(Pending::Subscripts),
             Mark::OpenAxis => pending::axis(&mut self.waiting),
             Mark::CloseAxis => self.waiting.push(Pending::Axis),
-            Mark::Lead => self.lead_by(symbol),
-            Mark::Slash => self.slash_by(symbol),
-            Mark::Monadic => self.monadic_by(symbol),
-            Mark::Dyadic => self.dyadic_by(symbol),
-            Mark::Scalar => self.scalar_by(symbol),
+            Mark::Lead => self.lead_by(classes, kind),
+            Mark::Slash => self.slash_by(classes, kind),
+            Mark::Monadic => self.monadic_by(classes, kind),
+            Mark::Dyadic => self.dyadic_by(classes, kind),
+            Mark::Scalar => self.scalar_by(classes, kind),
             Mark::Dot => Ok(()),
             Mark::Jot => pending::jot(&mut self.waiting),
-            Mark::Factor => self.factor_by(symbol),
+            Mark::Factor => self.factor_by(classes, kind),
             Mark::Gets => pending::gets(&mut self.waiting),
             Mark::Colon => self.waiting.push(Pending::Label),
             Mark::Branch => pending::branch(&mut self.waiting),

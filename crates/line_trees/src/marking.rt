@@ -1,15 +1,16 @@
 ghost use Rattle.std.specs.Prelude.{◌≡◌, Ok, Err, [], IfOk, IfErr, OnOk, List};
-ghost use Rattle.line_scanner.specs.Token.{plain_token};
-ghost use Rattle.line_trees.specs.Marks.{marks_from, changed};
+ghost use Rattle.line_scanner.specs.Token.{plain_kind, plain_token};
+ghost use Rattle.line_trees.specs.Marks.{marks_from, changed, step};
+ghost use Rattle.line_trees.specs.Symbols.{symbol_of};
 ghost use Rattle.line_trees.specs.Marks.{IsMarkRefusal};
 
-use crate::machine::{Before, Bracket, Change, Mode, may_end, step};
+use crate::machine::{Before, Bracket, Change, Mode, Move, may_end, step};
 use crate::stack::Stack;
-use crate::symbol::symbol_of;
+use crate::symbol::{Symbol, name_symbol, sign_symbol, system_symbol};
 use crate::tree::Mark;
 use crate::{Classes, ParseRefused};
 use apl_arrays::{List, WantOfMemory};
-use line_scanner::Tokens;
+use line_scanner::{TokenKind, Tokens};
 use std::alloc::Global;
 
 fn make_change(brackets: &mut Stack<Bracket>, change: Change) -> Result<(), WantOfMemory>
@@ -22,6 +23,18 @@ fn make_change(brackets: &mut Stack<Bracket>, change: Change) -> Result<(), Want
             brackets.pop();
             Ok(())
         }
+    }
+}
+
+/// What a token of this kind does.
+fn step_of(classes: &Classes, mode: Mode, top: Option<Bracket>, kind: &TokenKind) -> Option<Move>
+    ensures { result ≡ step mode top (symbol_of classes.now.items (plain_kind kind.now)) }
+{
+    match kind {
+        TokenKind::Numbers(_) | TokenKind::Chars(_) => step(mode, top, Symbol::Constant),
+        TokenKind::Name(name) => step(mode, top, name_symbol(classes.arguments_of(name), *name)),
+        TokenKind::System(name) => step(mode, top, system_symbol(*name)),
+        TokenKind::Sign(glyph) => step(mode, top, sign_symbol(*glyph)),
     }
 }
 
@@ -39,7 +52,7 @@ pub fn marks_of(
     let mut brackets = Stack::new(alloc);
     let mut mode = Mode::Begins(Before::Line);
     for token in tokens.tokens.as_slice() {
-        let Some(next) = step(mode, brackets.top(), symbol_of(classes, &token.kind)) else {
+        let Some(next) = step_of(classes, mode, brackets.top(), &token.kind) else {
             return Err(ParseRefused::SyntaxError(token.at));
         };
         marks.push(next.mark)?;

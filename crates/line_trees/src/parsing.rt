@@ -6,7 +6,6 @@ ghost use Rattle.line_scanner.specs.Token.{plain_token};
 
 use crate::builder::Builder;
 use crate::marking::marks_of;
-use crate::symbol::symbol_of;
 use crate::tree::Mark;
 use crate::{Classes, ParseRefused, Tree};
 use apl_arrays::WantOfMemory;
@@ -29,7 +28,7 @@ fn built_from(
     while at > 0 {
         at -= 1;
         let kind = &tokens[at].kind;
-        builder.read(alloc, marks[at], symbol_of(classes, kind), kind)?;
+        builder.read(alloc, marks[at], classes, kind)?;
     }
     Ok(builder)
 }

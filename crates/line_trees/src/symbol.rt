@@ -41,7 +41,7 @@ pub enum Symbol {
     Unused,
 }
 
-fn name_symbol(arguments: Option<u8>, name: Name) -> Symbol
+pub fn name_symbol(arguments: Option<u8>, name: Name) -> Symbol
     ensures { result ≡ name_symbol arguments name }
 {
     match arguments {
@@ -52,7 +52,7 @@ fn name_symbol(arguments: Option<u8>, name: Name) -> Symbol
     }
 }
 
-fn system_symbol(name: SystemName) -> Symbol
+pub fn system_symbol(name: SystemName) -> Symbol
     ensures { result ≡ system_symbol name }
 {
     let monadic = Some(Fun::System(name));
@@ -92,7 +92,7 @@ fn slash_or_other(glyph: Glyph) -> Symbol
 }
 
 #[tactic(auto, unfolding(crate::specs::Symbols::sign_symbol))]
-fn sign_symbol(glyph: Glyph) -> Symbol
+pub fn sign_symbol(glyph: Glyph) -> Symbol
     ensures { result ≡ sign_symbol glyph }
 {
     let (monad, dyad) = (monad_of(glyph), dyad_of(glyph));

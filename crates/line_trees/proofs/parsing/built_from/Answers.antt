@@ -8,5 +8,5 @@ loop-at-preserved c =
     let token : Token = get_or c.args.tokens.now (c.loop-at.at - 1) c.index-tokens-at.result in (
       omega arith,
       builds_token _ _ _ c.loop-at.at _ _ token _ _ _ c.loop-at-test.true c.loop-at.invariant.0 c.requires refl (ap (λ (x : Token). get_or c.args.tokens.now (c.loop-at.at - 1) x) c.index-tokens-at.is) c.loop-at.invariant.1
-          c.symbol_of.ensures c.in_ok-read.ensures,
+          refl c.in_ok-read.ensures,
     )

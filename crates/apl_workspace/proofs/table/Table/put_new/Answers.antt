@@ -1,0 +1,16 @@
+use Rattle.std.proofs.Common.{refl, arith}
+use Rattle.apl_workspace.proofs.Tables.{is_table_with, new_is_reckoned}
+use Rattle.apl_workspace.proofs.table.Table.put_new.Goals as goal
+
+pub returns-then-weight-most-clause-full : goal.returns-then-weight-most-clause-full
+returns-then-weight-most-clause-full c = (refl, (new_is_reckoned _ _ c.args.name c.args.meaning _ _ _ c.args.most c.self.view_is c.self.invariant c.requires.limit c.requires.new c.requires.after refl).over c.if-weight-most.true)
+
+pub invariant_of-self-2 : goal.invariant_of-self-2
+invariant_of-self-2 c =
+    is_table_with _ c.args.self.now _ c.args.name c.args.meaning _ _ c.args.most c.self.view_is c.self.invariant c.requires.whole (new_is_reckoned _ _ c.args.name c.args.meaning _ _ _ c.args.most c.self.view_is c.self.invariant c.requires.limit c.requires.new c.requires.after refl)
+    c.if-weight-most.false c.requires.limit c.in_ok-put_in.ensures.ok
+
+pub returns-clause-fits : goal.returns-clause-fits
+returns-clause-fits c =
+    let same = (new_is_reckoned _ _ c.args.name c.args.meaning _ _ _ c.args.most c.self.view_is c.self.invariant c.requires.limit c.requires.new c.requires.after refl).fits c.if-weight-most.false in
+    omega (arith, same, c.if-weight-most.false)
