@@ -19,7 +19,7 @@ use Rattle.session_rules.specs.Course.{Course, with_terminal}
 use Rattle.session_rules.specs.Session.{free_line, line_by, lines_done, session_of, statement_done}
 use Rattle.session_rules.proofs.Taking.{next_is_taken, none_asked}
 use Rattle.apl_session.specs.Receipts.{PlainReceipt, acts_in, answers_in}
-use Rattle.apl_session.specs.Standing.{Asked, ComesTo, GoesOn, IsAnswered, IsAsking, IsAt, IsBetween, IsFree, IsOpenLine, IsSession, IsThisFar, IsUnderWay, MayAdvance, StandsBy, StandsIn, course_at}
+use Rattle.apl_session.specs.Standing.{Asked, ComesTo, GoesOn, IsAnswered, IsAsking, IsAt, IsBetween, IsFree, IsOpenLine, IsSession, IsThisFar, IsUnderWay, MayAdvance, StandsBy, StandsIn, Waits, course_at}
 use Rattle.apl_session.specs.Wants.{HasHeardAll, MayGoOn, stage_by}
 use Rattle.apl_session.specs.declared.progress.Progress.{Progress}
 use Rattle.apl_session.specs.declared.session.Stage.{Stage}
@@ -86,9 +86,26 @@ statement_at lines line answers read t opens h = subst (λ (b : Bool). IsAt line
 
 -- ---- a run of the machine
 
+-- an act that waits for its answer was asked
+asked_so : (u : UnderWay) (m : PlainMachine) (act : Act) → Waits m act u → Asked u (Some act)
+asked_so under_way.Nothing m act waits = absurd waits
+asked_so (under_way.Asking b asked) m act waits = ap (λ (a : Act). Some a) (sym waits.1)
+asked_so (under_way.Answered b) m act waits = absurd waits
+
+-- and its line stands as the machine does
+asked_by : (lines : List (List ℕ)) (answers : List PlainAnswer) (read : ℕ) (t : PlainTerminal) (u : UnderWay) (m : PlainMachine) (act : Act) → Waits m act u → t.definition ≡ None → IsUnderWay lines answers read t.transcript m → IsAsking lines answers t.transcript m act
+    → StandsBy lines answers read t u
+asked_by lines answers read t under_way.Nothing m act waits free here asking = absurd waits
+asked_by lines answers read t (under_way.Asking b asked) m act waits free here asking = (
+  free,
+  subst (λ (k : PlainMachine). IsUnderWay lines answers read t.transcript k) (sym waits.0) here,
+  subst (λ (k : PlainMachine). IsAsking lines answers t.transcript k asked) (sym waits.0) (subst (λ (a : Act). IsAsking lines answers t.transcript m a) (sym waits.1) asking),
+)
+asked_by lines answers read t (under_way.Answered b) m act waits free here asking = absurd waits
+
 -- a run that asked an act
 pub asked_on : (lines : List (List ℕ)) (answers : List PlainAnswer) (read counted : ℕ) (act : Act) (m n after : PlainMachine) (p : Progress) (t : PlainTerminal) → t.definition ≡ None → AsksThere act m counted n → after ≡ silent n
-    → StandsOn n 0 [] n.interpreter.output after → p.terminal ≡ printing n.interpreter.output t → p.read ≡ read → p.under_way ≡ under_way.Asking after act → IsUnderWay lines answers read t.transcript m → GoesOn lines answers (Some act) p
+    → StandsOn n 0 [] n.interpreter.output after → p.terminal ≡ printing n.interpreter.output t → p.read ≡ read → Waits after act p.under_way → IsUnderWay lines answers read t.transcript m → GoesOn lines answers (Some act) p
 asked_on lines answers read counted act m n after p t free asks is taken printed same waiting h =
     let on : IsUnderWay lines ((answers ++ []) ++ []) read ((t.transcript ++ []) ++ n.interpreter.output) after =
     taken_on lines (answers ++ []) [] read 0 (t.transcript ++ []) n.interpreter.output n after (taken_on lines answers [] read counted t.transcript [] m n h asks.stands) taken in
@@ -97,11 +114,10 @@ asked_on lines answers read counted act m n after p t free asks is taken printed
     (subst (λ before. IsUnderWay lines ((answers ++ []) ++ []) read (before ++ n.interpreter.output) after) (append-nil t.transcript) on) in
     let waits : IsAsking lines answers (t.transcript ++ n.interpreter.output) after act =
     subst (λ (k : PlainMachine). IsAsking lines answers (t.transcript ++ n.interpreter.output) k act) (sym is) (goes_asking lines answers read counted t.transcript act m n h asks) in
-    let stands : StandsBy lines answers read (printing n.interpreter.output t) (under_way.Asking after act) = (free, here, waits) in
     record {
-      stands = subst (λ (u : UnderWay). StandsBy lines answers p.read p.terminal u) (sym waiting)
-          (subst (λ (s : PlainTerminal). StandsBy lines answers p.read s (under_way.Asking after act)) (sym printed) (subst (λ (k : ℕ). StandsBy lines answers k (printing n.interpreter.output t) (under_way.Asking after act)) (sym same) stands));
-      paused = subst (λ (u : UnderWay). Asked u (Some act)) (sym waiting) refl;
+      stands = subst (λ (s : PlainTerminal). StandsBy lines answers p.read s p.under_way) (sym printed)
+          (subst (λ (k : ℕ). StandsBy lines answers k (printing n.interpreter.output t) p.under_way) (sym same) (asked_by lines answers read (printing n.interpreter.output t) p.under_way after act waiting free here waits));
+      paused = asked_so p.under_way after act waiting;
     }
 
 -- the terminal behind a line that is over
@@ -141,8 +157,8 @@ begun_session lines p terminal read nothing =
 
 may_by : (lines : List (List ℕ)) (answers : List PlainAnswer) (read : ℕ) (t : PlainTerminal) (u : UnderWay) (at : Stage) → StandsBy lines answers read t u → IsThisFar (length lines) read u at → MayGoOn at → MayAdvance t u
 may_by lines answers read t under_way.Nothing at h far may = tt
-may_by lines answers read t (under_way.Asking m act) at h far may = subst MayGoOn far may
-may_by lines answers read t (under_way.Answered m) at h far may = (h.0, h.2)
+may_by lines answers read t (under_way.Asking b act) at h far may = subst MayGoOn far may
+may_by lines answers read t (under_way.Answered b) at h far may = (h.0, h.2)
 
 -- it may go on
 pub may_advance : (lines : List (List ℕ)) (receipts : List PlainReceipt) (p : Progress) (at : Stage) → IsSession lines receipts p at → MayGoOn at → MayAdvance p.terminal p.under_way
@@ -159,8 +175,8 @@ gone_by lines answers read t under_way.Nothing asked h is over = (
   ap (λ (c : Course). c.waits) (finished_course lines answers read t (over is) h) ∙ sym is,
   subst (λ (a : Option Act). IsFree (length lines) read (stage_by a)) (sym is) (over is),
 )
-gone_by lines answers read t (under_way.Asking m act) asked h is over = (h.2.waits ∙ sym is, ap stage_by is)
-gone_by lines answers read t (under_way.Answered m) asked h is over = absurd is
+gone_by lines answers read t (under_way.Asking b act) asked h is over = (h.2.waits ∙ sym is, ap stage_by is)
+gone_by lines answers read t (under_way.Answered b) asked h is over = absurd is
 
 -- a session that went on
 pub gone_on : (lines shown : List (List ℕ)) (receipts : List PlainReceipt) (before after : Progress) (at : Stage) (asked : Option Act) → shown ≡ lines → IsSession lines receipts before at
@@ -173,8 +189,8 @@ gone_on lines shown receipts before after at asked same h goes =
 
 open_by : (lines : List (List ℕ)) (answers : List PlainAnswer) (read : ℕ) (t : PlainTerminal) (u : UnderWay) → StandsBy lines answers read t u → IsThisFar (length lines) read u stage.Waiting → IsOpenLine u
 open_by lines answers read t under_way.Nothing h far = absurd far
-open_by lines answers read t (under_way.Asking m act) h far = h.2.is_open
-open_by lines answers read t (under_way.Answered m) h far = absurd cc
+open_by lines answers read t (under_way.Asking b act) h far = h.2.is_open
+open_by lines answers read t (under_way.Answered b) h far = absurd cc
 
 -- a session that waits has an open act
 pub is_open_line : (lines : List (List ℕ)) (receipts : List PlainReceipt) (p : Progress) (at : Stage) → at ≡ stage.Waiting → IsSession lines receipts p at → IsOpenLine p.under_way
@@ -183,8 +199,8 @@ is_open_line lines receipts p at waiting h =
 
 ready_by : (count read : ℕ) (t : PlainTerminal) (u : UnderWay) → MayAdvance t u → IsThisFar count read u stage.Ready
 ready_by count read t under_way.Nothing may = tt
-ready_by count read t (under_way.Asking m act) may = absurd may
-ready_by count read t (under_way.Answered m) may = refl
+ready_by count read t (under_way.Asking b act) may = absurd may
+ready_by count read t (under_way.Answered b) may = refl
 
 -- a session that was given an answer
 pub answered_session : (lines : List (List ℕ)) (receipts : List PlainReceipt) (receipt : PlainReceipt) (before after : Progress) (at : Stage) → IsSession lines receipts before at → IsAnswered lines (answers_in receipts) receipt.act receipt.answer after
@@ -206,8 +222,8 @@ heard_by lines answers read t under_way.Nothing stage.Ready h far heard = absurd
 heard_by lines answers read t under_way.Nothing stage.Waiting h far heard = absurd far
 heard_by lines answers read t under_way.Nothing stage.Finished h far heard = ap (λ (c : Course). c.terminal.transcript) (sym (finished_course lines answers read t far h))
 heard_by lines answers read t under_way.Nothing stage.Failed h far heard = absurd far
-heard_by lines answers read t (under_way.Asking m act) at h far heard = sym h.2.printed
-heard_by lines answers read t (under_way.Answered m) at h far heard = absurd (subst HasHeardAll far heard)
+heard_by lines answers read t (under_way.Asking b act) at h far heard = sym h.2.printed
+heard_by lines answers read t (under_way.Answered b) at h far heard = absurd (subst HasHeardAll far heard)
 
 -- what it printed, where all answers were heard
 pub heard_all : (lines : List (List ℕ)) (receipts : List PlainReceipt) (p : Progress) (at : Stage) → IsSession lines receipts p at → HasHeardAll at → p.terminal.transcript ≡ (session_of lines (answers_in receipts)).terminal.transcript

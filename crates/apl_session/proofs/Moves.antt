@@ -2,6 +2,7 @@
 use Rattle.std.proofs.Common.{◌≡◌, ℕ, ◌+◌, ◌<◌, Bool, true, false, List, [], ◌∷◌, ◌++◌, drop, get_or, length, refl, sym, ap, subst, ◌∙◌, append-nil, arith}
 use Rattle.std.proofs.lemmas.List.{drop_more, get_or-map, length-map}
 use Rattle.std.specs.Prelude.{Option, Some, None, Err, map}
+use Rattle.std.specs.Global.{Box}
 use Rattle.apl_arrays.specs.List.{Listed, glyphs_in}
 use Rattle.apl_arrays.specs.declared.report.Report.{Report}
 use Rattle.apl_machine.specs.Machine.{IsIdle, IsOpenAct, IsOpenStage, MayRun, PlainMachine, idle_on, silent}
@@ -21,7 +22,7 @@ use Rattle.apl_terminal.specs.LineKind.{is_opening}
 use Rattle.apl_terminal.specs.Terminal.{PlainTerminal, echoing, editing, free_prompt, printing, reporting}
 use Rattle.session_rules.specs.Course.{with_terminal}
 use Rattle.session_rules.specs.Session.{free_line, statement_done}
-use Rattle.apl_session.specs.Standing.{Asked, ComesTo, GoesOn, IsAnswered, IsAt, IsHanded, IsIdleAt, IsOpenLine, IsUnderWay, MayAdvance, PausesAt, StandsBy, StandsIn, with_output_of}
+use Rattle.apl_session.specs.Standing.{Asked, ComesTo, GoesOn, IsAnswered, IsAt, IsHanded, IsIdleAt, IsOpenLine, IsUnderWay, MayAdvance, PausesAt, StandsBy, StandsIn, Waits, open_act, with_output_of}
 use Rattle.apl_session.specs.declared.progress.Progress.{Progress}
 use Rattle.apl_session.specs.declared.under_way.UnderWay.{UnderWay}
 use Rattle.apl_session.specs.declared.under_way.UnderWay.TheVariants as under_way
@@ -37,8 +38,8 @@ none_asked_by u nothing = subst (λ (x : UnderWay). Asked x None) (sym nothing) 
 -- and where nothing was asked nothing is under way
 pub nothing_by : (u : UnderWay) (asked : Option Act) → Asked u asked → asked ≡ None → u ≡ under_way.Nothing
 nothing_by under_way.Nothing asked is none = refl
-nothing_by (under_way.Asking m act) asked is none = absurd (let no : Some act ≡ None = sym is ∙ none in cc)
-nothing_by (under_way.Answered m) asked is none = absurd is
+nothing_by (under_way.Asking b act) asked is none = absurd (let no : Some act ≡ None = sym is ∙ none in cc)
+nothing_by (under_way.Answered b) asked is none = absurd is
 
 -- ---- lines
 
@@ -64,14 +65,15 @@ statement_on lines line answers read t told opens echoed h =
 -- ---- the machine
 
 -- a statement that was begun
-pub evaluated_on : (lines : List (List ℕ)) (line : List ℕ) (answers : List PlainAnswer) (read : ℕ) (t lent : PlainTerminal) (w seen : PlainWorkspace) (tree : PlainTree) (fresh m : PlainMachine) → lent ≡ record t { workspace = empty_workspace } → w ≡ t.workspace
+pub evaluated_on : (lines : List (List ℕ)) (line : List ℕ) (answers : List PlainAnswer) (read : ℕ) (t lent : PlainTerminal) (w seen : PlainWorkspace) (tree : PlainTree) (fresh m : PlainMachine) (b : Box PlainMachine) → b.value ≡ m → lent ≡ record t { workspace = empty_workspace } → w ≡ t.workspace
     → fresh ≡ idle_on w → seen ≡ t.workspace → IsTreeOf seen line tree → Stands m (line_tree_of tree) line fresh.interpreter.workspace fresh.interpreter.output [] 0 [] → IsAt lines answers read (statement_done most_statements line) t
-    → IsUnderWay lines answers read lent.transcript m
-evaluated_on lines line answers read t lent w seen tree fresh m left same new here is stands h =
+    → IsUnderWay lines answers read lent.transcript b.value
+evaluated_on lines line answers read t lent w seen tree fresh m b boxed left same new here is stands h =
     let tree_there : IsTreeOf t.workspace line tree = subst (λ (x : PlainWorkspace). IsTreeOf x line tree) here is in
     let there : Stands m (line_tree_of tree) line t.workspace [] [] 0 [] =
     subst (λ (x : PlainMachine). Stands m (line_tree_of tree) line x.interpreter.workspace x.interpreter.output [] 0 []) (new ∙ ap idle_on same) stands in
-    subst (λ (printed : List (List ℕ)). IsUnderWay lines answers read printed m) (sym (ap (λ (s : PlainTerminal). s.transcript) left)) (begun_at lines line answers read t tree m h tree_there there)
+    subst (λ (k : PlainMachine). IsUnderWay lines answers read lent.transcript k) (sym boxed)
+    (subst (λ (printed : List (List ℕ)). IsUnderWay lines answers read printed m) (sym (ap (λ (s : PlainTerminal). s.transcript) left)) (begun_at lines line answers read t tree m h tree_there there))
 
 -- or refused
 pub refused_on : (lines : List (List ℕ)) (line : List ℕ) (answers : List PlainAnswer) (t : PlainTerminal) (seen : PlainWorkspace) (report : Report) (p : Progress) → p.under_way ≡ under_way.Nothing → p.terminal ≡ reporting report line t → seen ≡ t.workspace → seen.frames ≡ []
@@ -102,27 +104,32 @@ stopped_on lines answers counted m n (stop.Failed report) asked before p none fr
     (reported_on lines answers before.read counted report m n (silent n) p before.terminal free ends refl (ap (λ (x : Progress). x.terminal) pauses.1) (ap (λ (x : Progress). x.read) pauses.1) (ap (λ (x : Progress). x.under_way) pauses.1 ∙ none) h)
 stopped_on lines answers counted m n (stop.Asks act) asked before p none free asks on pauses h =
     subst (λ (a : Option Act). GoesOn lines answers a p) (sym pauses.0)
-    (asked_on lines answers before.read counted act m n (silent n) p before.terminal free asks refl on (ap (λ (x : Progress). x.terminal) pauses.1) (ap (λ (x : Progress). x.read) pauses.1) (ap (λ (x : Progress). x.under_way) pauses.1) h)
+    (asked_on lines answers before.read counted act m n (silent n) p before.terminal free asks refl on (ap (λ (x : Progress). x.terminal) pauses.2) (ap (λ (x : Progress). x.read) pauses.2) pauses.1 h)
+
+-- the act of a machine waits behind it
+pub waits_for : (b : Box PlainMachine) (act : Act) (asked : Option Act) (before after : Progress) → after.under_way ≡ under_way.Asking b act → after ≡ record before { under_way = after.under_way } → asked ≡ open_act after.under_way → PausesAt b.value (stop.Asks act) asked before after
+waits_for b act asked before after waiting rest is =
+    (is ∙ ap open_act waiting, subst (λ (u : UnderWay). Waits b.value act u) (sym waiting) (refl, refl), rest)
 
 -- the act of a line that waits is open
-pub open_there : (u : UnderWay) (m : PlainMachine) (act : Act) → u ≡ under_way.Asking m act → IsOpenLine u → IsOpenStage m.stage
-open_there u m act waiting h =
-    let is : IsOpenAct m act = subst IsOpenLine waiting h in open_stage m.interpreter.workspace m.stage act is
+pub open_there : (u : UnderWay) (b : Box PlainMachine) (act : Act) → u ≡ under_way.Asking b act → IsOpenLine u → IsOpenStage b.value.stage
+open_there u b act waiting h =
+    let is : IsOpenAct b.value act = subst IsOpenLine waiting h in open_stage b.value.interpreter.workspace b.value.stage act is
 
 -- a line whose act is answered
-pub answered_on : (lines : List (List ℕ)) (answers : List PlainAnswer) (act given : Act) (answer : PlainAnswer) (m : PlainMachine) (before after : Progress) (left : UnderWay) → given ≡ act → before.under_way ≡ under_way.Asking m act
-    → IsHanded m answer (record before { under_way = left }) after → StandsIn lines answers before → IsAnswered lines answers given answer after
-answered_on lines answers act given answer m before after left same waiting is h =
-    let at : StandsBy lines answers before.read before.terminal (under_way.Asking m act) = subst (λ (u : UnderWay). StandsBy lines answers before.read before.terminal u) waiting h in
-    let there : IsUnderWay lines (answers ++ answer ∷ []) before.read before.terminal.transcript is.handed =
-    subst (λ printed. IsUnderWay lines (answers ++ answer ∷ []) before.read printed is.handed) (append-nil before.terminal.transcript) (taken_on lines answers (answer ∷ []) before.read 0 before.terminal.transcript [] m is.handed at.1 is.stands) in
+pub answered_on : (lines : List (List ℕ)) (answers : List PlainAnswer) (act given : Act) (answer : PlainAnswer) (b : Box PlainMachine) (before after : Progress) (left : UnderWay) → given ≡ act → before.under_way ≡ under_way.Asking b act
+    → IsHanded b.value answer (record before { under_way = left }) after → StandsIn lines answers before → IsAnswered lines answers given answer after
+answered_on lines answers act given answer b before after left same waiting is h =
+    let at : StandsBy lines answers before.read before.terminal (under_way.Asking b act) = subst (λ (u : UnderWay). StandsBy lines answers before.read before.terminal u) waiting h in
+    let there : IsUnderWay lines (answers ++ answer ∷ []) before.read before.terminal.transcript is.handed.value =
+    subst (λ printed. IsUnderWay lines (answers ++ answer ∷ []) before.read printed is.handed.value) (append-nil before.terminal.transcript) (taken_on lines answers (answer ∷ []) before.read 0 before.terminal.transcript [] b.value is.handed.value at.1 is.stands) in
     subst (λ (a : Act). IsAnswered lines answers a answer after) (sym same)
     (subst (λ (p : Progress). IsAnswered lines answers act answer p) (sym is.rest) (record { waited = at.2.waits; stands = (at.0, there, is.may); may = (at.0, is.may) }))
 
 -- a line that was answered is under way
-pub answered_there : (lines : List (List ℕ)) (answers : List PlainAnswer) (p : Progress) (m : PlainMachine) → p.under_way ≡ under_way.Answered m → StandsIn lines answers p → IsUnderWay lines answers p.read p.terminal.transcript m
-answered_there lines answers p m waits h = let at : StandsBy lines answers p.read p.terminal (under_way.Answered m) = subst (λ (u : UnderWay). StandsBy lines answers p.read p.terminal u) waits h in at.1
+pub answered_there : (lines : List (List ℕ)) (answers : List PlainAnswer) (p : Progress) (b : Box PlainMachine) → p.under_way ≡ under_way.Answered b → StandsIn lines answers p → IsUnderWay lines answers p.read p.terminal.transcript b.value
+answered_there lines answers p b waits h = let at : StandsBy lines answers p.read p.terminal (under_way.Answered b) = subst (λ (u : UnderWay). StandsBy lines answers p.read p.terminal u) waits h in at.1
 
 -- and it may run
-pub answered_runs : (t : PlainTerminal) (u : UnderWay) (m : PlainMachine) → u ≡ under_way.Answered m → MayAdvance t u → (t.definition ≡ None) × MayRun m.stage
-answered_runs t u m waits may = subst (MayAdvance t) waits may
+pub answered_runs : (t : PlainTerminal) (u : UnderWay) (b : Box PlainMachine) → u ≡ under_way.Answered b → MayAdvance t u → (t.definition ≡ None) × MayRun b.value.stage
+answered_runs t u b waits may = subst (MayAdvance t) waits may

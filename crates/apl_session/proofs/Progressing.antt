@@ -2,6 +2,7 @@
 use Rattle.std.proofs.Common.{◌≡◌, ℕ, ◌+◌, ◌<◌, ◌≤◌, List, ◌∷◌, drop, get_or, length, subst, arith}
 use Rattle.std.proofs.lemmas.List.{length-map}
 use Rattle.std.specs.Prelude.{Option, Some, None, map}
+use Rattle.std.specs.Global.{Box}
 use Rattle.apl_arrays.specs.List.{Listed, glyphs_in}
 use Rattle.apl_machine.specs.Machine.{PlainMachine}
 use Rattle.sv_events.specs.Answer.{PlainAnswer}
@@ -18,9 +19,9 @@ pub still_on : (lines : List (List ℕ)) (answers : List PlainAnswer) (before : 
 still_on lines answers before u nothing now h = rests lines answers (record before { under_way = u }) now (between_of lines answers before nothing h)
 
 -- where a line was answered, it goes on as the line does
-pub run_on : (lines : List (List ℕ)) (answers : List PlainAnswer) (before after : Progress) (m : PlainMachine) (asked : Option Act) → before.under_way ≡ under_way.Answered m → (IsUnderWay lines answers before.read before.terminal.transcript m → GoesOn lines answers asked after)
+pub run_on : (lines : List (List ℕ)) (answers : List PlainAnswer) (before after : Progress) (b : Box PlainMachine) (asked : Option Act) → before.under_way ≡ under_way.Answered b → (IsUnderWay lines answers before.read before.terminal.transcript b.value → GoesOn lines answers asked after)
     → StandsIn lines answers before → GoesOn lines answers asked after
-run_on lines answers before after m asked waits goes h = goes (answered_there lines answers before m waits h)
+run_on lines answers before after b asked waits goes h = goes (answered_there lines answers before b waits h)
 
 -- one line more
 pub line_on : (lines : List (Listed ℕ)) (answers : List PlainAnswer) (before after : Progress) (found : Listed ℕ) (asked : Option Act) → before.read < length lines → found ≡ get_or lines before.read found → StandsIn (map glyphs_in lines) answers before

@@ -1,5 +1,6 @@
 -- Where the inside of a session stands in its lines.
 use Rattle.std.specs.Prelude.{◌≡◌, ◌≤◌, ◌++◌, ℕ, List, [], ◌∷◌, Option, Some, None, drop, length}
+use Rattle.std.specs.Global.{Box}
 use Rattle.apl_machine.specs.Machine.{PlainMachine, IsIdle, IsOpenAct, MayRun}
 use Rattle.apl_machine.specs.Runs.{Stands, StandsOn}
 use Rattle.apl_machine.specs.declared.flow.Stop.{Stop}
@@ -54,8 +55,8 @@ pub record IsAsking (lines : List (List ℕ)) (answers : List PlainAnswer) (tran
 -- the line that is under way stands so, if one is
 abbrev pub StandsBy : List (List ℕ) → List PlainAnswer → ℕ → PlainTerminal → UnderWay → Type 0
 StandsBy lines answers read t under_way.Nothing = IsBetween lines answers read t
-StandsBy lines answers read t (under_way.Asking m act) = (t.definition ≡ None) × IsUnderWay lines answers read t.transcript m × IsAsking lines answers t.transcript m act
-StandsBy lines answers read t (under_way.Answered m) = (t.definition ≡ None) × IsUnderWay lines answers read t.transcript m × MayRun m.stage
+StandsBy lines answers read t (under_way.Asking b act) = (t.definition ≡ None) × IsUnderWay lines answers read t.transcript b.value × IsAsking lines answers t.transcript b.value act
+StandsBy lines answers read t (under_way.Answered b) = (t.definition ≡ None) × IsUnderWay lines answers read t.transcript b.value × MayRun b.value.stage
 
 -- the inside of a session stands in its lines, with these answers
 abbrev pub StandsIn : List (List ℕ) → List PlainAnswer → Progress → Type 0
@@ -64,20 +65,20 @@ StandsIn lines answers p = StandsBy lines answers p.read p.terminal p.under_way
 -- no line is under way that waits for an answer, and where one was answered no definition is open
 abbrev pub MayAdvance : PlainTerminal → UnderWay → Type 0
 MayAdvance t under_way.Nothing = Unit {0}
-MayAdvance t (under_way.Asking m act) = ⊥
-MayAdvance t (under_way.Answered m) = (t.definition ≡ None) × MayRun m.stage
+MayAdvance t (under_way.Asking b act) = ⊥
+MayAdvance t (under_way.Answered b) = (t.definition ≡ None) × MayRun b.value.stage
 
 -- a line is under way that waits for an answer
 abbrev pub IsOpenLine : UnderWay → Type 0
 IsOpenLine under_way.Nothing = ⊥
-IsOpenLine (under_way.Asking m act) = IsOpenAct m act
-IsOpenLine (under_way.Answered m) = ⊥
+IsOpenLine (under_way.Asking b act) = IsOpenAct b.value act
+IsOpenLine (under_way.Answered b) = ⊥
 
 -- a line asked this act, or is over
 abbrev pub Asked : UnderWay → Option Act → Type 0
 Asked under_way.Nothing asked = asked ≡ None
-Asked (under_way.Asking m act) asked = asked ≡ Some act
-Asked (under_way.Answered m) asked = ⊥
+Asked (under_way.Asking b act) asked = asked ≡ Some act
+Asked (under_way.Answered b) asked = ⊥
 
 -- where a run stops and the line is over, the machine is idle
 abbrev pub IsIdleAt : PlainMachine → Stop → Type 0
@@ -88,8 +89,8 @@ IsIdleAt m (stop.Asks act) = Unit {0}
 -- the act that waits for its answer, if one does
 abbrev pub open_act : UnderWay → Option Act
 open_act under_way.Nothing = None
-open_act (under_way.Asking m act) = Some act
-open_act (under_way.Answered m) = None
+open_act (under_way.Asking b act) = Some act
+open_act (under_way.Answered b) = None
 
 -- the workspace of a line that is over is taken back
 abbrev pub with_workspace_of : PlainMachine → Progress → Progress
@@ -99,11 +100,17 @@ with_workspace_of m p = record p { terminal = record p.terminal { workspace = m.
 abbrev pub with_output_of : PlainMachine → Progress → Progress
 with_output_of m p = record p { terminal = printing m.interpreter.output p.terminal }
 
+-- an act that a machine asked waits for its answer
+abbrev pub Waits : PlainMachine → Act → UnderWay → Type 0
+Waits m act under_way.Nothing = ⊥
+Waits m act (under_way.Asking b asked) = (b.value ≡ m) × (asked ≡ act)
+Waits m act (under_way.Answered b) = ⊥
+
 -- where a run stops, the act that it asked waits, or the workspace is taken back
 abbrev pub PausesAt : PlainMachine → Stop → Option Act → Progress → Progress → Type 0
 PausesAt m stop.Done asked before after = (asked ≡ None) × (after ≡ with_workspace_of m before)
 PausesAt m (stop.Failed report) asked before after = (asked ≡ None) × (after ≡ with_workspace_of m before)
-PausesAt m (stop.Asks act) asked before after = (asked ≡ Some act) × (after ≡ record before { under_way = under_way.Asking m act })
+PausesAt m (stop.Asks act) asked before after = (asked ≡ Some act) × Waits m act after.under_way × (after ≡ record before { under_way = after.under_way })
 
 -- the inside of a session went on to this act, or to the end of a line
 pub record GoesOn (lines : List (List ℕ)) (answers : List PlainAnswer) (asked : Option Act) (p : Progress) : Type 0 where
@@ -117,9 +124,9 @@ pub record ComesTo (lines : List (List ℕ)) (answers : List PlainAnswer) (asked
 
 -- the line that asked an act was handed this answer, and may go on
 pub record IsHanded (m : PlainMachine) (answer : PlainAnswer) (before after : Progress) : Type 0 where
-  pub handed : PlainMachine
-  pub stands : StandsOn m 0 (answer ∷ []) [] handed
-  pub may : MayRun handed.stage
+  pub handed : Box PlainMachine
+  pub stands : StandsOn m 0 (answer ∷ []) [] handed.value
+  pub may : MayRun handed.value.stage
   pub rest : after ≡ record before { under_way = under_way.Answered handed }
 
 -- the act that waited was given an answer
@@ -138,8 +145,8 @@ IsFree count read stage.Failed = ⊥
 -- a session of so many lines is this far
 abbrev pub IsThisFar : ℕ → ℕ → UnderWay → Stage → Type 0
 IsThisFar count read under_way.Nothing at = IsFree count read at
-IsThisFar count read (under_way.Asking m act) at = at ≡ stage.Waiting
-IsThisFar count read (under_way.Answered m) at = at ≡ stage.Ready
+IsThisFar count read (under_way.Asking b act) at = at ≡ stage.Waiting
+IsThisFar count read (under_way.Answered b) at = at ≡ stage.Ready
 
 -- what holds of a session while memory did not run out: its receipts have the acts that were asked, its inside stands in its lines, and it is this far
 pub record IsSession (lines : List (List ℕ)) (receipts : List PlainReceipt) (p : Progress) (at : Stage) : Type 0 where

@@ -12,7 +12,7 @@ ghost use Rattle.apl_session.specs.declared.under_way.UnderWay.TheVariants as un
 
 use crate::letting_go::let_go;
 use crate::progress::Progress;
-use crate::under_way::UnderWay;
+use crate::under_way::{UnderWay, boxed};
 use apl_arrays::{Fail, Line, WantOfMemory};
 use apl_machine::{Machine, Stop, tree_of};
 use apl_operators::Steps;
@@ -85,7 +85,7 @@ impl Progress {
             Ok(tree) => {
                 let mut machine = Machine::new(self.alloc, self.terminal.lend());
                 match machine.begin(line, tree) {
-                    Ok(()) => self.run(machine, steps),
+                    Ok(()) => self.run(boxed(self.alloc, machine)?, steps),
                     Err(WantOfMemory) => {
                         let_go(machine);
                         Err(WantOfMemory)
@@ -104,14 +104,14 @@ impl Progress {
     /// is evaluated and printed; where that runs out, the line is lost.
     pub(crate) fn run<L: Ledger>(
         &mut self,
-        machine: Machine,
+        machine: Box<Machine>,
         steps: &mut Steps<L>,
     ) -> Result<Option<Act>, WantOfMemory>
-        requires may { MayRun machine.stage }
+        requires may { MayRun machine.value.stage }
         requires none { self.old.under_way ≡ under_way.Nothing }
         requires free { self.old.terminal.definition ≡ None }
         ensures stands { IfOk result (λ asked. (lines : List (List ℕ)) (answers : List PlainAnswer)
-            → IsUnderWay lines answers self.old.read self.old.terminal.transcript machine → GoesOn lines answers asked self.new) }
+            → IsUnderWay lines answers self.old.read self.old.terminal.transcript machine.value → GoesOn lines answers asked self.new) }
         ensures paused { IfOk result (Asked self.new.under_way) }
         ensures read { self.new.read ≡ self.old.read }
     {
@@ -126,12 +126,12 @@ impl Progress {
     }
 
     // Prints what a run printed, and goes on as it stopped.
-    fn show(&mut self, machine: Machine, stop: Stop) -> Result<Option<Act>, WantOfMemory>
-        requires idle { IsIdleAt machine stop }
+    fn show(&mut self, machine: Box<Machine>, stop: Stop) -> Result<Option<Act>, WantOfMemory>
+        requires idle { IsIdleAt machine.value stop }
         requires free { self.old.terminal.definition ≡ None }
         requires none { self.old.under_way ≡ under_way.Nothing }
-        ensures pauses { IfOk result (λ asked. PausesAt (silent machine) stop asked (with_output_of machine self.old) self.new) }
-        ensures taken { StandsOn machine 0 [] machine.interpreter.output (silent machine) }
+        ensures pauses { IfOk result (λ asked. PausesAt (silent machine.value) stop asked (with_output_of machine.value self.old) self.new) }
+        ensures taken { StandsOn machine.value 0 [] machine.value.interpreter.output (silent machine.value) }
         ensures paused { IfOk result (Asked self.new.under_way) }
         ensures read { self.new.read ≡ self.old.read }
     {
@@ -147,11 +147,11 @@ impl Progress {
     }
 
     // Waits for the act that was asked, or goes on behind a line that is over.
-    fn stop(&mut self, machine: Machine, stop: Stop) -> Result<Option<Act>, WantOfMemory>
-        requires idle { IsIdleAt machine stop }
+    fn stop(&mut self, machine: Box<Machine>, stop: Stop) -> Result<Option<Act>, WantOfMemory>
+        requires idle { IsIdleAt machine.value stop }
         requires free { self.old.terminal.definition ≡ None }
         requires none { self.old.under_way ≡ under_way.Nothing }
-        ensures pauses { IfOk result (λ asked. PausesAt machine stop asked self.old self.new) }
+        ensures pauses { IfOk result (λ asked. PausesAt machine.value stop asked self.old self.new) }
         ensures paused { IfOk result (Asked self.new.under_way) }
         ensures read { self.new.read ≡ self.old.read }
     {
@@ -163,8 +163,8 @@ impl Progress {
     }
 
     // Waits for the answer to an act.
-    fn wait_for(&mut self, machine: Machine, act: Act) -> Result<Option<Act>, WantOfMemory>
-        ensures pauses { IfOk result (λ asked. PausesAt machine (stopped.Asks act) asked self.old self.new) }
+    fn wait_for(&mut self, machine: Box<Machine>, act: Act) -> Result<Option<Act>, WantOfMemory>
+        ensures pauses { IfOk result (λ asked. PausesAt machine.value (stopped.Asks act) asked self.old self.new) }
         ensures paused { IfOk result (Asked self.new.under_way) }
         ensures read { self.new.read ≡ self.old.read }
     {
@@ -183,12 +183,13 @@ impl Progress {
     }
 
     // Takes back the workspace of a line that is over.
-    fn finish(&mut self, machine: Machine) -> Result<Option<Act>, WantOfMemory>
-        requires idle { IsIdle machine }
+    fn finish(&mut self, machine: Box<Machine>) -> Result<Option<Act>, WantOfMemory>
+        requires idle { IsIdle machine.value }
         requires free { self.old.terminal.definition ≡ None }
-        ensures pauses { IfOk result (λ asked. PausesAt machine stopped.Done asked self.old self.new) }
-        ensures rest { self.new ≡ with_workspace_of machine self.old }
+        ensures pauses { IfOk result (λ asked. PausesAt machine.value stopped.Done asked self.old self.new) }
+        ensures rest { self.new ≡ with_workspace_of machine.value self.old }
     {
+        let machine = Box::into_inner(machine);
         self.terminal.take_back(machine.into_workspace());
         Ok(None)
     }

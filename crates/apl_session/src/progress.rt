@@ -92,11 +92,11 @@ impl Progress {
     }
 
     // Hands an answer to the line that asked an act, and gives back the act.
-    fn hand(&mut self, machine: Machine, act: Act, answer: Answer) -> Result<Act, WantOfMemory>
-        requires { IsOpenStage machine.stage }
+    fn hand(&mut self, machine: Box<Machine>, act: Act, answer: Answer) -> Result<Act, WantOfMemory>
+        requires { IsOpenStage machine.value.stage }
         ensures granted { IfOk result (λ given. given ≡ act) }
         ensures act { IsOk result }
-        ensures stands { IsHanded machine (plain_answer answer) self.old self.new }
+        ensures stands { IsHanded machine.value (plain_answer answer) self.old self.new }
     {
         let mut machine = machine;
         match machine.resume(answer) {

@@ -1,5 +1,7 @@
-use Rattle.std.proofs.Common.{◌-◌}
+use Rattle.std.proofs.Common.{◌-◌, subst}
 use Rattle.std.proofs.lemmas.Result.{IfOk-weaker}
+use Rattle.apl_machine.specs.Machine.{PlainMachine}
+use Rattle.apl_machine.specs.Runs.{StopsAs}
 use Rattle.apl_session.proofs.Moves.{stopped_on}
 use Rattle.apl_session.proofs.progress.Progress.run.Goals as goal
 
@@ -7,5 +9,5 @@ pub returns-in-Ok-clause-stands : goal.returns-in-Ok-clause-stands
 returns-in-Ok-clause-stands g c =
     IfOk-weaker c.show.result _ _
     (λ asked pauses lines answers under.
-    stopped_on lines answers (c.run.new.steps - c.args.steps.now) c.args.machine c.run.new.self c.in-Ok.stop asked c.args.self.now c.show.new.self c.requires.none c.requires.free c.in-Ok.ensures.stop c.show.ensures.taken pauses under)
+    stopped_on lines answers (c.run.new.steps - c.args.steps.now) c.args.machine.value c.run.new.self c.in-Ok.stop asked c.args.self.now c.show.new.self c.requires.none c.requires.free (subst (λ (m : PlainMachine). StopsAs m (c.run.new.steps - c.args.steps.now) c.run.new.self c.in-Ok.stop) c.deref_mut.ensures.value c.in-Ok.ensures.stop) c.show.ensures.taken pauses under)
     c.show.ensures.pauses

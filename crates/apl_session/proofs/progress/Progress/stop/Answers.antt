@@ -7,16 +7,16 @@ use Rattle.apl_session.proofs.Moves.{none_asked_by}
 use Rattle.apl_session.proofs.progress.Progress.stop.Goals as goal
 
 pub finish-requires-clause-idle : goal.finish-requires-clause-idle
-finish-requires-clause-idle c = subst (λ (s : Stop). IsIdleAt c.args.machine s) c.in-Done.is c.requires.idle
+finish-requires-clause-idle c = subst (λ (s : Stop). IsIdleAt c.args.machine.value s) c.in-Done.is c.requires.idle
 
 pub finish-requires-in-Failed-clause-idle : goal.finish-requires-in-Failed-clause-idle
-finish-requires-in-Failed-clause-idle c = subst (λ (s : Stop). IsIdleAt c.args.machine s) c.in-Failed.is c.requires.idle
+finish-requires-in-Failed-clause-idle c = subst (λ (s : Stop). IsIdleAt c.args.machine.value s) c.in-Failed.is c.requires.idle
 
 pub returns-in-Asks-clause-pauses : goal.returns-in-Asks-clause-pauses
-returns-in-Asks-clause-pauses c = subst (λ (s : Stop). IfOk c.wait_for.result (λ (asked : Option Act). PausesAt c.args.machine s asked c.args.self.now c.wait_for.new.self)) (sym c.in-Asks.is) c.wait_for.ensures.pauses
+returns-in-Asks-clause-pauses c = subst (λ (s : Stop). IfOk c.wait_for.result (λ (asked : Option Act). PausesAt c.args.machine.value s asked c.args.self.now c.wait_for.new.self)) (sym c.in-Asks.is) c.wait_for.ensures.pauses
 
 pub returns-in-Done-clause-pauses : goal.returns-in-Done-clause-pauses
-returns-in-Done-clause-pauses c = subst (λ (s : Stop). IfOk c.finish.result (λ (asked : Option Act). PausesAt c.args.machine s asked c.args.self.now c.finish.new.self)) (sym c.in-Done.is) c.finish.ensures.pauses
+returns-in-Done-clause-pauses c = subst (λ (s : Stop). IfOk c.finish.result (λ (asked : Option Act). PausesAt c.args.machine.value s asked c.args.self.now c.finish.new.self)) (sym c.in-Done.is) c.finish.ensures.pauses
 
 pub returns-in-Failed-clause-pauses : goal.returns-in-Failed-clause-pauses
-returns-in-Failed-clause-pauses c = subst (λ (s : Stop). IfOk c.finish-in-Failed.result (λ (asked : Option Act). PausesAt c.args.machine s asked c.args.self.now c.finish-in-Failed.new.self)) (sym c.in-Failed.is) c.finish-in-Failed.ensures.pauses
+returns-in-Failed-clause-pauses c = subst (λ (s : Stop). IfOk c.finish-in-Failed.result (λ (asked : Option Act). PausesAt c.args.machine.value s asked c.args.self.now c.finish-in-Failed.new.self)) (sym c.in-Failed.is) c.finish-in-Failed.ensures.pauses
