@@ -7,6 +7,7 @@ pub mod Limits
 pub mod List
 pub mod Name
 pub mod Number
+pub mod Numbers
 pub mod Padded
 pub mod Parties
 pub mod Report

@@ -1,10 +1,10 @@
-ghost use Rattle.std.specs.Prelude.{◌≡◌, ◌≢◌, ◌+◌, ◌<◌, ◌≤◌, ◌↔◌, ℕ, List as ListOf, Some, None, min, IsTrue, IfOk, OnOk, OnErr, All, length};
+ghost use Rattle.std.specs.Prelude.{◌≡◌, ◌≢◌, ◌+◌, ◌<◌, ◌≤◌, ◌↔◌, ℕ, List as ListOf, Some, None, min, IsTrue, IfOk, IsOk, OnOk, OnErr, All, length};
 ghost use Rattle.std.specs.List.{list_all};
 ghost use Rattle.apl_arrays.specs.Limits.{most_axes, most_elements};
 ghost use Rattle.apl_arrays.specs.Shape.{is_small, shape_fault};
 ghost use Rattle.apl_arrays.specs.Array.{plain_items, item_count, numbers_in, element_count, is_chars, scalar, FitsLimits, IsArray, IsItemOf};
 
-use crate::{Glyph, Line, List, NumberList, WantOfMemory};
+use crate::{Glyph, Line, NumberList, WantOfMemory};
 use std::alloc::Global;
 use std::error::Error;
 use std::fmt;
@@ -155,23 +155,6 @@ impl Items {
         }
     }
 
-    /// Become one number. Where they are numbers it takes no memory, or memory for one where they have none.
-    /// `WantOfMemory` leaves them as they were.
-    pub fn renew_by_number(&mut self, alloc: Global, number: i64) -> Result<(), WantOfMemory>
-        ensures ok { OnOk result (plain_items self.new ≡ (scalar number).items) }
-        ensures err { OnErr result (self.new ≡ self.old) }
-    {
-        match self {
-            Items::Numbers(list) => list.renew_by_one(number),
-            Items::Chars(_) => {
-                let mut list = List::new(alloc);
-                list.push(number)?;
-                *self = Items::Numbers(list);
-                Ok(())
-            }
-        }
-    }
-
     // Become a copy of others. It takes memory for them. `WantOfMemory` leaves them as they were.
     fn become_copy(&mut self, alloc: Global, other: &Items) -> Result<(), WantOfMemory>
         ensures ok { OnOk result (plain_items self.new ≡ plain_items other.now) }
@@ -229,17 +212,23 @@ impl Array {
         }
     }
 
-    /// The scalar of a number. It takes memory for the number. ISO 8485.
-    pub fn scalar(alloc: Global, number: i64) -> Result<Array, WantOfMemory>
-        ensures { IfOk result (λ array. array ≡ scalar number) }
+    /// The scalar of a number. ISO 8485. No memory.
+    pub fn of_number(number: i64) -> Array
+        ensures { result ≡ scalar number }
     {
-        let mut items = List::new(alloc);
-        items.push(number)?;
-        Ok(Array {
+        Array {
             axes: [0; RANK_LIMIT],
             rank: 0,
-            items: Items::Numbers(items),
-        })
+            items: Items::Numbers(NumberList::one(number)),
+        }
+    }
+
+    /// The scalar of a number. ISO 8485. It asks for no memory, and so is always granted.
+    pub fn scalar(_alloc: Global, number: i64) -> Result<Array, WantOfMemory>
+        ensures value { IfOk result (λ array. array ≡ scalar number) }
+        ensures granted { IsOk result }
+    {
+        Ok(Array::of_number(number))
     }
 
     /// An equal array. It takes memory for its items. ISO 8485.
@@ -262,17 +251,6 @@ impl Array {
         self.items.renew(alloc, &other.items)?;
         self.axes = other.axes;
         self.rank = other.rank;
-        Ok(())
-    }
-
-    /// Becomes the scalar of a number. Where its items are numbers it takes no memory, or memory for one where it has
-    /// none. `WantOfMemory` leaves it as it was.
-    pub fn renew_by_number(&mut self, alloc: Global, number: i64) -> Result<(), WantOfMemory>
-        ensures ok { OnOk result (self.new ≡ scalar number) }
-        ensures err { OnErr result (self.new ≡ self.old) }
-    {
-        self.items.renew_by_number(alloc, number)?;
-        self.rank = 0;
         Ok(())
     }
 

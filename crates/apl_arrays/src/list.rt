@@ -69,22 +69,6 @@ impl<T> List<T> {
         Ok(())
     }
 
-    /// Becomes a list of one item. Where it has memory already it takes none, else it takes memory for the item.
-    /// `WantOfMemory` leaves the list as it was.
-    pub fn renew_by_one(&mut self, item: T) -> Result<(), WantOfMemory>
-    where
-        T: Copy + Drop,
-        ensures ok { OnOk result (self.new.items ≡ item ∷ []) }
-        ensures err { OnErr result (self.new ≡ self.old) }
-    {
-        if self.items.capacity() == 0 {
-            self.items.reserve(1)?;
-        }
-        self.clear();
-        self.push_reserved(item);
-        Ok(())
-    }
-
     /// Makes room for at least so many pushes, and takes memory for it. `WantOfMemory` leaves the list as it was.
     pub fn reserve(&mut self, room: usize) -> Result<(), WantOfMemory>
         ensures items { self.new.items ≡ self.old.items }
@@ -215,9 +199,6 @@ pub type Line = List<Glyph>;
 
 /// Names.
 pub type NameList = List<Name>;
-
-/// Numbers of arrays.
-pub type NumberList = List<i64>;
 
 /// The numbers of parties.
 pub type PartyList = List<u32>;

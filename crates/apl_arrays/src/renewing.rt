@@ -1,5 +1,4 @@
 ghost use Rattle.std.specs.Prelude.{◌≡◌, Some, OnOk, OnErr};
-ghost use Rattle.apl_arrays.specs.Array.{scalar};
 
 use crate::{Array, WantOfMemory};
 use std::alloc::Global;
@@ -18,25 +17,6 @@ pub fn renew_value(
         Some(array) => array.renew(alloc, value),
         None => {
             *held = Some(value.copy(alloc)?);
-            Ok(())
-        }
-    }
-}
-
-/// A value that may be missing becomes the scalar of a number. Where its items are numbers it takes no memory, or memory
-/// for one where it has none. `WantOfMemory` leaves it as it was.
-pub fn renew_by_number(
-    alloc: Global,
-    held: &mut Option<Array>,
-    number: i64,
-) -> Result<(), WantOfMemory>
-    ensures ok { OnOk result (held.new ≡ Some (scalar number)) }
-    ensures err { OnErr result (held.new ≡ held.old) }
-{
-    match held {
-        Some(array) => array.renew_by_number(alloc, number),
-        None => {
-            *held = Some(Array::scalar(alloc, number)?);
             Ok(())
         }
     }

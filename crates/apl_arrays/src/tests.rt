@@ -23,7 +23,7 @@ fn line_of(alloc: Global, text: &str) -> Result<Line, WantOfMemory> {
 }
 
 fn lists_are_edited(rt: &impl Abort, alloc: Global) -> Result<(), WantOfMemory> {
-    let mut list = NumberList::new(alloc);
+    let mut list = List::new(alloc);
     list.reserve(2)?;
     list.push_reserved(5);
     list.push(i64::MIN)?;
@@ -36,6 +36,20 @@ fn lists_are_edited(rt: &impl Abort, alloc: Global) -> Result<(), WantOfMemory> 
     assert_eq!(rt; list.as_slice(), [6, 7, 8].as_slice());
     let copy = list.copy(alloc)?;
     assert!(rt; List::from(list.into_vec()) == copy);
+    Ok(())
+}
+
+fn numbers_are_kept(rt: &impl Abort, alloc: Global) -> Result<(), WantOfMemory> {
+    let mut list = NumberList::one(i64::MIN);
+    assert_eq!(rt; list.copy(alloc)?.as_slice(), [i64::MIN].as_slice());
+    list.push(alloc, 5)?;
+    list.push(alloc, 6)?;
+    assert_eq!(rt; list.as_slice(), [i64::MIN, 5, 6].as_slice());
+    let copy = list.copy(alloc)?;
+    list.renew(alloc, &NumberList::one(7))?;
+    assert_eq!(rt; list.as_slice(), [7].as_slice());
+    list.renew(alloc, &copy)?;
+    assert_eq!(rt; list.as_slice(), copy.as_slice());
     Ok(())
 }
 
@@ -119,6 +133,7 @@ fn refusals_are_named(rt: &impl Abort, alloc: Global) -> Result<(), WantOfMemory
 
 fn all_is_had(rt: &impl Abort, alloc: Global) -> Result<(), WantOfMemory> {
     lists_are_edited(rt, alloc)?;
+    numbers_are_kept(rt, alloc)?;
     lines_are_edited(rt, alloc)?;
     lines_are_taken_out(rt, alloc)?;
     files_are_listed(rt, alloc)?;

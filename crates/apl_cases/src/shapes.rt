@@ -1,7 +1,5 @@
 use anyhow::{Context, Result, bail};
-use apl_arrays::{
-    Array, ArrayRefused, Glyph, Items, Line, NumberList, ShapeFault, count_of_elements, shape_fault,
-};
+use apl_arrays::{Array, ArrayRefused, count_of_elements, Glyph, Items, Line, List, NumberList, shape_fault, ShapeFault};
 use case_fields::{array_of, array_text, axes_of};
 use case_tables::Trial;
 use std::alloc::Global;
@@ -15,11 +13,11 @@ pub struct Shapes;
 pub struct Equality;
 
 fn numbers(alloc: Global, count: i64) -> Result<Items> {
-    let mut numbers = NumberList::new(alloc);
+    let mut numbers = List::new(alloc);
     for number in 0..count {
         numbers.push(number)?;
     }
-    Ok(Items::Numbers(numbers))
+    Ok(Items::Numbers(NumberList::from(numbers)))
 }
 
 fn chars(alloc: Global, count: i64) -> Result<Items> {

@@ -7,7 +7,7 @@ ghost use Rattle.apl_items.specs.Shapes.{split_at, split_count};
 use crate::loops::room_for;
 use crate::moves::item_at_source;
 use crate::shapes::Split;
-use apl_arrays::{Glyph, Items, List, WantOfMemory, count_of_elements};
+use apl_arrays::{count_of_elements, Glyph, Items, List, NumberList, WantOfMemory};
 use std::alloc::Global;
 
 /// Where the places along one axis of a result come from, for each line along that axis.
@@ -45,7 +45,7 @@ pub fn moved_along<R: Along>(
     match items {
         Items::Numbers(list) => {
             let made = list_along(alloc, list.as_slice(), 0, shape, axis, rule)?;
-            Ok(Items::Numbers(made))
+            Ok(Items::Numbers(NumberList::from(made)))
         }
         Items::Chars(list) => {
             let made = list_along(alloc, list.as_slice(), Glyph::BLANK, shape, axis, rule)?;

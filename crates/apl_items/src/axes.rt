@@ -6,7 +6,7 @@ ghost use Rattle.apl_items.specs.Shapes.{coordinates_of};
 
 use crate::loops::room_for;
 use crate::moves::item_at_source;
-use apl_arrays::{Glyph, Items, List, WantOfMemory, count_of_elements};
+use apl_arrays::{count_of_elements, Glyph, Items, List, NumberList, WantOfMemory};
 use std::alloc::Global;
 
 /// Where the places along each axis of a result come from. The source place for an item is the sum of the offsets along
@@ -41,7 +41,7 @@ pub fn moved_by_axes<X: Axes>(
     match items {
         Items::Numbers(list) => {
             let made = list_by_axes(alloc, list.as_slice(), 0, shape, axes)?;
-            Ok(Items::Numbers(made))
+            Ok(Items::Numbers(NumberList::from(made)))
         }
         Items::Chars(list) => {
             let made = list_by_axes(alloc, list.as_slice(), Glyph::BLANK, shape, axes)?;

@@ -4,7 +4,7 @@ ghost use Rattle.apl_items.specs.Places.{GivesEach, OnDomain, OnWantOfMemory};
 
 use crate::extension::{glyph_at, number_at};
 use crate::rows::by_rows;
-use apl_arrays::{Fail, Glyph, List, NumberList, WantOfMemory};
+use apl_arrays::{Fail, Glyph, List, WantOfMemory};
 use std::alloc::Global;
 
 /// The items that a rule gives at each place, or DOMAIN where it gives none, also where there is no memory. It asks once for
@@ -37,7 +37,7 @@ pub fn each<F: Fn(i64) -> Option<i64>>(
     count: usize,
     b: &[i64],
     rule: F,
-) -> Result<NumberList, Fail>
+) -> Result<List<i64>, Fail>
     requires callable { F.IsAlwaysCallable rule }
     requires reaches { Reaches (length b.now) count }
     ensures whole { IfOk result (λ list. length list.items ≡ count) }
@@ -63,7 +63,7 @@ pub fn pairs<F: Fn(i64, i64) -> Option<i64>>(
     a: &[i64],
     b: &[i64],
     rule: F,
-) -> Result<NumberList, Fail>
+) -> Result<List<i64>, Fail>
     requires callable { F.IsAlwaysCallable rule }
     requires a_reaches { Reaches (length a.now) count }
     requires b_reaches { Reaches (length b.now) count }
@@ -92,7 +92,7 @@ pub fn glyph_pairs<F: Fn(bool) -> Option<i64>>(
     a: &[Glyph],
     b: &[Glyph],
     rule: F,
-) -> Result<NumberList, Fail>
+) -> Result<List<i64>, Fail>
     requires callable { F.IsAlwaysCallable rule }
     requires a_reaches { Reaches (length a.now) count }
     requires b_reaches { Reaches (length b.now) count }

@@ -3,7 +3,7 @@ ghost use Rattle.apl_arrays.specs.Array.{item_count, plain_items};
 ghost use Rattle.apl_items.specs.Moves.{IsWithin, item_or, moved_items, moved_list};
 
 use crate::loops::room_for;
-use apl_arrays::{Glyph, Items, List, WantOfMemory};
+use apl_arrays::{Glyph, Items, List, NumberList, WantOfMemory};
 use std::alloc::Global;
 
 /// The source places for the places of a result, one after another in row-major order.
@@ -37,7 +37,7 @@ pub fn moved<W: Walk + Drop>(
     match items {
         Items::Numbers(list) => {
             let made = moved_list(alloc, list.as_slice(), 0, count, walk)?;
-            Ok(Items::Numbers(made))
+            Ok(Items::Numbers(NumberList::from(made)))
         }
         Items::Chars(list) => {
             let made = moved_list(alloc, list.as_slice(), Glyph::BLANK, count, walk)?;

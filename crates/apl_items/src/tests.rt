@@ -45,7 +45,7 @@ fn by_places(rt: &impl Abort, alloc: Global) -> Result<(), WantOfMemory> {
 }
 
 /// So many small items.
-fn made_small(alloc: Global, count: usize) -> Result<Result<NumberList, Report>, WantOfMemory> {
+fn made_small(alloc: Global, count: usize) -> Result<Result<List<i64>, Report>, WantOfMemory> {
     given(by_place(alloc, count, small))
 }
 
@@ -54,7 +54,7 @@ fn made_by_rows(
     alloc: Global,
     rows: usize,
     columns: usize,
-) -> Result<Result<NumberList, Report>, WantOfMemory>
+) -> Result<Result<List<i64>, Report>, WantOfMemory>
     requires { rows * columns < 2 ^ 64 }
 {
     given(by_rows(alloc, rows, columns, &small_in_row))
@@ -111,8 +111,8 @@ impl Axes for Exchanged {
 
 /// Items that move by a walk and by axes, with a fill of either kind.
 fn moves(rt: &impl Abort, alloc: Global) -> Result<(), WantOfMemory> {
-    let three = Items::Numbers(list_of(alloc, &[7, 8, 9])?);
-    let filled = Items::Numbers(list_of(alloc, &[8, 9, 0])?);
+    let three = Items::Numbers(NumberList::from(list_of(alloc, &[7, 8, 9])?));
+    let filled = Items::Numbers(NumberList::from(list_of(alloc, &[8, 9, 0])?));
     assert!(rt; moved(alloc, &three, 3, Onward { done: 0 })? == filled);
     let [a, b, c] = [
         Glyph::with_code(65),
@@ -122,8 +122,8 @@ fn moves(rt: &impl Abort, alloc: Global) -> Result<(), WantOfMemory> {
     let word = Items::Chars(list_of(alloc, &[a, b, c])?);
     let filled = Items::Chars(list_of(alloc, &[b, c, Glyph::BLANK])?);
     assert!(rt; moved(alloc, &word, 3, Onward { done: 0 })? == filled);
-    let matrix = Items::Numbers(list_of(alloc, &[1, 2, 3, 4, 5, 6])?);
-    let exchanged = Items::Numbers(list_of(alloc, &[1, 4, 2, 5, 3, 6])?);
+    let matrix = Items::Numbers(NumberList::from(list_of(alloc, &[1, 2, 3, 4, 5, 6])?));
+    let exchanged = Items::Numbers(NumberList::from(list_of(alloc, &[1, 4, 2, 5, 3, 6])?));
     assert!(rt; moved_by_axes(alloc, &matrix, &[3, 2], &Exchanged)? == exchanged);
     Ok(())
 }
@@ -136,7 +136,7 @@ fn list_of<T: Copy>(alloc: Global, items: &[T]) -> Result<List<T>, WantOfMemory>
 }
 
 /// What a call gave, where memory did not run out.
-fn given(answer: Result<NumberList, Fail>) -> Result<Result<NumberList, Report>, WantOfMemory> {
+fn given(answer: Result<List<i64>, Fail>) -> Result<Result<List<i64>, Report>, WantOfMemory> {
     match answer {
         Ok(list) => Ok(Ok(list)),
         Err(Fail::Report(report)) => Ok(Err(report)),

@@ -45,7 +45,7 @@ pub struct Row {
 pub struct Rows {
     rows: Vec<Row>,
     at: usize,
-    numbers: NumberList,
+    numbers: List<i64>,
     shape: Vec<u32>,
 }
 
@@ -116,7 +116,7 @@ impl Rows {
         ensures { result ≡ number_array self.shape.items self.numbers.items }
     {
         let Rows { shape, numbers, .. } = self;
-        Array::shaped(&shape, Items::Numbers(numbers))
+        Array::shaped(&shape, Items::Numbers(NumberList::from(numbers)))
     }
 }
 

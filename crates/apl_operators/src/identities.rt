@@ -4,7 +4,7 @@ ghost use Rattle.apl_items.specs.Answers.{AnswersFirst};
 ghost use Rattle.apl_scalar.specs.Table.{row_of_dyad};
 ghost use Rattle.apl_operators.specs.Gathering.{numbers_answer};
 
-use apl_arrays::{Array, Dyad, Fail, Items, Report, count_of_elements, shape_fault};
+use apl_arrays::{Array, count_of_elements, Dyad, Fail, Items, NumberList, Report, shape_fault};
 use apl_items::by_place;
 use apl_scalar::identity_of;
 use std::alloc::Global;
@@ -26,7 +26,7 @@ pub(crate) fn identities(alloc: Global, f: Dyad, shape: &[u32]) -> Result<Array,
             ensures { result ≡ (row_of_dyad f).identity }
         { identity_of(f) },
     )?;
-    Ok(Array::shaped(shape, Items::Numbers(items)))
+    Ok(Array::shaped(shape, Items::Numbers(NumberList::from(items))))
 }
 
 /// The report of identities that are too many to be made: DOMAIN where there is none.

@@ -13,7 +13,7 @@ use crate::items::{joined_by, number_in};
 use crate::lines::{LineAt, last_front};
 use crate::reduction::reduced;
 use crate::rows::numbers_by_rows;
-use apl_arrays::{Array, Dyad, Fail, Glyph, Item, Items, List, Report, Way, count_of_elements};
+use apl_arrays::{Array, count_of_elements, Dyad, Fail, Glyph, Item, Items, List, NumberList, Report, Way};
 use apl_items::{Split, axis_of, joined_shape, lacks_axis};
 use apl_scalar::{character_of, dyadic_table, item_of_numbers, rules};
 use std::alloc::Global;
@@ -71,7 +71,7 @@ fn reduced_lines(
     ensures { AnswersFirst result (reduced f b.now axis) }
 {
     if b.items().is_empty() {
-        return Ok(Array::shaped(shape, Items::Numbers(List::new(alloc))));
+        return Ok(Array::shaped(shape, Items::Numbers(NumberList::from(List::new(alloc)))));
     }
     let split = Split::at(b.shape(), axis);
     lines_of_items(alloc, f, shape, b.items(), split)

@@ -5,7 +5,7 @@ ghost use Rattle.apl_items.specs.Answers.{AnswersFirst};
 ghost use Rattle.apl_items.specs.Places.{AtPlace, Follows};
 ghost use Rattle.apl_operators.specs.Gathering.{numbers_answer};
 
-use apl_arrays::{Array, Fail, Items, Report, shape_fault};
+use apl_arrays::{Array, Fail, Items, NumberList, Report, shape_fault};
 use apl_items::{by_rows, lacks_by_rows};
 use std::alloc::Global;
 
@@ -27,7 +27,7 @@ pub(crate) fn numbers_by_rows<F: Fn(usize, usize) -> Option<i64>>(
 {
     if shape_fault(shape).is_none() {
         let items = by_rows(alloc, rows, columns, rule)?;
-        Ok(Array::shaped(shape, Items::Numbers(items)))
+        Ok(Array::shaped(shape, Items::Numbers(NumberList::from(items))))
     } else if lacks_by_rows(rows, columns, rule) {
         Err(Fail::Report(Report::Domain))
     } else {

@@ -12,7 +12,7 @@ use crate::lines::{LineAt, front_of_line, last_front};
 use crate::parts::by_parts;
 use crate::running::{running, runs};
 use crate::sums::{are_small, small_sums};
-use apl_arrays::{Array, Dyad, Fail, Items, NumberList, Report, WantOfMemory, Way};
+use apl_arrays::{Array, Dyad, Fail, Items, List, NumberList, Report, WantOfMemory, Way};
 use apl_items::{Split, axis_of, lacks_axis, lacks_by_rows, room_for};
 use apl_scalar::dyadic_table;
 use std::alloc::Global;
@@ -56,7 +56,7 @@ fn scanned(alloc: Global, f: Dyad, b: &Array, axis: usize) -> Result<Array, Fail
     match b.items() {
         Items::Numbers(list) => {
             let items = fronts(alloc, f, list.as_slice(), split)?;
-            Ok(Array::shaped(b.shape(), Items::Numbers(items)))
+            Ok(Array::shaped(b.shape(), Items::Numbers(NumberList::from(items))))
         }
         Items::Chars(_) => {
             if split.along == 1 {
@@ -70,7 +70,7 @@ fn scanned(alloc: Global, f: Dyad, b: &Array, axis: usize) -> Result<Array, Fail
 
 /// The reduction of each front of each line of numbers: in one pass where the numbers of a sum are small, or where each follows
 /// from the one before, else each by itself, from the right. DOMAIN where one has no value, also where there is no memory.
-fn fronts(alloc: Global, f: Dyad, list: &[i64], split: Split) -> Result<NumberList, Fail>
+fn fronts(alloc: Global, f: Dyad, list: &[i64], split: Split) -> Result<List<i64>, Fail>
     requires whole { split_count split ≡ length list.now }
     requires some { 0 < split_count split }
     ensures made { MakesItems result (length list.now) (front_at (dyadic_item f) list.now split) }
@@ -89,7 +89,7 @@ fn fronts(alloc: Global, f: Dyad, list: &[i64], split: Split) -> Result<NumberLi
 }
 
 /// The reductions of fronts in one pass. The function is chosen once.
-fn one_pass(alloc: Global, f: Dyad, list: &[i64], split: Split) -> Result<NumberList, Fail>
+fn one_pass(alloc: Global, f: Dyad, list: &[i64], split: Split) -> Result<List<i64>, Fail>
     requires whole { split_count split ≡ length list.now }
     requires some { 0 < split_count split }
     requires runs { Runs (dyadic_item f) list.now split (front_at (dyadic_item f) list.now split) }
@@ -107,7 +107,7 @@ fn one_pass_by<F: Fn(i64, i64) -> Option<i64>>(
     list: &[i64],
     split: Split,
     rule: F,
-) -> Result<NumberList, Fail>
+) -> Result<List<i64>, Fail>
     requires callable { F.IsAlwaysCallable rule }
     requires rule { Joins (F.post rule) (dyadic_item f) }
     requires whole { split_count split ≡ length list.now }
@@ -157,7 +157,7 @@ fn breaks_off<F: Fn(i64, i64) -> Option<i64>>(f: Dyad, list: &[i64], split: Spli
 }
 
 /// The reduction of each front by itself. The function is chosen once.
-fn each_front(alloc: Global, f: Dyad, list: &[i64], split: Split) -> Result<NumberList, Fail>
+fn each_front(alloc: Global, f: Dyad, list: &[i64], split: Split) -> Result<List<i64>, Fail>
     requires whole { split_count split ≡ length list.now }
     requires some { 0 < split_count split }
     ensures made { MakesItems result (length list.now) (front_at (dyadic_item f) list.now split) }
@@ -173,7 +173,7 @@ fn fronts_by<F: Fn(i64, i64) -> Option<i64>>(
     list: &[i64],
     split: Split,
     rule: F,
-) -> Result<NumberList, Fail>
+) -> Result<List<i64>, Fail>
     requires callable { F.IsAlwaysCallable rule }
     requires rule { Joins (F.post rule) (dyadic_item f) }
     requires whole { split_count split ≡ length list.now }

@@ -6,7 +6,7 @@ ghost use Rattle.apl_scalar.specs.Table.{dyadic_item};
 ghost use Rattle.apl_operators.specs.Running.{AreSmall, front_at, wrapped_sum};
 
 use crate::running::running;
-use apl_arrays::{Fail, NumberList, Report};
+use apl_arrays::{Fail, List, Report};
 use apl_items::{Split, room_for};
 use std::alloc::Global;
 
@@ -39,7 +39,7 @@ fn magnitude_at(list: &[i64], place: usize) -> u64
 
 /// The sum of each front of each line of small numbers, in one pass, in which no sum leaves 64 bits. It takes memory for the
 /// sums.
-pub(crate) fn small_sums(alloc: Global, list: &[i64], split: Split) -> Result<NumberList, Fail>
+pub(crate) fn small_sums(alloc: Global, list: &[i64], split: Split) -> Result<List<i64>, Fail>
     requires whole { split_count split ≡ length list.now }
     requires some { 0 < split_count split }
     requires small { AreSmall list.now split.along }

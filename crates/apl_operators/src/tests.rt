@@ -1,9 +1,7 @@
 ghost use Rattle.std.specs.Prelude.{◌≡◌, ◌<◌};
 
 use crate::{Steps, apply};
-use apl_arrays::{
-    Array, Dyad, Fail, Items, List, Mix1, Mix2, Monad, Report, Verb, WantOfMemory, Way,
-};
+use apl_arrays::{Array, Dyad, Fail, Items, List, Mix1, Mix2, Monad, NumberList, Report, Verb, WantOfMemory, Way};
 use std::alloc::Global;
 use std::marker::Brand;
 use std::mem::size_of_val;
@@ -82,5 +80,5 @@ fn array(
     numbers: &[i64],
 ) -> Result<Array, WantOfMemory> {
     let items = List::from(Vec::from_slice(alloc, numbers)?);
-    Ok(Array::try_new(shape, Items::Numbers(items)).expect(rt, "an array"))
+    Ok(Array::try_new(shape, Items::Numbers(NumberList::from(items))).expect(rt, "an array"))
 }

@@ -8,7 +8,7 @@ ghost use Rattle.apl_scalar.specs.Table.{item_of_chars, takes_chars};
 
 use crate::rules;
 use crate::table::{character_of, dyadic_items, monadic_items};
-use apl_arrays::{Array, Dyad, Fail, Glyph, Items, Monad, NumberList, Report};
+use apl_arrays::{Array, Dyad, Fail, Glyph, Items, List, Monad, NumberList, Report};
 use apl_items::{by_place, glyph_pairs, leader, ranks_differ, shapes_differ};
 use std::alloc::Global;
 
@@ -33,11 +33,11 @@ fn each_number(alloc: Global, f: Monad, b: &Array) -> Result<Array, Fail>
     ensures memory { OnWantOfMemory result (IsOk (monadic_of f b.now)) }
 {
     let items = own_items(alloc, f, b.items().len(), b.items())?;
-    Ok(Array::shaped(b.shape(), Items::Numbers(items)))
+    Ok(Array::shaped(b.shape(), Items::Numbers(NumberList::from(items))))
 }
 
 /// A monadic function of the number for each place.
-fn own_items(alloc: Global, f: Monad, count: usize, b: &Items) -> Result<NumberList, Fail>
+fn own_items(alloc: Global, f: Monad, count: usize, b: &Items) -> Result<List<i64>, Fail>
     requires kind { is_chars (plain_items b.now) ≡ false }
     requires reaches { Reaches (item_count (plain_items b.now)) count }
     ensures made { MakesItems result count (monadic_at f (numbers_in (plain_items b.now))) }
@@ -89,7 +89,7 @@ fn item_by_item(alloc: Global, f: Dyad, a: &Array, b: &Array) -> Result<Array, F
 {
     let shaped = leader(a, b);
     let items = pair_items(alloc, f, shaped.items().len(), a.items(), b.items())?;
-    Ok(Array::shaped(shaped.shape(), Items::Numbers(items)))
+    Ok(Array::shaped(shaped.shape(), Items::Numbers(NumberList::from(items))))
 }
 
 /// A dyadic function of the pair of items for each place.
@@ -99,7 +99,7 @@ fn pair_items(
     count: usize,
     a: &Items,
     b: &Items,
-) -> Result<NumberList, Fail>
+) -> Result<List<i64>, Fail>
     requires kind { is_unfit f (plain_items a.now) (plain_items b.now) ≡ false }
     requires a_reaches { Reaches (item_count (plain_items a.now)) count }
     requires b_reaches { Reaches (item_count (plain_items b.now)) count }
@@ -132,7 +132,7 @@ fn glyph_items(
     count: usize,
     a: &[Glyph],
     b: &[Glyph],
-) -> Result<NumberList, Fail>
+) -> Result<List<i64>, Fail>
     requires kind { takes_chars f ≡ true }
     requires a_reaches { Reaches (length a.now) count }
     requires b_reaches { Reaches (length b.now) count }
@@ -153,7 +153,7 @@ fn glyph_items_by<F: Fn(bool) -> Option<i64>>(
     a: &[Glyph],
     b: &[Glyph],
     rule: F,
-) -> Result<NumberList, Fail>
+) -> Result<List<i64>, Fail>
     requires callable { F.IsAlwaysCallable rule }
     requires rule { (alike : Bool) (answer : Option ℤ) → F.post rule alike answer → answer ≡ item_of_chars f alike }
     requires a_reaches { Reaches (length a.now) count }
@@ -165,7 +165,7 @@ fn glyph_items_by<F: Fn(bool) -> Option<i64>>(
 }
 
 /// `=` or `≠` of a character and a number for each place.
-fn unlike_items(alloc: Global, f: Dyad, count: usize) -> Result<NumberList, Fail>
+fn unlike_items(alloc: Global, f: Dyad, count: usize) -> Result<List<i64>, Fail>
     requires { takes_chars f ≡ true }
     ensures made { MakesItems result count (λ place. item_of_chars f false) }
     ensures memory { OnWantOfMemory result (HasItems count (λ place. item_of_chars f false)) }

@@ -4,7 +4,7 @@ ghost use Rattle.apl_items.specs.Places.{HasItems, MakesItems, OnWantOfMemory};
 ghost use Rattle.apl_scalar.specs.Table.{monadic_item, dyadic_item, pair_item, item_of_chars, row_of_dyad};
 
 use crate::{counting, monad_rules, rules};
-use apl_arrays::{Dyad, Fail, Item, Monad, NumberList};
+use apl_arrays::{Dyad, Fail, Item, List, Monad};
 use apl_items::{each, pairs};
 use std::alloc::Global;
 
@@ -80,7 +80,7 @@ macro_rules! identity_of {
 }
 
 /// A monadic function of the number for each place. The rule is chosen once.
-pub fn monadic_items(alloc: Global, f: Monad, count: usize, b: &[i64]) -> Result<NumberList, Fail>
+pub fn monadic_items(alloc: Global, f: Monad, count: usize, b: &[i64]) -> Result<List<i64>, Fail>
     requires { Reaches (length b.now) count }
     ensures made { MakesItems result count (λ place. monadic_item f (number_at b.now place)) }
     ensures memory { OnWantOfMemory result (HasItems count (λ place. monadic_item f (number_at b.now place))) }
@@ -95,7 +95,7 @@ fn each_by<F: Fn(i64) -> Option<i64>>(
     count: usize,
     b: &[i64],
     rule: F,
-) -> Result<NumberList, Fail>
+) -> Result<List<i64>, Fail>
     requires callable { F.IsAlwaysCallable rule }
     requires rule { (x : ℤ) (answer : Option ℤ) → F.post rule x answer → answer ≡ monadic_item f x }
     requires reaches { Reaches (length b.now) count }
@@ -112,7 +112,7 @@ pub fn dyadic_items(
     count: usize,
     a: &[i64],
     b: &[i64],
-) -> Result<NumberList, Fail>
+) -> Result<List<i64>, Fail>
     requires a_reaches { Reaches (length a.now) count }
     requires b_reaches { Reaches (length b.now) count }
     ensures made { MakesItems result count (λ place. dyadic_item f (number_at a.now place) (number_at b.now place)) }
@@ -129,7 +129,7 @@ fn pairs_by<F: Fn(i64, i64) -> Option<i64>>(
     a: &[i64],
     b: &[i64],
     rule: F,
-) -> Result<NumberList, Fail>
+) -> Result<List<i64>, Fail>
     requires callable { F.IsAlwaysCallable rule }
     requires rule { (x y : ℤ) (answer : Option ℤ) → F.post rule x y answer → answer ≡ dyadic_item f x y }
     requires a_reaches { Reaches (length a.now) count }

@@ -1,5 +1,5 @@
 use crate::{dyadic, identity_of, item_of, monadic};
-use apl_arrays::{Array, Dyad, Fail, Glyph, Item, Items, List, Monad, Report, WantOfMemory};
+use apl_arrays::{Array, Dyad, Fail, Glyph, Item, Items, List, Monad, NumberList, Report, WantOfMemory};
 use std::alloc::Global;
 use std::process::Abort;
 
@@ -58,5 +58,5 @@ fn vector(rt: &impl Abort, alloc: Global, numbers: &[i64]) -> Result<Array, Want
         items.push(*number)?;
     }
     let length = u32::try_from(numbers.len()).expect(rt, "a length");
-    Ok(Array::try_new(&[length], Items::Numbers(items)).expect(rt, "a vector"))
+    Ok(Array::try_new(&[length], Items::Numbers(NumberList::from(items))).expect(rt, "a vector"))
 }

@@ -6,9 +6,7 @@ ghost use Rattle.apl_scalar.specs.Table.{item_where, least};
 ghost use Rattle.apl_search.specs.Encode.{AreBefore, digit_at, digit_for, digits_of, encode_faults, encode_of, encode_misfit, rest_by};
 
 use crate::numbers::small;
-use apl_arrays::{
-    Array, ELEMENT_LIMIT, Fail, Items, List, NumberList, RANK_LIMIT, Report, WantOfMemory,
-};
+use apl_arrays::{Array, ELEMENT_LIMIT, Fail, Items, List, NumberList, RANK_LIMIT, Report, WantOfMemory};
 use apl_items::joined_shape;
 use apl_scalar::read_all;
 use std::alloc::Global;
@@ -109,12 +107,12 @@ fn encoded(alloc: Global, a: &Array, b: &Array) -> Result<Array, WantOfMemory>
     let numbers = b.items().numbers();
     let digits = digits(alloc, bases, numbers)?;
     let shape = joined_shape(a.shape(), b.shape());
-    Ok(Array::shaped(shape.as_slice(), Items::Numbers(digits)))
+    Ok(Array::shaped(shape.as_slice(), Items::Numbers(NumberList::from(digits))))
 }
 
 /// The digits of numbers by bases: those of a number stand in a column, and are put in from the last base to the first.
 /// It asks once for memory.
-fn digits(alloc: Global, bases: &[i64], numbers: &[i64]) -> Result<NumberList, WantOfMemory>
+fn digits(alloc: Global, bases: &[i64], numbers: &[i64]) -> Result<List<i64>, WantOfMemory>
     requires few { length bases.now * length numbers.now ≤ 16384 }
     requires all { lacks_item (length bases.now * length numbers.now) (digit_for bases.now numbers.now) ≡ false }
     ensures whole { IfOk result (λ digits. length digits.items ≡ length bases.now * length numbers.now) }

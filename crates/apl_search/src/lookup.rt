@@ -22,11 +22,11 @@ pub fn index_of(alloc: Global, a: &Array, b: &Array) -> Result<Array, Fail>
         return Err(Fail::Report(Report::Rank));
     }
     let places = first_places(alloc, a.items(), b.items())?;
-    Ok(Array::shaped(b.shape(), Items::Numbers(places)))
+    Ok(Array::shaped(b.shape(), Items::Numbers(NumberList::from(places))))
 }
 
 /// The first place in some items of each of others, from 1; for one that they have not, 1 and their count.
-fn first_places(alloc: Global, a: &Items, b: &Items) -> Result<NumberList, WantOfMemory>
+fn first_places(alloc: Global, a: &Items, b: &Items) -> Result<List<i64>, WantOfMemory>
     requires { item_count (plain_items a.now) ≤ 16384 }
     ensures { IfOk result (λ places. places.items ≡ first_places (plain_items a.now) (plain_items b.now)) }
 {
@@ -51,7 +51,7 @@ fn places_of<T: Ord + Copy + Drop>(
     alloc: Global,
     a: &[T],
     b: &[T],
-) -> Result<NumberList, WantOfMemory>
+) -> Result<List<i64>, WantOfMemory>
     requires { length a.now ≤ 16384 }
     ensures { IfOk result (λ places. places.items ≡ map (λ item. pos (position_or_len (T.eq item) a.now + 1)) b.now) }
 {
@@ -73,7 +73,7 @@ fn place_number(place: usize) -> i64
 }
 
 /// One number for each item of a list.
-fn all_same<T>(alloc: Global, list: &[T], number: i64) -> Result<NumberList, WantOfMemory>
+fn all_same<T>(alloc: Global, list: &[T], number: i64) -> Result<List<i64>, WantOfMemory>
     ensures { IfOk result (λ numbers. numbers.items ≡ map (λ item. number) list.now) }
 {
     let mut numbers = List::new(alloc);
@@ -90,11 +90,11 @@ pub fn member(alloc: Global, a: &Array, b: &Array) -> Result<Array, Fail>
     ensures { Answers result (member_of a.now b.now) }
 {
     let members = memberships(alloc, a.items(), b.items())?;
-    Ok(Array::shaped(a.shape(), Items::Numbers(members)))
+    Ok(Array::shaped(a.shape(), Items::Numbers(NumberList::from(members))))
 }
 
 /// 1 for each of some items that others have, 0 for each other.
-fn memberships(alloc: Global, a: &Items, b: &Items) -> Result<NumberList, WantOfMemory>
+fn memberships(alloc: Global, a: &Items, b: &Items) -> Result<List<i64>, WantOfMemory>
     requires { item_count (plain_items b.now) ≤ 16384 }
     ensures { IfOk result (λ members. members.items ≡ memberships (plain_items a.now) (plain_items b.now)) }
 {
@@ -111,7 +111,7 @@ fn members_of<T: Ord + Copy + Drop>(
     alloc: Global,
     a: &[T],
     b: &[T],
-) -> Result<NumberList, WantOfMemory>
+) -> Result<List<i64>, WantOfMemory>
     requires { length b.now ≤ 16384 }
     ensures { IfOk result (λ members. members.items ≡ map (λ item. truth (list_any (T.eq item) b.now)) a.now) }
 {

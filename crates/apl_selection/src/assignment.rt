@@ -13,7 +13,7 @@ use crate::strides::{scaled, stride_in, strides_of};
 use crate::subscripts::{
     Subs, are_of_chars, is_miscounted, named_counts, place_from_0, point_outside, selection_shape,
 };
-use apl_arrays::{Array, Fail, Items, List, Report, WantOfMemory};
+use apl_arrays::{Array, Fail, Items, List, NumberList, Report, WantOfMemory};
 use apl_items::{is_single, room_for};
 use std::alloc::Global;
 
@@ -297,7 +297,7 @@ fn overlaid(
     match (old, new) {
         (Items::Numbers(old), Items::Numbers(new)) => {
             let made = overlaid_list(alloc, old.as_slice(), new.as_slice(), sources)?;
-            Ok(Items::Numbers(made))
+            Ok(Items::Numbers(NumberList::from(made)))
         }
         (Items::Chars(old), Items::Chars(new)) => {
             let made = overlaid_list(alloc, old.as_slice(), new.as_slice(), sources)?;

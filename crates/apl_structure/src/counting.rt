@@ -21,7 +21,7 @@ pub fn iota(alloc: Global, b: &Array) -> Result<Array, Fail>
         None => {
             let count = lone_number(b).unsigned_abs() as usize;
             let numbers = first_numbers(alloc, count)?;
-            Ok(Array::shaped(&[count as u32], Items::Numbers(numbers)))
+            Ok(Array::shaped(&[count as u32], Items::Numbers(NumberList::from(numbers))))
         }
     }
 }
@@ -64,7 +64,7 @@ fn first_or_0(list: &[i64]) -> i64
 }
 
 /// The numbers from 1 to a count.
-fn first_numbers(alloc: Global, count: usize) -> Result<NumberList, WantOfMemory>
+fn first_numbers(alloc: Global, count: usize) -> Result<List<i64>, WantOfMemory>
     requires { count ≤ 16384 }
     ensures { IfOk result (λ list. list.items ≡ map (λ place. pos (place + 1)) (places count)) }
 {

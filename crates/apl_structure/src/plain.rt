@@ -11,11 +11,11 @@ pub fn shape_of(alloc: Global, b: &Array) -> Result<Array, Fail>
 {
     let shape = b.shape();
     let axes = numbers_of(alloc, shape)?;
-    Ok(Array::shaped(&[shape.len() as u32], Items::Numbers(axes)))
+    Ok(Array::shaped(&[shape.len() as u32], Items::Numbers(NumberList::from(axes))))
 }
 
 /// The axes of a shape as numbers.
-fn numbers_of(alloc: Global, shape: &[u32]) -> Result<NumberList, WantOfMemory>
+fn numbers_of(alloc: Global, shape: &[u32]) -> Result<List<i64>, WantOfMemory>
     ensures { IfOk result (λ list. list.items ≡ map (λ axis. pos axis) shape.now) }
 {
     let mut numbers = List::new(alloc);

@@ -45,7 +45,7 @@ pub fn replay<T: TextStore, C: Clock, K: Shelf>(
     } = replay_with(
         alloc,
         bundle,
-        ClockAux::new(alloc, clock),
+        ClockAux::new(clock),
         TextAux::new(alloc, text),
         shelves,
     );

@@ -23,6 +23,6 @@ impl Trial for ClockSessions {
         };
         let fails = calls_of(alloc, *fails)?;
         let clock = MemoryClock::new(numbers_of(alloc, *readings)?, fails);
-        answers(alloc, &mut ClockAux::new(alloc, clock), *values)
+        answers(alloc, &mut ClockAux::new(clock), *values)
     }
 }

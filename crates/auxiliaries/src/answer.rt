@@ -4,7 +4,7 @@ ghost use Rattle.auxiliaries.specs.File.{most_file_line_glyphs};
 ghost use Rattle.auxiliaries.specs.Plain.{code_number};
 ghost use Rattle.auxiliaries.specs.Protocol.{code, vector, no_line};
 
-use apl_arrays::{Array, Items, Line, NumberList, WantOfMemory};
+use apl_arrays::{Array, Items, Line, List, NumberList, WantOfMemory};
 use std::alloc::Global;
 
 /// The answers of the text auxiliary that are numbers.
@@ -36,22 +36,12 @@ impl Code {
         }
     }
 
-    /// Its number as an answer. It takes memory for it.
+    /// Its number as an answer. No memory.
     pub(crate) fn answer(self, alloc: Global) -> Result<Array, WantOfMemory>
         ensures { IfOk result (λ answer. answer ≡ scalar (code_number self)) }
     {
         Array::scalar(alloc, self.number())
     }
-}
-
-/// A number as an answer, in a list that has room for it. No memory.
-pub(crate) fn number_answer(mut list: NumberList, number: i64) -> Array
-    requires empty { list.items ≡ [] }
-    requires room { 0 < list.room }
-    ensures { result ≡ scalar number }
-{
-    list.push_reserved(number);
-    Array::shaped(&[], Items::Numbers(list))
 }
 
 /// A line as an answer. No memory.
@@ -67,5 +57,5 @@ pub(crate) fn line_answer(line: Line) -> Array
 pub(crate) fn no_line(alloc: Global) -> Array
     ensures { result ≡ no_line }
 {
-    Array::shaped(&[0], Items::Numbers(NumberList::new(alloc)))
+    Array::shaped(&[0], Items::Numbers(NumberList::from(List::new(alloc))))
 }

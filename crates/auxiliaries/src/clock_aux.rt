@@ -2,10 +2,8 @@ ghost use Rattle.std.specs.Prelude.{◌≡◌, ◌≤◌, IfOk, OnErr};
 ghost use Rattle.auxiliaries.specs.Clock.{asks_reading, RepliesByReading};
 
 use crate::Replier;
-use crate::answer::number_answer;
-use apl_arrays::{Array, Items, NumberList, WantOfMemory};
+use apl_arrays::{Array, Items, WantOfMemory};
 use apl_io::Clock;
-use std::alloc::Global;
 use std::marker::Model;
 
 /// The answer to a value that is no question.
@@ -17,7 +15,6 @@ const FAULT: i64 = -2;
 /// The clock auxiliary: who sends the number 0 gets the next reading of its clock. It is seen as this clock.
 #[derive(Debug, Drop)]
 pub struct ClockAux<C> {
-    alloc: Global,
     clock: C,
 }
 
@@ -29,27 +26,25 @@ impl<C> Model for ClockAux<C> {
 
 impl<C: Clock> ClockAux<C> {
     /// An auxiliary over this clock. No memory.
-    pub fn new(alloc: Global, clock: C) -> Self
+    pub fn new(clock: C) -> Self
         ensures { result ≡ clock }
     {
-        ClockAux { alloc, clock }
+        ClockAux { clock }
     }
 
     /// The answer to a value: to the numeric scalar 0 the next reading, or ¯2 where the clock failed; to any other value
-    /// ¯1. It takes memory for the answer, before the clock is asked; `WantOfMemory` leaves the clock as it was.
+    /// ¯1. No memory.
     pub fn reply(&mut self, value: &Array) -> Result<Array, WantOfMemory>
         ensures ok { IfOk result (λ answer. RepliesByReading C.told C.faults self.old value.now answer self.new) }
         ensures err { OnErr result (self.new ≡ self.old) }
         ensures counted { C.faults self.old ≤ C.faults self.new }
     {
-        let mut answer = NumberList::new(self.alloc);
-        answer.reserve(1)?;
         if !asks_reading(value) {
-            return Ok(number_answer(answer, REFUSED));
+            return Ok(Array::of_number(REFUSED));
         }
         match self.clock.reading() {
-            Ok(reading) => Ok(number_answer(answer, reading)),
-            Err(_) => Ok(number_answer(answer, FAULT)),
+            Ok(reading) => Ok(Array::of_number(reading)),
+            Err(_) => Ok(Array::of_number(FAULT)),
         }
     }
 

@@ -63,7 +63,7 @@ fn writes_and_reads(rt: &impl Abort, alloc: Global) -> Result<(), WantOfMemory> 
 fn tells_the_time(rt: &impl Abort, alloc: Global) -> Result<(), WantOfMemory> {
     let mut readings = Readings::new(alloc);
     readings.push(100)?;
-    let mut aux = ClockAux::new(alloc, MemoryClock::new(readings, CallNumbers::new(alloc)));
+    let mut aux = ClockAux::new(MemoryClock::new(readings, CallNumbers::new(alloc)));
     let zero = Array::scalar(alloc, 0)?;
     for number in [100, -2] {
         let found = answer(&mut aux, &zero)?;

@@ -10,11 +10,11 @@ ghost use Rattle.auxiliaries.specs.Protocol.{AfterRead, answers, reading, writin
 ghost use Rattle.auxiliaries.specs.Served.{Replies, Takes, IsReadStep, IsReplaceStep, forgotten, KeepsFiles};
 
 use crate::Replier;
-use crate::answer::{Code, line_answer, no_line, number_answer};
+use crate::answer::{Code, line_answer, no_line};
 use crate::command::{Command, command_of};
 use crate::file_text::{FILE_LIMIT, file_name, line_bytes, text_lines};
 use crate::text_state::TextState;
-use apl_arrays::{Array, Bytes, Glyph, Line, NumberList, WantOfMemory};
+use apl_arrays::{Array, Bytes, Glyph, Line, WantOfMemory};
 use apl_io::{StoreError, TextStore};
 use std::alloc::Global;
 use std::collections::VecDeque;
@@ -172,14 +172,12 @@ impl<T: TextStore> TextAux<T> {
         let TextState::Writing(name, bytes) = &self.state else {
             return Code::Refused.answer(self.alloc);
         };
-        let mut answer = NumberList::new(self.alloc);
-        answer.reserve(1)?;
         match self.store.replace(name.as_str(), bytes) {
             Ok(()) => {
                 self.forget();
-                Ok(number_answer(answer, Code::Done.number()))
+                Ok(Array::of_number(Code::Done.number()))
             }
-            Err(StoreError::Failed) => Ok(number_answer(answer, Code::Fault.number())),
+            Err(StoreError::Failed) => Ok(Array::of_number(Code::Fault.number())),
             Err(StoreError::WantOfMemory) => Err(WantOfMemory),
         }
     }

@@ -1,6 +1,6 @@
 use crate::{number_of, numbers_of, push_numbers, push_quoted, quoted, unescaped};
 use anyhow::{Context, Result, bail};
-use apl_arrays::{Array, Fail, Items, Way, glyphs_of};
+use apl_arrays::{Array, Fail, glyphs_of, Items, NumberList, Way};
 use std::alloc::{AllocError, Global};
 
 /// The axes that a text names, with blanks between.
@@ -20,7 +20,7 @@ pub(crate) fn chars_of(alloc: Global, text: &str) -> Result<Items> {
 
 fn items_of(alloc: Global, kind: &str, text: &str) -> Result<Items> {
     match kind {
-        "N" => Ok(Items::Numbers(numbers_of(alloc, text)?)),
+        "N" => Ok(Items::Numbers(NumberList::from(numbers_of(alloc, text)?))),
         "C" => chars_of(alloc, text),
         _ => bail!("no kind: {kind}"),
     }

@@ -1,5 +1,5 @@
 use anyhow::{Context, Result};
-use apl_arrays::NumberList;
+use apl_arrays::List;
 use std::alloc::{AllocError, Global};
 
 /// The number that a word says, with `¯` for a sign.
@@ -14,8 +14,8 @@ pub fn number_of(alloc: Global, word: &str) -> Result<i64> {
 }
 
 /// The numbers of a text, with blanks between, and `¯` for a sign.
-pub fn numbers_of(alloc: Global, text: &str) -> Result<NumberList> {
-    let mut numbers = NumberList::new(alloc);
+pub fn numbers_of(alloc: Global, text: &str) -> Result<List<i64>> {
+    let mut numbers = List::new(alloc);
     for word in text.split_whitespace() {
         numbers.push(number_of(alloc, word)?)?;
     }

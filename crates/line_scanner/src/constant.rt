@@ -2,7 +2,7 @@ ghost use Rattle.std.specs.Prelude.{◌≡◌, ◌≤◌, IfOk, length};
 ghost use Rattle.line_scanner.specs.Number.{next_numbers, number_with_more};
 
 use crate::number::next_number;
-use apl_arrays::{Glyph, List, NumberList, WantOfMemory};
+use apl_arrays::{Glyph, NumberList, WantOfMemory};
 use std::alloc::Global;
 
 /// The numbers of a constant whose first is known, and how many glyphs they take.
@@ -17,11 +17,10 @@ pub fn numbers_from(
     ensures value { IfOk result (λ found. (found.0.items, found.1) ≡ number_with_more (first, taken) (next_numbers taken glyphs.now)) }
     ensures within { IfOk result (λ found. (taken ≤ found.1) × (found.1 ≤ length glyphs.now)) }
 {
-    let mut numbers = List::new(alloc);
-    numbers.push(first)?;
+    let mut numbers = NumberList::one(first);
     let mut end = taken;
     while let Some((next, taken)) = next_number(&glyphs[end..]) {
-        numbers.push(next)?;
+        numbers.push(alloc, next)?;
         end += taken;
     }
     Ok((numbers, end))

@@ -4,7 +4,7 @@ ghost use Rattle.sv_text.specs.ValueReading.{integer_at, negative_at, next_integ
 
 use crate::cursor::Cursor;
 use crate::unread::Unread;
-use apl_arrays::{Glyph, List, NumberList};
+use apl_arrays::{Glyph, List};
 use std::alloc::Global;
 
 /// Reads so many numbers, with one blank between each two. It takes memory for them.
@@ -13,7 +13,7 @@ pub(crate) fn read_numbers(
     alloc: Global,
     cursor: &mut Cursor<'_>,
     count: usize,
-) -> Result<NumberList, Unread>
+) -> Result<List<i64>, Unread>
     ensures value { Gives (λ list. (list.items, cursor.new)) result (numbers_at count cursor.old) }
     ensures count { IfOk result (λ list. length list.items ≡ count) }
 {
@@ -31,7 +31,7 @@ pub(crate) fn read_numbers(
 // Reads so many numbers more, each behind a blank.
 fn add_numbers(
     cursor: &mut Cursor<'_>,
-    numbers: &mut NumberList,
+    numbers: &mut List<i64>,
     count: usize,
 ) -> Result<(), Unread>
     ensures value { Gives (λ _. (numbers.new.items, cursor.new)) result (read_behind numbers.old.items (list_at always next_integer_at count cursor.old)) }
@@ -44,7 +44,7 @@ fn add_numbers(
 }
 
 // Reads a number more, behind a blank.
-fn add_number(cursor: &mut Cursor<'_>, numbers: &mut NumberList) -> Result<(), Unread>
+fn add_number(cursor: &mut Cursor<'_>, numbers: &mut List<i64>) -> Result<(), Unread>
     ensures value { Gives (λ _. (numbers.new.items, cursor.new)) result (step_at always next_integer_at numbers.old.items cursor.old) }
     ensures one { OnOk result (length numbers.new.items ≡ length numbers.old.items + 1) }
 {

@@ -11,7 +11,7 @@ use crate::cursor::Cursor;
 use crate::numbers::read_numbers;
 use crate::shape::read_shape;
 use crate::unread::{Unread, ValueRefused};
-use apl_arrays::{Array, Items, Line, count_of_elements};
+use apl_arrays::{Array, count_of_elements, Items, Line, NumberList};
 use std::alloc::Global;
 
 /// The array whose text a line is. `BadValue` where it is no array's text, else `WantOfMemory`. It takes memory for the
@@ -83,7 +83,7 @@ fn read_number_array(alloc: Global, cursor: &mut Cursor<'_>) -> Result<Array, Un
     cursor.text(b"N(")?;
     let shape = read_shape(alloc, cursor)?;
     let numbers = read_numbers(alloc, cursor, count_of_elements(shape.as_slice()))?;
-    Ok(Array::shaped(shape.as_slice(), Items::Numbers(numbers)))
+    Ok(Array::shaped(shape.as_slice(), Items::Numbers(NumberList::from(numbers))))
 }
 
 // Reads an array of characters.

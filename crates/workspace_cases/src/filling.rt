@@ -1,6 +1,6 @@
 use crate::notation::report_of;
 use anyhow::{Context, Result, bail};
-use apl_arrays::{Array, Items, NumberList, Report};
+use apl_arrays::{Array, Items, List, NumberList, Report};
 use apl_workspace::{Seen, Workspace};
 use case_fields::name_of;
 use std::alloc::Global;
@@ -10,12 +10,12 @@ const MOST_ITEMS: usize = 16_384;
 
 // A vector of so many zeros.
 fn zeros(alloc: Global, count: usize) -> Result<Array> {
-    let mut items = NumberList::new(alloc);
+    let mut items = List::new(alloc);
     for _ in 0..count {
         items.push(0)?;
     }
     let length = u32::try_from(count)?;
-    Ok(Array::try_new(&[length], Items::Numbers(items))?)
+    Ok(Array::try_new(&[length], Items::Numbers(NumberList::from(items)))?)
 }
 
 // Assigns zeros to the name W with a number.
