@@ -124,7 +124,7 @@ pub fn glyph_at(bytes: &[u8]) -> Option<(Glyph, usize)>
 }
 
 /// The line that bytes spell in UTF-8, read in one pass. `BadGlyph` says where the first thing stands that is no
-/// glyph. It takes memory for the line.
+/// glyph. It takes memory once, as if each byte were a glyph.
 #[tactic(auto, using(crate::proofs::Spelling::bad_here, crate::proofs::Spelling::one_more))]
 pub fn glyphs_of(alloc: Global, bytes: &[u8]) -> Result<Line, GlyphRefused>
     ensures line { IfOk result (λ line. Spells bytes.now line.items) }
@@ -135,6 +135,7 @@ pub fn glyphs_of(alloc: Global, bytes: &[u8]) -> Result<Line, GlyphRefused>
         MatchResult result (λ _. ⊥) (λ why. (why ≡ GlyphRefused.BadGlyph offset) ⊎ (why ≡ GlyphRefused.WantOfMemory)) }
 {
     let mut line = List::new(alloc);
+    line.reserve(bytes.len())?;
     let mut rest = bytes;
     while let Some((glyph, taken)) = glyph_at(rest) {
         line.push(glyph)?;

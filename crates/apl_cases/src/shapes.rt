@@ -1,5 +1,8 @@
 use anyhow::{Context, Result, bail};
-use apl_arrays::{Array, ArrayRefused, count_of_elements, Glyph, Items, Line, List, NumberList, shape_fault, ShapeFault};
+use apl_arrays::{
+    Array, ArrayRefused, Glyph, Items, Line, List, NumberList, ShapeFault, count_of_elements,
+    shape_fault,
+};
 use case_fields::{array_of, array_text, axes_of};
 use case_tables::Trial;
 use std::alloc::Global;

@@ -7,7 +7,7 @@ ghost use Rattle.apl_items.specs.Shapes.{split_at, split_count};
 use crate::loops::room_for;
 use crate::moves::item_at_source;
 use crate::shapes::Split;
-use apl_arrays::{count_of_elements, Glyph, Items, List, NumberList, WantOfMemory};
+use apl_arrays::{Glyph, Items, List, NumberList, WantOfMemory, count_of_elements};
 use std::alloc::Global;
 
 /// Where the places along one axis of a result come from, for each line along that axis.

@@ -6,7 +6,7 @@ ghost use Rattle.apl_items.specs.Shapes.{coordinates_of};
 
 use crate::loops::room_for;
 use crate::moves::item_at_source;
-use apl_arrays::{count_of_elements, Glyph, Items, List, NumberList, WantOfMemory};
+use apl_arrays::{Glyph, Items, List, NumberList, WantOfMemory, count_of_elements};
 use std::alloc::Global;
 
 /// Where the places along each axis of a result come from. The source place for an item is the sum of the offsets along

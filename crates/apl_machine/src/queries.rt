@@ -17,7 +17,10 @@ use crate::interpreter::Interpreter;
 use crate::pending::Pending;
 use crate::sharing::{Wrong, is_no_addressee};
 use crate::values::Held;
-use apl_arrays::{Array, ArrayRefused, ELEMENT_LIMIT, Fail, Items, Line, List, Name, NumberList, Report, WantOfMemory};
+use apl_arrays::{
+    Array, ArrayRefused, ELEMENT_LIMIT, Fail, Items, Line, List, Name, NumberList, Report,
+    WantOfMemory,
+};
 use line_text::{add_blanks, add_glyphs};
 use std::alloc::Global;
 
@@ -47,7 +50,10 @@ impl Interpreter {
         for party in parties {
             numbers.push(i64::from(*party))?;
         }
-        let array = listed(&[capped(parties.len())], Items::Numbers(NumberList::from(numbers)))?;
+        let array = listed(
+            &[capped(parties.len())],
+            Items::Numbers(NumberList::from(numbers)),
+        )?;
         self.give(e, Held::Made(array))
     }
 

@@ -15,12 +15,16 @@ pub fn report_line(alloc: Global, report: Report) -> Result<Line, WantOfMemory>
     Ok(line)
 }
 
-/// The line as read, as a report shows it. It takes memory for the line.
+// What stands before a line as read.
+const INDENT: &str = "      ";
+
+/// The line as read, as a report shows it. It takes memory once, for the line.
 pub fn input_shown(alloc: Global, input: &[Glyph]) -> Result<Line, WantOfMemory>
     ensures { IfOk result (λ line. line.items ≡ input_shown input.now) }
 {
     let mut line = List::new(alloc);
-    add_text(&mut line, "      ")?;
+    line.reserve(input.len().saturating_add(INDENT.len()))?;
+    add_text(&mut line, INDENT)?;
     add_glyphs(&mut line, input)?;
     Ok(line)
 }

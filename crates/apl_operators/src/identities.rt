@@ -4,7 +4,7 @@ ghost use Rattle.apl_items.specs.Answers.{AnswersFirst};
 ghost use Rattle.apl_scalar.specs.Table.{row_of_dyad};
 ghost use Rattle.apl_operators.specs.Gathering.{numbers_answer};
 
-use apl_arrays::{Array, count_of_elements, Dyad, Fail, Items, NumberList, Report, shape_fault};
+use apl_arrays::{Array, Dyad, Fail, Items, NumberList, Report, count_of_elements, shape_fault};
 use apl_items::by_place;
 use apl_scalar::identity_of;
 use std::alloc::Global;

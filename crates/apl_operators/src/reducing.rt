@@ -13,7 +13,9 @@ use crate::items::{joined_by, number_in};
 use crate::lines::{LineAt, last_front};
 use crate::reduction::reduced;
 use crate::rows::numbers_by_rows;
-use apl_arrays::{Array, count_of_elements, Dyad, Fail, Glyph, Item, Items, List, NumberList, Report, Way};
+use apl_arrays::{
+    Array, Dyad, Fail, Glyph, Item, Items, List, NumberList, Report, Way, count_of_elements,
+};
 use apl_items::{Split, axis_of, joined_shape, lacks_axis};
 use apl_scalar::{character_of, dyadic_table, item_of_numbers, rules};
 use std::alloc::Global;

@@ -1,7 +1,9 @@
 ghost use Rattle.std.specs.Prelude.{◌≡◌, ◌<◌};
 
 use crate::{Steps, apply};
-use apl_arrays::{Array, Dyad, Fail, Items, List, Mix1, Mix2, Monad, NumberList, Report, Verb, WantOfMemory, Way};
+use apl_arrays::{
+    Array, Dyad, Fail, Items, List, Mix1, Mix2, Monad, NumberList, Report, Verb, WantOfMemory, Way,
+};
 use std::alloc::Global;
 use std::marker::Brand;
 use std::mem::size_of_val;

@@ -93,13 +93,7 @@ fn item_by_item(alloc: Global, f: Dyad, a: &Array, b: &Array) -> Result<Array, F
 }
 
 /// A dyadic function of the pair of items for each place.
-fn pair_items(
-    alloc: Global,
-    f: Dyad,
-    count: usize,
-    a: &Items,
-    b: &Items,
-) -> Result<List<i64>, Fail>
+fn pair_items(alloc: Global, f: Dyad, count: usize, a: &Items, b: &Items) -> Result<List<i64>, Fail>
     requires kind { is_unfit f (plain_items a.now) (plain_items b.now) ≡ false }
     requires a_reaches { Reaches (item_count (plain_items a.now)) count }
     requires b_reaches { Reaches (item_count (plain_items b.now)) count }

@@ -1,5 +1,7 @@
 use crate::{dyadic, identity_of, item_of, monadic};
-use apl_arrays::{Array, Dyad, Fail, Glyph, Item, Items, List, Monad, NumberList, Report, WantOfMemory};
+use apl_arrays::{
+    Array, Dyad, Fail, Glyph, Item, Items, List, Monad, NumberList, Report, WantOfMemory,
+};
 use std::alloc::Global;
 use std::process::Abort;
 

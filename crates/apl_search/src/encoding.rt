@@ -6,7 +6,9 @@ ghost use Rattle.apl_scalar.specs.Table.{item_where, least};
 ghost use Rattle.apl_search.specs.Encode.{AreBefore, digit_at, digit_for, digits_of, encode_faults, encode_of, encode_misfit, rest_by};
 
 use crate::numbers::small;
-use apl_arrays::{Array, ELEMENT_LIMIT, Fail, Items, List, NumberList, RANK_LIMIT, Report, WantOfMemory};
+use apl_arrays::{
+    Array, ELEMENT_LIMIT, Fail, Items, List, NumberList, RANK_LIMIT, Report, WantOfMemory,
+};
 use apl_items::joined_shape;
 use apl_scalar::read_all;
 use std::alloc::Global;

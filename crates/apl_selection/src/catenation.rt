@@ -12,7 +12,10 @@ ghost use Rattle.apl_selection.specs.Listing.{vector_shape};
 
 use crate::listing::{item_in, vector_shape, with_axis};
 use crate::strides::length_of;
-use apl_arrays::{Array, count_of_elements, Fail, Glyph, Items, List, NumberList, Report, shape_fault, WantOfMemory, Way};
+use apl_arrays::{
+    Array, Fail, Glyph, Items, List, NumberList, Report, WantOfMemory, Way, count_of_elements,
+    shape_fault,
+};
 use apl_items::{Split, axis_of, lacks_axis, room_for};
 use std::alloc::Global;
 

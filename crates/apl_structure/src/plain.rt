@@ -11,7 +11,10 @@ pub fn shape_of(alloc: Global, b: &Array) -> Result<Array, Fail>
 {
     let shape = b.shape();
     let axes = numbers_of(alloc, shape)?;
-    Ok(Array::shaped(&[shape.len() as u32], Items::Numbers(NumberList::from(axes))))
+    Ok(Array::shaped(
+        &[shape.len() as u32],
+        Items::Numbers(NumberList::from(axes)),
+    ))
 }
 
 /// The axes of a shape as numbers.

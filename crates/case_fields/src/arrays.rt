@@ -1,6 +1,6 @@
 use crate::{number_of, numbers_of, push_numbers, push_quoted, quoted, unescaped};
 use anyhow::{Context, Result, bail};
-use apl_arrays::{Array, Fail, glyphs_of, Items, NumberList, Way};
+use apl_arrays::{Array, Fail, Items, NumberList, Way, glyphs_of};
 use std::alloc::{AllocError, Global};
 
 /// The axes that a text names, with blanks between.

@@ -4,19 +4,24 @@ ghost use Rattle.apl_arrays.specs.List.{first_of, others_of};
 use apl_arrays::WantOfMemory;
 use std::alloc::Global;
 use std::marker::Model;
+use std::mem;
 
-/// A stack, seen as its items, the last one first.
+/// A stack, seen as its items, the last one first. The last one stands apart, so that one alone takes no memory.
 #[derive(Debug, Drop)]
 pub struct Stack<T> {
-    items: Vec<T>,
+    top: Option<T>,
+    below: Vec<T>,
 }
 
 impl<T> Model for Stack<T> {
-    ghost use Rattle.std.specs.Prelude.{List, reverse};
+    ghost use Rattle.std.specs.Prelude.{◌≡◌, [], List, None, reverse};
+    ghost use Rattle.line_trees.specs.Stacks.{stacked};
 
     ghost Value = { List T };
 
-    ghost view = { λ s. reverse s.items.items };
+    ghost view = { λ s. stacked s.top (reverse s.below.items) };
+
+    ghost invariant = { λ s. s.top ≡ None → s.below.items ≡ [] };
 }
 
 impl<T> Stack<T> {
@@ -25,7 +30,8 @@ impl<T> Stack<T> {
         ensures { result ≡ [] }
     {
         Stack {
-            items: Vec::new(alloc),
+            top: None,
+            below: Vec::new(alloc),
         }
     }
 
@@ -35,7 +41,7 @@ impl<T> Stack<T> {
         T: Copy,
         ensures { result ≡ first_of self.now }
     {
-        self.items.last().copied()
+        self.top
     }
 
     /// Takes the last item off. No memory.
@@ -43,7 +49,7 @@ impl<T> Stack<T> {
         ensures top { result ≡ first_of self.old }
         ensures rest { self.new ≡ others_of self.old }
     {
-        self.items.pop()
+        mem::replace(&mut self.top, self.below.pop())
     }
 
     /// Adds an item. It takes memory where there is no room.
@@ -52,7 +58,9 @@ impl<T> Stack<T> {
         T: Drop,
         ensures { OnOk result (self.new ≡ item ∷ self.old) }
     {
-        self.items.push(item)?;
+        if let Some(below) = mem::replace(&mut self.top, Some(item)) {
+            self.below.push(below)?;
+        }
         Ok(())
     }
 }

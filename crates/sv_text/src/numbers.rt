@@ -29,11 +29,7 @@ pub(crate) fn read_numbers(
 }
 
 // Reads so many numbers more, each behind a blank.
-fn add_numbers(
-    cursor: &mut Cursor<'_>,
-    numbers: &mut List<i64>,
-    count: usize,
-) -> Result<(), Unread>
+fn add_numbers(cursor: &mut Cursor<'_>, numbers: &mut List<i64>, count: usize) -> Result<(), Unread>
     ensures value { Gives (λ _. (numbers.new.items, cursor.new)) result (read_behind numbers.old.items (list_at always next_integer_at count cursor.old)) }
     ensures count { OnOk result (length numbers.new.items ≡ length numbers.old.items + count) }
 {

@@ -11,7 +11,7 @@ use crate::cursor::Cursor;
 use crate::numbers::read_numbers;
 use crate::shape::read_shape;
 use crate::unread::{Unread, ValueRefused};
-use apl_arrays::{Array, count_of_elements, Items, Line, NumberList};
+use apl_arrays::{Array, Items, Line, NumberList, count_of_elements};
 use std::alloc::Global;
 
 /// The array whose text a line is. `BadValue` where it is no array's text, else `WantOfMemory`. It takes memory for the

@@ -7,7 +7,7 @@ use Rattle.line_scanner.proofs.constant.numbers_from.Goals as goal
 pub loop-next-preserved : goal.loop-next-preserved
 loop-next-preserved c =
     let fits : FitsSigned w64 c.in-Some.next = search rules in
-    reads_on _ _ _ _ _ _ _ _ _ c.in-Some.ensures.value c.in-Some.ensures.within c.in_ok-push-2.ensures.ok (to_z-of_z w64 c.in-Some.next fits) c.loop-next.invariant
+    reads_on _ _ _ _ _ _ _ _ _ c.in-Some.ensures.value c.in-Some.ensures.within c.in_ok-push.ensures.ok (to_z-of_z w64 c.in-Some.next fits) c.loop-next.invariant
 
 pub returns-clause-value : goal.returns-clause-value
 returns-clause-value c =
