@@ -1,14 +1,14 @@
 ghost use Rattle.std.specs.Prelude.{◌≡◌, IfOk, map};
 ghost use Rattle.std.specs.List.{list_all};
-ghost use Rattle.apl_meaning.specs.Reading.{argument_count, classes_of};
+ghost use Rattle.apl_meaning.specs.Reading.{classes_of};
 ghost use Rattle.line_scanner.specs.Token.{plain_kind, plain_token};
 ghost use Rattle.apl_workspace.specs.Seen.{plain_seen};
 ghost use Rattle.apl_workspace.specs.Workspace.{look};
 ghost use Rattle.apl_machine.specs.Classing.{AreEnough, counted, is_told, is_token_told, same_count};
 
 use apl_arrays::{Name, WantOfMemory};
-use apl_meaning::classes_of;
-use apl_workspace::{Function, Seen, Workspace};
+use apl_meaning::{argument_count, classes_of};
+use apl_workspace::{Seen, Workspace};
 use line_scanner::{Token, TokenKind, Tokens};
 use line_trees::{Class, Classes};
 use std::alloc::Global;
@@ -133,19 +133,5 @@ fn same_count(one: Option<u8>, other: Option<u8>) -> bool
         (None, None) => true,
         (Some(one), Some(other)) => one == other,
         _ => false,
-    }
-}
-
-// How many arguments a function takes.
-fn argument_count(function: &Function) -> u8
-    ensures { result ≡ argument_count function.now.header }
-{
-    let header = function.header();
-    if header.left.is_some() {
-        2
-    } else if header.right.is_some() {
-        1
-    } else {
-        0
     }
 }

@@ -55,8 +55,8 @@ fn class_seen(name: Name, seen: Seen<'_>) -> Option<Class>
     }
 }
 
-// How many arguments a function takes.
-fn argument_count(function: &Function) -> u8
+/// How many arguments a function takes. No memory.
+pub fn argument_count(function: &Function) -> u8
     ensures { result ≡ argument_count function.now.header }
 {
     let header = function.header();

@@ -6,5 +6,5 @@ pub mod laws;
 mod reports;
 pub mod worked;
 
-pub use classes::classes_of;
+pub use classes::{argument_count, classes_of};
 pub use reports::{function_line_shown, input_shown, report_line};
