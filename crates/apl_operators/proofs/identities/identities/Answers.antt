@@ -1,5 +1,6 @@
-use Rattle.std.proofs.Common.{◌≡◌, ◌∙◌, sym}
+use Rattle.std.proofs.Common.{◌≡◌, ◌∙◌, ℤ, List, ap, sym}
 use Rattle.std.proofs.lemmas.Result.{err_from_is_err_and}
+use Rattle.apl_arrays.specs.Array.{number_array}
 use Rattle.apl_scalar.specs.Table.{row_of_dyad}
 use Rattle.apl_operators.specs.Gathering.{numbers_answer}
 use Rattle.apl_operators.proofs.NumberLemmas.{answers_through, identities_made, identities_refused, none_is, refused_by_place}
@@ -20,4 +21,4 @@ returns-in_err-items c =
 pub returns : goal.returns
 returns c =
     identities_made c.args.shape.now _ c.in_ok-items.items.items c.shaped.result (sym c.shape_fault.ensures ∙ none_is c.shape_fault.result (sym c.if-is_some.ensures))
-    c.count_of_elements.result c.count_of_elements.ensures c.in_ok-items.ensures.whole c.in_ok-items.ensures.items c.shaped.ensures
+    c.count_of_elements.result c.count_of_elements.ensures c.in_ok-items.ensures.whole c.in_ok-items.ensures.items (c.shaped.ensures ∙ ap (λ (list : List ℤ). number_array c.args.shape.now list) c.from.ensures)

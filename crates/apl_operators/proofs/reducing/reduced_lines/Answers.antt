@@ -10,7 +10,7 @@ pub shaped-requires-clause-whole : goal.shaped-requires-clause-whole
 shaped-requires-clause-whole c =
     let zero : item_count (plain_items c.items.result.now) ≡ 0 = first_of (search rules, grind (arith, c.if-is_empty.ensures)) in
     let none : element_count c.args.b.now.shape ≡ 0 = c.items.ensures.array.whole ∙ ap item_count (sym c.items.ensures.value) ∙ zero in
-    ap element_count c.requires.shape ∙ no_lines c.args.axis c.args.b.now.shape c.requires.axis c.requires.some none ∙ sym (ap (λ (xs : List ℤ). length xs) c.new.ensures)
+    ap element_count c.requires.shape ∙ no_lines c.args.axis c.args.b.now.shape c.requires.axis c.requires.some none ∙ sym (ap (λ (xs : List ℤ). length xs) (c.from.ensures ∙ c.new.ensures))
 
 pub returns-then-is_empty : goal.returns-then-is_empty
 returns-then-is_empty c =
@@ -18,7 +18,7 @@ returns-then-is_empty c =
     let none : element_count c.args.b.now.shape ≡ 0 = c.items.ensures.array.whole ∙ ap item_count (sym c.items.ensures.value) ∙ zero in
     let array : List ℤ → PlainArray = λ xs. record { shape = c.args.shape.now; items = numbers xs } in
     no_lines_made c.args.f c.args.b.now c.shaped.result c.args.axis c.args.shape.now c.requires.shape c.requires.fits
-    (ap element_count c.requires.shape ∙ no_lines c.args.axis c.args.b.now.shape c.requires.axis c.requires.some none) (c.shaped.ensures ∙ ap array c.new.ensures)
+    (ap element_count c.requires.shape ∙ no_lines c.args.axis c.args.b.now.shape c.requires.axis c.requires.some none) (c.shaped.ensures ∙ ap array (c.from.ensures ∙ c.new.ensures))
 
 pub lines_of_items-requires-clause-whole : goal.lines_of_items-requires-clause-whole
 lines_of_items-requires-clause-whole c =

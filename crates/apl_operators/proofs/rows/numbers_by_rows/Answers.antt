@@ -1,6 +1,6 @@
-use Rattle.std.proofs.Common.{◌≡◌, ◌*◌, ◌∙◌, is_some, Ok, refl, sym, ap}
+use Rattle.std.proofs.Common.{◌≡◌, ◌*◌, ◌∙◌, ℤ, List, is_some, Ok, refl, sym, ap}
 use Rattle.std.proofs.lemmas.Result.{err_from_is_err_and}
-use Rattle.apl_arrays.specs.Array.{PlainArray}
+use Rattle.apl_arrays.specs.Array.{PlainArray, number_array}
 use Rattle.apl_items.specs.Answers.{Answer}
 use Rattle.apl_items.specs.Places.{AtPlace}
 use Rattle.apl_items.proofs.PlaceLemmas.{nothing_lacks_at, something_lacks}
@@ -23,7 +23,7 @@ returns-in_ok-items g c item follows =
     let given : PlainArray → Answer = λ array. Ok array in
     numbers_made c.args.shape.now (c.args.rows * c.args.columns) item c.in_ok-items.items.items (sym c.shape_fault.ensures ∙ none_is c.shape_fault.result c.if-is_none.ensures) c.requires.count
     (record { whole = c.in_ok-items.ensures.whole; each = λ place below. follows place _ below (c.in_ok-items.ensures.items place below) })
-    ∙ ap given (sym c.shaped.ensures)
+    ∙ ap given (sym (c.shaped.ensures ∙ ap (λ (list : List ℤ). number_array c.args.shape.now list) c.from.ensures))
 
 pub returns-then-lacks_by_rows : goal.returns-then-lacks_by_rows
 returns-then-lacks_by_rows g c item follows =

@@ -1,4 +1,4 @@
-use Rattle.std.proofs.Common.{◌≡◌, ◌<◌, ◌∙◌, List, ℕ, sym, ap, arith}
+use Rattle.std.proofs.Common.{◌≡◌, ◌<◌, ◌∙◌, List, ℕ, ℤ, sym, ap, arith}
 use Rattle.std.proofs.lemmas.Result.{err_from_is_err_and}
 use Rattle.apl_arrays.specs.Array.{PlainArray, PlainItems, chars, item_count, numbers, plain_items}
 use Rattle.apl_items.specs.Shapes.{split_at, split_count}
@@ -40,7 +40,7 @@ returns-in_ok-items-in-Numbers c =
     let split : c.at-split.result ≡ split_at c.args.b.now.shape c.args.axis = c.at-split.ensures ∙ ap (λ (s : List ℕ). split_at s c.args.axis) c.shape.ensures.value in
     let is : c.args.b.now.items ≡ numbers c.as_slice.result.now = sym c.items.ensures.value ∙ sym (numbers_are c.items.result.now c.in-Numbers.list c.as_slice.result.now c.in-Numbers.is c.as_slice.ensures) in
     scan_made c.args.f c.args.b.now c.shaped.result c.args.axis c.as_slice.result.now c.in_ok-items-in-Numbers.items.items c.at-split.result c.items.ensures.array is split c.in_ok-items-in-Numbers.ensures.made
-    (c.shaped.ensures ∙ ap (λ (shape : List ℕ). array_of shape (numbers c.in_ok-items-in-Numbers.items.items)) c.shape-in-Numbers.ensures.value)
+    (c.shaped.ensures ∙ ap (λ (list : List ℤ). array_of c.shape-in-Numbers.result.now (numbers list)) c.from.ensures ∙ ap (λ (shape : List ℕ). array_of shape (numbers c.in_ok-items-in-Numbers.items.items)) c.shape-in-Numbers.ensures.value)
 
 pub returns-in_err-copy-in-Chars : goal.returns-in_err-copy-in-Chars
 returns-in_err-copy-in-Chars c =

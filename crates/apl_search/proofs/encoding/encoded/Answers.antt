@@ -17,12 +17,12 @@ pub shaped-requires-clause-whole : goal.shaped-requires-clause-whole
 shaped-requires-clause-whole c =
     let out = (fine_digits c.args.a.now c.args.b.now _ _ c.numbers-bases.result.now c.numbers-numbers.result.now c.requires c.items.ensures.array c.items-2.ensures.array
     c.numbers-bases.ensures c.items.ensures.value c.numbers-numbers.ensures c.items-2.ensures.value).0 in
-    ap element_count (joined_is c.args.a.now c.args.b.now c.as_slice.result.now c.joined_shape-shape.result.items c.shape.result.now c.shape-2.result.now c.as_slice.ensures.value c.joined_shape-shape.ensures c.shape.ensures.value c.shape-2.ensures.value)
-    ∙ count_of c.args.a.now c.args.b.now c.numbers-bases.result.now c.numbers-numbers.result.now out ∙ sym c.in_ok-digits.ensures.whole
+    rw c.from.ensures (ap element_count (joined_is c.args.a.now c.args.b.now c.as_slice.result.now c.joined_shape-shape.result.items c.shape.result.now c.shape-2.result.now c.as_slice.ensures.value c.joined_shape-shape.ensures c.shape.ensures.value c.shape-2.ensures.value)
+    ∙ count_of c.args.a.now c.args.b.now c.numbers-bases.result.now c.numbers-numbers.result.now out ∙ sym c.in_ok-digits.ensures.whole)
 
 pub returns : goal.returns
 returns c =
     let out = (fine_digits c.args.a.now c.args.b.now _ _ c.numbers-bases.result.now c.numbers-numbers.result.now c.requires c.items.ensures.array c.items-2.ensures.array
     c.numbers-bases.ensures c.items.ensures.value c.numbers-numbers.ensures c.items-2.ensures.value).0 in
-    c.shaped.ensures ∙ digits_whole c.args.a.now c.args.b.now c.numbers-bases.result.now c.numbers-numbers.result.now c.as_slice.result.now c.in_ok-digits.digits.items out
-    (joined_is c.args.a.now c.args.b.now c.as_slice.result.now c.joined_shape-shape.result.items c.shape.result.now c.shape-2.result.now c.as_slice.ensures.value c.joined_shape-shape.ensures c.shape.ensures.value c.shape-2.ensures.value) c.in_ok-digits.ensures.items
+    c.shaped.ensures ∙ rw c.from.ensures (digits_whole c.args.a.now c.args.b.now c.numbers-bases.result.now c.numbers-numbers.result.now c.as_slice.result.now c.in_ok-digits.digits.items out
+    (joined_is c.args.a.now c.args.b.now c.as_slice.result.now c.joined_shape-shape.result.items c.shape.result.now c.shape-2.result.now c.as_slice.ensures.value c.joined_shape-shape.ensures c.shape.ensures.value c.shape-2.ensures.value) c.in_ok-digits.ensures.items)
