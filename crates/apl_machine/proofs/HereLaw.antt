@@ -64,7 +64,7 @@ begun_is w frames (first ∷ others) waiting are is = by first.number refl (begu
 
 -- ---- nothing waits
 
-nobody : (w : PlainWorkspace) (input : List ℕ) (callers : List Waiting) → stack_of w input callers ≡ [] → callers ≡ []
+pub nobody : (w : PlainWorkspace) (input : List ℕ) (callers : List Waiting) → stack_of w input callers ≡ [] → callers ≡ []
 nobody w input [] none = refl
 nobody w input (waiting ∷ others) none = absurd (let no : waiting_of w input waiting (stack_of w input others) ∷ stack_of w input others ≡ [] = none in cc)
 

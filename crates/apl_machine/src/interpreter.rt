@@ -1,4 +1,5 @@
-ghost use Rattle.std.specs.Prelude.{◌≡◌, [], IfOk};
+ghost use Rattle.std.specs.Prelude.{◌≡◌, [], IfOk, OnErr, OnOk};
+ghost use Rattle.apl_workspace.specs.Workspace.{empty_workspace};
 ghost use Rattle.apl_machine.specs.Machine.{idle_on};
 ghost use Rattle.apl_machine.specs.Pending.{IsPending, act_of, plain_pending};
 
@@ -50,13 +51,39 @@ impl Interpreter {
             callers: Vec::new(alloc),
         }
     }
-    /// A line is to begin, in which so many statements may be begun. No memory.
-    pub fn begin(&mut self, input: Line, statements: u32)
-        requires { self.old.stack ≡ [] }
-        ensures { self.new ≡ record self.old { statements = statements; input = input.items } }
+
+    /// Nothing is under way on this workspace; what was there goes. No memory.
+    pub fn renew_on(&mut self, workspace: Workspace)
+        requires none { self.old.stack ≡ [] }
+        requires frames { workspace.frames ≡ [] }
+        ensures { self.new ≡ (idle_on workspace).interpreter }
     {
-        self.input = input;
+        self.workspace = workspace;
+        self.output = LineList::new(self.alloc);
+        self.statements = 0;
+        self.input.clear();
+    }
+
+    /// Takes the workspace while nothing is under way, and has an empty one then. No memory.
+    pub fn take_workspace(&mut self) -> Workspace
+        requires none { self.old.stack ≡ [] }
+        requires frames { self.old.workspace.frames ≡ [] }
+        ensures taken { result ≡ self.old.workspace }
+        ensures left { self.new ≡ record self.old { workspace = empty_workspace } }
+    {
+        mem::replace(&mut self.workspace, Workspace::new(self.alloc))
+    }
+
+    /// A line is to begin, in which so many statements may be begun. It takes memory for the line where it is not as long
+    /// as the one before. `WantOfMemory` leaves all as it was.
+    pub fn begin(&mut self, input: &Line, statements: u32) -> Result<(), WantOfMemory>
+        requires { self.old.stack ≡ [] }
+        ensures ok { OnOk result (self.new ≡ record self.old { statements = statements; input = input.now.items }) }
+        ensures err { OnErr result (self.new ≡ self.old) }
+    {
+        self.input.renew(self.alloc, input)?;
         self.statements = statements;
+        Ok(())
     }
 
     /// The lines that were not taken yet. No memory.

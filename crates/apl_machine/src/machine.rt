@@ -78,11 +78,17 @@ impl Machine {
         ensures stands { OnOk result (Stands self.new (line_tree_of (plain_tree tree)) line.now.items self.old.interpreter.workspace self.old.interpreter.output [] 0 []) }
         ensures err { OnErr result (self.new ≡ self.old) }
     {
-        let input = line.copy(self.interpreter.alloc)?;
         let reading = Reading::of(self.interpreter.alloc, tree)?;
-        self.interpreter.begin(input, STATEMENT_LIMIT);
-        self.stage = Stage::Begins(reading);
-        Ok(())
+        match self.interpreter.begin(line, STATEMENT_LIMIT) {
+            Ok(()) => {
+                self.stage = Stage::Begins(reading);
+                Ok(())
+            }
+            Err(WantOfMemory) => {
+                discard(reading);
+                Err(WantOfMemory)
+            }
+        }
     }
 
     /// Goes on to the next act, or to the end of the line. Each application of a function counts one step. It takes the
@@ -124,6 +130,26 @@ impl Machine {
         ensures stands { StandsOn self.old 0 [] result.items self.new }
     {
         self.interpreter.take_output()
+    }
+
+    /// An idle machine is on this workspace from now on, as a new one would be; what it had goes. No memory.
+    pub fn renew(&mut self, workspace: Workspace)
+        requires idle { IsIdle self.old }
+        requires frames { workspace.frames ≡ [] }
+        ensures { self.new ≡ idle_on workspace }
+    {
+        self.interpreter.renew_on(workspace);
+        self.stage = Stage::Idle;
+    }
+
+    /// Takes the workspace of an idle machine, which has an empty one then. No memory.
+    pub fn take_workspace(&mut self) -> Workspace
+        requires { IsIdle self.old }
+        ensures taken { result ≡ self.old.interpreter.workspace }
+        ensures idle { IsIdle self.new }
+    {
+        self.stage = Stage::Idle;
+        self.interpreter.take_workspace()
     }
 
     /// The workspace. No memory.
@@ -201,3 +227,5 @@ impl Machine {
         }
     }
 }
+
+fn discard(_reading: Reading) {}

@@ -18,8 +18,8 @@ pub invariant_of-self : goal.invariant_of-self
 invariant_of-self c =
     is_reading (classes_of c.args.self.now.interpreter.workspace) c.requires.tree.tokens (length c.args.line.now.items) (plain_tree c.args.tree) c.in_ok-reading.reading c.requires.tree.nodes c.in_ok-reading.ensures.tree c.in_ok-reading.ensures.parts
 
-pub returns-clause-stands : goal.returns-clause-stands
-returns-clause-stands c =
+pub returns-in-Ok-clause-stands : goal.returns-in-Ok-clause-stands
+returns-in-Ok-clause-stands c =
     let m : PlainMachine = c.args.self.now in
     let i : PlainInterpreter = c.self.inside.interpreter in
     let line : List ℕ = c.args.line.now.items in
@@ -28,8 +28,7 @@ returns-clause-stands c =
     let reset : PlainInterpreter → List ℕ → PlainInterpreter = λ x input. record x { statements = most_statements; input = input } in
     let made : PlainInterpreter → PlainTree → PlainMachine = λ x t. record { interpreter = x; stage = begins t } in
     let is : plain_machine after ≡ machine_before line tree m =
-    ap (λ (x : PlainInterpreter). made x (reading_tree c.in_ok-reading.reading)) c.begin.ensures
-    ∙ ap (λ (input : List ℕ). made (reset i input) (reading_tree c.in_ok-reading.reading)) c.in_ok-input.ensures
+    ap (λ (x : PlainInterpreter). made x (reading_tree c.in_ok-reading.reading)) c.in-Ok.ensures.ok
     ∙ ap (λ (t : PlainTree). made (reset i line) t) c.in_ok-reading.ensures.tree
     ∙ ap (λ (x : PlainMachine). made (reset x.interpreter line) tree) c.self.view_is in
     subst (λ (x : PlainMachine). Stands x (line_tree_of tree) line m.interpreter.workspace m.interpreter.output [] 0 []) (sym is) (stands_at_its_beginning m line tree c.requires.idle.stack)
