@@ -1,4 +1,4 @@
-ghost use Rattle.std.specs.Prelude.{◌≡◌, Ok, Err, [], IfOk, IfErr, OnOk, List};
+ghost use Rattle.std.specs.Prelude.{◌≡◌, Ok, Err, [], ◌∷◌, ◌++◌, IfOk, IfErr, OnOk, List};
 ghost use Rattle.line_scanner.specs.Token.{plain_kind, plain_token};
 ghost use Rattle.line_trees.specs.Marks.{marks_from, changed, step};
 ghost use Rattle.line_trees.specs.Symbols.{symbol_of};
@@ -9,8 +9,9 @@ use crate::stack::Stack;
 use crate::symbol::{Symbol, name_symbol, sign_symbol, system_symbol};
 use crate::tree::Mark;
 use crate::{Classes, ParseRefused};
-use apl_arrays::{List, WantOfMemory};
+use apl_arrays::WantOfMemory;
 use line_scanner::{TokenKind, Tokens};
+use smallvec::SmallVec;
 use std::alloc::Global;
 
 fn make_change(brackets: &mut Stack<Bracket>, change: Change) -> Result<(), WantOfMemory>
@@ -38,24 +39,35 @@ fn step_of(classes: &Classes, mode: Mode, top: Option<Bracket>, kind: &TokenKind
     }
 }
 
-/// What each token does in its line.
+/// Marks, of which those of a short line take no memory.
+pub type Marks = SmallVec<Mark, 24>;
+
+// Adds a mark. It takes memory where there is no room.
+fn add_mark(marks: &mut Marks, mark: Mark) -> Result<(), WantOfMemory>
+    ensures { OnOk result (marks.new.items ≡ marks.old.items ++ mark ∷ []) }
+{
+    marks.push(mark)?;
+    Ok(())
+}
+
+/// What each token does in its line. It takes memory for the marks of a long line.
 #[tactic(auto, using(crate::proofs::Loops::marking))]
 pub fn marks_of(
     alloc: Global,
     tokens: &Tokens,
     classes: &Classes,
-) -> Result<List<Mark>, ParseRefused>
+) -> Result<Marks, ParseRefused>
     ensures marks { IfOk result (λ marks. marks_from classes.now.items tokens.now.length (Mode.Begins Before.Line) [] tokens.now.tokens.items ≡ Ok marks.items) }
     ensures refused { IfErr result (λ refused. IsMarkRefusal refused (marks_from classes.now.items tokens.now.length (Mode.Begins Before.Line) [] tokens.now.tokens.items)) }
 {
-    let mut marks = List::new(alloc);
+    let mut marks = Marks::new(alloc);
     let mut brackets = Stack::new(alloc);
     let mut mode = Mode::Begins(Before::Line);
     for token in tokens.tokens.as_slice() {
         let Some(next) = step_of(classes, mode, brackets.top(), &token.kind) else {
             return Err(ParseRefused::SyntaxError(token.at));
         };
-        marks.push(next.mark)?;
+        add_mark(&mut marks, next.mark)?;
         make_change(&mut brackets, next.change)?;
         mode = next.mode;
     }

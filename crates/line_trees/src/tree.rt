@@ -58,8 +58,9 @@ pub struct Tree {
 }
 
 /// What a token does in its line.
-#[derive(Clone, Copy, Debug, PartialEq, Eq)]
+#[derive(Clone, Copy, Debug, Default, PartialEq, Eq)]
 pub enum Mark {
+    #[default]
     Constant,
     /// A name that is a value, a target or a label.
     Name,
