@@ -7,6 +7,7 @@ mod outcome;
 mod progress;
 mod receipts;
 mod session;
+mod spare;
 #[cfg(test)]
 mod tests;
 mod transcripts;
