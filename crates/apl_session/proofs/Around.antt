@@ -1,6 +1,6 @@
 -- The session around its inside, as its drivers see it.
-use Rattle.std.proofs.Common.{◌≡◌, ◌≢◌, ℕ, List, [], ◌∷◌, ◌++◌, IsTrue, not, refl, sym, ap, subst, ◌∙◌}
-use Rattle.std.specs.Prelude.{Option, Some, None}
+use Rattle.std.proofs.Common.{◌≡◌, ◌≢◌, ℕ, List, [], ◌∷◌, ◌++◌, IsTrue, not, sym, ap, subst, ◌∙◌}
+use Rattle.std.specs.Prelude.{Some}
 use Rattle.sv_events.specs.Answer.{PlainAnswer}
 use Rattle.sv_events.specs.declared.event.Act.{Act}
 use Rattle.sv_rules.specs.Entries.{is_leave}
@@ -8,7 +8,7 @@ use Rattle.session_rules.specs.Session.{session_of}
 use Rattle.session_rules.proofs.Taking.{none_leaves}
 use Rattle.apl_session.specs.PlainSession.{PlainSession}
 use Rattle.apl_session.specs.Receipts.{PlainReceipt, acts_in, answers_in}
-use Rattle.apl_session.specs.Standing.{ComesTo, IsAnswered, IsOpenLine, IsSession, MayAdvance, StandsIn}
+use Rattle.apl_session.specs.Standing.{ComesTo, IsAnswered, IsOpenLine, IsSession, MayAdvance, StandsIn, open_act}
 use Rattle.apl_session.specs.Wants.{HasHeardAll, MayGoOn, stage_by}
 use Rattle.apl_session.specs.declared.progress.Progress.{Progress}
 use Rattle.apl_session.specs.declared.session.Stage.{Stage}
@@ -40,14 +40,14 @@ pub goes_inside : {K : Type 0} → (s : PlainSession K) (user : ℕ) (lines : Li
 goes_inside s user lines receipts p at shelf is may alive h = may_advance lines receipts p at (h alive) (subst MayGoOn (sym (ap (λ (one : PlainSession _). one.stage) is)) may)
 
 -- what came of one that went on
-pub record Went {K : Type 0} (s : PlainSession K) (lines : List (List ℕ)) (receipts : List PlainReceipt) (after : Progress) (asked : Option Act) : Type 0 where
-  pub session : IsSession lines receipts after (stage_by asked)
-  pub waits : asked ≡ (session_of s.lines s.answers).waits
+pub record Went {K : Type 0} (s : PlainSession K) (lines : List (List ℕ)) (receipts : List PlainReceipt) (after : Progress) : Type 0 where
+  pub session : IsSession lines receipts after (stage_by (open_act after.under_way))
+  pub waits : open_act after.under_way ≡ (session_of s.lines s.answers).waits
 
-pub went_on : {K : Type 0} → (s : PlainSession K) (user : ℕ) (lines shown : List (List ℕ)) (receipts : List PlainReceipt) (before after : Progress) (at : Stage) (shelf : K) (asked : Option Act) → seen user lines receipts at shelf ≡ s → at ≢ stage.Failed
-    → IfAlive lines receipts before at → shown ≡ lines → ((answers : List PlainAnswer) → StandsIn shown answers before → ComesTo shown answers asked after) → Went s lines receipts after asked
-went_on s user lines shown receipts before after at shelf asked is alive h same goes =
-    let on = gone_on lines shown receipts before after at asked same (h alive) goes in
+pub went_on : {K : Type 0} → (s : PlainSession K) (user : ℕ) (lines shown : List (List ℕ)) (receipts : List PlainReceipt) (before after : Progress) (at : Stage) (shelf : K) → seen user lines receipts at shelf ≡ s → at ≢ stage.Failed
+    → IfAlive lines receipts before at → shown ≡ lines → ((answers : List PlainAnswer) → StandsIn shown answers before → ComesTo shown answers after) → Went s lines receipts after
+went_on s user lines shown receipts before after at shelf is alive h same goes =
+    let on = gone_on lines shown receipts before after at same (h alive) goes in
     record { session = on.0; waits = sym on.1 ∙ ap (λ (one : PlainSession _). (session_of one.lines one.answers).waits) is }
 
 -- no act that it asks is a leave

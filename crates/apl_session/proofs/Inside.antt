@@ -1,9 +1,9 @@
 -- What each call does to the inside of a session.
-use Rattle.std.proofs.Common.{◌≡◌, ◌≢◌, ℕ, ◌+◌, ◌≤◌, Bool, true, false, List, [], ◌∷◌, ◌++◌, drop, length, refl, sym, ap, subst, ◌∙◌, append-nil, arith}
+use Rattle.std.proofs.Common.{◌≡◌, ℕ, ◌+◌, ◌≤◌, Bool, true, false, List, [], ◌∷◌, ◌++◌, drop, length, refl, sym, ap, subst, ◌∙◌, append-nil}
 use Rattle.std.proofs.lemmas.List.{drop-drop, drop_all, map_push}
-use Rattle.std.specs.Prelude.{Option, Some, None, map, if◌then◌else◌}
+use Rattle.std.specs.Prelude.{Some, None, if◌then◌else◌}
 use Rattle.apl_arrays.specs.declared.report.Report.{Report}
-use Rattle.apl_machine.specs.Machine.{PlainMachine, IsOpenAct, MayRun, silent}
+use Rattle.apl_machine.specs.Machine.{PlainMachine, silent}
 use Rattle.apl_machine.specs.Runs.{AsksThere, EndsBy, EndsDone, StandsOn}
 use Rattle.apl_meaning.specs.Meaning.{most_statements}
 use Rattle.apl_workspace.specs.Workspace.{PlainWorkspace}
@@ -18,8 +18,8 @@ use Rattle.apl_terminal.specs.Terminal.{PlainTerminal, echoing, editing, free_pr
 use Rattle.session_rules.specs.Course.{Course, with_terminal}
 use Rattle.session_rules.specs.Session.{free_line, line_by, lines_done, session_of, statement_done}
 use Rattle.session_rules.proofs.Taking.{next_is_taken, none_asked}
-use Rattle.apl_session.specs.Receipts.{PlainReceipt, acts_in, answers_in}
-use Rattle.apl_session.specs.Standing.{Asked, ComesTo, GoesOn, IsAnswered, IsAsking, IsAt, IsBetween, IsFree, IsOpenLine, IsSession, IsThisFar, IsUnderWay, MayAdvance, StandsBy, StandsIn, Waits, course_at}
+use Rattle.apl_session.specs.Receipts.{PlainReceipt, answers_in}
+use Rattle.apl_session.specs.Standing.{ComesTo, IsAnswered, IsAsking, IsAt, IsBetween, IsOpenLine, IsPaused, IsSession, IsThisFar, IsUnderWay, MayAdvance, StandsBy, StandsIn, Waits, course_at, open_act}
 use Rattle.apl_session.specs.Wants.{HasHeardAll, MayGoOn, stage_by}
 use Rattle.apl_session.specs.declared.progress.Progress.{Progress}
 use Rattle.apl_session.specs.declared.session.Stage.{Stage}
@@ -30,12 +30,9 @@ use Rattle.apl_session.proofs.Going.{at_terminal, goes_asking, goes_done, goes_r
 
 -- ---- lines
 
--- between lines, nothing is under way and nothing was asked
-pub rests : (lines : List (List ℕ)) (answers : List PlainAnswer) (p : Progress) → p.under_way ≡ under_way.Nothing → IsBetween lines answers p.read p.terminal → GoesOn lines answers None p
-rests lines answers p nothing h = record {
-  stands = subst (λ (u : UnderWay). StandsBy lines answers p.read p.terminal u) (sym nothing) h;
-  paused = subst (λ (u : UnderWay). Asked u None) (sym nothing) refl;
-}
+-- between lines, nothing is under way
+pub rests : (lines : List (List ℕ)) (answers : List PlainAnswer) (p : Progress) → p.under_way ≡ under_way.Nothing → IsBetween lines answers p.read p.terminal → StandsIn lines answers p
+rests lines answers p nothing h = subst (λ (u : UnderWay). StandsBy lines answers p.read p.terminal u) (sym nothing) h
 
 -- where nothing is under way a session stands between two lines
 pub between_of : (lines : List (List ℕ)) (answers : List PlainAnswer) (p : Progress) → p.under_way ≡ under_way.Nothing → StandsIn lines answers p → IsBetween lines answers p.read p.terminal
@@ -86,13 +83,7 @@ statement_at lines line answers read t opens h = subst (λ (b : Bool). IsAt line
 
 -- ---- a run of the machine
 
--- an act that waits for its answer was asked
-asked_so : (u : UnderWay) (m : PlainMachine) (act : Act) → Waits m act u → Asked u (Some act)
-asked_so under_way.Nothing m act waits = absurd waits
-asked_so (under_way.Asking b asked) m act waits = ap (λ (a : Act). Some a) (sym waits.1)
-asked_so (under_way.Answered b) m act waits = absurd waits
-
--- and its line stands as the machine does
+-- where an act waits for its answer, its line stands as the machine does
 asked_by : (lines : List (List ℕ)) (answers : List PlainAnswer) (read : ℕ) (t : PlainTerminal) (u : UnderWay) (m : PlainMachine) (act : Act) → Waits m act u → t.definition ≡ None → IsUnderWay lines answers read t.transcript m → IsAsking lines answers t.transcript m act
     → StandsBy lines answers read t u
 asked_by lines answers read t under_way.Nothing m act waits free here asking = absurd waits
@@ -105,7 +96,7 @@ asked_by lines answers read t (under_way.Answered b) m act waits free here askin
 
 -- a run that asked an act
 pub asked_on : (lines : List (List ℕ)) (answers : List PlainAnswer) (read counted : ℕ) (act : Act) (m n after : PlainMachine) (p : Progress) (t : PlainTerminal) → t.definition ≡ None → AsksThere act m counted n → after ≡ silent n
-    → StandsOn n 0 [] n.interpreter.output after → p.terminal ≡ printing n.interpreter.output t → p.read ≡ read → Waits after act p.under_way → IsUnderWay lines answers read t.transcript m → GoesOn lines answers (Some act) p
+    → StandsOn n 0 [] n.interpreter.output after → p.terminal ≡ printing n.interpreter.output t → p.read ≡ read → Waits after act p.under_way → IsUnderWay lines answers read t.transcript m → StandsIn lines answers p
 asked_on lines answers read counted act m n after p t free asks is taken printed same waiting h =
     let on : IsUnderWay lines ((answers ++ []) ++ []) read ((t.transcript ++ []) ++ n.interpreter.output) after =
     taken_on lines (answers ++ []) [] read 0 (t.transcript ++ []) n.interpreter.output n after (taken_on lines answers [] read counted t.transcript [] m n h asks.stands) taken in
@@ -114,11 +105,8 @@ asked_on lines answers read counted act m n after p t free asks is taken printed
     (subst (λ before. IsUnderWay lines ((answers ++ []) ++ []) read (before ++ n.interpreter.output) after) (append-nil t.transcript) on) in
     let waits : IsAsking lines answers (t.transcript ++ n.interpreter.output) after act =
     subst (λ (k : PlainMachine). IsAsking lines answers (t.transcript ++ n.interpreter.output) k act) (sym is) (goes_asking lines answers read counted t.transcript act m n h asks) in
-    record {
-      stands = subst (λ (s : PlainTerminal). StandsBy lines answers p.read s p.under_way) (sym printed)
-          (subst (λ (k : ℕ). StandsBy lines answers k (printing n.interpreter.output t) p.under_way) (sym same) (asked_by lines answers read (printing n.interpreter.output t) p.under_way after act waiting free here waits));
-      paused = asked_so p.under_way after act waiting;
-    }
+    subst (λ (s : PlainTerminal). StandsBy lines answers p.read s p.under_way) (sym printed)
+    (subst (λ (k : ℕ). StandsBy lines answers k (printing n.interpreter.output t) p.under_way) (sym same) (asked_by lines answers read (printing n.interpreter.output t) p.under_way after act waiting free here waits))
 
 -- the terminal behind a line that is over
 back_again : (t : PlainTerminal) (lines : List (List ℕ)) (w : PlainWorkspace) → t.definition ≡ None → record (printing lines t) { workspace = w } ≡ record { workspace = w; definition = None; transcript = t.transcript ++ lines }
@@ -126,7 +114,7 @@ back_again t lines w free = ap (λ definition. record { workspace = w; definitio
 
 -- a run that came to the end of its line
 pub done_on : (lines : List (List ℕ)) (answers : List PlainAnswer) (read counted : ℕ) (m n after : PlainMachine) (p : Progress) (t : PlainTerminal) → t.definition ≡ None → EndsDone m counted n → after ≡ silent n
-    → p.terminal ≡ record (printing n.interpreter.output t) { workspace = after.interpreter.workspace } → p.read ≡ read → p.under_way ≡ under_way.Nothing → IsUnderWay lines answers read t.transcript m → GoesOn lines answers None p
+    → p.terminal ≡ record (printing n.interpreter.output t) { workspace = after.interpreter.workspace } → p.read ≡ read → p.under_way ≡ under_way.Nothing → IsUnderWay lines answers read t.transcript m → StandsIn lines answers p
 done_on lines answers read counted m n after p t free ends is printed same nothing h =
     let there : p.terminal ≡ record { workspace = n.interpreter.workspace; definition = None; transcript = t.transcript ++ n.interpreter.output } =
     printed ∙ ap (λ (k : PlainMachine). record (printing n.interpreter.output t) { workspace = k.interpreter.workspace }) is ∙ back_again t n.interpreter.output n.interpreter.workspace free in
@@ -135,7 +123,7 @@ done_on lines answers read counted m n after p t free ends is printed same nothi
 
 -- or to a report
 pub reported_on : (lines : List (List ℕ)) (answers : List PlainAnswer) (read counted : ℕ) (report : Report) (m n after : PlainMachine) (p : Progress) (t : PlainTerminal) → t.definition ≡ None → EndsBy report m counted n → after ≡ silent n
-    → p.terminal ≡ record (printing n.interpreter.output t) { workspace = after.interpreter.workspace } → p.read ≡ read → p.under_way ≡ under_way.Nothing → IsUnderWay lines answers read t.transcript m → GoesOn lines answers None p
+    → p.terminal ≡ record (printing n.interpreter.output t) { workspace = after.interpreter.workspace } → p.read ≡ read → p.under_way ≡ under_way.Nothing → IsUnderWay lines answers read t.transcript m → StandsIn lines answers p
 reported_on lines answers read counted report m n after p t free ends is printed same nothing h =
     let there : p.terminal ≡ record { workspace = n.interpreter.workspace; definition = None; transcript = t.transcript ++ n.interpreter.output } =
     printed ∙ ap (λ (k : PlainMachine). record (printing n.interpreter.output t) { workspace = k.interpreter.workspace }) is ∙ back_again t n.interpreter.output n.interpreter.workspace free in
@@ -169,23 +157,20 @@ finished_course : (lines : List (List ℕ)) (answers : List PlainAnswer) (read :
 finished_course lines answers read t over h =
     ap (session_of lines) (sym (append-nil answers)) ∙ h.same [] ∙ ap (λ left. lines_done most_statements left (course_at t h.acts [])) (drop_all read lines over)
 
-gone_by : (lines : List (List ℕ)) (answers : List PlainAnswer) (read : ℕ) (t : PlainTerminal) (u : UnderWay) (asked : Option Act) → StandsBy lines answers read t u → Asked u asked → (asked ≡ None → length lines ≤ read)
-    → ((session_of lines answers).waits ≡ asked) × IsThisFar (length lines) read u (stage_by asked)
-gone_by lines answers read t under_way.Nothing asked h is over = (
-  ap (λ (c : Course). c.waits) (finished_course lines answers read t (over is) h) ∙ sym is,
-  subst (λ (a : Option Act). IsFree (length lines) read (stage_by a)) (sym is) (over is),
-)
-gone_by lines answers read t (under_way.Asking b act) asked h is over = (h.2.waits ∙ sym is, ap stage_by is)
-gone_by lines answers read t (under_way.Answered b) asked h is over = absurd is
+gone_by : (lines : List (List ℕ)) (answers : List PlainAnswer) (read : ℕ) (t : PlainTerminal) (u : UnderWay) → StandsBy lines answers read t u → IsPaused u → (u ≡ under_way.Nothing → length lines ≤ read)
+    → ((session_of lines answers).waits ≡ open_act u) × IsThisFar (length lines) read u (stage_by (open_act u))
+gone_by lines answers read t under_way.Nothing h paused over = (ap (λ (c : Course). c.waits) (finished_course lines answers read t (over refl) h), over refl)
+gone_by lines answers read t (under_way.Asking b act) h paused over = (h.2.waits, refl)
+gone_by lines answers read t (under_way.Answered b) h paused over = absurd paused
 
 -- a session that went on
-pub gone_on : (lines shown : List (List ℕ)) (receipts : List PlainReceipt) (before after : Progress) (at : Stage) (asked : Option Act) → shown ≡ lines → IsSession lines receipts before at
-    → ((answers : List PlainAnswer) → StandsIn shown answers before → ComesTo shown answers asked after) → IsSession lines receipts after (stage_by asked) × ((session_of lines (answers_in receipts)).waits ≡ asked)
-gone_on lines shown receipts before after at asked same h goes =
-    let come : ComesTo lines (answers_in receipts) asked after =
-    subst (λ list. ComesTo list (answers_in receipts) asked after) same (goes (answers_in receipts) (subst (λ list. StandsIn list (answers_in receipts) before) (sym same) h.stands)) in
-    let found = gone_by lines (answers_in receipts) after.read after.terminal after.under_way asked come.goes_on.stands come.goes_on.paused come.over in
-    (record { acts = h.acts; stands = come.goes_on.stands; far = found.1 }, found.0)
+pub gone_on : (lines shown : List (List ℕ)) (receipts : List PlainReceipt) (before after : Progress) (at : Stage) → shown ≡ lines → IsSession lines receipts before at
+    → ((answers : List PlainAnswer) → StandsIn shown answers before → ComesTo shown answers after) → IsSession lines receipts after (stage_by (open_act after.under_way)) × ((session_of lines (answers_in receipts)).waits ≡ open_act after.under_way)
+gone_on lines shown receipts before after at same h goes =
+    let come : ComesTo lines (answers_in receipts) after =
+    subst (λ list. ComesTo list (answers_in receipts) after) same (goes (answers_in receipts) (subst (λ list. StandsIn list (answers_in receipts) before) (sym same) h.stands)) in
+    let found = gone_by lines (answers_in receipts) after.read after.terminal after.under_way come.stands come.paused come.over in
+    (record { acts = h.acts; stands = come.stands; far = found.1 }, found.0)
 
 open_by : (lines : List (List ℕ)) (answers : List PlainAnswer) (read : ℕ) (t : PlainTerminal) (u : UnderWay) → StandsBy lines answers read t u → IsThisFar (length lines) read u stage.Waiting → IsOpenLine u
 open_by lines answers read t under_way.Nothing h far = absurd far

@@ -1,7 +1,7 @@
 -- From what the parts of a call promise to what the call does.
-use Rattle.std.proofs.Common.{◌≡◌, ℕ, ◌+◌, ◌<◌, Bool, true, false, List, [], ◌∷◌, ◌++◌, drop, get_or, length, refl, sym, ap, subst, ◌∙◌, append-nil, arith}
+use Rattle.std.proofs.Common.{◌≡◌, ℕ, ◌+◌, ◌<◌, true, false, List, [], ◌∷◌, ◌++◌, drop, get_or, length, refl, sym, ap, subst, ◌∙◌, append-nil, arith}
 use Rattle.std.proofs.lemmas.List.{drop_more, get_or-map, length-map}
-use Rattle.std.specs.Prelude.{Option, Some, None, Err, map}
+use Rattle.std.specs.Prelude.{None, Err, map}
 use Rattle.std.specs.Global.{Box}
 use Rattle.apl_arrays.specs.List.{Listed, glyphs_in}
 use Rattle.apl_arrays.specs.declared.report.Report.{Report}
@@ -22,24 +22,24 @@ use Rattle.apl_terminal.specs.LineKind.{is_opening}
 use Rattle.apl_terminal.specs.Terminal.{PlainTerminal, echoing, editing, free_prompt, printing, reporting}
 use Rattle.session_rules.specs.Course.{with_terminal}
 use Rattle.session_rules.specs.Session.{free_line, statement_done}
-use Rattle.apl_session.specs.Standing.{Asked, ComesTo, GoesOn, IsAnswered, IsAt, IsHanded, IsIdleAt, IsOpenLine, IsUnderWay, MayAdvance, PausesAt, StandsBy, StandsIn, Waits, open_act, with_output_of}
+use Rattle.apl_session.specs.Standing.{IsAnswered, IsAt, IsHanded, IsIdleAt, IsOpenLine, IsPaused, IsUnderWay, MayAdvance, PausesAt, StandsBy, StandsIn, Waits, has_open_act, with_output_of}
 use Rattle.apl_session.specs.declared.progress.Progress.{Progress}
 use Rattle.apl_session.specs.declared.under_way.UnderWay.{UnderWay}
 use Rattle.apl_session.specs.declared.under_way.UnderWay.TheVariants as under_way
 use Rattle.apl_session.proofs.Going.{begun_at, refused_at, taken_on}
 use Rattle.apl_session.proofs.Inside.{asked_on, done_on, echoed_at, opening_at, reported_on, rests, statement_at}
 
--- ---- what asked
+-- ---- what asks
 
--- where nothing is under way nothing was asked
-pub none_asked_by : (u : UnderWay) → u ≡ under_way.Nothing → Asked u None
-none_asked_by u nothing = subst (λ (x : UnderWay). Asked x None) (sym nothing) refl
+-- where nothing is under way nothing was answered
+pub none_answered : (u : UnderWay) → u ≡ under_way.Nothing → IsPaused u
+none_answered u nothing = subst IsPaused (sym nothing) tt
 
--- and where nothing was asked nothing is under way
-pub nothing_by : (u : UnderWay) (asked : Option Act) → Asked u asked → asked ≡ None → u ≡ under_way.Nothing
-nothing_by under_way.Nothing asked is none = refl
-nothing_by (under_way.Asking b act) asked is none = absurd (let no : Some act ≡ None = sym is ∙ none in cc)
-nothing_by (under_way.Answered b) asked is none = absurd is
+-- and where no line waits nothing is under way
+pub nothing_by : (u : UnderWay) → IsPaused u → has_open_act u ≡ false → u ≡ under_way.Nothing
+nothing_by under_way.Nothing paused free = refl
+nothing_by (under_way.Asking b act) paused free = absurd cc
+nothing_by (under_way.Answered b) paused free = absurd paused
 
 -- ---- lines
 
@@ -51,7 +51,7 @@ line_at lines read found within is =
 
 -- a line that opens a definition
 pub opened_on : (lines : List (List ℕ)) (line : List ℕ) (answers : List PlainAnswer) (t told : PlainTerminal) (p : Progress) → is_opening line ≡ true → told ≡ echoing free_prompt line t → p.terminal ≡ editing line (opened told.workspace line) told
-    → p.under_way ≡ under_way.Nothing → IsAt lines answers p.read (λ c. free_line most_statements line (with_terminal (echoing free_prompt line c.terminal) c)) t → GoesOn lines answers None p
+    → p.under_way ≡ under_way.Nothing → IsAt lines answers p.read (λ c. free_line most_statements line (with_terminal (echoing free_prompt line c.terminal) c)) t → StandsIn lines answers p
 opened_on lines line answers t told p opens echoed is nothing h =
     let there : p.terminal ≡ editing line (opened (echoing free_prompt line t).workspace line) (echoing free_prompt line t) = is ∙ ap (λ (s : PlainTerminal). editing line (opened s.workspace line) s) echoed in
     rests lines answers p nothing (subst (λ (s : PlainTerminal). IsAt lines answers p.read (λ c. c) s) (sym there) (opening_at lines line answers p.read (echoing free_prompt line t) opens (echoed_at lines line answers p.read t h)))
@@ -77,7 +77,7 @@ evaluated_on lines line answers read t lent w seen tree fresh m b boxed left sam
 
 -- or refused
 pub refused_on : (lines : List (List ℕ)) (line : List ℕ) (answers : List PlainAnswer) (t : PlainTerminal) (seen : PlainWorkspace) (report : Report) (p : Progress) → p.under_way ≡ under_way.Nothing → p.terminal ≡ reporting report line t → seen ≡ t.workspace → seen.frames ≡ []
-    → t.definition ≡ None → read_with seen line ≡ Err report → IsAt lines answers p.read (statement_done most_statements line) t → GoesOn lines answers None p
+    → t.definition ≡ None → read_with seen line ≡ Err report → IsAt lines answers p.read (statement_done most_statements line) t → StandsIn lines answers p
 refused_on lines line answers t seen report p nothing is here frames free refused h =
     rests lines answers p nothing
     (subst (λ (s : PlainTerminal). IsAt lines answers p.read (λ c. c) s) (sym is)
@@ -93,23 +93,23 @@ idle_at counted m n after stop.Done ends is = idle_after n after ends.idle is
 idle_at counted m n after (stop.Failed report) ends is = idle_after n after ends.idle is
 idle_at counted m n after (stop.Asks act) asks is = tt
 
+-- where no line was printed the terminal stays as it was
+pub none_printed : (t : PlainTerminal) (lines : List (List ℕ)) → lines ≡ [] → t ≡ printing lines t
+none_printed t lines none = ap (λ transcript. record t { transcript = transcript }) (sym (append-nil t.transcript)) ∙ ap (λ list. printing list t) (sym none)
+
 -- where it stopped, the session went on
-pub stopped_on : (lines : List (List ℕ)) (answers : List PlainAnswer) (counted : ℕ) (m n : PlainMachine) (stop : Stop) (asked : Option Act) (before p : Progress) → before.under_way ≡ under_way.Nothing → before.terminal.definition ≡ None → StopsAs m counted n stop
-    → StandsOn n 0 [] n.interpreter.output (silent n) → PausesAt (silent n) stop asked (with_output_of n before) p → IsUnderWay lines answers before.read before.terminal.transcript m → GoesOn lines answers asked p
-stopped_on lines answers counted m n stop.Done asked before p none free ends on pauses h =
-    subst (λ (a : Option Act). GoesOn lines answers a p) (sym pauses.0)
-    (done_on lines answers before.read counted m n (silent n) p before.terminal free ends refl (ap (λ (x : Progress). x.terminal) pauses.1) (ap (λ (x : Progress). x.read) pauses.1) (ap (λ (x : Progress). x.under_way) pauses.1 ∙ none) h)
-stopped_on lines answers counted m n (stop.Failed report) asked before p none free ends on pauses h =
-    subst (λ (a : Option Act). GoesOn lines answers a p) (sym pauses.0)
-    (reported_on lines answers before.read counted report m n (silent n) p before.terminal free ends refl (ap (λ (x : Progress). x.terminal) pauses.1) (ap (λ (x : Progress). x.read) pauses.1) (ap (λ (x : Progress). x.under_way) pauses.1 ∙ none) h)
-stopped_on lines answers counted m n (stop.Asks act) asked before p none free asks on pauses h =
-    subst (λ (a : Option Act). GoesOn lines answers a p) (sym pauses.0)
-    (asked_on lines answers before.read counted act m n (silent n) p before.terminal free asks refl on (ap (λ (x : Progress). x.terminal) pauses.2) (ap (λ (x : Progress). x.read) pauses.2) pauses.1 h)
+pub stopped_on : (lines : List (List ℕ)) (answers : List PlainAnswer) (counted : ℕ) (m n : PlainMachine) (stop : Stop) (before p : Progress) → before.under_way ≡ under_way.Nothing → before.terminal.definition ≡ None → StopsAs m counted n stop
+    → StandsOn n 0 [] n.interpreter.output (silent n) → PausesAt (silent n) stop (with_output_of n before) p → IsUnderWay lines answers before.read before.terminal.transcript m → StandsIn lines answers p
+stopped_on lines answers counted m n stop.Done before p none free ends on pauses h =
+    done_on lines answers before.read counted m n (silent n) p before.terminal free ends refl (ap (λ (x : Progress). x.terminal) pauses) (ap (λ (x : Progress). x.read) pauses) (ap (λ (x : Progress). x.under_way) pauses ∙ none) h
+stopped_on lines answers counted m n (stop.Failed report) before p none free ends on pauses h =
+    reported_on lines answers before.read counted report m n (silent n) p before.terminal free ends refl (ap (λ (x : Progress). x.terminal) pauses) (ap (λ (x : Progress). x.read) pauses) (ap (λ (x : Progress). x.under_way) pauses ∙ none) h
+stopped_on lines answers counted m n (stop.Asks act) before p none free asks on pauses h =
+    asked_on lines answers before.read counted act m n (silent n) p before.terminal free asks refl on (ap (λ (x : Progress). x.terminal) pauses.1) (ap (λ (x : Progress). x.read) pauses.1) pauses.0 h
 
 -- the act of a machine waits behind it
-pub waits_for : (b : Box PlainMachine) (act : Act) (asked : Option Act) (before after : Progress) → after.under_way ≡ under_way.Asking b act → after ≡ record before { under_way = after.under_way } → asked ≡ open_act after.under_way → PausesAt b.value (stop.Asks act) asked before after
-waits_for b act asked before after waiting rest is =
-    (is ∙ ap open_act waiting, subst (λ (u : UnderWay). Waits b.value act u) (sym waiting) (refl, refl), rest)
+pub waits_for : (b : Box PlainMachine) (act : Act) (before after : Progress) → after.under_way ≡ under_way.Asking b act → after ≡ record before { under_way = after.under_way } → PausesAt b.value (stop.Asks act) before after
+waits_for b act before after waiting rest = (subst (λ (u : UnderWay). Waits b.value act u) (sym waiting) (refl, refl), rest)
 
 -- the act of a line that waits is open
 pub open_there : (u : UnderWay) (b : Box PlainMachine) (act : Act) → u ≡ under_way.Asking b act → IsOpenLine u → IsOpenStage b.value.stage
@@ -117,14 +117,13 @@ open_there u b act waiting h =
     let is : IsOpenAct b.value act = subst IsOpenLine waiting h in open_stage b.value.interpreter.workspace b.value.stage act is
 
 -- a line whose act is answered
-pub answered_on : (lines : List (List ℕ)) (answers : List PlainAnswer) (act given : Act) (answer : PlainAnswer) (b : Box PlainMachine) (before after : Progress) (left : UnderWay) → given ≡ act → before.under_way ≡ under_way.Asking b act
-    → IsHanded b.value answer (record before { under_way = left }) after → StandsIn lines answers before → IsAnswered lines answers given answer after
-answered_on lines answers act given answer b before after left same waiting is h =
+pub answered_on : (lines : List (List ℕ)) (answers : List PlainAnswer) (act : Act) (answer : PlainAnswer) (b : Box PlainMachine) (before after : Progress) (left : UnderWay) → before.under_way ≡ under_way.Asking b act
+    → IsHanded b.value answer (record before { under_way = left }) after → StandsIn lines answers before → IsAnswered lines answers act answer after
+answered_on lines answers act answer b before after left waiting is h =
     let at : StandsBy lines answers before.read before.terminal (under_way.Asking b act) = subst (λ (u : UnderWay). StandsBy lines answers before.read before.terminal u) waiting h in
     let there : IsUnderWay lines (answers ++ answer ∷ []) before.read before.terminal.transcript is.handed.value =
     subst (λ printed. IsUnderWay lines (answers ++ answer ∷ []) before.read printed is.handed.value) (append-nil before.terminal.transcript) (taken_on lines answers (answer ∷ []) before.read 0 before.terminal.transcript [] b.value is.handed.value at.1 is.stands) in
-    subst (λ (a : Act). IsAnswered lines answers a answer after) (sym same)
-    (subst (λ (p : Progress). IsAnswered lines answers act answer p) (sym is.rest) (record { waited = at.2.waits; stands = (at.0, there, is.may); may = (at.0, is.may) }))
+    subst (λ (p : Progress). IsAnswered lines answers act answer p) (sym is.rest) (record { waited = at.2.waits; stands = (at.0, there, is.may); may = (at.0, is.may) })
 
 -- a line that was answered is under way
 pub answered_there : (lines : List (List ℕ)) (answers : List PlainAnswer) (p : Progress) (b : Box PlainMachine) → p.under_way ≡ under_way.Answered b → StandsIn lines answers p → IsUnderWay lines answers p.read p.terminal.transcript b.value

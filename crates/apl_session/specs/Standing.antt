@@ -1,5 +1,5 @@
 -- Where the inside of a session stands in its lines.
-use Rattle.std.specs.Prelude.{◌≡◌, ◌≤◌, ◌++◌, ℕ, List, [], ◌∷◌, Option, Some, None, drop, length}
+use Rattle.std.specs.Prelude.{◌≡◌, ◌≤◌, ◌++◌, ℕ, Bool, true, false, List, [], ◌∷◌, Option, Some, None, drop, length}
 use Rattle.std.specs.Global.{Box}
 use Rattle.apl_machine.specs.Machine.{PlainMachine, IsIdle, IsOpenAct, MayRun}
 use Rattle.apl_machine.specs.Runs.{Stands, StandsOn}
@@ -74,11 +74,17 @@ IsOpenLine under_way.Nothing = ⊥
 IsOpenLine (under_way.Asking b act) = IsOpenAct b.value act
 IsOpenLine (under_way.Answered b) = ⊥
 
--- a line asked this act, or is over
-abbrev pub Asked : UnderWay → Option Act → Type 0
-Asked under_way.Nothing asked = asked ≡ None
-Asked (under_way.Asking b act) asked = asked ≡ Some act
-Asked (under_way.Answered b) asked = ⊥
+-- a line waits for an answer, or none is under way
+abbrev pub IsPaused : UnderWay → Type 0
+IsPaused under_way.Nothing = Unit {0}
+IsPaused (under_way.Asking b act) = Unit {0}
+IsPaused (under_way.Answered b) = ⊥
+
+-- whether a line waits for an answer
+abbrev pub has_open_act : UnderWay → Bool
+has_open_act under_way.Nothing = false
+has_open_act (under_way.Asking b act) = true
+has_open_act (under_way.Answered b) = false
 
 -- where a run stops and the line is over, the machine is idle
 abbrev pub IsIdleAt : PlainMachine → Stop → Type 0
@@ -107,20 +113,16 @@ Waits m act (under_way.Asking b asked) = (b.value ≡ m) × (asked ≡ act)
 Waits m act (under_way.Answered b) = ⊥
 
 -- where a run stops, the act that it asked waits, or the workspace is taken back
-abbrev pub PausesAt : PlainMachine → Stop → Option Act → Progress → Progress → Type 0
-PausesAt m stop.Done asked before after = (asked ≡ None) × (after ≡ with_workspace_of m before)
-PausesAt m (stop.Failed report) asked before after = (asked ≡ None) × (after ≡ with_workspace_of m before)
-PausesAt m (stop.Asks act) asked before after = (asked ≡ Some act) × Waits m act after.under_way × (after ≡ record before { under_way = after.under_way })
-
--- the inside of a session went on to this act, or to the end of a line
-pub record GoesOn (lines : List (List ℕ)) (answers : List PlainAnswer) (asked : Option Act) (p : Progress) : Type 0 where
-  pub stands : StandsIn lines answers p
-  pub paused : Asked p.under_way asked
+abbrev pub PausesAt : PlainMachine → Stop → Progress → Progress → Type 0
+PausesAt m stop.Done before after = after ≡ with_workspace_of m before
+PausesAt m (stop.Failed report) before after = after ≡ with_workspace_of m before
+PausesAt m (stop.Asks act) before after = Waits m act after.under_way × (after ≡ record before { under_way = after.under_way })
 
 -- the inside of a session went on to the act that waits, or to the end of its lines
-pub record ComesTo (lines : List (List ℕ)) (answers : List PlainAnswer) (asked : Option Act) (p : Progress) : Type 0 where
-  pub goes_on : GoesOn lines answers asked p
-  pub over : asked ≡ None → length lines ≤ p.read
+pub record ComesTo (lines : List (List ℕ)) (answers : List PlainAnswer) (p : Progress) : Type 0 where
+  pub stands : StandsIn lines answers p
+  pub paused : IsPaused p.under_way
+  pub over : p.under_way ≡ under_way.Nothing → length lines ≤ p.read
 
 -- the line that asked an act was handed this answer, and may go on
 pub record IsHanded (m : PlainMachine) (answer : PlainAnswer) (before after : Progress) : Type 0 where

@@ -1,4 +1,4 @@
-ghost use Rattle.std.specs.Prelude.{◌≡◌, ◌+◌, ◌<◌, ◌^◌, ℕ, List, [], ◌∷◌, IfOk, None, drop};
+ghost use Rattle.std.specs.Prelude.{◌≡◌, ◌+◌, ◌<◌, ◌^◌, ℕ, List, [], ◌∷◌, None, OnOk, drop};
 ghost use Rattle.apl_machine.specs.Machine.{IsIdle, MayRun, silent};
 ghost use Rattle.apl_machine.specs.Runs.{StandsOn};
 ghost use Rattle.apl_machine.specs.declared.flow.Stop.TheVariants as stopped;
@@ -6,14 +6,14 @@ ghost use Rattle.apl_meaning.specs.Meaning.{most_statements};
 ghost use Rattle.sv_events.specs.Answer.{PlainAnswer};
 ghost use Rattle.session_rules.specs.Course.{with_terminal};
 ghost use Rattle.session_rules.specs.Session.{free_line, statement_done};
-ghost use Rattle.apl_terminal.specs.Terminal.{echoing, free_prompt};
-ghost use Rattle.apl_session.specs.Standing.{Asked, GoesOn, IsAt, IsIdleAt, IsUnderWay, PausesAt, StandsIn, open_act, with_output_of, with_workspace_of};
+ghost use Rattle.apl_terminal.specs.Terminal.{echoing, free_prompt, printing};
+ghost use Rattle.apl_session.specs.Standing.{IsAt, IsIdleAt, IsPaused, IsUnderWay, PausesAt, StandsIn, with_output_of, with_workspace_of};
 ghost use Rattle.apl_session.specs.declared.under_way.UnderWay.TheVariants as under_way;
 
 use crate::letting_go::let_go;
 use crate::progress::Progress;
 use crate::under_way::{UnderWay, boxed};
-use apl_arrays::{Fail, Line, WantOfMemory};
+use apl_arrays::{Fail, Line, LineList, WantOfMemory};
 use apl_machine::{Machine, Stop, tree_of};
 use apl_operators::Steps;
 use apl_terminal::is_opening;
@@ -28,18 +28,18 @@ impl Progress {
         &mut self,
         line: &Line,
         steps: &mut Steps<L>,
-    ) -> Result<Option<Act>, WantOfMemory>
+    ) -> Result<(), WantOfMemory>
         requires none { self.old.under_way ≡ under_way.Nothing }
         requires count { self.old.read + 1 < 2 ^ 64 }
-        ensures stands { IfOk result (λ asked. (lines rest : List (List ℕ)) (answers : List PlainAnswer) → StandsIn lines answers self.old → drop self.old.read lines ≡ line.now.items ∷ rest → GoesOn lines answers asked self.new) }
-        ensures paused { IfOk result (Asked self.new.under_way) }
+        ensures stands { OnOk result ((lines rest : List (List ℕ)) (answers : List PlainAnswer) → StandsIn lines answers self.old → drop self.old.read lines ≡ line.now.items ∷ rest → StandsIn lines answers self.new) }
+        ensures paused { OnOk result (IsPaused self.new.under_way) }
         ensures read { self.new.read ≡ self.old.read + 1 }
     {
         self.read += 1;
         match self.terminal.take_definition() {
             Some(editor) => {
                 self.terminal.feed(editor, line)?;
-                Ok(None)
+                Ok(())
             }
             None => self.begin_line(line, steps),
         }
@@ -50,35 +50,31 @@ impl Progress {
         &mut self,
         line: &Line,
         steps: &mut Steps<L>,
-    ) -> Result<Option<Act>, WantOfMemory>
+    ) -> Result<(), WantOfMemory>
         requires none { self.old.under_way ≡ under_way.Nothing }
         requires free { self.old.terminal.definition ≡ None }
-        ensures stands { IfOk result (λ asked. (lines : List (List ℕ)) (answers : List PlainAnswer)
+        ensures stands { OnOk result ((lines : List (List ℕ)) (answers : List PlainAnswer)
             → IsAt lines answers self.old.read (λ c. free_line most_statements line.now.items (with_terminal (echoing free_prompt line.now.items c.terminal) c)) self.old.terminal
-            → GoesOn lines answers asked self.new) }
-        ensures paused { IfOk result (Asked self.new.under_way) }
+            → StandsIn lines answers self.new) }
+        ensures paused { OnOk result (IsPaused self.new.under_way) }
         ensures read { self.new.read ≡ self.old.read }
     {
         self.terminal.echo_free(line)?;
         if is_opening(line.as_slice()) {
             self.terminal.open(line)?;
-            Ok(None)
+            Ok(())
         } else {
             self.evaluate(line, steps)
         }
     }
 
     // Evaluates a statement, or reports why it is none.
-    fn evaluate<L: Ledger>(
-        &mut self,
-        line: &Line,
-        steps: &mut Steps<L>,
-    ) -> Result<Option<Act>, WantOfMemory>
+    fn evaluate<L: Ledger>(&mut self, line: &Line, steps: &mut Steps<L>) -> Result<(), WantOfMemory>
         requires none { self.old.under_way ≡ under_way.Nothing }
         requires free { self.old.terminal.definition ≡ None }
-        ensures stands { IfOk result (λ asked. (lines : List (List ℕ)) (answers : List PlainAnswer)
-            → IsAt lines answers self.old.read (statement_done most_statements line.now.items) self.old.terminal → GoesOn lines answers asked self.new) }
-        ensures paused { IfOk result (Asked self.new.under_way) }
+        ensures stands { OnOk result ((lines : List (List ℕ)) (answers : List PlainAnswer)
+            → IsAt lines answers self.old.read (statement_done most_statements line.now.items) self.old.terminal → StandsIn lines answers self.new) }
+        ensures paused { OnOk result (IsPaused self.new.under_way) }
         ensures read { self.new.read ≡ self.old.read }
     {
         match tree_of(self.alloc, self.terminal.workspace(), line) {
@@ -94,7 +90,7 @@ impl Progress {
             }
             Err(Fail::Report(report)) => {
                 self.terminal.report(report, line)?;
-                Ok(None)
+                Ok(())
             }
             Err(Fail::WantOfMemory) => Err(WantOfMemory),
         }
@@ -106,13 +102,13 @@ impl Progress {
         &mut self,
         machine: Box<Machine>,
         steps: &mut Steps<L>,
-    ) -> Result<Option<Act>, WantOfMemory>
+    ) -> Result<(), WantOfMemory>
         requires may { MayRun machine.value.stage }
         requires none { self.old.under_way ≡ under_way.Nothing }
         requires free { self.old.terminal.definition ≡ None }
-        ensures stands { IfOk result (λ asked. (lines : List (List ℕ)) (answers : List PlainAnswer)
-            → IsUnderWay lines answers self.old.read self.old.terminal.transcript machine.value → GoesOn lines answers asked self.new) }
-        ensures paused { IfOk result (Asked self.new.under_way) }
+        ensures stands { OnOk result ((lines : List (List ℕ)) (answers : List PlainAnswer)
+            → IsUnderWay lines answers self.old.read self.old.terminal.transcript machine.value → StandsIn lines answers self.new) }
+        ensures paused { OnOk result (IsPaused self.new.under_way) }
         ensures read { self.new.read ≡ self.old.read }
     {
         let mut machine = machine;
@@ -126,18 +122,21 @@ impl Progress {
     }
 
     // Prints what a run printed, and goes on as it stopped.
-    fn show(&mut self, machine: Box<Machine>, stop: Stop) -> Result<Option<Act>, WantOfMemory>
+    fn show(&mut self, machine: Box<Machine>, stop: Stop) -> Result<(), WantOfMemory>
         requires idle { IsIdleAt machine.value stop }
         requires free { self.old.terminal.definition ≡ None }
         requires none { self.old.under_way ≡ under_way.Nothing }
-        ensures pauses { IfOk result (λ asked. PausesAt (silent machine.value) stop asked (with_output_of machine.value self.old) self.new) }
+        ensures pauses { OnOk result (PausesAt (silent machine.value) stop (with_output_of machine.value self.old) self.new) }
         ensures taken { StandsOn machine.value 0 [] machine.value.interpreter.output (silent machine.value) }
-        ensures paused { IfOk result (Asked self.new.under_way) }
+        ensures paused { OnOk result (IsPaused self.new.under_way) }
         ensures read { self.new.read ≡ self.old.read }
     {
         let mut machine = machine;
-        match self.terminal.print(machine.take_output()) {
-            Ok(()) => self.stop(machine, stop),
+        match self.print(machine.take_output()) {
+            Ok(()) => {
+                self.stop(machine, stop);
+                Ok(())
+            }
             Err(WantOfMemory) => {
                 let_go(machine);
                 let_go(stop);
@@ -146,13 +145,26 @@ impl Progress {
         }
     }
 
+    // Prints the lines of a run, if there are any. It takes memory for them; where that runs out, some may be printed.
+    fn print(&mut self, lines: LineList) -> Result<(), WantOfMemory>
+        ensures ok { OnOk result (self.new.terminal ≡ printing lines.items self.old.terminal) }
+        ensures rest { self.new ≡ record self.old { terminal = self.new.terminal } }
+    {
+        if lines.as_slice().is_empty() {
+            let_go(lines);
+            Ok(())
+        } else {
+            self.terminal.print(lines)
+        }
+    }
+
     // Waits for the act that was asked, or goes on behind a line that is over.
-    fn stop(&mut self, machine: Box<Machine>, stop: Stop) -> Result<Option<Act>, WantOfMemory>
+    fn stop(&mut self, machine: Box<Machine>, stop: Stop)
         requires idle { IsIdleAt machine.value stop }
         requires free { self.old.terminal.definition ≡ None }
         requires none { self.old.under_way ≡ under_way.Nothing }
-        ensures pauses { IfOk result (λ asked. PausesAt machine.value stop asked self.old self.new) }
-        ensures paused { IfOk result (Asked self.new.under_way) }
+        ensures pauses { PausesAt machine.value stop self.old self.new }
+        ensures paused { IsPaused self.new.under_way }
         ensures read { self.new.read ≡ self.old.read }
     {
         match stop {
@@ -162,35 +174,22 @@ impl Progress {
         }
     }
 
-    // Waits for the answer to an act.
-    fn wait_for(&mut self, machine: Box<Machine>, act: Act) -> Result<Option<Act>, WantOfMemory>
-        ensures pauses { IfOk result (λ asked. PausesAt machine.value (stopped.Asks act) asked self.old self.new) }
-        ensures paused { IfOk result (Asked self.new.under_way) }
+    // Waits for the answer to an act. No memory.
+    fn wait_for(&mut self, machine: Box<Machine>, act: Act)
+        ensures pauses { PausesAt machine.value (stopped.Asks act) self.old self.new }
+        ensures paused { IsPaused self.new.under_way }
         ensures read { self.new.read ≡ self.old.read }
     {
         let_go(mem::replace(&mut self.under_way, UnderWay::Asking(machine, act)));
-        self.open_act()
     }
 
-    // The act that waits for its answer, if one does. It takes memory for its value.
-    fn open_act(&self) -> Result<Option<Act>, WantOfMemory>
-        ensures { IfOk result (λ asked. asked ≡ open_act self.now.under_way) }
-    {
-        match &self.under_way {
-            UnderWay::Asking(_, act) => Ok(Some(act.copy(self.alloc)?)),
-            _ => Ok(None),
-        }
-    }
-
-    // Takes back the workspace of a line that is over.
-    fn finish(&mut self, machine: Box<Machine>) -> Result<Option<Act>, WantOfMemory>
+    // Takes back the workspace of a line that is over. No memory.
+    fn finish(&mut self, machine: Box<Machine>)
         requires idle { IsIdle machine.value }
         requires free { self.old.terminal.definition ≡ None }
-        ensures pauses { IfOk result (λ asked. PausesAt machine.value stopped.Done asked self.old self.new) }
-        ensures rest { self.new ≡ with_workspace_of machine.value self.old }
+        ensures { self.new ≡ with_workspace_of machine.value self.old }
     {
         let machine = Box::into_inner(machine);
         self.terminal.take_back(machine.into_workspace());
-        Ok(None)
     }
 }

@@ -1,10 +1,9 @@
-ghost use Rattle.std.specs.Prelude.{◌≡◌, ◌≤◌, ℕ, List, IfOk, IsOk, map};
+ghost use Rattle.std.specs.Prelude.{◌≡◌, ℕ, List, IfOk, IsOk, OnOk, map};
 ghost use Rattle.apl_arrays.specs.List.{glyphs_in};
 ghost use Rattle.sv_events.specs.Answer.{PlainAnswer, plain_answer};
 ghost use Rattle.apl_terminal.specs.Terminal.{new_terminal};
 ghost use Rattle.apl_machine.specs.Machine.{IsOpenStage};
-ghost use Rattle.apl_session.specs.Standing.{Asked, ComesTo, GoesOn, IsAnswered, IsHanded, IsOpenLine, MayAdvance, StandsIn};
-ghost use Rattle.apl_session.specs.declared.under_way.UnderWay.TheVariants as under_way;
+ghost use Rattle.apl_session.specs.Standing.{ComesTo, IsAnswered, IsHanded, IsOpenLine, IsPaused, MayAdvance, StandsIn, has_open_act, open_act};
 
 use crate::letting_go::let_go;
 use crate::under_way::UnderWay;
@@ -47,14 +46,12 @@ impl Progress {
         &mut self,
         lines: &[Line],
         steps: &mut Steps<L>,
-    ) -> Result<Option<Act>, WantOfMemory>
+    ) -> Result<(), WantOfMemory>
         requires { MayAdvance self.old.terminal self.old.under_way }
-        ensures { IfOk result (λ asked. (answers : List PlainAnswer) → StandsIn (map glyphs_in lines.now) answers self.old → ComesTo (map glyphs_in lines.now) answers asked self.new) }
+        ensures { OnOk result ((answers : List PlainAnswer) → StandsIn (map glyphs_in lines.now) answers self.old → ComesTo (map glyphs_in lines.now) answers self.new) }
     {
-        match self.go_on(steps)? {
-            Some(act) => Ok(Some(act)),
-            None => self.take_lines(lines, steps),
-        }
+        self.go_on(steps)?;
+        self.take_lines(lines, steps)
     }
 
     // Reads the lines that are left, up to the first act.
@@ -62,17 +59,34 @@ impl Progress {
         &mut self,
         lines: &[Line],
         steps: &mut Steps<L>,
-    ) -> Result<Option<Act>, WantOfMemory>
-        requires { self.old.under_way ≡ under_way.Nothing }
-        ensures { IfOk result (λ asked. (answers : List PlainAnswer) → StandsIn (map glyphs_in lines.now) answers self.old → ComesTo (map glyphs_in lines.now) answers asked self.new) }
+    ) -> Result<(), WantOfMemory>
+        requires { IsPaused self.old.under_way }
+        ensures { OnOk result ((answers : List PlainAnswer) → StandsIn (map glyphs_in lines.now) answers self.old → ComesTo (map glyphs_in lines.now) answers self.new) }
     {
         while self.read < lines.len() {
-            match self.take_line(&lines[self.read], steps)? {
-                Some(act) => return Ok(Some(act)),
-                None => {}
+            if self.has_open_act() {
+                return Ok(());
             }
+            self.take_line(&lines[self.read], steps)?;
         }
-        Ok(None)
+        Ok(())
+    }
+
+    // Whether an act waits for its answer. No memory.
+    fn has_open_act(&self) -> bool
+        ensures { result ≡ has_open_act self.now.under_way }
+    {
+        matches!(self.under_way, UnderWay::Asking(..))
+    }
+
+    /// The act that waits for its answer, if one does. It takes memory for its value.
+    pub fn open_act(&self) -> Result<Option<Act>, WantOfMemory>
+        ensures { IfOk result (λ asked. asked ≡ open_act self.now.under_way) }
+    {
+        match &self.under_way {
+            UnderWay::Asking(_, act) => Ok(Some(act.copy(self.alloc)?)),
+            _ => Ok(None),
+        }
     }
 
     /// Hands the answer to the act that is open to its line, and gives back the act. Nothing is evaluated. No memory.
@@ -82,7 +96,13 @@ impl Progress {
         ensures stands { IfOk result (λ act. (lines : List (List ℕ)) (answers : List PlainAnswer) → StandsIn lines answers self.old → IsAnswered lines answers act (plain_answer answer) self.new) }
     {
         match mem::replace(&mut self.under_way, UnderWay::Nothing) {
-            UnderWay::Asking(machine, act) => self.hand(machine, act, answer),
+            UnderWay::Asking(machine, act) => match self.hand(machine, answer) {
+                Ok(()) => Ok(act),
+                Err(WantOfMemory) => {
+                    let_go(act);
+                    Err(WantOfMemory)
+                }
+            },
             other => {
                 let_go(other);
                 let_go(answer);
@@ -91,22 +111,20 @@ impl Progress {
         }
     }
 
-    // Hands an answer to the line that asked an act, and gives back the act.
-    fn hand(&mut self, machine: Box<Machine>, act: Act, answer: Answer) -> Result<Act, WantOfMemory>
+    // Hands an answer to the line that asked for it. No memory.
+    fn hand(&mut self, machine: Box<Machine>, answer: Answer) -> Result<(), WantOfMemory>
         requires { IsOpenStage machine.value.stage }
-        ensures granted { IfOk result (λ given. given ≡ act) }
-        ensures act { IsOk result }
+        ensures granted { IsOk result }
         ensures stands { IsHanded machine.value (plain_answer answer) self.old self.new }
     {
         let mut machine = machine;
         match machine.resume(answer) {
             Ok(()) => {
                 let_go(mem::replace(&mut self.under_way, UnderWay::Answered(machine)));
-                Ok(act)
+                Ok(())
             }
             Err(WantOfMemory) => {
                 let_go(machine);
-                let_go(act);
                 Err(WantOfMemory)
             }
         }
@@ -133,14 +151,14 @@ impl Progress {
     }
 
     // Goes on with the line whose act was answered, if there is one.
-    fn go_on<L: Ledger>(&mut self, steps: &mut Steps<L>) -> Result<Option<Act>, WantOfMemory>
+    fn go_on<L: Ledger>(&mut self, steps: &mut Steps<L>) -> Result<(), WantOfMemory>
         requires { MayAdvance self.old.terminal self.old.under_way }
-        ensures stands { IfOk result (λ asked. (lines : List (List ℕ)) (answers : List PlainAnswer) → StandsIn lines answers self.old → GoesOn lines answers asked self.new) }
-        ensures paused { IfOk result (Asked self.new.under_way) }
+        ensures stands { OnOk result ((lines : List (List ℕ)) (answers : List PlainAnswer) → StandsIn lines answers self.old → StandsIn lines answers self.new) }
+        ensures paused { OnOk result (IsPaused self.new.under_way) }
         ensures read { self.new.read ≡ self.old.read }
     {
         match mem::replace(&mut self.under_way, UnderWay::Nothing) {
-            UnderWay::Nothing => Ok(None),
+            UnderWay::Nothing => Ok(()),
             UnderWay::Answered(machine) => self.run(machine, steps),
             other => {
                 let_go(other);

@@ -115,7 +115,8 @@ impl<K> Session<K> {
             return Err(WantOfMemory);
         }
         self.stage = Stage::Failed;
-        match advance::<Brand>(&mut self.progress, self.lines.as_slice(), Blank::new(1))? {
+        advance::<Brand>(&mut self.progress, self.lines.as_slice(), Blank::new(1))?;
+        match self.progress.open_act()? {
             Some(act) => {
                 self.stage = Stage::Waiting;
                 Ok(Wants::Act(act))
@@ -174,12 +175,12 @@ fn advance<L: Ledger>(
     progress: &mut Progress,
     lines: &[Line],
     blank: Blank,
-) -> Result<Option<Act>, WantOfMemory>
+) -> Result<(), WantOfMemory>
     requires may { MayAdvance progress.old.terminal progress.old.under_way }
     requires name { blank.name ≡ L.name }
     requires parts { blank.parts ≡ L.parts }
     requires some { 0 < blank.parts }
-    ensures { IfOk result (λ asked. (answers : List PlainAnswer) → StandsIn (map glyphs_in lines.now) answers progress.old → ComesTo (map glyphs_in lines.now) answers asked progress.new) }
+    ensures { OnOk result ((answers : List PlainAnswer) → StandsIn (map glyphs_in lines.now) answers progress.old → ComesTo (map glyphs_in lines.now) answers progress.new) }
 {
     let mut steps = Steps::<L>::new(blank);
     progress.advance(lines, &mut steps)

@@ -1,16 +1,9 @@
 use Rattle.std.proofs.Common.{◌≡◌, ℕ, true, false, List}
-use Rattle.std.proofs.lemmas.Result.{IfOk-weaker}
-use Rattle.std.specs.Prelude.{Option}
-use Rattle.apl_meaning.specs.Meaning.{most_statements}
-use Rattle.sv_events.specs.Answer.{PlainAnswer}
-use Rattle.sv_events.specs.declared.event.Act.{Act}
+use Rattle.std.proofs.lemmas.Result.{on_ok_weaker}
 use Rattle.apl_terminal.specs.LineKind.{is_opening}
-use Rattle.apl_terminal.specs.Terminal.{PlainTerminal, echoing, free_prompt}
-use Rattle.session_rules.specs.Course.{with_terminal}
-use Rattle.session_rules.specs.Session.{free_line, statement_done}
-use Rattle.apl_session.specs.Standing.{GoesOn, IsAt}
+use Rattle.apl_terminal.specs.Terminal.{PlainTerminal}
 use Rattle.apl_session.specs.declared.progress.Progress.{Progress}
-use Rattle.apl_session.proofs.Moves.{none_asked_by, opened_on, statement_on}
+use Rattle.apl_session.proofs.Moves.{none_answered, opened_on, statement_on}
 use Rattle.apl_session.proofs.progress.Progress.begin_line.Goals as goal
 
 pub returns-in_ok-open-clause-stands : goal.returns-in_ok-open-clause-stands
@@ -26,12 +19,11 @@ returns-else-is_opening-clause-stands g c =
     let line : List ℕ = c.args.line.now.items in
     let told : PlainTerminal = c.echo_free.new.self in
     let opens : is_opening line ≡ false = cc in
-    IfOk-weaker c.evaluate.result (λ (asked : Option Act). (lines : List (List ℕ)) (answers : List PlainAnswer) → IsAt lines answers p.read (statement_done most_statements line) told → GoesOn lines answers asked c.evaluate.new.self)
-    (λ (asked : Option Act). (lines : List (List ℕ)) (answers : List PlainAnswer) → IsAt lines answers p.read (λ c. free_line most_statements line (with_terminal (echoing free_prompt line c.terminal) c)) p.terminal → GoesOn lines answers asked c.evaluate.new.self)
-    (λ asked so. λ lines answers at. so lines answers (statement_on lines line answers p.read p.terminal told opens c.in_ok-echo_free.ensures at)) c.evaluate.ensures.stands
+    on_ok_weaker c.evaluate.result
+    (λ so. λ lines answers at. so lines answers (statement_on lines line answers p.read p.terminal told opens c.in_ok-echo_free.ensures at)) c.evaluate.ensures.stands
 
 pub returns-in_ok-open-clause-paused : goal.returns-in_ok-open-clause-paused
-returns-in_ok-open-clause-paused g c = none_asked_by c.args.self.now.under_way c.requires.none
+returns-in_ok-open-clause-paused g c = none_answered c.args.self.now.under_way c.requires.none
 
 pub returns-else-is_opening-clause-paused : goal.returns-else-is_opening-clause-paused
 returns-else-is_opening-clause-paused g c = c.evaluate.ensures.paused

@@ -1,8 +1,7 @@
 use Rattle.std.proofs.Common.{◌≡◌, ℕ, List, subst}
-use Rattle.std.proofs.lemmas.Result.{IfOk-weaker}
+use Rattle.std.proofs.lemmas.Result.{on_ok_weaker}
 use Rattle.std.specs.Prelude.{Err}
 use Rattle.apl_arrays.specs.declared.report.Fail.{Fail}
-use Rattle.apl_arrays.specs.declared.report.Fail.TheVariants as fail
 use Rattle.apl_meaning.specs.Reading.{read_with}
 use Rattle.line_trees.specs.Parsing.{plain_tree}
 use Rattle.apl_machine.specs.Parts.{IsNotRead}
@@ -14,8 +13,8 @@ pub returns-in_ok-boxed-in-Ok-begin-clause-stands : goal.returns-in_ok-boxed-in-
 returns-in_ok-boxed-in-Ok-begin-clause-stands g c =
     let p : Progress = c.args.self.now in
     let line : List ℕ = c.args.line.now.items in
-    IfOk-weaker c.run.result _ _
-    (λ asked goes lines answers at.
+    on_ok_weaker c.run.result
+    (λ goes lines answers at.
     goes lines answers
     (evaluated_on lines line answers p.read p.terminal c.lend.new.self c.lend.result c.workspace.result.now (plain_tree c.in-Ok.tree) c.new-machine.result c.begin.new.self c.in_ok-boxed-in-Ok-begin.field-0 c.in_ok-boxed-in-Ok-begin.ensures c.lend.ensures.left c.lend.ensures.lent c.new-machine.ensures c.workspace.ensures.value
     c.in-Ok.ensures.tree c.in-Ok-begin.ensures.stands at))

@@ -1,18 +1,16 @@
-use Rattle.std.proofs.Common.{◌≡◌, ◌+◌, ℕ, List, ◌∷◌, drop, sym, ap, subst, ◌∙◌}
-use Rattle.std.proofs.lemmas.Result.{IfOk-weaker}
-use Rattle.std.specs.Prelude.{Option, Some, None}
+use Rattle.std.proofs.Common.{◌+◌, ℕ, List, sym, ap, subst, ◌∙◌}
+use Rattle.std.proofs.lemmas.Result.{on_ok_weaker}
+use Rattle.std.specs.Prelude.{Some}
 use Rattle.apl_meaning.specs.Meaning.{most_statements}
 use Rattle.fn_editor.specs.Editing.{fed}
 use Rattle.fn_editor.specs.Prompt.{prompt_text}
-use Rattle.sv_events.specs.Answer.{PlainAnswer}
-use Rattle.sv_events.specs.declared.event.Act.{Act}
 use Rattle.apl_terminal.specs.Terminal.{PlainTerminal, echoing, editing, free_prompt}
 use Rattle.session_rules.specs.Course.{with_terminal}
 use Rattle.session_rules.specs.Session.{free_line}
-use Rattle.apl_session.specs.Standing.{GoesOn, IsAt, StandsIn}
+use Rattle.apl_session.specs.Standing.{IsAt}
 use Rattle.apl_session.specs.declared.progress.Progress.{Progress}
 use Rattle.apl_session.proofs.Inside.{fed_line, free_at, rests, between_of, lines_behind}
-use Rattle.apl_session.proofs.Moves.{none_asked_by}
+use Rattle.apl_session.proofs.Moves.{none_answered}
 use Rattle.apl_session.proofs.progress.Progress.take_line.Goals as goal
 
 pub returns-in_ok-feed-in-Some-clause-stands : goal.returns-in_ok-feed-in-Some-clause-stands
@@ -29,17 +27,15 @@ pub returns-in-None-clause-stands : goal.returns-in-None-clause-stands
 returns-in-None-clause-stands g c =
     let p : Progress = c.args.self.now in
     let line : List ℕ = c.args.line.now.items in
-    IfOk-weaker c.begin_line.result
-    (λ (asked : Option Act). (lines : List (List ℕ)) (answers : List PlainAnswer) → IsAt lines answers (p.read + 1) (λ c. free_line most_statements line (with_terminal (echoing free_prompt line c.terminal) c)) c.take_definition.new.self → GoesOn lines answers asked c.begin_line.new.self)
-    (λ (asked : Option Act). (lines rest : List (List ℕ)) (answers : List PlainAnswer) → StandsIn lines answers p → drop p.read lines ≡ line ∷ rest → GoesOn lines answers asked c.begin_line.new.self)
-    (λ asked so. λ lines rest answers at here.
+    on_ok_weaker c.begin_line.result
+    (λ so. λ lines rest answers at here.
     so lines answers
     (subst (λ (t : PlainTerminal). IsAt lines answers (p.read + 1) (λ c. free_line most_statements line (with_terminal (echoing free_prompt line c.terminal) c)) t) (sym c.take_definition.ensures.left)
     (free_at lines rest line answers p.read p.terminal here (lines_behind lines rest line p.read here) (sym c.take_definition.ensures.taken ∙ c.in-None.is) (between_of lines answers p c.requires.none at))))
     c.begin_line.ensures.stands
 
 pub returns-in_ok-feed-in-Some-clause-paused : goal.returns-in_ok-feed-in-Some-clause-paused
-returns-in_ok-feed-in-Some-clause-paused g c = none_asked_by c.args.self.now.under_way c.requires.none
+returns-in_ok-feed-in-Some-clause-paused g c = none_answered c.args.self.now.under_way c.requires.none
 
 pub returns-in-None-clause-paused : goal.returns-in-None-clause-paused
 returns-in-None-clause-paused g c = c.begin_line.ensures.paused
