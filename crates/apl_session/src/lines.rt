@@ -12,7 +12,7 @@ ghost use Rattle.apl_session.specs.declared.under_way.UnderWay.TheVariants as un
 
 use crate::letting_go::let_go;
 use crate::progress::Progress;
-use crate::under_way::{UnderWay, boxed};
+use crate::under_way::UnderWay;
 use apl_arrays::{Fail, Line, LineList, WantOfMemory};
 use apl_machine::{Machine, Stop, tree_of};
 use apl_operators::Steps;
@@ -79,9 +79,9 @@ impl Progress {
     {
         match tree_of(self.alloc, self.terminal.workspace(), line) {
             Ok(tree) => {
-                let mut machine = Machine::new(self.alloc, self.terminal.lend());
+                let mut machine = self.spare.take_on(self.alloc, self.terminal.lend())?;
                 match machine.begin(line, tree) {
-                    Ok(()) => self.run(boxed(self.alloc, machine)?, steps),
+                    Ok(()) => self.run(machine, steps),
                     Err(WantOfMemory) => {
                         let_go(machine);
                         Err(WantOfMemory)
@@ -189,7 +189,7 @@ impl Progress {
         requires free { self.old.terminal.definition ≡ None }
         ensures { self.new ≡ with_workspace_of machine.value self.old }
     {
-        let machine = Box::into_inner(machine);
-        self.terminal.take_back(machine.into_workspace());
+        let workspace = self.spare.leave(machine);
+        self.terminal.take_back(workspace);
     }
 }

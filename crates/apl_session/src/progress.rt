@@ -6,6 +6,7 @@ ghost use Rattle.apl_machine.specs.Machine.{IsOpenStage};
 ghost use Rattle.apl_session.specs.Standing.{ComesTo, IsAnswered, IsHanded, IsOpenLine, IsPaused, MayAdvance, StandsIn, has_open_act, open_act};
 
 use crate::letting_go::let_go;
+use crate::spare::Spare;
 use crate::under_way::UnderWay;
 use apl_arrays::{Line, LineList, WantOfMemory};
 use apl_machine::Machine;
@@ -23,6 +24,7 @@ pub struct Progress {
     pub(crate) terminal: Terminal,
     pub(crate) read: usize,
     pub(crate) under_way: UnderWay,
+    pub(crate) spare: Spare,
 }
 
 impl Progress {
@@ -37,6 +39,7 @@ impl Progress {
             terminal: Terminal::new(alloc),
             read: 0,
             under_way: UnderWay::Nothing,
+            spare: Spare::new(),
         }
     }
 
@@ -144,9 +147,11 @@ impl Progress {
         let Progress {
             terminal,
             under_way,
+            spare,
             ..
         } = self;
         let_go(under_way);
+        let_go(spare);
         terminal.into_transcript()
     }
 

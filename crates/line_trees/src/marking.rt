@@ -52,11 +52,7 @@ fn add_mark(marks: &mut Marks, mark: Mark) -> Result<(), WantOfMemory>
 
 /// What each token does in its line. It takes memory for the marks of a long line.
 #[tactic(auto, using(crate::proofs::Loops::marking))]
-pub fn marks_of(
-    alloc: Global,
-    tokens: &Tokens,
-    classes: &Classes,
-) -> Result<Marks, ParseRefused>
+pub fn marks_of(alloc: Global, tokens: &Tokens, classes: &Classes) -> Result<Marks, ParseRefused>
     ensures marks { IfOk result (λ marks. marks_from classes.now.items tokens.now.length (Mode.Begins Before.Line) [] tokens.now.tokens.items ≡ Ok marks.items) }
     ensures refused { IfErr result (λ refused. IsMarkRefusal refused (marks_from classes.now.items tokens.now.length (Mode.Begins Before.Line) [] tokens.now.tokens.items)) }
 {
