@@ -1,18 +1,17 @@
 -- How the inside of a session goes on: from one line to the next, and within a line.
 use Rattle.std.proofs.Common.{◌≡◌, ℕ, ◌+◌, List, [], ◌∷◌, ◌++◌, drop, refl, sym, ap, subst, ◌∙◌, append-nil, append_assoc}
-use Rattle.std.specs.Prelude.{Option, Some, None, Ok, Err, length}
+use Rattle.std.specs.Prelude.{None, Err, length}
 use Rattle.apl_arrays.specs.declared.report.Report.{Report}
 use Rattle.apl_machine.specs.Interpreter.{state_at}
-use Rattle.apl_machine.specs.Machine.{PlainMachine, IsOpenAct, silent}
-use Rattle.apl_machine.specs.Runs.{AsksThere, ComesTo, EndsBy, EndsDone, IsTreeOf, Stands, StandsOn, mean_behind}
-use Rattle.apl_meaning.specs.Laws.{IsOver, and_more, waiting_act}
-use Rattle.apl_meaning.specs.Meaning.{closed, mean, mean_of_line, mean_of_read, most_statements, start_of}
+use Rattle.apl_machine.specs.Machine.{PlainMachine, silent}
+use Rattle.apl_machine.specs.Runs.{AsksThere, EndsBy, EndsDone, IsTreeOf, Stands, StandsOn}
+use Rattle.apl_meaning.specs.Laws.{IsOver, and_more}
+use Rattle.apl_meaning.specs.Meaning.{mean, mean_of_line, mean_of_read, most_statements}
 use Rattle.apl_meaning.specs.Printing.{input_shown, report_lines}
 use Rattle.apl_meaning.specs.Reading.{Read, classes_of, read_parsed, read_scanned, read_with}
 use Rattle.apl_meaning.specs.State.{Effect, State, gives, refuses, asks, state_of}
 use Rattle.apl_meaning.proofs.Lines.{rest_comes_back}
 use Rattle.apl_workspace.specs.Workspace.{PlainWorkspace}
-use Rattle.fn_editor.specs.Editor.{PlainEditor}
 use Rattle.line_scanner.specs.Scanning.{Scanned}
 use Rattle.line_trees.specs.Parsing.{PlainTree}
 use Rattle.line_trees.specs.Trees.{LineTree, line_tree_of}

@@ -1,8 +1,6 @@
 -- A session as its drivers see it.
-use Rattle.std.specs.Prelude.{ℕ, Option, Some, None, IsTrue, List, not}
+use Rattle.std.specs.Prelude.{ℕ, List}
 use Rattle.sv_events.specs.Answer.{PlainAnswer}
-use Rattle.sv_events.specs.declared.event.Act.{Act}
-use Rattle.sv_rules.specs.Entries.{is_leave}
 use Rattle.apl_session.specs.declared.session.Stage.{Stage}
 
 -- a user, its lines, the answers that they were given, how far the session is, and the shelf that it was lent

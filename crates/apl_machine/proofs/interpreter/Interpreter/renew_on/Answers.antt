@@ -1,4 +1,4 @@
-use Rattle.std.proofs.Common.{◌≡◌, ◌∙◌, ℕ, List, [], sym, ap, subst}
+use Rattle.std.proofs.Common.{◌∙◌, ℕ, List, [], sym, ap, subst}
 use Rattle.std.specs.Prelude.{reverse}
 use Rattle.apl_machine.specs.declared.waiting.Waiting.{Waiting}
 use Rattle.apl_machine.specs.Evaluating.{stack_of}

@@ -1,4 +1,4 @@
-use Rattle.std.proofs.Common.{◌≡◌, ◌∙◌, List, sym, ap, subst}
+use Rattle.std.proofs.Common.{◌∙◌, List, sym, ap, subst}
 use Rattle.std.specs.Prelude.{reverse}
 use Rattle.apl_workspace.specs.Workspace.{PlainWorkspace, empty_workspace}
 use Rattle.apl_machine.specs.declared.waiting.Waiting.{Waiting}

@@ -1,5 +1,4 @@
 use Rattle.sv_events.specs.Answer.{plain_answer}
-use Rattle.apl_session.specs.Receipts.{plain_receipt}
 use Rattle.apl_session.proofs.Around.{waits_inside, was_answered}
 use Rattle.apl_session.proofs.session.Session.answer.Goals as goal
 
