@@ -65,15 +65,14 @@ statement_on lines line answers read t told opens echoed h =
 -- ---- the machine
 
 -- a statement that was begun
-pub evaluated_on : (lines : List (List ℕ)) (line : List ℕ) (answers : List PlainAnswer) (read : ℕ) (t lent : PlainTerminal) (w seen : PlainWorkspace) (tree : PlainTree) (fresh m : PlainMachine) (b : Box PlainMachine) → b.value ≡ m → lent ≡ record t { workspace = empty_workspace } → w ≡ t.workspace
+pub evaluated_on : (lines : List (List ℕ)) (line : List ℕ) (answers : List PlainAnswer) (read : ℕ) (t lent : PlainTerminal) (w seen : PlainWorkspace) (tree : PlainTree) (fresh m : PlainMachine) → lent ≡ record t { workspace = empty_workspace } → w ≡ t.workspace
     → fresh ≡ idle_on w → seen ≡ t.workspace → IsTreeOf seen line tree → Stands m (line_tree_of tree) line fresh.interpreter.workspace fresh.interpreter.output [] 0 [] → IsAt lines answers read (statement_done most_statements line) t
-    → IsUnderWay lines answers read lent.transcript b.value
-evaluated_on lines line answers read t lent w seen tree fresh m b boxed left same new here is stands h =
+    → IsUnderWay lines answers read lent.transcript m
+evaluated_on lines line answers read t lent w seen tree fresh m left same new here is stands h =
     let tree_there : IsTreeOf t.workspace line tree = subst (λ (x : PlainWorkspace). IsTreeOf x line tree) here is in
     let there : Stands m (line_tree_of tree) line t.workspace [] [] 0 [] =
     subst (λ (x : PlainMachine). Stands m (line_tree_of tree) line x.interpreter.workspace x.interpreter.output [] 0 []) (new ∙ ap idle_on same) stands in
-    subst (λ (k : PlainMachine). IsUnderWay lines answers read lent.transcript k) (sym boxed)
-    (subst (λ (printed : List (List ℕ)). IsUnderWay lines answers read printed m) (sym (ap (λ (s : PlainTerminal). s.transcript) left)) (begun_at lines line answers read t tree m h tree_there there))
+    subst (λ (printed : List (List ℕ)). IsUnderWay lines answers read printed m) (sym (ap (λ (s : PlainTerminal). s.transcript) left)) (begun_at lines line answers read t tree m h tree_there there)
 
 -- or refused
 pub refused_on : (lines : List (List ℕ)) (line : List ℕ) (answers : List PlainAnswer) (t : PlainTerminal) (seen : PlainWorkspace) (report : Report) (p : Progress) → p.under_way ≡ under_way.Nothing → p.terminal ≡ reporting report line t → seen ≡ t.workspace → seen.frames ≡ []

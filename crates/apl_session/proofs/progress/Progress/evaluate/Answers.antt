@@ -1,4 +1,4 @@
-use Rattle.std.proofs.Common.{◌≡◌, ℕ, List, subst}
+use Rattle.std.proofs.Common.{◌≡◌, ℕ, List, subst, ◌∙◌}
 use Rattle.std.proofs.lemmas.Result.{on_ok_weaker}
 use Rattle.std.specs.Prelude.{Err}
 use Rattle.apl_arrays.specs.declared.report.Fail.{Fail}
@@ -9,14 +9,14 @@ use Rattle.apl_session.specs.declared.progress.Progress.{Progress}
 use Rattle.apl_session.proofs.Moves.{evaluated_on, refused_on}
 use Rattle.apl_session.proofs.progress.Progress.evaluate.Goals as goal
 
-pub returns-in_ok-boxed-in-Ok-begin-clause-stands : goal.returns-in_ok-boxed-in-Ok-begin-clause-stands
-returns-in_ok-boxed-in-Ok-begin-clause-stands g c =
+pub returns-in-Ok-begin-clause-stands : goal.returns-in-Ok-begin-clause-stands
+returns-in-Ok-begin-clause-stands g c =
     let p : Progress = c.args.self.now in
     let line : List ℕ = c.args.line.now.items in
     on_ok_weaker c.run.result
     (λ goes lines answers at.
     goes lines answers
-    (evaluated_on lines line answers p.read p.terminal c.lend.new.self c.lend.result c.workspace.result.now (plain_tree c.in-Ok.tree) c.new-machine.result c.begin.new.self c.in_ok-boxed-in-Ok-begin.field-0 c.in_ok-boxed-in-Ok-begin.ensures c.lend.ensures.left c.lend.ensures.lent c.new-machine.ensures c.workspace.ensures.value
+    (evaluated_on lines line answers p.read p.terminal c.lend.new.self c.lend.result c.workspace.result.now (plain_tree c.in-Ok.tree) c.deref_mut.result.now c.begin.new.self c.lend.ensures.left c.lend.ensures.lent (c.deref_mut.ensures.value ∙ c.in_ok-machine-in-Ok.ensures) c.workspace.ensures.value
     c.in-Ok.ensures.tree c.in-Ok-begin.ensures.stands at))
     c.run.ensures.stands
 

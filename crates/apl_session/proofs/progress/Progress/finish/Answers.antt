@@ -1,5 +1,4 @@
 use Rattle.std.proofs.Common.{ap, ◌∙◌}
-use Rattle.apl_machine.specs.Machine.{PlainMachine}
 use Rattle.apl_terminal.specs.Terminal.{PlainTerminal}
 use Rattle.apl_workspace.specs.Workspace.{PlainWorkspace}
 use Rattle.apl_session.proofs.progress.Progress.finish.Goals as goal
@@ -7,4 +6,4 @@ use Rattle.apl_session.proofs.progress.Progress.finish.Goals as goal
 pub returns : goal.returns
 returns c =
     ap (λ (t : PlainTerminal). record c.args.self.now { terminal = t })
-    (c.take_back.ensures ∙ ap (λ (w : PlainWorkspace). record c.args.self.now.terminal { workspace = w }) (c.into_workspace.ensures ∙ ap (λ (m : PlainMachine). m.interpreter.workspace) c.into_inner-machine.ensures))
+    (c.take_back.ensures ∙ ap (λ (w : PlainWorkspace). record c.args.self.now.terminal { workspace = w }) c.leave-workspace.ensures)
