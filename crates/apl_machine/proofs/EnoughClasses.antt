@@ -91,7 +91,7 @@ none_counted (Some (meaning.Shared copy)) None is = absurd is
 none_counted local (Some m) is = refl
 
 -- the classes of a workspace tell of a name what the workspace shows
-all_tell : (w : PlainWorkspace) (n : List ℕ) → IsWorkspace w → arguments_of (classes_of w) n ≡ counted (look w n)
+pub all_tell : (w : PlainWorkspace) (n : List ℕ) → IsWorkspace w → arguments_of (classes_of w) n ≡ counted (look w n)
 all_tell w n rules =
     among_names (λ k. class_by k (look w k)) w.globals n (λ k. class_is_named k (look w k)) ∙ ap (λ (count : Option ℕ). cond (is_some (meaning_in w.globals n)) count None) (class_counts n (look w n))
     ∙ none_counted (innermost w.frames n) (meaning_in w.globals n) (frames_are_local w.frames n rules.locals)

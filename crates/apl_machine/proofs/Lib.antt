@@ -1,3 +1,4 @@
+pub mod AloneLaw
 pub mod Answered
 pub mod Applies
 pub mod Assigned
@@ -14,6 +15,7 @@ pub mod Found
 pub mod Gives
 pub mod Granted
 pub mod Held
+pub mod HeardLaw
 pub mod HereLaw
 pub mod Innermost
 pub mod Keeping

@@ -18,22 +18,18 @@ use Rattle.apl_machine.specs.Sound.{AreUnderWay}
 use Rattle.apl_machine.proofs.Kept.{KeepsFunctions, kept}
 use Rattle.apl_machine.proofs.Steps.{grouped, then_same}
 
-keeps_functions : (w : PlainWorkspace) (n : ℕ) → KeepsFunctions w (with_printed w n)
+pub keeps_functions : (w : PlainWorkspace) (n : ℕ) → KeepsFunctions w (with_printed w n)
 keeps_functions w n = record { functions = λ name. refl; classes = λ k. refl; depth = refl; names = λ k name. refl }
-
--- functions under way stay so where glyphs were printed
-pub way_printed : (w v : PlainWorkspace) (n : ℕ) (callers : List Waiting) → v ≡ with_printed w n → AreUnderWay w callers → AreUnderWay v callers
-way_printed w v n callers e are = subst (λ (v : PlainWorkspace). AreUnderWay v callers) (sym e) (kept w (with_printed w n) callers (keeps_functions w n) are)
 
 -- ---- lines that are printed one after another
 
-then_unit : (o : Effect) → and_then o (λ _ t. gives tt t) ≡ o
+pub then_unit : (o : Effect) → and_then o (λ _ t. gives tt t) ≡ o
 then_unit (gives one t) = refl
 then_unit (refuses report t) = refl
 then_unit (asks act t) = refl
 
 -- lines, and then more of them
-lines_and_lines : (lines more : List (List ℕ)) (s : State) → lines_printed (lines ++ more) s ≡ and_then (lines_printed lines s) (λ _ t. lines_printed more t)
+pub lines_and_lines : (lines more : List (List ℕ)) (s : State) → lines_printed (lines ++ more) s ≡ and_then (lines_printed lines s) (λ _ t. lines_printed more t)
 lines_and_lines [] more s = refl
 lines_and_lines (line ∷ lines) more s =
     then_same (line_printed line s) (λ _ t. lines_printed (lines ++ more) t) (λ _ t. and_then (lines_printed lines t) (λ _ u. lines_printed more u)) (λ _ t. lines_and_lines lines more t)
@@ -55,7 +51,7 @@ one_printed m n lines line done few = record {
       ∙ ap (λ (lines : List (List ℕ)). gives tt (record s { printed = lines; workspace = with_printed s.workspace (length line) })) (append_assoc taken n.output (line ∷ []));
 }
 
-over : (a b : ℕ) → b < a → leb a b ≡ false
+pub over : (a b : ℕ) → b < a → leb a b ≡ false
 over a b lt = by (leb a b) refl
   where
     by : (c : Bool) → leb a b ≡ c → c ≡ false

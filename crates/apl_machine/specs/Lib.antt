@@ -1,3 +1,4 @@
+pub mod Alone
 pub mod Classing
 pub mod Evaluating
 pub mod Faults

@@ -202,7 +202,7 @@ fn first_of(rows: &Rows) -> Row
 }
 
 // The value of an answer; VALUE ERROR where it has none.
-fn value_in(answer: Answer) -> Result<Array, Report>
+pub(crate) fn value_in(answer: Answer) -> Result<Array, Report>
     ensures { result ≡ ok_or (answer_row (plain_answer answer)).value report.Value }
 {
     match answer {
@@ -233,7 +233,7 @@ fn names_in(answer: &Answer) -> &[Name]
 }
 
 // The report by which an answer ends the line, if it does.
-fn report_of(kind: AnswerKind) -> Option<Report>
+pub(crate) fn report_of(kind: AnswerKind) -> Option<Report>
     ensures { result ≡ report_of_kind kind }
 {
     match kind {

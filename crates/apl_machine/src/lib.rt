@@ -1,6 +1,7 @@
 //! The machine that evaluates a line, stops at its acts, and goes on with their answers.
 #![tactic(auto)]
 
+mod alone;
 mod answering;
 mod applying;
 mod assigning;
@@ -27,6 +28,7 @@ mod stepping;
 mod values;
 mod waiting;
 
+pub use alone::hear_alone;
 pub use flow::Stop;
 pub use machine::{Machine, STATEMENT_LIMIT};
-pub use reading::tree_of;
+pub use reading::{LineRead, read_line, tree_of};

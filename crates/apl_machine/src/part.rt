@@ -27,8 +27,8 @@ impl Part {
     }
 }
 
-// A constant: a lone item is a scalar, and any other count a vector. One that would be too large stays a node.
-fn constant(items: Items) -> Part
+/// A constant: a lone item is a scalar, and any other count a vector. One that would be too large stays a node. No memory.
+pub fn constant(items: Items) -> Part
     ensures node { plain_part result ≡ plain.constant (plain_items items) }
     ensures part { IsPart result }
 {

@@ -6,8 +6,8 @@ ghost use Rattle.apl_meaning.specs.Printing.{lines_printed};
 ghost use Rattle.apl_machine.specs.Moves.{HasDone, IsNotPrinted};
 
 use crate::interpreter::Interpreter;
-use apl_arrays::{Fail, Line, Report};
-use apl_workspace::PRINTED_LIMIT;
+use apl_arrays::{Fail, Line, LineList, Report};
+use apl_workspace::{PRINTED_LIMIT, Workspace};
 
 impl Interpreter {
     /// Prints lines, one after another, whose glyphs are counted. INTERRUPT at the line that would pass the limit. It takes
@@ -29,12 +29,24 @@ impl Interpreter {
         ensures err { OnErr result (self.new ≡ self.old) }
         ensures refused { IfErr result (IsNotPrinted (self.old.workspace.printed + length line.items)) }
     {
-        let glyphs = line.as_slice().len() as u64;
-        if self.workspace.printed() + glyphs > PRINTED_LIMIT {
-            return Err(Fail::Report(Report::Interrupt));
-        }
-        self.output.push(line)?;
-        self.workspace.count_printed(glyphs);
-        Ok(())
+        print_line(&mut self.workspace, &mut self.output, line)
     }
+}
+
+/// Prints a line, and counts its glyphs. INTERRUPT where they would pass the limit. It takes memory for the output.
+pub fn print_line(workspace: &mut Workspace, output: &mut LineList, line: Line) -> Result<(), Fail>
+    ensures counted { OnOk result (workspace.new ≡ with_printed workspace.old (length line.items)) }
+    ensures printed { OnOk result (output.new.items ≡ output.old.items ++ line.items ∷ []) }
+    ensures fits { OnOk result (workspace.old.printed + length line.items ≤ most_printed) }
+    ensures same { OnErr result (workspace.new ≡ workspace.old) }
+    ensures left { OnErr result (output.new ≡ output.old) }
+    ensures refused { IfErr result (IsNotPrinted (workspace.old.printed + length line.items)) }
+{
+    let glyphs = line.as_slice().len() as u64;
+    if workspace.printed() + glyphs > PRINTED_LIMIT {
+        return Err(Fail::Report(Report::Interrupt));
+    }
+    output.push(line)?;
+    workspace.count_printed(glyphs);
+    Ok(())
 }

@@ -3,12 +3,14 @@ ghost use Rattle.line_scanner.specs.Scanning.{reading_of};
 ghost use Rattle.line_trees.specs.Nodes.{plain_node};
 ghost use Rattle.line_trees.specs.Parsing.{parsed, plain_tree};
 ghost use Rattle.line_trees.specs.Trees.{line_tree_of};
-ghost use Rattle.apl_meaning.specs.Reading.{read_with};
+ghost use Rattle.apl_meaning.specs.Reading.{classes_of, read_with};
 ghost use Rattle.apl_meaning.specs.Statements.{is_misplaced};
+ghost use Rattle.apl_machine.specs.Alone.{IsLineRead};
 ghost use Rattle.apl_machine.specs.Evaluating.{plain_place};
 ghost use Rattle.apl_machine.specs.Runs.{IsTreeOf};
 ghost use Rattle.apl_machine.specs.Parts.{IsNotParsed, IsNotRead, IsNotScanned, IsPart, IsReadFrom, IsReading, begins_silent, is_assignment_node, plain_part, plain_parts, reading_statement, reading_tree};
 
+use crate::alone::act_alone;
 use crate::classing::classes_for;
 use crate::part::Part;
 use crate::place::Place;
@@ -17,6 +19,7 @@ use apl_workspace::Workspace;
 use line_scanner::{ScanRefused, Tokens, scan};
 use line_trees::{Classes, Form, Node, ParseRefused, Tree, parse};
 use std::alloc::Global;
+use sv_events::Act;
 
 /// A line that was read: its label, its form, and the parts of its expression in the order of evaluation.
 #[derive(Debug, Drop)]
@@ -100,8 +103,28 @@ pub fn tree_of(alloc: Global, workspace: &Workspace, text: &Line) -> Result<Tree
     ensures refused { IfErr result (IsNotRead (read_with workspace.now text.now.items)) }
 {
     let tokens = scanned(alloc, text)?;
-    let classes = classes_for(alloc, workspace, &tokens)?;
-    parsed(alloc, &tokens, &classes)
+    tree_of_tokens(alloc, workspace, &tokens)
+}
+
+/// A line that was read: one act alone, or a tree.
+#[derive(Debug, Drop)]
+pub enum LineRead {
+    Alone(Act),
+    Tree(Tree),
+}
+
+/// A line as it is read, with the classes of this moment: one act alone, or its tree; CHARACTER ERROR where a glyph stands
+/// that no token has, else SYNTAX ERROR where the line is no statement. It takes memory for tokens, classes and nodes.
+pub fn read_line(alloc: Global, workspace: &Workspace, line: &Line) -> Result<LineRead, Fail>
+    ensures read { IfOk result (IsLineRead workspace.now line.now.items) }
+    ensures refused { IfErr result (IsNotRead (read_with workspace.now line.now.items)) }
+{
+    let _weight = workspace.weight();
+    let tokens = scanned(alloc, line)?;
+    match act_alone(alloc, workspace, tokens.tokens.as_slice())? {
+        Some(act) => Ok(LineRead::Alone(act)),
+        None => Ok(LineRead::Tree(tree_of_tokens(alloc, workspace, &tokens)?)),
+    }
 }
 
 // The tokens of a text, or the report of its first error.
@@ -116,6 +139,15 @@ fn scanned(alloc: Global, text: &Line) -> Result<Tokens, Fail>
         Err(ScanRefused::SyntaxError(_)) => Err(Fail::Report(Report::Syntax)),
         Err(ScanRefused::WantOfMemory) => Err(Fail::WantOfMemory),
     }
+}
+
+// The tree of tokens with the classes of this moment, or SYNTAX ERROR.
+fn tree_of_tokens(alloc: Global, workspace: &Workspace, tokens: &Tokens) -> Result<Tree, Fail>
+    ensures tree { IfOk result (λ tree. parsed (classes_of workspace.now) tokens.now.tokens.items tokens.now.length ≡ Ok (plain_tree tree)) }
+    ensures refused { IfErr result (IsNotParsed (parsed (classes_of workspace.now) tokens.now.tokens.items tokens.now.length)) }
+{
+    let classes = classes_for(alloc, workspace, tokens)?;
+    parsed(alloc, tokens, &classes)
 }
 
 // The tree of tokens, or SYNTAX ERROR.

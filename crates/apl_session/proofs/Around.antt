@@ -1,6 +1,6 @@
 -- The session around its inside, as its drivers see it.
 use Rattle.std.proofs.Common.{◌≡◌, ◌≢◌, ℕ, List, [], ◌∷◌, ◌++◌, IsTrue, not, sym, ap, subst, ◌∙◌}
-use Rattle.std.specs.Prelude.{Some}
+use Rattle.std.specs.Prelude.{Some, length}
 use Rattle.sv_events.specs.Answer.{PlainAnswer}
 use Rattle.sv_events.specs.declared.event.Act.{Act}
 use Rattle.sv_rules.specs.Entries.{is_leave}
@@ -57,18 +57,19 @@ no_leave s asked waits = none_leaves s.lines s.answers asked (sym waits)
 -- ---- it is given an answer
 
 -- one that waits has an open act inside
-pub waits_inside : {K : Type 0} → (s : PlainSession K) (user : ℕ) (lines : List (List ℕ)) (receipts : List PlainReceipt) (p : Progress) (at : Stage) (shelf : K) → seen user lines receipts at shelf ≡ s → s.stage ≡ stage.Waiting → IfAlive lines receipts p at → IsOpenLine p.under_way
+pub waits_inside : {K : Type 0} → (s : PlainSession K) (user : ℕ) (lines : List (List ℕ)) (receipts : List PlainReceipt) (p : Progress) (at : Stage) (shelf : K) → seen user lines receipts at shelf ≡ s → s.stage ≡ stage.Waiting → IfAlive lines receipts p at → IsOpenLine (length lines) p.read p.terminal p.under_way
 waits_inside s user lines receipts p at shelf is waiting h =
     let here : at ≡ stage.Waiting = ap (λ (one : PlainSession _). one.stage) is ∙ waiting in is_open_line lines receipts p at here (h (waiting_lives at here))
 
 -- it stands there too with the answer
-pub was_answered : {K : Type 0} → (s : PlainSession K) (user : ℕ) (lines : List (List ℕ)) (receipts now : List PlainReceipt) (receipt : PlainReceipt) (before after : Progress) (at : Stage) (shelf : K) (answer : PlainAnswer) → seen user lines receipts at shelf ≡ s → s.stage ≡ stage.Waiting
-    → IfAlive lines receipts before at → now ≡ receipts ++ receipt ∷ [] → receipt.answer ≡ answer → ((list : List (List ℕ)) (answers : List PlainAnswer) → StandsIn list answers before → IsAnswered list answers receipt.act answer after) → IsSession lines now after stage.Ready
-was_answered s user lines receipts now receipt before after at shelf answer is waiting h added told goes =
+pub was_answered : {K : Type 0} → (s : PlainSession K) (user : ℕ) (lines shown : List (List ℕ)) (receipts now : List PlainReceipt) (receipt : PlainReceipt) (before after : Progress) (at : Stage) (shelf : K) (answer : PlainAnswer) → seen user lines receipts at shelf ≡ s → s.stage ≡ stage.Waiting
+    → IfAlive lines receipts before at → now ≡ receipts ++ receipt ∷ [] → receipt.answer ≡ answer → shown ≡ lines → ((answers : List PlainAnswer) → StandsIn shown answers before → IsAnswered shown answers receipt.act answer after) → IsSession lines now after stage.Ready
+was_answered s user lines shown receipts now receipt before after at shelf answer is waiting h added told same goes =
     let here : at ≡ stage.Waiting = ap (λ (one : PlainSession _). one.stage) is ∙ waiting in
     let session : IsSession lines receipts before at = h (waiting_lives at here) in
     let stood : IsAnswered lines (answers_in receipts) receipt.act receipt.answer after =
-    subst (λ (a : PlainAnswer). IsAnswered lines (answers_in receipts) receipt.act a after) (sym told) (goes lines (answers_in receipts) session.stands) in
+    subst (λ (a : PlainAnswer). IsAnswered lines (answers_in receipts) receipt.act a after) (sym told)
+    (subst (λ (list : List (List ℕ)). IsAnswered list (answers_in receipts) receipt.act answer after) same (goes (answers_in receipts) (subst (λ (list : List (List ℕ)). StandsIn list (answers_in receipts) before) (sym same) session.stands))) in
     subst (λ (list : List PlainReceipt). IsSession lines list after stage.Ready) (sym added) (answered_session lines receipts receipt before after at session stood)
 
 -- ---- what it shows

@@ -26,6 +26,7 @@ use Rattle.apl_session.specs.declared.session.Stage.{Stage}
 use Rattle.apl_session.specs.declared.session.Stage.TheVariants as stage
 use Rattle.apl_session.specs.declared.under_way.UnderWay.{UnderWay}
 use Rattle.apl_session.specs.declared.under_way.UnderWay.TheVariants as under_way
+use Rattle.apl_session.proofs.Lone.{alone_printed, alone_waits, may_hear}
 use Rattle.apl_session.proofs.Going.{at_terminal, goes_asking, goes_done, goes_reported, one_line, taken_on}
 
 -- ---- lines
@@ -87,6 +88,7 @@ statement_at lines line answers read t opens h = subst (λ (b : Bool). IsAt line
 asked_by : (lines : List (List ℕ)) (answers : List PlainAnswer) (read : ℕ) (t : PlainTerminal) (u : UnderWay) (m : PlainMachine) (act : Act) → Waits m act u → t.definition ≡ None → IsUnderWay lines answers read t.transcript m → IsAsking lines answers t.transcript m act
     → StandsBy lines answers read t u
 asked_by lines answers read t under_way.Nothing m act waits free here asking = absurd waits
+asked_by lines answers read t (under_way.Alone asked) m act waits free here asking = absurd waits
 asked_by lines answers read t (under_way.Asking b asked) m act waits free here asking = (
   free,
   subst (λ (k : PlainMachine). IsUnderWay lines answers read t.transcript k) (sym waits.0) here,
@@ -145,6 +147,7 @@ begun_session lines p terminal read nothing =
 
 may_by : (lines : List (List ℕ)) (answers : List PlainAnswer) (read : ℕ) (t : PlainTerminal) (u : UnderWay) (at : Stage) → StandsBy lines answers read t u → IsThisFar (length lines) read u at → MayGoOn at → MayAdvance t u
 may_by lines answers read t under_way.Nothing at h far may = tt
+may_by lines answers read t (under_way.Alone act) at h far may = subst MayGoOn far may
 may_by lines answers read t (under_way.Asking b act) at h far may = subst MayGoOn far may
 may_by lines answers read t (under_way.Answered b) at h far may = (h.0, h.2)
 
@@ -160,6 +163,7 @@ finished_course lines answers read t over h =
 gone_by : (lines : List (List ℕ)) (answers : List PlainAnswer) (read : ℕ) (t : PlainTerminal) (u : UnderWay) → StandsBy lines answers read t u → IsPaused u → (u ≡ under_way.Nothing → length lines ≤ read)
     → ((session_of lines answers).waits ≡ open_act u) × IsThisFar (length lines) read u (stage_by (open_act u))
 gone_by lines answers read t under_way.Nothing h paused over = (ap (λ (c : Course). c.waits) (finished_course lines answers read t (over refl) h), over refl)
+gone_by lines answers read t (under_way.Alone act) h paused over = (alone_waits lines answers read t act h, refl)
 gone_by lines answers read t (under_way.Asking b act) h paused over = (h.2.waits, refl)
 gone_by lines answers read t (under_way.Answered b) h paused over = absurd paused
 
@@ -172,18 +176,20 @@ gone_on lines shown receipts before after at same h goes =
     let found = gone_by lines (answers_in receipts) after.read after.terminal after.under_way come.stands come.paused come.over in
     (record { acts = h.acts; stands = come.stands; far = found.1 }, found.0)
 
-open_by : (lines : List (List ℕ)) (answers : List PlainAnswer) (read : ℕ) (t : PlainTerminal) (u : UnderWay) → StandsBy lines answers read t u → IsThisFar (length lines) read u stage.Waiting → IsOpenLine u
+open_by : (lines : List (List ℕ)) (answers : List PlainAnswer) (read : ℕ) (t : PlainTerminal) (u : UnderWay) → StandsBy lines answers read t u → IsThisFar (length lines) read u stage.Waiting → IsOpenLine (length lines) read t u
 open_by lines answers read t under_way.Nothing h far = absurd far
+open_by lines answers read t (under_way.Alone act) h far = may_hear lines answers read t act h
 open_by lines answers read t (under_way.Asking b act) h far = h.2.is_open
 open_by lines answers read t (under_way.Answered b) h far = absurd cc
 
 -- a session that waits has an open act
-pub is_open_line : (lines : List (List ℕ)) (receipts : List PlainReceipt) (p : Progress) (at : Stage) → at ≡ stage.Waiting → IsSession lines receipts p at → IsOpenLine p.under_way
+pub is_open_line : (lines : List (List ℕ)) (receipts : List PlainReceipt) (p : Progress) (at : Stage) → at ≡ stage.Waiting → IsSession lines receipts p at → IsOpenLine (length lines) p.read p.terminal p.under_way
 is_open_line lines receipts p at waiting h =
     open_by lines (answers_in receipts) p.read p.terminal p.under_way h.stands (subst (λ (s : Stage). IsThisFar (length lines) p.read p.under_way s) waiting h.far)
 
 ready_by : (count read : ℕ) (t : PlainTerminal) (u : UnderWay) → MayAdvance t u → IsThisFar count read u stage.Ready
 ready_by count read t under_way.Nothing may = tt
+ready_by count read t (under_way.Alone act) may = absurd may
 ready_by count read t (under_way.Asking b act) may = absurd may
 ready_by count read t (under_way.Answered b) may = refl
 
@@ -207,6 +213,7 @@ heard_by lines answers read t under_way.Nothing stage.Ready h far heard = absurd
 heard_by lines answers read t under_way.Nothing stage.Waiting h far heard = absurd far
 heard_by lines answers read t under_way.Nothing stage.Finished h far heard = ap (λ (c : Course). c.terminal.transcript) (sym (finished_course lines answers read t far h))
 heard_by lines answers read t under_way.Nothing stage.Failed h far heard = absurd far
+heard_by lines answers read t (under_way.Alone act) at h far heard = sym (alone_printed lines answers read t act h)
 heard_by lines answers read t (under_way.Asking b act) at h far heard = sym h.2.printed
 heard_by lines answers read t (under_way.Answered b) at h far heard = absurd (subst HasHeardAll far heard)
 

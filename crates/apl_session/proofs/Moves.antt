@@ -1,14 +1,18 @@
 -- From what the parts of a call promise to what the call does.
-use Rattle.std.proofs.Common.{◌≡◌, ℕ, ◌+◌, ◌<◌, true, false, List, [], ◌∷◌, ◌++◌, drop, get_or, length, refl, sym, ap, subst, ◌∙◌, append-nil, arith}
+use Rattle.std.proofs.Common.{◌≡◌, ℕ, ◌+◌, ◌-◌, ◌<◌, ◌≤◌, true, false, List, [], ◌∷◌, ◌++◌, drop, get_or, length, refl, sym, ap, subst, ◌∙◌, append-nil, arith}
 use Rattle.std.proofs.lemmas.List.{drop_more, get_or-map, length-map}
 use Rattle.std.specs.Prelude.{None, Err, map}
 use Rattle.std.specs.Global.{Box}
 use Rattle.apl_arrays.specs.List.{Listed, glyphs_in}
+use Rattle.apl_arrays.specs.declared.report.Fail.{Fail}
+use Rattle.apl_arrays.specs.declared.report.Fail.TheVariants as fail
 use Rattle.apl_arrays.specs.declared.report.Report.{Report}
+use Rattle.apl_machine.specs.Alone.{IsAlone}
 use Rattle.apl_machine.specs.Machine.{IsIdle, IsOpenAct, IsOpenStage, MayRun, PlainMachine, idle_on, silent}
 use Rattle.apl_machine.specs.Runs.{IsTreeOf, Stands, StandsOn, StopsAs}
 use Rattle.apl_machine.specs.declared.flow.Stop.{Stop}
 use Rattle.apl_machine.specs.declared.flow.Stop.TheVariants as stop
+use Rattle.apl_machine.specs.Parts.{IsNotRead}
 use Rattle.apl_machine.proofs.OpenStage.{open_stage}
 use Rattle.apl_meaning.specs.Meaning.{most_statements}
 use Rattle.apl_meaning.specs.Reading.{read_with}
@@ -22,10 +26,11 @@ use Rattle.apl_terminal.specs.LineKind.{is_opening}
 use Rattle.apl_terminal.specs.Terminal.{PlainTerminal, echoing, editing, free_prompt, printing, reporting}
 use Rattle.session_rules.specs.Course.{with_terminal}
 use Rattle.session_rules.specs.Session.{free_line, statement_done}
-use Rattle.apl_session.specs.Standing.{IsAnswered, IsAt, IsHanded, IsIdleAt, IsOpenLine, IsPaused, IsUnderWay, MayAdvance, PausesAt, StandsBy, StandsIn, Waits, has_open_act, with_output_of}
+use Rattle.apl_session.specs.Standing.{EndsBy, IsAnswered, IsAt, IsBetween, IsHanded, IsIdleAt, IsLastRead, IsOpenLine, IsPaused, IsUnderWay, IsWaitingAlone, MayAdvance, MayHear, PausesAt, StandsBy, StandsIn, Waits, has_open_act, with_output_of}
 use Rattle.apl_session.specs.declared.progress.Progress.{Progress}
 use Rattle.apl_session.specs.declared.under_way.UnderWay.{UnderWay}
 use Rattle.apl_session.specs.declared.under_way.UnderWay.TheVariants as under_way
+use Rattle.apl_session.proofs.Lone.{alone_waits}
 use Rattle.apl_session.proofs.Going.{begun_at, refused_at, taken_on}
 use Rattle.apl_session.proofs.Inside.{asked_on, done_on, echoed_at, opening_at, reported_on, rests, statement_at}
 
@@ -38,6 +43,7 @@ none_answered u nothing = subst IsPaused (sym nothing) tt
 -- and where no line waits nothing is under way
 pub nothing_by : (u : UnderWay) → IsPaused u → has_open_act u ≡ false → u ≡ under_way.Nothing
 nothing_by under_way.Nothing paused free = refl
+nothing_by (under_way.Alone act) paused free = absurd cc
 nothing_by (under_way.Asking b act) paused free = absurd cc
 nothing_by (under_way.Answered b) paused free = absurd paused
 
@@ -75,12 +81,17 @@ evaluated_on lines line answers read t lent w seen tree fresh m left same new he
     subst (λ (printed : List (List ℕ)). IsUnderWay lines answers read printed m) (sym (ap (λ (s : PlainTerminal). s.transcript) left)) (begun_at lines line answers read t tree m h tree_there there)
 
 -- or refused
-pub refused_on : (lines : List (List ℕ)) (line : List ℕ) (answers : List PlainAnswer) (t : PlainTerminal) (seen : PlainWorkspace) (report : Report) (p : Progress) → p.under_way ≡ under_way.Nothing → p.terminal ≡ reporting report line t → seen ≡ t.workspace → seen.frames ≡ []
+refused_on : (lines : List (List ℕ)) (line : List ℕ) (answers : List PlainAnswer) (t : PlainTerminal) (seen : PlainWorkspace) (report : Report) (p : Progress) → p.under_way ≡ under_way.Nothing → p.terminal ≡ reporting report line t → seen ≡ t.workspace → seen.frames ≡ []
     → t.definition ≡ None → read_with seen line ≡ Err report → IsAt lines answers p.read (statement_done most_statements line) t → StandsIn lines answers p
 refused_on lines line answers t seen report p nothing is here frames free refused h =
     rests lines answers p nothing
     (subst (λ (s : PlainTerminal). IsAt lines answers p.read (λ c. c) s) (sym is)
     (refused_at lines line answers p.read t report h (subst (λ (w : PlainWorkspace). read_with w line ≡ Err report) here refused) (sym (ap (λ (w : PlainWorkspace). w.frames) here) ∙ frames) free))
+
+pub refused_by : (lines : List (List ℕ)) (line : List ℕ) (answers : List PlainAnswer) (t : PlainTerminal) (seen : PlainWorkspace) (why : Fail) (p : Progress) → p.under_way ≡ under_way.Nothing → EndsBy why line t p.terminal → seen ≡ t.workspace → seen.frames ≡ []
+    → t.definition ≡ None → IsNotRead (read_with seen line) why → IsAt lines answers p.read (statement_done most_statements line) t → StandsIn lines answers p
+refused_by lines line answers t seen (fail.Report report) p nothing is here frames free refused h = refused_on lines line answers t seen report p nothing is here frames free refused h
+refused_by lines line answers t seen fail.WantOfMemory p nothing is here frames free refused h = absurd is
 
 -- a machine that is idle is so without its lines
 pub idle_after : (n after : PlainMachine) → IsIdle n → after ≡ silent n → IsIdle after
@@ -111,9 +122,9 @@ pub waits_for : (b : Box PlainMachine) (act : Act) (before after : Progress) →
 waits_for b act before after waiting rest = (subst (λ (u : UnderWay). Waits b.value act u) (sym waiting) (refl, refl), rest)
 
 -- the act of a line that waits is open
-pub open_there : (u : UnderWay) (b : Box PlainMachine) (act : Act) → u ≡ under_way.Asking b act → IsOpenLine u → IsOpenStage b.value.stage
-open_there u b act waiting h =
-    let is : IsOpenAct b.value act = subst IsOpenLine waiting h in open_stage b.value.interpreter.workspace b.value.stage act is
+pub open_there : (count read : ℕ) (t : PlainTerminal) (u : UnderWay) (b : Box PlainMachine) (act : Act) → u ≡ under_way.Asking b act → IsOpenLine count read t u → IsOpenStage b.value.stage
+open_there count read t u b act waiting h =
+    let is : IsOpenAct b.value act = subst (IsOpenLine count read t) waiting h in open_stage b.value.interpreter.workspace b.value.stage act is
 
 -- a line whose act is answered
 pub answered_on : (lines : List (List ℕ)) (answers : List PlainAnswer) (act : Act) (answer : PlainAnswer) (b : Box PlainMachine) (before after : Progress) (left : UnderWay) → before.under_way ≡ under_way.Asking b act
@@ -131,3 +142,33 @@ answered_there lines answers p b waits h = let at : StandsBy lines answers p.rea
 -- and it may run
 pub answered_runs : (t : PlainTerminal) (u : UnderWay) (b : Box PlainMachine) → u ≡ under_way.Answered b → MayAdvance t u → (t.definition ≡ None) × MayRun b.value.stage
 answered_runs t u b waits may = subst (MayAdvance t) waits may
+
+-- ---- a line that is one act alone
+
+-- its answer can be given
+pub may_hear_there : (count read : ℕ) (t : PlainTerminal) (u : UnderWay) (asked : Act) → u ≡ under_way.Alone asked → IsOpenLine count read t u → MayHear count read t asked
+may_hear_there count read t u asked waits h = subst (IsOpenLine count read t) waits h
+
+-- the line that was read last is the one at the place before
+line_is_last : (lines : List (Listed ℕ)) (read : ℕ) (found : Listed ℕ) (line : List ℕ) → 0 < read → read ≤ length lines → found ≡ get_or lines (read - 1) found → IsLastRead (map glyphs_in lines) read line → line ≡ found.items
+line_is_last lines read found line some within is last =
+    let place : read - 1 ≡ last.before = omega (arith, last.read_is) in
+    let here : line ∷ last.rest ≡ found.items ∷ drop (read - 1 + 1) (map glyphs_in lines) = sym last.here ∙ ap (λ k. drop k (map glyphs_in lines)) (sym place) ∙ line_at lines (read - 1) found (omega (arith, some, within)) is in
+    cc
+
+-- it was given its answer
+pub heard_on : (lines : List (Listed ℕ)) (answers : List PlainAnswer) (asked : Act) (answer : PlainAnswer) (found : Listed ℕ) (before after : Progress) → before.under_way ≡ under_way.Alone asked → after.under_way ≡ under_way.Nothing → after.read ≡ before.read
+    → 0 < before.read → before.read ≤ length lines → found ≡ get_or lines (before.read - 1) found
+    → ((list : List (List ℕ)) (given : List PlainAnswer) → IsAt list given before.read (statement_done most_statements found.items) before.terminal → IsAlone before.terminal.workspace found.items asked → IsBetween list (given ++ answer ∷ []) before.read after.terminal)
+    → StandsIn (map glyphs_in lines) answers before → IsAnswered (map glyphs_in lines) answers asked answer after
+heard_on lines answers asked answer found before after waits nothing same some within is goes h =
+    let list : List (List ℕ) = map glyphs_in lines in
+    let waiting : IsWaitingAlone list answers before.read before.terminal asked = subst (λ (u : UnderWay). StandsBy list answers before.read before.terminal u) waits h in
+    let line : waiting.line ≡ found.items = line_is_last lines before.read found waiting.line some within is waiting.last in
+    let between : IsBetween list (answers ++ answer ∷ []) before.read after.terminal =
+    goes list answers (subst (λ (glyphs : List ℕ). IsAt list answers before.read (statement_done most_statements glyphs) before.terminal) line waiting.at) (subst (λ (glyphs : List ℕ). IsAlone before.terminal.workspace glyphs asked) line waiting.alone) in
+    record {
+      waited = alone_waits list answers before.read before.terminal asked waiting;
+      stands = rests list (answers ++ answer ∷ []) after nothing (subst (λ (k : ℕ). IsBetween list (answers ++ answer ∷ []) k after.terminal) (sym same) between);
+      may = subst (MayAdvance after.terminal) (sym nothing) tt;
+    }

@@ -1,6 +1,9 @@
 -- Where the inside of a session stands in its lines.
-use Rattle.std.specs.Prelude.{◌≡◌, ◌≤◌, ◌++◌, ℕ, Bool, true, false, List, [], ◌∷◌, Option, Some, None, drop, length}
+use Rattle.std.specs.Prelude.{◌≡◌, ◌+◌, ◌<◌, ◌≤◌, ◌++◌, ℕ, Bool, true, false, List, [], ◌∷◌, Option, Some, None, drop, length}
 use Rattle.std.specs.Global.{Box}
+use Rattle.apl_arrays.specs.declared.report.Fail.{Fail}
+use Rattle.apl_arrays.specs.declared.report.Fail.TheVariants as fail
+use Rattle.apl_machine.specs.Alone.{IsAlone, IsOnShared}
 use Rattle.apl_machine.specs.Machine.{PlainMachine, IsIdle, IsOpenAct, MayRun}
 use Rattle.apl_machine.specs.Runs.{Stands, StandsOn}
 use Rattle.apl_machine.specs.declared.flow.Stop.{Stop}
@@ -10,8 +13,8 @@ use Rattle.line_trees.specs.Trees.{LineTree}
 use Rattle.sv_events.specs.Answer.{PlainAnswer}
 use Rattle.sv_events.specs.declared.event.Act.{Act}
 use Rattle.session_rules.specs.Course.{Course, behind}
-use Rattle.session_rules.specs.Session.{lines_done, session_of}
-use Rattle.apl_terminal.specs.Terminal.{PlainTerminal, printing}
+use Rattle.session_rules.specs.Session.{lines_done, session_of, statement_done}
+use Rattle.apl_terminal.specs.Terminal.{PlainTerminal, printing, reporting}
 use Rattle.apl_session.specs.Receipts.{PlainReceipt, acts_in, answers_in}
 use Rattle.apl_session.specs.declared.progress.Progress.{Progress}
 use Rattle.apl_session.specs.declared.session.Stage.{Stage}
@@ -52,9 +55,25 @@ pub record IsAsking (lines : List (List ℕ)) (answers : List PlainAnswer) (tran
   pub printed : (session_of lines answers).terminal.transcript ≡ transcript
   pub is_open : IsOpenAct m act
 
+-- a line is the last that was read
+pub record IsLastRead (lines : List (List ℕ)) (read : ℕ) (line : List ℕ) : Type 0 where
+  pub before : ℕ
+  pub rest : List (List ℕ)
+  pub read_is : read ≡ before + 1
+  pub here : drop before lines ≡ line ∷ rest
+
+-- the last line that was read is this act alone, which has no answer yet: it was echoed, and nothing of it is done
+pub record IsWaitingAlone (lines : List (List ℕ)) (answers : List PlainAnswer) (read : ℕ) (t : PlainTerminal) (asked : Act) : Type 0 where
+  pub free : t.definition ≡ None
+  pub line : List ℕ
+  pub last : IsLastRead lines read line
+  pub alone : IsAlone t.workspace line asked
+  pub at : IsAt lines answers read (statement_done most_statements line) t
+
 -- the line that is under way stands so, if one is
 abbrev pub StandsBy : List (List ℕ) → List PlainAnswer → ℕ → PlainTerminal → UnderWay → Type 0
 StandsBy lines answers read t under_way.Nothing = IsBetween lines answers read t
+StandsBy lines answers read t (under_way.Alone act) = IsWaitingAlone lines answers read t act
 StandsBy lines answers read t (under_way.Asking b act) = (t.definition ≡ None) × IsUnderWay lines answers read t.transcript b.value × IsAsking lines answers t.transcript b.value act
 StandsBy lines answers read t (under_way.Answered b) = (t.definition ≡ None) × IsUnderWay lines answers read t.transcript b.value × MayRun b.value.stage
 
@@ -65,26 +84,42 @@ StandsIn lines answers p = StandsBy lines answers p.read p.terminal p.under_way
 -- no line is under way that waits for an answer, and where one was answered no definition is open
 abbrev pub MayAdvance : PlainTerminal → UnderWay → Type 0
 MayAdvance t under_way.Nothing = Unit {0}
+MayAdvance t (under_way.Alone act) = ⊥
 MayAdvance t (under_way.Asking b act) = ⊥
 MayAdvance t (under_way.Answered b) = (t.definition ≡ None) × MayRun b.value.stage
 
--- a line is under way that waits for an answer
-abbrev pub IsOpenLine : UnderWay → Type 0
-IsOpenLine under_way.Nothing = ⊥
-IsOpenLine (under_way.Asking b act) = IsOpenAct b.value act
-IsOpenLine (under_way.Answered b) = ⊥
+-- an act alone can be given its answer at this terminal: no definition is open, its name is shared, and its line is one of so many
+pub record MayHear (count read : ℕ) (t : PlainTerminal) (asked : Act) : Type 0 where
+  pub free : t.definition ≡ None
+  pub shared : IsOnShared t.workspace asked
+  pub some : 0 < read
+  pub within : read ≤ count
+
+-- a line of so many is under way that waits for an answer
+abbrev pub IsOpenLine : ℕ → ℕ → PlainTerminal → UnderWay → Type 0
+IsOpenLine count read t under_way.Nothing = ⊥
+IsOpenLine count read t (under_way.Alone act) = MayHear count read t act
+IsOpenLine count read t (under_way.Asking b act) = IsOpenAct b.value act
+IsOpenLine count read t (under_way.Answered b) = ⊥
 
 -- a line waits for an answer, or none is under way
 abbrev pub IsPaused : UnderWay → Type 0
 IsPaused under_way.Nothing = Unit {0}
+IsPaused (under_way.Alone act) = Unit {0}
 IsPaused (under_way.Asking b act) = Unit {0}
 IsPaused (under_way.Answered b) = ⊥
 
 -- whether a line waits for an answer
 abbrev pub has_open_act : UnderWay → Bool
 has_open_act under_way.Nothing = false
+has_open_act (under_way.Alone act) = true
 has_open_act (under_way.Asking b act) = true
 has_open_act (under_way.Answered b) = false
+
+-- a line ended by the report of why it failed; where memory ran out it did not
+abbrev pub EndsBy : Fail → List ℕ → PlainTerminal → PlainTerminal → Type 0
+EndsBy (fail.Report report) line before after = after ≡ reporting report line before
+EndsBy fail.WantOfMemory line before after = ⊥
 
 -- where a run stops and the line is over, the machine is idle
 abbrev pub IsIdleAt : PlainMachine → Stop → Type 0
@@ -95,6 +130,7 @@ IsIdleAt m (stop.Asks act) = Unit {0}
 -- the act that waits for its answer, if one does
 abbrev pub open_act : UnderWay → Option Act
 open_act under_way.Nothing = None
+open_act (under_way.Alone act) = Some act
 open_act (under_way.Asking b act) = Some act
 open_act (under_way.Answered b) = None
 
@@ -109,6 +145,7 @@ with_output_of m p = record p { terminal = printing m.interpreter.output p.termi
 -- an act that a machine asked waits for its answer
 abbrev pub Waits : PlainMachine → Act → UnderWay → Type 0
 Waits m act under_way.Nothing = ⊥
+Waits m act (under_way.Alone asked) = ⊥
 Waits m act (under_way.Asking b asked) = (b.value ≡ m) × (asked ≡ act)
 Waits m act (under_way.Answered b) = ⊥
 
@@ -147,6 +184,7 @@ IsFree count read stage.Failed = ⊥
 -- a session of so many lines is this far
 abbrev pub IsThisFar : ℕ → ℕ → UnderWay → Stage → Type 0
 IsThisFar count read under_way.Nothing at = IsFree count read at
+IsThisFar count read (under_way.Alone act) at = at ≡ stage.Waiting
 IsThisFar count read (under_way.Asking b act) at = at ≡ stage.Waiting
 IsThisFar count read (under_way.Answered b) at = at ≡ stage.Ready
 

@@ -1,6 +1,7 @@
 //! A user's lines: a session that does them one after another, its transcript, and how a run ended.
 #![tactic(auto)]
 
+mod alone;
 mod letting_go;
 mod lines;
 mod outcome;

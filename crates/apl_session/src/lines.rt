@@ -1,22 +1,24 @@
 ghost use Rattle.std.specs.Prelude.{◌≡◌, ◌+◌, ◌<◌, ◌^◌, ℕ, List, [], ◌∷◌, None, OnOk, drop};
 ghost use Rattle.apl_machine.specs.Machine.{IsIdle, MayRun, silent};
-ghost use Rattle.apl_machine.specs.Runs.{StandsOn};
+ghost use Rattle.apl_machine.specs.Runs.{IsTreeOf, StandsOn};
+ghost use Rattle.line_trees.specs.Parsing.{plain_tree};
 ghost use Rattle.apl_machine.specs.declared.flow.Stop.TheVariants as stopped;
 ghost use Rattle.apl_meaning.specs.Meaning.{most_statements};
 ghost use Rattle.sv_events.specs.Answer.{PlainAnswer};
 ghost use Rattle.session_rules.specs.Course.{with_terminal};
 ghost use Rattle.session_rules.specs.Session.{free_line, statement_done};
 ghost use Rattle.apl_terminal.specs.Terminal.{echoing, free_prompt, printing};
-ghost use Rattle.apl_session.specs.Standing.{IsAt, IsIdleAt, IsPaused, IsUnderWay, PausesAt, StandsIn, with_output_of, with_workspace_of};
+ghost use Rattle.apl_session.specs.Standing.{EndsBy, IsAt, IsIdleAt, IsLastRead, IsPaused, IsUnderWay, PausesAt, StandsIn, with_output_of, with_workspace_of};
 ghost use Rattle.apl_session.specs.declared.under_way.UnderWay.TheVariants as under_way;
 
 use crate::letting_go::let_go;
 use crate::progress::Progress;
 use crate::under_way::UnderWay;
 use apl_arrays::{Fail, Line, LineList, WantOfMemory};
-use apl_machine::{Machine, Stop, tree_of};
+use apl_machine::{LineRead, Machine, Stop, read_line};
 use apl_operators::Steps;
 use apl_terminal::is_opening;
+use line_trees::Tree;
 use std::mem;
 use std::sync::ledger::Ledger;
 use sv_events::Act;
@@ -55,7 +57,7 @@ impl Progress {
         requires free { self.old.terminal.definition ≡ None }
         ensures stands { OnOk result ((lines : List (List ℕ)) (answers : List PlainAnswer)
             → IsAt lines answers self.old.read (λ c. free_line most_statements line.now.items (with_terminal (echoing free_prompt line.now.items c.terminal) c)) self.old.terminal
-            → StandsIn lines answers self.new) }
+            → IsLastRead lines self.old.read line.now.items → StandsIn lines answers self.new) }
         ensures paused { OnOk result (IsPaused self.new.under_way) }
         ensures read { self.new.read ≡ self.old.read }
     {
@@ -68,31 +70,58 @@ impl Progress {
         }
     }
 
-    // Evaluates a statement, or reports why it is none.
+    // Evaluates a statement, or reports why it is none. One that is an act alone waits for its answer at once.
     fn evaluate<L: Ledger>(&mut self, line: &Line, steps: &mut Steps<L>) -> Result<(), WantOfMemory>
         requires none { self.old.under_way ≡ under_way.Nothing }
         requires free { self.old.terminal.definition ≡ None }
+        ensures stands { OnOk result ((lines : List (List ℕ)) (answers : List PlainAnswer)
+            → IsAt lines answers self.old.read (statement_done most_statements line.now.items) self.old.terminal → IsLastRead lines self.old.read line.now.items → StandsIn lines answers self.new) }
+        ensures paused { OnOk result (IsPaused self.new.under_way) }
+        ensures read { self.new.read ≡ self.old.read }
+    {
+        match read_line(self.alloc, self.terminal.workspace(), line) {
+            Ok(LineRead::Alone(act)) => {
+                let_go(mem::replace(&mut self.under_way, UnderWay::Alone(act)));
+                Ok(())
+            }
+            Ok(LineRead::Tree(tree)) => self.begin(line, tree, steps),
+            Err(fail) => self.end_by(fail, line),
+        }
+    }
+
+    /// Ends a line by the report of why it failed, unless memory ran out. It takes memory for what is printed.
+    pub(crate) fn end_by(&mut self, fail: Fail, line: &Line) -> Result<(), WantOfMemory>
+        ensures ends { OnOk result (EndsBy fail line.now.items self.old.terminal self.new.terminal) }
+        ensures rest { self.new ≡ record self.old { terminal = self.new.terminal } }
+    {
+        match fail {
+            Fail::Report(report) => self.terminal.report(report, line),
+            Fail::WantOfMemory => Err(WantOfMemory),
+        }
+    }
+
+    // Begins a line that has this tree.
+    fn begin<L: Ledger>(
+        &mut self,
+        line: &Line,
+        tree: Tree,
+        steps: &mut Steps<L>,
+    ) -> Result<(), WantOfMemory>
+        requires none { self.old.under_way ≡ under_way.Nothing }
+        requires free { self.old.terminal.definition ≡ None }
+        requires tree { IsTreeOf self.old.terminal.workspace line.now.items (plain_tree tree) }
         ensures stands { OnOk result ((lines : List (List ℕ)) (answers : List PlainAnswer)
             → IsAt lines answers self.old.read (statement_done most_statements line.now.items) self.old.terminal → StandsIn lines answers self.new) }
         ensures paused { OnOk result (IsPaused self.new.under_way) }
         ensures read { self.new.read ≡ self.old.read }
     {
-        match tree_of(self.alloc, self.terminal.workspace(), line) {
-            Ok(tree) => {
-                let mut machine = self.spare.take_on(self.alloc, self.terminal.lend())?;
-                match machine.begin(line, tree) {
-                    Ok(()) => self.run(machine, steps),
-                    Err(WantOfMemory) => {
-                        let_go(machine);
-                        Err(WantOfMemory)
-                    }
-                }
+        let mut machine = self.spare.take_on(self.alloc, self.terminal.lend())?;
+        match machine.begin(line, tree) {
+            Ok(()) => self.run(machine, steps),
+            Err(WantOfMemory) => {
+                let_go(machine);
+                Err(WantOfMemory)
             }
-            Err(Fail::Report(report)) => {
-                self.terminal.report(report, line)?;
-                Ok(())
-            }
-            Err(Fail::WantOfMemory) => Err(WantOfMemory),
         }
     }
 
@@ -145,8 +174,8 @@ impl Progress {
         }
     }
 
-    // Prints the lines of a run, if there are any. It takes memory for them; where that runs out, some may be printed.
-    fn print(&mut self, lines: LineList) -> Result<(), WantOfMemory>
+    /// Prints the lines of a run, if there are any. It takes memory for them; where that runs out, some may be printed.
+    pub(crate) fn print(&mut self, lines: LineList) -> Result<(), WantOfMemory>
         ensures ok { OnOk result (self.new.terminal ≡ printing lines.items self.old.terminal) }
         ensures rest { self.new ≡ record self.old { terminal = self.new.terminal } }
     {

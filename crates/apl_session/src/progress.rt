@@ -1,4 +1,4 @@
-ghost use Rattle.std.specs.Prelude.{◌≡◌, ℕ, List, IfOk, IsOk, OnOk, map};
+ghost use Rattle.std.specs.Prelude.{◌≡◌, ℕ, List, IfOk, IsOk, OnOk, length, map};
 ghost use Rattle.apl_arrays.specs.List.{glyphs_in};
 ghost use Rattle.sv_events.specs.Answer.{PlainAnswer, plain_answer};
 ghost use Rattle.apl_terminal.specs.Terminal.{new_terminal};
@@ -79,7 +79,7 @@ impl Progress {
     fn has_open_act(&self) -> bool
         ensures { result ≡ has_open_act self.now.under_way }
     {
-        matches!(self.under_way, UnderWay::Asking(..))
+        matches!(self.under_way, UnderWay::Asking(..) | UnderWay::Alone(_))
     }
 
     /// The act that waits for its answer, if one does. It takes memory for its value.
@@ -88,17 +88,25 @@ impl Progress {
     {
         match &self.under_way {
             UnderWay::Asking(_, act) => Ok(Some(act.copy(self.alloc)?)),
+            UnderWay::Alone(act) => Ok(Some(act.copy(self.alloc)?)),
             _ => Ok(None),
         }
     }
 
-    /// Hands the answer to the act that is open to its line, and gives back the act. Nothing is evaluated. No memory.
-    pub fn take_answer(&mut self, answer: Answer) -> Result<Act, WantOfMemory>
-        requires { IsOpenLine self.old.under_way }
-        ensures granted { IsOk result }
-        ensures stands { IfOk result (λ act. (lines : List (List ℕ)) (answers : List PlainAnswer) → StandsIn lines answers self.old → IsAnswered lines answers act (plain_answer answer) self.new) }
+    /// Gives the answer to the act that waits, in one of these lines, and gives back the act. A line that is this act alone
+    /// is done then, which takes memory for what it prints; any other is handed the answer, and nothing is evaluated.
+    pub fn take_answer(&mut self, lines: &[Line], answer: Answer) -> Result<Act, WantOfMemory>
+        requires { IsOpenLine (length lines.now) self.old.read self.old.terminal self.old.under_way }
+        ensures { IfOk result (λ act. (answers : List PlainAnswer) → StandsIn (map glyphs_in lines.now) answers self.old → IsAnswered (map glyphs_in lines.now) answers act (plain_answer answer) self.new) }
     {
         match mem::replace(&mut self.under_way, UnderWay::Nothing) {
+            UnderWay::Alone(act) => match self.hear(&lines[self.read - 1], &act, answer) {
+                Ok(()) => Ok(act),
+                Err(WantOfMemory) => {
+                    let_go(act);
+                    Err(WantOfMemory)
+                }
+            },
             UnderWay::Asking(machine, act) => match self.hand(machine, answer) {
                 Ok(()) => Ok(act),
                 Err(WantOfMemory) => {

@@ -137,7 +137,7 @@ impl<K> Session<K> {
     {
         self.stage = Stage::Failed;
         let told = answer.copy(self.alloc)?;
-        let act = self.progress.take_answer(answer)?;
+        let act = self.progress.take_answer(self.lines.as_slice(), answer)?;
         self.receipts.push(Receipt { act, answer: told })?;
         self.stage = Stage::Ready;
         Ok(())

@@ -10,6 +10,8 @@ use sv_events::Act;
 pub enum UnderWay {
     /// No line is.
     Nothing,
+    /// A line is this act alone, which has no answer yet.
+    Alone(Act),
     /// A line asked this act, which has no answer yet.
     Asking(Box<Machine>, Act),
     /// A line asked an act, which was answered.

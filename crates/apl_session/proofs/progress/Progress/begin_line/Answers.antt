@@ -11,7 +11,7 @@ returns-in_ok-open-clause-stands g c =
     let p : Progress = c.args.self.now in
     let line : List ℕ = c.args.line.now.items in
     let opens : is_opening line ≡ true = cc in
-    λ lines answers at. opened_on lines line answers p.terminal c.echo_free.new.self _ opens c.in_ok-echo_free.ensures c.in_ok-open.ensures c.requires.none at
+    λ lines answers at last. opened_on lines line answers p.terminal c.echo_free.new.self _ opens c.in_ok-echo_free.ensures c.in_ok-open.ensures c.requires.none at
 
 pub returns-else-is_opening-clause-stands : goal.returns-else-is_opening-clause-stands
 returns-else-is_opening-clause-stands g c =
@@ -20,7 +20,7 @@ returns-else-is_opening-clause-stands g c =
     let told : PlainTerminal = c.echo_free.new.self in
     let opens : is_opening line ≡ false = cc in
     on_ok_weaker c.evaluate.result
-    (λ so. λ lines answers at. so lines answers (statement_on lines line answers p.read p.terminal told opens c.in_ok-echo_free.ensures at)) c.evaluate.ensures.stands
+    (λ so. λ lines answers at last. so lines answers (statement_on lines line answers p.read p.terminal told opens c.in_ok-echo_free.ensures at) last) c.evaluate.ensures.stands
 
 pub returns-in_ok-open-clause-paused : goal.returns-in_ok-open-clause-paused
 returns-in_ok-open-clause-paused g c = none_answered c.args.self.now.under_way c.requires.none

@@ -1,4 +1,4 @@
-use Rattle.std.proofs.Common.{◌+◌, ℕ, List, sym, ap, subst, ◌∙◌}
+use Rattle.std.proofs.Common.{◌+◌, ℕ, List, refl, sym, ap, subst, ◌∙◌}
 use Rattle.std.proofs.lemmas.Result.{on_ok_weaker}
 use Rattle.std.specs.Prelude.{Some}
 use Rattle.apl_meaning.specs.Meaning.{most_statements}
@@ -31,7 +31,8 @@ returns-in-None-clause-stands g c =
     (λ so. λ lines rest answers at here.
     so lines answers
     (subst (λ (t : PlainTerminal). IsAt lines answers (p.read + 1) (λ c. free_line most_statements line (with_terminal (echoing free_prompt line c.terminal) c)) t) (sym c.take_definition.ensures.left)
-    (free_at lines rest line answers p.read p.terminal here (lines_behind lines rest line p.read here) (sym c.take_definition.ensures.taken ∙ c.in-None.is) (between_of lines answers p c.requires.none at))))
+    (free_at lines rest line answers p.read p.terminal here (lines_behind lines rest line p.read here) (sym c.take_definition.ensures.taken ∙ c.in-None.is) (between_of lines answers p c.requires.none at)))
+    (record { before = p.read; rest = rest; read_is = refl; here = here }))
     c.begin_line.ensures.stands
 
 pub returns-in_ok-feed-in-Some-clause-paused : goal.returns-in_ok-feed-in-Some-clause-paused
