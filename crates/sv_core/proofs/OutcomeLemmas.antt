@@ -1,9 +1,10 @@
 -- What becomes of an act, by what it does.
-use Rattle.std.proofs.Common.{◌∙◌, ◌≡◌, None, Some, ap, sym, ℕ}
+use Rattle.std.proofs.Common.{◌∙◌, ◌≡◌, None, Option, Some, ap, refl, sym, ℕ}
 use Rattle.std.proofs.lemmas.Option.{none-some, same_Some}
+use Rattle.apl_arrays.specs.Array.{PlainArray}
 use Rattle.sv_access.specs.declared.access.Kind.{Kind}
 use Rattle.sv_events.specs.Answer.{granted, vector}
-use Rattle.sv_events.specs.Row.{act_row}
+use Rattle.sv_events.specs.Row.{act_row, answer_row}
 use Rattle.sv_events.specs.declared.event.Act.{Act}
 use Rattle.sv_events.specs.declared.event.Act.TheVariants.{Offer, Set, SetControl, Use}
 use Rattle.sv_events.specs.declared.row.Accessing.{Accessing}
@@ -53,3 +54,14 @@ access_granted journal party act access offer row is own free = answered_as jour
 pub use_granted : (journal : Entries) (party : ℕ) (act : Act) (access : Accessing) (offer : Standing) → (act_row act).row.accesses ≡ Some access → access.kind ≡ kind.Use → own_offer (standing journal) party access.local ≡ Some offer →
     hold_on journal access.kind (Some offer) ≡ None → value_answer (value_for journal offer (coupling_now journal offer.place)) ≡ (outcome journal party act).answer
 use_granted journal party act access offer row is own free = answered_as journal party act access offer kind.Use row is own free
+
+-- a set hands a value in
+pub set_hands_in : (act : Act) (access : Accessing) → (act_row act).row.accesses ≡ Some access → access.kind ≡ kind.Set → (value : PlainArray) × ((act_row act).hands_in ≡ Some value)
+set_hands_in (Set local new) access h is = (new, refl)
+set_hands_in (Use local) access h is = absurd (let k : kind.Use ≡ kind.Set = ap (λ (a : Accessing). a.kind) (same_Some _ access h) ∙ is in cc)
+set_hands_in _ access h is = absurd (none-some access h)
+
+-- the value in the answer of a use is what it gives
+pub value_answered : (given : Option PlainArray) → (answer_row (value_answer given)).value ≡ given
+value_answered None = refl
+value_answered (Some value) = refl

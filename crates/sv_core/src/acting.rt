@@ -1,22 +1,17 @@
-ghost use Rattle.std.specs.Prelude.{◌≡◌, ◌<◌, [], Contains, IsOk, IfOk, IfSome, OnOk, OnErr, Some, None, IsErr};
-ghost use Rattle.std.specs.Option.{option_copied};
+ghost use Rattle.std.specs.Prelude.{◌≡◌, [], IfOk, OnOk, OnErr, Some, None};
 ghost use Rattle.sv_cell_laws.specs.Steps.{TouchesNothing};
-ghost use Rattle.sv_core.specs.Core.{IsFound, MayMake, PlainCore, core_after};
-ghost use Rattle.sv_events.specs.Answer.{plain_answer, granted, no_value};
+ghost use Rattle.sv_core.specs.Core.{MayMake, core_after};
+ghost use Rattle.sv_events.specs.Answer.{plain_answer};
 ghost use Rattle.sv_events.specs.Row.{act_row};
-ghost use Rattle.sv_rules.specs.Coupling.{coupling_now};
 ghost use Rattle.sv_rules.specs.Legal.{entry_for};
-ghost use Rattle.sv_rules.specs.Outcome.{outcome, value_answer, value_for};
-ghost use Rattle.sv_rules.specs.Refused.{hold_on};
+ghost use Rattle.sv_rules.specs.Outcome.{outcome};
 ghost use Rattle.sv_rules.specs.Standing.{own_offer, standing};
 
 use crate::Core;
-use crate::telling::{Told, discard_told, enter, no_act, told_twice, value_answer};
-use crate::updating::{note_set, note_use};
+use crate::telling::{Told, discard_told, enter, no_act, told_twice};
 use apl_arrays::{List, WantOfMemory};
-use sv_access::Kind;
-use sv_events::{Accessing, Act, Answer, Controlling, Ending, Question, copy_value};
-use sv_rules::{Coupling, Standing, refusal_answer};
+use sv_events::{Act, Answer, Controlling, Ending, Question};
+use sv_rules::Standing;
 
 impl Core {
     // The answer to an act that its party may make, other than a leave, where there is room; its entry is added.
@@ -26,9 +21,20 @@ impl Core {
         ensures journal { OnOk result (self.new ≡ core_after self.old party act) }
         ensures err { OnErr result (self.new ≡ self.old) }
     {
-        if let Some(access) = act.access() {
-            return self.make_access(party, access, act);
+        match &act.access() {
+            None => self.make_other(party, act),
+            Some(access) => self.make_access(party, access, act),
         }
+    }
+
+    // The answer to an act that is no access.
+    fn make_other(&mut self, party: u32, act: Act) -> Result<Answer, WantOfMemory>
+        requires may { MayMake self.old party act }
+        requires row { (act_row act).row.accesses ≡ None }
+        ensures answer { IfOk result (λ answer. plain_answer answer ≡ (outcome self.old.journal party act).answer) }
+        ensures journal { OnOk result (self.new ≡ core_after self.old party act) }
+        ensures err { OnErr result (self.new ≡ self.old) }
+    {
         let row = act.row();
         if let Some(opening) = row.opens {
             self.make_offer(party, opening, act)
@@ -145,162 +151,4 @@ impl Core {
         };
         Ok(enter(&mut self.log, party, act, told, List::new(self.alloc)))
     }
-
-    fn make_access(
-        &mut self,
-        party: u32,
-        access: Accessing,
-        act: Act,
-    ) -> Result<Answer, WantOfMemory>
-        requires may { MayMake self.old party act }
-        requires row { (act_row act).row.accesses ≡ Some access }
-        ensures answer { IfOk result (λ answer. plain_answer answer ≡ (outcome self.old.journal party act).answer) }
-        ensures journal { OnOk result (self.new ≡ core_after self.old party act) }
-        ensures err { OnErr result (self.new ≡ self.old) }
-    {
-        match self.own(party, &access.local) {
-            None => self.enter_quiet(party, act, Answer::NotShared),
-            Some(offer) => self.make_own_access(party, offer, access, act),
-        }
-    }
-
-    // An access on a standing offer.
-    fn make_own_access(
-        &mut self,
-        party: u32,
-        offer: Standing,
-        access: Accessing,
-        act: Act,
-    ) -> Result<Answer, WantOfMemory>
-        requires may { MayMake self.old party act }
-        requires row { (act_row act).row.accesses ≡ Some access }
-        requires own { own_offer (standing self.old.journal) party access.local ≡ Some offer }
-        ensures answer { IfOk result (λ answer. plain_answer answer ≡ (outcome self.old.journal party act).answer) }
-        ensures journal { OnOk result (self.new ≡ core_after self.old party act) }
-        ensures err { OnErr result (self.new ≡ self.old) }
-    {
-        let coupling = self.coupling_on(&offer);
-        match self.hold_on(&offer, &coupling, access.kind) {
-            None => self.grant(party, &offer, &coupling, access, act),
-            Some(hold) => {
-                let answer = refusal_answer(self.waits(party), hold);
-                self.enter_quiet(party, act, answer)
-            }
-        }
-    }
-
-    // An access that is not refused.
-    fn grant(
-        &mut self,
-        party: u32,
-        offer: &Standing,
-        coupling: &Option<Coupling>,
-        access: Accessing,
-        act: Act,
-    ) -> Result<Answer, WantOfMemory>
-        requires may { MayMake self.old party act }
-        requires row { (act_row act).row.accesses ≡ Some access }
-        requires own { own_offer (standing self.old.journal) party access.local ≡ Some offer.now }
-        requires free { hold_on self.old.journal access.kind (Some offer.now) ≡ None }
-        requires coupled { coupling.now ≡ coupling_now self.old.journal offer.now.place }
-        requires found { IfSome coupling.now (IsFound self.old.journal offer.now.place) }
-        ensures answer { IfOk result (λ answer. plain_answer answer ≡ (outcome self.old.journal party act).answer) }
-        ensures journal { OnOk result (self.new ≡ core_after self.old party act) }
-        ensures err { OnErr result (self.new ≡ self.old) }
-    {
-        match access.kind {
-            Kind::Set => self.grant_set(party, offer, coupling, access, act),
-            Kind::Use => self.grant_use(party, offer, coupling, access, act),
-        }
-    }
-
-    // A set that is not refused.
-    fn grant_set(
-        &mut self,
-        party: u32,
-        offer: &Standing,
-        coupling: &Option<Coupling>,
-        access: Accessing,
-        act: Act,
-    ) -> Result<Answer, WantOfMemory>
-        requires may { MayMake self.old party act }
-        requires row { (act_row act).row.accesses ≡ Some access }
-        requires kind { access.kind ≡ Kind.Set }
-        requires own { own_offer (standing self.old.journal) party access.local ≡ Some offer.now }
-        requires free { hold_on self.old.journal access.kind (Some offer.now) ≡ None }
-        requires coupled { coupling.now ≡ coupling_now self.old.journal offer.now.place }
-        requires found { IfSome coupling.now (IsFound self.old.journal offer.now.place) }
-        ensures answer { IfOk result (λ answer. plain_answer answer ≡ (outcome self.old.journal party act).answer) }
-        ensures journal { OnOk result (self.new ≡ core_after self.old party act) }
-        ensures err { OnErr result (self.new ≡ self.old) }
-    {
-        let value = match copy_value(self.alloc, act.hands_in()) {
-            Ok(Some(value)) => value,
-            Ok(None) | Err(_) => return no_act(act),
-        };
-        if self.log.reserve().is_err() {
-            discard_value(value);
-            return no_act(act);
-        }
-        note_set(&mut self.cells, offer, coupling, value);
-        let told = Told {
-            answer: Answer::Granted,
-            kept: Answer::Granted,
-        };
-        Ok(enter(&mut self.log, party, act, told, List::new(self.alloc)))
-    }
-
-    // A use that is not refused.
-    fn grant_use(
-        &mut self,
-        party: u32,
-        offer: &Standing,
-        coupling: &Option<Coupling>,
-        access: Accessing,
-        act: Act,
-    ) -> Result<Answer, WantOfMemory>
-        requires may { MayMake self.old party act }
-        requires row { (act_row act).row.accesses ≡ Some access }
-        requires kind { access.kind ≡ Kind.Use }
-        requires own { own_offer (standing self.old.journal) party access.local ≡ Some offer.now }
-        requires free { hold_on self.old.journal access.kind (Some offer.now) ≡ None }
-        requires coupled { coupling.now ≡ coupling_now self.old.journal offer.now.place }
-        requires found { IfSome coupling.now (IsFound self.old.journal offer.now.place) }
-        ensures answer { IfOk result (λ answer. plain_answer answer ≡ (outcome self.old.journal party act).answer) }
-        ensures journal { OnOk result (self.new ≡ core_after self.old party act) }
-        ensures err { OnErr result (self.new ≡ self.old) }
-    {
-        let told = match self.use_told(offer, coupling) {
-            Ok(told) => told,
-            Err(_) => return no_act(act),
-        };
-        if self.log.reserve().is_err() {
-            discard_told(told);
-            return no_act(act);
-        }
-        if note_use(&mut self.cells, offer, coupling).is_err() {
-            discard_told(told);
-            return no_act(act);
-        }
-        Ok(enter(&mut self.log, party, act, told, List::new(self.alloc)))
-    }
-
-    // What a use gives, twice.
-    fn use_told(&self, offer: &Standing, coupling: &Option<Coupling>) -> Result<Told, WantOfMemory>
-        requires stands { Contains (standing self.now.journal) offer.now }
-        requires coupled { coupling.now ≡ coupling_now self.now.journal offer.now.place }
-        requires found { IfSome coupling.now (IsFound self.now.journal offer.now.place) }
-        ensures answer { IfOk result (λ told. plain_answer told.answer ≡ value_answer (value_for self.now.journal offer.now (coupling_now self.now.journal offer.now.place))) }
-        ensures kept { IfOk result (λ told. plain_answer told.kept ≡ value_answer (value_for self.now.journal offer.now (coupling_now self.now.journal offer.now.place))) }
-    {
-        let value = self.value_for(offer, coupling);
-        let given = copy_value(self.alloc, value)?;
-        let kept = copy_value(self.alloc, value)?;
-        Ok(Told {
-            answer: value_answer(given),
-            kept: value_answer(kept),
-        })
-    }
 }
-
-fn discard_value(_value: apl_arrays::Array) {}

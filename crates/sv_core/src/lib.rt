@@ -1,6 +1,7 @@
 //! The processor: it answers acts, and keeps the one legal journal of what happened.
 #![tactic(auto)]
 
+mod accessing;
 mod acting;
 mod asking;
 mod holding;

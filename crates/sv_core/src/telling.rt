@@ -1,9 +1,8 @@
 ghost use Rattle.std.specs.Prelude.{◌≡◌, ◌+◌, ◌<◌, ◌∷◌, IfOk, IsErr};
 ghost use Rattle.sv_events.specs.Answer.{plain_answer};
 ghost use Rattle.sv_events.specs.Entry.{PlainEntry};
-ghost use Rattle.sv_rules.specs.Outcome.{value_answer};
 
-use apl_arrays::{Array, WantOfMemory};
+use apl_arrays::WantOfMemory;
 use std::alloc::Global;
 use sv_events::{Act, Answer, Entry, PairList};
 use sv_log::Log;
@@ -22,17 +21,10 @@ pub fn told_twice(alloc: Global, answer: Answer) -> Result<Told, WantOfMemory>
 {
     match answer.copy(alloc) {
         Ok(kept) => Ok(Told { answer, kept }),
-        Err(_) => no_answer(answer),
-    }
-}
-
-/// A value, or that there is none. No memory.
-pub fn value_answer(value: Option<Array>) -> Answer
-    ensures { plain_answer result ≡ value_answer value }
-{
-    match value {
-        None => Answer::NoValue,
-        Some(value) => Answer::Value(value),
+        Err(_) => {
+            discard_answer(answer);
+            Err(WantOfMemory)
+        }
     }
 }
 
@@ -55,11 +47,7 @@ pub fn enter(log: &mut Log, party: u32, act: Act, told: Told, made: PairList) ->
 
 pub fn discard_told(_told: Told) {}
 
-fn no_answer(_answer: Answer) -> Result<Told, WantOfMemory>
-    ensures { IsErr result }
-{
-    Err(WantOfMemory)
-}
+pub fn discard_answer(_answer: Answer) {}
 
 pub fn no_act(_act: Act) -> Result<Answer, WantOfMemory>
     ensures { IsErr result }

@@ -1,4 +1,4 @@
-ghost use Rattle.std.specs.Prelude.{◌≡◌, true, false, not, find, nat_lt, Contains, IsTrue, Some, is_some, unwrap_or};
+ghost use Rattle.std.specs.Prelude.{◌≡◌, [], true, false, not, find, nat_lt, Contains, IsTrue, Some, is_some, unwrap_or};
 ghost use Rattle.std.specs.List.{list_all, list_any};
 ghost use Rattle.std.specs.Option.{option_copied};
 ghost use Rattle.sv_core.specs.Due.{command_of, customer_of, is_due, is_due_on, is_open, is_reply, is_service, partner_at, partner_of, served_by, work_among};
@@ -32,7 +32,25 @@ impl Core {
         requires { IsTrue (is_auxiliary party) }
         ensures { result ≡ unwrap_or (work_due self.now.journal party) Work.Idle }
     {
-        self.work_among(party, self.own_offers(party))
+        let own = self.own_offers(party);
+        if own.is_empty() {
+            self.work_of_newcomer(party)
+        } else {
+            self.work_among(party, own)
+        }
+    }
+
+    // The work that is due of an auxiliary without offers of its own: it may have one to counter.
+    fn work_of_newcomer(&self, party: u32) -> Work
+        ensures { result ≡ unwrap_or (work_among self.now.journal party []) Work.Idle }
+    {
+        match &self.to_counter(party) {
+            None => Work::Idle,
+            Some(offer) => Work::Counter {
+                to: offer.party,
+                surrogate: offer.surrogate,
+            },
+        }
     }
 
     // The work that is due of an auxiliary, by the offers of its own, which are looked up once for all that may be due.
@@ -60,12 +78,12 @@ impl Core {
     }
 
     // The open offer of the lowest place among some.
-    fn first_open_among(&self, offers: &[Standing]) -> Option<Standing>
-        ensures { result ≡ find (is_open self.now.journal) offers.now }
+    fn first_open_among<'a>(&self, offers: &'a [Standing]) -> Option<&'a Standing>
+        ensures { option_copied result ≡ find (is_open self.now.journal) offers.now }
     {
         for offer in offers {
             if self.is_open(offer) {
-                return Some(*offer);
+                return Some(offer);
             }
         }
         None
@@ -78,21 +96,21 @@ impl Core {
     }
 
     // The coupled offer of a party of the lowest place on which this is due.
-    fn first_coupled(&self, party: u32, due: Due) -> Option<Standing>
+    fn first_coupled(&self, party: u32, due: Due) -> Option<&Standing>
         requires { IsTrue (is_auxiliary party) }
-        ensures { result ≡ first_coupled self.now.journal (is_due self.now.journal due) party }
+        ensures { option_copied result ≡ first_coupled self.now.journal (is_due self.now.journal due) party }
     {
         self.first_coupled_among(self.own_offers(party), due)
     }
 
-    fn first_coupled_among(&self, offers: &[Standing], due: Due) -> Option<Standing>
+    fn first_coupled_among<'a>(&self, offers: &'a [Standing], due: Due) -> Option<&'a Standing>
         requires stand { (offer : Standing) → Contains offers.now offer → Contains (standing self.now.journal) offer }
         requires own { (offer : Standing) → Contains offers.now offer → IsTrue (is_auxiliary offer.party) }
-        ensures { result ≡ find (is_due_on self.now.journal due) offers.now }
+        ensures { option_copied result ≡ find (is_due_on self.now.journal due) offers.now }
     {
         for offer in offers {
             if self.is_due(offer, due) {
-                return Some(*offer);
+                return Some(offer);
             }
         }
         None
@@ -201,7 +219,7 @@ impl Core {
     {
         match self.first_coupled(party, Due::Reply) {
             None => None,
-            Some(offer) => self.known(&offer),
+            Some(offer) => self.known(offer),
         }
     }
 
@@ -230,9 +248,9 @@ impl Core {
     }
 
     // The coupled offer on which an auxiliary is to set a control, else the one on which it is to reply.
-    fn served_by(&self, party: u32) -> Option<Standing>
+    fn served_by(&self, party: u32) -> Option<&Standing>
         requires { IsTrue (is_auxiliary party) }
-        ensures { result ≡ served_by self.now.journal party }
+        ensures { option_copied result ≡ served_by self.now.journal party }
     {
         match self.first_coupled(party, Due::Control) {
             None => self.first_coupled(party, Due::Reply),

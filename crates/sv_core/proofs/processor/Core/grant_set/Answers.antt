@@ -1,9 +1,9 @@
-use Rattle.std.proofs.Common.{◌∙◌, ◌≡◌, None, Some, ap, refl, subst, sym}
+use Rattle.std.proofs.Common.{◌∙◌, ◌≡◌, None, Option, Some, ap, refl, subst, sym}
 use Rattle.std.proofs.lemmas.Bool.{not-true}
-use Rattle.std.specs.Prelude.{Contains}
+use Rattle.std.specs.Prelude.{Contains, IsSome}
+use Rattle.apl_arrays.specs.Array.{PlainArray}
 use Rattle.sv_cell_laws.proofs.QuietSteps.{set_makes_access}
 use Rattle.sv_cell_laws.specs.Steps.{set_of}
-use Rattle.sv_events.specs.Row.{act_row}
 use Rattle.sv_offer_laws.proofs.OwnLemmas.{own_offer-parts}
 use Rattle.sv_rules.specs.Coupling.{coupling_now}
 use Rattle.sv_rules.specs.Entries.{is_leave}
@@ -12,57 +12,58 @@ use Rattle.sv_rules.specs.Outcome.{Outcome}
 use Rattle.sv_rules.specs.Refused.{hold_on}
 use Rattle.sv_rules.specs.Standing.{own_offer, standing}
 use Rattle.sv_core.proofs.AccessingLemmas.{answers_with, ready_with}
-use Rattle.sv_core.proofs.Kept.{IsEntered, entered, entry_is, on_success, same_core}
+use Rattle.sv_core.proofs.Kept.{IsEntered, entered, entry_is, fit_kept, on_failure, on_success, same_core}
 use Rattle.sv_core.proofs.MakingLemmas.{access_core}
-use Rattle.sv_core.proofs.OutcomeLemmas.{access_granted, outcome_of_access}
+use Rattle.sv_core.proofs.OutcomeLemmas.{access_granted, outcome_of_access, set_hands_in}
 use Rattle.sv_core.specs.Core.{PlainCore}
 use Rattle.sv_core.specs.Invariant.{parts_of}
 use Rattle.sv_core.proofs.processor.Core.grant_set.Goals as goal
-use Rattle.sv_core.proofs.processor.Core.grant_set.Goals.{After-enter}
+use Rattle.sv_core.proofs.processor.Core.grant_set.Goals.{After-push}
 
 pub invariant_of-self : goal.invariant_of-self
 invariant_of-self c =
-    same_core (parts_of c.self.inside) _ c.self.invariant c.reserve.ensures.users c.reserve.ensures.journal refl refl refl c.self.invariant.fit c.reserve.ensures.kept
+    same_core (parts_of c.self.inside) _ c.self.invariant c.set_handed-set.ensures.users c.set_handed-set.ensures.journal refl refl refl
+    (fit_kept c.self.inside.log.journal c.self.inside.cells c.set_handed-set.new.cells (on_failure c.set_handed-set.result _ c.if-is_err.ensures.negation c.set_handed-set.ensures.err) c.self.invariant.fit) c.set_handed-set.ensures.kept
 
-pub note_set-requires : goal.note_set-requires
-note_set-requires c =
-    let has = subst (λ (v : PlainCore). Contains (standing v.journal) c.args.offer.now) (sym c.self.view_is) (own_offer-parts (standing c.args.self.now.journal) c.args.party c.args.access.local c.args.offer.now c.requires.own).2 in
+pub set_handed-set-requires-clause-hands : goal.set_handed-set-requires-clause-hands
+set_handed-set-requires-clause-hands c = subst (λ (o : Option PlainArray). IsSome o) (sym (set_hands_in c.args.act c.args.access.now c.requires.row c.requires.kind).1) cc
+
+pub set_handed-set-requires-clause-ready : goal.set_handed-set-requires-clause-ready
+set_handed-set-requires-clause-ready c =
+    let has = subst (λ (v : PlainCore). Contains (standing v.journal) c.args.offer.now) (sym c.self.view_is) (own_offer-parts (standing c.args.self.now.journal) c.args.party c.args.access.now.local c.args.offer.now c.requires.own).2 in
     ready_with (parts_of c.self.inside) c.self.invariant c.args.offer.now has c.args.coupling.now
     (subst (λ (v : PlainCore). c.args.coupling.now ≡ coupling_now v.journal c.args.offer.now.place) (sym c.self.view_is) c.requires.coupled)
 
 -- the act may be made after the journal as it was
-may : (c : After-enter) → MayFollow c.self.inside.log.users c.self.inside.log.journal (entry_for c.self.inside.log.journal c.args.party c.args.act)
+may : (c : After-push) → MayFollow c.self.inside.log.users c.self.inside.log.journal (entry_for c.self.inside.log.journal c.args.party c.args.act)
 may c = subst (λ (v : PlainCore). MayFollow v.users v.journal (entry_for v.journal c.args.party c.args.act)) (sym c.self.view_is) c.requires.may.may
 
 -- the offer is the party's own
-own : (c : After-enter) → own_offer (standing c.self.inside.log.journal) c.args.party c.args.access.local ≡ Some c.args.offer.now
-own c = subst (λ (v : PlainCore). own_offer (standing v.journal) c.args.party c.args.access.local ≡ Some c.args.offer.now) (sym c.self.view_is) c.requires.own
+own : (c : After-push) → own_offer (standing c.self.inside.log.journal) c.args.party c.args.access.now.local ≡ Some c.args.offer.now
+own c = subst (λ (v : PlainCore). own_offer (standing v.journal) c.args.party c.args.access.now.local ≡ Some c.args.offer.now) (sym c.self.view_is) c.requires.own
 
 -- its coupling is the one that was found
-coupled : (c : After-enter) → c.args.coupling.now ≡ coupling_now c.self.inside.log.journal c.args.offer.now.place
+coupled : (c : After-push) → c.args.coupling.now ≡ coupling_now c.self.inside.log.journal c.args.offer.now.place
 coupled c = subst (λ (v : PlainCore). c.args.coupling.now ≡ coupling_now v.journal c.args.offer.now.place) (sym c.self.view_is) c.requires.coupled
 
 -- nothing refuses it
-free : (c : After-enter) → hold_on c.self.inside.log.journal c.args.access.kind (Some c.args.offer.now) ≡ None
-free c = subst (λ (v : PlainCore). hold_on v.journal c.args.access.kind (Some c.args.offer.now) ≡ None) (sym c.self.view_is) c.requires.free
-
--- the value that is set
-handed : (c : After-enter) → (act_row c.args.act).hands_in ≡ Some c.in-Ok-Some.value
-handed c = sym c.hands_in.ensures ∙ sym (rw c.in-Ok-Some.field-0-is at c.in-Ok-Some.ensures)
+free : (c : After-push) → hold_on c.self.inside.log.journal c.args.access.now.kind (Some c.args.offer.now) ≡ None
+free c = subst (λ (v : PlainCore). hold_on v.journal c.args.access.now.kind (Some c.args.offer.now) ≡ None) (sym c.self.view_is) c.requires.free
 
 -- the log with the entry of the act
-more : (c : After-enter) → IsEntered c.self.inside.log c.enter.new.log (entry_for c.self.inside.log.journal c.args.party c.args.act)
+more : (c : After-push) → IsEntered c.self.inside.log c.push.new.self (entry_for c.self.inside.log.journal c.args.party c.args.act)
 more c =
     let journal = c.self.inside.log.journal in
-    entered c.self.inside.log c.reserve.new.self c.enter.new.log _ _ c.reserve.ensures.users c.reserve.ensures.journal (on_success c.reserve.result _ c.if-is_err.ensures.negation c.reserve.ensures.room)
-    c.enter.ensures.users c.enter.ensures.journal c.enter.ensures.room (entry_is journal c.args.party c.args.act _ _ (access_granted journal c.args.party c.args.act c.args.access c.args.offer.now c.requires.row c.requires.kind (own c) (free c)) (c.new.ensures ∙ sym (ap (λ (o : Outcome). o.made) (outcome_of_access journal c.args.party c.args.act c.args.access c.requires.row))))
+    entered c.self.inside.log c.set_handed-set.new.log c.push.new.self _ _ c.set_handed-set.ensures.users c.set_handed-set.ensures.journal (on_success c.set_handed-set.result _ c.if-is_err.ensures.negation c.set_handed-set.ensures.room)
+    c.push.ensures.users c.push.ensures.journal c.push.ensures.room (entry_is journal c.args.party c.args.act _ _ (access_granted journal c.args.party c.args.act c.args.access.now c.args.offer.now c.requires.row c.requires.kind (own c) (free c)) (c.new.ensures ∙ sym (ap (λ (o : Outcome). o.made) (outcome_of_access journal c.args.party c.args.act c.args.access.now c.requires.row))))
 
 pub invariant_of-self-2 : goal.invariant_of-self-2
 invariant_of-self-2 c =
-    let d = (goal.at.invariant_of-self-2 c).After-enter in
+    let d = (goal.at.invariant_of-self-2 c).After-push in
     let core = parts_of c.self.inside in
     let e = entry_for core.journal c.args.party c.args.act in
-    let makes = set_makes_access core.journal c.args.party c.args.act c.args.access c.args.offer.now c.in-Ok-Some.value c.requires.row c.requires.kind (own d) (free d) (handed d) in
-    access_core core _ c.self.invariant e c.args.offer.now (set_of c.in-Ok-Some.value) (may d) (not-true (is_leave c.args.act) c.requires.may.stays)
-    (own_offer-parts (standing core.journal) c.args.party c.args.access.local c.args.offer.now (own d)).2 makes (more d).users (more d).journal refl refl refl
-    (answers_with core c.args.offer.now c.note_set.new.cells (set_of c.in-Ok-Some.value) c.args.coupling.now (coupled d) c.note_set.ensures) (more d).room
+    let handed = set_hands_in c.args.act c.args.access.now c.requires.row c.requires.kind in
+    let makes = set_makes_access core.journal c.args.party c.args.act c.args.access.now c.args.offer.now handed.0 c.requires.row c.requires.kind (own d) (free d) handed.1 in
+    access_core core _ c.self.invariant e c.args.offer.now (set_of handed.0) (may d) (not-true (is_leave c.args.act) c.requires.may.stays)
+    (own_offer-parts (standing core.journal) c.args.party c.args.access.now.local c.args.offer.now (own d)).2 makes (more d).users (more d).journal refl refl refl
+    (answers_with core c.args.offer.now c.set_handed-set.new.cells (set_of handed.0) c.args.coupling.now (coupled d) (on_success c.set_handed-set.result _ c.if-is_err.ensures.negation c.set_handed-set.ensures.set handed.0 handed.1)) (more d).room

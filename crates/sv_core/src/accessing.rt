@@ -1,0 +1,270 @@
+ghost use Rattle.std.specs.Prelude.{◌≡◌, ◌+◌, ◌≤◌, length, IfOk, IfSome, IsSome, OnOk, OnErr, Some, None};
+ghost use Rattle.std.specs.Option.{option_copied};
+ghost use Rattle.apl_arrays.specs.Array.{PlainArray};
+ghost use Rattle.sv_cell_laws.specs.Steps.{set_of, use_of};
+ghost use Rattle.sv_cells.specs.Cells.{KeepsCells};
+ghost use Rattle.sv_core.specs.Core.{IsFound, MayMake, core_after};
+ghost use Rattle.sv_core.specs.Updating.{Answers, IsReady, value_at};
+ghost use Rattle.sv_events.specs.Answer.{plain_answer};
+ghost use Rattle.sv_events.specs.Row.{act_row};
+ghost use Rattle.sv_rules.specs.Coupling.{coupling_now};
+ghost use Rattle.sv_rules.specs.Outcome.{outcome, value_answer};
+ghost use Rattle.sv_rules.specs.Refused.{hold_on};
+ghost use Rattle.sv_rules.specs.Standing.{own_offer, standing};
+
+use crate::Core;
+use crate::telling::{discard_answer, no_act};
+use crate::updating::{note_set, note_use};
+use apl_arrays::{Array, List, WantOfMemory};
+use std::alloc::Global;
+use sv_access::Kind;
+use sv_cells::Cells;
+use sv_events::{Accessing, Act, Answer, Entry, Hold};
+use sv_log::Log;
+use sv_rules::{Coupling, Standing, refusal_answer};
+
+impl Core {
+    // The answer to an access.
+    pub(crate) fn make_access(
+        &mut self,
+        party: u32,
+        access: &Accessing,
+        act: Act,
+    ) -> Result<Answer, WantOfMemory>
+        requires may { MayMake self.old party act }
+        requires row { (act_row act).row.accesses ≡ Some access.now }
+        ensures answer { IfOk result (λ answer. plain_answer answer ≡ (outcome self.old.journal party act).answer) }
+        ensures journal { OnOk result (self.new ≡ core_after self.old party act) }
+        ensures err { OnErr result (self.new ≡ self.old) }
+    {
+        match &self.own(party, &access.local) {
+            None => self.make_unshared_access(party, access, act),
+            Some(offer) => {
+                self.make_own_access(party, offer, &self.coupling_on(offer), access, act)
+            }
+        }
+    }
+
+    // An access on a name that its party has not offered.
+    fn make_unshared_access(
+        &mut self,
+        party: u32,
+        access: &Accessing,
+        act: Act,
+    ) -> Result<Answer, WantOfMemory>
+        requires may { MayMake self.old party act }
+        requires row { (act_row act).row.accesses ≡ Some access.now }
+        requires none { own_offer (standing self.old.journal) party access.now.local ≡ None }
+        ensures answer { IfOk result (λ answer. plain_answer answer ≡ (outcome self.old.journal party act).answer) }
+        ensures journal { OnOk result (self.new ≡ core_after self.old party act) }
+        ensures err { OnErr result (self.new ≡ self.old) }
+    {
+        self.enter_quiet(party, act, Answer::NotShared)
+    }
+
+    // An access on a standing offer, by its coupling.
+    fn make_own_access(
+        &mut self,
+        party: u32,
+        offer: &Standing,
+        coupling: &Option<Coupling>,
+        access: &Accessing,
+        act: Act,
+    ) -> Result<Answer, WantOfMemory>
+        requires may { MayMake self.old party act }
+        requires row { (act_row act).row.accesses ≡ Some access.now }
+        requires own { own_offer (standing self.old.journal) party access.now.local ≡ Some offer.now }
+        requires coupled { coupling.now ≡ coupling_now self.old.journal offer.now.place }
+        requires found { IfSome coupling.now (IsFound self.old.journal offer.now.place) }
+        ensures answer { IfOk result (λ answer. plain_answer answer ≡ (outcome self.old.journal party act).answer) }
+        ensures journal { OnOk result (self.new ≡ core_after self.old party act) }
+        ensures err { OnErr result (self.new ≡ self.old) }
+    {
+        if let Some(hold) = self.hold_on(offer, coupling, access.kind) {
+            return self.refuse(party, offer, access, hold, act);
+        }
+        match access.kind {
+            Kind::Set => self.grant_set(party, offer, coupling, access, act),
+            Kind::Use => self.grant_use(party, offer, coupling, access, act),
+        }
+    }
+
+    // An access that is refused.
+    fn refuse(
+        &mut self,
+        party: u32,
+        offer: &Standing,
+        access: &Accessing,
+        hold: Hold,
+        act: Act,
+    ) -> Result<Answer, WantOfMemory>
+        requires may { MayMake self.old party act }
+        requires row { (act_row act).row.accesses ≡ Some access.now }
+        requires own { own_offer (standing self.old.journal) party access.now.local ≡ Some offer.now }
+        requires held { hold_on self.old.journal access.now.kind (Some offer.now) ≡ Some hold }
+        ensures answer { IfOk result (λ answer. plain_answer answer ≡ (outcome self.old.journal party act).answer) }
+        ensures journal { OnOk result (self.new ≡ core_after self.old party act) }
+        ensures err { OnErr result (self.new ≡ self.old) }
+    {
+        let answer = refusal_answer(self.waits(party), hold);
+        self.enter_quiet(party, act, answer)
+    }
+
+    // A set that is not refused.
+    fn grant_set(
+        &mut self,
+        party: u32,
+        offer: &Standing,
+        coupling: &Option<Coupling>,
+        access: &Accessing,
+        act: Act,
+    ) -> Result<Answer, WantOfMemory>
+        requires may { MayMake self.old party act }
+        requires row { (act_row act).row.accesses ≡ Some access.now }
+        requires kind { access.now.kind ≡ Kind.Set }
+        requires own { own_offer (standing self.old.journal) party access.now.local ≡ Some offer.now }
+        requires free { hold_on self.old.journal access.now.kind (Some offer.now) ≡ None }
+        requires coupled { coupling.now ≡ coupling_now self.old.journal offer.now.place }
+        requires found { IfSome coupling.now (IsFound self.old.journal offer.now.place) }
+        ensures answer { IfOk result (λ answer. plain_answer answer ≡ (outcome self.old.journal party act).answer) }
+        ensures journal { OnOk result (self.new ≡ core_after self.old party act) }
+        ensures err { OnErr result (self.new ≡ self.old) }
+    {
+        let set = set_handed(
+            self.alloc,
+            &mut self.log,
+            &mut self.cells,
+            offer,
+            coupling,
+            &act,
+        );
+        if set.is_err() {
+            return no_act(act);
+        }
+        self.log.push(Entry {
+            party,
+            act,
+            answer: Answer::Granted,
+            made: List::new(self.alloc),
+        });
+        Ok(Answer::Granted)
+    }
+
+    // A use that is not refused.
+    fn grant_use(
+        &mut self,
+        party: u32,
+        offer: &Standing,
+        coupling: &Option<Coupling>,
+        access: &Accessing,
+        act: Act,
+    ) -> Result<Answer, WantOfMemory>
+        requires may { MayMake self.old party act }
+        requires row { (act_row act).row.accesses ≡ Some access.now }
+        requires kind { access.now.kind ≡ Kind.Use }
+        requires own { own_offer (standing self.old.journal) party access.now.local ≡ Some offer.now }
+        requires free { hold_on self.old.journal access.now.kind (Some offer.now) ≡ None }
+        requires coupled { coupling.now ≡ coupling_now self.old.journal offer.now.place }
+        requires found { IfSome coupling.now (IsFound self.old.journal offer.now.place) }
+        ensures answer { IfOk result (λ answer. plain_answer answer ≡ (outcome self.old.journal party act).answer) }
+        ensures journal { OnOk result (self.new ≡ core_after self.old party act) }
+        ensures err { OnErr result (self.new ≡ self.old) }
+    {
+        let given = match given_by(self.alloc, self.value_for(offer, coupling)) {
+            Ok(given) => given,
+            Err(_) => return no_act(act),
+        };
+        let kept = use_given(
+            self.alloc,
+            &mut self.log,
+            &mut self.cells,
+            offer,
+            coupling,
+            given.value(),
+        );
+        match kept {
+            Ok(kept) => {
+                self.log.push(Entry {
+                    party,
+                    act,
+                    answer: kept,
+                    made: List::new(self.alloc),
+                });
+                Ok(given)
+            }
+            Err(_) => {
+                discard_answer(given);
+                no_act(act)
+            }
+        }
+    }
+}
+
+// Room for the entry, and the value that an act hands in, set on an offer by its coupling. It takes memory; after
+// `WantOfMemory` the cells are as before.
+fn set_handed(
+    alloc: Global,
+    log: &mut Log,
+    cells: &mut Cells,
+    offer: &Standing,
+    coupling: &Option<Coupling>,
+    act: &Act,
+) -> Result<(), WantOfMemory>
+    requires ready { IsReady cells.old offer.now coupling.now }
+    requires hands { IsSome (act_row act.now).hands_in }
+    ensures users { log.new.users ≡ log.old.users }
+    ensures journal { log.new.journal ≡ log.old.journal }
+    ensures kept { log.old.room ≤ log.new.room }
+    ensures room { OnOk result (length log.old.users + 1 ≤ log.new.room) }
+    ensures set { OnOk result ((value : PlainArray) → (act_row act.now).hands_in ≡ Some value → Answers cells.old cells.new offer.now (set_of value) coupling.now) }
+    ensures err { OnErr result (KeepsCells cells.old cells.new) }
+{
+    log.reserve()?;
+    match act.hands_in() {
+        None => unreachable!(),
+        Some(value) => {
+            note_set(cells, offer, coupling, value.copy(alloc)?);
+            Ok(())
+        }
+    }
+}
+
+// The answer of a use, by what it gives. It takes memory for the value.
+fn given_by(alloc: Global, value: Option<&Array>) -> Result<Answer, WantOfMemory>
+    ensures { IfOk result (λ answer. plain_answer answer ≡ value_answer (option_copied value.entry)) }
+{
+    match value {
+        None => Ok(Answer::NoValue),
+        Some(value) => Ok(Answer::Value(value.copy(alloc)?)),
+    }
+}
+
+// Room for the entry, the answer of a use for it, and the use of an offer by its coupling. It takes memory; after
+// `WantOfMemory` the cells are as before.
+fn use_given(
+    alloc: Global,
+    log: &mut Log,
+    cells: &mut Cells,
+    offer: &Standing,
+    coupling: &Option<Coupling>,
+    value: Option<&Array>,
+) -> Result<Answer, WantOfMemory>
+    requires { IsReady cells.old offer.now coupling.now }
+    ensures users { log.new.users ≡ log.old.users }
+    ensures journal { log.new.journal ≡ log.old.journal }
+    ensures kept { log.old.room ≤ log.new.room }
+    ensures room { OnOk result (length log.old.users + 1 ≤ log.new.room) }
+    ensures answer { IfOk result (λ kept. plain_answer kept ≡ value_answer (option_copied value.entry)) }
+    ensures ok { OnOk result (Answers cells.old cells.new offer.now (use_of (value_at cells.old offer.now coupling.now)) coupling.now) }
+    ensures err { OnErr result (KeepsCells cells.old cells.new) }
+{
+    log.reserve()?;
+    let kept = given_by(alloc, value)?;
+    match note_use(cells, offer, coupling) {
+        Ok(()) => Ok(kept),
+        Err(_) => {
+            discard_answer(kept);
+            Err(WantOfMemory)
+        }
+    }
+}
