@@ -1,5 +1,5 @@
 -- Which offer comes first of those on which something is due.
-use Rattle.std.proofs.Common.{◌≡◌, refl, sym, ap, ◌∙◌, ℕ, zero, suc, ◌+◌, ◌<◌, Bool, true, false, eqb, cond, find, List, [], ◌∷◌, ◌++◌, length, take, get_or, Some, None, arith}
+use Rattle.std.proofs.Common.{◌≡◌, refl, sym, ap, ◌∙◌, ℕ, zero, suc, ◌+◌, ◌<◌, Bool, true, false, eqb, cond, find, List, [], ◌∷◌, ◌++◌, length, take, get_or, Option, Some, None, is_some, ◌&&◌, arith}
 use Rattle.std.proofs.lemmas.Bool.{eqb-true}
 use Rattle.std.proofs.lemmas.List.{take_more}
 use Rattle.std.proofs.lemmas.Option.{none-some}
@@ -79,3 +79,16 @@ partners_unseen told side = is_unseen_by_state told (other_side side) ∙ by (st
     by UnseenA B = refl
     by UnseenB A = refl
     by UnseenB B = refl
+
+-- what is told of a coupling, where it is known whether there is one
+pub told_where : (found : Option Coupling) (p : Coupling → Bool) (flag coupled : Bool) → is_some found ≡ coupled → ((c : Coupling) → found ≡ Some c → flag ≡ p c) → (flag && coupled) ≡ option_map_or p found false
+told_where None p flag coupled is told = ap (λ (b : Bool). flag && b) (sym is) ∙ by flag
+  where
+    by : (b : Bool) → (b && false) ≡ false
+    by true = refl
+    by false = refl
+told_where (Some c) p flag coupled is told = ap (λ (b : Bool). flag && b) (sym is) ∙ by flag ∙ told c refl
+  where
+    by : (b : Bool) → (b && true) ≡ b
+    by true = refl
+    by false = refl

@@ -37,12 +37,10 @@ impl Core {
         ensures journal { OnOk result (self.new ≡ core_after self.old party act) }
         ensures err { OnErr result (self.new ≡ self.old) }
     {
-        match &self.own(party, &access.local) {
-            None => self.make_unshared_access(party, access, act),
-            Some(offer) => {
-                self.make_own_access(party, offer, &self.coupling_on(offer), access, act)
-            }
+        if let Some(offer) = &self.own(party, &access.local) {
+            return self.make_own_access(party, offer, &self.coupling_on(offer), access, act);
         }
+        self.make_unshared_access(party, access, act)
     }
 
     // An access on a name that its party has not offered.
@@ -83,10 +81,10 @@ impl Core {
         if let Some(hold) = self.hold_on(offer, coupling, access.kind) {
             return self.refuse(party, offer, access, hold, act);
         }
-        match access.kind {
-            Kind::Set => self.grant_set(party, offer, coupling, access, act),
-            Kind::Use => self.grant_use(party, offer, coupling, access, act),
+        if let Kind::Use = access.kind {
+            return self.grant_use(party, offer, coupling, access, act);
         }
+        self.grant_set(party, offer, coupling, access, act)
     }
 
     // An access that is refused.
@@ -170,33 +168,27 @@ impl Core {
         ensures journal { OnOk result (self.new ≡ core_after self.old party act) }
         ensures err { OnErr result (self.new ≡ self.old) }
     {
-        let given = match given_by(self.alloc, self.value_for(offer, coupling)) {
-            Ok(given) => given,
-            Err(_) => return no_act(act),
+        let Ok(given) = given_by(self.alloc, self.value_for(offer, coupling)) else {
+            return no_act(act);
         };
-        let kept = use_given(
+        let Ok(kept) = use_given(
             self.alloc,
             &mut self.log,
             &mut self.cells,
             offer,
             coupling,
             given.value(),
-        );
-        match kept {
-            Ok(kept) => {
-                self.log.push(Entry {
-                    party,
-                    act,
-                    answer: kept,
-                    made: List::new(self.alloc),
-                });
-                Ok(given)
-            }
-            Err(_) => {
-                discard_answer(given);
-                no_act(act)
-            }
-        }
+        ) else {
+            discard_answer(given);
+            return no_act(act);
+        };
+        self.log.push(Entry {
+            party,
+            act,
+            answer: kept,
+            made: List::new(self.alloc),
+        });
+        Ok(given)
     }
 }
 
@@ -233,10 +225,10 @@ fn set_handed(
 fn given_by(alloc: Global, value: Option<&Array>) -> Result<Answer, WantOfMemory>
     ensures { IfOk result (λ answer. plain_answer answer ≡ value_answer (option_copied value.entry)) }
 {
-    match value {
-        None => Ok(Answer::NoValue),
-        Some(value) => Ok(Answer::Value(value.copy(alloc)?)),
-    }
+    let Some(value) = value else {
+        return Ok(Answer::NoValue);
+    };
+    Ok(Answer::Value(value.copy(alloc)?))
 }
 
 // Room for the entry, the answer of a use for it, and the use of an offer by its coupling. It takes memory; after
@@ -260,11 +252,9 @@ fn use_given(
 {
     log.reserve()?;
     let kept = given_by(alloc, value)?;
-    match note_use(cells, offer, coupling) {
-        Ok(()) => Ok(kept),
-        Err(_) => {
-            discard_answer(kept);
-            Err(WantOfMemory)
-        }
+    if note_use(cells, offer, coupling).is_err() {
+        discard_answer(kept);
+        return Err(WantOfMemory);
     }
+    Ok(kept)
 }

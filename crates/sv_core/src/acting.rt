@@ -21,10 +21,10 @@ impl Core {
         ensures journal { OnOk result (self.new ≡ core_after self.old party act) }
         ensures err { OnErr result (self.new ≡ self.old) }
     {
-        match &act.access() {
-            None => self.make_other(party, act),
-            Some(access) => self.make_access(party, access, act),
+        if let Some(access) = &act.access() {
+            return self.make_access(party, access, act);
         }
+        self.make_other(party, act)
     }
 
     // The answer to an act that is no access.

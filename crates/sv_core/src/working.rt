@@ -1,14 +1,15 @@
-ghost use Rattle.std.specs.Prelude.{◌≡◌, [], true, false, not, find, nat_lt, Contains, IsTrue, Some, is_some, unwrap_or};
+ghost use Rattle.std.specs.Prelude.{◌≡◌, true, false, not, find, nat_lt, Contains, IsTrue, Some, is_some, unwrap_or};
 ghost use Rattle.std.specs.List.{list_all, list_any};
-ghost use Rattle.std.specs.Option.{option_copied};
+ghost use Rattle.std.specs.Option.{option_copied, option_map_or};
 ghost use Rattle.sv_core.specs.Due.{command_of, customer_of, is_due, is_due_on, is_open, is_reply, is_service, partner_at, partner_of, served_by, work_among};
 ghost use Rattle.sv_log.specs.Member.{waiting_at};
 ghost use Rattle.sv_rules.specs.Coupling.{coupling_now, open_to};
 ghost use Rattle.sv_rules.specs.Entries.{has_left};
 ghost use Rattle.sv_rules.specs.Refused.{hold_of, hold_on, refused, still_refused};
 ghost use Rattle.sv_rules.specs.Standing.{offer_count, own_offer, standing};
+ghost use Rattle.sv_rules.specs.declared.coupling.Coupling.{Coupling};
 ghost use Rattle.sv_rules.specs.declared.standing.Standing.{Standing};
-ghost use Rattle.sv_rules.specs.Work.{first_coupled, is_auxiliary, is_halted, is_idle, is_stuck, lacks_control, most_counters, owes_reply, to_counter, work_due, work_of};
+ghost use Rattle.sv_rules.specs.Work.{first_coupled, has_unseen, is_auxiliary, is_halted, is_idle, is_stuck, lacks_control, most_counters, owes_reply, to_counter, work_due, work_of};
 
 use crate::Core;
 use apl_arrays::Array;
@@ -22,35 +23,16 @@ impl Core {
         ensures { result ≡ work_of self.now.journal party }
     {
         if self.is_full() {
-            Work::Idle
-        } else {
-            self.work_due(party)
+            return Work::Idle;
         }
+        self.work_due(party)
     }
 
     fn work_due(&self, party: u32) -> Work
         requires { IsTrue (is_auxiliary party) }
         ensures { result ≡ unwrap_or (work_due self.now.journal party) Work.Idle }
     {
-        let own = self.own_offers(party);
-        if own.is_empty() {
-            self.work_of_newcomer(party)
-        } else {
-            self.work_among(party, own)
-        }
-    }
-
-    // The work that is due of an auxiliary without offers of its own: it may have one to counter.
-    fn work_of_newcomer(&self, party: u32) -> Work
-        ensures { result ≡ unwrap_or (work_among self.now.journal party []) Work.Idle }
-    {
-        match &self.to_counter(party) {
-            None => Work::Idle,
-            Some(offer) => Work::Counter {
-                to: offer.party,
-                surrogate: offer.surrogate,
-            },
-        }
+        self.work_among(party, self.own_offers(party))
     }
 
     // The work that is due of an auxiliary, by the offers of its own, which are looked up once for all that may be due.
@@ -60,21 +42,24 @@ impl Core {
         ensures { result ≡ unwrap_or (work_among self.now.journal party own.now) Work.Idle }
     {
         if let Some(offer) = self.first_open_among(own) {
-            Work::Retract(offer.local)
-        } else if let Some(offer) = self.first_coupled_among(own, Due::Control) {
-            Work::Control(offer.local)
-        } else if let Some(offer) = self.first_coupled_among(own, Due::Reply) {
-            Work::Reply(offer.local)
-        } else if let Some(offer) = self.to_counter(party) {
-            Work::Counter {
+            return Work::Retract(offer.local);
+        }
+        if let Some(offer) = self.first_coupled_among(own, Due::Control) {
+            return Work::Control(offer.local);
+        }
+        if let Some(offer) = self.first_coupled_among(own, Due::Reply) {
+            return Work::Reply(offer.local);
+        }
+        if let Some(offer) = &self.to_counter(party) {
+            return Work::Counter {
                 to: offer.party,
                 surrogate: offer.surrogate,
-            }
-        } else if let Some(offer) = self.first_coupled_among(own, Due::Use) {
-            Work::Use(offer.local)
-        } else {
-            Work::Idle
+            };
         }
+        if let Some(offer) = self.first_coupled_among(own, Due::Use) {
+            return Work::Use(offer.local);
+        }
+        Work::Idle
     }
 
     // The open offer of the lowest place among some.
@@ -103,7 +88,21 @@ impl Core {
         self.first_coupled_among(self.own_offers(party), due)
     }
 
+    // The first of some offers that is coupled and on which this is due. Mostly there are none, and then nothing is asked.
     fn first_coupled_among<'a>(&self, offers: &'a [Standing], due: Due) -> Option<&'a Standing>
+        requires stand { (offer : Standing) → Contains offers.now offer → Contains (standing self.now.journal) offer }
+        requires own { (offer : Standing) → Contains offers.now offer → IsTrue (is_auxiliary offer.party) }
+        ensures { option_copied result ≡ find (is_due_on self.now.journal due) offers.now }
+    {
+        if offers.is_empty() {
+            None
+        } else {
+            self.first_due(offers, due)
+        }
+    }
+
+    // The same, by going over them.
+    fn first_due<'a>(&self, offers: &'a [Standing], due: Due) -> Option<&'a Standing>
         requires stand { (offer : Standing) → Contains offers.now offer → Contains (standing self.now.journal) offer }
         requires own { (offer : Standing) → Contains offers.now offer → IsTrue (is_auxiliary offer.party) }
         ensures { option_copied result ≡ find (is_due_on self.now.journal due) offers.now }
@@ -116,38 +115,24 @@ impl Core {
         None
     }
 
-    // Whether the offer is coupled, and this is due on it.
+    // Whether the offer is coupled, and this is due on it. What its cell tells is asked before its coupling.
     fn is_due(&self, offer: &Standing, due: Due) -> bool
         requires stands { Contains (standing self.now.journal) offer.now }
         requires own { IsTrue (is_auxiliary offer.now.party) }
         ensures { result ≡ is_due_on self.now.journal due offer.now }
     {
-        match self.coupling_on(offer) {
-            None => false,
-            Some(coupling) => self.is_due_in(offer, &coupling, due),
-        }
-    }
-
-    fn is_due_in(&self, offer: &Standing, coupling: &Coupling, due: Due) -> bool
-        requires stands { Contains (standing self.now.journal) offer.now }
-        requires own { IsTrue (is_auxiliary offer.now.party) }
-        requires now { coupling_now self.now.journal offer.now.place ≡ Some coupling.now }
-        requires at_a { coupling_now self.now.journal coupling.now.a.place ≡ Some coupling.now }
-        ensures { result ≡ is_due self.now.journal due offer.now coupling.now }
-    {
         match due {
-            Due::Control => self.lacks_control(offer, coupling),
-            Due::Reply => self.owes_reply(offer, coupling),
-            Due::Use => self.has_unseen(offer, coupling),
+            Due::Control => self.lacks_control(offer) && self.is_coupled(offer.place),
+            Due::Reply => self.owes_reply(offer) && self.is_coupled(offer.place),
+            Due::Use => self.has_unseen_on(offer),
         }
     }
 
-    // Whether its party set no control on the offer since it was coupled.
-    fn lacks_control(&self, offer: &Standing, coupling: &Coupling) -> bool
+    // Whether its party set no control on the offer since it was coupled, if it is.
+    fn lacks_control(&self, offer: &Standing) -> bool
         requires stands { Contains (standing self.now.journal) offer.now }
         requires own { IsTrue (is_auxiliary offer.now.party) }
-        requires now { coupling_now self.now.journal offer.now.place ≡ Some coupling.now }
-        ensures { result ≡ lacks_control self.now.journal offer.now coupling.now }
+        ensures { (coupling : Coupling) → coupling_now self.now.journal offer.now.place ≡ Some coupling → result ≡ lacks_control self.now.journal offer.now coupling }
     {
         match self.cells.get(offer.place) {
             None => false,
@@ -155,16 +140,26 @@ impl Core {
         }
     }
 
-    // Whether its party got a value by its last access on the offer since it was coupled.
-    fn owes_reply(&self, offer: &Standing, coupling: &Coupling) -> bool
+    // Whether its party got a value by its last access on the offer since it was coupled, if it is.
+    fn owes_reply(&self, offer: &Standing) -> bool
         requires stands { Contains (standing self.now.journal) offer.now }
         requires own { IsTrue (is_auxiliary offer.now.party) }
-        requires now { coupling_now self.now.journal offer.now.place ≡ Some coupling.now }
-        ensures { result ≡ owes_reply self.now.journal offer.now coupling.now }
+        ensures { (coupling : Coupling) → coupling_now self.now.journal offer.now.place ≡ Some coupling → result ≡ owes_reply self.now.journal offer.now coupling }
     {
         match self.cells.get(offer.place) {
             None => false,
             Some(cell) => cell.owes_reply,
+        }
+    }
+
+    // Whether the offer is coupled, and a set of the partner is unseen.
+    fn has_unseen_on(&self, offer: &Standing) -> bool
+        requires { Contains (standing self.now.journal) offer.now }
+        ensures { result ≡ option_map_or (has_unseen self.now.journal offer.now) (coupling_now self.now.journal offer.now.place) false }
+    {
+        match &self.coupling_on(offer) {
+            None => false,
+            Some(coupling) => self.has_unseen(offer, coupling),
         }
     }
 

@@ -25,13 +25,13 @@ use Rattle.sv_core.proofs.processor.Core.grant_use.Goals.{After-push}
 pub value_for-requires-clause-stands : goal.value_for-requires-clause-stands
 value_for-requires-clause-stands c = (own_offer-parts (standing c.args.self.now.journal) c.args.party c.args.access.now.local c.args.offer.now c.requires.own).2
 
-pub invariant_of-self-in-Err-kept : goal.invariant_of-self-in-Err-kept
-invariant_of-self-in-Err-kept c =
-    same_core (parts_of c.self.inside) _ c.self.invariant c.use_given-kept.ensures.users c.use_given-kept.ensures.journal refl refl refl
-    (fit_kept c.self.inside.log.journal c.self.inside.cells c.use_given-kept.new.cells c.in-Err-kept.ensures.err c.self.invariant.fit) c.use_given-kept.ensures.kept
+pub invariant_of-self : goal.invariant_of-self
+invariant_of-self c =
+    same_core (parts_of c.self.inside) _ c.self.invariant c.use_given.ensures.users c.use_given.ensures.journal refl refl refl
+    (fit_kept c.self.inside.log.journal c.self.inside.cells c.use_given.new.cells c.in_default-use_given.ensures.err c.self.invariant.fit) c.use_given.ensures.kept
 
-pub use_given-kept-requires : goal.use_given-kept-requires
-use_given-kept-requires c =
+pub use_given-requires : goal.use_given-requires
+use_given-requires c =
     let has = subst (λ (v : PlainCore). Contains (standing v.journal) c.args.offer.now) (sym c.self.view_is) (own_offer-parts (standing c.args.self.now.journal) c.args.party c.args.access.now.local c.args.offer.now c.requires.own).2 in
     ready_with (parts_of c.self.inside) c.self.invariant c.args.offer.now has c.args.coupling.now
     (subst (λ (v : PlainCore). c.args.coupling.now ≡ coupling_now v.journal c.args.offer.now.place) (sym c.self.view_is) c.requires.coupled)
@@ -60,16 +60,16 @@ value_told c = c.value.ensures ∙ ap (λ (a : PlainAnswer). (answer_row a).valu
 more : (c : After-push) → IsEntered c.self.inside.log c.push.new.self (entry_for c.self.inside.log.journal c.args.party c.args.act)
 more c =
     let journal = c.self.inside.log.journal in
-    entered c.self.inside.log c.use_given-kept.new.log c.push.new.self _ _ c.use_given-kept.ensures.users c.use_given-kept.ensures.journal c.in-Ok-kept.ensures.room
-    c.push.ensures.users c.push.ensures.journal c.push.ensures.room (entry_is journal c.args.party c.args.act _ _ (c.in-Ok-kept.ensures.answer ∙ ap value_answer (value_told c) ∙ ap (λ (v : PlainCore). value_answer (value_for v.journal c.args.offer.now (coupling_now v.journal c.args.offer.now.place))) (sym c.self.view_is) ∙ use_granted journal c.args.party c.args.act c.args.access.now c.args.offer.now c.requires.row c.requires.kind (own c) (free c)) (c.new.ensures ∙ sym (ap (λ (o : Outcome). o.made) (outcome_of_access journal c.args.party c.args.act c.args.access.now c.requires.row))))
+    entered c.self.inside.log c.use_given.new.log c.push.new.self _ _ c.use_given.ensures.users c.use_given.ensures.journal c.in-Ok-use_given.ensures.room
+    c.push.ensures.users c.push.ensures.journal c.push.ensures.room (entry_is journal c.args.party c.args.act _ _ (c.in-Ok-use_given.ensures.answer ∙ ap value_answer (value_told c) ∙ ap (λ (v : PlainCore). value_answer (value_for v.journal c.args.offer.now (coupling_now v.journal c.args.offer.now.place))) (sym c.self.view_is) ∙ use_granted journal c.args.party c.args.act c.args.access.now c.args.offer.now c.requires.row c.requires.kind (own c) (free c)) (c.new.ensures ∙ sym (ap (λ (o : Outcome). o.made) (outcome_of_access journal c.args.party c.args.act c.args.access.now c.requires.row))))
 
-pub invariant_of-self : goal.invariant_of-self
-invariant_of-self c =
-    let d = (goal.at.invariant_of-self c).After-push in
+pub invariant_of-self-2 : goal.invariant_of-self-2
+invariant_of-self-2 c =
+    let d = (goal.at.invariant_of-self-2 c).After-push in
     let core = parts_of c.self.inside in
     let e = entry_for core.journal c.args.party c.args.act in
     let has = (own_offer-parts (standing core.journal) c.args.party c.args.access.now.local c.args.offer.now (own d)).2 in
     let makes = use_makes_access core.journal c.args.party c.args.act c.args.access.now c.args.offer.now c.requires.row c.requires.kind (own d) (free d) in
     access_core core _ c.self.invariant e c.args.offer.now (use_of (value_for core.journal c.args.offer.now (coupling_now core.journal c.args.offer.now.place))) (may d) (not-true (is_leave c.args.act) c.requires.may.stays)
     has makes (more d).users (more d).journal refl refl refl
-    (uses_with core c.self.invariant c.args.offer.now c.use_given-kept.new.cells has c.args.coupling.now (coupled d) c.in-Ok-kept.ensures.ok) (more d).room
+    (uses_with core c.self.invariant c.args.offer.now c.use_given.new.cells has c.args.coupling.now (coupled d) c.in-Ok-use_given.ensures.ok) (more d).room

@@ -10,11 +10,11 @@ use Rattle.sv_core.proofs.processor.Core.work_due.Goals as goal
 
 pub work_among-requires-clause-stand : goal.work_among-requires-clause-stand
 work_among-requires-clause-stand c = λ offer has.
-    Contains-from_filter (λ (o : Standing). eqb o.party c.args.party) (standing c.args.self.now.journal) offer (subst (λ (os : List Standing). Contains os offer) c.own_offers-own.ensures has)
+    Contains-from_filter (λ (o : Standing). eqb o.party c.args.party) (standing c.args.self.now.journal) offer (subst (λ (os : List Standing). Contains os offer) c.own_offers.ensures has)
 
 pub work_among-requires-clause-own : goal.work_among-requires-clause-own
 work_among-requires-clause-own c = λ offer has.
-    own_is_auxiliary c.args.self.now.journal c.args.party offer c.requires (subst (λ (os : List Standing). Contains os offer) c.own_offers-own.ensures has)
+    own_is_auxiliary c.args.self.now.journal c.args.party offer c.requires (subst (λ (os : List Standing). Contains os offer) c.own_offers.ensures has)
 
-pub returns-else-is_empty : goal.returns-else-is_empty
-returns-else-is_empty c = c.work_among.ensures ∙ ap (λ (os : List Standing). unwrap_or (work_among c.args.self.now.journal c.args.party os) Idle) c.own_offers-own.ensures
+pub returns : goal.returns
+returns c = c.work_among.ensures ∙ ap (λ (os : List Standing). unwrap_or (work_among c.args.self.now.journal c.args.party os) Idle) c.own_offers.ensures
