@@ -31,4 +31,4 @@ mod waiting;
 pub use alone::hear_alone;
 pub use flow::Stop;
 pub use machine::{Machine, STATEMENT_LIMIT};
-pub use reading::{LineRead, read_line, tree_of};
+pub use reading::{LineRead, read_line};

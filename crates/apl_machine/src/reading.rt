@@ -96,9 +96,9 @@ pub fn read(alloc: Global, workspace: &Workspace, text: &Line) -> Result<Reading
     Ok(Reading::of(alloc, tree)?)
 }
 
-/// The tree of a text, with the classes of this moment: CHARACTER ERROR where a glyph stands that no token has, else SYNTAX
-/// ERROR where the text is no statement. It takes memory for tokens, classes and nodes.
-pub fn tree_of(alloc: Global, workspace: &Workspace, text: &Line) -> Result<Tree, Fail>
+// The tree of a text, with the classes of this moment: CHARACTER ERROR where a glyph stands that no token has, else SYNTAX
+// ERROR where the text is no statement. It takes memory for tokens, classes and nodes.
+fn tree_of(alloc: Global, workspace: &Workspace, text: &Line) -> Result<Tree, Fail>
     ensures tree { IfOk result (λ tree. IsTreeOf workspace.now text.now.items (plain_tree tree)) }
     ensures refused { IfErr result (IsNotRead (read_with workspace.now text.now.items)) }
 {

@@ -128,8 +128,8 @@ impl<K> Session<K> {
         }
     }
 
-    /// Gives the answer to the act that waits. Nothing is evaluated. It takes memory for the receipt. After `WantOfMemory`
-    /// the session has failed.
+    /// Gives the answer to the act that waits. A line that is this act alone is done then; nothing else is evaluated. It
+    /// takes memory for the receipt, and for what such a line prints. After `WantOfMemory` the session has failed.
     pub fn answer(&mut self, answer: Answer) -> Result<(), WantOfMemory>
         requires { self.old.stage ≡ Stage.Waiting }
         ensures ok { OnOk result (self.new ≡ record self.old { answers = self.old.answers ++ plain_answer answer ∷ []; stage = Stage.Ready }) }
