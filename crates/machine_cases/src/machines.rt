@@ -1,18 +1,18 @@
 ghost use Rattle.std.specs.Prelude.{◌≡◌, ◌<◌, [], IfOk, OnOk};
 ghost use Rattle.line_trees.specs.Parsing.{plain_tree};
+ghost use Rattle.apl_machine.specs.Alone.{IsOnShared};
 ghost use Rattle.apl_machine.specs.Machine.{IsIdle, MayRun};
 ghost use Rattle.apl_machine.specs.Runs.{IsTreeOf};
 
 use crate::notes::Notes;
 use anyhow::{Context, Result, bail};
-use apl_arrays::{Line, LineList};
-use apl_machine::{Machine, Stop};
-use apl_meaning::classes_of;
+use apl_arrays::{Fail, Line, LineList};
+use apl_machine::{LineRead, Machine, Stop, hear_alone, read_line};
+use apl_meaning::{input_shown, report_line};
 use apl_operators::Steps;
 use apl_workspace::Workspace;
 use case_fields::{line_of, push_glyphs, unescaped};
-use line_scanner::scan;
-use line_trees::{Tree, parse};
+use line_trees::Tree;
 use std::alloc::Global;
 use std::marker::Brand;
 use std::sync::ledger::{Blank, Ledger};
@@ -35,9 +35,39 @@ impl Play {
         ensures { IfOk result (λ after. after.frames ≡ []) }
     {
         let line = line_of(self.alloc, text)?;
-        let tree = tree_of(self.alloc, &workspace, &line)?;
+        match read_line(self.alloc, &workspace, &line) {
+            Ok(LineRead::Alone(act)) => self.make_alone(workspace, &line, act),
+            Ok(LineRead::Tree(tree)) => self.run_line(workspace, &line, tree),
+            Err(_) => bail!("a line is no statement"),
+        }
+    }
+
+    // Evaluates a line that is one act alone.
+    fn make_alone(&mut self, workspace: Workspace, line: &Line, act: Act) -> Result<Workspace>
+        requires frames { workspace.frames ≡ [] }
+        requires shared { IsOnShared workspace act }
+        ensures { IfOk result (λ after. after.frames ≡ []) }
+    {
+        let mut workspace = workspace;
+        let mut output = LineList::new(self.alloc);
+        let answer = self.answers.pop().context("no answer is left")?;
+        let heard = hear_alone(self.alloc, &mut workspace, &act, answer, &mut output);
+        note_act(self.alloc, &mut self.acts, act)?;
+        note_lines(self.alloc, &mut self.printed, output)?;
+        if let Err(fail) = heard {
+            note_report(self.alloc, &mut self.printed, fail, line)?;
+        }
+        Ok(workspace)
+    }
+
+    // Evaluates a line that has this tree.
+    fn run_line(&mut self, workspace: Workspace, line: &Line, tree: Tree) -> Result<Workspace>
+        requires frames { workspace.frames ≡ [] }
+        requires tree { IsTreeOf workspace line.now.items (plain_tree tree) }
+        ensures { IfOk result (λ after. after.frames ≡ []) }
+    {
         let mut machine = Machine::new(self.alloc, workspace);
-        machine.begin(&line, tree)?;
+        machine.begin(line, tree)?;
         self.run::<Brand>(&mut machine, Blank::new(1))?;
         Ok(machine.into_workspace())
     }
@@ -65,18 +95,15 @@ impl Play {
     }
 }
 
-// The tree of a line, which is a statement.
-fn tree_of(alloc: Global, workspace: &Workspace, line: &Line) -> Result<Tree>
-    ensures { IfOk result (λ tree. IsTreeOf workspace.now line.now.items (plain_tree tree)) }
-{
-    let Ok(tokens) = scan(alloc, line) else {
-        bail!("a line has no tokens");
+// Notes the two lines of the report by which a line ended.
+fn note_report(alloc: Global, printed: &mut Notes, fail: Fail, line: &Line) -> Result<()> {
+    let Fail::Report(report) = fail else {
+        bail!("memory ran out");
     };
-    let classes = classes_of(alloc, workspace)?;
-    let Ok(tree) = parse(alloc, &tokens, &classes) else {
-        bail!("a line has no tree");
-    };
-    Ok(tree)
+    let mut lines = LineList::new(alloc);
+    lines.push(report_line(alloc, report)?)?;
+    lines.push(input_shown(alloc, line.as_slice())?)?;
+    note_lines(alloc, printed, lines)
 }
 
 // Notes lines that were printed.

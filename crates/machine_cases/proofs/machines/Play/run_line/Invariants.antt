@@ -1,4 +1,4 @@
-use Rattle.machine_cases.proofs.machines.Play.evaluate.Given as goal
+use Rattle.machine_cases.proofs.machines.Play.run_line.Given as goal
 
 -- the ledger of the counter that is made for the line
 abbrev pub ghosts-run : goal.ghosts-run
