@@ -85,7 +85,7 @@ impl Core {
         requires { IsTrue (is_auxiliary party) }
         ensures { option_copied result ≡ first_coupled self.now.journal (is_due self.now.journal due) party }
     {
-        self.first_coupled_among(self.own_offers(party), due)
+        self.first_due(self.own_offers(party), due)
     }
 
     // The first of some offers that is coupled and on which this is due. Mostly there are none, and then nothing is asked.
