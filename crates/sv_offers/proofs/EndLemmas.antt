@@ -1,12 +1,11 @@
 -- What ends with one offer, and what this sets free.
-use Rattle.std.proofs.Common.{◌≡◌, refl, sym, ap, ◌∙◌, ℕ, ◌+◌, ◌<◌, ◌≤◌, Bool, true, false, not, ◌&&◌, ◌||◌, ◌⊎◌, cond, eqb, List, [], ◌∷◌, ◌++◌, length, get_or, filter, find, Option, Some, None, inl, inr, subst, arith}
+use Rattle.std.proofs.Common.{◌≡◌, refl, sym, ap, ◌∙◌, ℕ, ◌<◌, ◌≤◌, Bool, true, false, not, ◌&&◌, ◌||◌, cond, eqb, List, [], ◌∷◌, get_or, filter, find, Option, Some, None, inl, inr, subst, arith}
 use Rattle.std.specs.Prelude.{All, Contains, count_by, is_some, option_and_then}
 use Rattle.std.specs.List.{list_any}
 use Rattle.std.specs.Option.{option_or}
 use Rattle.std.proofs.Math.Bool.{and-false}
-use Rattle.std.proofs.lemmas.Bool.{and_from, and_parts, both_ways, cases_Bool, eqb-true, eq-eqb, false_from_ne_true, ne_eqb, not-true, or_cases, or_left, or_right, true_from_ne_false}
-use Rattle.std.proofs.lemmas.Option.{none-some}
-use Rattle.std.proofs.lemmas.List.Elements.{All-contains, All-contains_itself, All-weaker, Contains-append_right}
+use Rattle.std.proofs.lemmas.Bool.{and_from, both_ways, cases_Bool, eqb-true, eq-eqb, false_from_ne_true, not-true, or_cases, or_left, or_right}
+use Rattle.std.proofs.lemmas.List.Elements.{All-contains_itself, All-weaker}
 use Rattle.std.proofs.lemmas.List.Folds.{find-append, list_any-append}
 use Rattle.std.proofs.lemmas.List.Kept.{AllPairs-filter}
 use Rattle.sv_events.specs.declared.row.Ending.{Ending}
@@ -15,6 +14,7 @@ use Rattle.sv_offer_laws.proofs.Members.{Contains-behind, Contains-from_filter, 
 use Rattle.sv_offer_laws.proofs.OwnLemmas.{find-filter}
 use Rattle.sv_offer_laws.proofs.PlaceLemmas.{same_by_place}
 use Rattle.sv_offers.proofs.FilterLemmas.{none_kept}
+use Rattle.sv_offers.proofs.FindingLemmas.{none_from_test}
 use Rattle.sv_offers.proofs.OnlyLemmas.{none_beside, only_between}
 use Rattle.sv_offers.proofs.PlaceLemmas.{couplings_without, kept_elsewhere, passes_more}
 use Rattle.sv_offers.specs.Places.{AreOnce, ByPlace, other_place, set_free, with_free, without_coupling, without_place}
@@ -22,10 +22,6 @@ use Rattle.sv_rules.specs.Coupling.{both_stand, couplings_among, has_place, is_c
 use Rattle.sv_rules.specs.Standing.{is_ended, without_ended}
 use Rattle.sv_rules.specs.declared.coupling.Made.{Made}
 use Rattle.sv_rules.specs.declared.standing.Standing.{Standing}
-
-none_from_test : {X : Type 0} (found : Option X) → is_some found ≡ false → found ≡ None
-none_from_test None none = refl
-none_from_test (Some x) none = cc
 
 -- nothing is found where nothing passes
 pub found_nowhere : {X : Type 0} (p : X → Bool) (xs : List X) → list_any p xs ≡ false → find p xs ≡ None

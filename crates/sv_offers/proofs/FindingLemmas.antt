@@ -1,7 +1,25 @@
 -- The first of each key.
-use Rattle.std.proofs.Common.{◌≡◌, refl, Bool, true, false, ◌||◌, cond, List, [], ◌∷◌, Some, find}
-use Rattle.std.specs.Prelude.{is_some}
+use Rattle.std.proofs.Common.{◌≡◌, refl, sym, ap, ap₂, ◌∙◌, ℕ, Bool, true, false, ◌||◌, cond, eqb, List, [], ◌∷◌, Option, Some, None, filter, find, inl, inr}
+use Rattle.std.specs.Prelude.{Contains, is_some, nat_eq}
+use Rattle.std.specs.HashMap.{get}
 use Rattle.std.specs.List.{list_any}
+use Rattle.std.specs.Option.{option_or}
+use Rattle.std.proofs.lemmas.Bool.{and_parts, cases_Bool, eqb-true}
+use Rattle.apl_arrays.specs.Name.{same_name}
+use Rattle.sv_offer_laws.proofs.LookupLemmas.{find_is}
+use Rattle.sv_offer_laws.proofs.Members.{list_any_member}
+use Rattle.sv_offer_laws.proofs.OwnLemmas.{own-itself, same_name-is}
+use Rattle.sv_offers.proofs.FilterLemmas.{found_among}
+use Rattle.sv_offers.proofs.PlaceLemmas.{kept_elsewhere}
+use Rattle.sv_offers.proofs.ShelfLemmas.{of_party, to_party}
+use Rattle.sv_offers.specs.Finding.{same_key}
+use Rattle.sv_offers.specs.Inside.{AreFound}
+use Rattle.sv_offers.specs.Places.{ByPlace, without_place}
+use Rattle.sv_offers.specs.Shelf.{shelf_at}
+use Rattle.sv_offers.specs.declared.standings.Standings.TheInside.{Inside}
+use Rattle.sv_rules.specs.Coupling.{offer_at}
+use Rattle.sv_rules.specs.Standing.{is_own, own_offer}
+use Rattle.sv_rules.specs.declared.standing.Standing.{Standing}
 
 -- what is found is there
 pub found_any : {X : Type 0} (p : X → Bool) (xs : List X) → is_some (find p xs) ≡ list_any p xs
@@ -11,3 +29,60 @@ found_any {X} p (x ∷ xs) = by (p x) (found_any p xs)
     by : (b : Bool) → is_some (find p xs) ≡ list_any p xs → is_some (cond b (Some x) (find p xs)) ≡ (b || list_any p xs)
     by true rest = refl
     by false rest = rest
+
+-- nothing is what is not there
+pub none_from_test : {X : Type 0} (found : Option X) → is_some found ≡ false → found ≡ None
+none_from_test None none = refl
+none_from_test (Some x) none = cc
+
+-- what is found by the party and the local name of an offer is found by all that these are
+by_own : {X : Type 0} (found : ℕ → List ℕ → X) (offer : Standing) (party : ℕ) (local : List ℕ) → is_own party local offer ≡ true →
+    found offer.party offer.local ≡ found party local
+by_own found offer party local own =
+    let parts = and_parts (eqb offer.party party) (same_name offer.local local) own in
+    ap₂ found (eqb-true offer.party party parts.0) (same_name-is offer.local local parts.1)
+
+-- by those of an offer that stands one is found
+pub one_by_name : (offers : List Standing) (offer : Standing) → Contains offers offer → is_some (own_offer offers offer.party offer.local) ≡ true
+one_by_name offers offer there =
+    find_is (is_own offer.party offer.local) offers ∙ list_any_member (is_own offer.party offer.local) offers offer (own-itself offer) there
+
+-- and it is found among the party's own
+pub own_among : (offers : List Standing) (party : ℕ) (local : List ℕ) → own_offer (filter (of_party party) offers) party local ≡ own_offer offers party local
+own_among offers party local =
+    found_among (is_own party local) (of_party party) (λ offer own. (and_parts (eqb offer.party party) (same_name offer.local local) own).0) offers
+
+-- an offer that comes where nothing was found is found behind what was
+pub name_noted : (found : ℕ → List ℕ → Option Standing) (offer : Standing) → is_some (found offer.party offer.local) ≡ false → (party : ℕ) (local : List ℕ) →
+    cond (is_own party local offer) (Some offer) (found party local) ≡ option_or (found party local) (cond (is_own party local offer) (Some offer) None)
+name_noted found offer none party local =
+    by (is_own party local offer) (found party local) (λ own. sym (by_own found offer party local own) ∙ none_from_test (found offer.party offer.local) none)
+  where
+    by : (b : Bool) (old : Option Standing) → (b ≡ true → old ≡ None) → cond b (Some offer) old ≡ option_or old (cond b (Some offer) None)
+    by true old none = rw (none refl) refl
+    by false None none = refl
+    by false (Some other) none = refl
+
+-- by the party and the local name of an offer that went the next is found, and by others what was
+pub name_replaced : (offers : List Standing) (gone : Standing) (next : Option Standing) → ByPlace offers → Contains offers gone →
+    next ≡ own_offer (without_place offers gone.place) gone.party gone.local → (party : ℕ) (local : List ℕ) →
+    cond (is_own party local gone) next (own_offer offers party local) ≡ own_offer (without_place offers gone.place) party local
+name_replaced offers gone next by_place there is party local =
+    let own : Standing → Bool = is_own party local in
+    let left = without_place offers gone.place in
+    elim (cases_Bool (own gone)) [
+      | inl here ↦ rw here (is ∙ by_own (own_offer left) gone party local here)
+      | inr elsewhere ↦ rw elsewhere
+          (sym (found_among own own (λ o h. h) offers) ∙ ap (find own) (sym (kept_elsewhere own offers gone by_place there elsewhere)) ∙ found_among own own (λ o h. h) left)
+    ]
+
+-- where the lists and the maps answer as before, the offers are found as before
+pub found_as_before : (old new : Inside) → AreFound old → new.offers.items ≡ old.offers.items → ((party : ℕ) → shelf_at new.own party ≡ shelf_at old.own party) →
+    ((party : ℕ) → shelf_at new.made_to party ≡ shelf_at old.made_to party) → ((place : ℕ) → get nat_eq new.placed place ≡ get nat_eq old.placed place) →
+    ((key : ℕ × List ℕ) → get same_key new.named key ≡ get same_key old.named key) → AreFound new
+found_as_before old new found items own made_to placed named = record {
+  own = λ party. own party ∙ found.own party ∙ ap (filter (of_party party)) (sym items);
+  made_to = λ party. made_to party ∙ found.made_to party ∙ ap (filter (to_party party)) (sym items);
+  placed = λ place. placed place ∙ found.placed place ∙ ap (λ (offers : List Standing). offer_at offers place) (sym items);
+  named = λ party local. named (party, local) ∙ found.named party local ∙ ap (λ (offers : List Standing). own_offer offers party local) (sym items);
+}

@@ -1,8 +1,6 @@
 -- The offers and the couplings of a table fit together after each change.
-use Rattle.std.proofs.Common.{◌≡◌, refl, sym, ap, ◌∙◌, ℕ, ◌+◌, ◌-◌, ◌<◌, ◌≤◌, Bool, true, false, not, ◌&&◌, ◌||◌, ◌⊎◌, cond, eqb, List, [], ◌∷◌, ◌++◌, length, get_or, filter, Option, Some, None, inl, inr, subst, arith}
+use Rattle.std.proofs.Common.{◌≡◌, refl, ap, ◌∙◌, ℕ, ◌-◌, ◌<◌, ◌≤◌, Bool, true, false, not, eqb, List, [], ◌∷◌, ◌++◌, length, Option, Some, None, inl, inr, subst, arith}
 use Rattle.std.specs.Prelude.{All, Contains, option_map, option_to_list}
-use Rattle.std.specs.List.{list_any}
-use Rattle.std.specs.List.Sorted.{IsNonDecreasingBy}
 use Rattle.std.proofs.lemmas.Bool.{and_from, and_parts, eqb-true, eq-eqb, ne_eqb, or_from, or_left}
 use Rattle.std.proofs.lemmas.List.{append-nil, append_assoc}
 use Rattle.std.proofs.lemmas.List.Elements.{All-append, All-cons, All-nil, All-contains, All-filter, All-head, All-push, All-tail, All-weaker, Contains-append_left, Contains-push, filter_passes}
@@ -10,14 +8,13 @@ use Rattle.std.proofs.lemmas.List.Folds.{Any-from_list_any, list_any-append, lis
 use Rattle.std.proofs.lemmas.List.Kept.{AllPairs-filter, IsNonDecreasingBy-filter}
 use Rattle.std.proofs.lemmas.List.Quantifiers.{all_pairs_push}
 use Rattle.std.proofs.lemmas.List.Sorted.{IsNonDecreasingBy-push}
-use Rattle.sv_events.specs.declared.entry.Pair.{Pair}
 use Rattle.sv_events.specs.declared.row.Ending.{Ending}
 use Rattle.sv_offer_laws.proofs.MatchLemmas.{open_match_is, pair_of_cases}
-use Rattle.sv_offer_laws.proofs.Members.{Contains-from_filter, count_by-filter, filter_whole, list_any_member}
+use Rattle.sv_offer_laws.proofs.Members.{Contains-from_filter, count_by-filter, list_any_member}
 use Rattle.sv_offer_laws.proofs.RecoupledLemmas.{IsMadeOf, recoupled_made, recoupled_once, uses_of-push}
 use Rattle.sv_offers.specs.Places.{AreOnce, ByMaking, FitTogether, IsNext}
 use Rattle.sv_offers.specs.Table.{PlainOffers, after_ending, after_offer}
-use Rattle.sv_rules.specs.Coupling.{both_stand, couplings_among, has_place, is_coupled, kept_by_ending, made_by_ending, open_match, pair_of, reopened_by_ending, stands_at}
+use Rattle.sv_rules.specs.Coupling.{both_stand, has_place, is_coupled, kept_by_ending, made_by_ending, open_match, pair_of, reopened_by_ending, stands_at}
 use Rattle.sv_rules.specs.Standing.{is_ended, without_ended}
 use Rattle.sv_rules.specs.declared.coupling.Made.{Made}
 use Rattle.sv_rules.specs.declared.standing.Standing.{Standing}

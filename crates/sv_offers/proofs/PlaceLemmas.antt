@@ -1,7 +1,7 @@
 -- Offers by place, with one more and with one fewer.
-use Rattle.std.proofs.Common.{◌≡◌, refl, sym, ap, ◌∙◌, ℕ, zero, suc, ◌+◌, ◌<◌, ◌≤◌, Bool, true, false, not, ◌&&◌, ◌||◌, cond, eqb, ltb, List, [], ◌∷◌, ◌++◌, length, get_or, take, drop, filter, find, Option, Some, None, ◌⊎◌, inl, inr, arith, length-append}
-use Rattle.std.specs.Prelude.{All, AllPairs, Contains, count_by, is_some}
-use Rattle.std.proofs.lemmas.Bool.{cases_Bool, cases_order, eqb-true, eq-eqb, ne_eqb, le-ltb, lt-ltb, not-true}
+use Rattle.std.proofs.Common.{◌≡◌, refl, sym, ap, ◌∙◌, ℕ, zero, suc, ◌+◌, ◌<◌, ◌≤◌, Bool, true, false, not, ◌&&◌, ◌||◌, cond, eqb, ltb, List, [], ◌∷◌, ◌++◌, length, get_or, drop, filter, Option, Some, None, ◌⊎◌, inl, inr, arith, length-append}
+use Rattle.std.specs.Prelude.{All, Contains, count_by, is_some}
+use Rattle.std.proofs.lemmas.Bool.{cases_Bool, cases_order, eqb-true, eq-eqb, ne_eqb, le-ltb, lt-ltb}
 use Rattle.std.proofs.lemmas.Cmp.{nat_eq_equiv}
 use Rattle.std.proofs.Math.Bool.{and-false}
 use Rattle.std.proofs.lemmas.List.Elements.{All-contains, All-contains_itself, All-filter, All-weaker}
@@ -11,7 +11,7 @@ use Rattle.std.proofs.lemmas.List.Sums.{get_or-le-sum_by, length-filter, sum_by-
 use Rattle.std.specs.List.{AllWithin, insert}
 use Rattle.std.specs.List.Sorted.{IsNonDecreasingBy}
 use Rattle.sv_offer_laws.proofs.LookupLemmas.{find_is}
-use Rattle.sv_offer_laws.proofs.Members.{Contains-behind, Contains-cons_cases, Contains-head, count_by-none, filter-filter, filter_past_none, filter_same, filter_whole}
+use Rattle.sv_offer_laws.proofs.Members.{Contains-behind, Contains-cons_cases, Contains-head, count_by-none, filter-filter, filter_same, filter_whole}
 use Rattle.sv_offer_laws.proofs.PlaceLemmas.{same_by_place}
 use Rattle.sv_offers.proofs.FilterLemmas.{filter_alike, none_kept, split_front}
 use Rattle.sv_offers.specs.Places.{ByPlace, with_free, with_place, without_coupling, without_place}

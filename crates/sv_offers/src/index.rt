@@ -1,13 +1,19 @@
-ghost use Rattle.std.specs.Prelude.{◌≡◌, ◌+◌, ◌≤◌, ◌<◌, ◌==◌, ℕ, None, Some, nat_eq, if◌then◌else◌};
+ghost use Rattle.std.specs.Prelude.{◌≡◌, ◌+◌, ◌≤◌, ◌<◌, ◌==◌, ℕ, List, IsSome, None, Some, nat_eq, if◌then◌else◌};
 ghost use Rattle.std.specs.Option.{option_or};
 ghost use Rattle.std.specs.HashMap.{get, spare};
+ghost use Rattle.sv_offers.specs.Finding.{same_key};
 ghost use Rattle.sv_rules.specs.Coupling.{has_place};
+ghost use Rattle.sv_rules.specs.Standing.{is_own};
 
+use apl_arrays::Name;
 use std::collections::HashMap;
 use sv_rules::{Made, Standing};
 
 /// Offers by their places.
 pub type Placed = HashMap<u64, Standing>;
+
+/// Offers by their parties and local names.
+pub type Named = HashMap<(u32, Name), Standing>;
 
 /// Couplings by the places of both their offers.
 pub type Mated = HashMap<u64, Made>;
@@ -31,6 +37,39 @@ pub fn forget_place(placed: &mut Placed, place: u64)
     ensures { (at : ℕ) → get nat_eq placed.new at ≡ (if place == at then None else get nat_eq placed.old at) }
 {
     placed.remove(&place);
+}
+
+/// An offer is found by its party and its local name, unless another is. No memory.
+pub fn note_name(named: &mut Named, offer: &Standing)
+    requires { 0 < spare named.old }
+    ensures { (party : ℕ) (local : List ℕ) → get same_key named.new (party, local)
+        ≡ option_or (get same_key named.old (party, local)) (if is_own party local offer.now then Some offer.now else None) }
+{
+    let key = (offer.party, offer.local);
+    if !named.contains_key(&key) {
+        match named.insert(key, *offer) {
+            Ok(_) => (),
+            Err(_) => unreachable!(),
+        }
+    }
+}
+
+/// By the party and the local name of an offer that went the next is found, or none. No memory.
+pub fn replace_name(named: &mut Named, gone: &Standing, next: Option<Standing>)
+    requires { IsSome (get same_key named.old (gone.now.party, gone.now.local)) }
+    ensures { (party : ℕ) (local : List ℕ) → get same_key named.new (party, local)
+        ≡ (if is_own party local gone.now then next else get same_key named.old (party, local)) }
+{
+    let key = (gone.party, gone.local);
+    match next {
+        None => {
+            named.remove(&key);
+        }
+        Some(offer) => match named.insert(key, offer) {
+            Ok(_) => (),
+            Err(_) => unreachable!(),
+        },
+    }
 }
 
 // A coupling is found by a place, unless another is. No memory.

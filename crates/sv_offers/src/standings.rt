@@ -5,7 +5,7 @@ ghost use Rattle.sv_offers.specs.Shelf.{shelf_at};
 ghost use Rattle.sv_rules.specs.Coupling.{offer_at};
 ghost use Rattle.sv_rules.specs.Standing.{is_ended, offer_count, own_offer};
 
-use crate::index::{Placed, forget_place, note_place};
+use crate::index::{Named, Placed, forget_place, note_name, note_place, replace_name};
 use crate::places::take_out;
 use crate::shelves::Shelves;
 use apl_arrays::{Name, WantOfMemory};
@@ -25,14 +25,15 @@ pub fn is_ended(party: u32, ending: &Ending, offer: &Standing) -> bool
     }
 }
 
-/// Offers by place, each found without going over those of others: by its party, by the party that it is made to, and by
-/// its place.
+/// Offers by place, each found without going over those of others: by its party, by the party that it is made to, by its
+/// place, and by its party and its local name.
 #[derive(Drop)]
 pub struct Standings {
     offers: Vec<Standing>,
     own: Shelves,
     made_to: Shelves,
     placed: Placed,
+    named: Named,
 }
 
 impl Model for Standings {
@@ -57,6 +58,7 @@ impl Standings {
             own: Shelves::new(alloc),
             made_to: Shelves::new(alloc),
             placed: HashMap::new(alloc),
+            named: HashMap::new(alloc),
         }
     }
 
@@ -85,7 +87,7 @@ impl Standings {
     pub fn find(&self, party: u32, local: &Name) -> Option<Standing>
         ensures { result ≡ own_offer self.now party local.now }
     {
-        own_offer(self.of(party), party, local)
+        self.named.get(&(party, *local)).copied()
     }
 
     /// The offer at a place, if there is one. No memory.
@@ -109,11 +111,13 @@ impl Standings {
     {
         self.offers.reserve(1)?;
         self.placed.reserve(1)?;
+        self.named.reserve(1)?;
         self.own.open(new.party)?;
         self.made_to.open(new.to)?;
         add_to_both(&mut self.own, &mut self.made_to, new)?;
         self.offers.push_reserved(*new);
         note_place(&mut self.placed, new);
+        note_name(&mut self.named, new);
         Ok(())
     }
 
@@ -137,6 +141,8 @@ impl Standings {
         self.made_to.remove(offer.to, offer.place);
         take_out(&mut self.offers, offer.place);
         forget_place(&mut self.placed, offer.place);
+        let next = own_offer(self.own.of(offer.party), offer.party, &offer.local);
+        replace_name(&mut self.named, offer, next);
     }
 }
 

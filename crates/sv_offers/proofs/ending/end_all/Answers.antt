@@ -1,4 +1,4 @@
-use Rattle.std.proofs.Common.{◌<◌, ◌∙◌, ap, length, not, refl, subst, sym, List, arith}
+use Rattle.std.proofs.Common.{◌<◌, ◌∙◌, ap, length, not, refl, subst, sym, arith}
 use Rattle.std.proofs.lemmas.List.Kept.{AllPairs-filter, IsNonDecreasingBy-filter}
 use Rattle.sv_offer_laws.proofs.Members.{find_passed}
 use Rattle.sv_rules.specs.Coupling.{both_stand}

@@ -1,4 +1,4 @@
-use Rattle.std.proofs.Common.{ap, sym, ◌∙◌, Option, Some, None, cond, find, subst, arith}
+use Rattle.std.proofs.Common.{ap, sym, ◌∙◌, Option, None, cond, find, subst, arith}
 use Rattle.std.specs.Prelude.{Contains}
 use Rattle.apl_arrays.specs.List.{Listed}
 use Rattle.sv_rules.specs.Coupling.{has_place}

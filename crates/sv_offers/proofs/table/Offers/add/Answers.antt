@@ -1,4 +1,4 @@
-use Rattle.std.proofs.Common.{◌∙◌, ◌++◌, ◌∷◌, [], ap, length, length-append, subst, sym, List, Option, arith}
+use Rattle.std.proofs.Common.{◌∙◌, ◌++◌, ◌∷◌, [], ap, length, length-append, subst, sym, List, arith}
 use Rattle.std.specs.Prelude.{option_map, option_to_list}
 use Rattle.sv_rules.specs.Coupling.{open_match, pair_of}
 use Rattle.sv_rules.specs.declared.coupling.Made.{Made}
