@@ -1,12 +1,15 @@
 -- A text of glyphs is read in one way.
-use Rattle.std.proofs.Common.{◌≡◌, ℕ, ◌+◌, ◌-◌, ◌/◌, ◌%◌, ◌<◌, ◌≤◌, List, [], ◌∷◌, ◌++◌, length, get_or, take, drop, refl, sym, ap, ◌∙◌, ⊎_elim, arith, length-append, append_assoc, append-nil}
-use Rattle.std.proofs.lemmas.Bool.{cases_lt}
-use Rattle.std.proofs.lemmas.List.{take_more}
+use Rattle.std.proofs.Common.{◌≡◌, true, ℕ, ◌+◌, ◌-◌, ◌/◌, replicate, ◌%◌, ◌<◌, ◌≤◌, List, [], ◌∷◌, ◌++◌, length, get_or, take, drop, refl, sym, ap, ◌∙◌, ⊎_elim, arith, length-append, append_assoc, append-nil}
+use Rattle.std.proofs.Math.Dec.{ltb}
+use Rattle.std.proofs.lemmas.Bool.{cases_lt, ltb-true}
+use Rattle.std.proofs.lemmas.List.Sums.{AllPass-from_list_all}
+use Rattle.std.proofs.lemmas.List.{take_all, take_more}
+use Rattle.std.proofs.Math.Seq.{take-append_seam}
 use Rattle.std.proofs.lemmas.List.Concat.{flat_map-append}
 use Rattle.std.proofs.lemmas.List.Elements.{All-head, All-tail, All-cons, All-nil, All-append}
 use Rattle.std.proofs.lemmas.Str.{encode_same, length-encode, len_utf8_bounds}
 use Rattle.std.specs.Char.{encode_utf8}
-use Rattle.std.specs.List.{All}
+use Rattle.std.specs.List.{All, list_all}
 use Rattle.apl_arrays.proofs.Glyphs.{same_code, scalar_of_bound, scalar_of_low}
 use Rattle.apl_arrays.proofs.Scalars.{encode_one, encode_two, encode_three}
 use Rattle.apl_arrays.specs.Glyph.{IsGlyph, scalar_of, glyph_utf8, line_utf8, Spells, StartsWithNoGlyph, IsBadFrom}
@@ -14,6 +17,14 @@ use Rattle.apl_arrays.specs.Glyph.{IsGlyph, scalar_of, glyph_utf8, line_utf8, Sp
 -- a glyph of ASCII is one byte: its code
 pub bytes_of_low : (code : ℕ) → code < 128 → glyph_utf8 code ≡ code ∷ []
 bytes_of_low code low = ap encode_utf8 (scalar_of_low code low) ∙ encode_one code low
+
+-- glyphs of ASCII are as many bytes: their codes
+pub codes_are_bytes : (line : List ℕ) → All (λ code. code < 128) line → line_utf8 line ≡ line
+codes_are_bytes [] low = refl
+codes_are_bytes (code ∷ rest) low =
+    let first : glyph_utf8 code ≡ code ∷ [] = bytes_of_low code (All-head (λ code. code < 128) code rest low) in
+    let others : line_utf8 rest ≡ rest = codes_are_bytes rest (All-tail (λ code. code < 128) code rest low) in
+    ap (λ (front : List ℕ). front ++ line_utf8 rest) first ∙ ap (λ (back : List ℕ). code ∷ back) others
 
 -- glyphs come off two texts in the same way, until no glyph stands at the front
 pub same_split : (line other rest left : List ℕ) → All IsGlyph line → All IsGlyph other → StartsWithNoGlyph rest → StartsWithNoGlyph left → line_utf8 line ++ rest ≡ line_utf8 other ++ left → (line ≡ other) × (rest ≡ left)
@@ -102,3 +113,16 @@ pub no_control : (line : List ℕ) → All IsGlyph line → All (λ byte. 32 ≤
 no_control [] glyphs = All-nil IsNoControl
 no_control (x ∷ xs) glyphs =
     All-append IsNoControl (glyph_utf8 x) (line_utf8 xs) (glyph_bytes x (All-head IsGlyph x xs glyphs)) (no_control xs (All-tail IsGlyph x xs glyphs))
+
+-- codes that all pass the test are below 128
+pub low_codes : (line : List ℕ) → list_all (λ code. ltb code 128) line ≡ true → All (λ code. code < 128) line
+low_codes line pass = λ place other within. ltb-true (get_or line place other) 128 (AllPass-from_list_all (λ code. ltb code 128) line pass place other within)
+
+-- codes that are written behind bytes, over as many places that were filled up, stand behind them
+pub codes_stand : (before line filled made : List ℕ) (start whole : ℕ) → start ≡ length before → whole ≡ start + length line → filled ≡ take whole before ++ replicate (whole - start) 0 → made ≡ take start filled ++ line → list_all (λ code. ltb code 128) line ≡ true → take whole (made ++ drop (length made) filled) ≡ before ++ line_utf8 line
+codes_stand before line filled made start whole from to fills made_of low =
+    let kept : take whole before ≡ before = take_all whole before (omega (arith, from, to)) in
+    let front : take start filled ≡ before = ap (take start) (fills ∙ ap (λ (k : List ℕ). k ++ replicate (whole - start) 0) kept) ∙ (ap (λ (k : ℕ). take k (before ++ replicate (whole - start) 0)) from ∙ take-append_seam before (replicate (whole - start) 0)) in
+    let is : made ≡ before ++ line = made_of ∙ ap (λ (k : List ℕ). k ++ line) front in
+    let count : whole ≡ length made = omega (arith, from, to, ap length is ∙ length-append before line) in
+    ap (λ (k : ℕ). take k (made ++ drop (length made) filled)) count ∙ (take-append_seam made (drop (length made) filled) ∙ (is ∙ ap (λ (k : List ℕ). before ++ k) (sym (codes_are_bytes line (low_codes line low)))))

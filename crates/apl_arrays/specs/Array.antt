@@ -2,10 +2,12 @@ use Rattle.std.specs.Prelude.{◌≡◌, ◌≤◌, ◌==◌, ℕ, ℤ, Bool, tr
 use Rattle.std.specs.Bool.{beq}
 use Rattle.std.specs.Ordering.{on, eq_of_both, int_eq}
 use Rattle.std.specs.Cmp.Lexicographic.{pointwise}
-use Rattle.apl_arrays.specs.declared.array.Items.{Items}
-use Rattle.apl_arrays.specs.declared.array.Items.TheVariants.{Numbers, Chars}
-use Rattle.apl_arrays.specs.declared.array.Item.{Item}
-use Rattle.apl_arrays.specs.declared.array.Item.TheVariants.{Number, Char}
+use Rattle.apl_arrays.specs.declared.items.Items.{Items}
+use Rattle.apl_arrays.specs.declared.items.Items.TheVariants.{Numbers, Chars}
+use Rattle.apl_arrays.specs.declared.items.ItemsRef.{ItemsRef}
+use Rattle.apl_arrays.specs.declared.items.ItemsRef.TheVariants as seen
+use Rattle.apl_arrays.specs.declared.items.Item.{Item}
+use Rattle.apl_arrays.specs.declared.items.Item.TheVariants.{Number, Char}
 use Rattle.apl_arrays.specs.Limits.{most_axes, most_elements}
 use Rattle.apl_arrays.specs.Number.{product}
 
@@ -23,6 +25,11 @@ pub record PlainArray : Type 0 where
 abbrev pub plain_items : Items → PlainItems
 plain_items (Numbers list) = numbers list.items
 plain_items (Chars list) = chars list.items
+
+-- the items that are looked at
+abbrev pub seen_items : ItemsRef → PlainItems
+seen_items (seen.Numbers list) = numbers list.now
+seen_items (seen.Chars list) = chars list.now
 
 -- whether the kind is characters
 abbrev pub is_chars : PlainItems → Bool

@@ -13,6 +13,7 @@ pub mod Parties
 pub mod Report
 pub mod Run
 pub mod Shape
+pub mod Storage
 pub mod System
 pub mod Text
 pub mod Word

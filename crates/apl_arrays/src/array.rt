@@ -1,34 +1,22 @@
-ghost use Rattle.std.specs.Prelude.{◌≡◌, ◌≢◌, ◌+◌, ◌<◌, ◌≤◌, ◌↔◌, ℕ, List as ListOf, Some, None, min, IsTrue, IfOk, IsOk, OnOk, OnErr, All, length};
+ghost use Rattle.std.specs.Prelude.{◌≡◌, ◌≢◌, ◌+◌, ◌<◌, ◌≤◌, ◌↔◌, ℕ, List as ListOf, Some, None, min, IsSome, IfOk, IsOk, OnOk, OnErr, length};
 ghost use Rattle.std.specs.List.{list_all};
 ghost use Rattle.apl_arrays.specs.Limits.{most_axes, most_elements};
 ghost use Rattle.apl_arrays.specs.Shape.{is_small, shape_fault};
-ghost use Rattle.apl_arrays.specs.Array.{plain_items, item_count, numbers_in, element_count, is_chars, scalar, FitsLimits, IsArray, IsItemOf};
+ghost use Rattle.apl_arrays.specs.Storage.{lone_number};
+ghost use Rattle.apl_arrays.specs.Array.{plain_items, seen_items, item_count, numbers_in, element_count, is_chars, scalar, FitsLimits, IsArray, IsItemOf};
 
-use crate::{Glyph, Line, NumberList, WantOfMemory};
+use crate::shaped::Shaped;
+use crate::{Item, Items, ItemsRef, WantOfMemory};
 use std::alloc::Global;
 use std::error::Error;
-use std::fmt;
 use std::marker::Model;
+use std::{fmt, slice};
 
 /// The most axes that an array has.
 pub const RANK_LIMIT: usize = 8;
 
 /// The most elements of an array, and the greatest length of an axis.
 pub const ELEMENT_LIMIT: usize = 16_384;
-
-/// The items of an array, in row-major order.
-#[derive(Debug, Drop)]
-pub enum Items {
-    Numbers(NumberList),
-    Chars(Line),
-}
-
-/// One item of an array.
-#[derive(Clone, Copy, Debug, PartialEq, Eq, Hash)]
-pub enum Item {
-    Number(i64),
-    Char(Glyph),
-}
 
 /// Why an array of a shape would pass the limits.
 #[derive(Clone, Copy, Debug, PartialEq, Eq, Hash)]
@@ -46,6 +34,8 @@ pub enum ArrayRefused {
     TooLarge,
     /// As many items as the product were not given.
     BadShape,
+    /// Memory ran out.
+    WantOfMemory,
 }
 
 impl fmt::Display for ArrayRefused {
@@ -53,135 +43,49 @@ impl fmt::Display for ArrayRefused {
         f.write_str(match self {
             ArrayRefused::TooLarge => "array too large",
             ArrayRefused::BadShape => "shape and items differ",
+            ArrayRefused::WantOfMemory => "out of memory",
         })
     }
 }
 
 impl Error for ArrayRefused {}
 
+// Where an array is: the scalar of a number stands in place and takes no memory, any other array stands apart.
+#[derive(Debug, Drop)]
+enum Storage {
+    Lone(i64),
+    Apart(Box<Shaped>),
+}
+
 /// An array: a shape of at most eight axes, and the items in row-major order, all numbers or all characters. Two
 /// arrays are equal where their shapes, kinds and items are.
 #[derive(Debug, Drop)]
 pub struct Array {
-    axes: [u32; RANK_LIMIT],
-    rank: u8,
-    items: Items,
+    storage: Storage,
 }
 
 impl Model for Array {
-    ghost use Rattle.std.specs.Prelude.{◌≡◌, ◌≤◌, length, take};
-    ghost use Rattle.apl_arrays.specs.Array.{PlainArray, plain_items, IsArray};
+    ghost use Rattle.apl_arrays.specs.Array.{PlainArray};
+    ghost use Rattle.apl_arrays.specs.Storage.{IsStored, stored};
 
     ghost Value = { PlainArray };
 
-    ghost view = { λ a. record { shape = take a.rank a.axes; items = plain_items a.items } };
+    ghost view = { λ a. stored a.storage };
 
-    ghost invariant = { λ a. (length a.axes ≡ 8) × (a.rank ≤ 8) × IsArray (record { shape = take a.rank a.axes; items = plain_items a.items }) };
-}
-
-impl PartialEq for Items {
-    ghost use Rattle.std.specs.Ordering.{on};
-    ghost use Rattle.apl_arrays.specs.Shape.{is_small, shape_fault};
-    ghost use Rattle.apl_arrays.specs.Array.{plain_items, same_items};
-    ghost use Rattle.std.specs.Cmp.Rules.{comparing};
-    ghost use Rattle.std.proofs.Common.{rules};
-
-    ghost eq = { on plain_items same_items };
-
-    ghost laws = { Prim.search (comparing, rules) depth 9 };
-
-    fn eq(&self, other: &Items) -> bool {
-        match (self, other) {
-            (Items::Numbers(a), Items::Numbers(b)) => a.as_slice() == b.as_slice(),
-            (Items::Chars(a), Items::Chars(b)) => a.as_slice() == b.as_slice(),
-            _ => false,
-        }
-    }
-}
-
-impl Eq for Items {
-    ghost use Rattle.std.specs.Cmp.Rules.{comparing};
-    ghost use Rattle.std.proofs.Common.{rules};
-
-    ghost laws = { Prim.search (comparing, rules) depth 9 };
-}
-
-impl Items {
-    /// How many items there are. No memory. ISO 8485.
-    pub fn len(&self) -> usize
-        ensures { result ≡ item_count (plain_items self.now) }
-    {
-        match self {
-            Items::Numbers(list) => list.as_slice().len(),
-            Items::Chars(list) => list.as_slice().len(),
-        }
-    }
-
-    /// The numbers; none where the kind is characters. No memory.
-    pub fn numbers(&self) -> &[i64]
-        ensures { result.now ≡ numbers_in (plain_items self.now) }
-    {
-        match self {
-            Items::Numbers(list) => list.as_slice(),
-            Items::Chars(_) => &[],
-        }
-    }
-
-    /// Equal items. It takes memory for them. ISO 8485.
-    pub fn copy(&self, alloc: Global) -> Result<Items, WantOfMemory>
-        ensures { IfOk result (λ items. plain_items items ≡ plain_items self.now) }
-    {
-        match self {
-            Items::Numbers(list) => Ok(Items::Numbers(list.copy(alloc)?)),
-            Items::Chars(list) => Ok(Items::Chars(list.copy(alloc)?)),
-        }
-    }
-
-    /// Become equal to others. Where they are of their kind and as many it takes no memory, else it takes memory for
-    /// them. `WantOfMemory` leaves them as they were.
-    pub fn renew(&mut self, alloc: Global, other: &Items) -> Result<(), WantOfMemory>
-        ensures ok { OnOk result (plain_items self.new ≡ plain_items other.now) }
-        ensures err { OnErr result (self.new ≡ self.old) }
-    {
-        match other {
-            Items::Numbers(numbers) => match self {
-                Items::Numbers(list) => list.renew(alloc, numbers),
-                Items::Chars(_) => self.become_copy(alloc, other),
-            },
-            Items::Chars(glyphs) => match self {
-                Items::Chars(list) => list.renew(alloc, glyphs),
-                Items::Numbers(_) => self.become_copy(alloc, other),
-            },
-        }
-    }
-
-    // Become a copy of others. It takes memory for them. `WantOfMemory` leaves them as they were.
-    fn become_copy(&mut self, alloc: Global, other: &Items) -> Result<(), WantOfMemory>
-        ensures ok { OnOk result (plain_items self.new ≡ plain_items other.now) }
-        ensures err { OnErr result (self.new ≡ self.old) }
-    {
-        *self = other.copy(alloc)?;
-        Ok(())
-    }
-
-    /// Whether there are none. No memory. ISO 8485.
-    pub fn is_empty(&self) -> bool
-        ensures { IsTrue result ↔ (item_count (plain_items self.now) ≡ 0) }
-    {
-        self.len() == 0
-    }
+    ghost invariant = { λ a. IsStored a.storage };
 }
 
 impl Array {
     /// The array of a shape and as many items. ISO 8485, with limits: `TooLarge` where there are over
     /// eight axes, or an axis or the product of all is over 16,384, else `BadShape` where the product is not the
-    /// number of items. No memory.
+    /// number of items. It takes memory, but for the scalar of a number.
     #[tactic(auto, using(crate::proofs::Shapes::no_fault_fits, crate::proofs::Shapes::what_fits_has_no_fault, crate::proofs::Shapes::size_is_too_large, crate::proofs::Shapes::too_large_by_size))]
-    pub fn try_new(shape: &[u32], items: Items) -> Result<Array, ArrayRefused>
+    pub fn try_new(alloc: Global, shape: &[u32], items: Items) -> Result<Array, ArrayRefused>
         ensures array { IfOk result (λ array. array ≡ record { shape = shape.now; items = plain_items items }) }
         ensures too_large { (result ≡ Err ArrayRefused.TooLarge) ↔ ¬ FitsLimits shape.now }
         ensures bad_shape { (result ≡ Err ArrayRefused.BadShape)
             ↔ (FitsLimits shape.now × (element_count shape.now ≢ item_count (plain_items items))) }
+        ensures granted { IsSome (lone_number shape.now (plain_items items)) → IsOk result }
     {
         if shape_fault(shape).is_some() {
             discard(items);
@@ -191,25 +95,37 @@ impl Array {
             discard(items);
             return Err(ArrayRefused::BadShape);
         }
-        let mut axes = [0; RANK_LIMIT];
-        axes[..shape.len()].copy_from_slice(shape);
-        Ok(Array {
-            axes,
-            rank: shape.len() as u8,
-            items,
-        })
+        match Array::shaped(alloc, shape, items) {
+            Ok(array) => Ok(array),
+            Err(WantOfMemory) => Err(ArrayRefused::WantOfMemory),
+        }
     }
 
-    /// The array of a shape within the limits, and of as many items. ISO 8485. No memory.
-    pub fn shaped(shape: &[u32], items: Items) -> Array
+    /// The array of a shape within the limits, and of as many items. ISO 8485. It takes memory, but for the scalar of a
+    /// number.
+    pub fn shaped(alloc: Global, shape: &[u32], items: Items) -> Result<Array, WantOfMemory>
         requires fits { FitsLimits shape.now }
         requires whole { element_count shape.now ≡ item_count (plain_items items) }
-        ensures { result ≡ record { shape = shape.now; items = plain_items items } }
+        ensures array { IfOk result (λ array. array ≡ record { shape = shape.now; items = plain_items items }) }
+        ensures granted { IsSome (lone_number shape.now (plain_items items)) → IsOk result }
     {
-        match Array::try_new(shape, items) {
-            Ok(array) => array,
-            Err(_) => unreachable!(),
+        match lone_number(shape, &items) {
+            Some(number) => {
+                discard(items);
+                Ok(Array::of_number(number))
+            }
+            None => Array::apart(alloc, Shaped::of(shape, items)),
         }
+    }
+
+    // An array that stands apart. It takes memory.
+    fn apart(alloc: Global, shaped: Shaped) -> Result<Array, WantOfMemory>
+        requires { lone_number shaped.shape shaped.items ≡ None }
+        ensures { IfOk result (λ array. array ≡ shaped) }
+    {
+        Ok(Array {
+            storage: Storage::Apart(Box::new(alloc, shaped)?),
+        })
     }
 
     /// The scalar of a number. ISO 8485. No memory.
@@ -217,9 +133,7 @@ impl Array {
         ensures { result ≡ scalar number }
     {
         Array {
-            axes: [0; RANK_LIMIT],
-            rank: 0,
-            items: Items::Numbers(NumberList::one(number)),
+            storage: Storage::Lone(number),
         }
     }
 
@@ -231,27 +145,32 @@ impl Array {
         Ok(Array::of_number(number))
     }
 
-    /// An equal array. It takes memory for its items. ISO 8485.
+    /// An equal array. It takes memory, but for the scalar of a number. ISO 8485.
     pub fn copy(&self, alloc: Global) -> Result<Array, WantOfMemory>
-        ensures { IfOk result (λ array. array ≡ self.now) }
+        ensures array { IfOk result (λ array. array ≡ self.now) }
+        ensures granted { IsSome (lone_number self.now.shape self.now.items) → IsOk result }
     {
-        Ok(Array {
-            axes: self.axes,
-            rank: self.rank,
-            items: self.items.copy(alloc)?,
-        })
+        match &self.storage {
+            Storage::Lone(number) => Ok(Array::of_number(*number)),
+            Storage::Apart(shaped) => Array::apart(alloc, shaped.copy(alloc)?),
+        }
     }
 
-    /// Becomes equal to another. Where its items are of the kind of the other's and as many it takes no memory, else it
-    /// takes memory for them. `WantOfMemory` leaves it as it was.
+    /// Becomes equal to another. It takes no memory where the other is the scalar of a number, or where neither is and its
+    /// items are of the kind of the other's and as many; else it takes memory for the other. `WantOfMemory` leaves it as it
+    /// was.
     pub fn renew(&mut self, alloc: Global, other: &Array) -> Result<(), WantOfMemory>
         ensures ok { OnOk result (self.new ≡ other.now) }
         ensures err { OnErr result (self.new ≡ self.old) }
+        ensures granted { IsSome (lone_number other.now.shape other.now.items) → IsOk result }
     {
-        self.items.renew(alloc, &other.items)?;
-        self.axes = other.axes;
-        self.rank = other.rank;
-        Ok(())
+        match (&mut self.storage, &other.storage) {
+            (Storage::Apart(shaped), Storage::Apart(other)) => shaped.renew(alloc, other),
+            _ => {
+                *self = other.copy(alloc)?;
+                Ok(())
+            }
+        }
     }
 
     /// The lengths of the axes. No memory. ISO 8485.
@@ -259,15 +178,21 @@ impl Array {
         ensures value { result.now ≡ self.now.shape }
         ensures array { IsArray self.now }
     {
-        &self.axes[..self.rank as usize]
+        match &self.storage {
+            Storage::Lone(_) => &[],
+            Storage::Apart(shaped) => shaped.shape(),
+        }
     }
 
     /// The items. No memory. ISO 8485.
-    pub fn items(&self) -> &Items
-        ensures value { plain_items result.now ≡ self.now.items }
+    pub fn items(&self) -> ItemsRef<'_>
+        ensures value { seen_items result ≡ self.now.items }
         ensures array { IsArray self.now }
     {
-        &self.items
+        match &self.storage {
+            Storage::Lone(number) => ItemsRef::Numbers(slice::from_ref(number)),
+            Storage::Apart(shaped) => shaped.items(),
+        }
     }
 
     /// The item at a place, in row-major order from 0. No memory. ISO 8485.
@@ -275,9 +200,9 @@ impl Array {
         requires { at < item_count self.now.items }
         ensures { IsItemOf self.now.items at result }
     {
-        match &self.items {
-            Items::Numbers(list) => Item::Number(list.as_slice()[at]),
-            Items::Chars(list) => Item::Char(list.as_slice()[at]),
+        match self.items() {
+            ItemsRef::Numbers(numbers) => Item::Number(numbers[at]),
+            ItemsRef::Chars(glyphs) => Item::Char(glyphs[at]),
         }
     }
 
@@ -285,14 +210,14 @@ impl Array {
     pub fn numbers(&self) -> &[i64]
         ensures { result.now ≡ numbers_in self.now.items }
     {
-        self.items.numbers()
+        self.items().numbers()
     }
 
     /// Whether it holds characters, or is empty and of their kind. No memory. ISO 8485.
     pub fn is_chars(&self) -> bool
         ensures { result ≡ is_chars self.now.items }
     {
-        matches!(self.items, Items::Chars(_))
+        matches!(self.items(), ItemsRef::Chars(_))
     }
 }
 
@@ -307,7 +232,7 @@ impl PartialEq for Array {
     ghost laws = { Prim.search (comparing, rules) depth 9 };
 
     fn eq(&self, other: &Array) -> bool {
-        self.shape() == other.shape() && self.items == other.items
+        self.shape() == other.shape() && self.items() == other.items()
     }
 }
 
@@ -319,6 +244,19 @@ impl Eq for Array {
 }
 
 fn discard(_items: Items) {}
+
+// The number of which shape and items are the scalar.
+fn lone_number(shape: &[u32], items: &Items) -> Option<i64>
+    ensures { result ≡ lone_number shape.now (plain_items items.now) }
+{
+    match (shape, items) {
+        ([], Items::Numbers(list)) => match list.as_slice() {
+            [number] => Some(*number),
+            _ => None,
+        },
+        _ => None,
+    }
+}
 
 fn has_small_axes(shape: &[u32]) -> bool
     ensures { result ≡ list_all is_small shape.now }

@@ -5,6 +5,7 @@ mod array;
 mod file;
 mod file_list;
 mod glyph;
+mod items;
 mod laws;
 mod line_list;
 mod list;
@@ -14,6 +15,7 @@ mod numbers;
 mod party;
 mod renewing;
 mod report;
+mod shaped;
 mod system;
 mod text;
 mod threads;
@@ -21,12 +23,13 @@ mod verb;
 mod word;
 
 pub use array::{
-    Array, ArrayRefused, ELEMENT_LIMIT, Item, Items, RANK_LIMIT, ShapeFault, count_of_elements,
+    Array, ArrayRefused, ELEMENT_LIMIT, RANK_LIMIT, ShapeFault, count_of_elements,
     faulty_shapes_pass_the_limits, shape_fault,
 };
 pub use file::{FILE_NAME_LIMIT, FileName};
 pub use file_list::{File, FileList};
 pub use glyph::Glyph;
+pub use items::{Item, Items, ItemsRef};
 pub use laws::{named_glyphs_of_apl, named_glyphs_of_ascii, numbers_are_as_defined};
 pub use line_list::{LINE_GLYPH_LIMIT, LineList};
 pub use list::{Bytes, Line, List, NameList, PartyList, Readings};

@@ -42,15 +42,24 @@ impl<T> List<T> {
         self.items
     }
 
+    /// A list of the items of a slice. It takes memory for them.
+    pub fn of(alloc: Global, items: &[T]) -> Result<Self, WantOfMemory>
+    where
+        T: Copy,
+        ensures { IfOk result (λ list. list.items ≡ items.now) }
+    {
+        Ok(List {
+            items: Vec::from_slice(alloc, items)?,
+        })
+    }
+
     /// A list of the same items. It takes memory for them.
     pub fn copy(&self, alloc: Global) -> Result<Self, WantOfMemory>
     where
         T: Copy,
         ensures { IfOk result (λ list. list.items ≡ self.now.items) }
     {
-        Ok(List {
-            items: Vec::from_slice(alloc, &self.items)?,
-        })
+        List::of(alloc, &self.items)
     }
 
     /// Becomes a list of the items of another. Where it has as many already it takes no memory, else it takes memory for

@@ -1,4 +1,4 @@
-ghost use Rattle.std.specs.Prelude.{◌≡◌, ◌∷◌, [], ◌++◌, IfOk, OnOk, OnErr};
+ghost use Rattle.std.specs.Prelude.{◌≡◌, ◌∷◌, [], ◌++◌, IfOk, IsOk, OnOk, OnErr, length};
 
 use crate::{List, WantOfMemory};
 use std::alloc::Global;
@@ -38,6 +38,17 @@ impl NumberList {
         }
     }
 
+    /// The numbers of a slice. They take memory, but for one alone.
+    pub fn of(alloc: Global, numbers: &[i64]) -> Result<Self, WantOfMemory>
+        ensures numbers { IfOk result (λ list. list.items ≡ numbers.now) }
+        ensures granted { length numbers.now ≡ 1 → IsOk result }
+    {
+        match numbers {
+            [number] => Ok(NumberList::one(*number)),
+            _ => Ok(NumberList::from(List::of(alloc, numbers)?)),
+        }
+    }
+
     /// The numbers, in order. No memory.
     pub fn as_slice(&self) -> &[i64]
         ensures { result.now ≡ self.now.items }
@@ -65,12 +76,10 @@ impl NumberList {
 
     /// The same numbers. It takes memory for them, but for one alone.
     pub fn copy(&self, alloc: Global) -> Result<Self, WantOfMemory>
-        ensures { IfOk result (λ list. list.items ≡ self.now.items) }
+        ensures numbers { IfOk result (λ list. list.items ≡ self.now.items) }
+        ensures granted { length self.now.items ≡ 1 → IsOk result }
     {
-        match self.as_slice() {
-            [number] => Ok(NumberList::one(*number)),
-            numbers => Ok(NumberList::from(List::from(Vec::from_slice(alloc, numbers)?))),
-        }
+        NumberList::of(alloc, self.as_slice())
     }
 
     /// Become the numbers of another list. They take memory where these are more than one and not as many as they are.

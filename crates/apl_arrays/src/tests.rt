@@ -103,13 +103,29 @@ fn arrays_are_copied(rt: &impl Abort, alloc: Global) -> Result<(), WantOfMemory>
     assert_eq!(rt; scalar.copy(alloc)?, scalar);
     let items = Items::Chars(line_of(alloc, "∆←")?);
     assert!(rt; items.len() == 2);
-    let chars = Array::shaped(&[2], items);
+    let chars = Array::shaped(alloc, &[2], items)?;
     assert_eq!(rt; chars.copy(alloc)?, chars);
-    let Items::Chars(line) = chars.items() else {
-        panic!(rt; "not characters");
-    };
-    let bytes = utf8_of(alloc, line)?;
-    assert_eq!(rt; bytes.as_slice(), "∆←".as_bytes());
+    Ok(())
+}
+
+fn lone_numbers_have_shapes(rt: &impl Abort, alloc: Global) -> Result<(), WantOfMemory> {
+    let scalar = Array::scalar(alloc, -3)?;
+    let mut array = Array::shaped(alloc, &[1], Items::Numbers(NumberList::one(-3)))?;
+    assert!(rt; array != scalar);
+    assert_eq!(rt; array.shape(), [1].as_slice());
+    array.renew(alloc, &scalar)?;
+    assert_eq!(rt; array, scalar);
+    assert!(rt; array.shape().is_empty());
+    let same = Array::shaped(alloc, &[], Items::Numbers(NumberList::one(-3)))?;
+    assert_eq!(rt; same, scalar);
+    Ok(())
+}
+
+fn lines_are_spelled(rt: &impl Abort, alloc: Global) -> Result<(), WantOfMemory> {
+    for text in ["", "1001 set X", "∆←", "X←'∆'"] {
+        let bytes = utf8_of(alloc, &line_of(alloc, text)?)?;
+        assert_eq!(rt; bytes.as_slice(), text.as_bytes());
+    }
     Ok(())
 }
 
@@ -138,6 +154,8 @@ fn all_is_had(rt: &impl Abort, alloc: Global) -> Result<(), WantOfMemory> {
     lines_are_taken_out(rt, alloc)?;
     files_are_listed(rt, alloc)?;
     arrays_are_copied(rt, alloc)?;
+    lone_numbers_have_shapes(rt, alloc)?;
+    lines_are_spelled(rt, alloc)?;
     refusals_are_named(rt, alloc)
 }
 

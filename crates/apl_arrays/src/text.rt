@@ -1,5 +1,5 @@
-ghost use Rattle.std.specs.Prelude.{◌≡◌, ◌≢◌, ◌+◌, ◌<◌, ◌≤◌, ◌^◌, ◌++◌, ◌∷◌, [], ◌⊎◌, ◌==◌, ℕ, List as ListOf, All, length, drop, IfOk, IfErr, OnOk, MatchResult, MatchOption, encode_utf8, vec_len, vec_capacity};
-ghost use Rattle.std.specs.List.{position};
+ghost use Rattle.std.specs.Prelude.{◌≡◌, ◌≢◌, ◌+◌, ◌<◌, ◌≤◌, ◌^◌, ◌++◌, ◌∷◌, [], ◌⊎◌, ◌==◌, true, ℕ, List as ListOf, All, length, take, drop, IfOk, IfErr, OnOk, MatchResult, MatchOption, encode_utf8, nat_lt, vec_len, vec_capacity};
+ghost use Rattle.std.specs.List.{list_all, position};
 ghost use Rattle.apl_arrays.specs.Glyph.{IsGlyph, scalar_of, glyph_utf8, line_utf8, Spells, StartsWithNoGlyph, IsBadFrom};
 ghost use Rattle.apl_arrays.specs.Text.{IsReasonToRefuse, StartsWithNoScalar};
 
@@ -183,6 +183,38 @@ fn add_glyph(bytes: &mut Vec<u8>, glyph: Glyph) -> Result<(), WantOfMemory>
     Ok(())
 }
 
+// Whether all glyphs are of ASCII.
+fn is_ascii(line: &[Glyph]) -> bool
+    ensures { result ≡ list_all (λ code. nat_lt code 128) line.now }
+{
+    line.iter().all(|glyph| glyph.code() < 0x80)
+}
+
+// Writes the codes of glyphs over the bytes from a place on.
+fn write_codes(bytes: &mut [u8], start: usize, line: &[Glyph])
+    requires { start + length line.now ≡ length bytes.old }
+    ensures codes { bytes.new ≡ take start bytes.old ++ line.now }
+    ensures glyphs { All IsGlyph line.now }
+{
+    for place in 0..line.len() {
+        bytes[start + place] = line[place].code();
+    }
+}
+
+// Adds glyphs of ASCII, each of which is one byte, its code.
+#[tactic(auto, using(crate::proofs::Spelling::codes_are_bytes))]
+fn add_codes(bytes: &mut Vec<u8>, line: &[Glyph]) -> Result<(), WantOfMemory>
+    requires low { list_all (λ code. nat_lt code 128) line.now ≡ true }
+    requires room { vec_len bytes.old + length line.now ≤ vec_capacity bytes.old }
+    ensures text { OnOk result (bytes.new.items ≡ bytes.old.items ++ line_utf8 line.now) }
+    ensures glyphs { OnOk result (All IsGlyph line.now) }
+{
+    let start = bytes.len();
+    bytes.resize(start + line.len(), 0)?;
+    write_codes(bytes.as_mut_slice(), start, line);
+    Ok(())
+}
+
 /// Adds glyphs in UTF-8. It takes memory once, as if each glyph took its most bytes; where that runs out, a part
 /// of them may stand there.
 pub fn add_utf8(bytes: &mut Vec<u8>, line: &[Glyph]) -> Result<(), WantOfMemory>
@@ -193,6 +225,9 @@ pub fn add_utf8(bytes: &mut Vec<u8>, line: &[Glyph]) -> Result<(), WantOfMemory>
         return Err(WantOfMemory);
     };
     bytes.reserve(room)?;
+    if is_ascii(line) {
+        return add_codes(bytes, line);
+    }
     for glyph in line {
         add_glyph(bytes, *glyph)?;
     }

@@ -32,13 +32,14 @@ fn chars(alloc: Global, count: i64) -> Result<Items> {
 }
 
 // What an array of a shape and items is. One that is made has both.
-fn made_text(shape: &[u32], items: Items, copy: &Items) -> &'static str {
+fn made_text(alloc: Global, shape: &[u32], items: Items, copy: &Items) -> &'static str {
     let is_chars = matches!(items, Items::Chars(_));
-    match Array::try_new(shape, items) {
+    match Array::try_new(alloc, shape, items) {
         Err(ArrayRefused::TooLarge) => "too large",
         Err(ArrayRefused::BadShape) => "bad shape",
+        Err(ArrayRefused::WantOfMemory) => "out of memory",
         Ok(array) => {
-            let is_same = array.shape() == shape && array.items() == copy;
+            let is_same = array.shape() == shape && array.items() == copy.view();
             if is_same && array.is_chars() == is_chars {
                 "array"
             } else {
@@ -58,8 +59,13 @@ fn alone_text(shape: &[u32]) -> &'static str {
 
 // What an array of a shape and of so many items is, of numbers and of characters alike.
 fn both_text(alloc: Global, shape: &[u32], count: i64) -> Result<&'static str> {
-    let first = made_text(shape, numbers(alloc, count)?, &numbers(alloc, count)?);
-    let second = made_text(shape, chars(alloc, count)?, &chars(alloc, count)?);
+    let first = made_text(
+        alloc,
+        shape,
+        numbers(alloc, count)?,
+        &numbers(alloc, count)?,
+    );
+    let second = made_text(alloc, shape, chars(alloc, count)?, &chars(alloc, count)?);
     Ok(if first == second { first } else { "unlike" })
 }
 

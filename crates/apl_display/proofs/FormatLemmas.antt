@@ -19,6 +19,13 @@ use Rattle.apl_display.specs.Format.{width_of}
 use Rattle.apl_display.specs.Joined.{with_empty_lines}
 use Rattle.apl_display.specs.Matrices.{extent_of, row_count, row_line, widths_of, matrices_lines}
 
+second : {A : Type 0} (one none some : A) (rank count : ℕ) → 2 ≤ rank → count ≡ 0 → (if ltb rank 2 then one else (if count == 0 then none else some)) ≡ none
+second one none some rank count long nothing = grind (arith, nat_tests)
+
+-- where a table has no items its lines have no width
+pub no_width : (b : PlainArray) → 2 ≤ length b.shape → item_count b.items ≡ 0 → width_of (display_lines b) ≡ 0
+no_width b long nothing = ap width_of (second _ [] _ (length b.shape) (item_count b.items) long nothing)
+
 -- how wide the lines of a table of numbers are
 abbrev pub table_width : List ℕ → List ℤ → ℕ
 table_width shape list = length (widths_of (numbers list) (extent_of shape)) - 1 + sum (widths_of (numbers list) (extent_of shape))

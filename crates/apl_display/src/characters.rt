@@ -11,20 +11,27 @@ use crate::display::vector_line;
 use crate::matrices::extent_of;
 use crate::row::{push_row, row_of};
 use crate::widths::column_widths;
-use apl_arrays::{Array, ELEMENT_LIMIT, Fail, Items, Line, List, RANK_LIMIT, Report, WantOfMemory};
+use apl_arrays::{
+    Array, ELEMENT_LIMIT, Fail, Items, ItemsRef, Line, List, RANK_LIMIT, Report, WantOfMemory,
+};
 use line_text::number_width;
 use std::alloc::Global;
 
 // The array of characters in rows of a width.
-fn in_rows(front: &[u32], width: usize, characters: Line) -> Array
+fn in_rows(
+    alloc: Global,
+    front: &[u32],
+    width: usize,
+    characters: Line,
+) -> Result<Array, WantOfMemory>
     requires fits { FitsLimits (front.now ++ width ∷ []) }
     requires whole { element_count (front.now ++ width ∷ []) ≡ length characters.items }
-    ensures { result ≡ record { shape = front.now ++ width ∷ []; items = chars characters.items } }
+    ensures { IfOk result (λ array. array ≡ record { shape = front.now ++ width ∷ []; items = chars characters.items }) }
 {
     let mut axes = [0; RANK_LIMIT];
     axes[..front.len()].copy_from_slice(front);
     axes[front.len()] = width as u32;
-    Array::shaped(&axes[..front.len() + 1], Items::Chars(characters))
+    Array::shaped(alloc, &axes[..front.len() + 1], Items::Chars(characters))
 }
 
 // How wide a line of columns is.
@@ -82,18 +89,18 @@ fn vector_format(alloc: Global, b: &Array, list: &[i64]) -> Result<Array, Fail>
         return Err(Fail::Report(Report::WsFull));
     }
     let line = vector_line(alloc, list)?;
-    Ok(in_rows(&[], width, line))
+    Ok(in_rows(alloc, &[], width, line)?)
 }
 
 // No characters, where an array of two axes or more has no items.
-fn empty_format(alloc: Global, b: &Array) -> Array
+fn empty_format(alloc: Global, b: &Array) -> Result<Array, WantOfMemory>
     requires rank { 2 ≤ length b.now.shape }
     requires none { item_count b.now.items ≡ 0 }
-    ensures value { result ≡ number_format b.now }
+    ensures value { IfOk result (λ array. array ≡ number_format b.now) }
     ensures fits { FitsLimits (number_format b.now).shape }
 {
     let shape = b.shape();
-    in_rows(&shape[..shape.len() - 1], 0, List::new(alloc))
+    in_rows(alloc, &shape[..shape.len() - 1], 0, List::new(alloc))
 }
 
 // The characters of an array of rank 2 or more that has elements.
@@ -114,7 +121,7 @@ fn table_format(alloc: Global, b: &Array, list: &[i64]) -> Result<Array, Fail>
         return Err(Fail::Report(Report::WsFull));
     }
     let text = rows_text(alloc, list, &widths, extent.columns, rows)?;
-    Ok(in_rows(&shape[..shape.len() - 1], width, text))
+    Ok(in_rows(alloc, &shape[..shape.len() - 1], width, text)?)
 }
 
 // An array of numbers as characters.
@@ -128,7 +135,7 @@ fn format_numbers(alloc: Global, b: &Array, list: &[i64]) -> Result<Array, Fail>
         return vector_format(alloc, b, list);
     }
     if list.is_empty() {
-        return Ok(empty_format(alloc, b));
+        return Ok(empty_format(alloc, b)?);
     }
     table_format(alloc, b, list)
 }
@@ -141,8 +148,8 @@ fn as_characters(alloc: Global, b: &Array) -> Result<Array, Fail>
     ensures array { IsArray b.now }
 {
     match b.items() {
-        Items::Chars(_) => Ok(b.copy(alloc)?),
-        Items::Numbers(list) => format_numbers(alloc, b, list.as_slice()),
+        ItemsRef::Chars(_) => Ok(b.copy(alloc)?),
+        ItemsRef::Numbers(numbers) => format_numbers(alloc, b, numbers),
     }
 }
 

@@ -1,5 +1,5 @@
 ghost use Rattle.std.specs.Prelude.{◌≡◌, ◌<◌, ◌≤◌, ◌∷◌, [], ◌++◌, IfOk, OnOk, length, map};
-ghost use Rattle.apl_arrays.specs.Array.{plain_items, item_count};
+ghost use Rattle.apl_arrays.specs.Array.{seen_items, item_count};
 ghost use Rattle.apl_display.specs.Display.{item_line, display_lines};
 ghost use Rattle.line_text.specs.Spaced.{spaced};
 ghost use Rattle.apl_display.specs.Matrices.{extent_of, matrices_lines};
@@ -7,7 +7,7 @@ ghost use Rattle.line_text.specs.Number.{number_text};
 
 use crate::matrices::extent_of;
 use crate::table::{Table, matrices_lines, widths_of};
-use apl_arrays::{Array, Items, Line, LineList, List, WantOfMemory};
+use apl_arrays::{Array, ItemsRef, Line, LineList, List, WantOfMemory};
 use line_text::add_numbers;
 use std::alloc::Global;
 
@@ -21,12 +21,12 @@ pub fn vector_line(alloc: Global, numbers: &[i64]) -> Result<Line, WantOfMemory>
 }
 
 // The line of a scalar or a vector.
-fn item_line(alloc: Global, items: &Items) -> Result<Line, WantOfMemory>
-    ensures { IfOk result (λ line. line.items ≡ item_line (plain_items items.now)) }
+fn item_line(alloc: Global, items: ItemsRef<'_>) -> Result<Line, WantOfMemory>
+    ensures { IfOk result (λ line. line.items ≡ item_line (seen_items items.entry)) }
 {
     match items {
-        Items::Numbers(list) => vector_line(alloc, list.as_slice()),
-        Items::Chars(list) => list.copy(alloc),
+        ItemsRef::Numbers(numbers) => vector_line(alloc, numbers),
+        ItemsRef::Chars(glyphs) => List::of(alloc, glyphs),
     }
 }
 

@@ -51,7 +51,7 @@ pub fn push_row(line: &mut Line, widths: &[usize], row: &[i64]) -> Result<(), Wa
 pub fn char_line(alloc: Global, row: &[Glyph]) -> Result<Line, WantOfMemory>
     ensures { IfOk result (λ line. line.items ≡ row.now) }
 {
-    Ok(List::from(Vec::from_slice(alloc, row)?))
+    List::of(alloc, row)
 }
 
 /// The line of a row of numbers.

@@ -138,7 +138,7 @@ fn names_are_taken_over(rt: &impl Abort, alloc: Global) -> Result<(), Fail> {
 fn characters_are_text(rt: &impl Abort, alloc: Global) -> Result<(), Fail> {
     let mut line = Line::new(alloc);
     line.push(letter(rt, b'A'))?;
-    let value = Array::shaped(&[1], Items::Chars(line));
+    let value = Array::shaped(alloc, &[1], Items::Chars(line))?;
     let text = text_of(alloc, &value)?;
     assert!(rt; text.as_slice() == [letter(rt, b'A')].as_slice());
     Ok(())

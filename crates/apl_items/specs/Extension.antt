@@ -1,7 +1,7 @@
 use Rattle.std.specs.Prelude.{◌<◌, ◌&&◌, ◌||◌, ◌==◌, ℕ, ℤ, pos, Bool, not, List, nat_lt, length, slice_index, slice_index_or, if◌then◌else◌}
 use Rattle.std.specs.Cmp.Lexicographic.{pointwise}
-use Rattle.apl_arrays.specs.declared.array.Item.{Item}
-use Rattle.apl_arrays.specs.declared.array.Item.TheVariants.{Number, Char}
+use Rattle.apl_arrays.specs.declared.items.Item.{Item}
+use Rattle.apl_arrays.specs.declared.items.Item.TheVariants.{Number, Char}
 use Rattle.apl_arrays.specs.Array.{PlainArray, PlainItems, numbers, chars, item_count}
 
 -- the array has one element, of whatever rank

@@ -1,5 +1,5 @@
 ghost use Rattle.std.specs.Prelude.{◌≡◌, ◌+◌, ◌*◌, ◌/◌, ◌%◌, ◌^◌, ◌<◌, ◌≤◌, ◌++◌, ℕ, Option, IfOk, IfSome, length, vec_len, vec_capacity};
-ghost use Rattle.apl_arrays.specs.Array.{FitsLimits, element_count, item_count, plain_items};
+ghost use Rattle.apl_arrays.specs.Array.{seen_items, FitsLimits, element_count, item_count, plain_items};
 ghost use Rattle.apl_items.specs.Along.{source_along, source_count, source_in_row};
 ghost use Rattle.apl_items.specs.Moves.{moved_items, moved_list};
 ghost use Rattle.apl_items.specs.Shapes.{split_at, split_count};
@@ -7,7 +7,7 @@ ghost use Rattle.apl_items.specs.Shapes.{split_at, split_count};
 use crate::loops::room_for;
 use crate::moves::item_at_source;
 use crate::shapes::Split;
-use apl_arrays::{Glyph, Items, List, NumberList, WantOfMemory, count_of_elements};
+use apl_arrays::{Glyph, Items, ItemsRef, List, NumberList, WantOfMemory, count_of_elements};
 use std::alloc::Global;
 
 /// Where the places along one axis of a result come from, for each line along that axis.
@@ -32,23 +32,23 @@ pub trait Along {
 /// fill, 0 or the blank. The kind is chosen once. It asks once for memory, for the items.
 pub fn moved_along<R: Along>(
     alloc: Global,
-    items: &Items,
+    items: ItemsRef<'_>,
     shape: &[u32],
     axis: usize,
     rule: &R,
 ) -> Result<Items, WantOfMemory>
     requires fits { FitsLimits shape.now }
     requires axis { axis < length shape.now }
-    requires whole { source_count (split_at shape.now axis) (R.length rule.now) ≡ item_count (plain_items items.now) }
-    ensures { IfOk result (λ made. plain_items made ≡ moved_items (plain_items items.now) (element_count shape.now) (source_along (split_at shape.now axis) (R.length rule.now) (R.from rule.now))) }
+    requires whole { source_count (split_at shape.now axis) (R.length rule.now) ≡ item_count (seen_items items) }
+    ensures { IfOk result (λ made. plain_items made ≡ moved_items (seen_items items.entry) (element_count shape.now) (source_along (split_at shape.now axis) (R.length rule.now) (R.from rule.now))) }
 {
     match items {
-        Items::Numbers(list) => {
-            let made = list_along(alloc, list.as_slice(), 0, shape, axis, rule)?;
+        ItemsRef::Numbers(list) => {
+            let made = list_along(alloc, list, 0, shape, axis, rule)?;
             Ok(Items::Numbers(NumberList::from(made)))
         }
-        Items::Chars(list) => {
-            let made = list_along(alloc, list.as_slice(), Glyph::BLANK, shape, axis, rule)?;
+        ItemsRef::Chars(list) => {
+            let made = list_along(alloc, list, Glyph::BLANK, shape, axis, rule)?;
             Ok(Items::Chars(made))
         }
     }

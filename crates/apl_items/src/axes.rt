@@ -1,12 +1,12 @@
 ghost use Rattle.std.specs.Prelude.{◌≡◌, ◌+◌, ◌*◌, ◌^◌, ◌<◌, ◌≤◌, ◌++◌, ℕ, Option, Some, IfOk, IfSome, length, vec_len, vec_capacity};
-ghost use Rattle.apl_arrays.specs.Array.{FitsLimits, element_count, item_count, plain_items};
+ghost use Rattle.apl_arrays.specs.Array.{seen_items, FitsLimits, element_count, item_count, plain_items};
 ghost use Rattle.apl_items.specs.Axes.{AreNoLonger, added, offset_at, source_by_axes};
 ghost use Rattle.apl_items.specs.Moves.{IsWithin, moved_items, moved_list};
 ghost use Rattle.apl_items.specs.Shapes.{coordinates_of};
 
 use crate::loops::room_for;
 use crate::moves::item_at_source;
-use apl_arrays::{Glyph, Items, List, NumberList, WantOfMemory, count_of_elements};
+use apl_arrays::{Glyph, Items, ItemsRef, List, NumberList, WantOfMemory, count_of_elements};
 use std::alloc::Global;
 
 /// Where the places along each axis of a result come from. The source place for an item is the sum of the offsets along
@@ -29,22 +29,22 @@ pub trait Axes {
 /// are made row by row, and the kind is chosen once. It asks once for memory, for the items.
 pub fn moved_by_axes<X: Axes>(
     alloc: Global,
-    items: &Items,
+    items: ItemsRef<'_>,
     shape: &[u32],
     axes: &X,
 ) -> Result<Items, WantOfMemory>
     requires fits { FitsLimits shape.now }
     requires lengths { AreNoLonger shape.now 0 (X.length_of axes.now) }
-    requires within { IsWithin (source_by_axes shape.now (X.offset axes.now)) (element_count shape.now) (item_count (plain_items items.now)) }
-    ensures { IfOk result (λ made. plain_items made ≡ moved_items (plain_items items.now) (element_count shape.now) (source_by_axes shape.now (X.offset axes.now))) }
+    requires within { IsWithin (source_by_axes shape.now (X.offset axes.now)) (element_count shape.now) (item_count (seen_items items)) }
+    ensures { IfOk result (λ made. plain_items made ≡ moved_items (seen_items items.entry) (element_count shape.now) (source_by_axes shape.now (X.offset axes.now))) }
 {
     match items {
-        Items::Numbers(list) => {
-            let made = list_by_axes(alloc, list.as_slice(), 0, shape, axes)?;
+        ItemsRef::Numbers(list) => {
+            let made = list_by_axes(alloc, list, 0, shape, axes)?;
             Ok(Items::Numbers(NumberList::from(made)))
         }
-        Items::Chars(list) => {
-            let made = list_by_axes(alloc, list.as_slice(), Glyph::BLANK, shape, axes)?;
+        ItemsRef::Chars(list) => {
+            let made = list_by_axes(alloc, list, Glyph::BLANK, shape, axes)?;
             Ok(Items::Chars(made))
         }
     }

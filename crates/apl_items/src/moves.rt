@@ -1,9 +1,9 @@
 ghost use Rattle.std.specs.Prelude.{◌≡◌, ◌+◌, ◌<◌, ◌≤◌, ℕ, Option, IfOk, length};
-ghost use Rattle.apl_arrays.specs.Array.{item_count, plain_items};
+ghost use Rattle.apl_arrays.specs.Array.{seen_items, item_count, plain_items};
 ghost use Rattle.apl_items.specs.Moves.{IsWithin, item_or, moved_items, moved_list};
 
 use crate::loops::room_for;
-use apl_arrays::{Glyph, Items, List, NumberList, WantOfMemory};
+use apl_arrays::{Glyph, Items, ItemsRef, List, NumberList, WantOfMemory};
 use std::alloc::Global;
 
 /// The source places for the places of a result, one after another in row-major order.
@@ -26,21 +26,21 @@ pub trait Walk {
 /// asks once for memory, for the items.
 pub fn moved<W: Walk + Drop>(
     alloc: Global,
-    items: &Items,
+    items: ItemsRef<'_>,
     count: usize,
     walk: W,
 ) -> Result<Items, WantOfMemory>
     requires left { count ≤ W.left walk }
-    requires within { IsWithin (W.source walk) count (item_count (plain_items items.now)) }
-    ensures { IfOk result (λ made. plain_items made ≡ moved_items (plain_items items.now) count (W.source walk)) }
+    requires within { IsWithin (W.source walk) count (item_count (seen_items items)) }
+    ensures { IfOk result (λ made. plain_items made ≡ moved_items (seen_items items.entry) count (W.source walk)) }
 {
     match items {
-        Items::Numbers(list) => {
-            let made = moved_list(alloc, list.as_slice(), 0, count, walk)?;
+        ItemsRef::Numbers(list) => {
+            let made = moved_list(alloc, list, 0, count, walk)?;
             Ok(Items::Numbers(NumberList::from(made)))
         }
-        Items::Chars(list) => {
-            let made = moved_list(alloc, list.as_slice(), Glyph::BLANK, count, walk)?;
+        ItemsRef::Chars(list) => {
+            let made = moved_list(alloc, list, Glyph::BLANK, count, walk)?;
             Ok(Items::Chars(made))
         }
     }

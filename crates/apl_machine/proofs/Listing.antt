@@ -1,5 +1,5 @@
 -- Lists as arrays: an axis that is too long stays so where it is cut, and names that are filled to the longest.
-use Rattle.std.proofs.Common.{◌≡◌, ℕ, ◌+◌, ◌-◌, ◌*◌, ◌<◌, ◌≤◌, List, [], ◌∷◌, length, get_or, min, max, sym, ap, subst, ◌∙◌, arith, zero, suc}
+use Rattle.std.proofs.Common.{◌≡◌, refl, Bool, true, false, Ok, Some, None, ◌&&◌, if◌then◌else◌, ℕ, ◌+◌, ◌-◌, ◌*◌, ◌<◌, ◌≤◌, List, [], ◌∷◌, length, get_or, min, max, sym, ap, subst, ◌∙◌, arith, zero, suc}
 use Rattle.std.specs.Prelude.{fold, map, replicate}
 use Rattle.std.specs.List.{flat_map}
 use Rattle.std.proofs.lemmas.List.{length-append, length-replicate}
@@ -7,8 +7,11 @@ use Rattle.std.proofs.lemmas.List.Elements.{All-head, All-tail}
 use Rattle.apl_arrays.specs.Array.{FitsLimits, PlainArray, PlainItems, chars, element_count}
 use Rattle.apl_arrays.specs.Glyph.{blank}
 use Rattle.apl_arrays.specs.Limits.{most_elements}
-use Rattle.apl_items.specs.Answers.{Answer, answer_of, shape_faults}
-use Rattle.apl_meaning.specs.Queries.{filled, longest}
+use Rattle.std.proofs.lemmas.Bool.Decides.{nat_tests}
+use Rattle.apl_arrays.specs.Shape.{is_small}
+use Rattle.apl_arrays.specs.declared.array.ShapeFault.TheVariants.{Size}
+use Rattle.apl_items.specs.Answers.{Answer, answer_of, faults_of_fault, shape_faults}
+use Rattle.apl_meaning.specs.Queries.{filled, longest, name_matrix}
 
 -- the length of an axis that is cut, but stays over the limit
 abbrev pub cut : ℕ → ℕ
@@ -75,3 +78,24 @@ names_fit names glyphs a b width rows columns wide are fits =
     ∙ (let two : element_count (n ∷ width ∷ []) ≡ n * width = omega arith in two)
     ∙ sym count
     ∙ ap length (sym are)
+
+-- a matrix that was made has short axes
+short_axes : (x y z : Bool) (made array : PlainArray) → answer_of (faults_of_fault (if x && (y && true) && z then None else Some Size)) made ≡ Ok array → (x ≡ true) × (y ≡ true)
+short_axes true true z made array is = (refl, refl)
+short_axes true false z made array is = absurd (grind (arith, is))
+short_axes false y z made array is = absurd (grind (arith, is))
+
+is_within : (axis : ℕ) → is_small axis ≡ true → axis ≤ most_elements
+is_within axis small = grind (arith, nat_tests, small)
+
+-- where the cut matrix was made, it is that of the names
+pub names_listed : (names : List (List ℕ)) (glyphs : List ℕ) (a b width : ℕ) (array : PlainArray) → a ≡ cut (length names) → b ≡ cut width → width ≡ longest names → glyphs ≡ flat_map (filled width) names → listed_as a b glyphs ≡ Ok array
+    → answer_of (shape_faults (name_matrix names).shape) (name_matrix names) ≡ Ok array
+names_listed names glyphs a b width array rows columns wide are is =
+    let short : (is_small a ≡ true) × (is_small b ≡ true) = short_axes (is_small a) (is_small b) (is_small (element_count (a ∷ b ∷ []))) (shaped (a ∷ b ∷ []) (chars glyphs)) array is in
+    let first : length names ≡ a = omega (arith, rows, is_within a short.0) in
+    let second : longest names ≡ b = omega (arith, columns, wide, is_within b short.1) in
+    let filling : flat_map (filled (longest names)) names ≡ glyphs = ap (λ (k : ℕ). flat_map (filled k) names) (sym wide) ∙ sym are in
+    ap (λ (k : ℕ). listed_as k (longest names) (flat_map (filled (longest names)) names)) first
+    ∙ (ap (λ (k : ℕ). listed_as a k (flat_map (filled (longest names)) names)) second
+    ∙ (ap (λ (k : List ℕ). listed_as a b k) filling ∙ is))

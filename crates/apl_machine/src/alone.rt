@@ -105,20 +105,20 @@ fn constant_of(alloc: Global, token: &Token) -> Result<Option<Array>, WantOfMemo
     ensures constant { IfOk result (λ found. IfSome found IsConstant) }
 {
     match &token.kind {
-        TokenKind::Numbers(list) => Ok(array_of(Items::Numbers(list.copy(alloc)?))),
-        TokenKind::Chars(list) => Ok(array_of(Items::Chars(list.copy(alloc)?))),
+        TokenKind::Numbers(list) => array_of(alloc, Items::Numbers(list.copy(alloc)?)),
+        TokenKind::Chars(list) => array_of(alloc, Items::Chars(list.copy(alloc)?)),
         _ => Ok(None),
     }
 }
 
-// The array of the items of a constant, unless it would be too large.
-fn array_of(items: Items) -> Option<Array>
-    ensures items { IfSome result (λ value. value.items ≡ plain_items items) }
-    ensures constant { IfSome result IsConstant }
+// The array of the items of a constant, unless it would be too large. It takes memory, but for a lone number.
+fn array_of(alloc: Global, items: Items) -> Result<Option<Array>, WantOfMemory>
+    ensures items { IfOk result (λ found. IfSome found (λ value. value.items ≡ plain_items items)) }
+    ensures constant { IfOk result (λ found. IfSome found IsConstant) }
 {
-    match constant(items) {
-        Part::Constant(array) => Some(array),
-        Part::Other(_) => None,
+    match constant(alloc, items)? {
+        Part::Constant(array) => Ok(Some(array)),
+        Part::Other(_) => Ok(None),
     }
 }
 

@@ -159,7 +159,7 @@ impl Interpreter {
             }
             rows.tell_zeros(row.deed.width())?;
         }
-        self.give(e, Held::Made(rows.into_array()))
+        self.give(e, Held::Made(rows.into_array(self.alloc)?))
     }
 
     // Whether a row opens an act.

@@ -15,7 +15,7 @@ use crate::evaluation::{Evaluation, Operands};
 use crate::flow::Flow;
 use crate::interpreter::Interpreter;
 use crate::values::{Held, array_of};
-use apl_arrays::{Array, Fail, Items, Mix1, Mix2, Report, Verb};
+use apl_arrays::{Array, Fail, ItemsRef, Mix1, Mix2, Report, Verb};
 use apl_operators::{Steps, apply};
 use apl_workspace::Args;
 use line_trees::Fun;
@@ -163,7 +163,7 @@ fn named_axis(axis: &Array) -> Result<i64, Report>
         return Err(Report::Length);
     }
     match axis.items() {
-        Items::Numbers(list) => Ok(list.as_slice()[0]),
-        Items::Chars(_) => Err(Report::Domain),
+        ItemsRef::Numbers(list) => Ok(list[0]),
+        ItemsRef::Chars(_) => Err(Report::Domain),
     }
 }

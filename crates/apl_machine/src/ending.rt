@@ -20,7 +20,7 @@ use crate::flow::{Flow, Next};
 use crate::interpreter::Interpreter;
 use crate::values::{Held, array_of};
 use crate::waiting::{Waiting, function_of, header_of, line_numbered};
-use apl_arrays::{Array, Fail, Items, Line, Report, WantOfMemory};
+use apl_arrays::{Array, Fail, ItemsRef, Line, Report, WantOfMemory};
 use apl_display::lines_of;
 use apl_execute::text_of;
 use apl_meaning::{function_line_shown, input_shown, report_line};
@@ -178,12 +178,12 @@ fn branch_to(target: &Array) -> Result<Next, Report>
     ensures refused { IfErr result (λ why. branch_to target.now ≡ Err why) }
 {
     match target.items() {
-        Items::Chars(_) => Err(Report::Domain),
-        Items::Numbers(list) => {
+        ItemsRef::Chars(_) => Err(Report::Domain),
+        ItemsRef::Numbers(list) => {
             if target.shape().len() > 1 {
                 Err(Report::Rank)
             } else {
-                Ok(next_of(list.as_slice()))
+                Ok(next_of(list))
             }
         }
     }

@@ -4,7 +4,7 @@ ghost use Rattle.apl_arrays.specs.Array.{chars_in};
 ghost use Rattle.apl_meaning.specs.Naming.{has_rows, naming_count, naming_in, naming_of, namings_of, rows_of};
 ghost use Rattle.apl_machine.specs.Rows.{plain_naming};
 
-use apl_arrays::{Array, Glyph, Items, Name, WantOfMemory, next_word};
+use apl_arrays::{Array, Glyph, ItemsRef, Name, WantOfMemory, next_word};
 use std::alloc::Global;
 
 /// The names of a row: a local one, and the surrogate.
@@ -63,8 +63,8 @@ fn glyphs_in(n: &Array) -> &[Glyph]
     ensures { result.now ≡ chars_in n.now.items }
 {
     match n.items() {
-        Items::Numbers(_) => &[],
-        Items::Chars(line) => line.as_slice(),
+        ItemsRef::Numbers(_) => &[],
+        ItemsRef::Chars(line) => line,
     }
 }
 

@@ -5,7 +5,7 @@ ghost use Rattle.apl_arrays.specs.Limits.{most_elements};
 ghost use Rattle.apl_meaning.specs.Expressions.{valued};
 ghost use Rattle.apl_meaning.specs.Queries.{filled, list_outcome, longest, name_matrix, party_vector, queries, query_faults};
 ghost use Rattle.apl_meaning.specs.Sharing.{is_no_addressee};
-ghost use Rattle.apl_items.specs.Answers.{answer_of, shape_faults};
+ghost use Rattle.apl_items.specs.Answers.{AnswersFirst, answer_of, shape_faults};
 ghost use Rattle.apl_machine.specs.Faults.{plain_faults};
 ghost use Rattle.apl_machine.specs.Moves.{Comes, part_gives};
 ghost use Rattle.apl_machine.specs.Sound.{IsCaller, IsFlow};
@@ -18,8 +18,8 @@ use crate::pending::Pending;
 use crate::sharing::{Wrong, is_no_addressee};
 use crate::values::Held;
 use apl_arrays::{
-    Array, ArrayRefused, ELEMENT_LIMIT, Fail, Items, Line, List, Name, NumberList, Report,
-    WantOfMemory,
+    Array, ELEMENT_LIMIT, Fail, Items, Line, List, Name, NumberList, Report, WantOfMemory,
+    shape_fault,
 };
 use line_text::{add_blanks, add_glyphs};
 use std::alloc::Global;
@@ -51,6 +51,7 @@ impl Interpreter {
             numbers.push(i64::from(*party))?;
         }
         let array = listed(
+            self.alloc,
             &[capped(parties.len())],
             Items::Numbers(NumberList::from(numbers)),
         )?;
@@ -66,7 +67,11 @@ impl Interpreter {
     {
         let width = longest(names);
         let glyphs = filled_names(self.alloc, names, width)?;
-        let array = listed(&[capped(names.len()), capped(width)], Items::Chars(glyphs))?;
+        let array = listed(
+            self.alloc,
+            &[capped(names.len()), capped(width)],
+            Items::Chars(glyphs),
+        )?;
         self.give(e, Held::Made(array))
     }
 }
@@ -135,15 +140,14 @@ fn capped(length: usize) -> u32
     length.min(ELEMENT_LIMIT + 1) as u32
 }
 
-// A list as an array; WS FULL where it would be too large. No memory.
-fn listed(shape: &[u32], items: Items) -> Result<Array, Report>
+// A list as an array; WS FULL where it would be too large. It takes memory.
+fn listed(alloc: Global, shape: &[u32], items: Items) -> Result<Array, Fail>
     requires few { length shape.now ≤ 2 }
     requires whole { FitsLimits shape.now → element_count shape.now ≡ item_count (plain_items items) }
-    ensures { result ≡ answer_of (shape_faults shape.now) (record { shape = shape.now; items = plain_items items }) }
+    ensures { AnswersFirst result (answer_of (shape_faults shape.now) (record { shape = shape.now; items = plain_items items })) }
 {
-    match Array::try_new(shape, items) {
-        Ok(array) => Ok(array),
-        Err(ArrayRefused::TooLarge) => Err(Report::WsFull),
-        Err(ArrayRefused::BadShape) => unreachable!(),
+    if shape_fault(shape).is_some() {
+        return Err(Fail::Report(Report::WsFull));
     }
+    Ok(Array::shaped(alloc, shape, items)?)
 }

@@ -81,7 +81,7 @@ fn parts_of(alloc: Global, nodes: Vec<Node>) -> Result<Vec<Part>, WantOfMemory>
     let mut parts = Vec::new(alloc);
     parts.reserve(nodes.len())?;
     for node in nodes {
-        parts.push_reserved(Part::of(node));
+        parts.push_reserved(Part::of(alloc, node)?);
     }
     Ok(parts)
 }

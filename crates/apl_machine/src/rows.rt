@@ -109,14 +109,14 @@ impl Rows {
         Ok(())
     }
 
-    /// The array of all numbers. No memory.
-    pub fn into_array(self) -> Array
+    /// The array of all numbers. It takes memory, but for a lone number.
+    pub fn into_array(self, alloc: Global) -> Result<Array, WantOfMemory>
         requires fits { FitsLimits self.shape.items }
         requires count { element_count self.shape.items ≡ length self.numbers.items }
-        ensures { result ≡ number_array self.shape.items self.numbers.items }
+        ensures { IfOk result (λ array. array ≡ number_array self.shape.items self.numbers.items) }
     {
         let Rows { shape, numbers, .. } = self;
-        Array::shaped(&shape, Items::Numbers(NumberList::from(numbers)))
+        Array::shaped(alloc, &shape, Items::Numbers(NumberList::from(numbers)))
     }
 }
 

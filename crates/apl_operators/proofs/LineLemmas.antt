@@ -5,15 +5,12 @@ use Rattle.std.proofs.lemmas.Bool.Decides.{nat_tests}
 use Rattle.std.proofs.lemmas.List.{length-take, length-drop, take_all}
 use Rattle.std.proofs.lemmas.List.Elements.{All-append, All-take, All-drop}
 use Rattle.std.proofs.lemmas.Nat.{div-add-mod'}
-use Rattle.apl_arrays.specs.declared.array.Item.{Item}
-use Rattle.apl_arrays.specs.declared.array.Item.TheVariants.{Number, Char}
-use Rattle.apl_arrays.specs.declared.array.Items.{Items}
-use Rattle.apl_arrays.specs.declared.array.Items.TheVariants.{Chars, Numbers}
+use Rattle.apl_arrays.specs.declared.items.Item.{Item}
+use Rattle.apl_arrays.specs.declared.items.Item.TheVariants.{Number, Char}
 use Rattle.apl_arrays.specs.declared.report.Fail.{Fail}
 use Rattle.apl_arrays.specs.declared.verb.Dyad.{Dyad}
 use Rattle.apl_arrays.specs.declared.verb.Way.{Way}
-use Rattle.apl_arrays.specs.Array.{FitsLimits, PlainArray, PlainItems, chars, element_count, item_count, numbers, plain_items}
-use Rattle.apl_arrays.specs.List.{Listed}
+use Rattle.apl_arrays.specs.Array.{FitsLimits, PlainArray, PlainItems, chars, element_count, item_count, numbers}
 use Rattle.apl_arrays.proofs.Shapes.{what_fits_has_no_fault}
 use Rattle.apl_items.specs.Answers.{Answer, AnswersFirst}
 use Rattle.apl_items.specs.declared.shapes.Split.{Split}
@@ -180,6 +177,10 @@ no_lines_made f b made axis shape is fits none is_made =
     ap (λ (s : List ℕ). gathered s (reduced_line f b.items (split_at b.shape axis))) (sym is)
     ∙ gathered_none shape (reduced_line f b.items (split_at b.shape axis)) (what_fits_has_no_fault shape fits) none ∙ ap given (sym is_made)
 
+-- where there are no lines there is no report
+pub no_lines_there : (f : Dyad) (b : PlainArray) (axis : ℕ) (shape : List ℕ) → shape ≡ without axis b.shape → FitsLimits shape → element_count shape ≡ 0 → IsOk (reduced f b axis)
+no_lines_there f b axis shape is fits none = rw (no_lines_made f b (record { shape = shape; items = numbers [] }) axis shape is fits none refl) refl
+
 pub lines_made : (f : Dyad) (b : PlainArray) (axis : ℕ) (shape : List ℕ) (items : PlainItems) (split : Split) (result : Result PlainArray Fail) → shape ≡ without axis b.shape
     → items ≡ b.items → split ≡ split_at b.shape axis → AnswersFirst result (gathered shape (reduced_line f items split)) → AnswersFirst result (reduced f b axis)
 lines_made f b axis shape items split result is is_items is_split answers =
@@ -194,11 +195,3 @@ without_items f b axis shape result none is answers =
     let by_count = ap (λ (n : ℕ). gathered (without axis b.shape) (λ line. reduction_of (joined_by f) (identity_item f) (item_on_line b.items (split_at b.shape axis) line) n)) none in
     let as_numbers = gathered_as_numbers (without axis b.shape) (λ line. identity_item f) (λ line. (row_of_dyad f).identity) (λ line. refl) in
     subst (AnswersFirst result) (ap (λ (s : List ℕ). numbers_answer s (λ line. (row_of_dyad f).identity)) is ∙ sym as_numbers ∙ sym by_count) answers
-
--- ---- the kinds of items
-
-pub numbers_are : (items : Items) (list : Listed ℤ) (slice : List ℤ) → items ≡ Numbers list → slice ≡ list.items → numbers slice ≡ plain_items items
-numbers_are items list slice is same = ap numbers same ∙ sym (ap plain_items is)
-
-pub chars_are : (items : Items) (list : Listed ℕ) (slice : List ℕ) → items ≡ Chars list → slice ≡ list.items → chars slice ≡ plain_items items
-chars_are items list slice is same = ap chars same ∙ sym (ap plain_items is)

@@ -4,8 +4,8 @@ use Rattle.std.specs.List.{list_any}
 use Rattle.std.proofs.Math.Path.{fun_ext}
 use Rattle.std.proofs.lemmas.Bool.{cases_lt, false≢true}
 use Rattle.apl_arrays.proofs.Shapes.{too_large_by_size, what_fits_has_no_fault}
-use Rattle.apl_arrays.specs.declared.array.Item.{Item}
-use Rattle.apl_arrays.specs.declared.array.Item.TheVariants.{Number}
+use Rattle.apl_arrays.specs.declared.items.Item.{Item}
+use Rattle.apl_arrays.specs.declared.items.Item.TheVariants.{Number}
 use Rattle.apl_arrays.specs.declared.array.ShapeFault.{ShapeFault}
 use Rattle.apl_arrays.specs.declared.array.ShapeFault.TheVariants as fault
 use Rattle.apl_arrays.specs.declared.report.Fail.{Fail}
@@ -36,6 +36,10 @@ answers_through result why other answer is same answers =
 -- want of memory that is handed on, where there is no report
 pub out_of_memory : (result : Result PlainArray Fail) (other : Fail) (answer : Answer) → result ≡ Err other → other ≡ fail.WantOfMemory → IsOk answer → AnswersFirst result answer
 out_of_memory result other answer is same fine = answers_through result fail.WantOfMemory other answer is same fine
+
+-- an answer that is an array has no report
+pub given_there : (answer : Answer) (made : PlainArray) → answer ≡ Ok made → IsOk answer
+given_there answer made is = rw is refl
 
 -- the numbers of a shape within the limits
 pub numbers_made : (shape : List ℕ) (count : ℕ) (rule : ℕ → Option ℤ) (list : List ℤ) → shape_fault shape ≡ None → count ≡ element_count shape

@@ -1,12 +1,9 @@
 -- Products of rows and columns.
 use Rattle.std.proofs.Common.{◌≡◌, ℕ, ℤ, zero, suc, ◌+◌, ◌-◌, ◌*◌, ◌<◌, ◌≤◌, false, List, Option, Result, sym, ap, subst, arith}
 use Rattle.std.proofs.lemmas.Nat.{mul-le}
-use Rattle.apl_arrays.specs.declared.array.Items.{Items}
-use Rattle.apl_arrays.specs.declared.array.Items.TheVariants.{Chars, Numbers}
 use Rattle.apl_arrays.specs.declared.report.Fail.{Fail}
 use Rattle.apl_arrays.specs.declared.verb.Dyad.{Dyad}
-use Rattle.apl_arrays.specs.Array.{PlainArray, plain_items}
-use Rattle.apl_arrays.specs.List.{Listed}
+use Rattle.apl_arrays.specs.Array.{PlainArray, PlainItems, chars, numbers}
 use Rattle.apl_items.specs.Answers.{AnswersFirst}
 use Rattle.apl_scalar.specs.Table.{item_of_chars}
 use Rattle.apl_operators.specs.declared.products.Extent.{Extent}
@@ -34,14 +31,14 @@ pair_places extent row column along is p q r = (
 )
 
 -- a number and a character are never the same
-pub unlike_numbers : (f g : Dyad) (shape : List ℕ) (count columns : ℕ) (result : Result PlainArray Fail) (a b : Items) (numbers_of : Listed ℤ) (chars_of : Listed ℕ) → a ≡ Numbers numbers_of → b ≡ Chars chars_of
-    → AnswersFirst result (numbers_answer shape (products_at f (λ x y. item_of_chars g false) count columns)) → AnswersFirst result (numbers_answer shape (inner_at f g (plain_items a) (plain_items b) count columns))
-unlike_numbers f g shape count columns result a b numbers_of chars_of is_a is_b answers =
-    subst (λ (x : Items). AnswersFirst result (numbers_answer shape (inner_at f g (plain_items x) (plain_items b) count columns))) (sym is_a)
-    (subst (λ (x : Items). AnswersFirst result (numbers_answer shape (inner_at f g (plain_items (Numbers numbers_of)) (plain_items x) count columns))) (sym is_b) answers)
+pub unlike_numbers : (f g : Dyad) (shape : List ℕ) (count columns : ℕ) (result : Result PlainArray Fail) (a b : PlainItems) (list : List ℤ) (glyphs : List ℕ) → a ≡ numbers list → b ≡ chars glyphs
+    → AnswersFirst result (numbers_answer shape (products_at f (λ x y. item_of_chars g false) count columns)) → AnswersFirst result (numbers_answer shape (inner_at f g a b count columns))
+unlike_numbers f g shape count columns result a b list glyphs is_a is_b answers =
+    subst (λ (x : PlainItems). AnswersFirst result (numbers_answer shape (inner_at f g x b count columns))) (sym is_a)
+    (subst (λ (x : PlainItems). AnswersFirst result (numbers_answer shape (inner_at f g (numbers list) x count columns))) (sym is_b) answers)
 
-pub unlike_chars : (f g : Dyad) (shape : List ℕ) (count columns : ℕ) (result : Result PlainArray Fail) (a b : Items) (chars_of : Listed ℕ) (numbers_of : Listed ℤ) → a ≡ Chars chars_of → b ≡ Numbers numbers_of
-    → AnswersFirst result (numbers_answer shape (products_at f (λ x y. item_of_chars g false) count columns)) → AnswersFirst result (numbers_answer shape (inner_at f g (plain_items a) (plain_items b) count columns))
-unlike_chars f g shape count columns result a b chars_of numbers_of is_a is_b answers =
-    subst (λ (x : Items). AnswersFirst result (numbers_answer shape (inner_at f g (plain_items x) (plain_items b) count columns))) (sym is_a)
-    (subst (λ (x : Items). AnswersFirst result (numbers_answer shape (inner_at f g (plain_items (Chars chars_of)) (plain_items x) count columns))) (sym is_b) answers)
+pub unlike_chars : (f g : Dyad) (shape : List ℕ) (count columns : ℕ) (result : Result PlainArray Fail) (a b : PlainItems) (glyphs : List ℕ) (list : List ℤ) → a ≡ chars glyphs → b ≡ numbers list
+    → AnswersFirst result (numbers_answer shape (products_at f (λ x y. item_of_chars g false) count columns)) → AnswersFirst result (numbers_answer shape (inner_at f g a b count columns))
+unlike_chars f g shape count columns result a b glyphs list is_a is_b answers =
+    subst (λ (x : PlainItems). AnswersFirst result (numbers_answer shape (inner_at f g x b count columns))) (sym is_a)
+    (subst (λ (x : PlainItems). AnswersFirst result (numbers_answer shape (inner_at f g (chars glyphs) x count columns))) (sym is_b) answers)

@@ -4,15 +4,14 @@ use Rattle.std.proofs.Common.{◌≡◌, ◌&&◌, Bool, true, false, ℕ, ℤ, 
 use Rattle.std.specs.Prelude.{◌↔◌, IsTrue}
 use Rattle.std.proofs.Math.Dec.{eqb}
 use Rattle.std.proofs.lemmas.Bool.{false≢true}
-use Rattle.apl_arrays.specs.declared.array.Items.{Items}
 use Rattle.apl_arrays.specs.declared.array.ShapeFault.{ShapeFault}
-use Rattle.apl_arrays.specs.declared.array.Item.TheVariants.{Number, Char}
+use Rattle.apl_arrays.specs.declared.items.Item.TheVariants.{Number, Char}
 use Rattle.apl_arrays.specs.declared.report.Fail.{Fail}
 use Rattle.apl_arrays.specs.declared.report.Fail.TheVariants as fail
 use Rattle.apl_arrays.specs.declared.report.Report.{Report}
 use Rattle.apl_arrays.specs.declared.report.Report.TheVariants.{Domain}
 use Rattle.apl_arrays.specs.declared.verb.Dyad.{Dyad}
-use Rattle.apl_arrays.specs.Array.{IsArray, PlainArray, PlainItems, chars, element_count, item_count, numbers, plain_items}
+use Rattle.apl_arrays.specs.Array.{IsArray, PlainArray, PlainItems, chars, element_count, item_count, numbers}
 use Rattle.apl_arrays.specs.Shape.{shape_fault}
 use Rattle.apl_arrays.proofs.Shapes.{what_fits_has_no_fault}
 use Rattle.apl_arrays.specs.declared.verb.Way.{Way}
@@ -37,12 +36,12 @@ pub no_count : (n : ℕ) (test : Bool) → n ≡ 0 → test ≡ eqb n 0 → test
 no_count n test none is other = let zero_is : eqb n 0 ≡ true = ap (λ (m : ℕ). eqb m 0) none in false≢true (sym other ∙ is ∙ zero_is)
 
 -- where a test that there are no items fails, there are elements
-pub some_items : (b : PlainArray) (items : Items) (empty : Bool) → IsArray b → plain_items items ≡ b.items → empty ≡ false → (IsTrue empty ↔ (item_count (plain_items items) ≡ 0))
+pub some_items : (b : PlainArray) (items : PlainItems) (empty : Bool) → IsArray b → items ≡ b.items → empty ≡ false → (IsTrue empty ↔ (item_count items ≡ 0))
     → 0 < element_count b.shape
 some_items b items empty array is other test = by_count (element_count b.shape) refl
   where
     by_count : (n : ℕ) → element_count b.shape ≡ n → 0 < n
-    by_count zero e = absurd (let none : item_count (plain_items items) ≡ 0 = ap item_count is ∙ sym array.whole ∙ e in false≢true (sym other ∙ test.1 none))
+    by_count zero e = absurd (let none : item_count items ≡ 0 = ap item_count is ∙ sym array.whole ∙ e in false≢true (sym other ∙ test.1 none))
     by_count (suc n) e = omega arith
 
 -- along an axis that is there
@@ -69,6 +68,12 @@ scan_made f b result axis list made split is_b is is_split by_place is_result =
     let whole : length list ≡ element_count b.shape = sym (is_b.whole ∙ ap item_count is) in
     scanned_as f b axis list split is is_split
     ∙ numbers_made b.shape (length list) (front_at (dyadic_item f) list split) made (what_fits_has_no_fault b.shape is_b.fits) whole by_place ∙ ap given (sym is_result)
+
+-- where no number is lacking there is no report
+pub scan_there : (f : Dyad) (b : PlainArray) (axis : ℕ) (list made : List ℤ) (split : Split) → IsArray b → b.items ≡ numbers list → split ≡ split_at b.shape axis
+    → IsByPlace (length list) (front_at (dyadic_item f) list split) made → IsOk (scanned f b axis)
+scan_there f b axis list made split is_b is is_split by_place =
+    rw (scan_made f b (record { shape = b.shape; items = numbers made }) axis list made split is_b is is_split by_place refl) refl
 
 refusal : Report → Answer
 refusal report = Err report

@@ -1,11 +1,8 @@
 -- Shapes that are joined, and the pairs that they count.
 use Rattle.std.proofs.Common.{◌≡◌, ℕ, ℤ, ◌*◌, ◌++◌, false, List, Result, sym, ap, subst, ◌∙◌}
-use Rattle.apl_arrays.specs.declared.array.Items.{Items}
-use Rattle.apl_arrays.specs.declared.array.Items.TheVariants.{Chars, Numbers}
 use Rattle.apl_arrays.specs.declared.report.Fail.{Fail}
 use Rattle.apl_arrays.specs.declared.verb.Dyad.{Dyad}
-use Rattle.apl_arrays.specs.Array.{IsArray, PlainArray, element_count, item_count, plain_items}
-use Rattle.apl_arrays.specs.List.{Listed}
+use Rattle.apl_arrays.specs.Array.{IsArray, PlainArray, PlainItems, chars, element_count, item_count, numbers}
 use Rattle.apl_items.specs.Answers.{AnswersFirst}
 use Rattle.apl_items.proofs.ShapeLemmas.{element_count-append}
 use Rattle.apl_scalar.specs.Table.{item_of_chars}
@@ -19,14 +16,14 @@ pair_count a b shape is_a is_b joined =
     ∙ sym (element_count-append a.shape b.shape) ∙ ap (λ (s : List ℕ). element_count s) (sym joined)
 
 -- a number and a character are never the same
-pub unlike_numbers : (f : Dyad) (shape : List ℕ) (result : Result PlainArray Fail) (a b : Items) (numbers_of : Listed ℤ) (chars_of : Listed ℕ) → a ≡ Numbers numbers_of → b ≡ Chars chars_of
-    → AnswersFirst result (numbers_answer shape (λ place. item_of_chars f false)) → AnswersFirst result (numbers_answer shape (outer_at f (plain_items a) (plain_items b)))
-unlike_numbers f shape result a b numbers_of chars_of is_a is_b answers =
-    subst (λ (x : Items). AnswersFirst result (numbers_answer shape (outer_at f (plain_items x) (plain_items b)))) (sym is_a)
-    (subst (λ (x : Items). AnswersFirst result (numbers_answer shape (outer_at f (plain_items (Numbers numbers_of)) (plain_items x)))) (sym is_b) answers)
+pub unlike_numbers : (f : Dyad) (shape : List ℕ) (result : Result PlainArray Fail) (a b : PlainItems) (list : List ℤ) (glyphs : List ℕ) → a ≡ numbers list → b ≡ chars glyphs
+    → AnswersFirst result (numbers_answer shape (λ place. item_of_chars f false)) → AnswersFirst result (numbers_answer shape (outer_at f a b))
+unlike_numbers f shape result a b list glyphs is_a is_b answers =
+    subst (λ (x : PlainItems). AnswersFirst result (numbers_answer shape (outer_at f x b))) (sym is_a)
+    (subst (λ (x : PlainItems). AnswersFirst result (numbers_answer shape (outer_at f (numbers list) x))) (sym is_b) answers)
 
-pub unlike_chars : (f : Dyad) (shape : List ℕ) (result : Result PlainArray Fail) (a b : Items) (chars_of : Listed ℕ) (numbers_of : Listed ℤ) → a ≡ Chars chars_of → b ≡ Numbers numbers_of
-    → AnswersFirst result (numbers_answer shape (λ place. item_of_chars f false)) → AnswersFirst result (numbers_answer shape (outer_at f (plain_items a) (plain_items b)))
-unlike_chars f shape result a b chars_of numbers_of is_a is_b answers =
-    subst (λ (x : Items). AnswersFirst result (numbers_answer shape (outer_at f (plain_items x) (plain_items b)))) (sym is_a)
-    (subst (λ (x : Items). AnswersFirst result (numbers_answer shape (outer_at f (plain_items (Chars chars_of)) (plain_items x)))) (sym is_b) answers)
+pub unlike_chars : (f : Dyad) (shape : List ℕ) (result : Result PlainArray Fail) (a b : PlainItems) (glyphs : List ℕ) (list : List ℤ) → a ≡ chars glyphs → b ≡ numbers list
+    → AnswersFirst result (numbers_answer shape (λ place. item_of_chars f false)) → AnswersFirst result (numbers_answer shape (outer_at f a b))
+unlike_chars f shape result a b glyphs list is_a is_b answers =
+    subst (λ (x : PlainItems). AnswersFirst result (numbers_answer shape (outer_at f x b))) (sym is_a)
+    (subst (λ (x : PlainItems). AnswersFirst result (numbers_answer shape (outer_at f (chars glyphs) x))) (sym is_b) answers)

@@ -1,6 +1,6 @@
 use Rattle.std.specs.Prelude.{◌&&◌, ℕ, ℤ, Bool, List, Option, Some, None, if◌then◌else◌}
-use Rattle.apl_arrays.specs.declared.array.Item.{Item}
-use Rattle.apl_arrays.specs.declared.array.Item.TheVariants.{Number, Char}
+use Rattle.apl_arrays.specs.declared.items.Item.{Item}
+use Rattle.apl_arrays.specs.declared.items.Item.TheVariants.{Number, Char}
 use Rattle.apl_arrays.specs.Array.{PlainItems, numbers, chars, element_count}
 use Rattle.apl_items.specs.Answers.{Answer, answer_of, shape_faults}
 use Rattle.apl_items.specs.Places.{items_by, lacks_item, number_faults, numbers_by}

@@ -1,5 +1,5 @@
 use Rattle.std.specs.Prelude.{◌==◌, ◌||◌, ℕ, ℤ, Option, Some, Ok, Err, length, if◌then◌else◌}
-use Rattle.apl_arrays.specs.declared.array.Item.{Item}
+use Rattle.apl_arrays.specs.declared.items.Item.{Item}
 use Rattle.apl_arrays.specs.declared.report.Report.TheVariants.{Index}
 use Rattle.apl_arrays.specs.declared.verb.Dyad.{Dyad}
 use Rattle.apl_arrays.specs.declared.verb.Way.{Way}

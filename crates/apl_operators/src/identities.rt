@@ -26,7 +26,7 @@ pub(crate) fn identities(alloc: Global, f: Dyad, shape: &[u32]) -> Result<Array,
             ensures { result ≡ (row_of_dyad f).identity }
         { identity_of(f) },
     )?;
-    Ok(Array::shaped(shape, Items::Numbers(NumberList::from(items))))
+    Ok(Array::shaped(alloc, shape, Items::Numbers(NumberList::from(items)))?)
 }
 
 /// The report of identities that are too many to be made: DOMAIN where there is none.

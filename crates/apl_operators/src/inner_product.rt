@@ -1,5 +1,5 @@
 ghost use Rattle.std.specs.Prelude.{◌≡◌, ◌+◌, ◌*◌, ◌/◌, ◌-◌, ◌<◌, ◌≤◌, ◌==◌, ◌++◌, Option, false, drop, length};
-ghost use Rattle.apl_arrays.specs.Array.{IsArray, chars, element_count, item_count, numbers, plain_items};
+ghost use Rattle.apl_arrays.specs.Array.{seen_items, IsArray, chars, element_count, item_count, numbers};
 ghost use Rattle.apl_arrays.specs.Limits.{most_axes};
 ghost use Rattle.apl_items.specs.Answers.{AnswersFirst};
 ghost use Rattle.apl_items.specs.Extension.{Reaches, char_at, number_at, place_in};
@@ -13,7 +13,7 @@ use crate::identities::identities;
 use crate::items::{refuses_none, takes_all};
 use crate::products::{Extent, all_products};
 use apl_arrays::{
-    Array, Dyad, Fail, Glyph, Items, RANK_LIMIT, Report, count_of_elements, shape_fault,
+    Array, Dyad, Fail, Glyph, ItemsRef, RANK_LIMIT, Report, count_of_elements, shape_fault,
 };
 use apl_items::{glyph_at, is_single, joined_shape, number_at};
 use apl_scalar::{character_of, dyadic_table, rules};
@@ -135,29 +135,29 @@ fn products_of_items(
     f: Dyad,
     g: Dyad,
     shape: &[u32],
-    a: &Items,
-    b: &Items,
+    a: ItemsRef<'_>,
+    b: ItemsRef<'_>,
     extent: Extent,
 ) -> Result<Array, Fail>
     requires rank { length shape.now ≤ most_axes }
     requires count { extent.rows * extent.columns ≡ element_count shape.now }
     requires extent { IsExtent extent }
-    requires in_a { Reaches (item_count (plain_items a.now)) (extent.rows * extent.paired) }
-    requires in_b { Reaches (item_count (plain_items b.now)) (extent.paired * extent.columns) }
-    ensures { AnswersFirst result (numbers_answer shape.now (inner_at f g (plain_items a.now) (plain_items b.now) extent.paired extent.columns)) }
+    requires in_a { Reaches (item_count (seen_items a)) (extent.rows * extent.paired) }
+    requires in_b { Reaches (item_count (seen_items b)) (extent.paired * extent.columns) }
+    ensures { AnswersFirst result (numbers_answer shape.now (inner_at f g (seen_items a.entry) (seen_items b.entry) extent.paired extent.columns)) }
 {
     if shape_fault(shape).is_some() && refuses_none(f) && takes_all(g, a, b) {
         return Err(Fail::Report(Report::WsFull));
     }
     match (a, b) {
-        (Items::Numbers(a), Items::Numbers(b)) => {
-            number_products(alloc, f, g, shape, a.as_slice(), b.as_slice(), extent)
+        (ItemsRef::Numbers(a), ItemsRef::Numbers(b)) => {
+            number_products(alloc, f, g, shape, a, b, extent)
         }
-        (Items::Chars(a), Items::Chars(b)) => {
-            glyph_products(alloc, f, g, shape, a.as_slice(), b.as_slice(), extent)
+        (ItemsRef::Chars(a), ItemsRef::Chars(b)) => {
+            glyph_products(alloc, f, g, shape, a, b, extent)
         }
-        (Items::Numbers(_), Items::Chars(_)) => unlike_products(alloc, f, g, shape, extent),
-        (Items::Chars(_), Items::Numbers(_)) => unlike_products(alloc, f, g, shape, extent),
+        (ItemsRef::Numbers(_), ItemsRef::Chars(_)) => unlike_products(alloc, f, g, shape, extent),
+        (ItemsRef::Chars(_), ItemsRef::Numbers(_)) => unlike_products(alloc, f, g, shape, extent),
     }
 }
 

@@ -1,11 +1,11 @@
 ghost use Rattle.std.specs.Prelude.{◌≡◌, true};
-ghost use Rattle.apl_arrays.specs.Array.{plain_items};
+ghost use Rattle.apl_arrays.specs.Array.{seen_items};
 ghost use Rattle.apl_scalar.specs.Table.{dyadic_item, item_of_chars, pair_item};
 ghost use Rattle.apl_operators.specs.Gathering.{number_in};
 ghost use Rattle.apl_operators.specs.Reduction.{Joins, Tells, joined_by};
 ghost use Rattle.apl_operators.specs.Rows.{TakesAll, refuses_none, takes_all};
 
-use apl_arrays::{Dyad, Item, Items};
+use apl_arrays::{Dyad, Item, ItemsRef};
 use apl_scalar::{character_of, read_all};
 
 /// Whether a dyadic function has a value of 64 bits at all pairs of numbers of 64 bits: a comparison, the greater, the lesser
@@ -28,9 +28,9 @@ pub(crate) fn refuses_none(f: Dyad) -> bool
 }
 
 /// Whether a dyadic function has a value of 64 bits at each item of the one list with each of the other. No memory.
-pub(crate) fn takes_all(f: Dyad, a: &Items, b: &Items) -> bool
-    ensures value { result ≡ takes_all f (plain_items a.now) (plain_items b.now) }
-    ensures all { result ≡ true → TakesAll f (plain_items a.now) (plain_items b.now) }
+pub(crate) fn takes_all(f: Dyad, a: ItemsRef<'_>, b: ItemsRef<'_>) -> bool
+    ensures value { result ≡ takes_all f (seen_items a.entry) (seen_items b.entry) }
+    ensures all { result ≡ true → TakesAll f (seen_items a.entry) (seen_items b.entry) }
 {
     read_all(a.numbers());
     read_all(b.numbers());
@@ -38,11 +38,11 @@ pub(crate) fn takes_all(f: Dyad, a: &Items, b: &Items) -> bool
 }
 
 /// The same, by the kinds of the items.
-fn takes_kinds(f: Dyad, a: &Items, b: &Items) -> bool
-    ensures { result ≡ takes_all f (plain_items a.now) (plain_items b.now) }
+fn takes_kinds(f: Dyad, a: ItemsRef<'_>, b: ItemsRef<'_>) -> bool
+    ensures { result ≡ takes_all f (seen_items a.entry) (seen_items b.entry) }
 {
     match (a, b) {
-        (Items::Numbers(_), Items::Numbers(_)) => refuses_none(f),
+        (ItemsRef::Numbers(_), ItemsRef::Numbers(_)) => refuses_none(f),
         _ => character_of(f, false).is_some(),
     }
 }

@@ -1,5 +1,5 @@
 ghost use Rattle.std.specs.Prelude.{◌≡◌, ◌*◌, ◌<◌, ◌≤◌, ◌^◌, ◌==◌, Option, pos, false, length, slice_index, slice_index_or};
-ghost use Rattle.apl_arrays.specs.Array.{chars, element_count, item_count, numbers, plain_items};
+ghost use Rattle.apl_arrays.specs.Array.{seen_items, chars, element_count, item_count, numbers};
 ghost use Rattle.apl_arrays.specs.Limits.{most_axes};
 ghost use Rattle.apl_items.specs.Answers.{AnswersFirst};
 ghost use Rattle.apl_scalar.specs.Table.{dyadic_item, item_of_chars};
@@ -9,7 +9,7 @@ ghost use Rattle.apl_operators.specs.Reduction.{Joins, Tells};
 
 use crate::items::takes_all;
 use crate::rows::numbers_by_rows;
-use apl_arrays::{Array, Dyad, Fail, Glyph, Items, RANK_LIMIT, Report, shape_fault};
+use apl_arrays::{Array, Dyad, Fail, Glyph, ItemsRef, RANK_LIMIT, Report, shape_fault};
 use apl_items::joined_shape;
 use apl_scalar::{character_of, dyadic_table, rules};
 use std::alloc::Global;
@@ -35,27 +35,29 @@ pub fn outer(alloc: Global, f: Dyad, a: &Array, b: &Array) -> Result<Array, Fail
 }
 
 /// All pairs of items. The kinds are looked at once. Where they are too many, a function that takes them all is not asked.
-fn all_pairs(alloc: Global, f: Dyad, shape: &[u32], a: &Items, b: &Items) -> Result<Array, Fail>
+fn all_pairs(
+    alloc: Global,
+    f: Dyad,
+    shape: &[u32],
+    a: ItemsRef<'_>,
+    b: ItemsRef<'_>,
+) -> Result<Array, Fail>
     requires rank { length shape.now ≤ most_axes }
-    requires count { item_count (plain_items a.now) * item_count (plain_items b.now) ≡ element_count shape.now }
-    requires fits { item_count (plain_items a.now) * item_count (plain_items b.now) < 2 ^ 64 }
-    ensures { AnswersFirst result (numbers_answer shape.now (outer_at f (plain_items a.now) (plain_items b.now))) }
+    requires count { item_count (seen_items a) * item_count (seen_items b) ≡ element_count shape.now }
+    requires fits { item_count (seen_items a) * item_count (seen_items b) < 2 ^ 64 }
+    ensures { AnswersFirst result (numbers_answer shape.now (outer_at f (seen_items a.entry) (seen_items b.entry))) }
 {
     if shape_fault(shape).is_some() && takes_all(f, a, b) {
         return Err(Fail::Report(Report::WsFull));
     }
     match (a, b) {
-        (Items::Numbers(a), Items::Numbers(b)) => {
-            number_pairs(alloc, f, shape, a.as_slice(), b.as_slice())
+        (ItemsRef::Numbers(a), ItemsRef::Numbers(b)) => number_pairs(alloc, f, shape, a, b),
+        (ItemsRef::Chars(a), ItemsRef::Chars(b)) => glyph_pairs(alloc, f, shape, a, b),
+        (ItemsRef::Numbers(a), ItemsRef::Chars(b)) => {
+            unlike_pairs(alloc, f, shape, a.len(), b.len())
         }
-        (Items::Chars(a), Items::Chars(b)) => {
-            glyph_pairs(alloc, f, shape, a.as_slice(), b.as_slice())
-        }
-        (Items::Numbers(a), Items::Chars(b)) => {
-            unlike_pairs(alloc, f, shape, a.as_slice().len(), b.as_slice().len())
-        }
-        (Items::Chars(a), Items::Numbers(b)) => {
-            unlike_pairs(alloc, f, shape, a.as_slice().len(), b.as_slice().len())
+        (ItemsRef::Chars(a), ItemsRef::Numbers(b)) => {
+            unlike_pairs(alloc, f, shape, a.len(), b.len())
         }
     }
 }

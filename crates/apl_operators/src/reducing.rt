@@ -1,5 +1,5 @@
 ghost use Rattle.std.specs.Prelude.{◌≡◌, ◌*◌, ◌<◌, ◌-◌, ◌/◌, Option, Some, length, slice_index};
-ghost use Rattle.apl_arrays.specs.Array.{FitsLimits, chars, element_count, item_count, numbers, plain_items};
+ghost use Rattle.apl_arrays.specs.Array.{seen_items, FitsLimits, chars, element_count, item_count, numbers};
 ghost use Rattle.apl_items.specs.Answers.{AnswersFirst};
 ghost use Rattle.apl_items.specs.Shapes.{place_along, split_count};
 ghost use Rattle.apl_scalar.specs.Table.{dyadic_item, item_of_chars};
@@ -14,7 +14,8 @@ use crate::lines::{LineAt, last_front};
 use crate::reduction::reduced;
 use crate::rows::numbers_by_rows;
 use apl_arrays::{
-    Array, Dyad, Fail, Glyph, Item, Items, List, NumberList, Report, Way, count_of_elements,
+    Array, Dyad, Fail, Glyph, Item, Items, ItemsRef, List, NumberList, Report, Way,
+    count_of_elements,
 };
 use apl_items::{Split, axis_of, joined_shape, lacks_axis};
 use apl_scalar::{character_of, dyadic_table, item_of_numbers, rules};
@@ -73,7 +74,11 @@ fn reduced_lines(
     ensures { AnswersFirst result (reduced f b.now axis) }
 {
     if b.items().is_empty() {
-        return Ok(Array::shaped(shape, Items::Numbers(NumberList::from(List::new(alloc)))));
+        return Ok(Array::shaped(
+            alloc,
+            shape,
+            Items::Numbers(NumberList::from(List::new(alloc))),
+        )?);
     }
     let split = Split::at(b.shape(), axis);
     lines_of_items(alloc, f, shape, b.items(), split)
@@ -84,22 +89,22 @@ fn lines_of_items(
     alloc: Global,
     f: Dyad,
     shape: &[u32],
-    items: &Items,
+    items: ItemsRef<'_>,
     split: Split,
 ) -> Result<Array, Fail>
     requires fits { FitsLimits shape.now }
-    requires whole { split_count split ≡ item_count (plain_items items.now) }
+    requires whole { split_count split ≡ item_count (seen_items items) }
     requires lines { split.outer * split.inner ≡ element_count shape.now }
     requires some { 0 < split_count split }
-    ensures { AnswersFirst result (gathered shape.now (reduced_line f (plain_items items.now) split)) }
+    ensures { AnswersFirst result (gathered shape.now (reduced_line f (seen_items items.entry) split)) }
 {
     match items {
-        Items::Numbers(list) => number_lines(alloc, f, shape, list.as_slice(), split),
-        Items::Chars(list) => {
+        ItemsRef::Numbers(list) => number_lines(alloc, f, shape, list, split),
+        ItemsRef::Chars(list) => {
             if split.along == 1 {
-                Ok(Array::shaped(shape, Items::Chars(list.copy(alloc)?)))
+                Ok(Array::shaped(alloc, shape, Items::Chars(List::of(alloc, list)?))?)
             } else {
-                char_lines(alloc, f, shape, list.as_slice(), split)
+                char_lines(alloc, f, shape, list, split)
             }
         }
     }

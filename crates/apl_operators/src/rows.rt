@@ -10,8 +10,8 @@ use apl_items::{by_rows, lacks_by_rows};
 use std::alloc::Global;
 
 /// The array of the numbers that a rule gives in each place of each row. DOMAIN where it gives none, also where there is no
-/// memory, else WS FULL where the array would be too large, for which it asks the rule and stores no item. It asks once for
-/// memory.
+/// memory, else WS FULL where the array would be too large, for which it asks the rule and stores no item. It takes memory
+/// for the items, and then for the array.
 pub(crate) fn numbers_by_rows<F: Fn(usize, usize) -> Option<i64>>(
     alloc: Global,
     shape: &[u32],
@@ -27,7 +27,7 @@ pub(crate) fn numbers_by_rows<F: Fn(usize, usize) -> Option<i64>>(
 {
     if shape_fault(shape).is_none() {
         let items = by_rows(alloc, rows, columns, rule)?;
-        Ok(Array::shaped(shape, Items::Numbers(NumberList::from(items))))
+        Ok(Array::shaped(alloc, shape, Items::Numbers(NumberList::from(items)))?)
     } else if lacks_by_rows(rows, columns, rule) {
         Err(Fail::Report(Report::Domain))
     } else {

@@ -12,7 +12,7 @@ use crate::lines::{LineAt, front_of_line, last_front};
 use crate::parts::by_parts;
 use crate::running::{running, runs};
 use crate::sums::{are_small, small_sums};
-use apl_arrays::{Array, Dyad, Fail, Items, List, NumberList, Report, WantOfMemory, Way};
+use apl_arrays::{Array, Dyad, Fail, Items, ItemsRef, List, NumberList, Report, WantOfMemory, Way};
 use apl_items::{Split, axis_of, lacks_axis, lacks_by_rows, room_for};
 use apl_scalar::dyadic_table;
 use std::alloc::Global;
@@ -54,11 +54,11 @@ fn scanned(alloc: Global, f: Dyad, b: &Array, axis: usize) -> Result<Array, Fail
 {
     let split = Split::at(b.shape(), axis);
     match b.items() {
-        Items::Numbers(list) => {
-            let items = fronts(alloc, f, list.as_slice(), split)?;
-            Ok(Array::shaped(b.shape(), Items::Numbers(NumberList::from(items))))
+        ItemsRef::Numbers(list) => {
+            let items = fronts(alloc, f, list, split)?;
+            Ok(Array::shaped(alloc, b.shape(), Items::Numbers(NumberList::from(items)))?)
         }
-        Items::Chars(_) => {
+        ItemsRef::Chars(_) => {
             if split.along == 1 {
                 Ok(b.copy(alloc)?)
             } else {

@@ -2,7 +2,8 @@ ghost use Rattle.std.specs.Prelude.{◌≡◌, ◌<◌};
 
 use crate::{Steps, apply};
 use apl_arrays::{
-    Array, Dyad, Fail, Items, List, Mix1, Mix2, Monad, NumberList, Report, Verb, WantOfMemory, Way,
+    Array, ArrayRefused, Dyad, Fail, Items, List, Mix1, Mix2, Monad, NumberList, Report, Verb,
+    WantOfMemory, Way,
 };
 use std::alloc::Global;
 use std::marker::Brand;
@@ -82,5 +83,8 @@ fn array(
     numbers: &[i64],
 ) -> Result<Array, WantOfMemory> {
     let items = List::from(Vec::from_slice(alloc, numbers)?);
-    Ok(Array::try_new(shape, Items::Numbers(NumberList::from(items))).expect(rt, "an array"))
+    match Array::try_new(alloc, shape, Items::Numbers(NumberList::from(items))) {
+        Err(ArrayRefused::WantOfMemory) => Err(WantOfMemory),
+        made => Ok(made.expect(rt, "an array")),
+    }
 }

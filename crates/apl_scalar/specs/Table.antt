@@ -5,8 +5,8 @@ use Rattle.apl_arrays.specs.declared.verb.Monad.{Monad}
 use Rattle.apl_arrays.specs.declared.verb.Monad.TheVariants.{Identity, Ceiling, Floor, Negative, Sign, Magnitude, Reciprocal, Factorial, Not}
 use Rattle.apl_arrays.specs.declared.verb.Dyad.{Dyad}
 use Rattle.apl_arrays.specs.declared.verb.Dyad.TheVariants.{Plus, Minus, Times, Divide, Maximum, Minimum, Residue, Power, Binomial, And, Or, Nand, Nor, Less, NotGreater, Equal, NotLess, Greater, NotEqual}
-use Rattle.apl_arrays.specs.declared.array.Item.{Item}
-use Rattle.apl_arrays.specs.declared.array.Item.TheVariants.{Number, Char}
+use Rattle.apl_arrays.specs.declared.items.Item.{Item}
+use Rattle.apl_arrays.specs.declared.items.Item.TheVariants.{Number, Char}
 use Rattle.apl_arrays.specs.Number.{fits, is_one}
 use Rattle.apl_scalar.specs.Counting.{factorial, ways, residue}
 

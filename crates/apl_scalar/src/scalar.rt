@@ -1,5 +1,5 @@
 ghost use Rattle.std.specs.Prelude.{◌≡◌, ◌==◌, Bool, Option, ℤ, IsOk, length, true, false, not, if◌then◌else◌};
-ghost use Rattle.apl_arrays.specs.Array.{is_chars, item_count, numbers, numbers_in, plain_items};
+ghost use Rattle.apl_arrays.specs.Array.{seen_items, is_chars, item_count, numbers, numbers_in};
 ghost use Rattle.apl_items.specs.Answers.{Answers, first_report, no_faults};
 ghost use Rattle.apl_items.specs.Extension.{Reaches, char_at, leader, ranks_differ, shapes_differ};
 ghost use Rattle.apl_items.specs.Places.{HasItems, MakesItems, OnWantOfMemory};
@@ -8,7 +8,7 @@ ghost use Rattle.apl_scalar.specs.Table.{item_of_chars, takes_chars};
 
 use crate::rules;
 use crate::table::{character_of, dyadic_items, monadic_items};
-use apl_arrays::{Array, Dyad, Fail, Glyph, Items, List, Monad, NumberList, Report};
+use apl_arrays::{Array, Dyad, Fail, Glyph, Items, ItemsRef, List, Monad, NumberList, Report};
 use apl_items::{by_place, glyph_pairs, leader, ranks_differ, shapes_differ};
 use std::alloc::Global;
 
@@ -33,19 +33,19 @@ fn each_number(alloc: Global, f: Monad, b: &Array) -> Result<Array, Fail>
     ensures memory { OnWantOfMemory result (IsOk (monadic_of f b.now)) }
 {
     let items = own_items(alloc, f, b.items().len(), b.items())?;
-    Ok(Array::shaped(b.shape(), Items::Numbers(NumberList::from(items))))
+    Ok(Array::shaped(alloc, b.shape(), Items::Numbers(NumberList::from(items)))?)
 }
 
 /// A monadic function of the number for each place.
-fn own_items(alloc: Global, f: Monad, count: usize, b: &Items) -> Result<List<i64>, Fail>
-    requires kind { is_chars (plain_items b.now) ≡ false }
-    requires reaches { Reaches (item_count (plain_items b.now)) count }
-    ensures made { MakesItems result count (monadic_at f (numbers_in (plain_items b.now))) }
-    ensures memory { OnWantOfMemory result (HasItems count (monadic_at f (numbers_in (plain_items b.now)))) }
+fn own_items(alloc: Global, f: Monad, count: usize, b: ItemsRef<'_>) -> Result<List<i64>, Fail>
+    requires kind { is_chars (seen_items b) ≡ false }
+    requires reaches { Reaches (item_count (seen_items b)) count }
+    ensures made { MakesItems result count (monadic_at f (numbers_in (seen_items b.entry))) }
+    ensures memory { OnWantOfMemory result (HasItems count (monadic_at f (numbers_in (seen_items b.entry)))) }
 {
     match b {
-        Items::Numbers(b) => monadic_items(alloc, f, count, b.as_slice()),
-        Items::Chars(_) => unreachable!(),
+        ItemsRef::Numbers(b) => monadic_items(alloc, f, count, b),
+        ItemsRef::Chars(_) => unreachable!(),
     }
 }
 
@@ -89,32 +89,30 @@ fn item_by_item(alloc: Global, f: Dyad, a: &Array, b: &Array) -> Result<Array, F
 {
     let shaped = leader(a, b);
     let items = pair_items(alloc, f, shaped.items().len(), a.items(), b.items())?;
-    Ok(Array::shaped(shaped.shape(), Items::Numbers(NumberList::from(items))))
+    Ok(Array::shaped(
+        alloc,
+        shaped.shape(),
+        Items::Numbers(NumberList::from(items)),
+    )?)
 }
 
 /// A dyadic function of the pair of items for each place.
-fn pair_items(alloc: Global, f: Dyad, count: usize, a: &Items, b: &Items) -> Result<List<i64>, Fail>
-    requires kind { is_unfit f (plain_items a.now) (plain_items b.now) ≡ false }
-    requires a_reaches { Reaches (item_count (plain_items a.now)) count }
-    requires b_reaches { Reaches (item_count (plain_items b.now)) count }
-    ensures made { MakesItems result count (dyadic_at f (plain_items a.now) (plain_items b.now)) }
-    ensures memory { OnWantOfMemory result (HasItems count (dyadic_at f (plain_items a.now) (plain_items b.now))) }
+fn pair_items(
+    alloc: Global,
+    f: Dyad,
+    count: usize,
+    a: ItemsRef<'_>,
+    b: ItemsRef<'_>,
+) -> Result<List<i64>, Fail>
+    requires kind { is_unfit f (seen_items a) (seen_items b) ≡ false }
+    requires a_reaches { Reaches (item_count (seen_items a)) count }
+    requires b_reaches { Reaches (item_count (seen_items b)) count }
+    ensures made { MakesItems result count (dyadic_at f (seen_items a.entry) (seen_items b.entry)) }
+    ensures memory { OnWantOfMemory result (HasItems count (dyadic_at f (seen_items a.entry) (seen_items b.entry))) }
 {
     match (a, b) {
-        (Items::Numbers(a), Items::Numbers(b)) => dyadic_items(
-            alloc,
-            f,
-            count,
-            a.as_slice(),
-            b.as_slice(),
-        ),
-        (Items::Chars(a), Items::Chars(b)) => glyph_items(
-            alloc,
-            f,
-            count,
-            a.as_slice(),
-            b.as_slice(),
-        ),
+        (ItemsRef::Numbers(a), ItemsRef::Numbers(b)) => dyadic_items(alloc, f, count, a, b),
+        (ItemsRef::Chars(a), ItemsRef::Chars(b)) => glyph_items(alloc, f, count, a, b),
         _ => unlike_items(alloc, f, count),
     }
 }

@@ -1,6 +1,7 @@
 use crate::{dyadic, identity_of, item_of, monadic};
 use apl_arrays::{
-    Array, Dyad, Fail, Glyph, Item, Items, List, Monad, NumberList, Report, WantOfMemory,
+    Array, ArrayRefused, Dyad, Fail, Glyph, Item, Items, List, Monad, NumberList, Report,
+    WantOfMemory,
 };
 use std::alloc::Global;
 use std::process::Abort;
@@ -60,5 +61,8 @@ fn vector(rt: &impl Abort, alloc: Global, numbers: &[i64]) -> Result<Array, Want
         items.push(*number)?;
     }
     let length = u32::try_from(numbers.len()).expect(rt, "a length");
-    Ok(Array::try_new(&[length], Items::Numbers(NumberList::from(items))).expect(rt, "a vector"))
+    match Array::try_new(alloc, &[length], Items::Numbers(NumberList::from(items))) {
+        Err(ArrayRefused::WantOfMemory) => Err(WantOfMemory),
+        made => Ok(made.expect(rt, "an array")),
+    }
 }

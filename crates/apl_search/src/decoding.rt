@@ -11,8 +11,7 @@ use std::alloc::Global;
 
 /// The value of digits by bases: of the first digit, and then always times the next base, plus the next digit. One element
 /// extends, and no digits have the value 0. RANK where an argument is of rank over 1, else LENGTH where there are not as
-/// many digits as bases, else DOMAIN where an argument is of characters or a value leaves 64 bits. Where there is no report
-/// it takes memory for the number.
+/// many digits as bases, else DOMAIN where an argument is of characters or a value leaves 64 bits. No memory.
 pub fn decode(alloc: Global, a: &Array, b: &Array) -> Result<Array, Fail>
     ensures answer { Answers result (decode_of a.now b.now) }
     ensures memory { OnWantOfMemory result (first_report (decode_faults a.now b.now) ≡ None) }

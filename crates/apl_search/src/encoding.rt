@@ -109,7 +109,11 @@ fn encoded(alloc: Global, a: &Array, b: &Array) -> Result<Array, WantOfMemory>
     let numbers = b.items().numbers();
     let digits = digits(alloc, bases, numbers)?;
     let shape = joined_shape(a.shape(), b.shape());
-    Ok(Array::shaped(shape.as_slice(), Items::Numbers(NumberList::from(digits))))
+    Array::shaped(
+        alloc,
+        shape.as_slice(),
+        Items::Numbers(NumberList::from(digits)),
+    )
 }
 
 /// The digits of numbers by bases: those of a number stand in a column, and are put in from the last base to the first.

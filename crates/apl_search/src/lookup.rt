@@ -1,13 +1,13 @@
 ghost use Rattle.std.specs.Prelude.{◌≡◌, ◌+◌, ◌≤◌, pos, IfOk, length, map};
 ghost use Rattle.std.specs.List.{list_any, position_or_len};
-ghost use Rattle.apl_arrays.specs.Array.{item_count, plain_items};
+ghost use Rattle.apl_arrays.specs.Array.{seen_items, item_count};
 ghost use Rattle.apl_items.specs.Answers.{Answers};
 ghost use Rattle.apl_items.specs.Places.{OnWantOfMemory};
 ghost use Rattle.apl_scalar.specs.Table.{truth};
 ghost use Rattle.apl_search.specs.Lookup.{first_places, index_of_of, member_of, memberships};
 
 use crate::index::{first_place, has, index_for};
-use apl_arrays::{Array, Fail, Items, List, NumberList, Report, WantOfMemory};
+use apl_arrays::{Array, Fail, Items, ItemsRef, List, NumberList, Report, WantOfMemory};
 use apl_scalar::rules::truth;
 use std::alloc::Global;
 
@@ -22,27 +22,19 @@ pub fn index_of(alloc: Global, a: &Array, b: &Array) -> Result<Array, Fail>
         return Err(Fail::Report(Report::Rank));
     }
     let places = first_places(alloc, a.items(), b.items())?;
-    Ok(Array::shaped(b.shape(), Items::Numbers(NumberList::from(places))))
+    Ok(Array::shaped(alloc, b.shape(), Items::Numbers(NumberList::from(places)))?)
 }
 
 /// The first place in some items of each of others, from 1; for one that they have not, 1 and their count.
-fn first_places(alloc: Global, a: &Items, b: &Items) -> Result<List<i64>, WantOfMemory>
-    requires { item_count (plain_items a.now) ≤ 16384 }
-    ensures { IfOk result (λ places. places.items ≡ first_places (plain_items a.now) (plain_items b.now)) }
+fn first_places(alloc: Global, a: ItemsRef<'_>, b: ItemsRef<'_>) -> Result<List<i64>, WantOfMemory>
+    requires { item_count (seen_items a) ≤ 16384 }
+    ensures { IfOk result (λ places. places.items ≡ first_places (seen_items a.entry) (seen_items b.entry)) }
 {
     match (a, b) {
-        (Items::Numbers(a), Items::Numbers(b)) => places_of(alloc, a.as_slice(), b.as_slice()),
-        (Items::Chars(a), Items::Chars(b)) => places_of(alloc, a.as_slice(), b.as_slice()),
-        (Items::Numbers(a), Items::Chars(b)) => all_same(
-            alloc,
-            b.as_slice(),
-            place_number(a.as_slice().len()),
-        ),
-        (Items::Chars(a), Items::Numbers(b)) => all_same(
-            alloc,
-            b.as_slice(),
-            place_number(a.as_slice().len()),
-        ),
+        (ItemsRef::Numbers(a), ItemsRef::Numbers(b)) => places_of(alloc, a, b),
+        (ItemsRef::Chars(a), ItemsRef::Chars(b)) => places_of(alloc, a, b),
+        (ItemsRef::Numbers(a), ItemsRef::Chars(b)) => all_same(alloc, b, place_number(a.len())),
+        (ItemsRef::Chars(a), ItemsRef::Numbers(b)) => all_same(alloc, b, place_number(a.len())),
     }
 }
 
@@ -90,19 +82,19 @@ pub fn member(alloc: Global, a: &Array, b: &Array) -> Result<Array, Fail>
     ensures { Answers result (member_of a.now b.now) }
 {
     let members = memberships(alloc, a.items(), b.items())?;
-    Ok(Array::shaped(a.shape(), Items::Numbers(NumberList::from(members))))
+    Ok(Array::shaped(alloc, a.shape(), Items::Numbers(NumberList::from(members)))?)
 }
 
 /// 1 for each of some items that others have, 0 for each other.
-fn memberships(alloc: Global, a: &Items, b: &Items) -> Result<List<i64>, WantOfMemory>
-    requires { item_count (plain_items b.now) ≤ 16384 }
-    ensures { IfOk result (λ members. members.items ≡ memberships (plain_items a.now) (plain_items b.now)) }
+fn memberships(alloc: Global, a: ItemsRef<'_>, b: ItemsRef<'_>) -> Result<List<i64>, WantOfMemory>
+    requires { item_count (seen_items b) ≤ 16384 }
+    ensures { IfOk result (λ members. members.items ≡ memberships (seen_items a.entry) (seen_items b.entry)) }
 {
     match (a, b) {
-        (Items::Numbers(a), Items::Numbers(b)) => members_of(alloc, a.as_slice(), b.as_slice()),
-        (Items::Chars(a), Items::Chars(b)) => members_of(alloc, a.as_slice(), b.as_slice()),
-        (Items::Numbers(a), Items::Chars(_)) => all_same(alloc, a.as_slice(), 0),
-        (Items::Chars(a), Items::Numbers(_)) => all_same(alloc, a.as_slice(), 0),
+        (ItemsRef::Numbers(a), ItemsRef::Numbers(b)) => members_of(alloc, a, b),
+        (ItemsRef::Chars(a), ItemsRef::Chars(b)) => members_of(alloc, a, b),
+        (ItemsRef::Numbers(a), ItemsRef::Chars(_)) => all_same(alloc, a, 0),
+        (ItemsRef::Chars(a), ItemsRef::Numbers(_)) => all_same(alloc, a, 0),
     }
 }
 

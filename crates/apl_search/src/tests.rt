@@ -1,5 +1,5 @@
 use crate::{decode, encode, grade_down, grade_up, index_of, member};
-use apl_arrays::{Array, Fail, Items, List, NumberList, Report, WantOfMemory};
+use apl_arrays::{Array, ArrayRefused, Fail, Items, List, NumberList, Report, WantOfMemory};
 use std::alloc::Global;
 use std::process::Abort;
 
@@ -45,5 +45,8 @@ fn digits(rt: &impl Abort, alloc: Global) -> Result<(), Fail> {
 fn vector(rt: &impl Abort, alloc: Global, numbers: &[i64]) -> Result<Array, WantOfMemory> {
     let items = List::from(Vec::from_slice(alloc, numbers)?);
     let length = u32::try_from(numbers.len()).expect(rt, "a length");
-    Ok(Array::try_new(&[length], Items::Numbers(NumberList::from(items))).expect(rt, "a vector"))
+    match Array::try_new(alloc, &[length], Items::Numbers(NumberList::from(items))) {
+        Err(ArrayRefused::WantOfMemory) => Err(WantOfMemory),
+        made => Ok(made.expect(rt, "an array")),
+    }
 }

@@ -1,10 +1,12 @@
 -- Arrays whose items moved.
-use Rattle.std.proofs.Common.{◌≡◌, ℕ, ◌+◌, ◌<◌, pos, List, [], ◌∷◌, map, ◌++◌, Option, Some, length, get_or, refl, sym, ap, ◌∙◌, arith}
+use Rattle.std.proofs.Common.{◌≡◌, ℕ, ◌+◌, ◌<◌, pos, List, [], ◌∷◌, map, ◌++◌, Option, Some, Result, length, get_or, refl, sym, ap, ◌∙◌, arith}
 use Rattle.std.proofs.lemmas.List.FromFn.{get_or-map-range_with_len, length-map-range_with_len, map-range_with_len_more}
 use Rattle.std.proofs.lemmas.Option.{get_or_from_slice_get, slice_get_read}
+use Rattle.std.proofs.lemmas.Result.{IfOk-weaker}
 use Rattle.std.specs.List.{range_with_len, slice_get}
-use Rattle.apl_arrays.specs.declared.array.Item.{Item}
-use Rattle.apl_arrays.specs.declared.array.Item.TheVariants.{Number, Char}
+use Rattle.std.specs.Prelude.{IfOk}
+use Rattle.apl_arrays.specs.declared.items.Item.{Item}
+use Rattle.apl_arrays.specs.declared.items.Item.TheVariants.{Number, Char}
 use Rattle.apl_arrays.specs.Array.{PlainArray, PlainItems, IsArray, IsItemOf, numbers, chars, item_count}
 use Rattle.apl_arrays.specs.Glyph.{blank}
 use Rattle.apl_items.specs.Moves.{item_or, moved_items, moved_list}
@@ -17,6 +19,10 @@ use Rattle.apl_items.proofs.ShapeLemmas.{split_count_lem}
 -- the array of a shape and items
 abbrev pub array_of : List ℕ → PlainItems → PlainArray
 array_of shape items = record { shape = shape; items = items }
+
+-- what is made where there is memory is an equal array too
+pub made_is : {E : Type 0} (result : Result PlainArray E) (told array : PlainArray) → told ≡ array → IfOk result (λ made. made ≡ told) → IfOk result (λ made. made ≡ array)
+made_is result told array same = IfOk-weaker result (λ made. made ≡ told) (λ made. made ≡ array) (λ made is. is ∙ same)
 
 -- as many items as places
 pub count_of_moved : (items : PlainItems) (count : ℕ) (source : ℕ → Option ℕ) → item_count (moved_items items count source) ≡ count

@@ -1,5 +1,5 @@
 use Rattle.std.specs.Prelude.{◌≡◌, ◌-◌, ◌<◌, ◌==◌, ℕ, List, Option, Some, length, slice_index, slice_set, if◌then◌else◌}
-use Rattle.apl_arrays.specs.declared.array.Item.{Item}
+use Rattle.apl_arrays.specs.declared.items.Item.{Item}
 use Rattle.apl_arrays.specs.Array.{PlainArray, IsArray, IsItemOf, element_count}
 use Rattle.apl_items.specs.Axis.{without}
 use Rattle.apl_items.specs.Shapes.{place_of}

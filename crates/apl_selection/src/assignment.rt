@@ -1,6 +1,6 @@
 ghost use Rattle.std.specs.Prelude.{◌≡◌, ◌↔◌, ◌+◌, ◌-◌, ◌*◌, ◌<◌, ◌≤◌, ◌^◌, ◌++◌, ◌==◌, ◌||◌, ◌∷◌, [], ℕ, Some, None, false, IfOk, IsTrue, length, map, pos, slice_index, slice_index_or, unsigned_abs, vec_len, vec_capacity};
 ghost use Rattle.std.specs.List.{flat_map, list_any};
-ghost use Rattle.apl_arrays.specs.Array.{FitsLimits, IsArray, element_count, item_count, numbers_in, plain_items};
+ghost use Rattle.apl_arrays.specs.Array.{FitsLimits, IsArray, element_count, item_count, numbers_in, plain_items, seen_items};
 ghost use Rattle.apl_items.specs.Answers.{Answers, first_report};
 ghost use Rattle.apl_items.specs.Axes.{added, source_by_axes};
 ghost use Rattle.apl_items.specs.Places.{OnWantOfMemory, places};
@@ -13,7 +13,7 @@ use crate::strides::{scaled, stride_in, strides_of};
 use crate::subscripts::{
     Subs, are_of_chars, is_miscounted, named_counts, place_from_0, point_outside, selection_shape,
 };
-use apl_arrays::{Array, Fail, Items, List, NumberList, Report, WantOfMemory};
+use apl_arrays::{Array, Fail, Items, ItemsRef, List, NumberList, Report, WantOfMemory};
 use apl_items::{is_single, room_for};
 use std::alloc::Global;
 
@@ -21,7 +21,7 @@ use std::alloc::Global;
 /// two items come to one place, the last stays. RANK where there are not as many subscripts as axes, where A is a scalar,
 /// or where V has not one element and its rank is not that of the selection, else LENGTH where its shape is not that of
 /// the selection, else DOMAIN where a subscript is of characters or the kinds differ, else INDEX where a number of a
-/// subscript is not from 1 to the length of its axis. Where there is no report it takes memory for strides, for the items,
+/// subscript is not from 1 to the length of its axis. Where there is no report it takes memory for strides, for the result,
 /// and for a place for each item.
 pub fn index_assign(alloc: Global, a: &Array, subs: &Subs, v: &Array) -> Result<Array, Fail>
     ensures answer { Answers result (assign_of a.now subs.now.items v.now) }
@@ -75,12 +75,12 @@ fn overlaid_array(
     let strides = strides_for(alloc, a, subs, v)?;
     let sources = naming(alloc, a.shape(), subs, strides.as_slice())?;
     let items = overlaid(alloc, old, new, sources.as_slice())?;
-    Ok(Array::shaped(a.shape(), items))
+    Array::shaped(alloc, a.shape(), items)
 }
 
 /// Whether there are no items, or none to be put over them.
-fn is_idle(old: &Items, new: &Items) -> bool
-    ensures { result ≡ (item_count (plain_items old.now) == 0 || item_count (plain_items new.now) == 0) }
+fn is_idle(old: ItemsRef<'_>, new: ItemsRef<'_>) -> bool
+    ensures { result ≡ (item_count (seen_items old.entry) == 0 || item_count (seen_items new.entry) == 0) }
 {
     old.len() == 0 || new.len() == 0
 }
@@ -180,12 +180,12 @@ fn all_places(alloc: Global, axis: u32, stride: u16) -> Result<Vec<Option<u32>>,
 fn last_of_numbers(
     alloc: Global,
     axis: u32,
-    items: &Items,
+    items: ItemsRef<'_>,
     stride: u16,
 ) -> Result<Vec<Option<u32>>, WantOfMemory>
-    requires few { item_count (plain_items items.now) ≤ 16384 }
-    requires inside { list_any (is_outside axis) (numbers_in (plain_items items.now)) ≡ false }
-    ensures { IfOk result (λ table. table.items ≡ map (λ along. scaled_place stride (last_place along (map (λ number. unsigned_abs number - 1) (numbers_in (plain_items items.now))))) (places axis)) }
+    requires few { item_count (seen_items items) ≤ 16384 }
+    requires inside { list_any (is_outside axis) (numbers_in (seen_items items)) ≡ false }
+    ensures { IfOk result (λ table. table.items ≡ map (λ along. scaled_place stride (last_place along (map (λ number. unsigned_abs number - 1) (numbers_in (seen_items items.entry))))) (places axis)) }
 {
     let numbers = items.numbers();
     let mut table = nowhere(alloc, axis)?;
@@ -287,20 +287,20 @@ fn together(first: Option<u32>, next: Option<u32>) -> Option<u32>
 /// The items of A with those of V over the ones that are named. It takes memory for them.
 fn overlaid(
     alloc: Global,
-    old: &Items,
-    new: &Items,
+    old: ItemsRef<'_>,
+    new: ItemsRef<'_>,
     sources: &[Option<u32>],
 ) -> Result<Items, WantOfMemory>
-    requires { length sources.now ≡ item_count (plain_items old.now) }
-    ensures { IfOk result (λ made. plain_items made ≡ overlaid (plain_items old.now) (plain_items new.now) (λ place. slice_index_or sources.now place None)) }
+    requires { length sources.now ≡ item_count (seen_items old) }
+    ensures { IfOk result (λ made. plain_items made ≡ overlaid (seen_items old.entry) (seen_items new.entry) (λ place. slice_index_or sources.now place None)) }
 {
     match (old, new) {
-        (Items::Numbers(old), Items::Numbers(new)) => {
-            let made = overlaid_list(alloc, old.as_slice(), new.as_slice(), sources)?;
+        (ItemsRef::Numbers(old), ItemsRef::Numbers(new)) => {
+            let made = overlaid_list(alloc, old, new, sources)?;
             Ok(Items::Numbers(NumberList::from(made)))
         }
-        (Items::Chars(old), Items::Chars(new)) => {
-            let made = overlaid_list(alloc, old.as_slice(), new.as_slice(), sources)?;
+        (ItemsRef::Chars(old), ItemsRef::Chars(new)) => {
+            let made = overlaid_list(alloc, old, new, sources)?;
             Ok(Items::Chars(made))
         }
         _ => old.copy(alloc),

@@ -13,8 +13,8 @@ ghost use Rattle.apl_selection.specs.Listing.{vector_shape};
 use crate::listing::{item_in, vector_shape, with_axis};
 use crate::strides::length_of;
 use apl_arrays::{
-    Array, Fail, Glyph, Items, List, NumberList, Report, WantOfMemory, Way, count_of_elements,
-    shape_fault,
+    Array, Fail, Glyph, Items, ItemsRef, List, NumberList, Report, WantOfMemory, Way,
+    count_of_elements, shape_fault,
 };
 use apl_items::{Split, axis_of, lacks_axis, room_for};
 use std::alloc::Global;
@@ -23,7 +23,7 @@ use std::alloc::Global;
 /// rank is one less than the other's; two scalars give a vector. RANK where the ranks differ by more than 1 or an axis of two
 /// scalars is named, else LENGTH where the other axes differ, else DOMAIN where the kinds differ and neither array is empty,
 /// else INDEX where the axis is not from 1 to the greater rank, else WS FULL. Where there is no report but WS FULL it takes
-/// memory for a shape, and then for the items.
+/// memory for a shape, and then for the result.
 pub fn catenate(alloc: Global, a: &Array, b: &Array, axis: Option<i64>) -> Result<Array, Fail>
     ensures answer { Answers result (catenate_of a.now b.now axis) }
     ensures memory { OnWantOfMemory result (first_report (catenate_faults a.now b.now axis) ≡ None) }
@@ -169,7 +169,7 @@ fn catenated(alloc: Global, a: &Array, b: &Array, axis: Option<i64>) -> Result<A
         return Err(Fail::Report(Report::WsFull));
     }
     let items = catenated_items(alloc, a, b, shape, along)?;
-    Ok(Array::shaped(shape, items))
+    Ok(Array::shaped(alloc, shape, items)?)
 }
 
 /// The shape of a join along an axis.
@@ -233,8 +233,8 @@ fn chars_of(a: &Array) -> &[Glyph]
     ensures { result.now ≡ chars_in a.now.items }
 {
     match a.items() {
-        Items::Chars(list) => list.as_slice(),
-        Items::Numbers(_) => &[],
+        ItemsRef::Chars(glyphs) => glyphs,
+        ItemsRef::Numbers(_) => &[],
     }
 }
 

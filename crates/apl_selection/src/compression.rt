@@ -14,7 +14,7 @@ use std::alloc::Global;
 /// the axis, a lone place is for each flag, and a scalar B is a vector of one item. RANK where A is of rank over 1, else
 /// LENGTH where A has not as many flags as the axis has places, else DOMAIN where it holds something else than 0 and 1, else
 /// INDEX where the axis is not from 1 to the rank, else WS FULL. Where there is no report but WS FULL it takes memory for a
-/// list of places and a shape, and then for the items.
+/// list of places and a shape, and then for the result.
 pub fn compress(
     alloc: Global,
     a: &Array,

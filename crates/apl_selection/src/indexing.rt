@@ -18,7 +18,7 @@ use std::alloc::Global;
 /// omitted one selects the whole axis. RANK where there are not as many subscripts as axes, where B is a scalar, or where
 /// the result has over eight axes, else DOMAIN where a subscript is of characters, else INDEX where a number of one is
 /// not from 1 to the length of its axis, else WS FULL where the result is too large. Where there is no report it takes memory
-/// for strides and the items.
+/// for strides and the result.
 pub fn index(alloc: Global, b: &Array, subs: &Subs) -> Result<Array, Fail>
     ensures answer { Answers result (selection_of b.now subs.now.items) }
     ensures memory { OnWantOfMemory result (first_report (index_faults b.now subs.now.items) ≡ None) }
@@ -65,7 +65,7 @@ fn indexed(
     ensures { IfOk result (λ array. array ≡ indexed b.now subs.now) }
 {
     if count_of_elements(shape) == 0 {
-        return Ok(Array::shaped(shape, filled(alloc, b.items(), 0)?));
+        return Array::shaped(alloc, shape, filled(alloc, b.items(), 0)?);
     }
     match lone_array(subs) {
         Some(sub) => pointed(alloc, b, sub, shape),
@@ -92,7 +92,7 @@ fn pointed(alloc: Global, b: &Array, sub: &Array, shape: &[u32]) -> Result<Array
     let numbers = sub.items().numbers();
     let walk = PlaceWalk { numbers, next: 0 };
     let items = moved(alloc, b.items(), numbers.len(), walk)?;
-    Ok(Array::shaped(shape, items))
+    Array::shaped(alloc, shape, items)
 }
 
 /// A walk over the places that numbers name.
@@ -139,7 +139,7 @@ fn indexed_by_axes(
     let lengths = b.shape();
     let picks = Named { lengths, subs };
     let items = picked_items(alloc, b.items(), lengths, counts.as_slice(), &picks)?;
-    Ok(Array::shaped(shape, items))
+    Array::shaped(alloc, shape, items)
 }
 
 /// The places that subscripts name along the axes.

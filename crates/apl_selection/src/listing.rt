@@ -69,7 +69,7 @@ pub(crate) fn with_axis(
 }
 
 /// The items of B at the listed places along an axis, and the fill where none is listed, or WS FULL where they are too many.
-/// It takes memory for a shape and the items.
+/// It takes memory for a shape and the result.
 pub(crate) fn listed_of(
     alloc: Global,
     b: &Array,
@@ -111,7 +111,7 @@ fn listed(
         length: length_of(source, axis),
     };
     let items = moved_along(alloc, b.items(), shape, axis, &rule)?;
-    Ok(Array::shaped(shape, items))
+    Array::shaped(alloc, shape, items)
 }
 
 /// Where the items at listed places come from.

@@ -1,11 +1,11 @@
 ghost use Rattle.std.specs.Prelude.{◌≡◌, ◌<◌, ℕ, Option, None, IfOk, length};
-ghost use Rattle.apl_arrays.specs.Array.{FitsLimits, element_count, item_count, plain_items};
+ghost use Rattle.apl_arrays.specs.Array.{FitsLimits, element_count, item_count, plain_items, seen_items};
 ghost use Rattle.apl_items.specs.Axes.{source_by_axes};
 ghost use Rattle.apl_items.specs.Moves.{moved_items};
 ghost use Rattle.apl_selection.specs.Picks.{PicksWithin, picked, strided};
 
 use crate::strides::{scaled, stride_in, strides_of};
-use apl_arrays::{Array, Items, WantOfMemory, count_of_elements};
+use apl_arrays::{Array, Items, ItemsRef, WantOfMemory, count_of_elements};
 use apl_items::{Axes, Walk, moved, moved_by_axes};
 use std::alloc::Global;
 
@@ -20,40 +20,40 @@ pub trait Picks {
         ensures { result ≡ from self.now axis along };
 }
 
-/// The array of a shape whose items are picked from a source along each axis, or filled. It takes memory for the items
+/// The array of a shape whose items are picked from a source along each axis, or filled. It takes memory for the result
 /// and for strides.
 pub fn picked<P: Picks>(
     alloc: Global,
-    items: &Items,
+    items: ItemsRef<'_>,
     source: &[u32],
     shape: &[u32],
     picks: &P,
 ) -> Result<Array, WantOfMemory>
     requires fits { FitsLimits shape.now }
     requires source { FitsLimits source.now }
-    requires whole { element_count source.now ≡ item_count (plain_items items.now) }
+    requires whole { element_count source.now ≡ item_count (seen_items items) }
     requires rank { length source.now ≡ length shape.now }
     requires inside { PicksWithin (P.from picks.now) shape.now source.now }
-    ensures { IfOk result (λ array. array ≡ picked shape.now source.now (plain_items items.now) (P.from picks.now)) }
+    ensures { IfOk result (λ array. array ≡ picked shape.now source.now (seen_items items.entry) (P.from picks.now)) }
 {
     let made = picked_items(alloc, items, source, shape, picks)?;
-    Ok(Array::shaped(shape, made))
+    Array::shaped(alloc, shape, made)
 }
 
 /// The items that are picked from a source along each axis, or filled.
 pub(crate) fn picked_items<P: Picks>(
     alloc: Global,
-    items: &Items,
+    items: ItemsRef<'_>,
     source: &[u32],
     shape: &[u32],
     picks: &P,
 ) -> Result<Items, WantOfMemory>
     requires fits { FitsLimits shape.now }
     requires source { FitsLimits source.now }
-    requires whole { element_count source.now ≡ item_count (plain_items items.now) }
+    requires whole { element_count source.now ≡ item_count (seen_items items) }
     requires rank { length source.now ≡ length shape.now }
     requires inside { PicksWithin (P.from picks.now) shape.now source.now }
-    ensures { IfOk result (λ made. plain_items made ≡ moved_items (plain_items items.now) (element_count shape.now) (source_by_axes shape.now (strided source.now (P.from picks.now)))) }
+    ensures { IfOk result (λ made. plain_items made ≡ moved_items (seen_items items.entry) (element_count shape.now) (source_by_axes shape.now (strided source.now (P.from picks.now)))) }
 {
     if items.is_empty() {
         return filled(alloc, items, count_of_elements(shape));
@@ -88,8 +88,8 @@ impl<P: Picks> Axes for Strided<'_, P> {
 }
 
 /// So many fills, of the kind of these items.
-pub fn filled(alloc: Global, items: &Items, count: usize) -> Result<Items, WantOfMemory>
-    ensures { IfOk result (λ made. plain_items made ≡ moved_items (plain_items items.now) count (λ _. None)) }
+pub fn filled(alloc: Global, items: ItemsRef<'_>, count: usize) -> Result<Items, WantOfMemory>
+    ensures { IfOk result (λ made. plain_items made ≡ moved_items (seen_items items.entry) count (λ _. None)) }
 {
     moved(alloc, items, count, Nowhere { left: count })
 }

@@ -1,10 +1,10 @@
 ghost use Rattle.std.specs.Prelude.{◌≡◌, ◌-◌, ◌≤◌, false, IfOk, length, unsigned_abs};
 ghost use Rattle.std.specs.List.{list_any};
 ghost use Rattle.apl_arrays.specs.Limits.{most_axes};
-ghost use Rattle.apl_arrays.specs.Array.{element_count, item_count, numbers_in, plain_items};
+ghost use Rattle.apl_arrays.specs.Array.{element_count, item_count, numbers_in, seen_items};
 ghost use Rattle.apl_selection.specs.Subscripts.{axes_by, is_miscounted, is_of_chars, is_outside, named_by, named_counts, point_outside, points_outside, selection_shape};
 
-use apl_arrays::{Array, Items, List, WantOfMemory};
+use apl_arrays::{Array, ItemsRef, List, WantOfMemory};
 use arrayvec::ArrayVec;
 use std::alloc::Global;
 use std::slice;
@@ -131,13 +131,13 @@ fn named_count(axis: u32, sub: &Option<Array>) -> u32
 }
 
 /// How many numbers there are, none where the items are characters.
-fn count_of_numbers(items: &Items) -> u32
-    requires { item_count (plain_items items.now) ≤ 16384 }
-    ensures { result ≡ length (numbers_in (plain_items items.now)) }
+fn count_of_numbers(items: ItemsRef<'_>) -> u32
+    requires { item_count (seen_items items) ≤ 16384 }
+    ensures { result ≡ length (numbers_in (seen_items items.entry)) }
 {
     match items {
-        Items::Numbers(list) => list.as_slice().len() as u32,
-        Items::Chars(_) => 0,
+        ItemsRef::Numbers(numbers) => numbers.len() as u32,
+        ItemsRef::Chars(_) => 0,
     }
 }
 

@@ -1,6 +1,6 @@
 -- Each item of a transpose by axes stands where the axes say.
 use Rattle.std.proofs.Common.{◌≡◌, ℕ, List, Option, Some, None, Ok, ap, subst}
-use Rattle.apl_arrays.specs.declared.array.Item.{Item}
+use Rattle.apl_arrays.specs.declared.items.Item.{Item}
 use Rattle.apl_arrays.specs.declared.report.Report.{Report}
 use Rattle.apl_arrays.specs.Array.{PlainArray, IsItemOf, element_count, numbers_in}
 use Rattle.apl_items.specs.Answers.{unless}

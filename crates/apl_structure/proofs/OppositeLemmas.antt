@@ -4,7 +4,7 @@ use Rattle.std.proofs.lemmas.List.{get_or-reverse, length-reverse, reverse-appen
 use Rattle.std.proofs.lemmas.List.Elements.{All-from_get_or}
 use Rattle.std.proofs.lemmas.Nat.{row_fits}
 use Rattle.std.proofs.Math.Nat.{mul_comm}
-use Rattle.apl_arrays.specs.Array.{PlainArray, PlainItems, FitsLimits, IsArray, element_count, item_count}
+use Rattle.apl_arrays.specs.Array.{PlainArray, PlainItems, FitsLimits, IsArray, numbers, chars, element_count, item_count}
 use Rattle.apl_items.specs.Axes.{added, offset_at, source_by_axes}
 use Rattle.apl_items.specs.Moves.{moved, moved_items}
 use Rattle.apl_items.specs.Shapes.{coordinates_of, stride_of}
@@ -112,4 +112,20 @@ transposed_is b shape strides items made e whole each same is =
     let listed = source_by_axes shape (λ axis along. Some (along * get_or strides (length strides - 1 - axis) 0)) in
     let source = source_by_axes shape (opposite_offset b.shape) in
     ap (array_of shape) (is ∙ ap (λ (xs : PlainItems). moved_items xs (element_count shape) listed) same ∙ same_moved b.items (element_count shape) listed source (transposed_same b shape strides e whole each))
+    ∙ ap (λ (axes : List ℕ). moved axes b.items (source_by_axes axes (opposite_offset b.shape))) e
+
+-- nothing that moves is nothing
+none_moved : (items : PlainItems) (source : ℕ → Option ℕ) → item_count items ≡ 0 → items ≡ moved_items items 0 source
+none_moved (numbers []) source none = refl
+none_moved (numbers (first ∷ rest)) source none = absurd (cc)
+none_moved (chars []) source none = refl
+none_moved (chars (first ∷ rest)) source none = absurd (cc)
+
+-- the transpose of an array without items has none
+pub nothing_transposed : (b : PlainArray) (shape : List ℕ) (made : PlainItems) → IsArray b → shape ≡ reverse b.shape → item_count b.items ≡ 0 → made ≡ b.items
+    → array_of shape made ≡ transposed b
+nothing_transposed b shape made array e none is =
+    let source = source_by_axes shape (opposite_offset b.shape) in
+    let count = count_transposed b shape array e ∙ none in
+    ap (array_of shape) (is ∙ none_moved b.items source none ∙ ap (λ (n : ℕ). moved_items b.items n source) (sym count))
     ∙ ap (λ (axes : List ℕ). moved axes b.items (source_by_axes axes (opposite_offset b.shape))) e

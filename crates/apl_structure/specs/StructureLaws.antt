@@ -1,7 +1,7 @@
 use Rattle.std.specs.Prelude.{◌≡◌, ◌+◌, ◌-◌, ◌++◌, ◌<◌, ℕ, ℤ, true, false, pos, neg_ℤ, List, length, map, take, drop, replicate, slice_index, unsigned_abs}
 use Rattle.std.specs.Int.{is_negative}
-use Rattle.apl_arrays.specs.declared.array.Item.{Item}
-use Rattle.apl_arrays.specs.declared.array.Item.TheVariants.{Number, Char}
+use Rattle.apl_arrays.specs.declared.items.Item.{Item}
+use Rattle.apl_arrays.specs.declared.items.Item.TheVariants.{Number, Char}
 use Rattle.apl_arrays.specs.Array.{PlainArray, PlainItems, numbers, chars, number_array, numbers_in}
 use Rattle.apl_arrays.specs.Glyph.{blank}
 use Rattle.apl_structure.specs.Taking.{number_for}

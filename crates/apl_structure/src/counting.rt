@@ -5,13 +5,15 @@ ghost use Rattle.apl_items.specs.Extension.{number_at};
 ghost use Rattle.apl_items.specs.Places.{OnWantOfMemory, places};
 ghost use Rattle.apl_structure.specs.Counting.{iota_faults, iota_of, lone_number};
 
-use apl_arrays::{Array, ELEMENT_LIMIT, Fail, Items, List, NumberList, Report, WantOfMemory};
+use apl_arrays::{
+    Array, ELEMENT_LIMIT, Fail, Items, ItemsRef, List, NumberList, Report, WantOfMemory,
+};
 use apl_items::is_single;
 use std::alloc::Global;
 
 /// The numbers from 1 to the number of an array. RANK where the array is of rank over 1, else LENGTH where it has not
 /// one element, else DOMAIN where it is a character or negative, else WS FULL where it is over 16,384. Where there is no
-/// report it takes memory for the numbers.
+/// report it takes memory for the result.
 pub fn iota(alloc: Global, b: &Array) -> Result<Array, Fail>
     ensures answer { Answers result (iota_of b.now) }
     ensures memory { OnWantOfMemory result (first_report (iota_faults b.now) ≡ None) }
@@ -21,7 +23,11 @@ pub fn iota(alloc: Global, b: &Array) -> Result<Array, Fail>
         None => {
             let count = lone_number(b).unsigned_abs() as usize;
             let numbers = first_numbers(alloc, count)?;
-            Ok(Array::shaped(&[count as u32], Items::Numbers(NumberList::from(numbers))))
+            Ok(Array::shaped(
+                alloc,
+                &[count as u32],
+                Items::Numbers(NumberList::from(numbers)),
+            )?)
         }
     }
 }
@@ -48,8 +54,8 @@ fn lone_number(b: &Array) -> i64
     ensures { result ≡ lone_number b.now }
 {
     match b.items() {
-        Items::Numbers(list) => first_or_0(list.as_slice()),
-        Items::Chars(_) => 0,
+        ItemsRef::Numbers(numbers) => first_or_0(numbers),
+        ItemsRef::Chars(_) => 0,
     }
 }
 

@@ -13,7 +13,7 @@ use std::alloc::Global;
 
 /// B with its axes where A puts them; axes that come to one place run on together up to the shortest. RANK where A is of
 /// rank over 1, else LENGTH where it has not one number for each axis of B, else DOMAIN where these do not name the axes
-/// of the result, without a gap. Where there is no report it takes memory for a shape, for strides and for the items.
+/// of the result, without a gap. Where there is no report it takes memory for a shape, for strides and for the result.
 pub fn transpose_by(alloc: Global, a: &Array, b: &Array) -> Result<Array, Fail>
     ensures answer { Answers result (transpose_by_of a.now b.now) }
     ensures memory { OnWantOfMemory result (first_report (axes_by_faults a.now b.now) ≡ None) }
@@ -134,14 +134,14 @@ fn moved_by(alloc: Global, numbers: &[i64], b: &Array, shape: &[u32]) -> Result<
     let count = items.len();
     if count == 0 {
         let none = filled(alloc, items, count_of_elements(shape))?;
-        return Ok(Array::shaped(shape, none));
+        return Array::shaped(alloc, shape, none);
     }
     let strides = strides_of(alloc, b.shape())?;
     let steps = steps_of(alloc, numbers, strides.as_slice(), shape.len())?;
     let axes = AxisSteps {
         steps: steps.as_slice(),
     };
-    Ok(Array::shaped(shape, moved_by_axes(alloc, items, shape, &axes)?))
+    Array::shaped(alloc, shape, moved_by_axes(alloc, items, shape, &axes)?)
 }
 
 /// How far apart neighbours along each axis of the result stand in B.

@@ -18,5 +18,5 @@ pub(crate) fn moved_on<R: Along>(
 {
     let shape = b.shape();
     let items = moved_along(alloc, b.items(), shape, axis, rule)?;
-    Ok(Array::shaped(shape, items))
+    Array::shaped(alloc, shape, items)
 }

@@ -12,9 +12,10 @@ pub fn shape_of(alloc: Global, b: &Array) -> Result<Array, Fail>
     let shape = b.shape();
     let axes = numbers_of(alloc, shape)?;
     Ok(Array::shaped(
+        alloc,
         &[shape.len() as u32],
         Items::Numbers(NumberList::from(axes)),
-    ))
+    )?)
 }
 
 /// The axes of a shape as numbers.
@@ -29,12 +30,12 @@ fn numbers_of(alloc: Global, shape: &[u32]) -> Result<List<i64>, WantOfMemory>
     Ok(numbers)
 }
 
-/// All items of an array, as a vector. It takes memory for them. ISO 8485.
+/// All items of an array, as a vector. It takes memory for it. ISO 8485.
 pub fn ravel(alloc: Global, b: &Array) -> Result<Array, Fail>
     ensures { Answers result (ravel_of b.now) }
 {
     let items = b.items();
     let count = items.len();
     let all = items.copy(alloc)?;
-    Ok(Array::shaped(&[count as u32], all))
+    Ok(Array::shaped(alloc, &[count as u32], all)?)
 }

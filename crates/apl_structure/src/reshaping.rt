@@ -15,7 +15,7 @@ use std::alloc::Global;
 /// An array of the shape A, of B's items, from the first again where they end. RANK where A is of rank over 1 or has
 /// over eight numbers, else DOMAIN where it is of characters, has a negative number, or asks for items where B has
 /// none, else WS FULL where the result is too large. Where there is no report but WS FULL it takes memory for the shape,
-/// and then for the items.
+/// and then for the result.
 pub fn reshape(alloc: Global, a: &Array, b: &Array) -> Result<Array, Fail>
     ensures answer { Answers result (reshape_of a.now b.now) }
     ensures memory { OnWantOfMemory result (first_report (reshape_faults a.now b.now) ≡ None) }
@@ -77,14 +77,14 @@ fn reshaped(alloc: Global, b: &Array, shape: &[u32]) -> Result<Array, WantOfMemo
     let count = count_of_elements(shape);
     let items = b.items();
     if count == 0 {
-        return Ok(Array::shaped(shape, filled(alloc, items, 0)?));
+        return Array::shaped(alloc, shape, filled(alloc, items, 0)?);
     }
     let walk = Cycle {
         at: 0,
         length: items.len(),
         left: count,
     };
-    Ok(Array::shaped(shape, moved(alloc, items, count, walk)?))
+    Array::shaped(alloc, shape, moved(alloc, items, count, walk)?)
 }
 
 /// A walk over the items of a list, over and over.

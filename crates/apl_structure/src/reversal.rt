@@ -10,7 +10,7 @@ use apl_items::{Along, axis_of, lacks_axis};
 use std::alloc::Global;
 
 /// An array with its items in reverse order along an axis, the last or the first where none is named; a scalar is
-/// unchanged. INDEX where the axis is not from 1 to the rank. Where there is no report it takes memory for the items.
+/// unchanged. INDEX where the axis is not from 1 to the rank. Where there is no report it takes memory for the result.
 pub fn reverse(alloc: Global, b: &Array, way: Way, axis: Option<i64>) -> Result<Array, Fail>
     ensures answer { Answers result (reverse_of b.now way axis) }
     ensures memory { OnWantOfMemory result (lacks_axis (length b.now.shape) axis ≡ false) }

@@ -12,7 +12,7 @@ use std::alloc::Global;
 /// An array whose lines along an axis, the last or the first where none is named, are turned: A says how many items go from
 /// the front of a line to its end; a scalar is unchanged. RANK where A has not one element and its rank is not one less
 /// than B's, else LENGTH where its shape is not B's without the axis, else DOMAIN where it is of characters, else INDEX
-/// where the axis is not from 1 to the rank. Where there is no report it takes memory for the items, and for a number for
+/// where the axis is not from 1 to the rank. Where there is no report it takes memory for the result, and for a number for
 /// each line.
 pub fn rotate(
     alloc: Global,

@@ -4,14 +4,14 @@ ghost use Rattle.apl_items.specs.Places.{OnWantOfMemory, places};
 ghost use Rattle.apl_structure.specs.Taking.{axes_faults, axes_for, drop_of, remaining, remaining_from, take_of, taken_from};
 
 use crate::lengths::{capped, pass_limits};
-use apl_arrays::{Array, Fail, Items, RANK_LIMIT, Report, WantOfMemory};
+use apl_arrays::{Array, Fail, RANK_LIMIT, Report, WantOfMemory};
 use apl_selection::{Picks, length_of, picked};
 use std::alloc::Global;
 
 /// Along each axis of B as many items as A says, from its end where that is negative, and the fill beyond them. RANK
 /// where A is of rank over 1 or asks a scalar for over eight axes, else LENGTH where A has not one number for each
 /// axis, else DOMAIN where A is of characters, else WS FULL where the result is too large. Where there is no report but
-/// WS FULL it takes memory for a shape, and then for strides and the items.
+/// WS FULL it takes memory for a shape, and then for strides and the result.
 pub fn take(alloc: Global, a: &Array, b: &Array) -> Result<Array, Fail>
     ensures answer { Answers result (take_of a.now b.now) }
     ensures memory { OnWantOfMemory result (first_report (axes_faults a.now b.now) ≡ None) }
@@ -24,7 +24,7 @@ pub fn take(alloc: Global, a: &Array, b: &Array) -> Result<Array, Fail>
 
 /// Per axis of B the items without the first, as many as A says, or without the last where A is negative. RANK where A
 /// is of rank over 1 or asks a scalar for over eight axes, else LENGTH where A has not one number for each axis, else
-/// DOMAIN where A is of characters. Where there is no report it takes memory for the items, and for a shape and strides.
+/// DOMAIN where A is of characters. Where there is no report it takes memory for the result, and for a shape and strides.
 pub fn drop_items(alloc: Global, a: &Array, b: &Array) -> Result<Array, Fail>
     ensures answer { Answers result (drop_of a.now b.now) }
     ensures memory { OnWantOfMemory result (first_report (axes_faults a.now b.now) ≡ None) }

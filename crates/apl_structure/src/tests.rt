@@ -1,7 +1,7 @@
 use crate::{
     drop_items, iota, ravel, reshape, reverse, rotate, shape_of, take, transpose, transpose_by,
 };
-use apl_arrays::{Array, Fail, Items, List, NumberList, WantOfMemory, Way};
+use apl_arrays::{Array, ArrayRefused, Fail, Items, List, NumberList, WantOfMemory, Way};
 use std::alloc::Global;
 use std::process::Abort;
 
@@ -64,5 +64,8 @@ fn array(
     numbers: &[i64],
 ) -> Result<Array, WantOfMemory> {
     let items = List::from(Vec::from_slice(alloc, numbers)?);
-    Ok(Array::try_new(shape, Items::Numbers(NumberList::from(items))).expect(rt, "an array"))
+    match Array::try_new(alloc, shape, Items::Numbers(NumberList::from(items))) {
+        Err(ArrayRefused::WantOfMemory) => Err(WantOfMemory),
+        made => Ok(made.expect(rt, "an array")),
+    }
 }

@@ -7,7 +7,7 @@ use apl_items::{Axes, moved_by_axes};
 use apl_selection::{scaled, stride_in, strides_of};
 use std::alloc::Global;
 
-/// An array with its axes in reverse order. It takes memory for its shape, for strides and for the items.
+/// An array with its axes in reverse order. It takes memory for its shape, for strides and for the result.
 pub fn transpose(alloc: Global, b: &Array) -> Result<Array, Fail>
     ensures { Answers result (transpose_of b.now) }
 {
@@ -28,13 +28,13 @@ fn transposed(alloc: Global, b: &Array, shape: &[u32]) -> Result<Array, WantOfMe
     ensures { IfOk result (λ array. array ≡ transposed b.now) }
 {
     if b.items().is_empty() {
-        return Ok(Array::shaped(shape, b.items().copy(alloc)?));
+        return Array::shaped(alloc, shape, b.items().copy(alloc)?);
     }
     let strides = strides_of(alloc, b.shape())?;
     let axes = Opposite {
         strides: strides.as_slice(),
     };
-    Ok(Array::shaped(shape, moved_by_axes(alloc, b.items(), shape, &axes)?))
+    Array::shaped(alloc, shape, moved_by_axes(alloc, b.items(), shape, &axes)?)
 }
 
 /// The axes of a transpose, by the strides of its argument.

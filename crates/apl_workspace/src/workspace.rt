@@ -106,7 +106,7 @@ impl Workspace {
         ensures value { IfOk result (λ offers. offers.items ≡ self.now.offers) }
         ensures rules { IsWorkspace self.now }
     {
-        Ok(List::from(Vec::from_slice(self.alloc, &self.offers)?))
+        List::of(self.alloc, &self.offers)
     }
 
     /// What the global name stands for, whatever a frame has under it. No memory.

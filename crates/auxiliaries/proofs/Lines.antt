@@ -1,5 +1,5 @@
 -- The lines of a file, one after another.
-use Rattle.std.proofs.Common.{◌≡◌, ◌≢◌, ◌∙◌, ⊎_elim, ◌<◌, ◌≤◌, ℕ, suc, List, [], ◌∷◌, ◌++◌, cond, length, refl, sym, ap, subst, map, arith, append-nil, zero, All, get_or}
+use Rattle.std.proofs.Common.{◌≡◌, ◌≢◌, ◌∙◌, ⊎_elim, ◌<◌, ◌≤◌, ℕ, suc, List, [], ◌∷◌, ◌++◌, cond, length, refl, sym, ap, subst, map, arith, append-nil, zero, All, drop, get_or}
 use Rattle.std.specs.List.{AllZip}
 use Rattle.std.proofs.lemmas.Bool.Decides.{eqb_tells}
 use Rattle.std.proofs.lemmas.List.Elements.{All-head, All-tail}
@@ -86,8 +86,9 @@ short_lines bytes lines text = each (lines_in bytes) lines text.each
     each (bytes ∷ spelt) (line ∷ lines) zips (suc k) d below = each spelt lines zips.1 k d (omega (arith, below))
 
 -- the lines behind the first are short where all are
-pub short_behind : (line : List ℕ) (lines : List (List ℕ)) → All (λ l. length l ≤ most_file_line_glyphs) (line ∷ lines) → All (λ l. length l ≤ most_file_line_glyphs) lines
-short_behind line lines all k d below = all (suc k) d (omega (arith, below))
+pub short_behind : (lines : List (Listed ℕ)) → All (λ l. length l ≤ most_file_line_glyphs) (map glyphs_in lines) → All (λ l. length l ≤ most_file_line_glyphs) (map glyphs_in (drop 1 lines))
+short_behind [] all k d below = all k d below
+short_behind (line ∷ lines) all k d below = all (suc k) d (omega (arith, below))
 
 -- lines that spell the same bytes are the same
 pub same_lines : ((bytes line other : List ℕ) → Spells bytes line → Spells bytes other → line ≡ other) → (spelt lines other : List (List ℕ)) → AllZip IsFileLine spelt lines → AllZip IsFileLine spelt other → lines ≡ other

@@ -44,18 +44,19 @@ impl Code {
     }
 }
 
-/// A line as an answer. No memory.
-pub(crate) fn line_answer(line: Line) -> Array
-    requires { length line.items ≤ most_file_line_glyphs }
-    ensures { result ≡ vector line.items }
+/// A line as an answer. It takes memory for it.
+pub(crate) fn line_answer(alloc: Global, line: &Line) -> Result<Array, WantOfMemory>
+    requires { length line.now.items ≤ most_file_line_glyphs }
+    ensures { IfOk result (λ answer. answer ≡ vector line.now.items) }
 {
     let length = line.as_slice().len() as u32;
-    Array::shaped(&[length], Items::Chars(line))
+    Array::shaped(alloc, &[length], Items::Chars(line.copy(alloc)?))
 }
 
-/// The answer past the last line. No memory.
-pub(crate) fn no_line(alloc: Global) -> Array
-    ensures { result ≡ no_line }
+/// The answer past the last line. It takes memory.
+pub(crate) fn no_line(alloc: Global) -> Result<Array, WantOfMemory>
+    ensures { IfOk result (λ answer. answer ≡ no_line) }
 {
-    Array::shaped(&[0], Items::Numbers(NumberList::from(List::new(alloc))))
+    let none = NumberList::from(List::new(alloc));
+    Array::shaped(alloc, &[0], Items::Numbers(none))
 }

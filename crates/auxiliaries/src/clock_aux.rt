@@ -2,7 +2,7 @@ ghost use Rattle.std.specs.Prelude.{◌≡◌, ◌≤◌, IfOk, OnErr};
 ghost use Rattle.auxiliaries.specs.Clock.{asks_reading, RepliesByReading};
 
 use crate::Replier;
-use apl_arrays::{Array, Items, WantOfMemory};
+use apl_arrays::{Array, ItemsRef, WantOfMemory};
 use apl_io::Clock;
 use std::marker::Model;
 
@@ -61,8 +61,8 @@ fn asks_reading(value: &Array) -> bool
     ensures { result ≡ asks_reading value.now }
 {
     match value.items() {
-        Items::Numbers(numbers) => value.shape().is_empty() && numbers.as_slice() == [0].as_slice(),
-        Items::Chars(_) => false,
+        ItemsRef::Numbers(numbers) => value.shape().is_empty() && numbers == [0].as_slice(),
+        ItemsRef::Chars(_) => false,
     }
 }
 

@@ -2,7 +2,7 @@ ghost use Rattle.std.specs.Prelude.{◌≡◌, option_copied};
 ghost use Rattle.auxiliaries.specs.Command.{command_of, command_in, bare_command, behind_word};
 ghost use Rattle.auxiliaries.specs.Plain.{plain_command};
 
-use apl_arrays::{Array, Glyph, Items};
+use apl_arrays::{Array, Glyph, ItemsRef};
 
 /// A command of the text auxiliary. A name and a text are what stands behind the word and its blank.
 #[derive(Drop)]
@@ -20,7 +20,7 @@ pub(crate) fn command_of(value: &Array) -> Command<'_>
     ensures { plain_command result ≡ command_of value.now }
 {
     match value.items() {
-        Items::Chars(line) if value.shape().len() == 1 => command_in(line.as_slice()),
+        ItemsRef::Chars(glyphs) if value.shape().len() == 1 => command_in(glyphs),
         _ => Command::Other,
     }
 }

@@ -1,5 +1,5 @@
 use super::*;
-use apl_arrays::{Array, FileList, Items, Line, Readings, WantOfMemory, glyphs_of};
+use apl_arrays::{Array, ArrayRefused, FileList, Items, Line, Readings, WantOfMemory, glyphs_of};
 use apl_io::{CallNumbers, MemoryClock, MemoryText};
 use std::alloc::Global;
 use std::process::Abort;
@@ -7,14 +7,20 @@ use std::process::Abort;
 // A command of ASCII glyphs, as a character vector.
 fn command(alloc: Global, text: &str) -> Result<Option<Array>, WantOfMemory> {
     match glyphs_of(alloc, text.as_bytes()) {
-        Ok(line) => Ok(vector(line)),
+        Ok(line) => vector(alloc, line),
         Err(_) => Err(WantOfMemory),
     }
 }
 
-fn vector(line: Line) -> Option<Array> {
-    let length = u32::try_from(line.as_slice().len()).ok()?;
-    Array::try_new(&[length], Items::Chars(line)).ok()
+fn vector(alloc: Global, line: Line) -> Result<Option<Array>, WantOfMemory> {
+    let Ok(length) = u32::try_from(line.as_slice().len()) else {
+        return Ok(None);
+    };
+    match Array::try_new(alloc, &[length], Items::Chars(line)) {
+        Ok(array) => Ok(Some(array)),
+        Err(ArrayRefused::WantOfMemory) => Err(WantOfMemory),
+        Err(_) => Ok(None),
+    }
 }
 
 // The answer at the second attempt, where memory ran out at the first.

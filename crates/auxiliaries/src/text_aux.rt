@@ -122,7 +122,7 @@ impl<T: TextStore> TextAux<T> {
         ensures err { OnErr result (self.new ≡ self.old) }
     {
         match &mut self.state {
-            TextState::Reading(lines) => Ok(next_line(self.alloc, lines)),
+            TextState::Reading(lines) => next_line(self.alloc, lines),
             _ => Code::Refused.answer(self.alloc),
         }
     }
@@ -203,15 +203,18 @@ fn read_result(
 }
 
 // The next of the lines left, or what stands for it past the last.
-fn next_line(alloc: Global, lines: &mut VecDeque<Line>) -> Array
+fn next_line(alloc: Global, lines: &mut VecDeque<Line>) -> Result<Array, WantOfMemory>
     requires { HasShortLines (reading (map glyphs_in lines.old.items)) }
-    ensures answered { step_next (reading (map glyphs_in lines.old.items)) ≡ answers result (reading (map glyphs_in lines.new.items)) }
+    ensures answered { IfOk result (λ answer. step_next (reading (map glyphs_in lines.old.items)) ≡ answers answer (reading (map glyphs_in lines.new.items))) }
     ensures short { HasShortLines (reading (map glyphs_in lines.new.items)) }
+    ensures err { OnErr result (lines.new ≡ lines.old) }
 {
-    match lines.pop_front() {
-        Some(line) => line_answer(line),
-        None => no_line(alloc),
-    }
+    let Some(line) = lines.front() else {
+        return no_line(alloc);
+    };
+    let answer = line_answer(alloc, line)?;
+    lines.pop_front();
+    Ok(answer)
 }
 
 // Adds a line to the bytes of a file, unless that would be too large.

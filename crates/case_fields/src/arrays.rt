@@ -1,6 +1,6 @@
 use crate::{number_of, numbers_of, push_numbers, push_quoted, quoted, unescaped};
 use anyhow::{Context, Result, bail};
-use apl_arrays::{Array, Fail, Items, NumberList, Way, glyphs_of};
+use apl_arrays::{Array, Fail, Items, ItemsRef, NumberList, Way, glyphs_of};
 use std::alloc::{AllocError, Global};
 
 /// The axes that a text names, with blanks between.
@@ -32,7 +32,7 @@ pub fn array_of(alloc: Global, field: &str) -> Result<Array> {
     let (kind, rest) = text.split_once("(").context("no shape")?;
     let (axes, items) = rest.split_once(")").context("no end of a shape")?;
     let items = items_of(alloc, kind, items)?;
-    Ok(Array::try_new(&axes_of(alloc, axes)?, items)?)
+    Ok(Array::try_new(alloc, &axes_of(alloc, axes)?, items)?)
 }
 
 fn push_shape(text: &mut String, shape: &[u32]) -> Result<(), AllocError> {
@@ -45,10 +45,10 @@ fn push_shape(text: &mut String, shape: &[u32]) -> Result<(), AllocError> {
     Ok(())
 }
 
-fn push_items(alloc: Global, text: &mut String, items: &Items) -> Result<()> {
+fn push_items(alloc: Global, text: &mut String, items: ItemsRef<'_>) -> Result<()> {
     match items {
-        Items::Numbers(numbers) => push_numbers(text, numbers.as_slice())?,
-        Items::Chars(line) => push_quoted(alloc, text, line.as_slice())?,
+        ItemsRef::Numbers(numbers) => push_numbers(text, numbers)?,
+        ItemsRef::Chars(line) => push_quoted(alloc, text, line)?,
     }
     Ok(())
 }

@@ -1,13 +1,17 @@
 use crate::arrays::chars_of;
 use crate::{array_of, array_text, number_of, unescaped};
 use anyhow::{Context, Result};
-use apl_arrays::{Array, Items};
+use apl_arrays::{Array, ItemsRef};
 use std::alloc::Global;
 
 fn vector_of(alloc: Global, field: &str) -> Result<Array> {
     let items = chars_of(alloc, unescaped(alloc, field)?.as_str())?;
     let length = u32::try_from(items.len()).ok();
-    Ok(Array::try_new(&[length.context("fewer characters are wanted")?], items)?)
+    Ok(Array::try_new(
+        alloc,
+        &[length.context("fewer characters are wanted")?],
+        items,
+    )?)
 }
 
 /// The value that a field says in short: a character vector in quotes, a number, or any array at length.
@@ -24,7 +28,7 @@ pub fn value_of(alloc: Global, field: &str) -> Result<Array> {
 // Whether the kind and the shape of a value go without saying.
 fn is_short(value: &Array) -> bool {
     match (value.items(), value.shape()) {
-        (Items::Chars(_), [_]) | (Items::Numbers(_), []) => true,
+        (ItemsRef::Chars(_), [_]) | (ItemsRef::Numbers(_), []) => true,
         _ => false,
     }
 }

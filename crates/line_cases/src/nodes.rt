@@ -14,7 +14,7 @@ fn push_constant(alloc: Global, text: &mut String, items: &Items) -> Result<()> 
     } else {
         vector.as_slice()
     };
-    let array = Array::try_new(shape, items.copy(alloc)?)?;
+    let array = Array::try_new(alloc, shape, items.copy(alloc)?)?;
     text.push_str(array_text(alloc, &array)?.as_str())?;
     Ok(())
 }

@@ -79,7 +79,7 @@ fn zeros(alloc: Global, count: u32) -> Result<Array> {
     for _made in 0..count {
         numbers.push(0)?;
     }
-    Ok(Array::try_new(&[count], Items::Numbers(NumberList::from(numbers)))?)
+    Ok(Array::try_new(alloc, &[count], Items::Numbers(NumberList::from(numbers)))?)
 }
 
 // A user sets a name to 16,384 zeros, so many times.

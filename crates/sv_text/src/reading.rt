@@ -83,7 +83,8 @@ fn read_number_array(alloc: Global, cursor: &mut Cursor<'_>) -> Result<Array, Un
     cursor.text(b"N(")?;
     let shape = read_shape(alloc, cursor)?;
     let numbers = read_numbers(alloc, cursor, count_of_elements(shape.as_slice()))?;
-    Ok(Array::shaped(shape.as_slice(), Items::Numbers(NumberList::from(numbers))))
+    let items = Items::Numbers(NumberList::from(numbers));
+    Ok(Array::shaped(alloc, shape.as_slice(), items)?)
 }
 
 // Reads an array of characters.
@@ -94,5 +95,5 @@ fn read_char_array(alloc: Global, cursor: &mut Cursor<'_>) -> Result<Array, Unre
     cursor.text(b"C(")?;
     let shape = read_shape(alloc, cursor)?;
     let chars = read_quoted(alloc, cursor, count_of_elements(shape.as_slice()))?;
-    Ok(Array::shaped(shape.as_slice(), Items::Chars(chars)))
+    Ok(Array::shaped(alloc, shape.as_slice(), Items::Chars(chars))?)
 }

@@ -1,11 +1,11 @@
 ghost use Rattle.std.specs.Prelude.{◌≡◌, All, IfOk, IfSome, ◌∷◌, [], ◌++◌, OnOk, length};
 ghost use Rattle.std.specs.List.{flat_map};
-ghost use Rattle.apl_arrays.specs.Array.{PlainArray, plain_items};
+ghost use Rattle.apl_arrays.specs.Array.{seen_items, PlainArray};
 ghost use Rattle.apl_arrays.specs.Glyph.{IsGlyph};
 ghost use Rattle.sv_text.specs.Printable.{ArePrintableItems, IsPrintableArray};
 ghost use Rattle.sv_text.specs.ValueText.{char_text, kind_text, items_text, array_text, value_text};
 
-use apl_arrays::{Array, Glyph, Items, Line, List, WantOfMemory};
+use apl_arrays::{Array, Glyph, ItemsRef, Line, List, WantOfMemory};
 use line_text::{add_counts, add_numbers, add_text};
 use std::alloc::Global;
 
@@ -32,26 +32,26 @@ fn add_chars(line: &mut Line, glyphs: &[Glyph]) -> Result<(), WantOfMemory>
 }
 
 // Adds the letter of the kind.
-fn add_kind(line: &mut Line, items: &Items) -> Result<(), WantOfMemory>
-    ensures { OnOk result (line.new.items ≡ line.old.items ++ kind_text (plain_items items.now)) }
+fn add_kind(line: &mut Line, items: ItemsRef<'_>) -> Result<(), WantOfMemory>
+    ensures { OnOk result (line.new.items ≡ line.old.items ++ kind_text (seen_items items.entry)) }
 {
     match items {
-        Items::Numbers(_) => add_text(line, "N"),
-        Items::Chars(_) => add_text(line, "C"),
+        ItemsRef::Numbers(_) => add_text(line, "N"),
+        ItemsRef::Chars(_) => add_text(line, "C"),
     }
 }
 
 // Adds the items.
-fn add_items(line: &mut Line, items: &Items) -> Result<(), WantOfMemory>
+fn add_items(line: &mut Line, items: ItemsRef<'_>) -> Result<(), WantOfMemory>
     ensures text { OnOk result (line.new.items
-        ≡ line.old.items ++ items_text (plain_items items.now)) }
-    ensures printable { OnOk result (ArePrintableItems (plain_items items.now)) }
+        ≡ line.old.items ++ items_text (seen_items items.entry)) }
+    ensures printable { OnOk result (ArePrintableItems (seen_items items.entry)) }
 {
     match items {
-        Items::Numbers(list) => add_numbers(line, list.as_slice()),
-        Items::Chars(list) => {
+        ItemsRef::Numbers(numbers) => add_numbers(line, numbers),
+        ItemsRef::Chars(glyphs) => {
             add_text(line, "'")?;
-            add_chars(line, list.as_slice())?;
+            add_chars(line, glyphs)?;
             add_text(line, "'")
         }
     }

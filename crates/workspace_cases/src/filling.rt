@@ -15,7 +15,7 @@ fn zeros(alloc: Global, count: usize) -> Result<Array> {
         items.push(0)?;
     }
     let length = u32::try_from(count)?;
-    Ok(Array::try_new(&[length], Items::Numbers(NumberList::from(items)))?)
+    Ok(Array::try_new(alloc, &[length], Items::Numbers(NumberList::from(items)))?)
 }
 
 // Assigns zeros to the name W with a number.

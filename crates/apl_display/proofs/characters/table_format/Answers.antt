@@ -66,7 +66,7 @@ returns-clause-value c =
     } in
     let width = c.line_width-width.ensures ∙ ap (λ (ws : List ℕ). min (length ws - 1 + sum ws) (2 ^ 64 - 1)) c.deref.ensures.value in
     let text = c.in_ok-text.ensures ∙ ap (λ (ws : List ℕ). text_of c.args.list.now c.extent_of-extent.result ws) c.deref-2.ensures.value in
-    c.in_rows.ensures ∙ result_is c.line_width-width.result c.saturating_mul.result c.in_ok-text.text.items m width c.saturating_mul.ensures c.if-saturating_mul-gt-ELEMENT_LIMIT.false text
+    c.in_ok-in_rows.ensures ∙ result_is c.line_width-width.result c.saturating_mul.result c.in_ok-text.text.items m width c.saturating_mul.ensures c.if-saturating_mul-gt-ELEMENT_LIMIT.false text
 
 pub returns-clause-fits : goal.returns-clause-fits
 returns-clause-fits c =

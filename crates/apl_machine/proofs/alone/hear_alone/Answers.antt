@@ -18,5 +18,5 @@ returns-in_ok-copy-in-Set-clause-led c =
     led_as c.renew.result c.args.workspace.now c.renew.new.workspace before before (answer_outcome c.args.act.now answer) (with_copy c.in-Set.name c.in_ok-copy-in-Set.field-0) (λ s at.
     ap (λ (asked : Act). answer_outcome asked answer s) c.in-Set.is
     ∙ told_on (act.Set c.in-Set.name c.in-Set.value) answer s (ap (λ (row : AnswerRow). report_of_kind row.kind) (sym c.row.ensures) ∙ sym c.report_of.ensures ∙ c.in_default.is)
-    ∙ ap (λ (value : PlainArray). with_copy c.in-Set.name value s) (sym c.in_ok-copy-in-Set.ensures))
+    ∙ ap (λ (value : PlainArray). with_copy c.in-Set.name value s) (sym c.in_ok-copy-in-Set.ensures.array))
     (c.renew.ensures.led before)

@@ -1,5 +1,5 @@
 use Rattle.std.proofs.Common.{◌≡◌, ◌*◌, ◌<◌, ◌∙◌, List, ℕ, drop, sym, ap, subst, arith}
-use Rattle.apl_arrays.specs.Array.{FitsLimits, element_count, item_count, plain_items}
+use Rattle.apl_arrays.specs.Array.{FitsLimits, element_count, item_count, seen_items}
 use Rattle.apl_items.specs.Extension.{place_in}
 use Rattle.apl_operators.specs.Inner.{front, paired}
 use Rattle.apl_operators.proofs.ExtentLemmas.{axes_small, fit_arrays, front_fits, paired_small, product_count, reaches_columns, reaches_rows, rest_fits}
@@ -43,7 +43,7 @@ products_of_items-requires-clause-in_a c place below =
     let rows : c.count_of_elements.result ≡ element_count (front c.args.a.now.shape) = c.count_of_elements.ensures ∙ ap element_count (c.without_last.ensures ∙ ap front c.shape.ensures.value) in
     let total : c.count_of_elements.result * c.paired-paired.result ≡ element_count (front c.args.a.now.shape) * paired c.args.a.now c.args.b.now =
     ap (λ (n : ℕ). n * c.paired-paired.result) rows ∙ ap (λ (n : ℕ). element_count (front c.args.a.now.shape) * n) c.paired-paired.ensures in
-    let items : item_count (plain_items c.items.result.now) ≡ item_count c.args.a.now.items = ap item_count c.items.ensures.value in
+    let items : item_count (seen_items c.items.result) ≡ item_count c.args.a.now.items = ap item_count c.items.ensures.value in
     subst (λ (n : ℕ). place_in n place < n) (sym items) (reaches_rows c.args.a.now c.args.b.now c.requires.a fit place (omega (arith, below, total)))
 
 pub products_of_items-requires-clause-in_b : goal.products_of_items-requires-clause-in_b
@@ -52,5 +52,5 @@ products_of_items-requires-clause-in_b c place below =
     let columns : c.count_of_elements-2.result ≡ element_count (drop 1 c.args.b.now.shape) = c.count_of_elements-2.ensures ∙ ap element_count (c.without_first.ensures ∙ ap (λ (s : List ℕ). drop 1 s) c.shape-2.ensures.value) in
     let total : c.paired-paired.result * c.count_of_elements-2.result ≡ paired c.args.a.now c.args.b.now * element_count (drop 1 c.args.b.now.shape) =
     ap (λ (n : ℕ). c.paired-paired.result * n) columns ∙ ap (λ (n : ℕ). n * element_count (drop 1 c.args.b.now.shape)) c.paired-paired.ensures in
-    let items : item_count (plain_items c.items-2.result.now) ≡ item_count c.args.b.now.items = ap item_count c.items-2.ensures.value in
+    let items : item_count (seen_items c.items-2.result) ≡ item_count c.args.b.now.items = ap item_count c.items-2.ensures.value in
     subst (λ (n : ℕ). place_in n place < n) (sym items) (reaches_columns c.args.a.now c.args.b.now c.requires.b fit place (omega (arith, below, total)))

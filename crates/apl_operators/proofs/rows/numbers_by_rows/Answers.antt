@@ -1,12 +1,13 @@
 use Rattle.std.proofs.Common.{◌≡◌, ◌*◌, ◌∙◌, ℤ, List, is_some, Ok, refl, sym, ap}
 use Rattle.std.proofs.lemmas.Result.{err_from_is_err_and}
+use Rattle.apl_arrays.specs.declared.report.Fail.TheVariants as fail
 use Rattle.apl_arrays.specs.Array.{PlainArray, number_array}
 use Rattle.apl_items.specs.Answers.{Answer}
 use Rattle.apl_items.specs.Places.{AtPlace}
 use Rattle.apl_items.proofs.PlaceLemmas.{nothing_lacks_at, something_lacks}
 use Rattle.apl_scalar.proofs.MemoryLemmas.{has_as_told}
 use Rattle.apl_operators.specs.Gathering.{numbers_answer}
-use Rattle.apl_operators.proofs.NumberLemmas.{answers_through, lacking_of_many, none_is, none_lacking_of_many, numbers_made, refused_by_place}
+use Rattle.apl_operators.proofs.NumberLemmas.{answers_through, given_there, lacking_of_many, none_is, none_lacking_of_many, numbers_made, out_of_memory, refused_by_place}
 use Rattle.apl_operators.proofs.RowLemmas.{lacks_as_told}
 use Rattle.apl_operators.proofs.rows.numbers_by_rows.Goals as goal
 use Rattle.apl_operators.proofs.rows.numbers_by_rows.Given as given
@@ -18,12 +19,21 @@ returns-in_err-items g c item follows =
     let same : p.0 ≡ c.in_err-items.field-0.0 = cc p.2 in
     answers_through c.from_residual.result c.in_err-items.field-0.0 p.0 (numbers_answer c.args.shape.now item) p.1 same rest
 
-pub returns-in_ok-items : goal.returns-in_ok-items
-returns-in_ok-items g c item follows =
+pub returns-in_err-shaped : goal.returns-in_err-shaped
+returns-in_err-shaped g c item follows =
+    let p = err_from_is_err_and c.from_residual-in_err-shaped.result c.from_residual-in_err-shaped.ensures.1 in
+    let same : p.0 ≡ fail.WantOfMemory = cc p.2 in
+    out_of_memory c.from_residual-in_err-shaped.result p.0 (numbers_answer c.args.shape.now item) p.1 same
+    (given_there (numbers_answer c.args.shape.now item) (number_array c.args.shape.now c.in_ok-items.items.items)
+    (numbers_made c.args.shape.now (c.args.rows * c.args.columns) item c.in_ok-items.items.items (sym c.shape_fault.ensures ∙ none_is c.shape_fault.result c.if-is_none.ensures) c.requires.count
+    (record { whole = c.in_ok-items.ensures.whole; each = λ place below. follows place _ below (c.in_ok-items.ensures.items place below) })))
+
+pub returns-in_ok-shaped : goal.returns-in_ok-shaped
+returns-in_ok-shaped g c item follows =
     let given : PlainArray → Answer = λ array. Ok array in
     numbers_made c.args.shape.now (c.args.rows * c.args.columns) item c.in_ok-items.items.items (sym c.shape_fault.ensures ∙ none_is c.shape_fault.result c.if-is_none.ensures) c.requires.count
     (record { whole = c.in_ok-items.ensures.whole; each = λ place below. follows place _ below (c.in_ok-items.ensures.items place below) })
-    ∙ ap given (sym (c.shaped.ensures ∙ ap (λ (list : List ℤ). number_array c.args.shape.now list) c.from.ensures))
+    ∙ ap given (sym (c.in_ok-shaped.ensures.array ∙ ap (λ (list : List ℤ). number_array c.args.shape.now list) c.from.ensures))
 
 pub returns-then-lacks_by_rows : goal.returns-then-lacks_by_rows
 returns-then-lacks_by_rows g c item follows =

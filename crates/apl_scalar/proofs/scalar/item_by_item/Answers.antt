@@ -1,6 +1,6 @@
 use Rattle.std.proofs.Common.{◌≡◌, ◌∙◌, ℕ, ℤ, IsOk, Err, sym, ap, subst}
 use Rattle.std.proofs.lemmas.Result.{err_from_is_err_and}
-use Rattle.apl_arrays.specs.Array.{PlainArray, PlainItems, element_count, item_count, plain_items}
+use Rattle.apl_arrays.specs.Array.{PlainArray, PlainItems, element_count, item_count, seen_items}
 use Rattle.apl_arrays.specs.List.{Listed}
 use Rattle.apl_items.specs.Extension.{leader}
 use Rattle.apl_items.specs.Places.{HasItems}
@@ -17,8 +17,8 @@ returns-in_err-items-clause-memory c =
     let a = c.args.a.now in
     let b = c.args.b.now in
     let count : ℕ = c.len.result in
-    let left : PlainItems = plain_items c.items-2.result.now in
-    let right : PlainItems = plain_items c.items-3.result.now in
+    let left : PlainItems = seen_items c.items-2.result in
+    let right : PlainItems = seen_items c.items-3.result in
     let whole : count ≡ element_count (leader a b).shape =
     c.len.ensures ∙ ap item_count c.items.ensures.value ∙ sym c.items.ensures.array.whole ∙ ap (λ (x : PlainArray). element_count x.shape) c.leader-shaped.ensures in
     let gives : HasItems count (dyadic_at f left right) → IsOk (dyadic_of f a b) =

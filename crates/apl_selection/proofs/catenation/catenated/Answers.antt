@@ -49,9 +49,9 @@ returns-then-is_some c =
 
 pub returns : goal.returns
 returns c =
-    join_fits c.args.a.now c.args.b.now c.args.axis c.catenated_axis-along.result c.as_slice-shape.result.now c.shaped.result c.requires.none c.catenated_axis-along.ensures.value
+    join_fits c.args.a.now c.args.b.now c.args.axis c.catenated_axis-along.result c.as_slice-shape.result.now c.in_ok-shaped.field-0 c.requires.none c.catenated_axis-along.ensures.value
     (c.as_slice-shape.ensures.value ∙ c.in_ok-axes.ensures) (ap is_some (sym c.shape_fault.ensures) ∙ sym c.is_some.ensures ∙ c.if-is_some.false)
-    (c.shaped.ensures ∙ ap (array_of c.as_slice-shape.result.now) c.in_ok-items.ensures)
+    (c.in_ok-shaped.ensures.array ∙ ap (array_of c.as_slice-shape.result.now) c.in_ok-items.ensures)
 
 pub catenated_items-requires-clause-fits : goal.catenated_items-requires-clause-fits
 catenated_items-requires-clause-fits c =

@@ -1,8 +1,8 @@
 use Rattle.std.proofs.Common.{ℕ, List, length, ap, subst, sym, ◌∙◌, arith}
-use Rattle.apl_arrays.specs.Array.{FitsLimits, element_count, plain_items}
+use Rattle.apl_arrays.specs.Array.{FitsLimits, element_count, plain_items, seen_items}
 use Rattle.apl_selection.specs.Subscripts.{named_counts, point_outside, selection_shape}
 use Rattle.apl_selection.proofs.IndexLemmas.{counts_fit, counts_length, index_is_right, indexed_is, picks_named}
-use Rattle.apl_selection.proofs.MoveLemmas.{count_of_made}
+use Rattle.apl_selection.proofs.MoveLemmas.{count_of_made, made_is}
 use Rattle.apl_selection.proofs.indexing.indexed_by_axes.Goals as goal
 
 pub picked_items-requires-clause-fits : goal.picked_items-requires-clause-fits
@@ -30,14 +30,15 @@ shaped-requires-clause-whole c =
     let right = index_is_right c.args.b.now c.args.subs.now c.args.shape.now c.requires.fine c.requires.shape in
     let whole = ap element_count c.as_slice.ensures.value ∙ c.in_ok-counts.ensures.whole right.0
     ∙ ap element_count (ap (λ (xs : List ℕ). selection_shape xs c.args.subs.now) c.shape.ensures.value ∙ sym c.requires.shape) in
-    sym whole ∙ count_of_made (plain_items c.in_ok-items.items) (plain_items c.items.result.now) (element_count c.as_slice.result.now) _ c.in_ok-items.ensures
+    sym whole ∙ count_of_made (plain_items c.in_ok-items.items) (seen_items c.items.result) (element_count c.as_slice.result.now) _ c.in_ok-items.ensures
 
 pub returns : goal.returns
 returns c =
     let right = index_is_right c.args.b.now c.args.subs.now c.args.shape.now c.requires.fine c.requires.shape in
     let whole = ap element_count c.as_slice.ensures.value ∙ c.in_ok-counts.ensures.whole right.0
     ∙ ap element_count (ap (λ (xs : List ℕ). selection_shape xs c.args.subs.now) c.shape.ensures.value ∙ sym c.requires.shape) in
-    c.shaped.ensures
-    ∙ indexed_is c.args.b.now c.args.subs.now c.args.shape.now c.shape-lengths.result.now c.as_slice.result.now (plain_items c.items.result.now) (plain_items c.in_ok-items.items) c.requires.shape
+    made_is c.shaped.result _ _
+    (indexed_is c.args.b.now c.args.subs.now c.args.shape.now c.shape-lengths.result.now c.as_slice.result.now (seen_items c.items.result) (plain_items c.in_ok-items.items) c.requires.shape
     c.shape-lengths.ensures.value (c.as_slice.ensures.value ∙ c.in_ok-counts.ensures.value ∙ ap (λ (xs : List ℕ). named_counts xs c.args.subs.now) c.shape.ensures.value) c.items.ensures.value whole
-    c.in_ok-items.ensures
+    c.in_ok-items.ensures)
+    c.shaped.ensures.array

@@ -1,6 +1,6 @@
 use Rattle.std.proofs.Common.{◌≡◌, ◌*◌, ℕ, min, None, List, option_map, get_or, sym, ap, ◌∙◌, arith}
 use Rattle.std.proofs.lemmas.Result.{IfOk-weaker}
-use Rattle.apl_arrays.specs.Array.{element_count, plain_items}
+use Rattle.apl_arrays.specs.Array.{element_count, plain_items, seen_items}
 use Rattle.apl_items.specs.Axes.{source_by_axes}
 use Rattle.apl_items.specs.Moves.{moved_items}
 use Rattle.apl_selection.specs.Picks.{strided}
@@ -10,7 +10,7 @@ use Rattle.apl_selection.proofs.picks.picked_items.Goals as goal
 
 pub returns-then-is_empty : goal.returns-then-is_empty
 returns-then-is_empty g c =
-    let items = plain_items c.args.items.now in
+    let items = seen_items c.args.items in
     let shape = c.args.shape.now in
     let source = source_by_axes shape (strided c.args.source.now (g.P.Picks.from c.args.picks.now)) in
     let none : element_count c.args.source.now ≡ 0 = omega arith in
@@ -31,7 +31,7 @@ moved_by_axes-requires-clause-within g c = λ place at below is.
 
 pub returns : goal.returns
 returns g c =
-    let items = plain_items c.args.items.now in
+    let items = seen_items c.args.items in
     let shape = c.args.shape.now in
     let from = g.P.Picks.from c.args.picks.now in
     let strides = c.as_slice.result.now in

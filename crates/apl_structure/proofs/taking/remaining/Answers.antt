@@ -1,6 +1,6 @@
 use Rattle.std.proofs.Common.{◌≡◌, ℕ, Option, pos, slice_index, slice_index_or, subst, sym, ap, ◌∙◌}
 use Rattle.std.proofs.lemmas.Result.{IfOk-weaker}
-use Rattle.apl_arrays.specs.Array.{FitsLimits, element_count, item_count, plain_items}
+use Rattle.apl_arrays.specs.Array.{FitsLimits, element_count, item_count, seen_items}
 use Rattle.apl_selection.specs.Picks.{picked}
 use Rattle.apl_structure.specs.Taking.{remaining, remaining_from}
 use Rattle.apl_structure.proofs.TakeLemmas.{left_fits, left_is, source_fits, source_of}
@@ -33,7 +33,7 @@ returns c =
     let source = c.as_slice-source.result.now in
     let numbers = c.numbers-numbers.result.now in
     let shape = c.as_slice-shape.result.now in
-    let items = plain_items c.items-2.result.now in
+    let items = seen_items c.items-2.result in
     let source_is = source_of c.args.a.now c.args.b.now c.len.result source (c.len.ensures ∙ ap item_count c.items.ensures.value) (c.as_slice-source.ensures.value ∙ c.in_ok-axes.ensures) in
     let from : ℕ → ℕ → Option ℕ = λ axis along. remaining_from (slice_index_or numbers axis (pos 0)) (slice_index source axis) along in
     IfOk-weaker c.picked.result (λ array. array ≡ picked shape source items from) (λ array. array ≡ remaining c.args.a.now c.args.b.now)

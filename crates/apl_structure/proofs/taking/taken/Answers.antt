@@ -1,5 +1,5 @@
 use Rattle.std.proofs.Common.{ℤ, List, is_some, subst, sym, ap, ◌∙◌}
-use Rattle.apl_arrays.specs.Array.{FitsLimits, element_count, item_count, plain_items}
+use Rattle.apl_arrays.specs.Array.{FitsLimits, element_count, item_count, seen_items}
 use Rattle.apl_arrays.specs.Shape.{shape_fault}
 use Rattle.apl_structure.specs.Lengths.{lengths}
 use Rattle.apl_structure.proofs.LengthLemmas.{lengths_that_fit}
@@ -39,4 +39,4 @@ returns c =
     take_fits a b c.in_ok-picked.field-0 c.pass_limits.result c.requires
     (c.pass_limits.ensures ∙ ap (λ (xs : List ℤ). is_some (shape_fault (lengths xs))) c.numbers-numbers.ensures) c.if-pass_limits.false
     (c.in_ok-picked.ensures
-    ∙ taken_is a b c.numbers-numbers.result.now c.as_slice-source.result.now c.as_slice-shape.result.now (plain_items c.items-2.result.now) c.numbers-numbers.ensures source_is shape_is c.items-2.ensures.value)
+    ∙ taken_is a b c.numbers-numbers.result.now c.as_slice-source.result.now c.as_slice-shape.result.now (seen_items c.items-2.result) c.numbers-numbers.ensures source_is shape_is c.items-2.ensures.value)

@@ -52,8 +52,8 @@ pub returns-clause-comes : goal.returns-clause-comes
 returns-clause-comes c =
     let m : PlainInterpreter = c.args.self.now in
     let rows : Rows = c.loop-row.rows in
-    let given : Coming = part_gives m c.args.e (λ s. gives (Some (held_value m.workspace (parts_of c.args.e) (held.Made c.into_array.result))) s) in
+    let given : Coming = part_gives m c.args.e (λ s. gives (Some (held_value m.workspace (parts_of c.args.e) (held.Made c.in_ok-into_array.field-0))) s) in
     comes_as m m (part_gives m c.args.e (rest_of_rows c.args.rows.numbers.items (rows_left c.args.rows) c.args.rows.shape.items)) given 0 c.give.result (λ asked count taken further.
     c.loop-row.invariant.same asked count taken further
     ∙ ap (λ (found : Outcome Found). carried_on found (caller_of m.workspace (here m) c.args.e) m.stack)
-    (rows_end rows (state_at m asked count taken further) (none_at_first (rows_left rows) (sym c.in_default.ensures.row)) ∙ ap (λ (a : PlainArray). gives (Some a) (state_at m asked count taken further)) (sym c.into_array.ensures))) c.give.ensures.comes
+    (rows_end rows (state_at m asked count taken further) (none_at_first (rows_left rows) (sym c.in_default.ensures.row)) ∙ ap (λ (a : PlainArray). gives (Some a) (state_at m asked count taken further)) (sym c.in_ok-into_array.ensures))) c.give.ensures.comes
