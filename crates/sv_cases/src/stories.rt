@@ -116,11 +116,24 @@ fn push_known(alloc: Global, text: &mut String, known: Option<&Array>) -> Result
     Ok(())
 }
 
-// An access that is granted. A use that finds no value changes nothing.
-fn tell(alloc: Global, share: &mut Share, told: &Told) -> Result<()> {
-    match array_of(alloc, told.set)? {
-        None => drop(share.get(told.side)?),
-        Some(value) => share.set(told.side, value)?,
+// The number set last in a story, if one was.
+fn last_set(story: &[Told]) -> Option<i64> {
+    for told in story.iter().rev() {
+        if told.set.is_some() {
+            return told.set;
+        }
+    }
+    None
+}
+
+// An access that is granted, after a story. A use has to give the number set last in it, or none, and then changes nothing.
+fn tell(alloc: Global, share: &mut Share, story: &[Told], told: &Told) -> Result<()> {
+    if let Some(value) = array_of(alloc, told.set)? {
+        share.set(told.side, value)?;
+        return Ok(());
+    }
+    if share.get(told.side)? != array_of(alloc, last_set(story))? {
+        bail!("a use gives another value than the one set last");
     }
     Ok(())
 }
@@ -153,8 +166,8 @@ impl Trial for Stories {
         let story = story_of(alloc, a, b, *accesses)?;
         let mut share = Share::new(alloc, array_of(alloc, a)?, array_of(alloc, b)?);
         let first = usize::from(a.is_some() || b.is_some());
-        for told in story.iter().skip(first) {
-            tell(alloc, &mut share, told)?;
+        for at in first..story.len() {
+            tell(alloc, &mut share, &story[..at], &story[at])?;
         }
         shared_text(alloc, &share, &story)
     }

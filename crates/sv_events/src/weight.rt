@@ -1,4 +1,4 @@
-ghost use Rattle.std.specs.Prelude.{◌≡◌, ◌≤◌, ◌<◌, ◌^◌, length};
+ghost use Rattle.std.specs.Prelude.{◌≡◌, ◌≤◌, ◌-◌, ◌^◌, min, length};
 ghost use Rattle.std.specs.Option.{option_copied};
 ghost use Rattle.apl_arrays.specs.Limits.{most_elements};
 ghost use Rattle.sv_events.specs.Answer.{plain_answer};
@@ -21,13 +21,13 @@ impl Act {
 }
 
 impl Answer {
-    /// How many elements the answer weighs: those of its value, and 8 for each party or name that it lists. No memory.
+    /// How many elements the answer weighs, if a number can be so great: those of its value, and 8 for each party or name
+    /// that it lists. No memory.
     pub fn weight(&self) -> u64
-        requires { answer_weight (plain_answer self.now) < 2 ^ 64 }
-        ensures { result ≡ answer_weight (plain_answer self.now) }
+        ensures { result ≡ min (answer_weight (plain_answer self.now)) (2 ^ 64 - 1) }
     {
-        element_count(self.value())
-            + LISTED_WEIGHT * (count_of(self.parties()) + count_of(self.names()))
+        let listed = count_of(self.parties()).saturating_add(count_of(self.names()));
+        element_count(self.value()).saturating_add(LISTED_WEIGHT.saturating_mul(listed))
     }
 }
 

@@ -62,8 +62,8 @@ fn giver(a: &Option<Array>) -> Side
     }
 }
 
-// What one side knows becomes what the other knows, if that knows a value. It takes memory for it, unless a value of as
-// many items was known; after `WantOfMemory` all is as before.
+// What one side knows becomes what the other knows, if that knows a value. It takes memory for it, as `renew_value` does;
+// after `WantOfMemory` all is as before.
 fn renew_known(
     alloc: Global,
     known: &mut Option<Array>,
@@ -134,7 +134,7 @@ impl Share {
     }
 
     /// A granted use by a side: the value that was set last, or none, and then nothing changes. It takes memory for
-    /// the value; after `WantOfMemory` all is as before.
+    /// the value, but for the scalar of a number; after `WantOfMemory` all is as before.
     pub fn get(&mut self, side: Side) -> Result<Option<Array>, WantOfMemory>
         ensures value { IfOk result (λ value. value ≡ shared_value self.old) }
         ensures done { OnOk result (self.new ≡ after_get self.old side (shared_value self.old)) }
@@ -165,8 +165,8 @@ impl Share {
         Ok(true)
     }
 
-    // A side comes to know what the other knows, if that knows a value. It takes memory for it, unless the side knows a
-    // value of as many items; after `WantOfMemory` all is as before.
+    // A side comes to know what the other knows, if that knows a value. It takes memory for it, as `renew_value` does;
+    // after `WantOfMemory` all is as before.
     fn learn_others(&mut self, side: Side) -> Result<(), WantOfMemory>
         ensures done { OnOk result ((value : PlainArray) → known_to self.old (other_side side) ≡ Some value → self.new ≡ knowing self.old side value) }
         ensures err { OnErr result (self.new ≡ self.old) }
