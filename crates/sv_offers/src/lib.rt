@@ -11,6 +11,8 @@ mod room;
 mod shelves;
 mod standings;
 mod table;
+#[cfg(test)]
+mod tests;
 
 pub use standings::is_ended;
 pub use table::Offers;
