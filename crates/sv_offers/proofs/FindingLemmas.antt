@@ -1,6 +1,7 @@
 -- The first of each key.
 use Rattle.std.proofs.Common.{◌≡◌, refl, sym, ap, ap₂, ◌∙◌, ℕ, Bool, true, false, ◌||◌, cond, eqb, List, [], ◌∷◌, Option, Some, None, filter, find, inl, inr}
-use Rattle.std.specs.Prelude.{Contains, is_some, nat_eq}
+use Rattle.std.specs.Prelude.{Contains, is_some}
+use Rattle.std.specs.BTreeMap.{values}
 use Rattle.std.specs.HashMap.{get}
 use Rattle.std.specs.List.{list_any}
 use Rattle.std.specs.Option.{option_or}
@@ -12,12 +13,11 @@ use Rattle.sv_offer_laws.proofs.OwnLemmas.{own-itself, same_name-is}
 use Rattle.sv_offers.proofs.FilterLemmas.{found_among}
 use Rattle.sv_offers.proofs.PlaceLemmas.{kept_elsewhere}
 use Rattle.sv_offers.proofs.ShelfLemmas.{of_party, to_party}
-use Rattle.sv_offers.specs.Finding.{same_key}
+use Rattle.sv_offers.specs.Finding.{AreUnderPlaces, same_key}
 use Rattle.sv_offers.specs.Inside.{AreFound}
 use Rattle.sv_offers.specs.Places.{ByPlace, without_place}
 use Rattle.sv_offers.specs.Shelf.{shelf_at}
 use Rattle.sv_offers.specs.declared.standings.Standings.TheInside.{Inside}
-use Rattle.sv_rules.specs.Coupling.{offer_at}
 use Rattle.sv_rules.specs.Standing.{is_own, own_offer}
 use Rattle.sv_rules.specs.declared.standing.Standing.{Standing}
 
@@ -76,13 +76,13 @@ name_replaced offers gone next by_place there is party local =
           (sym (found_among own own (λ o h. h) offers) ∙ ap (find own) (sym (kept_elsewhere own offers gone by_place there elsewhere)) ∙ found_among own own (λ o h. h) left)
     ]
 
--- where the lists and the maps answer as before, the offers are found as before
-pub found_as_before : (old new : Inside) → AreFound old → new.offers.items ≡ old.offers.items → ((party : ℕ) → shelf_at new.own party ≡ shelf_at old.own party) →
-    ((party : ℕ) → shelf_at new.made_to party ≡ shelf_at old.made_to party) → ((place : ℕ) → get nat_eq new.placed place ≡ get nat_eq old.placed place) →
+-- where the lists and the map answer as before, the offers are found as before
+pub found_as_before : (old new : Inside) → AreFound old → AreUnderPlaces new.placed → values new.placed ≡ values old.placed →
+    ((party : ℕ) → shelf_at new.own party ≡ shelf_at old.own party) → ((party : ℕ) → shelf_at new.made_to party ≡ shelf_at old.made_to party) →
     ((key : ℕ × List ℕ) → get same_key new.named key ≡ get same_key old.named key) → AreFound new
-found_as_before old new found items own made_to placed named = record {
-  own = λ party. own party ∙ found.own party ∙ ap (filter (of_party party)) (sym items);
-  made_to = λ party. made_to party ∙ found.made_to party ∙ ap (filter (to_party party)) (sym items);
-  placed = λ place. placed place ∙ found.placed place ∙ ap (λ (offers : List Standing). offer_at offers place) (sym items);
-  named = λ party local. named (party, local) ∙ found.named party local ∙ ap (λ (offers : List Standing). own_offer offers party local) (sym items);
+found_as_before old new found under offers own made_to named = record {
+  under = under;
+  own = λ party. own party ∙ found.own party ∙ ap (filter (of_party party)) (sym offers);
+  made_to = λ party. made_to party ∙ found.made_to party ∙ ap (filter (to_party party)) (sym offers);
+  named = λ party local. named (party, local) ∙ found.named party local ∙ ap (λ (os : List Standing). own_offer os party local) (sym offers);
 }

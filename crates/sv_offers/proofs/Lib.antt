@@ -4,6 +4,7 @@ mod FindingLemmas
 mod FitLemmas
 mod MatchLemmas
 mod OnlyLemmas
+mod OrderLemmas
 mod PlaceLemmas
 mod ShelfLemmas
 mod TableLemmas

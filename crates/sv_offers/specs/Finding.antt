@@ -1,8 +1,9 @@
--- How offers and couplings are found: by maps that have of each key the first.
-use Rattle.std.specs.Prelude.{◌≡◌, ◌==◌, ◌&&◌, ℕ, Bool, List, find, nat_eq}
+-- How offers and couplings are found: offers in the order of their places, and maps that have of each key the first.
+use Rattle.std.specs.Prelude.{◌≡◌, ◌==◌, ◌&&◌, ℕ, Bool, List, All, find, nat_eq}
+use Rattle.std.specs.BTreeMap.{BTreeMap}
 use Rattle.std.specs.HashMap.{HashMap, get}
 use Rattle.apl_arrays.specs.Name.{same_name}
-use Rattle.sv_rules.specs.Coupling.{has_place, offer_at}
+use Rattle.sv_rules.specs.Coupling.{has_place}
 use Rattle.sv_rules.specs.Standing.{own_offer}
 use Rattle.sv_rules.specs.declared.coupling.Made.{Made}
 use Rattle.sv_rules.specs.declared.standing.Standing.{Standing}
@@ -11,11 +12,11 @@ use Rattle.sv_rules.specs.declared.standing.Standing.{Standing}
 abbrev pub same_key : (ℕ × List ℕ) → (ℕ × List ℕ) → Bool
 same_key one other = one.0 == other.0 && same_name one.1 other.1
 
-module _ {S : Type 0} where
-  -- offers are found by their places, of each the first
-  abbrev pub FindsPlaces : HashMap ℕ Standing S → List Standing → Type 0
-  FindsPlaces placed offers = (place : ℕ) → get nat_eq placed place ≡ offer_at offers place
+-- each offer is kept under its place
+abbrev pub AreUnderPlaces : BTreeMap ℕ Standing → Type 0
+AreUnderPlaces placed = All (λ entry. entry.0 ≡ entry.1.place) placed.entries
 
+module _ {S : Type 0} where
   -- offers are found by their parties and local names, of each the first
   abbrev pub FindsNames : HashMap (ℕ × List ℕ) Standing S → List Standing → Type 0
   FindsNames named offers = (party : ℕ) (local : List ℕ) → get same_key named (party, local) ≡ own_offer offers party local

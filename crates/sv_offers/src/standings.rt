@@ -1,16 +1,15 @@
-ghost use Rattle.std.specs.Prelude.{◌≡◌, ◌==◌, ◌++◌, ◌∷◌, ℕ, [], Contains, IsSome, OnOk, OnErr, filter, find, nat_eq, if◌then◌else◌};
+ghost use Rattle.std.specs.Prelude.{◌≡◌, ◌==◌, ◌++◌, ◌∷◌, ◌<◌, ℕ, [], All, Contains, IsSome, OnOk, OnErr, filter, find, length, nat_eq, if◌then◌else◌};
 ghost use Rattle.std.specs.HashMap.{get};
 ghost use Rattle.sv_offers.specs.Places.{ByPlace, without_place};
 ghost use Rattle.sv_offers.specs.Shelf.{shelf_at};
 ghost use Rattle.sv_rules.specs.Coupling.{offer_at};
 ghost use Rattle.sv_rules.specs.Standing.{is_ended, offer_count, own_offer};
 
-use crate::index::{Named, Placed, forget_place, note_name, note_place, replace_name};
-use crate::places::take_out;
+use crate::index::{Named, Placed, forget_place, note_name, placed_at, put_last, replace_name};
 use crate::shelves::Shelves;
 use apl_arrays::{Name, WantOfMemory};
 use std::alloc::Global;
-use std::collections::HashMap;
+use std::collections::{BTreeMap, HashMap};
 use std::marker::Model;
 use sv_events::Ending;
 use sv_rules::{Standing, own_offer};
@@ -25,25 +24,25 @@ pub fn is_ended(party: u32, ending: &Ending, offer: &Standing) -> bool
     }
 }
 
-/// Offers by place, each found without going over those of others: by its party, by the party that it is made to, by its
-/// place, and by its party and its local name.
+/// Offers by place, each found without going over those of others: by its place, by its party, by the party that it is made
+/// to, and by its party and its local name.
 #[derive(Drop)]
 pub struct Standings {
-    offers: Vec<Standing>,
+    placed: Placed,
     own: Shelves,
     made_to: Shelves,
-    placed: Placed,
     named: Named,
 }
 
 impl Model for Standings {
     ghost use Rattle.std.specs.Prelude.{List};
+    ghost use Rattle.std.specs.BTreeMap.{values};
     ghost use Rattle.sv_offers.specs.Inside.{AreFound};
     ghost use Rattle.sv_rules.specs.declared.standing.Standing.{Standing};
 
     ghost Value = { List Standing };
 
-    ghost view = { λ s. s.offers.items };
+    ghost view = { λ s. values s.placed };
 
     ghost invariant = { AreFound };
 }
@@ -54,19 +53,18 @@ impl Standings {
         ensures { result ≡ [] }
     {
         Standings {
-            offers: Vec::new(alloc),
+            placed: BTreeMap::new(alloc),
             own: Shelves::new(alloc),
             made_to: Shelves::new(alloc),
-            placed: HashMap::new(alloc),
             named: HashMap::new(alloc),
         }
     }
 
-    /// The offers, by place. No memory.
-    pub fn as_slice(&self) -> &[Standing]
-        ensures { result.now ≡ self.now }
+    /// How many offers there are. No memory.
+    pub fn len(&self) -> usize
+        ensures { result ≡ length self.now }
     {
-        &self.offers
+        self.placed.len()
     }
 
     /// A party's offers, by place. No memory.
@@ -94,7 +92,7 @@ impl Standings {
     pub fn at(&self, place: u64) -> Option<Standing>
         ensures { result ≡ offer_at self.now place }
     {
-        self.placed.get(&place).copied()
+        placed_at(&self.placed, place)
     }
 
     /// How many offers are a party's. No memory.
@@ -104,21 +102,27 @@ impl Standings {
         self.of(party).len()
     }
 
-    /// One offer more, which goes last. It takes memory; after `WantOfMemory` all is as before.
+    /// One offer more, at a place above all, which goes last. It takes memory; after `WantOfMemory` all is as before.
     pub fn add(&mut self, new: &Standing) -> Result<(), WantOfMemory>
+        requires by_place { ByPlace self.old }
+        requires above { All (λ offer. offer.place < new.now.place) self.old }
         ensures ok { OnOk result (self.new ≡ self.old ++ new.now ∷ []) }
         ensures err { OnErr result (self.new ≡ self.old) }
     {
-        self.offers.reserve(1)?;
-        self.placed.reserve(1)?;
         self.named.reserve(1)?;
         self.own.open(new.party)?;
         self.made_to.open(new.to)?;
-        add_to_both(&mut self.own, &mut self.made_to, new)?;
-        self.offers.push_reserved(*new);
-        note_place(&mut self.placed, new);
-        note_name(&mut self.named, new);
-        Ok(())
+        put_last(&mut self.placed, new)?;
+        match add_to_both(&mut self.own, &mut self.made_to, new) {
+            Ok(()) => {
+                note_name(&mut self.named, new);
+                Ok(())
+            }
+            Err(WantOfMemory) => {
+                forget_place(&mut self.placed, new.place);
+                Err(WantOfMemory)
+            }
+        }
     }
 
     /// The first offer that an act of a party ends, if there is one. No memory.
@@ -139,7 +143,6 @@ impl Standings {
     {
         self.own.remove(offer.party, offer.place);
         self.made_to.remove(offer.to, offer.place);
-        take_out(&mut self.offers, offer.place);
         forget_place(&mut self.placed, offer.place);
         let next = own_offer(self.own.of(offer.party), offer.party, &offer.local);
         replace_name(&mut self.named, offer, next);

@@ -139,7 +139,7 @@ impl Offers {
         ensures partner { IfOk result (λ other. other ≡ open_match self.old.offers self.old.coupled new.now) }
         ensures err { OnErr result (self.new ≡ self.old) }
     {
-        let count = self.offers.as_slice().len();
+        let count = self.offers.len();
         self.coupled.reserve(count + 2)?;
         self.reopened.reserve(count + 1)?;
         let other = open_match(&self.offers, &self.coupled, new);

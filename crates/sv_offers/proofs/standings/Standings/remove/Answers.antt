@@ -1,25 +1,24 @@
-use Rattle.std.proofs.Common.{◌≡◌, ◌<◌, ap, sym, ◌∙◌, ℕ, Option, None, cond, eqb, filter, List, subst}
+use Rattle.std.proofs.Common.{◌≡◌, ◌<◌, ap, sym, ◌∙◌, ℕ, Option, cond, eqb, filter, List, subst}
 use Rattle.std.specs.Prelude.{Contains, is_some}
+use Rattle.std.specs.BTreeMap.{values}
 use Rattle.std.proofs.lemmas.List.Kept.{AllPairs-filter}
 use Rattle.sv_offers.proofs.FindingLemmas.{name_replaced, one_by_name, own_among}
-use Rattle.sv_offers.proofs.PlaceLemmas.{at_without}
 use Rattle.sv_offers.proofs.ShelfLemmas.{of_party, taken, to_party}
 use Rattle.sv_offers.specs.Places.{ByPlace, without_place}
-use Rattle.sv_rules.specs.Coupling.{offer_at}
 use Rattle.sv_rules.specs.Standing.{is_own, own_offer}
 use Rattle.sv_rules.specs.declared.standing.Standing.{Standing}
 use Rattle.sv_offers.proofs.standings.Standings.remove.Goals as goal
 
 pub remove-requires : goal.remove-requires
 remove-requires c =
-    let offers = c.self.inside.offers.items in
+    let offers = values c.self.inside.placed in
     let party = c.args.offer.now.party in
     subst ByPlace (sym (c.self.invariant.own party))
     (AllPairs-filter (λ (one other : Standing). one.place < other.place) (of_party party) offers (subst ByPlace (sym c.self.view_is) c.requires.by_place))
 
 pub remove-requires-2 : goal.remove-requires-2
 remove-requires-2 c =
-    let offers = c.self.inside.offers.items in
+    let offers = values c.self.inside.placed in
     let party = c.args.offer.now.to in
     subst ByPlace (sym (c.self.invariant.made_to party))
     (AllPairs-filter (λ (one other : Standing). one.place < other.place) (to_party party) offers (subst ByPlace (sym c.self.view_is) c.requires.by_place))
@@ -28,15 +27,19 @@ pub replace_name-requires : goal.replace_name-requires
 replace_name-requires c =
     let offer = c.args.offer.now in
     let there = subst (λ (os : List Standing). Contains os offer) (sym c.self.view_is) c.requires.there in
-    ap is_some (c.self.invariant.named offer.party offer.local) ∙ one_by_name c.self.inside.offers.items offer there
+    ap is_some (c.self.invariant.named offer.party offer.local) ∙ one_by_name (values c.self.inside.placed) offer there
+
+pub forget_place-requires : goal.forget_place-requires
+forget_place-requires c = record { under = c.self.invariant.under; by_place = subst ByPlace (sym c.self.view_is) c.requires.by_place }
 
 pub invariant_of-self : goal.invariant_of-self
 invariant_of-self c =
-    let offers = c.self.inside.offers.items in
+    let offers = values c.self.inside.placed in
     let offer = c.args.offer.now in
     let by_place = subst ByPlace (sym c.self.view_is) c.requires.by_place in
     let there = subst (λ (os : List Standing). Contains os offer) (sym c.self.view_is) c.requires.there in
     let left = without_place offers offer.place in
+    let is = c.forget_place.ensures.offers in
     let own = λ (party : ℕ).
     c.remove.ensures party ∙ ap (λ (os : List Standing). cond (eqb offer.party party) (without_place os offer.place) os) (c.self.invariant.own party)
     ∙ taken (λ o. o.party) offers offer party by_place there in
@@ -44,15 +47,13 @@ invariant_of-self c =
     c.own_offer-next.ensures ∙ ap (λ (os : List Standing). own_offer os offer.party offer.local) (c.of.ensures ∙ own offer.party)
     ∙ own_among left offer.party offer.local in
     record {
-      own = λ party. own party ∙ ap (filter (of_party party)) (sym c.take_out.ensures.items);
+      under = c.forget_place.ensures.under;
+      own = λ party. own party ∙ ap (filter (of_party party)) (sym is);
       made_to = λ party.
           c.remove-2.ensures party ∙ ap (λ (os : List Standing). cond (eqb offer.to party) (without_place os offer.place) os) (c.self.invariant.made_to party)
-          ∙ taken (λ o. o.to) offers offer party by_place there ∙ ap (filter (to_party party)) (sym c.take_out.ensures.items);
-      placed = λ place.
-          c.forget_place.ensures place ∙ ap (λ (o : Option Standing). cond (eqb offer.place place) None o) (c.self.invariant.placed place)
-          ∙ sym (at_without offers offer.place place) ∙ ap (λ (os : List Standing). offer_at os place) (sym c.take_out.ensures.items);
+          ∙ taken (λ o. o.to) offers offer party by_place there ∙ ap (filter (to_party party)) (sym is);
       named = λ party local.
           c.replace_name.ensures party local ∙ ap (λ (o : Option Standing). cond (is_own party local offer) c.own_offer-next.result o) (c.self.invariant.named party local)
           ∙ name_replaced offers offer c.own_offer-next.result by_place there next party local
-          ∙ ap (λ (os : List Standing). own_offer os party local) (sym c.take_out.ensures.items);
+          ∙ ap (λ (os : List Standing). own_offer os party local) (sym is);
     }

@@ -9,6 +9,9 @@ use Rattle.sv_offers.proofs.FitLemmas.{fit_after_offer}
 use Rattle.sv_offers.proofs.TableLemmas.{added_table}
 use Rattle.sv_offers.proofs.table.Offers.add.Goals as goal
 
+pub add-requires : goal.add-requires
+add-requires c = record { by_place = c.self.invariant.fit.by_place; above = (subst (λ (v : PlainOffers). IsNext v c.args.new.now.place) (sym c.self.view_is) c.requires).above }
+
 pub invariant_of-self-2 : goal.invariant_of-self-2
 invariant_of-self-2 c =
     let new = c.args.new.now in
@@ -20,9 +23,8 @@ invariant_of-self-2 c =
     let next = subst (λ (v : PlainOffers). IsNext v new.place) (sym c.self.view_is) c.requires in
     let grown = ap length c.in_ok-add.ensures.ok in
     let one = length-append table.offers (new ∷ []) in
-    let count = ap length c.as_slice-count.ensures in
     record {
       fit = subst FitTogether (sym after) (fit_after_offer table new c.self.invariant.fit next);
-      note_room = omega (arith, grown, one, count, c.in_ok-reserve-2.ensures.ok);
-      pair_room = omega (arith, grown, one, count, c.in_ok-reserve.ensures.room, c.join.ensures.room);
+      note_room = omega (arith, grown, one, c.len-count.ensures, c.in_ok-reserve-2.ensures.ok);
+      pair_room = omega (arith, grown, one, c.len-count.ensures, c.in_ok-reserve.ensures.room, c.join.ensures.room);
     }
