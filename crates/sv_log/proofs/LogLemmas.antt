@@ -1,55 +1,45 @@
 -- What is kept of a journal goes on with one entry more.
-use Rattle.std.proofs.Common.{◌≡◌, refl, sym, ap, ◌∙◌, ℕ, ◌+◌, Bool, true, false, ◌&&◌, ◌||◌, not, eqb, List, [], ◌∷◌, find, map, min, cond, Option, Some, None, inl, inr, arith, add_comm}
-use Rattle.std.specs.Prelude.{option_map, if◌then◌else◌}
+use Rattle.std.proofs.Common.{◌≡◌, refl, sym, ap, ◌∙◌, ℕ, ◌+◌, Bool, true, false, ◌&&◌, ◌||◌, not, eqb, List, ◌∷◌, min, cond, Option, Some, None, inl, inr, arith, add_comm}
+use Rattle.std.specs.Prelude.{nat_eq, option_map, if◌then◌else◌}
+use Rattle.std.specs.HashMap.{HashMap, get}
 use Rattle.std.proofs.Math.Nat.{min-eq_left, min-eq_right}
-use Rattle.std.proofs.lemmas.Bool.{cases_lt, eqb-true}
+use Rattle.std.proofs.lemmas.Bool.{cases_lt}
 use Rattle.std.proofs.lemmas.List.Sums.{sum_by-cons}
 use Rattle.sv_events.specs.Entry.{PlainEntry}
 use Rattle.sv_rules.specs.Entries.{Entries, next_place, has_left, is_leave, kind_of, is_held, counted_entries, held_elements, entry_weight}
 use Rattle.sv_rules.specs.Legal.{is_user}
-use Rattle.sv_log.specs.declared.member.Kept.{Kept}
-use Rattle.sv_log.specs.Member.{kept_of, member_of, noted, noted_of, waiting_at}
-
--- what is read where nothing is kept
-abbrev pub nobody : Kept
-nobody = record { user = 0; member = record { has_left = false; waiting = None } }
-
--- who is found of those that are kept
-pub member_found : (journal : Entries) (users : List ℕ) (user : ℕ) →
-    option_map (λ (k : Kept). k.member) (find (λ (k : Kept). eqb k.user user) (map (kept_of journal) users)) ≡ (if is_user users user then Some (member_of journal user) else None)
-member_found journal [] user = refl
-member_found journal (first ∷ users) user = by (member_found journal users user) (eqb first user) refl
-  where
-    by : option_map (λ (k : Kept). k.member) (find (λ (k : Kept). eqb k.user user) (map (kept_of journal) users)) ≡ (if is_user users user then Some (member_of journal user) else None) →
-        (b : Bool) → eqb first user ≡ b →
-        option_map (λ (k : Kept). k.member) (cond (eqb first user) (Some (kept_of journal first)) (find (λ (k : Kept). eqb k.user user) (map (kept_of journal) users)))
-        ≡ (if eqb first user || is_user users user then Some (member_of journal user) else None)
-    by rest true h =
-        ap (λ (b : Bool). option_map (λ (k : Kept). k.member) (cond b (Some (kept_of journal first)) (find (λ (k : Kept). eqb k.user user) (map (kept_of journal) users)))) h
-        ∙ ap (λ u. Some (member_of journal u)) (eqb-true first user h) ∙ sym (ap (λ (b : Bool). if b || is_user users user then Some (member_of journal user) else None) h)
-    by rest false h =
-        ap (λ (b : Bool). option_map (λ (k : Kept). k.member) (cond b (Some (kept_of journal first)) (find (λ (k : Kept). eqb k.user user) (map (kept_of journal) users)))) h
-        ∙ rest ∙ sym (ap (λ (b : Bool). if b || is_user users user then Some (member_of journal user) else None) h)
+use Rattle.sv_log.specs.declared.member.Member.{Member}
+use Rattle.sv_log.specs.Member.{HasMembers, member_of, noted, waiting_at}
 
 -- where a party waits since an entry
 abbrev pub waiting_since : Entries → PlainEntry → Option ℕ
 waiting_since journal e = if is_held (kind_of e.answer) then Some (next_place journal) else None
 
--- what is kept of a user after an entry is that of the journal with it
-kept_noted : (journal : Entries) (e : PlainEntry) (user : ℕ) → noted_of e.party (is_leave e.act) (waiting_since journal e) (kept_of journal user) ≡ kept_of (e ∷ journal) user
-kept_noted journal e user = by (eqb e.party user)
+-- who is found after an entry
+found_noted : (journal : Entries) (e : PlainEntry) (users : List ℕ) (party : ℕ) →
+    let found = if is_user users party then Some (member_of journal party) else None in
+    (if eqb e.party party then option_map (noted (is_leave e.act) (waiting_since journal e)) found else found)
+    ≡ (if is_user users party then Some (member_of (e ∷ journal) party) else None)
+found_noted journal e users party = by (eqb e.party party) (is_user users party)
   where
-    by : (own : Bool) → (if own then record { user = user; member = noted (is_leave e.act) (waiting_since journal e) (member_of journal user) } else kept_of journal user)
-        ≡ record { user = user; member = record { has_left = (own && is_leave e.act) || has_left journal user; waiting = if own then waiting_since journal e else waiting_at journal user } }
-    by true = refl
-    by false = refl
+    by : (own is : Bool) →
+        let found = if is then Some (member_of journal party) else None in
+        (if own then option_map (noted (is_leave e.act) (waiting_since journal e)) found else found)
+        ≡ (if is then Some (record { has_left = (own && is_leave e.act) || has_left journal party; waiting = if own then waiting_since journal e else waiting_at journal party }) else None)
+    by true true = refl
+    by true false = refl
+    by false true = refl
+    by false false = refl
 
-pub members_noted : (journal : Entries) (e : PlainEntry) (users : List ℕ) →
-    map (noted_of e.party (is_leave e.act) (waiting_since journal e)) (map (kept_of journal) users) ≡ map (kept_of (e ∷ journal)) users
-members_noted journal e [] = refl
-members_noted journal e (user ∷ users) =
-    ap (λ (k : Kept). k ∷ map (noted_of e.party (is_leave e.act) (waiting_since journal e)) (map (kept_of journal) users)) (kept_noted journal e user)
-    ∙ ap (λ (ks : List Kept). kept_of (e ∷ journal) user ∷ ks) (members_noted journal e users)
+-- what is kept of users goes on with an entry that is noted
+pub members_noted : {S : Type 0} (journal : Entries) (e : PlainEntry) (users : List ℕ) (old new : HashMap ℕ Member S) (leaves : Bool) (waiting : Option ℕ) →
+    leaves ≡ is_leave e.act → waiting ≡ waiting_since journal e → HasMembers journal users old →
+    ((party : ℕ) → get nat_eq new party ≡ (if eqb e.party party then option_map (noted leaves waiting) (get nat_eq old party) else get nat_eq old party)) →
+    HasMembers (e ∷ journal) users new
+members_noted journal e users old new leaves waiting leaves_is waiting_is has note party =
+    note party
+    ∙ ap (λ (found : Option Member). if eqb e.party party then option_map (noted leaves waiting) found else found) (has party)
+    ∙ rw (leaves_is, waiting_is) (found_noted journal e users party)
 
 -- a sum that is capped may be capped before
 pub capped_sum : (a b limit : ℕ) → min (min a limit + min b limit) limit ≡ min (a + b) limit

@@ -11,6 +11,6 @@ log_of l = record { users = l.users.items; journal = reverse l.journal.items; ro
 
 -- what is kept of users is that of the journal, and so are both counts, up to the limits
 pub record IsLog (l : Inside) : Type 0 where
-  pub members : HasMembers (reverse l.journal.items) l.users.items l.members.items
+  pub members : HasMembers (reverse l.journal.items) l.users.items l.members
   pub counted : l.counted ≡ min (counted_entries (reverse l.journal.items)) most_entries
   pub elements : l.elements ≡ min (held_elements (reverse l.journal.items)) most_journal_elements

@@ -1,6 +1,7 @@
-use Rattle.std.specs.Prelude.{◌≡◌, ℕ, Bool, ◌||◌, ◌==◌, List, [], ◌∷◌, Option, Some, None, map, if◌then◌else◌}
+use Rattle.std.specs.Prelude.{◌≡◌, ℕ, Bool, ◌||◌, ◌==◌, List, [], ◌∷◌, Option, Some, None, nat_eq, if◌then◌else◌}
+use Rattle.std.specs.HashMap.{HashMap, get}
 use Rattle.sv_rules.specs.Entries.{Entries, next_place, has_left, kind_of, is_held}
-use Rattle.sv_log.specs.declared.member.Kept.{Kept}
+use Rattle.sv_rules.specs.Legal.{is_user}
 use Rattle.sv_log.specs.declared.member.Member.{Member}
 
 -- the place of a party's last entry, where this is held
@@ -17,14 +18,6 @@ member_of journal user = record { has_left = has_left journal user; waiting = wa
 abbrev pub noted : Bool → Option ℕ → Member → Member
 noted leaves waiting member = record { has_left = leaves || member.has_left; waiting = waiting }
 
--- what is kept of a user, with its number
-abbrev pub kept_of : Entries → ℕ → Kept
-kept_of journal user = record { user = user; member = member_of journal user }
-
--- what is kept of one, after an entry of a party
-abbrev pub noted_of : ℕ → Bool → Option ℕ → Kept → Kept
-noted_of party leaves waiting kept = if party == kept.user then record { user = kept.user; member = noted leaves waiting kept.member } else kept
-
--- what is kept is that of each user, in their order
-abbrev pub HasMembers : Entries → List ℕ → List Kept → Type 0
-HasMembers journal users members = members ≡ map (kept_of journal) users
+-- what is kept is found by the number of each user, and by no other
+abbrev pub HasMembers : {S : Type 0} → Entries → List ℕ → HashMap ℕ Member S → Type 0
+HasMembers journal users members = (party : ℕ) → get nat_eq members party ≡ (if is_user users party then Some (member_of journal party) else None)

@@ -6,7 +6,7 @@ ghost use Rattle.sv_rules.specs.Entries.{is_full, next_place};
 ghost use Rattle.sv_rules.specs.Journal.{journal_of};
 ghost use Rattle.sv_rules.specs.Legal.{is_user};
 
-use crate::member::{Member, Members, member_among, members_of, note};
+use crate::member::{Member, Members, members_of, note};
 use apl_arrays::WantOfMemory;
 use std::alloc::Global;
 use std::marker::Model;
@@ -106,7 +106,7 @@ impl Log {
     pub fn member(&self, user: u32) -> Option<Member>
         ensures { result ≡ (if is_user self.now.users user then Some (member_of self.now.journal user) else None) }
     {
-        member_among(&self.members, user)
+        self.members.get(&user).copied()
     }
 
     /// Whether the journal takes no more entries but leaves. No memory.

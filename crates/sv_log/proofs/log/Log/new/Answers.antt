@@ -11,7 +11,7 @@ invariant_of-result c =
     let none = ap (λ (v : Listed PlainEntry). reverse v.items) c.journal.view_is ∙ ap reverse (c.reserve.ensures.items ∙ c.new-journal.ensures) in
     let kept : c.in_ok-to_vec.field-0.items ≡ c.args.users.now = search rules in
     record {
-      members = subst (λ (j : Entries). HasMembers j c.in_ok-to_vec.field-0.items c.in_ok-members_of.field-0.items) (sym none) (subst (λ users. HasMembers [] users c.in_ok-members_of.field-0.items) (sym kept) c.in_ok-members_of.ensures);
+      members = subst (λ (j : Entries). HasMembers j c.in_ok-to_vec.field-0.items c.in_ok-members_of.field-0) (sym none) (subst (λ users. HasMembers [] users c.in_ok-members_of.field-0) (sym kept) c.in_ok-members_of.ensures);
       counted = ap (λ (j : Entries). min (counted_entries j) most_entries) (sym none);
       elements = ap (λ (j : Entries). min (held_elements j) most_journal_elements) (sym none);
     }

@@ -1,13 +1,12 @@
-use Rattle.std.proofs.Common.{◌≡◌, ap, sym, ◌∙◌, subst, ℕ, ◌+◌, Bool, eqb, reverse, min, ◌∷◌, [], Option, Some, None}
-use Rattle.std.specs.Prelude.{List, map, if◌then◌else◌}
+use Rattle.std.proofs.Common.{◌≡◌, ap, sym, ◌∙◌, subst, ℕ, ◌+◌, Bool, reverse, min, ◌∷◌, [], Some, None}
+use Rattle.std.specs.Prelude.{if◌then◌else◌}
 use Rattle.std.proofs.lemmas.List.{reverse-append}
 use Rattle.apl_arrays.specs.Limits.{most_entries, most_journal_elements}
 use Rattle.sv_events.specs.Entry.{PlainEntry, plain_entry}
 use Rattle.sv_events.specs.declared.row.AnswerRow.{AnswerRow}
 use Rattle.sv_rules.specs.Entries.{Entries, next_place, is_leave, kind_of, is_held, counted_entries, held_elements, entry_weight}
 use Rattle.sv_log.specs.Log.{PlainLog}
-use Rattle.sv_log.specs.Member.{HasMembers, noted_of}
-use Rattle.sv_log.specs.declared.member.Kept.{Kept}
+use Rattle.sv_log.specs.Member.{HasMembers}
 use Rattle.sv_log.proofs.LogLemmas.{waiting_since, members_noted, counted_more, held_more}
 use Rattle.sv_log.proofs.log.Log.push.Goals as goal
 use Rattle.sv_log.proofs.log.Log.push.Goals.{After-push_reserved}
@@ -30,19 +29,15 @@ waiting_is c =
     ∙ ap (λ (n : ℕ). if is_held (kind_of (added c).answer) then Some n else None) (c.next_place.ensures ∙ sym (ap (λ (v : PlainLog). next_place v.journal) c.self.view_is))
 
 -- what is kept of users is noted
-noted_is : (c : After-push_reserved) → HasMembers (added c ∷ was c) c.self.inside.users.items c.note.new.members.items
+noted_is : (c : After-push_reserved) → HasMembers (added c ∷ was c) c.self.inside.users.items c.note.new.members
 noted_is c =
-    let kept = c.self.inside.members.items in
-    let party = c.args.entry.party in
-    c.note.ensures
-    ∙ ap (λ (b : Bool). map (noted_of party b c.waiting_since-waiting.result) kept) c.is_leave-leaves.ensures
-    ∙ ap (λ (w : Option ℕ). map (noted_of party (is_leave c.args.entry.act) w) kept) (waiting_is c)
-    ∙ ap (λ (ks : List Kept). map (noted_of party (is_leave c.args.entry.act) (waiting_since (was c) (added c))) ks) c.self.invariant.members
-    ∙ members_noted (was c) (added c) c.self.inside.users.items
+    let inside = c.self.inside in
+    members_noted (was c) (added c) inside.users.items inside.members c.note.new.members c.is_leave-leaves.result c.waiting_since-waiting.result
+    c.is_leave-leaves.ensures (waiting_is c) c.self.invariant.members c.note.ensures
 
 pub invariant_of-self : goal.invariant_of-self
 invariant_of-self c = record {
-  members = subst (λ j. HasMembers j c.self.inside.users.items c.note.new.members.items) (sym (grown c)) (noted_is c);
+  members = subst (λ j. HasMembers j c.self.inside.users.items c.note.new.members) (sym (grown c)) (noted_is c);
   counted =
       c.counted_after-self-inside.ensures
       ∙ ap (λ (b : Bool). if b then c.self.inside.counted else min (c.self.inside.counted + 1) most_entries) c.is_leave-leaves.ensures
