@@ -113,7 +113,7 @@ impl Axes for Exchanged {
 fn moves(rt: &impl Abort, alloc: Global) -> Result<(), WantOfMemory> {
     let three = Items::Numbers(NumberList::from(list_of(alloc, &[7, 8, 9])?));
     let filled = Items::Numbers(NumberList::from(list_of(alloc, &[8, 9, 0])?));
-    assert!(rt; moved(alloc, &three, 3, Onward { done: 0 })? == filled);
+    assert!(rt; moved(alloc, three.view(), 3, Onward { done: 0 })?.view() == filled.view());
     let [a, b, c] = [
         Glyph::with_code(65),
         Glyph::with_code(66),
@@ -121,10 +121,12 @@ fn moves(rt: &impl Abort, alloc: Global) -> Result<(), WantOfMemory> {
     ];
     let word = Items::Chars(list_of(alloc, &[a, b, c])?);
     let filled = Items::Chars(list_of(alloc, &[b, c, Glyph::BLANK])?);
-    assert!(rt; moved(alloc, &word, 3, Onward { done: 0 })? == filled);
+    assert!(rt; moved(alloc, word.view(), 3, Onward { done: 0 })?.view() == filled.view());
     let matrix = Items::Numbers(NumberList::from(list_of(alloc, &[1, 2, 3, 4, 5, 6])?));
     let exchanged = Items::Numbers(NumberList::from(list_of(alloc, &[1, 4, 2, 5, 3, 6])?));
-    assert!(rt; moved_by_axes(alloc, &matrix, &[3, 2], &Exchanged)? == exchanged);
+    assert!(rt;
+        moved_by_axes(alloc, matrix.view(), &[3, 2], &Exchanged)?.view() == exchanged.view()
+    );
     Ok(())
 }
 
