@@ -7,6 +7,5 @@ pub mod Control
 pub mod Refused
 pub mod Work
 pub mod Questions
-pub mod Placing
 pub mod Outcome
 pub mod Legal
