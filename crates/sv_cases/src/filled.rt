@@ -54,23 +54,31 @@ fn offer(core: &mut Core, party: u32, name: Name) -> Result<()>
     Ok(())
 }
 
-// One user offers a name and asks for its degree until the journal is full, and leaves: how many questions were answered,
-// and how many entries there are.
+// One user offers a name, asks for its degree until the journal is full, and leaves: how many questions were told the
+// degree, how many that the journal is full, and how many entries there are, of which the last is the leave.
 fn questions(alloc: Global) -> Result<String> {
     let mut core = Core::new(alloc, &USERS)?;
     let name = numbered(0)?;
     offer(&mut core, 1001, name)?;
-    let mut answered = 0u64;
+    let mut degrees = 0u64;
+    let mut full = 0u64;
     for _asked in 0..ENTRY_LIMIT {
-        if let Answer::Degree(_) = step(&mut core, 1001, Act::AskDegree(name))? {
-            answered = answered.saturating_add(1);
+        match step(&mut core, 1001, Act::AskDegree(name))? {
+            Answer::Degree(1) => degrees = degrees.saturating_add(1),
+            Answer::Full => full = full.saturating_add(1),
+            _ => bail!("a question is answered otherwise"),
         }
     }
     if !core.has_left(1001) {
         core.leave(1001);
     }
-    let entries = core.journal().len();
-    Ok(format!(in alloc; "{answered} {entries}")?)
+    let entries = core.journal();
+    match entries.last() {
+        Some(last) if is_leave(&last.act) => {
+            Ok(format!(in alloc; "{degrees} {full} {}", entries.len())?)
+        }
+        _ => bail!("the last entry is no leave"),
+    }
 }
 
 // So many zeros.

@@ -15,7 +15,7 @@ use apl_arrays::{Array, Name};
 use case_tables::Trial;
 use std::alloc::Global;
 use sv_core::Core;
-use sv_events::{Act, Entry, Work, act_of};
+use sv_events::{Act, Entry, Retry, Work, act_of};
 use sv_rules::{is_auxiliary, is_leave};
 
 /// Journals that the processor makes, an entry after another: `legal`, or the number of the first that it makes
@@ -52,8 +52,9 @@ fn reply_due(alloc: Global, name: Name, place: u64, reply: Option<&Array>) -> Re
     }
 }
 
-// An auxiliary does its work, if it has any and is told of it what the entries say.
-fn work(alloc: Global, core: &mut Core, entry: &Entry) -> Result<()>
+// What an auxiliary has to do is done, where it has something to do; of the value it is told what the entry says. Whether
+// it is answered as the entry says.
+fn work(alloc: Global, core: &mut Core, entry: &Entry) -> Result<bool>
     requires auxiliary { is_auxiliary entry.now.party ≡ true }
     requires present { IsTrue (not (has_left core.old.journal entry.now.party)) }
     requires goes_on { awaited core.old.journal entry.now.party ≡ None }
@@ -61,17 +62,17 @@ fn work(alloc: Global, core: &mut Core, entry: &Entry) -> Result<()>
 {
     let place = core.journal().len() as u64 + 1;
     if !is_told(core, entry.party) {
-        return Ok(());
+        return Ok(false);
     }
     let due = act_due(alloc, core.work_of(entry.party), place, &entry.act)?;
-    if let Some(act) = due {
-        core.step(entry.party, act)?;
+    match due {
+        None => Ok(false),
+        Some(act) => Ok(core.step(entry.party, act)? == entry.answer),
     }
-    Ok(())
 }
 
-// A user does what an entry says, or what it waits for.
-fn act(alloc: Global, core: &mut Core, entry: &Entry) -> Result<()>
+// A user does what an entry says, or what it waits for. Whether it is answered as the entry says.
+fn act(alloc: Global, core: &mut Core, entry: &Entry) -> Result<bool>
     requires user { IsTrue (is_user core.old.users entry.now.party) }
     requires person { is_auxiliary entry.now.party ≡ false }
     requires present { IsTrue (not (has_left core.old.journal entry.now.party)) }
@@ -79,15 +80,19 @@ fn act(alloc: Global, core: &mut Core, entry: &Entry) -> Result<()>
 {
     if is_leave(&entry.act) {
         core.leave(entry.party);
-    } else if core.waits(entry.party) {
-        try_again(core, entry.party)?;
-    } else {
-        core.step(entry.party, entry.act.copy(alloc)?)?;
+        return Ok(true);
     }
-    Ok(())
+    if core.waits(entry.party) {
+        return match try_again(core, entry.party)? {
+            Retry::StillHeld => Ok(false),
+            Retry::Now(answer) => Ok(answer == entry.answer),
+        };
+    }
+    let answer = core.step(entry.party, entry.act.copy(alloc)?)?;
+    Ok(answer == entry.answer)
 }
 
-// Whether the processor makes this entry next, where it tells whoever is still held so before.
+// Whether the processor makes this entry next and answers as it says, where it tells whoever is still held so before.
 fn makes(alloc: Global, core: &mut Core, users: &[u32], entry: &Entry) -> Result<bool>
     requires { core.old.users ≡ users.now }
     ensures { core.new.users ≡ core.old.users }
@@ -96,16 +101,13 @@ fn makes(alloc: Global, core: &mut Core, users: &[u32], entry: &Entry) -> Result
     if !still_held_are_told(alloc, core, users)? || core.has_left(entry.party) {
         return Ok(false);
     }
-    if is_auxiliary(entry.party) {
-        if core.waits(entry.party) {
-            return Ok(false);
-        }
-        work(alloc, core, entry)?;
-    } else if users.contains(&entry.party) {
-        act(alloc, core, entry)?;
-    }
+    let answered = if is_auxiliary(entry.party) {
+        !core.waits(entry.party) && work(alloc, core, entry)?
+    } else {
+        users.contains(&entry.party) && act(alloc, core, entry)?
+    };
     let entries = core.journal();
-    Ok(entries.len() == before + 1 && entries.last() == Some(entry))
+    Ok(answered && entries.len() == before + 1 && entries.last() == Some(entry))
 }
 
 // How many of the entries the processor makes, from the first on.

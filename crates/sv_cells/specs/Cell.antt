@@ -24,7 +24,7 @@ share_in Lent = None
 abbrev pub no_control : Control
 no_control = four_elements false false false false
 
--- the cell of an offer that is new, and of one that holds its value alone again
+-- the cell of an offer that is new, by the value that it was handed
 abbrev pub new_cell : Option PlainArray → Cell
 new_cell value = record { vector = no_control; lacks_control = true; owes_reply = false; held = Alone value }
 

@@ -17,5 +17,4 @@ pub use journal::Journal;
 pub use row::{
     Accessing, ActRow, AnswerKind, AnswerRow, Controlling, Ending, Opening, Question, fits,
 };
-pub use weight::LISTED_WEIGHT;
 pub use work::{Work, act_of};

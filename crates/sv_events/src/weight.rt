@@ -8,7 +8,7 @@ use crate::event::{Act, Answer};
 use apl_arrays::Array;
 
 /// How many elements a party or a name counts for that an answer lists.
-pub const LISTED_WEIGHT: u64 = 8;
+const LISTED_WEIGHT: u64 = 8;
 
 impl Act {
     /// How many elements the act weighs: those of the value that it hands in. No memory.
@@ -21,8 +21,8 @@ impl Act {
 }
 
 impl Answer {
-    /// How many elements the answer weighs, if a number can be so great: those of its value, and 8 for each party or name
-    /// that it lists. No memory.
+    /// How many elements the answer weighs: those of its value, and 8 for each party or name that it lists; the greatest
+    /// number of 64 bits where they are more. No memory.
     pub fn weight(&self) -> u64
         ensures { result ≡ min (answer_weight (plain_answer self.now)) (2 ^ 64 - 1) }
     {

@@ -45,9 +45,9 @@ clock_answers =
     ∷ set_x 1001 7 granted ∷ uncoupled 10 (Use s2) (got 7) ∷ use_x 1001 (holds 3 Both) ∷ set_s2 (scalar (negsuc 0))
     ∷ use_x 1001 (value (scalar (negsuc 0))) ∷ left 1001 ∷ [])
 
--- once its partner has left, the auxiliary takes its offer back
-abbrev pub counter_offer_taken_back : Entries
-counter_offer_taken_back = countered 10 (left 1001 ∷ uncoupled 10 (Retract s2) (kept 1 None) ∷ [])
+-- once its partner has left, the auxiliary takes its offer back, and is told a degree
+abbrev pub counter_offer_taken_back : ℕ → Entries
+counter_offer_taken_back degree = countered 10 (left 1001 ∷ uncoupled 10 (Retract s2) (kept degree None) ∷ [])
 
 -- an auxiliary's control is set once
 abbrev pub second_control : Entries
@@ -63,8 +63,8 @@ second_reply =
     countered 10
     (set_x 1001 0 granted ∷ uncoupled 10 (Use s2) (got 0) ∷ uncoupled 10 (Set s2 (number 100)) granted ∷ uncoupled 10 (Set s2 (number 101)) granted ∷ [])
 
--- the counter-offer to the offer made to the text files couples with an older general offer of the same user with the
--- same surrogate; the offer that it was meant for stays open
+-- 20 answers the second offer, but the first, which is general and has the surrogate too, takes its counter-offer; so the
+-- second is left without a partner
 abbrev pub counter_couples_with_an_older_one : Entries
 counter_couples_with_an_older_one =
     reverse

@@ -55,7 +55,7 @@ set_over_unseen =
     (control_x 1001 (bits 1 1 1 1) (bits 1 1 1 1) ∷ set_x 1001 1 granted ∷ set_x 1002 9 granted ∷ use_x 1001 (got 9)
     ∷ set_x 1001 2 granted ∷ use_x 1002 (got 2) ∷ left 1001 ∷ left 1002 ∷ [])
 
--- 1003 may go on, so the wait of 1001 is not given up
+-- 1002 may go on, so that it is too soon for 1001 to give up its wait
 abbrev pub given_up_too_soon : Entries
 given_up_too_soon =
     shared_x None None
@@ -66,6 +66,6 @@ abbrev pub acts_while_it_waits : PlainEntry → Entries
 acts_while_it_waits entry =
     shared_x None None (control_x 1001 (bits 0 0 1 0) (bits 0 0 1 0) ∷ use_x 1001 (holds 3 Mine) ∷ entry ∷ [])
 
--- the answers to a set under a control of set by me, and to one of a name without an offer
+-- a control on a name that its user has not offered
 abbrev pub set_without_an_offer : PlainAnswer → Entries
 set_without_an_offer answer = reverse (uncoupled 1001 (SetControl x (bits 1 1 1 1)) answer ∷ [])

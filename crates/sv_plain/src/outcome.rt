@@ -202,7 +202,7 @@ fn value_answer(alloc: Global, value: Option<&Array>) -> Result<Answer, WantOfMe
     }
 }
 
-// What a use gives: the last value set on either side of a coupling, else the party's own known value.
+// The value that a use finds: on a coupling what was set there last, by whichever side; alone what its party knows.
 fn value_for<'a>(
     alloc: Global,
     entries: &'a [Entry],

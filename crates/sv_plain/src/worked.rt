@@ -211,7 +211,8 @@ pub fn file_is_copied_is_legal()
 
 /// An auxiliary does its work, and nothing else.
 pub fn auxiliaries_do_their_work()
-    ensures taken_back { IsLegal one_user counter_offer_taken_back }
+    ensures taken_back { IsLegal one_user (counter_offer_taken_back 1) }
+    ensures still_coupled { ¬ IsLegal one_user (counter_offer_taken_back 2) }
     ensures second_control { ¬ IsLegal one_user second_control }
     ensures seen { ¬ IsLegal one_user use_of_a_seen_value }
     ensures second_reply { ¬ IsLegal one_user second_reply }

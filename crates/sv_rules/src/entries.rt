@@ -42,14 +42,14 @@ pub fn is_value(kind: AnswerKind) -> bool
     matches!(kind, AnswerKind::Value)
 }
 
-/// Whether the party waits. No memory.
+/// Whether an answer of this kind leaves the party waiting. No memory.
 pub fn is_held(kind: AnswerKind) -> bool
     ensures { result ≡ is_held kind }
 {
     matches!(kind, AnswerKind::Held)
 }
 
-/// Whether the wait is given up. No memory.
+/// Whether by an answer of this kind a wait is given up. No memory.
 pub fn is_abandoned(kind: AnswerKind) -> bool
     ensures { result ≡ is_abandoned kind }
 {

@@ -11,8 +11,8 @@ use Rattle.sv_access.specs.declared.state.State.{State}
 use Rattle.sv_access.specs.Access.{Access}
 use Rattle.sv_access.specs.State.{state_after}
 use Rattle.sv_access.specs.Story.{Story, last_value, state_of_story}
-use Rattle.sv_story.specs.Laws.{IsBy, given}
-use Rattle.sv_story.specs.Share.{IsShareOf, giver, share_of, unseen_by_other}
+use Rattle.sv_story.specs.Laws.{IsBy, SidesKnowTheirLast, after_access, given, known_since, share_since}
+use Rattle.sv_story.specs.Share.{IsShareOf, PlainShare, giver, known_to, share_of, unseen_by_other}
 
 -- a set leaves the same state, whatever the state was
 set_from_any : (state : State) (side : Side) → state_after state side Set ≡ unseen_by_other side true
@@ -54,3 +54,20 @@ begins story None b by is = record {
   state = sym (state_of_one B story by ∙ ap (λ (last : Option PlainArray). unseen_by_other B (is_some last)) is);
   value = sym is;
 }
+
+-- after an access its side knows its value, and the other what it knew
+known_next : (share : PlainShare) (first : Option PlainArray) (story : Story PlainArray) (who : Side) (kind : Kind) (value : PlainArray) (side : Side) → known_to share side ≡ known_since first side story
+    → known_to (after_access share (record { side = who; kind = kind; value = value })) side ≡ known_since first side (record { side = who; kind = kind; value = value } ∷ story)
+known_next share first story A Set value A before = refl
+known_next share first story A Use value A before = refl
+known_next share first story B Set value B before = refl
+known_next share first story B Use value B before = refl
+known_next share first story A Set value B before = before
+known_next share first story A Use value B before = before
+known_next share first story B Set value A before = before
+known_next share first story B Use value A before = before
+
+pub sides_know : SidesKnowTheirLast
+sides_know a b [] side = refl
+sides_know a b (access ∷ story) side =
+    known_next (share_since a b story) (known_to (share_of a b) side) story access.side access.kind access.value side (sides_know a b story side)

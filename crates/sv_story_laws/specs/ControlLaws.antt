@@ -58,8 +58,8 @@ ControlOfACoupledOfferIsTheJointOne =
     control_in_force journal (Some offer) ≡
     in_view (side_at coupling offer.place) (combined (vector_of journal coupling.a) (vector_of journal coupling.b))
 
--- an access is granted exactly where the access table over the plain story allows it, and else held by its element in
--- A's view, with the owners of the 1 as the refused party sees them
+-- the access table, asked of the plain story, decides each access: it is granted, or held by the element that refuses it,
+-- as A numbers them, with whose 1 it is as the one says it that is held
 abbrev pub HoldsAreThoseOfTheTable : Type 0
 HoldsAreThoseOfTheTable =
     (journal : Entries) (kind : Kind) (offer : Standing) →

@@ -151,6 +151,6 @@ StoriesBeginWithTheGivers =
     (users : List ℕ) (journal : Entries) → IsLegal users journal → (place : ℕ) (coupling : Coupling) → coupling_now journal place ≡ Some coupling →
     coupling.at ≡ length journal → BeginsWithTheGivers journal coupling
 
--- a journal is full where it has 200,000 entries other than leaves, or 4,194,304 elements
+-- what fills a journal: 200,000 entries, of which leaves do not count, or entries that together weigh 4,194,304 elements
 abbrev pub FullIsByEntriesOrElements : Type 0
 FullIsByEntriesOrElements = (journal : Entries) → IsTrue (is_full journal) ↔ ((most_entries ≤ counted_entries journal) ⊎ (most_journal_elements ≤ held_elements journal))

@@ -6,6 +6,10 @@ pub returns-clause-taken_back : goal.returns-clause-taken_back
 unfolding digits
 returns-clause-taken_back c = search rules
 
+pub returns-clause-still_coupled : goal.returns-clause-still_coupled
+unfolding digits
+returns-clause-still_coupled c = search rules
+
 pub returns-clause-second_control : goal.returns-clause-second_control
 unfolding digits
 returns-clause-second_control c = search rules
