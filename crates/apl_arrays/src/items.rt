@@ -52,8 +52,8 @@ impl Items {
         self.view().copy(alloc)
     }
 
-    /// Become equal to others. Where the others are one number alone, or these are of their kind and as many, it takes no
-    /// memory, else it takes memory for them. `WantOfMemory` leaves them as they were.
+    /// Become equal to others. Where they are of the others' kind and as many it takes no memory, else it may take memory
+    /// for them. `WantOfMemory` leaves them as they were.
     pub fn renew(&mut self, alloc: Global, other: &Items) -> Result<(), WantOfMemory>
         ensures ok { OnOk result (plain_items self.new ≡ plain_items other.now) }
         ensures err { OnErr result (self.new ≡ self.old) }

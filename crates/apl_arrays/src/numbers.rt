@@ -82,7 +82,7 @@ impl NumberList {
         NumberList::of(alloc, self.as_slice())
     }
 
-    /// Become the numbers of another list. They take memory where these are more than one and not as many as they are.
+    /// Become the numbers of another list. Where these are as many as they are they take no memory, else they may take it.
     /// `WantOfMemory` leaves them as they were.
     pub fn renew(&mut self, alloc: Global, other: &NumberList) -> Result<(), WantOfMemory>
         ensures ok { OnOk result (self.new.items ≡ other.now.items) }

@@ -51,8 +51,8 @@ impl Shaped {
         })
     }
 
-    /// Becomes equal to another. Where the other's items are one number alone, or its own are of their kind and as many, it
-    /// takes no memory, else it takes memory for them. `WantOfMemory` leaves it as it was.
+    /// Becomes equal to another. Where its items are of the kind of the other's and as many it takes no memory, else it may
+    /// take memory for them. `WantOfMemory` leaves it as it was.
     pub(crate) fn renew(&mut self, alloc: Global, other: &Shaped) -> Result<(), WantOfMemory>
         ensures ok { OnOk result (self.new ≡ other.now) }
         ensures err { OnErr result (self.new ≡ self.old) }
