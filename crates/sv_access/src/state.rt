@@ -4,7 +4,7 @@ ghost use Rattle.sv_access.specs.State.{state_after, vector_of_state};
 use crate::access::{Kind, Side};
 use crate::control::Control;
 
-/// Whose set of a coupling the other side has not used yet.
+/// Whose set the other side has not used yet, of two offers that are coupled or of one that is open.
 #[derive(Clone, Copy, Debug, PartialEq, Eq)]
 pub enum State {
     Quiet,
