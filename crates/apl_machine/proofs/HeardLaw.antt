@@ -1,29 +1,24 @@
 -- What the answer to an act does that a line is alone.
-use Rattle.std.proofs.Common.{◌≡◌, ℕ, ◌+◌, ◌<◌, ◌≤◌, Bool, true, false, List, [], ◌∷◌, ◌++◌, length, refl, sym, ap, subst, ◌∙◌, append_assoc}
+use Rattle.std.proofs.Common.{◌≡◌, ℕ, ◌+◌, ◌≤◌, Bool, List, ◌++◌, refl, sym, ap, ◌∙◌}
 use Rattle.std.specs.Prelude.{Option, Some, None, Result, Ok, Err, IfErr, OnErr, OnOk, nat_le, if◌then◌else◌}
 use Rattle.std.proofs.lemmas.Bool.{le-leb}
 use Rattle.apl_arrays.specs.Array.{PlainArray}
 use Rattle.apl_arrays.specs.declared.report.Fail.{Fail}
 use Rattle.apl_arrays.specs.declared.report.Fail.TheVariants as fail
 use Rattle.apl_arrays.specs.declared.report.Report.{Report}
-use Rattle.apl_arrays.specs.declared.report.Report.TheVariants.{Interrupt, WsFull}
-use Rattle.apl_workspace.specs.Limits.{most_printed, most_weight}
-use Rattle.apl_workspace.specs.Workspace.{IsTooHeavy, PlainWorkspace, with_printed, workspace_weight}
+use Rattle.apl_arrays.specs.declared.report.Report.TheVariants.{WsFull}
+use Rattle.apl_workspace.specs.Limits.{most_weight}
+use Rattle.apl_workspace.specs.Workspace.{IsTooHeavy, PlainWorkspace, workspace_weight}
 use Rattle.sv_events.specs.Answer.{PlainAnswer}
 use Rattle.sv_events.specs.Row.{answer_row}
 use Rattle.sv_events.specs.declared.event.Act.{Act}
 use Rattle.apl_meaning.specs.Answers.{got, report_of_kind, unless_ended, with_copy}
-use Rattle.apl_meaning.specs.Printing.{line_printed, lines_printed, value_printed}
+use Rattle.apl_meaning.specs.Printing.{value_printed}
 use Rattle.apl_meaning.specs.State.{State, Effect, gives, refuses, and_then}
 use Rattle.apl_machine.specs.Alone.{EndsThere, HasLed, Leads, answer_outcome, answer_told}
-use Rattle.apl_machine.specs.Moves.{IsNotPrinted}
 use Rattle.apl_machine.proofs.Granted.{renewed}
-use Rattle.apl_machine.proofs.Printed.{lines_and_lines, over, then_unit}
+use Rattle.apl_machine.proofs.Printed.{over, still_printed}
 use Rattle.apl_machine.proofs.Steps.{grouped}
-
--- what was printed before a part is as it was
-still_printed : (s : State) (v : PlainWorkspace) (lines : List (List ℕ)) → s.printed ≡ lines → record s { workspace = v } ≡ record s { workspace = v; printed = lines }
-still_printed s v lines is = ap (λ (list : List (List ℕ)). record s { workspace = v; printed = list }) is
 
 -- ---- one part after another
 
@@ -79,50 +74,6 @@ pub ends_at_once : (w v : PlainWorkspace) (before : List (List ℕ)) (part : Sta
 ends_at_once w v before part report same is = record {
   same = λ s front at printed. is s ∙ ap (λ (x : PlainWorkspace). refuses report (record s { workspace = x })) (at ∙ sym same) ∙ ap (λ (t : State). refuses report t) (still_printed s v (front ++ before) printed);
 }
-
--- ---- lines that are printed one after another
-
--- none was printed yet
-pub none_led : (w : PlainWorkspace) (before : List (List ℕ)) → Leads w before (lines_printed []) w before
-none_led w before = record { same = λ s front at printed. ap (λ (x : PlainWorkspace). gives tt (record s { workspace = x })) at ∙ ap (λ (t : State). gives tt t) (still_printed s w (front ++ before) printed) }
-
--- one line more, whose glyphs are within the limit
-pub one_led : (w v : PlainWorkspace) (before after lines : List (List ℕ)) (line : List ℕ) → Leads w before (lines_printed lines) v after → v.printed + length line ≤ most_printed
-    → Leads w before (lines_printed (lines ++ line ∷ [])) (with_printed v (length line)) (after ++ line ∷ [])
-one_led w v before after lines line led few = record {
-  same = λ s front at printed.
-      let t : State = record s { workspace = v; printed = front ++ after } in
-      lines_and_lines lines (line ∷ []) s
-      ∙ ap (λ (o : Effect). and_then o (λ _ u. lines_printed (line ∷ []) u)) (led.same s front at printed)
-      ∙ then_unit (line_printed line t)
-      ∙ ap (λ (b : Bool). if b then gives tt (record t { printed = t.printed ++ line ∷ []; workspace = with_printed t.workspace (length line) }) else refuses Interrupt t) (le-leb (v.printed + length line) most_printed few)
-      ∙ ap (λ (list : List (List ℕ)). gives tt (record s { printed = list; workspace = with_printed v (length line) })) (append_assoc front after (line ∷ []));
-}
-
--- a line whose glyphs would pass the limit is not printed, nor are those behind it
-pub too_many_led : (w v : PlainWorkspace) (before after lines more : List (List ℕ)) (line : List ℕ) → Leads w before (lines_printed lines) v after → most_printed < v.printed + length line
-    → EndsThere w before (lines_printed (lines ++ line ∷ more)) Interrupt v after
-too_many_led w v before after lines more line led many = record {
-  same = λ s front at printed.
-      let t : State = record s { workspace = v; printed = front ++ after } in
-      lines_and_lines lines (line ∷ more) s
-      ∙ ap (λ (o : Effect). and_then o (λ _ u. lines_printed (line ∷ more) u)) (led.same s front at printed)
-      ∙ ap (λ (b : Bool). and_then (if b then gives tt (record t { printed = t.printed ++ line ∷ []; workspace = with_printed t.workspace (length line) }) else refuses Interrupt t) (λ _ u. lines_printed more u)) (over (v.printed + length line) most_printed many);
-}
-
--- the lines end the line where one of them would pass the limit
-pub line_ends : (w v u : PlainWorkspace) (before after last lines done : List (List ℕ)) (line : List ℕ) (more : List (List ℕ)) (why : Fail) → Leads w before (lines_printed done) v after → u ≡ v → last ≡ after → lines ≡ done ++ line ∷ more
-    → IsNotPrinted (v.printed + length line) why → HasLed {T = Unit {0}} w before (lines_printed lines) u last (Err why)
-line_ends w v u before after last lines done line more (fail.Report report) led same left are many =
-    subst (λ (x : PlainWorkspace). EndsThere w before (lines_printed lines) report x last) (sym same)
-    (subst (λ (out : List (List ℕ)). EndsThere w before (lines_printed lines) report v out) (sym left)
-    (subst (λ (list : List (List ℕ)). EndsThere w before (lines_printed list) report v after) (sym are)
-    (subst (λ (r : Report). EndsThere w before (lines_printed (done ++ line ∷ more)) r v after) (sym many.0) (too_many_led w v before after done more line led many.1))))
-line_ends w v u before after last lines done line more fail.WantOfMemory led same left are many = tt
-
--- what a `?` hands out is why they ended it
-pub led_exit : (w v : PlainWorkspace) (before after : List (List ℕ)) (part : State → Effect) (r : Result (Unit {0}) Fail) (y why : Fail) → r ≡ Err y → y ≡ why → HasLed {T = Unit {0}} w before part v after (Err why) → HasLed w before part v after r
-led_exit w v before after part r y why exit same led = subst (λ (x : Result (Unit {0}) Fail). HasLed w before part v after x) (sym exit) (subst (λ (f : Fail). HasLed {T = Unit {0}} w before part v after (Err f)) (sym same) led)
 
 -- ---- an answer
 

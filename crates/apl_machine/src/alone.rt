@@ -16,7 +16,7 @@ ghost use Rattle.apl_machine.specs.Parts.{IsConstant};
 
 use crate::answering::{report_of, value_in};
 use crate::part::{Part, constant};
-use crate::printing::print_line;
+use crate::printing::print_lines;
 use apl_arrays::{Array, Fail, Glyph, Items, Line, LineList, Name, WantOfMemory};
 use apl_display::lines_of;
 use apl_workspace::{Seen, Workspace};
@@ -161,7 +161,7 @@ fn hear_value(
     let value = value_in(answer)?;
     let lines = lines_of(alloc, &value)?;
     renew(workspace, name, value)?;
-    print_all(workspace, output, lines.into_vec())
+    print_lines(workspace, output, lines.into_vec())
 }
 
 // The own copy of a shared name is this value; WS FULL where the workspace would weigh too much.
@@ -173,16 +173,4 @@ fn renew(workspace: &mut Workspace, name: &Name, value: Array) -> Result<(), Fai
 {
     let _weight = workspace.weight();
     workspace.renew(name, value)
-}
-
-// Prints lines, one after another, whose glyphs are counted. INTERRUPT at the line that would pass the limit. It takes
-// memory for the output.
-fn print_all(workspace: &mut Workspace, output: &mut LineList, lines: Vec<Line>) -> Result<(), Fail>
-    ensures led { HasLed workspace.old output.old.items (lines_printed (map glyphs_in lines.items)) workspace.new output.new.items result }
-    ensures frames { workspace.new.frames ≡ workspace.old.frames }
-{
-    for line in lines {
-        print_line(workspace, output, line)?;
-    }
-    Ok(())
 }

@@ -3,6 +3,7 @@ ghost use Rattle.apl_arrays.specs.List.{glyphs_in};
 ghost use Rattle.apl_workspace.specs.Limits.{most_printed};
 ghost use Rattle.apl_workspace.specs.Workspace.{with_printed};
 ghost use Rattle.apl_meaning.specs.Printing.{lines_printed};
+ghost use Rattle.apl_machine.specs.Alone.{HasLed};
 ghost use Rattle.apl_machine.specs.Moves.{HasDone, IsNotPrinted};
 
 use crate::interpreter::Interpreter;
@@ -16,25 +17,28 @@ impl Interpreter {
         ensures printed { HasDone self.old (lines_printed (map glyphs_in lines.items)) self.new result }
         ensures beside { self.new ≡ record self.old { output = self.new.output; workspace = record self.old.workspace { printed = self.new.workspace.printed } } }
     {
-        for line in lines {
-            self.print_line(line)?;
-        }
-        Ok(())
-    }
-
-    // Prints a line, and counts its glyphs.
-    fn print_line(&mut self, line: Line) -> Result<(), Fail>
-        ensures ok { OnOk result (self.new ≡ record self.old { output = self.old.output ++ line.items ∷ []; workspace = with_printed self.old.workspace (length line.items) }) }
-        ensures fits { OnOk result (self.old.workspace.printed + length line.items ≤ most_printed) }
-        ensures err { OnErr result (self.new ≡ self.old) }
-        ensures refused { IfErr result (IsNotPrinted (self.old.workspace.printed + length line.items)) }
-    {
-        print_line(&mut self.workspace, &mut self.output, line)
+        print_lines(&mut self.workspace, &mut self.output, lines)
     }
 }
 
-/// Prints a line, and counts its glyphs. INTERRUPT where they would pass the limit. It takes memory for the output.
-pub fn print_line(workspace: &mut Workspace, output: &mut LineList, line: Line) -> Result<(), Fail>
+/// Prints lines, one after another, whose glyphs are counted. INTERRUPT at the line that would pass the limit. It takes
+/// memory for the output.
+pub fn print_lines(
+    workspace: &mut Workspace,
+    output: &mut LineList,
+    lines: Vec<Line>,
+) -> Result<(), Fail>
+    ensures led { HasLed workspace.old output.old.items (lines_printed (map glyphs_in lines.items)) workspace.new output.new.items result }
+    ensures beside { workspace.new ≡ record workspace.old { printed = workspace.new.printed } }
+{
+    for line in lines {
+        print_line(workspace, output, line)?;
+    }
+    Ok(())
+}
+
+// Prints a line, and counts its glyphs. INTERRUPT where they would pass the limit. It takes memory for the output.
+fn print_line(workspace: &mut Workspace, output: &mut LineList, line: Line) -> Result<(), Fail>
     ensures counted { OnOk result (workspace.new ≡ with_printed workspace.old (length line.items)) }
     ensures printed { OnOk result (output.new.items ≡ output.old.items ++ line.items ∷ []) }
     ensures fits { OnOk result (workspace.old.printed + length line.items ≤ most_printed) }

@@ -1,41 +1,41 @@
-use Rattle.std.proofs.Common.{◌≡◌, ℕ, suc, List, [], ◌∷◌, ◌++◌, drop, length, sym, ap, subst, ◌∙◌}
-use Rattle.std.specs.Prelude.{map}
-use Rattle.std.proofs.lemmas.List.{map-append}
-use Rattle.std.proofs.lemmas.Iterator.Adapters.{YieldsList-from_vec}
-use Rattle.std.proofs.lemmas.Iterator.Consumers.{YieldsList-so_far, YieldsList-turn}
-use Rattle.std.proofs.lemmas.Result.{err_from_is_err_and}
-use Rattle.apl_arrays.specs.List.{Listed, glyphs_in}
+use Rattle.std.proofs.Common.{◌≡◌, ◌∙◌, ap, subst, sym}
+use Rattle.std.specs.Prelude.{map, reverse}
+use Rattle.apl_arrays.specs.List.{glyphs_in}
+use Rattle.apl_workspace.specs.Workspace.{PlainWorkspace}
 use Rattle.apl_meaning.specs.Printing.{lines_printed}
+use Rattle.apl_machine.specs.Alone.{HasLed}
 use Rattle.apl_machine.specs.Interpreter.{PlainInterpreter}
-use Rattle.apl_machine.specs.Moves.{Does}
-use Rattle.apl_machine.proofs.Printed.{done_exit, ends_at_line, lines_at, one_printed, with_line}
+use Rattle.apl_machine.specs.Sound.{plain_interpreter}
+use Rattle.apl_machine.specs.declared.interpreter.Interpreter.TheInside.{Inside}
+use Rattle.apl_machine.proofs.Printed.{done_as_led, keeps_functions}
+use Rattle.apl_machine.proofs.Renewing.{seen_changed, way_changed}
 use Rattle.apl_machine.proofs.interpreter.Interpreter.print_lines.Goals as goal
 
-pub loop-line-preserved : goal.loop-line-preserved
-loop-line-preserved c =
-    let before : PlainInterpreter = c.args.self.now in
-    let now : PlainInterpreter = c.loop-line.self in
-    let after : PlainInterpreter = c.print_line.new.self in
-    let line : List ℕ = c.in-Some.line.items in
-    let done : List (List ℕ) = map glyphs_in c.loop-line.yielded in
-    let ok : after ≡ with_line now line = c.in_ok-print_line.ensures.ok in
-    record {
-      printed = subst (λ (lines : List (List ℕ)). Does before (lines_printed lines) after) (sym (map-append glyphs_in c.loop-line.yielded (c.in-Some.line ∷ [])))
-          (subst (λ (m : PlainInterpreter). Does before (lines_printed (done ++ line ∷ [])) m) (sym ok) (one_printed before now done line c.loop-line.invariant.printed c.in_ok-print_line.ensures.fits));
-      beside = ok ∙ ap (λ (m : PlainInterpreter). with_line m line) c.loop-line.invariant.beside
-          ∙ ap (λ (m : PlainInterpreter). record before { output = m.output; workspace = record before.workspace { printed = m.workspace.printed } }) (sym ok);
-    }
+pub invariant_of-self : goal.invariant_of-self
+invariant_of-self c =
+    let w : PlainWorkspace = c.self.inside.workspace in
+    let v : PlainWorkspace = record w { printed = c.print_lines.new.workspace.printed } in
+    way_changed w v c.print_lines.new.workspace (reverse c.self.inside.callers.items) c.print_lines.ensures.beside (keeps_functions w v.printed) c.self.invariant
 
-pub returns-in_err-print_line-clause-printed : goal.returns-in_err-print_line-clause-printed
-returns-in_err-print_line-clause-printed c =
-    let all : List (Listed ℕ) = c.args.lines.items in
-    let done : List (Listed ℕ) = c.loop-line.yielded in
-    let line : Listed ℕ = c.in-Some.line in
-    let road = YieldsList-from_vec {s = c.into_iter-line-iterator.result} all (cc) (cc) in
-    let place = YieldsList-turn road done c.loop-line.line-iterator c.loop-line.yielded_by c.next.result c.next.new.self line c.in-Some.is c.next.ensures.steps in
-    let are : all ≡ done ++ line ∷ drop (suc (length done)) all = lines_at all done line (YieldsList-so_far road done c.loop-line.line-iterator c.loop-line.yielded_by) place.0 place.1 in
-    let exit = err_from_is_err_and c.from_residual.result c.from_residual.ensures.1 in
-    let why : exit.0 ≡ c.in_err-print_line.field-0.0 = cc exit.2 in
-    done_exit c.args.self.now c.print_line.new.self (lines_printed (map glyphs_in all)) c.from_residual.result exit.0 c.in_err-print_line.field-0.0 exit.1 why
-    (ends_at_line c.args.self.now c.loop-line.self c.print_line.new.self (map glyphs_in all) (map glyphs_in done) line.items (map glyphs_in (drop (suc (length done)) all)) c.in_err-print_line.field-0.0
-    c.loop-line.invariant.printed c.in_err-print_line.ensures.err (ap (map glyphs_in) are ∙ map-append glyphs_in done (line ∷ drop (suc (length done)) all)) c.in_err-print_line.ensures.refused)
+-- the interpreter is as it was, with the output and the workspace that the lines left
+after : (c : goal.After-print_lines) → plain_interpreter (record c.self.inside { workspace = c.print_lines.new.workspace; output = c.print_lines.new.output })
+    ≡ record c.args.self.now { output = c.print_lines.new.output.items; workspace = record c.self.inside.workspace { printed = c.print_lines.new.workspace.printed } }
+after c =
+    let inside : Inside = record c.self.inside { output = c.print_lines.new.output } in
+    let w : PlainWorkspace = c.self.inside.workspace in
+    let v : PlainWorkspace = record w { printed = c.print_lines.new.workspace.printed } in
+    seen_changed inside (record c.args.self.now { output = inside.output.items }) c.print_lines.new.workspace v
+    (ap (λ (x : PlainInterpreter). record x { output = inside.output.items }) c.self.view_is) c.print_lines.ensures.beside (keeps_functions w v.printed)
+
+pub returns-clause-printed : goal.returns-clause-printed
+returns-clause-printed c =
+    let before : PlainInterpreter = c.args.self.now in
+    let u : PlainWorkspace = c.print_lines.new.workspace in
+    let lines = lines_printed (map glyphs_in c.args.lines.items) in
+    done_as_led c.print_lines.result before (plain_interpreter (record c.self.inside { workspace = u; output = c.print_lines.new.output })) lines
+    (after c ∙ ap (λ (x : PlainWorkspace). record before { output = c.print_lines.new.output.items; workspace = x }) (sym c.print_lines.ensures.beside))
+    (subst (λ (x : PlainInterpreter). HasLed x.workspace x.output lines u c.print_lines.new.output.items c.print_lines.result) c.self.view_is c.print_lines.ensures.led)
+
+pub returns-clause-beside : goal.returns-clause-beside
+returns-clause-beside c =
+    after c ∙ ap (λ (x : PlainInterpreter). record c.args.self.now { output = c.print_lines.new.output.items; workspace = record x.workspace { printed = c.print_lines.new.workspace.printed } }) c.self.view_is

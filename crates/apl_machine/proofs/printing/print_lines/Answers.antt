@@ -8,9 +8,8 @@ use Rattle.apl_arrays.specs.List.{Listed, glyphs_in}
 use Rattle.apl_workspace.specs.Workspace.{PlainWorkspace, with_printed}
 use Rattle.apl_meaning.specs.Printing.{lines_printed}
 use Rattle.apl_machine.specs.Alone.{Leads}
-use Rattle.apl_machine.proofs.HeardLaw.{led_exit, line_ends, one_led}
-use Rattle.apl_machine.proofs.Printed.{lines_at}
-use Rattle.apl_machine.proofs.alone.print_all.Goals as goal
+use Rattle.apl_machine.proofs.Printed.{led_exit, line_ends, lines_at, one_led}
+use Rattle.apl_machine.proofs.printing.print_lines.Goals as goal
 
 pub loop-line-preserved : goal.loop-line-preserved
 loop-line-preserved c =
@@ -27,7 +26,7 @@ loop-line-preserved c =
       led = subst (λ (lines : List (List ℕ)). Leads w before (lines_printed lines) after c.print_line.new.output.items) (sym (map-append glyphs_in c.loop-line.yielded (c.in-Some.line ∷ [])))
           (subst (λ (x : PlainWorkspace). Leads w before (lines_printed (done ++ line ∷ [])) x c.print_line.new.output.items) (sym counted)
           (subst (λ (list : List (List ℕ)). Leads w before (lines_printed (done ++ line ∷ [])) (with_printed now (length line)) list) (sym c.in_ok-print_line.ensures.printed) more));
-      frames = ap (λ (x : PlainWorkspace). x.frames) counted ∙ c.loop-line.invariant.frames;
+      beside = counted ∙ ap (λ (x : PlainWorkspace). with_printed x (length line)) c.loop-line.invariant.beside ∙ ap (λ (x : PlainWorkspace). record w { printed = x.printed }) (sym counted);
     }
 
 pub returns-in_err-print_line-clause-led : goal.returns-in_err-print_line-clause-led
