@@ -47,7 +47,7 @@ clock_answers =
 
 -- once its partner has left, the auxiliary takes its offer back, and is told a degree
 abbrev pub counter_offer_taken_back : ℕ → Entries
-counter_offer_taken_back degree = countered 10 (left 1001 ∷ uncoupled 10 (Retract s2) (kept degree None) ∷ [])
+counter_offer_taken_back told = countered 10 (left 1001 ∷ uncoupled 10 (Retract s2) (kept told None) ∷ [])
 
 -- an auxiliary's control is set once
 abbrev pub second_control : Entries
