@@ -157,8 +157,8 @@ impl Array {
     }
 
     /// Becomes equal to another. It takes no memory where the other is the scalar of a number, or where neither is and its
-    /// items are of the kind of the other's and as many; else it takes memory for the other. `WantOfMemory` leaves it as it
-    /// was.
+    /// items are of the kind of the other's and as many; else it may take memory for the other. `WantOfMemory` leaves it as
+    /// it was.
     pub fn renew(&mut self, alloc: Global, other: &Array) -> Result<(), WantOfMemory>
         ensures ok { OnOk result (self.new ≡ other.now) }
         ensures err { OnErr result (self.new ≡ self.old) }

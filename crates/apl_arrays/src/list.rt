@@ -62,7 +62,7 @@ impl<T> List<T> {
         List::of(alloc, &self.items)
     }
 
-    /// Becomes a list of the items of another. Where it has as many already it takes no memory, else it takes memory for
+    /// Becomes a list of the items of another. Where it has as many already it takes no memory, else it may take memory for
     /// them. `WantOfMemory` leaves the list as it was.
     pub fn renew(&mut self, alloc: Global, other: &List<T>) -> Result<(), WantOfMemory>
     where

@@ -5,7 +5,7 @@ use crate::{Array, WantOfMemory};
 use std::alloc::Global;
 
 /// A value that may be missing becomes equal to another. It takes no memory where the other is the scalar of a number, or
-/// where a value is there that is none and has items of the other's kind and as many; else it takes memory for the other.
+/// where a value is there that is none and has items of the other's kind and as many; else it may take memory for the other.
 /// `WantOfMemory` leaves it as it was.
 pub fn renew_value(
     alloc: Global,

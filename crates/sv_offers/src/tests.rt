@@ -74,6 +74,16 @@ fn coupling_of(rt: &impl Abort, place: u64, partner: Option<u64>) -> Option<Coup
     })
 }
 
+// Whether the offer that was made at a place, if one was, is found by its party and name.
+fn is_found(rt: &impl Abort, table: &Offers, place: u64) -> bool {
+    let index = place.saturating_sub(1) as usize;
+    let (party, asked, _, _) = *ROWS.get(index).expect(rt, "a row is at the place");
+    match offer_of(rt, place, party, asked) {
+        None => false,
+        Some(offer) => table.find(party, &offer.local).map(|found| found.place) == Some(place),
+    }
+}
+
 // The offer at a place stands, or doesn't, as its mark says.
 fn stands_as(rt: &impl Abort, table: &Offers, place: u64, party: u32, mark: u8) {
     let offer = table.of(party).iter().find(|offer| offer.place == place);
@@ -84,6 +94,7 @@ fn stands_as(rt: &impl Abort, table: &Offers, place: u64, party: u32, mark: u8) 
     assert_eq!(rt; table.degree(place), degree);
     if mark == b'.' {
         assert!(rt; offer.is_none(), "{place}");
+        assert!(rt; !is_found(rt, table, place), "{place}");
     } else {
         let wanted = offer_at(rt, place);
         assert_eq!(rt; offer.copied(), Some(wanted));
