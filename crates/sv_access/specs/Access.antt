@@ -28,7 +28,7 @@ abbrev pub is_set : Kind → Bool
 is_set Set = true
 is_set Use = false
 
--- a granted access of a coupling: by which side, a set or a use, and the value set or got
+-- a granted access: by which side of a coupling, or of an open offer, a set or a use, and the value set or got
 pub record Access (V : Type 0) : Type 0 where
   pub side : Side
   pub kind : Kind

@@ -14,7 +14,7 @@ use Rattle.sv_access.specs.Control.{has_element}
 use Rattle.sv_access.specs.State.{state_after, quiet_vector, own_unseen_vector, partners_unseen_vector}
 use Rattle.sv_access.specs.Table.{element_of}
 
--- the granted accesses of a coupling, the newest first
+-- the granted accesses of a coupling, or of an offer that is open, the newest first
 abbrev pub Story : Type 0 → Type 0
 Story V = List (Access V)
 

@@ -52,7 +52,7 @@ fn reply_due(alloc: Global, name: Name, place: u64, reply: Option<&Array>) -> Re
     }
 }
 
-// What an auxiliary has to do is done, where it has something to do; of the value it is told what the entry says. Whether
+// An auxiliary does its work, where it has some and is told of it; a reply has the value that the entry hands in. Whether
 // it is answered as the entry says.
 fn work(alloc: Global, core: &mut Core, entry: &Entry) -> Result<bool>
     requires auxiliary { is_auxiliary entry.now.party ≡ true }

@@ -75,7 +75,7 @@ abbrev pub coupling_ends : PlainEntry → Entries → ℕ → Bool
 coupling_ends e journal place =
     is_coupled (couplings journal) place && not (is_coupled (couplings_among (standing (e ∷ journal)) (couplings journal)) place)
 
--- from an entry on the offer stands open: it is made there, or its partner goes there
+-- an entry at which the story of an offer begins anew: the offer is made there, or its partner goes there
 abbrev pub opens_at : PlainEntry → Entries → Standing → Bool
 opens_at e journal offer = offer.place == next_place journal || coupling_ends e journal offer.place
 

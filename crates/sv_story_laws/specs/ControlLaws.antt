@@ -59,7 +59,7 @@ ControlOfACoupledOfferIsTheJointOne =
     in_view (side_at coupling offer.place) (combined (vector_of journal coupling.a) (vector_of journal coupling.b))
 
 -- the access table, asked of the plain story, decides each access: it is granted, or held by the element that refuses it,
--- as A numbers them, with whose 1 it is as the one says it that is held
+-- in A's numbering, with those who set this element to 1, named from the side that is held
 abbrev pub HoldsAreThoseOfTheTable : Type 0
 HoldsAreThoseOfTheTable =
     (journal : Entries) (kind : Kind) (offer : Standing) →
