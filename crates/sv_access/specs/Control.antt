@@ -12,6 +12,10 @@ has_element control element = slice_index_or control.0 (element - 1) false
 abbrev pub four_elements : Bool → Bool → Bool → Bool → Control
 four_elements first second third fourth = record { 0 = first ∷ second ∷ third ∷ fourth ∷ [] }
 
+-- nothing is controlled
+abbrev pub no_control : Control
+no_control = four_elements false false false false
+
 -- the two controls have 1 at the same elements
 abbrev pub same_control : Control → Control → Bool
 same_control a b = same_element 1 && same_element 2 && same_element 3 && same_element 4

@@ -6,6 +6,9 @@ ghost use Rattle.sv_access.specs.Control.{swapped, combined};
 #[derive(Clone, Copy, Debug, PartialEq, Eq)]
 pub struct Control(pub [bool; 4]);
 
+/// Nothing is controlled.
+pub const NO_CONTROL: Control = Control([false, false, false, false]);
+
 /// The same control as the partner sees it, in the order 2 1 4 3. No memory.
 pub fn swap(c: Control) -> Control
     ensures { result ≡ swapped c }

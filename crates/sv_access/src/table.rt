@@ -73,10 +73,8 @@ fn owners_among(mine: bool, partners: bool) -> Owners
 mod tests {
     use super::*;
     use crate::cases::{Case, Cases};
-    use crate::control::join;
+    use crate::control::{NO_CONTROL, join};
     use crate::state::after;
-
-    const NONE: Control = Control([false, false, false, false]);
 
     const ALL: Control = Control([true, true, true, true]);
 
@@ -119,13 +117,13 @@ mod tests {
     #[test]
     fn the_partner_sees_the_view_swapped(rt: HostRuntime) {
         let a = Control([true, false, false, true]);
-        let joint = join(a, NONE);
+        let joint = join(a, NO_CONTROL);
         assert_eq!(rt; joint, a);
         assert_eq!(rt;
             decide(joint, State::Quiet, Side::B, Kind::Use),
             Verdict::Held(4)
         );
-        assert_eq!(rt; owners(a, NONE, Side::B, 4), Owners::Partner);
+        assert_eq!(rt; owners(a, NO_CONTROL, Side::B, 4), Owners::Partner);
         assert_eq!(rt;
             decide(joint, State::Quiet, Side::A, Kind::Set),
             Verdict::Granted
@@ -138,30 +136,30 @@ mod tests {
 
     #[test]
     fn both_sides_are_held_at_first(rt: HostRuntime) {
-        let joint = join(ALL, NONE);
+        let joint = join(ALL, NO_CONTROL);
         assert_eq!(rt;
             decide(joint, State::Quiet, Side::B, Kind::Use),
             Verdict::Held(4)
         );
-        assert_eq!(rt; owners(ALL, NONE, Side::B, 4), Owners::Partner);
+        assert_eq!(rt; owners(ALL, NO_CONTROL, Side::B, 4), Owners::Partner);
         assert_eq!(rt;
             decide(joint, State::Quiet, Side::A, Kind::Use),
             Verdict::Held(3)
         );
-        assert_eq!(rt; owners(ALL, NONE, Side::A, 3), Owners::Mine);
+        assert_eq!(rt; owners(ALL, NO_CONTROL, Side::A, 3), Owners::Mine);
         assert_eq!(rt; owners(ALL, ALL, Side::A, 3), Owners::Both);
     }
 
     #[test]
     fn a_partner_holds_my_second_set(rt: HostRuntime) {
         let b = Control([false, true, false, false]);
-        let joint = join(NONE, b);
+        let joint = join(NO_CONTROL, b);
         assert_eq!(rt; joint, Control([true, false, false, false]));
         assert_eq!(rt;
             decide(joint, State::UnseenA, Side::A, Kind::Set),
             Verdict::Held(1)
         );
-        assert_eq!(rt; owners(NONE, b, Side::A, 1), Owners::Partner);
+        assert_eq!(rt; owners(NO_CONTROL, b, Side::A, 1), Owners::Partner);
         assert_eq!(rt;
             decide(joint, State::UnseenA, Side::B, Kind::Set),
             Verdict::Granted

@@ -5,6 +5,7 @@ use Rattle.std.proofs.lemmas.Bool.{lt-ltb, and_parts, eq-eqb, eqb-true, not-true
 use Rattle.std.proofs.lemmas.Option.{none-some, same_Some}
 use Rattle.std.proofs.lemmas.List.Elements.{All-contains}
 use Rattle.apl_arrays.specs.Array.{PlainArray}
+use Rattle.sv_access.specs.Control.{no_control}
 use Rattle.sv_access.specs.Story.{last_value}
 use Rattle.sv_access.specs.declared.access.Kind.TheVariants as kind
 use Rattle.sv_access.specs.declared.access.Side.{Side}
@@ -18,7 +19,7 @@ use Rattle.sv_cells.specs.declared.cell.Cell.{Cell}
 use Rattle.sv_cells.specs.declared.cell.Held.{Held}
 use Rattle.sv_cells.specs.declared.cell.Held.TheVariants.{Alone, Shared, Lent}
 use Rattle.sv_cells.specs.declared.cells.Cells.{Cells}
-use Rattle.sv_rules.specs.Control.{control_on, no_control, side_at, vector_of}
+use Rattle.sv_rules.specs.Control.{control_on, side_at, vector_of}
 use Rattle.sv_rules.specs.Coupling.{coupling_at, coupling_now, couplings}
 use Rattle.std.specs.Option.{option_map_or}
 use Rattle.sv_rules.specs.Entries.{Entries, next_place, since}

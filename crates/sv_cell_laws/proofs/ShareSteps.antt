@@ -13,7 +13,7 @@ use Rattle.sv_access.specs.declared.access.Kind.TheVariants as kind
 use Rattle.sv_access.specs.State.{state_after}
 use Rattle.sv_access.specs.Story.{Story, last_value, state_of_story}
 use Rattle.sv_events.specs.Entry.{PlainEntry}
-use Rattle.sv_story.specs.Share.{PlainShare, IsShareOf, after_set, after_use, known_to, knowing, share_of, shared_value}
+use Rattle.sv_story.specs.Share.{PlainShare, IsShareOf, after_access, after_set, after_use, known_to, knowing, share_of, shared_value}
 use Rattle.sv_rules.specs.Coupling.{coupling_now}
 use Rattle.sv_rules.specs.Entries.{Entries, next_place}
 use Rattle.sv_rules.specs.Legal.{IsLegal}
@@ -24,7 +24,7 @@ use Rattle.sv_rules.specs.declared.standing.Standing.{Standing}
 use Rattle.sv_story_laws.specs.StoryLaws.{BeginsWithTheGivers, state_at_coupling}
 use Rattle.sv_story_laws.proofs.OpeningLemmas.{known_later, stories_begin_with_the_givers}
 use Rattle.sv_cell_laws.specs.Fits.{FitsShare}
-use Rattle.sv_cell_laws.specs.Steps.{after_access, with_access, with_entry}
+use Rattle.sv_cell_laws.specs.Steps.{with_access, with_entry}
 
 -- a use gets the value that is shared
 abbrev pub GetsShared : PlainShare → Option GrantedAccess → Type 0

@@ -1,6 +1,7 @@
 -- What is kept of a standing offer after an entry, by what was kept before.
 use Rattle.std.specs.Prelude.{◌≡◌, ℕ, ◌==◌, Bool, true, false, ◌&&◌, not, Contains, IsTrue, is_some, Option, Some, None, option_map, unwrap_or, List, [], ◌∷◌, ◌++◌, if◌then◌else◌}
 use Rattle.apl_arrays.specs.Array.{PlainArray}
+use Rattle.sv_access.specs.Control.{no_control}
 use Rattle.sv_access.specs.declared.access.Kind.{Kind}
 use Rattle.sv_access.specs.declared.access.Kind.TheVariants as kind
 use Rattle.sv_access.specs.declared.access.Side.{Side}
@@ -8,7 +9,7 @@ use Rattle.sv_access.specs.declared.control.Control.{Control}
 use Rattle.sv_access.specs.declared.access.Side.TheVariants.{A, B}
 use Rattle.std.specs.Option.{option_map_or}
 use Rattle.sv_access.specs.Access.{is_set}
-use Rattle.sv_cells.specs.Cell.{answered, coupled_with, holding, known_alone, new_cell, no_control}
+use Rattle.sv_cells.specs.Cell.{answered, coupled_with, holding, known_alone, new_cell}
 use Rattle.sv_cells.specs.Cells.{ChangesAt, PutsAt, PutsTwo, cell_at}
 use Rattle.sv_cells.specs.declared.cell.Cell.{Cell}
 use Rattle.sv_cells.specs.declared.cell.Held.{Held}
@@ -26,12 +27,7 @@ use Rattle.sv_rules.specs.Story.{GrantedAccess, access_on, known_after}
 use Rattle.sv_rules.specs.Work.{is_auxiliary, gets_value, tries}
 use Rattle.sv_rules.specs.declared.coupling.Coupling.{Coupling}
 use Rattle.sv_rules.specs.declared.standing.Standing.{Standing}
-use Rattle.sv_story.specs.Share.{PlainShare, after_set, after_use, share_of}
-
--- a share after an access of a side, of a kind
-abbrev pub after_access : PlainShare → Side → Kind → PlainArray → PlainShare
-after_access share side kind.Set v = after_set share side v
-after_access share side kind.Use v = after_use share side v
+use Rattle.sv_story.specs.Share.{PlainShare, after_access, share_of}
 
 -- a share after the access of a side, if it made one
 abbrev pub with_access : PlainShare → Side → Option GrantedAccess → PlainShare

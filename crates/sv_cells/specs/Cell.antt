@@ -1,6 +1,6 @@
 use Rattle.std.specs.Prelude.{Bool, true, false, Option, Some, None}
 use Rattle.apl_arrays.specs.Array.{PlainArray}
-use Rattle.sv_access.specs.Control.{four_elements}
+use Rattle.sv_access.specs.Control.{no_control}
 use Rattle.sv_access.specs.declared.access.Side.{Side}
 use Rattle.sv_access.specs.declared.control.Control.{Control}
 use Rattle.sv_story.specs.Share.{PlainShare, after_get, after_set, shared_value}
@@ -19,10 +19,6 @@ abbrev pub share_in : Held → Option PlainShare
 share_in (Alone value) = None
 share_in (Shared share) = Some share
 share_in Lent = None
-
--- nothing is controlled
-abbrev pub no_control : Control
-no_control = four_elements false false false false
 
 -- the cell of an offer that is new, by the value that it was handed
 abbrev pub new_cell : Option PlainArray → Cell

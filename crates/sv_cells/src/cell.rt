@@ -4,11 +4,8 @@ ghost use Rattle.sv_cells.specs.Cell.{after_set_in, after_use_in, answered, cont
 ghost use Rattle.sv_story.specs.Share.{PlainShare, after_set, shared_value};
 
 use apl_arrays::{Array, WantOfMemory};
-use sv_access::{Control, Side};
+use sv_access::{Control, NO_CONTROL, Side};
 use sv_story::Share;
-
-/// Nothing is controlled.
-pub const NO_CONTROL: Control = Control([false, false, false, false]);
 
 /// What the cell of an offer holds.
 #[derive(Debug, Drop)]

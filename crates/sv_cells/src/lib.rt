@@ -5,5 +5,5 @@
 mod cell;
 mod cells;
 
-pub use cell::{Cell, Held, NO_CONTROL};
+pub use cell::{Cell, Held};
 pub use cells::Cells;

@@ -12,7 +12,8 @@ use Rattle.sv_events.specs.declared.entry.Pair.{Pair}
 use Rattle.sv_events.specs.declared.event.Act.{Act}
 use Rattle.sv_events.specs.declared.event.Act.TheVariants.{Retract, Leave}
 use Rattle.sv_events.specs.declared.row.Ending.{Ending}
-use Rattle.sv_cells.specs.Cell.{coupled_with, known_alone, new_cell, no_control}
+use Rattle.sv_access.specs.Control.{no_control}
+use Rattle.sv_cells.specs.Cell.{coupled_with, known_alone, new_cell}
 use Rattle.sv_cells.specs.Cells.{CouplesAt, KeepsCells, PutsAt, cell_at}
 use Rattle.sv_cells.specs.declared.cell.Cell.{Cell}
 use Rattle.sv_cells.specs.declared.cell.Held.TheVariants.{Shared, Lent}

@@ -9,8 +9,7 @@ ghost use Rattle.sv_rules.specs.Work.{own_offers};
 
 use crate::Core;
 use apl_arrays::{Name, WantOfMemory};
-use sv_access::Control;
-use sv_cells::NO_CONTROL;
+use sv_access::{Control, NO_CONTROL};
 use sv_events::{Answer, Question};
 use sv_rules::{OFFER_LIMIT, Standing};
 

@@ -17,8 +17,8 @@ ghost use Rattle.sv_story_laws.specs.StoryLaws.{offer_on};
 
 use crate::Core;
 use apl_arrays::Array;
-use sv_access::{Control, Kind, Side, State, join, view};
-use sv_cells::{Held, NO_CONTROL};
+use sv_access::{Control, Kind, NO_CONTROL, Side, State, join, view};
+use sv_cells::Held;
 use sv_events::Hold;
 use sv_rules::{Coupling, Standing, hold_by_state, side_at};
 use sv_story::{Share, alone};

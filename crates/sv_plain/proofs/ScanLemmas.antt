@@ -4,7 +4,8 @@ use Rattle.std.specs.Prelude.{find, is_some}
 use Rattle.std.specs.List.{list_any}
 use Rattle.std.specs.Option.{option_map_or}
 use Rattle.std.proofs.lemmas.Bool.{le-ltb}
-use Rattle.sv_rules.specs.Control.{control_on, no_control, vector_of}
+use Rattle.sv_access.specs.Control.{no_control}
+use Rattle.sv_rules.specs.Control.{control_on, vector_of}
 use Rattle.sv_rules.specs.Entries.{Entries, since}
 use Rattle.sv_rules.specs.Work.{gets_value, lacks_control, owes_reply, tries}
 use Rattle.sv_rules.specs.declared.coupling.Coupling.{Coupling}

@@ -6,10 +6,10 @@ ghost use Rattle.sv_rules.specs.Refused.{hold_on, hold_under};
 ghost use Rattle.sv_rules.specs.Standing.{standing};
 
 use crate::stories::{opening_state, story_state};
-use crate::vectors::{NO_CONTROL, partners_vector, vector_of};
+use crate::vectors::{partners_vector, vector_of};
 use apl_arrays::WantOfMemory;
 use std::alloc::Global;
-use sv_access::{Control, Kind, Side, join, view};
+use sv_access::{Control, Kind, NO_CONTROL, Side, join, view};
 use sv_events::{Entry, Hold};
 use sv_rules::{Coupling, Made, Standing, coupling_at, hold_by_state, side_at};
 

@@ -2,12 +2,9 @@ ghost use Rattle.std.specs.Prelude.{◌≡◌};
 ghost use Rattle.sv_rules.specs.Control.{vector_of, partners_vector};
 ghost use Rattle.sv_rules.specs.Journal.{journal_of};
 
-use sv_access::Control;
+use sv_access::{Control, NO_CONTROL};
 use sv_events::Entry;
 use sv_rules::{Coupling, Standing, control_on};
-
-/// Nothing is controlled.
-pub const NO_CONTROL: Control = Control([false, false, false, false]);
 
 /// The vector of an offer, in its party's view: the last control that its party set on it since, else none. No memory.
 pub fn vector_of(entries: &[Entry], offer: &Standing) -> Control

@@ -1,6 +1,6 @@
-use Rattle.std.specs.Prelude.{ℕ, false, ◌==◌, nat_lt, List, [], ◌∷◌, Option, Some, None, unwrap_or, if◌then◌else◌}
+use Rattle.std.specs.Prelude.{ℕ, ◌==◌, nat_lt, List, [], ◌∷◌, Option, Some, None, unwrap_or, if◌then◌else◌}
 use Rattle.apl_arrays.specs.Array.{PlainArray}
-use Rattle.sv_access.specs.Control.{combined, four_elements}
+use Rattle.sv_access.specs.Control.{combined, no_control}
 use Rattle.sv_access.specs.Story.{Story, vector_of_story}
 use Rattle.sv_access.specs.declared.access.Side.{Side}
 use Rattle.sv_access.specs.declared.access.Side.TheVariants.{A, B}
@@ -14,10 +14,6 @@ use Rattle.sv_rules.specs.Entries.{Entries, next_place}
 use Rattle.sv_rules.specs.Story.{opening, story}
 use Rattle.sv_rules.specs.declared.coupling.Coupling.{Coupling}
 use Rattle.sv_rules.specs.declared.standing.Standing.{Standing}
-
--- nothing is controlled
-abbrev pub no_control : Control
-no_control = four_elements false false false false
 
 -- the control that is set on a local name, if one is
 abbrev pub control_to : List ℕ → Option Controlling → Option Control

@@ -11,8 +11,8 @@ use Rattle.sv_access.specs.declared.state.State.{State}
 use Rattle.sv_access.specs.Access.{Access}
 use Rattle.sv_access.specs.State.{state_after}
 use Rattle.sv_access.specs.Story.{Story, last_value, state_of_story}
-use Rattle.sv_story.specs.Laws.{IsBy, SidesKnowTheirLast, after_access, given, known_since, share_since}
-use Rattle.sv_story.specs.Share.{IsShareOf, PlainShare, giver, known_to, share_of, unseen_by_other}
+use Rattle.sv_story.specs.Laws.{IsBy, SidesKnowTheirLast, given, known_since, share_since}
+use Rattle.sv_story.specs.Share.{IsShareOf, PlainShare, after_access, giver, known_to, share_of, unseen_by_other}
 
 -- a set leaves the same state, whatever the state was
 set_from_any : (state : State) (side : Side) → state_after state side Set ≡ unseen_by_other side true
@@ -57,7 +57,7 @@ begins story None b by is = record {
 
 -- after an access its side knows its value, and the other what it knew
 known_next : (share : PlainShare) (first : Option PlainArray) (story : Story PlainArray) (who : Side) (kind : Kind) (value : PlainArray) (side : Side) → known_to share side ≡ known_since first side story
-    → known_to (after_access share (record { side = who; kind = kind; value = value })) side ≡ known_since first side (record { side = who; kind = kind; value = value } ∷ story)
+    → known_to (after_access share who kind value) side ≡ known_since first side (record { side = who; kind = kind; value = value } ∷ story)
 known_next share first story A Set value A before = refl
 known_next share first story A Use value A before = refl
 known_next share first story B Set value B before = refl

@@ -1,13 +1,13 @@
 -- What a share keeps is what the plain story of its coupling says.
-use Rattle.std.specs.Prelude.{◌≡◌, [], ◌∷◌, All, Option, Some, None, is_some, find, option_map, if◌then◌else◌}
+use Rattle.std.specs.Prelude.{◌≡◌, [], ◌∷◌, All, Option, Some, None, is_some, find, option_map}
 use Rattle.std.specs.Option.{option_or}
 use Rattle.apl_arrays.specs.Array.{PlainArray}
 use Rattle.sv_access.specs.declared.access.Side.{Side}
 use Rattle.sv_access.specs.declared.access.Side.TheVariants.{A}
 use Rattle.sv_access.specs.declared.access.Kind.TheVariants.{Set, Use}
-use Rattle.sv_access.specs.Access.{Access, is_set, same_side}
+use Rattle.sv_access.specs.Access.{Access, same_side}
 use Rattle.sv_access.specs.Story.{Story, last_value, state_of_story}
-use Rattle.sv_story.specs.Share.{PlainShare, IsShareOf, after_set, after_use, alone, giver, known_to, share_of, shared_value}
+use Rattle.sv_story.specs.Share.{PlainShare, IsShareOf, after_access, after_set, after_use, alone, giver, known_to, share_of, shared_value}
 
 -- a set goes into the story
 abbrev pub SetsGoOn : Type 0
@@ -36,14 +36,10 @@ CouplingsBegin = (story : Story PlainArray) (a b : Option PlainArray) → IsBy (
 abbrev pub OpenOffersAreAlone : Type 0
 OpenOffersAreAlone = (story : Story PlainArray) → IsBy A story → state_of_story story ≡ alone (is_some (last_value story))
 
--- a share after a granted access
-abbrev pub after_access : PlainShare → Access PlainArray → PlainShare
-after_access share access = if is_set access.kind then after_set share access.side access.value else after_use share access.side access.value
-
 -- the share of two offers after the accesses since they coupled, the newest first, by what their parties knew then
 abbrev pub share_since : Option PlainArray → Option PlainArray → Story PlainArray → PlainShare
 share_since a b [] = share_of a b
-share_since a b (access ∷ story) = after_access (share_since a b story) access
+share_since a b (access ∷ story) = after_access (share_since a b story) access.side access.kind access.value
 
 -- the value of a side's last access, else what it knew before
 abbrev pub known_since : Option PlainArray → Side → Story PlainArray → Option PlainArray

@@ -2,6 +2,7 @@ use Rattle.std.specs.Prelude.{◌≡◌, Bool, true, false, Option, Some, None, 
 use Rattle.apl_arrays.specs.Array.{PlainArray}
 use Rattle.sv_access.specs.declared.access.Side.{Side}
 use Rattle.sv_access.specs.declared.access.Side.TheVariants.{A, B}
+use Rattle.sv_access.specs.declared.access.Kind.{Kind}
 use Rattle.sv_access.specs.declared.access.Kind.TheVariants.{Set, Use}
 use Rattle.sv_access.specs.declared.state.State.{State}
 use Rattle.sv_access.specs.declared.state.State.TheVariants.{Quiet}
@@ -58,6 +59,11 @@ after_set share side value = record (knowing share side value) { state = state_a
 -- the share after a use that got a value
 abbrev pub after_use : PlainShare → Side → PlainArray → PlainShare
 after_use share side value = record (knowing share side value) { state = state_after share.state side Use }
+
+-- the share after an access, be it a set or a use that got a value
+abbrev pub after_access : PlainShare → Side → Kind → PlainArray → PlainShare
+after_access share side Set value = after_set share side value
+after_access share side Use value = after_use share side value
 
 -- the share after a use, which changes nothing where there is no value
 abbrev pub after_get : PlainShare → Side → Option PlainArray → PlainShare

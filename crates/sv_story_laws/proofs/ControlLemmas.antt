@@ -8,7 +8,7 @@ use Rattle.std.proofs.lemmas.List.{length-append}
 use Rattle.std.proofs.lemmas.List.Elements.{All-head, All-tail}
 use Rattle.std.proofs.lemmas.Option.{cond_some, none-some, same_Some}
 use Rattle.apl_arrays.specs.Array.{PlainArray}
-use Rattle.sv_access.specs.Control.{combined, has_element, in_view}
+use Rattle.sv_access.specs.Control.{combined, has_element, in_view, no_control}
 use Rattle.sv_access.specs.State.{vector_of_state}
 use Rattle.sv_access.specs.Story.{Story, is_early, refused_element, state_of_story}
 use Rattle.sv_access.specs.Table.{element_of, owners_among, owners_of, verdict_of}
@@ -27,7 +27,7 @@ use Rattle.sv_events.specs.declared.event.Act.{Act}
 use Rattle.sv_events.specs.declared.event.Act.TheVariants.{SetControl}
 use Rattle.sv_events.specs.declared.event.Hold.{Hold}
 use Rattle.sv_events.specs.declared.row.Accessing.{Accessing}
-use Rattle.sv_rules.specs.Control.{no_control, control_to, control_on, vector_of, Sharing, sharing, sharing_of, side_at, state_of, control_in_force, partners_vector}
+use Rattle.sv_rules.specs.Control.{control_to, control_on, vector_of, Sharing, sharing, sharing_of, side_at, state_of, control_in_force, partners_vector}
 use Rattle.sv_story_laws.specs.ControlLaws.{SetsNoControl}
 use Rattle.sv_rules.specs.Coupling.{coupling_now}
 use Rattle.apl_arrays.specs.Name.{same_name}

@@ -1,6 +1,6 @@
 use Rattle.std.specs.Prelude.{◌≡◌, ◌↔◌, ℕ, List, ◌∷◌, ◌++◌, All, Contains, Some, None, length}
 use Rattle.std.specs.Option.{IfSome}
-use Rattle.sv_access.specs.Control.{combined, in_view}
+use Rattle.sv_access.specs.Control.{combined, in_view, no_control}
 use Rattle.sv_access.specs.State.{vector_of_state}
 use Rattle.sv_access.specs.Story.{state_of_story}
 use Rattle.sv_access.specs.Table.{element_of, verdict_of, owners_of}
@@ -11,7 +11,7 @@ use Rattle.sv_access.specs.declared.verdict.Verdict.TheVariants.{Granted, Held}
 use Rattle.sv_events.specs.Entry.{PlainEntry}
 use Rattle.sv_events.specs.declared.event.Act.TheVariants.{SetControl}
 use Rattle.sv_events.specs.declared.event.Hold.{Hold}
-use Rattle.sv_rules.specs.Control.{no_control, control_on, vector_of, side_at, sharing, control_in_force, state_of}
+use Rattle.sv_rules.specs.Control.{control_on, vector_of, side_at, sharing, control_in_force, state_of}
 use Rattle.sv_rules.specs.Coupling.{coupling_now}
 use Rattle.sv_rules.specs.Entries.{Entries, next_place}
 use Rattle.sv_rules.specs.Legal.{IsLegal}

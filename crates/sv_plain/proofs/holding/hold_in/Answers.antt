@@ -1,8 +1,9 @@
 use Rattle.std.proofs.Common.{ap, sym, ◌∙◌, Option}
+use Rattle.sv_access.specs.Control.{no_control}
 use Rattle.sv_access.specs.declared.access.Side.{Side}
 use Rattle.sv_access.specs.declared.access.Side.TheVariants.{A}
 use Rattle.sv_access.specs.declared.control.Control.{Control}
-use Rattle.sv_rules.specs.Control.{Sharing, no_control, vector_of, sharing_of}
+use Rattle.sv_rules.specs.Control.{Sharing, vector_of, sharing_of}
 use Rattle.sv_rules.specs.Journal.{journal_of}
 use Rattle.sv_rules.specs.Refused.{hold_under}
 use Rattle.sv_rules.specs.Story.{opening, story}

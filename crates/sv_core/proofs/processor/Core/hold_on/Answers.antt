@@ -1,11 +1,12 @@
 use Rattle.std.proofs.Common.{◌≡◌, ap, sym, ◌∙◌, subst, None, Option}
 use Rattle.std.specs.Prelude.{IfSome}
 use Rattle.sv_core.specs.Core.{IsFound}
+use Rattle.sv_access.specs.Control.{no_control}
 use Rattle.sv_rules.specs.Coupling.{coupling_now}
 use Rattle.sv_rules.specs.declared.coupling.Coupling.{Coupling}
 use Rattle.sv_access.specs.declared.access.Side.TheVariants.{A}
 use Rattle.sv_access.specs.declared.control.Control.{Control}
-use Rattle.sv_rules.specs.Control.{Sharing, no_control, sharing_of}
+use Rattle.sv_rules.specs.Control.{Sharing, sharing_of}
 use Rattle.sv_rules.specs.Refused.{hold_under}
 use Rattle.sv_rules.specs.Story.{opening}
 use Rattle.sv_core.proofs.processor.Core.hold_on.Goals as goal
