@@ -1,5 +1,5 @@
-ghost use Rattle.std.specs.Prelude.{◌≡◌};
-ghost use Rattle.sv_text.specs.Reading.{Gives};
+ghost use Rattle.std.specs.Prelude.{◌≡◌, IfErr};
+ghost use Rattle.sv_text.specs.Reading.{Gives, IsStop};
 ghost use Rattle.sv_journal.specs.HoldReading.{bit_at, control_at, hold_at};
 
 use crate::word::{Word, read_word};
@@ -27,7 +27,8 @@ impl Word for Owners {
 /// Reads the four elements of a control or of a state, each behind a blank. No memory.
 #[tactic(auto, unfolding(crate::specs::HoldReading::bits_at))]
 pub(crate) fn read_control(cursor: &mut Cursor<'_>) -> Result<Control, Unread>
-    ensures { Gives (λ control. (control, cursor.new)) result (control_at cursor.old) }
+    ensures value { Gives (λ control. (control, cursor.new)) result (control_at cursor.old) }
+    ensures free { IfErr result IsStop }
 {
     let first = read_bit(cursor)?;
     let second = read_bit(cursor)?;
@@ -39,7 +40,8 @@ pub(crate) fn read_control(cursor: &mut Cursor<'_>) -> Result<Control, Unread>
 // Reads an element behind a blank.
 #[tactic(auto, unfolding(crate::specs::HoldReading::bit_at))]
 fn read_bit(cursor: &mut Cursor<'_>) -> Result<bool, Unread>
-    ensures { Gives (λ bit. (bit, cursor.new)) result (bit_at cursor.old) }
+    ensures value { Gives (λ bit. (bit, cursor.new)) result (bit_at cursor.old) }
+    ensures free { IfErr result IsStop }
 {
     cursor.text(b" ")?;
     let bit = cursor.number(0, 1)?;
@@ -49,7 +51,8 @@ fn read_bit(cursor: &mut Cursor<'_>) -> Result<bool, Unread>
 /// Reads what refuses an access behind a blank: the element, and whose 1 it is. No memory.
 #[tactic(auto, unfolding(crate::specs::HoldReading::hold_at))]
 pub(crate) fn read_hold(cursor: &mut Cursor<'_>) -> Result<Hold, Unread>
-    ensures { Gives (λ hold. (hold, cursor.new)) result (hold_at cursor.old) }
+    ensures value { Gives (λ hold. (hold, cursor.new)) result (hold_at cursor.old) }
+    ensures free { IfErr result IsStop }
 {
     cursor.text(b" ")?;
     let element = cursor.number(1, 4)?;

@@ -1,5 +1,5 @@
-ghost use Rattle.std.specs.Prelude.{◌≡◌, ◌≤◌, ℕ, List, length};
-ghost use Rattle.sv_text.specs.Reading.{Gives};
+ghost use Rattle.std.specs.Prelude.{◌≡◌, ◌≤◌, IfErr, ℕ, List, length};
+ghost use Rattle.sv_text.specs.Reading.{Gives, IsStop};
 ghost use Rattle.sv_journal.specs.WordReading.{word_at};
 
 use sv_text::{Cursor, Unread};
@@ -15,7 +15,8 @@ pub(crate) trait Word: Copy {
 
 /// Reads the word of one of these, none of whose words begins another one's. No memory.
 pub(crate) fn read_word<W: Word>(cursor: &mut Cursor<'_>, words: &[W]) -> Result<W, Unread>
-    ensures { Gives (λ word. (word, cursor.new)) result (word_at W.text 0 words.now cursor.old) }
+    ensures value { Gives (λ word. (word, cursor.new)) result (word_at W.text 0 words.now cursor.old) }
+    ensures free { IfErr result IsStop }
 {
     read_one_of(cursor, words, 0)
 }
@@ -23,7 +24,8 @@ pub(crate) fn read_word<W: Word>(cursor: &mut Cursor<'_>, words: &[W]) -> Result
 // Reads the word of one of these, where so many glyphs stand there that another word begins with.
 fn read_one_of<W: Word>(cursor: &mut Cursor<'_>, words: &[W], shared: usize) -> Result<W, Unread>
     requires { shared ≤ length cursor.old }
-    ensures { Gives (λ word. (word, cursor.new)) result (word_at W.text shared words.now cursor.old) }
+    ensures value { Gives (λ word. (word, cursor.new)) result (word_at W.text shared words.now cursor.old) }
+    ensures free { IfErr result IsStop }
 {
     match words {
         [] => Err(Unread::Left(cursor.left() - shared)),
