@@ -1,5 +1,5 @@
 ghost use Rattle.std.specs.Prelude.{◌≡◌, IfErr};
-ghost use Rattle.sv_text.specs.Reading.{Gives, IsStop};
+ghost use Rattle.sv_text.specs.Reading.{Gives, IsLeft};
 ghost use Rattle.sv_journal.specs.ActReading.{act_at, act_behind, offer_at, set_control_at, set_at, local_at, party_at};
 
 use crate::act_word::{ACT_WORDS, ActWord};
@@ -80,7 +80,7 @@ fn read_set(alloc: Global, cursor: &mut Cursor<'_>) -> Result<Act, Unread>
 #[tactic(auto, unfolding(crate::specs::ActReading::local_at))]
 pub(crate) fn read_local(cursor: &mut Cursor<'_>) -> Result<Name, Unread>
     ensures value { Gives (λ name. (name, cursor.new)) result (local_at cursor.old) }
-    ensures free { IfErr result IsStop }
+    ensures free { IfErr result IsLeft }
 {
     cursor.text(b" ")?;
     cursor.name()
@@ -90,7 +90,7 @@ pub(crate) fn read_local(cursor: &mut Cursor<'_>) -> Result<Name, Unread>
 #[tactic(auto, unfolding(crate::specs::ActReading::party_at))]
 pub(crate) fn read_party(cursor: &mut Cursor<'_>) -> Result<u32, Unread>
     ensures value { Gives (λ party. (party, cursor.new)) result (party_at cursor.old) }
-    ensures free { IfErr result IsStop }
+    ensures free { IfErr result IsLeft }
 {
     cursor.text(b" ")?;
     let party = cursor.number(0, u64::from(u32::MAX))?;

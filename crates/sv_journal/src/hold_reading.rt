@@ -1,5 +1,5 @@
 ghost use Rattle.std.specs.Prelude.{◌≡◌, IfErr};
-ghost use Rattle.sv_text.specs.Reading.{Gives, IsStop};
+ghost use Rattle.sv_text.specs.Reading.{Gives, IsLeft};
 ghost use Rattle.sv_journal.specs.HoldReading.{bit_at, control_at, hold_at};
 
 use crate::word::{Word, read_word};
@@ -28,7 +28,7 @@ impl Word for Owners {
 #[tactic(auto, unfolding(crate::specs::HoldReading::bits_at))]
 pub(crate) fn read_control(cursor: &mut Cursor<'_>) -> Result<Control, Unread>
     ensures value { Gives (λ control. (control, cursor.new)) result (control_at cursor.old) }
-    ensures free { IfErr result IsStop }
+    ensures free { IfErr result IsLeft }
 {
     let first = read_bit(cursor)?;
     let second = read_bit(cursor)?;
@@ -41,7 +41,7 @@ pub(crate) fn read_control(cursor: &mut Cursor<'_>) -> Result<Control, Unread>
 #[tactic(auto, unfolding(crate::specs::HoldReading::bit_at))]
 fn read_bit(cursor: &mut Cursor<'_>) -> Result<bool, Unread>
     ensures value { Gives (λ bit. (bit, cursor.new)) result (bit_at cursor.old) }
-    ensures free { IfErr result IsStop }
+    ensures free { IfErr result IsLeft }
 {
     cursor.text(b" ")?;
     let bit = cursor.number(0, 1)?;
@@ -52,7 +52,7 @@ fn read_bit(cursor: &mut Cursor<'_>) -> Result<bool, Unread>
 #[tactic(auto, unfolding(crate::specs::HoldReading::hold_at))]
 pub(crate) fn read_hold(cursor: &mut Cursor<'_>) -> Result<Hold, Unread>
     ensures value { Gives (λ hold. (hold, cursor.new)) result (hold_at cursor.old) }
-    ensures free { IfErr result IsStop }
+    ensures free { IfErr result IsLeft }
 {
     cursor.text(b" ")?;
     let element = cursor.number(1, 4)?;

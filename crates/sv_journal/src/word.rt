@@ -1,5 +1,5 @@
 ghost use Rattle.std.specs.Prelude.{◌≡◌, ◌≤◌, IfErr, ℕ, List, length};
-ghost use Rattle.sv_text.specs.Reading.{Gives, IsStop};
+ghost use Rattle.sv_text.specs.Reading.{Gives, IsLeft};
 ghost use Rattle.sv_journal.specs.WordReading.{word_at};
 
 use sv_text::{Cursor, Unread};
@@ -16,7 +16,7 @@ pub(crate) trait Word: Copy {
 /// Reads the word of one of these, none of whose words begins another one's. No memory.
 pub(crate) fn read_word<W: Word>(cursor: &mut Cursor<'_>, words: &[W]) -> Result<W, Unread>
     ensures value { Gives (λ word. (word, cursor.new)) result (word_at W.text 0 words.now cursor.old) }
-    ensures free { IfErr result IsStop }
+    ensures free { IfErr result IsLeft }
 {
     read_one_of(cursor, words, 0)
 }
@@ -25,7 +25,7 @@ pub(crate) fn read_word<W: Word>(cursor: &mut Cursor<'_>, words: &[W]) -> Result
 fn read_one_of<W: Word>(cursor: &mut Cursor<'_>, words: &[W], shared: usize) -> Result<W, Unread>
     requires { shared ≤ length cursor.old }
     ensures value { Gives (λ word. (word, cursor.new)) result (word_at W.text shared words.now cursor.old) }
-    ensures free { IfErr result IsStop }
+    ensures free { IfErr result IsLeft }
 {
     match words {
         [] => Err(Unread::Left(cursor.left() - shared)),

@@ -26,9 +26,9 @@ Stops WantOfMemory read = Unit {0}
 Stops (Left left) read = read ≡ Err left
 
 -- a reading stops since no text goes on as the line does, and not for want of memory
-abbrev pub IsStop : Unread → Type 0
-IsStop (Left left) = Unit {0}
-IsStop WantOfMemory = ⊥
+abbrev pub IsLeft : Unread → Type 0
+IsLeft (Left left) = Unit {0}
+IsLeft WantOfMemory = ⊥
 
 -- what a call found, as plain data, is what is read, unless memory ran out
 abbrev pub Gives : {X Y : Type 0} → (X → Y) → Result X Unread → Result Y ℕ → Type 0

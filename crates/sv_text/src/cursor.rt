@@ -1,7 +1,7 @@
 ghost use Rattle.std.specs.Prelude.{◌≡◌, ◌≤◌, All, IfErr, IfOk, length};
 ghost use Rattle.apl_arrays.specs.Glyph.{IsGlyph};
 ghost use Rattle.apl_arrays.specs.List.{first_of, others_of};
-ghost use Rattle.sv_text.specs.Reading.{Gives, IsStop, literal_at, name_at, shared_length};
+ghost use Rattle.sv_text.specs.Reading.{Gives, IsLeft, literal_at, name_at, shared_length};
 ghost use Rattle.sv_text.specs.NumberReading.{number_at};
 
 use crate::literal::{behind, shared_length};
@@ -97,7 +97,7 @@ impl<'a> Cursor<'a> {
     /// Reads a fixed text of ASCII. No memory.
     pub fn text(&mut self, text: &[u8]) -> Result<(), Unread>
         ensures value { Gives (λ _. self.new) result (literal_at text.now self.old) }
-        ensures free { IfErr result IsStop }
+        ensures free { IfErr result IsLeft }
     {
         self.rest = behind(text, self.rest)?;
         Ok(())
@@ -108,7 +108,7 @@ impl<'a> Cursor<'a> {
     pub fn number(&mut self, low: u64, high: u64) -> Result<u64, Unread>
         requires { low ≤ high }
         ensures value { Gives (λ number. (number, self.new)) result (number_at low high self.old) }
-        ensures free { IfErr result IsStop }
+        ensures free { IfErr result IsLeft }
         ensures least { IfOk result (λ number. low ≤ number) }
         ensures most { IfOk result (λ number. number ≤ high) }
     {
@@ -120,7 +120,7 @@ impl<'a> Cursor<'a> {
     /// Reads a name, as long as it may be. No memory.
     pub fn name(&mut self) -> Result<Name, Unread>
         ensures value { Gives (λ name. (name, self.new)) result (name_at self.old) }
-        ensures free { IfErr result IsStop }
+        ensures free { IfErr result IsLeft }
     {
         let length = Name::run_length(self.rest).min(NAME_LIMIT);
         let (front, rest) = self.rest.split_at(length);

@@ -1,5 +1,5 @@
 ghost use Rattle.std.specs.Prelude.{◌≡◌, ◌≤◌, IfErr, length};
-ghost use Rattle.sv_text.specs.Reading.{Gives, IsStop, literal_at, shared_length};
+ghost use Rattle.sv_text.specs.Reading.{Gives, IsLeft, literal_at, shared_length};
 
 use crate::unread::Unread;
 use apl_arrays::Glyph;
@@ -7,7 +7,7 @@ use apl_arrays::Glyph;
 /// What stands behind a fixed text of ASCII at the front of a line. No memory.
 pub(crate) fn behind<'a>(text: &[u8], glyphs: &'a [Glyph]) -> Result<&'a [Glyph], Unread>
     ensures value { Gives (λ rest. rest.now) result (literal_at text.now glyphs.now) }
-    ensures free { IfErr result IsStop }
+    ensures free { IfErr result IsLeft }
 {
     match text {
         [] => Ok(glyphs),

@@ -1,5 +1,5 @@
 ghost use Rattle.std.specs.Prelude.{◌≡◌, ◌≤◌, IsTrue, IfErr, IfOk, IfSome};
-ghost use Rattle.sv_text.specs.Reading.{Gives, IsStop};
+ghost use Rattle.sv_text.specs.Reading.{Gives, IsLeft};
 ghost use Rattle.sv_text.specs.NumberReading.{reaches, number_ends, with_digit, digits_at, number_at};
 
 use crate::unread::Unread;
@@ -13,7 +13,7 @@ const DIGIT_LIMIT: u8 = 20;
 pub(crate) fn number_in(low: u64, high: u64, glyphs: &[Glyph]) -> Result<(u64, &[Glyph]), Unread>
     requires { low ≤ high }
     ensures value { Gives (λ found. (found.0, found.1.now)) result (number_at low high glyphs.now) }
-    ensures free { IfErr result IsStop }
+    ensures free { IfErr result IsLeft }
     ensures least { IfOk result (λ found. low ≤ found.0) }
     ensures most { IfOk result (λ found. found.0 ≤ high) }
 {
@@ -44,7 +44,7 @@ pub(crate) fn number_in(low: u64, high: u64, glyphs: &[Glyph]) -> Result<(u64, &
 fn digits_in(low: u64, high: u64, value: u64, glyphs: &[Glyph]) -> Result<(u64, &[Glyph]), Unread>
     requires { value ≤ high }
     ensures value { Gives (λ found. (found.0, found.1.now)) result (digits_at low high value glyphs.now) }
-    ensures free { IfErr result IsStop }
+    ensures free { IfErr result IsLeft }
     ensures least { IfOk result (λ found. low ≤ found.0) }
     ensures most { IfOk result (λ found. found.0 ≤ high) }
 {
@@ -60,7 +60,7 @@ fn digits_in(low: u64, high: u64, value: u64, glyphs: &[Glyph]) -> Result<(u64, 
 // A number that ends here: it is one of the range where it is no less than the least.
 fn number_ends(low: u64, value: u64, glyphs: &[Glyph]) -> Result<(u64, &[Glyph]), Unread>
     ensures value { Gives (λ found. (found.0, found.1.now)) result (number_ends low value glyphs.now) }
-    ensures free { IfErr result IsStop }
+    ensures free { IfErr result IsLeft }
     ensures least { IfOk result (λ found. low ≤ found.0) }
     ensures same { IfOk result (λ found. found.0 ≡ value) }
 {
