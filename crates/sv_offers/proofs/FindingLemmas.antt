@@ -1,7 +1,6 @@
 -- The first of each key.
 use Rattle.std.proofs.Common.{◌≡◌, refl, sym, ap, ap₂, ◌∙◌, ℕ, Bool, true, false, ◌||◌, cond, eqb, List, [], ◌∷◌, Option, Some, None, filter, find, inl, inr}
 use Rattle.std.specs.Prelude.{Contains, is_some}
-use Rattle.std.specs.BTreeMap.{values}
 use Rattle.std.specs.HashMap.{get}
 use Rattle.std.specs.List.{list_any}
 use Rattle.std.specs.Option.{option_or}
@@ -12,8 +11,9 @@ use Rattle.sv_offer_laws.proofs.Members.{list_any_member}
 use Rattle.sv_offer_laws.proofs.OwnLemmas.{own-itself, same_name-is}
 use Rattle.sv_offers.proofs.FilterLemmas.{found_among}
 use Rattle.sv_offers.proofs.PlaceLemmas.{kept_elsewhere}
-use Rattle.sv_offers.proofs.ShelfLemmas.{of_party, to_party}
-use Rattle.sv_offers.specs.Finding.{AreUnderPlaces, same_key}
+use Rattle.sv_offers.proofs.ShelfLemmas.{of_party}
+use Rattle.sv_offers.specs.Addressed.{is_made_to, listed_at}
+use Rattle.sv_offers.specs.Finding.{same_key}
 use Rattle.sv_offers.specs.Inside.{AreFound}
 use Rattle.sv_offers.specs.Places.{ByPlace, without_place}
 use Rattle.sv_offers.specs.Shelf.{shelf_at}
@@ -77,12 +77,11 @@ name_replaced offers gone next by_place there is party local =
     ]
 
 -- where the lists and the map answer as before, the offers are found as before
-pub found_as_before : (old new : Inside) → AreFound old → AreUnderPlaces new.placed → values new.placed ≡ values old.placed →
-    ((party : ℕ) → shelf_at new.own party ≡ shelf_at old.own party) → ((party : ℕ) → shelf_at new.made_to party ≡ shelf_at old.made_to party) →
+pub found_as_before : (old new : Inside) → AreFound old → new.placed ≡ old.placed → ((party : ℕ) → shelf_at new.own party ≡ shelf_at old.own party) →
+    ((party : ℕ) (surrogate : Option (List ℕ)) → listed_at new.made_to party surrogate ≡ listed_at old.made_to party surrogate) →
     ((key : ℕ × List ℕ) → get same_key new.named key ≡ get same_key old.named key) → AreFound new
-found_as_before old new found under offers own made_to named = record {
-  under = under;
+found_as_before old new found offers own made_to named = record {
   own = λ party. own party ∙ found.own party ∙ ap (filter (of_party party)) (sym offers);
-  made_to = λ party. made_to party ∙ found.made_to party ∙ ap (filter (to_party party)) (sym offers);
+  made_to = λ party surrogate. made_to party surrogate ∙ found.made_to party surrogate ∙ ap (filter (is_made_to party surrogate)) (sym offers);
   named = λ party local. named (party, local) ∙ found.named party local ∙ ap (λ (os : List Standing). own_offer os party local) (sym offers);
 }

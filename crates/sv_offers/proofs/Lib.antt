@@ -1,3 +1,4 @@
+mod AddressedLemmas
 mod EndLemmas
 mod FilterLemmas
 mod FindingLemmas

@@ -1,24 +1,20 @@
 -- Lists of offers by a party, with one offer more, and with one fewer.
-use Rattle.std.proofs.Common.{◌≡◌, refl, sym, ap, ◌∙◌, ℕ, Bool, true, false, not, ◌&&◌, cond, eqb, List, [], ◌∷◌, ◌++◌, inl, inr, Option, Some, None}
+use Rattle.std.proofs.Common.{◌≡◌, refl, sym, ap, ◌∙◌, ℕ, Bool, true, false, not, ◌&&◌, cond, eqb, List, [], ◌∷◌, ◌++◌, inl, inr}
 use Rattle.std.proofs.lemmas.List.{append-nil}
 use Rattle.std.proofs.lemmas.List.Elements.{filter-append}
 use Rattle.std.proofs.lemmas.Bool.{both_ways, cases_Bool, true_from_ne_false}
 use Rattle.std.specs.List.{filter}
-use Rattle.std.specs.Prelude.{Contains, nat_eq, is_some}
-use Rattle.std.specs.HashMap.{get}
-use Rattle.std.specs.Option.{option_map_or}
+use Rattle.std.specs.Prelude.{Contains}
 use Rattle.apl_arrays.specs.Name.{same_name}
 use Rattle.sv_events.specs.declared.row.Ending.{Ending}
 use Rattle.sv_events.specs.declared.row.Ending.TheVariants.{One, All}
 use Rattle.sv_offers.proofs.FilterLemmas.{commute}
 use Rattle.sv_offers.proofs.PlaceLemmas.{kept_elsewhere}
 use Rattle.sv_offers.specs.Places.{ByPlace, without_place}
-use Rattle.sv_offers.specs.Shelf.{shelf_at}
-use Rattle.sv_offers.specs.declared.shelves.Shelves.{Shelves}
 use Rattle.sv_rules.specs.Standing.{is_ended}
 use Rattle.sv_rules.specs.declared.standing.Standing.{Standing}
 
--- a party's offers, and those made to it
+-- a party's offers
 abbrev pub of_party : ℕ → Standing → Bool
 of_party party offer = eqb offer.party party
 
@@ -44,20 +40,9 @@ ended_by_own party ending offer ends =
     true_from_ne_false (of_party party offer) (λ other. both_ways (is_ended party ending offer) (ended_is_own party ending offer other) ends)
 
 -- one offer fewer, in its list and in no other
-pub taken : (key : Standing → ℕ) (offers : List Standing) (offer : Standing) (party : ℕ) → ByPlace offers → Contains offers offer →
-    let p : Standing → Bool = λ o. eqb (key o) party in
+pub taken : (p : Standing → Bool) (offers : List Standing) (offer : Standing) → ByPlace offers → Contains offers offer →
     cond (p offer) (without_place (filter p offers) offer.place) (filter p offers) ≡ filter p (without_place offers offer.place)
-taken key offers offer party by_place there =
-    let p : Standing → Bool = λ o. eqb (key o) party in
-    elim (cases_Bool (p offer)) [
-      | inl own ↦ rw own (commute (λ o. not (eqb o.place offer.place)) p offers)
-      | inr others ↦ rw others (sym (kept_elsewhere p offers offer by_place there others))
-    ]
-
--- a party without a list has no offers
-no_list : {X : Type 0} (list : Option X) (items : X → List Standing) → is_some list ≡ false → option_map_or items list [] ≡ []
-no_list None items none = refl
-no_list (Some list) items none = cc
-
-pub no_shelf : (shelves : Shelves) (party : ℕ) → is_some (get nat_eq shelves.lists party) ≡ false → shelf_at shelves party ≡ []
-no_shelf shelves party none = no_list (get nat_eq shelves.lists party) (λ list. list.items) none
+taken p offers offer by_place there = elim (cases_Bool (p offer)) [
+  | inl own ↦ rw own (commute (λ o. not (eqb o.place offer.place)) p offers)
+  | inr others ↦ rw others (sym (kept_elsewhere p offers offer by_place there others))
+]

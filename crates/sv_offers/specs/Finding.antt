@@ -1,6 +1,5 @@
--- How offers and couplings are found: offers in the order of their places, and maps that have of each key the first.
-use Rattle.std.specs.Prelude.{◌≡◌, ◌==◌, ◌&&◌, ℕ, Bool, List, All, find, nat_eq}
-use Rattle.std.specs.BTreeMap.{BTreeMap}
+-- How offers and couplings are found: maps that have of each key the first.
+use Rattle.std.specs.Prelude.{◌≡◌, ◌==◌, ◌&&◌, ℕ, Bool, List, find, nat_eq}
 use Rattle.std.specs.HashMap.{HashMap, get}
 use Rattle.apl_arrays.specs.Name.{same_name}
 use Rattle.sv_rules.specs.Coupling.{has_place}
@@ -11,10 +10,6 @@ use Rattle.sv_rules.specs.declared.standing.Standing.{Standing}
 -- two parties with their local names are the same
 abbrev pub same_key : (ℕ × List ℕ) → (ℕ × List ℕ) → Bool
 same_key one other = one.0 == other.0 && same_name one.1 other.1
-
--- each offer is kept under its place
-abbrev pub AreUnderPlaces : BTreeMap ℕ Standing → Type 0
-AreUnderPlaces placed = All (λ entry. entry.0 ≡ entry.1.place) placed.entries
 
 module _ {S : Type 0} where
   -- offers are found by their parties and local names, of each the first

@@ -1,19 +1,17 @@
 -- What holds of the tables' insides.
 use Rattle.std.specs.Prelude.{◌≤◌, ◌+◌, ◌*◌, vec_len, vec_capacity}
-use Rattle.std.specs.BTreeMap.{values}
 use Rattle.std.specs.HashMap.{spare}
-use Rattle.sv_offers.specs.Finding.{AreUnderPlaces, FindsMates, FindsNames}
-use Rattle.sv_offers.specs.Shelf.{HasMadeTo, HasOwn}
+use Rattle.sv_offers.specs.Addressed.{HasMadeTo}
+use Rattle.sv_offers.specs.Finding.{FindsMates, FindsNames}
+use Rattle.sv_offers.specs.Shelf.{HasOwn}
 use Rattle.sv_offers.specs.declared.couplings.Couplings.TheInside as couplings
 use Rattle.sv_offers.specs.declared.standings.Standings.TheInside as standings
 
--- each offer is under its place; each party's list has its offers, and those that are made to it; the map finds them by party
--- and local name
+-- the lists have each party's offers, and those that are made to it; the map finds them by party and local name
 pub record AreFound (s : standings.Inside) : Type 0 where
-  pub under : AreUnderPlaces s.placed
-  pub own : HasOwn s.own (values s.placed)
-  pub made_to : HasMadeTo s.made_to (values s.placed)
-  pub named : FindsNames s.named (values s.placed)
+  pub own : HasOwn s.own s.placed
+  pub made_to : HasMadeTo s.made_to s.placed
+  pub named : FindsNames s.named s.placed
 
 -- the map finds the couplings, and there is room for as many more as is said
 pub record AreMated (c : couplings.Inside) : Type 0 where

@@ -1,4 +1,4 @@
-use Rattle.std.specs.Prelude.{ℕ, Bool, ◌==◌, ◌&&◌, not, List, [], ◌∷◌, ◌++◌, map, filter, Option, option_map, option_to_list, if◌then◌else◌}
+use Rattle.std.specs.Prelude.{ℕ, Bool, ◌==◌, ◌&&◌, not, List, [], ◌∷◌, ◌++◌, map, filter, Option, option_map, option_to_list}
 use Rattle.sv_events.specs.declared.entry.Pair.{Pair}
 use Rattle.sv_events.specs.declared.row.Ending.{Ending}
 use Rattle.sv_rules.specs.Coupling.{is_coupled, kept_by_ending, made_by_ending, open_match, pair_of}
@@ -32,10 +32,6 @@ after_ending at table party ending = record {
   offers = without_ended table.offers party ending;
   coupled = kept_by_ending table.offers table.coupled party ending ++ made_by_ending at table.offers table.coupled party ending;
 }
-
--- an offer may only match one of the party that it is made to, or where it is made to any one made to its party
-abbrev pub may_match : Standing → Standing → Bool
-may_match offer other = if offer.to == 0 then other.to == offer.party else other.party == offer.to
 
 -- the offer is open, and made to a party by its number
 abbrev pub is_open_to : List Made → ℕ → Standing → Bool

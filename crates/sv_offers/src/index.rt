@@ -1,54 +1,19 @@
-ghost use Rattle.std.specs.Prelude.{◌≡◌, ◌+◌, ◌≤◌, ◌<◌, ◌==◌, ◌++◌, ◌∷◌, [], ℕ, List, All, IsSome, None, OnErr, OnOk, Some, nat_eq, if◌then◌else◌};
-ghost use Rattle.std.specs.BTreeMap.{values};
+ghost use Rattle.std.specs.Prelude.{◌≡◌, ◌+◌, ◌≤◌, ◌<◌, ◌==◌, ℕ, List, IsSome, None, Some, nat_eq, if◌then◌else◌};
 ghost use Rattle.std.specs.Option.{option_or};
 ghost use Rattle.std.specs.HashMap.{get, spare};
-ghost use Rattle.sv_offers.specs.Finding.{AreUnderPlaces, same_key};
-ghost use Rattle.sv_offers.specs.Places.{ByPlace, without_place};
-ghost use Rattle.sv_rules.specs.Coupling.{has_place, offer_at};
+ghost use Rattle.sv_offers.specs.Finding.{same_key};
+ghost use Rattle.sv_rules.specs.Coupling.{has_place};
 ghost use Rattle.sv_rules.specs.Standing.{is_own};
 
-use apl_arrays::{Name, WantOfMemory};
-use std::collections::{BTreeMap, HashMap};
+use apl_arrays::Name;
+use std::collections::HashMap;
 use sv_rules::{Made, Standing};
-
-/// Offers in the order of their places, each under its own.
-pub type Placed = BTreeMap<u64, Standing>;
 
 /// Offers by their parties and local names.
 pub type Named = HashMap<(u32, Name), Standing>;
 
 /// Couplings by the places of both their offers.
 pub type Mated = HashMap<u64, Made>;
-
-/// The offer at a place, if there is one. No memory.
-pub fn placed_at(placed: &Placed, place: u64) -> Option<Standing>
-    requires { AreUnderPlaces placed.now }
-    ensures { result ≡ offer_at (values placed.now) place }
-{
-    placed.get(&place).copied()
-}
-
-/// An offer at a place above all goes last. It takes memory; after `WantOfMemory` all is as before.
-pub fn put_last(placed: &mut Placed, new: &Standing) -> Result<(), WantOfMemory>
-    requires under { AreUnderPlaces placed.old }
-    requires above { All (λ offer. offer.place < new.now.place) (values placed.old) }
-    ensures under { AreUnderPlaces placed.new }
-    ensures ok { OnOk result (values placed.new ≡ values placed.old ++ new.now ∷ []) }
-    ensures err { OnErr result (values placed.new ≡ values placed.old) }
-{
-    placed.insert(new.place, *new)?;
-    Ok(())
-}
-
-/// The offer at a place goes, if there is one. No memory.
-pub fn forget_place(placed: &mut Placed, place: u64)
-    requires under { AreUnderPlaces placed.old }
-    requires by_place { ByPlace (values placed.old) }
-    ensures under { AreUnderPlaces placed.new }
-    ensures offers { values placed.new ≡ without_place (values placed.old) place }
-{
-    placed.remove(&place);
-}
 
 /// An offer is found by its party and its local name, unless another is. No memory.
 pub fn note_name(named: &mut Named, offer: &Standing)

@@ -1,11 +1,13 @@
 //! The table of standing offers and of their couplings.
 #![tactic(auto)]
 
+mod addressed;
 mod couplings;
 mod ending;
 mod index;
 mod listing;
 mod matching;
+mod placed;
 mod places;
 mod room;
 mod shelves;

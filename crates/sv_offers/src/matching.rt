@@ -1,5 +1,4 @@
-ghost use Rattle.std.specs.Prelude.{◌≡◌, Some, filter};
-ghost use Rattle.sv_offers.specs.Table.{may_match};
+ghost use Rattle.std.specs.Prelude.{◌≡◌, ◌≢◌, Some};
 ghost use Rattle.sv_rules.specs.Coupling.{coupling_at, coupling_of, is_open_match, offer_at, open_match, rejoined};
 
 use crate::couplings::Couplings;
@@ -12,27 +11,39 @@ fn is_open_match(coupled: &Couplings, offer: &Standing, other: &Standing) -> boo
     !coupled.has(other.place) && is_match(offer, other)
 }
 
-// The offers among which the matches of an offer are: those of the party that it is made to, or where it is made to any
-// those made to its party.
-fn candidates<'a>(offers: &'a Standings, offer: &Standing) -> &'a [Standing]
-    ensures { result.now ≡ filter (may_match offer.now) offers.now }
+// Of the open matches of an offer that is made to a party the oldest: they are that party's own.
+fn match_of_party(offers: &Standings, coupled: &Couplings, offer: &Standing) -> Option<Standing>
+    requires { offer.now.to ≢ 0 }
+    ensures { result ≡ open_match offers.now coupled.now.items offer.now }
 {
-    if offer.to == 0 {
-        offers.made_to(offer.party)
-    } else {
-        offers.of(offer.to)
-    }
+    offers
+        .of(offer.to)
+        .iter()
+        .find(|other| is_open_match(coupled, offer, other))
+        .copied()
+}
+
+// Of the open matches of an offer that is made to any the oldest: they are made to its party, under its surrogate.
+fn match_of_any(offers: &Standings, coupled: &Couplings, offer: &Standing) -> Option<Standing>
+    requires { offer.now.to ≡ 0 }
+    ensures { result ≡ open_match offers.now coupled.now.items offer.now }
+{
+    offers
+        .made_to(offer.party, Some(offer.surrogate))?
+        .iter()
+        .find(|other| is_open_match(coupled, offer, other))
+        .copied()
 }
 
 /// Of the open matches of an offer the oldest, if it has any. No memory.
 pub fn open_match(offers: &Standings, coupled: &Couplings, offer: &Standing) -> Option<Standing>
     ensures { result ≡ open_match offers.now coupled.now.items offer.now }
 {
-    let among = candidates(offers, offer);
-    among
-        .iter()
-        .find(|other| is_open_match(coupled, offer, other))
-        .copied()
+    if offer.to == 0 {
+        match_of_any(offers, coupled, offer)
+    } else {
+        match_of_party(offers, coupled, offer)
+    }
 }
 
 /// The pair that a reopened offer makes at a place: with its open match, where it is still open itself and has one. No

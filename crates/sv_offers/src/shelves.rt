@@ -1,7 +1,6 @@
-ghost use Rattle.std.specs.Prelude.{◌≡◌, ◌==◌, ℕ, [], IsSome, OnOk, is_some, nat_eq, if◌then◌else◌};
-ghost use Rattle.std.specs.HashMap.{get};
+ghost use Rattle.std.specs.Prelude.{◌≡◌, ◌==◌, ◌++◌, ◌∷◌, ℕ, [], OnOk, if◌then◌else◌};
 ghost use Rattle.sv_offers.specs.Places.{ByPlace, without_place};
-ghost use Rattle.sv_offers.specs.Shelf.{shelf_at};
+ghost use Rattle.sv_offers.specs.Shelf.{HasRoom, shelf_at};
 
 use crate::places::take_out;
 use apl_arrays::WantOfMemory;
@@ -9,7 +8,7 @@ use std::alloc::Global;
 use std::collections::HashMap;
 use sv_rules::Standing;
 
-/// Offers in lists by a party: of a party without a list there are none.
+/// Offers in lists by their parties: of a party without a list there are none.
 #[derive(Drop)]
 pub struct Shelves {
     alloc: Global,
@@ -27,7 +26,7 @@ impl Shelves {
         }
     }
 
-    /// The offers of a party's list. No memory.
+    /// The offers of a party. No memory.
     pub fn of(&self, party: u32) -> &[Standing]
         ensures { result.now ≡ shelf_at self.now party }
     {
@@ -37,61 +36,39 @@ impl Shelves {
         }
     }
 
-    /// Whether there is a list of a party. No memory.
-    pub fn has(&self, party: u32) -> bool
-        ensures { result ≡ is_some (get nat_eq self.now.lists party) }
+    /// Makes room for one offer more of a party. It takes memory; the offers are as before.
+    pub fn reserve(&mut self, party: u32) -> Result<(), WantOfMemory>
+        ensures same { (other : ℕ) → shelf_at self.new other ≡ shelf_at self.old other }
+        ensures ok { OnOk result (HasRoom self.new party) }
     {
-        self.lists.contains_key(&party)
-    }
-
-    /// There is a list of a party, and the lists are as before. It takes memory for one.
-    pub fn open(&mut self, party: u32) -> Result<(), WantOfMemory>
-        ensures same { (at : ℕ) → shelf_at self.new at ≡ shelf_at self.old at }
-        ensures kept { (at : ℕ) → IsSome (get nat_eq self.old.lists at) → IsSome (get nat_eq self.new.lists at) }
-        ensures ok { OnOk result (IsSome (get nat_eq self.new.lists party)) }
-    {
-        if !self.has(party) {
+        if !self.lists.contains_key(&party) {
             self.lists.insert(party, Vec::new(self.alloc))?;
         }
-        Ok(())
-    }
-
-    /// Takes a list out, and leaves an empty one. No memory.
-    pub fn take(&mut self, party: u32) -> Vec<Standing>
-        requires { IsSome (get nat_eq self.old.lists party) }
-        ensures list { result.items ≡ shelf_at self.old party }
-        ensures rest { (at : ℕ) → shelf_at self.new at ≡ (if party == at then [] else shelf_at self.old at) }
-        ensures kept { (at : ℕ) → IsSome (get nat_eq self.old.lists at) → IsSome (get nat_eq self.new.lists at) }
-    {
-        match self.lists.insert(party, Vec::new(self.alloc)) {
-            Ok(Some(list)) => list,
-            Ok(None) | Err(_) => unreachable!(),
+        match self.lists.get_mut(&party) {
+            Some(list) => Ok(list.reserve(1)?),
+            None => unreachable!(),
         }
     }
 
-    /// Puts a list in the place of one. No memory.
-    pub fn put(&mut self, party: u32, list: Vec<Standing>)
-        requires { IsSome (get nat_eq self.old.lists party) }
-        ensures lists { (at : ℕ) → shelf_at self.new at ≡ (if party == at then list.items else shelf_at self.old at) }
-        ensures kept { (at : ℕ) → IsSome (get nat_eq self.old.lists at) → IsSome (get nat_eq self.new.lists at) }
+    /// One offer more of its party, where there is room, which goes last. No memory.
+    pub fn push(&mut self, new: &Standing)
+        requires { HasRoom self.old new.now.party }
+        ensures { (party : ℕ) → shelf_at self.new party ≡ (if new.now.party == party then shelf_at self.old party ++ new.now ∷ [] else shelf_at self.old party) }
     {
-        match self.lists.insert(party, list) {
-            Ok(Some(old)) => discard(old),
-            Ok(None) | Err(_) => unreachable!(),
+        match self.lists.get_mut(&new.party) {
+            Some(list) => list.push_reserved(*new),
+            None => unreachable!(),
         }
     }
 
-    /// From one list the offer at a place goes. No memory.
-    pub fn remove(&mut self, at: u32, place: u64)
-        requires { ByPlace (shelf_at self.old at) }
-        ensures { (other : ℕ) → shelf_at self.new other ≡ (if at == other then without_place (shelf_at self.old other) place else shelf_at self.old other) }
+    /// Of a party the offer at a place goes. No memory.
+    pub fn remove(&mut self, party: u32, place: u64)
+        requires { ByPlace (shelf_at self.old party) }
+        ensures { (other : ℕ) → shelf_at self.new other ≡ (if party == other then without_place (shelf_at self.old other) place else shelf_at self.old other) }
     {
-        if self.has(at) {
-            let mut list = self.take(at);
-            take_out(&mut list, place);
-            self.put(at, list);
+        match self.lists.get_mut(&party) {
+            Some(list) => take_out(list, place),
+            None => (),
         }
     }
 }
-
-fn discard(_list: Vec<Standing>) {}

@@ -1,15 +1,17 @@
-ghost use Rattle.std.specs.Prelude.{◌≡◌, ◌==◌, ◌++◌, ◌∷◌, ◌<◌, ℕ, [], All, Contains, IsSome, OnOk, OnErr, filter, find, length, nat_eq, if◌then◌else◌};
-ghost use Rattle.std.specs.HashMap.{get};
+ghost use Rattle.std.specs.Prelude.{◌≡◌, ◌==◌, ◌++◌, ◌∷◌, ◌<◌, [], All, Contains, OnOk, OnErr, filter, find, length};
+ghost use Rattle.std.specs.Option.{option_copied, unwrap_or};
+ghost use Rattle.sv_offers.specs.Addressed.{is_made_to};
 ghost use Rattle.sv_offers.specs.Places.{ByPlace, without_place};
-ghost use Rattle.sv_offers.specs.Shelf.{shelf_at};
 ghost use Rattle.sv_rules.specs.Coupling.{offer_at};
 ghost use Rattle.sv_rules.specs.Standing.{is_ended, offer_count, own_offer};
 
-use crate::index::{Named, Placed, forget_place, note_name, placed_at, put_last, replace_name};
+use crate::addressed::Addressed;
+use crate::index::{Named, note_name, replace_name};
+use crate::placed::Placed;
 use crate::shelves::Shelves;
 use apl_arrays::{Name, WantOfMemory};
 use std::alloc::Global;
-use std::collections::{BTreeMap, HashMap};
+use std::collections::HashMap;
 use std::marker::Model;
 use sv_events::Ending;
 use sv_rules::{Standing, own_offer};
@@ -25,24 +27,23 @@ pub fn is_ended(party: u32, ending: &Ending, offer: &Standing) -> bool
 }
 
 /// Offers by place, each found without going over those of others: by its place, by its party, by the party that it is made
-/// to, and by its party and its local name.
+/// to and its surrogate, and by its party and its local name.
 #[derive(Drop)]
 pub struct Standings {
     placed: Placed,
     own: Shelves,
-    made_to: Shelves,
+    made_to: Addressed,
     named: Named,
 }
 
 impl Model for Standings {
     ghost use Rattle.std.specs.Prelude.{List};
-    ghost use Rattle.std.specs.BTreeMap.{values};
     ghost use Rattle.sv_offers.specs.Inside.{AreFound};
     ghost use Rattle.sv_rules.specs.declared.standing.Standing.{Standing};
 
     ghost Value = { List Standing };
 
-    ghost view = { λ s. values s.placed };
+    ghost view = { λ s. s.placed };
 
     ghost invariant = { AreFound };
 }
@@ -53,9 +54,9 @@ impl Standings {
         ensures { result ≡ [] }
     {
         Standings {
-            placed: BTreeMap::new(alloc),
+            placed: Placed::new(alloc),
             own: Shelves::new(alloc),
-            made_to: Shelves::new(alloc),
+            made_to: Addressed::new(alloc),
             named: HashMap::new(alloc),
         }
     }
@@ -74,11 +75,11 @@ impl Standings {
         self.own.of(party)
     }
 
-    /// The offers made to a party by its number, by place. No memory.
-    pub fn made_to(&self, party: u32) -> &[Standing]
-        ensures { result.now ≡ filter (λ offer. offer.to == party) self.now }
+    /// The offers made to a party by its number, by place, of one surrogate or of all, if there are any. No memory.
+    pub fn made_to(&self, party: u32, surrogate: Option<Name>) -> Option<&Placed>
+        ensures { unwrap_or (option_copied result) [] ≡ filter (is_made_to party surrogate) self.now }
     {
-        self.made_to.of(party)
+        self.made_to.of(party, surrogate)
     }
 
     /// The offer of a party of a local name, if there is one. No memory.
@@ -92,7 +93,7 @@ impl Standings {
     pub fn at(&self, place: u64) -> Option<Standing>
         ensures { result ≡ offer_at self.now place }
     {
-        placed_at(&self.placed, place)
+        self.placed.at(place)
     }
 
     /// How many offers are a party's. No memory.
@@ -110,16 +111,16 @@ impl Standings {
         ensures err { OnErr result (self.new ≡ self.old) }
     {
         self.named.reserve(1)?;
-        self.own.open(new.party)?;
-        self.made_to.open(new.to)?;
-        put_last(&mut self.placed, new)?;
-        match add_to_both(&mut self.own, &mut self.made_to, new) {
+        self.own.reserve(new.party)?;
+        self.placed.add(new)?;
+        match self.made_to.add(new) {
             Ok(()) => {
+                self.own.push(new);
                 note_name(&mut self.named, new);
                 Ok(())
             }
             Err(WantOfMemory) => {
-                forget_place(&mut self.placed, new.place);
+                self.placed.remove(new.place);
                 Err(WantOfMemory)
             }
         }
@@ -142,45 +143,9 @@ impl Standings {
         ensures { self.new ≡ without_place self.old offer.now.place }
     {
         self.own.remove(offer.party, offer.place);
-        self.made_to.remove(offer.to, offer.place);
-        forget_place(&mut self.placed, offer.place);
+        self.made_to.remove(offer);
+        self.placed.remove(offer.place);
         let next = own_offer(self.own.of(offer.party), offer.party, &offer.local);
         replace_name(&mut self.named, offer, next);
     }
-}
-
-// An offer goes last in the list of its party and in that of the party that it is made to. It takes memory; after
-// `WantOfMemory` all is as before.
-fn add_to_both(own: &mut Shelves, made_to: &mut Shelves, new: &Standing) -> Result<(), WantOfMemory>
-    requires own { IsSome (get nat_eq own.old.lists new.now.party) }
-    requires made_to { IsSome (get nat_eq made_to.old.lists new.now.to) }
-    ensures own { OnOk result ((party : ℕ) → shelf_at own.new party ≡ (if new.now.party == party then shelf_at own.old party ++ new.now ∷ [] else shelf_at own.old party)) }
-    ensures made_to { OnOk result ((party : ℕ) → shelf_at made_to.new party ≡ (if new.now.to == party then shelf_at made_to.old party ++ new.now ∷ [] else shelf_at made_to.old party)) }
-    ensures own_stays { OnErr result ((party : ℕ) → shelf_at own.new party ≡ shelf_at own.old party) }
-    ensures made_to_stays { OnErr result ((party : ℕ) → shelf_at made_to.new party ≡ shelf_at made_to.old party) }
-{
-    let mut mine = own.take(new.party);
-    let mut theirs = made_to.take(new.to);
-    let added = push_both(&mut mine, &mut theirs, new);
-    own.put(new.party, mine);
-    made_to.put(new.to, theirs);
-    added
-}
-
-// An offer goes last in two lists. It takes memory; after `WantOfMemory` both are as before.
-fn push_both(
-    one: &mut Vec<Standing>,
-    other: &mut Vec<Standing>,
-    new: &Standing,
-) -> Result<(), WantOfMemory>
-    ensures one { OnOk result (one.new.items ≡ one.old.items ++ new.now ∷ []) }
-    ensures other { OnOk result (other.new.items ≡ other.old.items ++ new.now ∷ []) }
-    ensures one_stays { OnErr result (one.new.items ≡ one.old.items) }
-    ensures other_stays { OnErr result (other.new.items ≡ other.old.items) }
-{
-    one.reserve(1)?;
-    other.reserve(1)?;
-    one.push_reserved(*new);
-    other.push_reserved(*new);
-    Ok(())
 }

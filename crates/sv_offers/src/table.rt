@@ -7,15 +7,15 @@ ghost use Rattle.sv_rules.specs.Standing.{offer_count, own_offer};
 
 use crate::couplings::Couplings;
 use crate::ending::end_all;
-use crate::listing::{first_to, open_to};
+use crate::listing::{first_to, names_to, open_to};
 use crate::matching::{coupling_at, coupling_on, open_match};
 use crate::room::{join, recouple};
 use crate::standings::Standings;
-use apl_arrays::{Name, NameList, PartyList, WantOfMemory};
+use apl_arrays::{List, Name, NameList, PartyList, WantOfMemory};
 use std::alloc::Global;
 use std::marker::Model;
 use sv_events::{Ending, PairList};
-use sv_rules::{Coupling, Standing, names_of, parties_of};
+use sv_rules::{Coupling, Standing, parties_of};
 
 /// The offers that stand, by place, and the couplings, in the order in which they were made.
 #[derive(Drop)]
@@ -111,15 +111,17 @@ impl Offers {
     pub fn oldest_to(&self, party: u32) -> Option<Standing>
         ensures { result ≡ find (λ _. true) (open_among self.now party) }
     {
-        first_to(self.offers.made_to(party), &self.coupled, party)
+        first_to(self.offers.made_to(party, None)?, &self.coupled, party)
     }
 
     /// The parties with open offers made to a party by its number, ascending, each once. It takes memory for them.
     pub fn parties_to(&self, alloc: Global, party: u32) -> Result<PartyList, WantOfMemory>
         ensures { IfOk result (λ list. list.items ≡ parties_of (open_among self.now party)) }
     {
-        let opened = open_to(alloc, self.offers.made_to(party), &self.coupled, party)?;
-        parties_of(alloc, &opened)
+        match self.offers.made_to(party, None) {
+            None => Ok(List::new(alloc)),
+            Some(offers) => parties_of(alloc, &open_to(alloc, offers, &self.coupled, party)?),
+        }
     }
 
     /// The surrogates of the open offers of a party that are made to another by its number, by place. It takes memory
@@ -127,8 +129,7 @@ impl Offers {
     pub fn names_to(&self, alloc: Global, from: u32, to: u32) -> Result<NameList, WantOfMemory>
         ensures { IfOk result (λ list. list.items ≡ surrogates_of (open_among self.now to) from) }
     {
-        let opened = open_to(alloc, self.offers.made_to(to), &self.coupled, to)?;
-        names_of(alloc, &opened, from)
+        names_to(alloc, self.offers.of(from), &self.coupled, to)
     }
 
     /// A new offer stands, and is coupled with its open match of the lowest place, which is answered. It takes memory;

@@ -1,44 +1,48 @@
 use Rattle.std.proofs.Common.{◌≡◌, refl, ap, sym, ◌∙◌, ◌<◌, Bool, Option, Some, None, cond, eqb, find, List, [], ◌∷◌, ◌++◌, subst}
 use Rattle.std.specs.Prelude.{All}
-use Rattle.std.specs.BTreeMap.{values}
+use Rattle.std.proofs.lemmas.List.Elements.{All-filter}
 use Rattle.std.specs.List.{filter}
 use Rattle.std.specs.Option.{option_or}
 use Rattle.std.proofs.lemmas.List.Folds.{find-append}
 use Rattle.sv_offers.proofs.FindingLemmas.{found_as_before}
 use Rattle.sv_offers.proofs.OrderLemmas.{last_gone}
-use Rattle.sv_offers.proofs.ShelfLemmas.{of_party, to_party, pushed}
+use Rattle.sv_offers.proofs.ShelfLemmas.{of_party, pushed}
+use Rattle.sv_offers.specs.Addressed.{is_made_to}
 use Rattle.sv_offers.specs.Places.{without_place}
 use Rattle.sv_rules.specs.Standing.{is_own}
 use Rattle.sv_rules.specs.declared.standing.Standing.{Standing}
 use Rattle.sv_offers.proofs.standings.Standings.add.Goals as goal
 
-pub invariant_of-self-in_err-open : goal.invariant_of-self-in_err-open
-invariant_of-self-in_err-open c =
-    found_as_before c.self.inside _ c.self.invariant c.self.invariant.under refl c.open.ensures.same (λ party. refl) (c.reserve.ensures.entries).2
+pub add-requires-2 : goal.add-requires-2
+add-requires-2 c =
+    let new = c.args.new.now in
+    let lower = λ (o : Standing). o.place < new.place in
+    λ surrogate.
+    subst (All lower) (sym (c.self.invariant.made_to new.to surrogate))
+    (All-filter (is_made_to new.to surrogate) lower c.self.inside.placed (subst (All lower) (sym c.self.view_is) c.requires.above))
 
-pub invariant_of-self-in_err-open-2 : goal.invariant_of-self-in_err-open-2
-invariant_of-self-in_err-open-2 c =
-    found_as_before c.self.inside _ c.self.invariant c.self.invariant.under refl c.open.ensures.same c.open-2.ensures.same (c.reserve.ensures.entries).2
+pub invariant_of-self-in_err-reserve-2 : goal.invariant_of-self-in_err-reserve-2
+invariant_of-self-in_err-reserve-2 c =
+    found_as_before c.self.inside _ c.self.invariant refl c.reserve-2.ensures.same (λ party surrogate. refl) (c.reserve.ensures.entries).2
 
-pub invariant_of-self-in_err-put_last : goal.invariant_of-self-in_err-put_last
-invariant_of-self-in_err-put_last c =
-    found_as_before c.self.inside _ c.self.invariant c.put_last.ensures.under c.in_err-put_last.ensures.err c.open.ensures.same c.open-2.ensures.same (c.reserve.ensures.entries).2
+pub invariant_of-self-in_err-add : goal.invariant_of-self-in_err-add
+invariant_of-self-in_err-add c =
+    found_as_before c.self.inside _ c.self.invariant c.in_err-add.ensures.err c.reserve-2.ensures.same (λ party surrogate. refl) (c.reserve.ensures.entries).2
 
 pub invariant_of-self-in-Ok : goal.invariant_of-self-in-Ok
 invariant_of-self-in-Ok c =
     let new = c.args.new.now in
-    let old = values c.self.inside.placed in
-    let offers : old ++ new ∷ [] ≡ values c.put_last.new.placed = sym c.in_ok-put_last.ensures.ok in
+    let old = c.self.inside.placed in
+    let offers : old ++ new ∷ [] ≡ c.add.new.self = sym c.in_ok-add.ensures.ok in
     record {
-      under = c.put_last.ensures.under;
       own = λ party.
-          c.in-Ok.ensures.own party
-          ∙ ap (λ (xs : List Standing). cond (eqb new.party party) (xs ++ new ∷ []) xs) (c.in_ok-open.ensures.same party ∙ c.self.invariant.own party)
+          c.push.ensures party
+          ∙ ap (λ (xs : List Standing). cond (eqb new.party party) (xs ++ new ∷ []) xs) (c.in_ok-reserve-2.ensures.same party ∙ c.self.invariant.own party)
           ∙ pushed (of_party party) old new ∙ ap (filter (of_party party)) offers;
-      made_to = λ party.
-          c.in-Ok.ensures.made_to party
-          ∙ ap (λ (xs : List Standing). cond (eqb new.to party) (xs ++ new ∷ []) xs) (c.in_ok-open-2.ensures.same party ∙ c.self.invariant.made_to party)
-          ∙ pushed (to_party party) old new ∙ ap (filter (to_party party)) offers;
+      made_to = λ party surrogate.
+          c.in-Ok.ensures.ok party surrogate
+          ∙ ap (λ (xs : List Standing). cond (is_made_to party surrogate new) (xs ++ new ∷ []) xs) (c.self.invariant.made_to party surrogate)
+          ∙ pushed (is_made_to party surrogate) old new ∙ ap (filter (is_made_to party surrogate)) offers;
       named = λ party local.
           let own : Standing → Bool = is_own party local in
           c.note_name.ensures party local
@@ -50,17 +54,13 @@ invariant_of-self-in-Ok c =
 pub invariant_of-self-in-Err : goal.invariant_of-self-in-Err
 invariant_of-self-in-Err c =
     let new = c.args.new.now in
-    let old = values c.self.inside.placed in
     let above = subst (All (λ (o : Standing). o.place < new.place)) (sym c.self.view_is) c.requires.above in
-    let left = c.forget_place.ensures.offers ∙ ap (λ (os : List Standing). without_place os new.place) c.in_ok-put_last.ensures.ok ∙ last_gone old new above in
-    found_as_before c.self.inside _ c.self.invariant c.forget_place.ensures.under left
-    (λ party. c.in-Err.ensures.own_stays party ∙ c.open.ensures.same party)
-    (λ party. c.in-Err.ensures.made_to_stays party ∙ c.open-2.ensures.same party)
-    (c.reserve.ensures.entries).2
+    let left = c.remove.ensures ∙ ap (λ (os : List Standing). without_place os new.place) c.in_ok-add.ensures.ok ∙ last_gone c.self.inside.placed new above in
+    found_as_before c.self.inside _ c.self.invariant left c.reserve-2.ensures.same c.in-Err.ensures.err (c.reserve.ensures.entries).2
 
 pub returns-in-Err-clause-err : goal.returns-in-Err-clause-err
 returns-in-Err-clause-err c =
     let new = c.args.new.now in
     let above = subst (All (λ (o : Standing). o.place < new.place)) (sym c.self.view_is) c.requires.above in
-    c.forget_place.ensures.offers ∙ ap (λ (os : List Standing). without_place os new.place) c.in_ok-put_last.ensures.ok ∙ last_gone (values c.self.inside.placed) new above
+    c.remove.ensures ∙ ap (λ (os : List Standing). without_place os new.place) c.in_ok-add.ensures.ok ∙ last_gone c.self.inside.placed new above
     ∙ c.self.view_is

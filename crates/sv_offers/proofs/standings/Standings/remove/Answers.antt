@@ -1,9 +1,9 @@
 use Rattle.std.proofs.Common.{◌≡◌, ◌<◌, ap, sym, ◌∙◌, ℕ, Option, cond, eqb, filter, List, subst}
 use Rattle.std.specs.Prelude.{Contains, is_some}
-use Rattle.std.specs.BTreeMap.{values}
 use Rattle.std.proofs.lemmas.List.Kept.{AllPairs-filter}
 use Rattle.sv_offers.proofs.FindingLemmas.{name_replaced, one_by_name, own_among}
-use Rattle.sv_offers.proofs.ShelfLemmas.{of_party, taken, to_party}
+use Rattle.sv_offers.proofs.ShelfLemmas.{of_party, taken}
+use Rattle.sv_offers.specs.Addressed.{is_made_to}
 use Rattle.sv_offers.specs.Places.{ByPlace, without_place}
 use Rattle.sv_rules.specs.Standing.{is_own, own_offer}
 use Rattle.sv_rules.specs.declared.standing.Standing.{Standing}
@@ -11,47 +11,35 @@ use Rattle.sv_offers.proofs.standings.Standings.remove.Goals as goal
 
 pub remove-requires : goal.remove-requires
 remove-requires c =
-    let offers = values c.self.inside.placed in
     let party = c.args.offer.now.party in
     subst ByPlace (sym (c.self.invariant.own party))
-    (AllPairs-filter (λ (one other : Standing). one.place < other.place) (of_party party) offers (subst ByPlace (sym c.self.view_is) c.requires.by_place))
-
-pub remove-requires-2 : goal.remove-requires-2
-remove-requires-2 c =
-    let offers = values c.self.inside.placed in
-    let party = c.args.offer.now.to in
-    subst ByPlace (sym (c.self.invariant.made_to party))
-    (AllPairs-filter (λ (one other : Standing). one.place < other.place) (to_party party) offers (subst ByPlace (sym c.self.view_is) c.requires.by_place))
+    (AllPairs-filter (λ (one other : Standing). one.place < other.place) (of_party party) c.self.inside.placed (subst ByPlace (sym c.self.view_is) c.requires.by_place))
 
 pub replace_name-requires : goal.replace_name-requires
 replace_name-requires c =
     let offer = c.args.offer.now in
     let there = subst (λ (os : List Standing). Contains os offer) (sym c.self.view_is) c.requires.there in
-    ap is_some (c.self.invariant.named offer.party offer.local) ∙ one_by_name (values c.self.inside.placed) offer there
-
-pub forget_place-requires : goal.forget_place-requires
-forget_place-requires c = record { under = c.self.invariant.under; by_place = subst ByPlace (sym c.self.view_is) c.requires.by_place }
+    ap is_some (c.self.invariant.named offer.party offer.local) ∙ one_by_name c.self.inside.placed offer there
 
 pub invariant_of-self : goal.invariant_of-self
 invariant_of-self c =
-    let offers = values c.self.inside.placed in
+    let offers = c.self.inside.placed in
     let offer = c.args.offer.now in
     let by_place = subst ByPlace (sym c.self.view_is) c.requires.by_place in
     let there = subst (λ (os : List Standing). Contains os offer) (sym c.self.view_is) c.requires.there in
     let left = without_place offers offer.place in
-    let is = c.forget_place.ensures.offers in
+    let is : c.remove-3.new.self ≡ left = c.remove-3.ensures in
     let own = λ (party : ℕ).
     c.remove.ensures party ∙ ap (λ (os : List Standing). cond (eqb offer.party party) (without_place os offer.place) os) (c.self.invariant.own party)
-    ∙ taken (λ o. o.party) offers offer party by_place there in
+    ∙ taken (of_party party) offers offer by_place there in
     let next : c.own_offer-next.result ≡ own_offer left offer.party offer.local =
     c.own_offer-next.ensures ∙ ap (λ (os : List Standing). own_offer os offer.party offer.local) (c.of.ensures ∙ own offer.party)
     ∙ own_among left offer.party offer.local in
     record {
-      under = c.forget_place.ensures.under;
       own = λ party. own party ∙ ap (filter (of_party party)) (sym is);
-      made_to = λ party.
-          c.remove-2.ensures party ∙ ap (λ (os : List Standing). cond (eqb offer.to party) (without_place os offer.place) os) (c.self.invariant.made_to party)
-          ∙ taken (λ o. o.to) offers offer party by_place there ∙ ap (filter (to_party party)) (sym is);
+      made_to = λ party surrogate.
+          c.remove-2.ensures party surrogate ∙ ap (λ (os : List Standing). cond (is_made_to party surrogate offer) (without_place os offer.place) os) (c.self.invariant.made_to party surrogate)
+          ∙ taken (is_made_to party surrogate) offers offer by_place there ∙ ap (filter (is_made_to party surrogate)) (sym is);
       named = λ party local.
           c.replace_name.ensures party local ∙ ap (λ (o : Option Standing). cond (is_own party local offer) c.own_offer-next.result o) (c.self.invariant.named party local)
           ∙ name_replaced offers offer c.own_offer-next.result by_place there next party local
