@@ -150,21 +150,21 @@ const FITTED: [&str; 18] = [
     ".....................#..",
 ];
 
-fn is_fitted(act: usize, answer: usize) -> bool {
-    match FITTED.get(act) {
+fn is_fitted(row: usize, column: usize) -> bool {
+    match FITTED.get(row) {
         None => false,
-        Some(row) => row.as_bytes().get(answer) == Some(&b'#'),
+        Some(row) => row.as_bytes().get(column) == Some(&b'#'),
     }
 }
 
 fn answers_fit(rt: &impl Abort, alloc: Global) -> Result<(), GlyphRefused> {
     let acts = acts(alloc)?;
     let answers = answers(alloc)?;
-    for (act, opened) in acts.as_slice().iter().enumerate() {
-        for (answer, given) in answers.as_slice().iter().enumerate() {
+    for (row, act) in acts.as_slice().iter().enumerate() {
+        for (column, answer) in answers.as_slice().iter().enumerate() {
             assert!(rt;
-                fits(opened, given) == is_fitted(act, answer),
-                "act {act}, answer {answer}"
+                fits(act, answer) == is_fitted(row, column),
+                "act {row}, answer {column}"
             );
         }
     }

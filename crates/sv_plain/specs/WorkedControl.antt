@@ -67,5 +67,5 @@ acts_while_it_waits entry =
     shared_x None None (control_x 1001 (bits 0 0 1 0) (bits 0 0 1 0) ∷ use_x 1001 (holds 3 Mine) ∷ entry ∷ [])
 
 -- a control on a name that its user has not offered
-abbrev pub set_without_an_offer : PlainAnswer → Entries
-set_without_an_offer answer = reverse (uncoupled 1001 (SetControl x (bits 1 1 1 1)) answer ∷ [])
+abbrev pub control_without_an_offer : PlainAnswer → Entries
+control_without_an_offer answer = reverse (uncoupled 1001 (SetControl x (bits 1 1 1 1)) answer ∷ [])

@@ -7,7 +7,7 @@ ghost use Rattle.sv_events.specs.declared.event.Act.TheVariants.{Leave, Offer, S
 ghost use Rattle.sv_rules.specs.Legal.{IsLegal};
 ghost use Rattle.sv_plain.specs.Worked.{one_user, two_users, three_users, number, bits, pair, x, offer_x, set_x, left, got, holds, gives_up, with_answer, with_act, with_made};
 ghost use Rattle.sv_plain.specs.WorkedValues.{b, value_is_shared, use_without_a_value, shared_by_surrogates, offered_again};
-ghost use Rattle.sv_plain.specs.WorkedControl.{second_set_is_held, held_by_the_partner, view_is_swapped, both_hold, second_set_before_a_partner, set_over_unseen, given_up_too_soon, acts_while_it_waits, set_without_an_offer};
+ghost use Rattle.sv_plain.specs.WorkedControl.{second_set_is_held, held_by_the_partner, view_is_swapped, both_hold, second_set_before_a_partner, set_over_unseen, given_up_too_soon, acts_while_it_waits, control_without_an_offer};
 ghost use Rattle.sv_plain.specs.WorkedMatches.{two_general_offers, two_open_matches, offered_twice, leave_of_two, two_open_matches_left, one_more_offer, last_of_64, back_again};
 ghost use Rattle.sv_plain.specs.WorkedShares.{matched_again, matched_after_a_retraction, reopened_compete, each_keeps_its_own, older_value_unseen, three, item_is_set, asked_who_offers, asked_among_many, reopened_is_unseen, vector_begins_anew};
 ghost use Rattle.sv_plain.specs.WorkedAuxiliary.{s2, countered, text_files_answer, clock_answers, counter_offer_taken_back, second_control, use_of_a_seen_value, second_reply, counter_couples_with_an_older_one, second_counter};
@@ -95,8 +95,8 @@ pub fn waits_are_not_given_up_too_soon()
     ensures too_soon { ¬ IsLegal two_users given_up_too_soon }
     ensures otherwise { ¬ IsLegal two_users (acts_while_it_waits (set_x 1001 1 granted)) }
     ensures leaves { IsLegal two_users (acts_while_it_waits (left 1001)) }
-    ensures no_offer { IsLegal two_users (set_without_an_offer not_shared) }
-    ensures controlled { ¬ IsLegal two_users (set_without_an_offer (vector (bits 1 1 1 1))) }
+    ensures no_offer { IsLegal two_users (control_without_an_offer not_shared) }
+    ensures controlled { ¬ IsLegal two_users (control_without_an_offer (vector (bits 1 1 1 1))) }
 {}
 
 /// Which offers match: not two to any, and of two that do the older.
