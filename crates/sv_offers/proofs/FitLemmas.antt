@@ -1,18 +1,17 @@
 -- The offers and the couplings of a table fit together after each change.
-use Rattle.std.proofs.Common.{◌≡◌, refl, ap, ◌∙◌, ℕ, ◌-◌, ◌<◌, ◌≤◌, Bool, true, false, not, eqb, List, [], ◌∷◌, ◌++◌, length, Option, Some, None, inl, inr, subst, arith}
+use Rattle.std.proofs.Common.{◌≡◌, refl, ap, ◌∙◌, ℕ, ◌<◌, Bool, true, false, not, eqb, List, [], ◌∷◌, ◌++◌, Option, Some, None, inl, inr, arith}
 use Rattle.std.specs.Prelude.{All, Contains, option_map, option_to_list}
 use Rattle.std.proofs.lemmas.Bool.{and_from, and_parts, eqb-true, eq-eqb, ne_eqb, or_from, or_left}
-use Rattle.std.proofs.lemmas.List.{append-nil, append_assoc}
-use Rattle.std.proofs.lemmas.List.Elements.{All-append, All-cons, All-nil, All-contains, All-filter, All-head, All-push, All-tail, All-weaker, Contains-append_left, Contains-push, filter_passes}
+use Rattle.std.proofs.lemmas.List.{append-nil}
+use Rattle.std.proofs.lemmas.List.Elements.{All-append, All-contains, All-push, All-weaker, Contains-append_left, Contains-push, filter_passes}
 use Rattle.std.proofs.lemmas.List.Folds.{Any-from_list_any, list_any-append, list_any_none}
-use Rattle.std.proofs.lemmas.List.Kept.{AllPairs-filter, IsNonDecreasingBy-filter}
+use Rattle.std.proofs.lemmas.List.Kept.{AllPairs-filter}
 use Rattle.std.proofs.lemmas.List.Quantifiers.{all_pairs_push}
-use Rattle.std.proofs.lemmas.List.Sorted.{IsNonDecreasingBy-push}
 use Rattle.sv_events.specs.declared.row.Ending.{Ending}
 use Rattle.sv_offer_laws.proofs.MatchLemmas.{open_match_is, pair_of_cases}
 use Rattle.sv_offer_laws.proofs.Members.{Contains-from_filter, count_by-filter, list_any_member}
 use Rattle.sv_offer_laws.proofs.RecoupledLemmas.{IsMadeOf, recoupled_made, recoupled_once, uses_of-push}
-use Rattle.sv_offers.specs.Places.{AreOnce, ByMaking, FitTogether, IsNext}
+use Rattle.sv_offers.specs.Places.{AreOnce, FitTogether, IsNext}
 use Rattle.sv_offers.specs.Table.{PlainOffers, after_ending, after_offer}
 use Rattle.sv_rules.specs.Coupling.{both_stand, has_place, is_coupled, kept_by_ending, made_by_ending, open_match, pair_of, reopened_by_ending, stands_at}
 use Rattle.sv_rules.specs.Standing.{is_ended, without_ended}
@@ -33,20 +32,9 @@ pair_stands offers one other has_one has_other = elim (pair_of_cases one other) 
     at : (offer : Standing) → Contains offers offer → stands_at offers offer.place ≡ true
     at offer has = list_any_member (λ o. eqb o.place offer.place) offers offer (eq-eqb offer.place offer.place refl) has
 
--- couplings that were made later come behind
-made_later : (coupled made : List Made) (place : ℕ) → ByMaking coupled → All (λ m. m.at ≤ place) coupled → All (λ m. m.at ≡ place) made → ByMaking (coupled ++ made)
-made_later coupled [] place by_making before at = rw (append-nil coupled) by_making
-made_later coupled (m ∷ made) place by_making before at =
-    let here : m.at ≡ place = All-head (λ (m : Made). m.at ≡ place) m made at in
-    subst ByMaking (append_assoc coupled (m ∷ []) made)
-    (made_later (coupled ++ m ∷ []) made place
-    (IsNonDecreasingBy-push (λ (m : Made). m.at) coupled m by_making (λ d some. let last = before (length coupled - 1) d (omega arith) in omega arith))
-    (All-push (λ (m : Made). m.at ≤ place) coupled m before (omega arith))
-    (All-tail (λ (m : Made). m.at ≡ place) m made at))
-
 -- after an ending
-pub fit_after_ending : (at : ℕ) (table : PlainOffers) (party : ℕ) (ending : Ending) → FitTogether table → All (λ made. made.at < at) table.coupled → FitTogether (after_ending at table party ending)
-fit_after_ending at table party ending fit earlier =
+pub fit_after_ending : (at : ℕ) (table : PlainOffers) (party : ℕ) (ending : Ending) → FitTogether table → FitTogether (after_ending at table party ending)
+fit_after_ending at table party ending fit =
     let left = without_ended table.offers party ending in
     let stand : Made → Bool = λ (m : Made). both_stand left m.pair in
     let kept = kept_by_ending table.offers table.coupled party ending in
@@ -55,9 +43,6 @@ fit_after_ending at table party ending fit earlier =
     let of_two = recoupled_made left kept at reopened (λ o has. Contains-from_filter _ left o has) in
     record {
       by_place = AllPairs-filter (λ (one other : Standing). one.place < other.place) (λ o. not (is_ended party ending o)) table.offers fit.by_place;
-      by_making = made_later kept made at (IsNonDecreasingBy-filter (λ (m : Made). m.at) stand table.coupled fit.by_making)
-          (All-filter stand (λ m. m.at ≤ at) table.coupled (All-weaker (λ (m : Made). m.at < at) (λ m. m.at ≤ at) (λ m h. omega arith) table.coupled earlier))
-          (All-weaker (IsMadeOf left at) (λ m. m.at ≡ at) (λ m h. h.same_at) made of_two);
       stand = All-append (Stands left) kept made (filter_passes stand table.coupled)
           (All-weaker (IsMadeOf left at) (Stands left) (λ m h. ap (both_stand left) h.same_pair ∙ pair_stands left h.one h.other h.has_one h.has_other) made of_two);
       once = recoupled_once left kept at reopened (λ place. omega (arith, count_by-filter (has_place place) stand table.coupled, fit.once place));
@@ -90,10 +75,9 @@ stands_more offers new made stands =
 pub fit_after_offer : (table : PlainOffers) (new : Standing) → FitTogether table → IsNext table new.place → FitTogether (after_offer table new)
 fit_after_offer table new fit next = by (open_match table.offers table.coupled new) refl
   where
-    offers_more : (coupled : List Made) → ByMaking coupled → All (Stands (table.offers ++ new ∷ [])) coupled → AreOnce coupled → FitTogether (record { offers = table.offers ++ new ∷ []; coupled = coupled })
-    offers_more coupled by_making stand once = record {
+    offers_more : (coupled : List Made) → All (Stands (table.offers ++ new ∷ [])) coupled → AreOnce coupled → FitTogether (record { offers = table.offers ++ new ∷ []; coupled = coupled })
+    offers_more coupled stand once = record {
       by_place = all_pairs_push (λ (one other : Standing). one.place < other.place) table.offers new fit.by_place (λ k d within. next.above k d within);
-      by_making = by_making;
       stand = stand;
       once = once;
     }
@@ -103,12 +87,11 @@ fit_after_offer table new fit next = by (open_match table.offers table.coupled n
 
     by : (match : Option Standing) → open_match table.offers table.coupled new ≡ match →
         FitTogether (record { offers = table.offers ++ new ∷ []; coupled = table.coupled ++ option_to_list (option_map (λ match. let m : Made = record { pair = pair_of match new; at = new.place } in m) match) })
-    by None none = offers_more (table.coupled ++ []) (rw (append-nil table.coupled) fit.by_making) (rw (append-nil table.coupled) old) (rw (append-nil table.coupled) fit.once)
+    by None none = offers_more (table.coupled ++ []) (rw (append-nil table.coupled) old) (rw (append-nil table.coupled) fit.once)
     by (Some match) found =
         let m : Made = record { pair = pair_of match new; at = new.place } in
         let is = open_match_is table.offers table.coupled new match found in
         offers_more (table.coupled ++ m ∷ [])
-        (made_later table.coupled (m ∷ []) new.place fit.by_making (All-weaker (λ (m : Made). m.at < new.place) (λ m. m.at ≤ new.place) (λ m h. omega arith) table.coupled next.later) (All-cons (λ (m : Made). m.at ≡ new.place) m [] refl (All-nil (λ (m : Made). m.at ≡ new.place))))
         (All-push (Stands (table.offers ++ new ∷ [])) table.coupled m old
         (pair_stands (table.offers ++ new ∷ []) match new (Contains-append_left table.offers (new ∷ []) match is.2) (Contains-push table.offers new)))
         (uses_of-push table.coupled new.place match new is.0 (above_is_open table new.place fit next) fit.once)

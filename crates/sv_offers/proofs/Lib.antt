@@ -8,4 +8,5 @@ mod OnlyLemmas
 mod OrderLemmas
 mod PlaceLemmas
 mod ShelfLemmas
+mod SlotLemmas
 mod TableLemmas

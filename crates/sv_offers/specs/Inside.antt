@@ -4,6 +4,7 @@ use Rattle.std.specs.HashMap.{spare}
 use Rattle.sv_offers.specs.Addressed.{HasMadeTo}
 use Rattle.sv_offers.specs.Finding.{FindsMates, FindsNames}
 use Rattle.sv_offers.specs.Shelf.{HasOwn}
+use Rattle.sv_offers.specs.Slots.{SlotsByMaking, couplings_in}
 use Rattle.sv_offers.specs.declared.couplings.Couplings.TheInside as couplings
 use Rattle.sv_offers.specs.declared.standings.Standings.TheInside as standings
 
@@ -13,8 +14,9 @@ pub record AreFound (s : standings.Inside) : Type 0 where
   pub made_to : HasMadeTo s.made_to s.placed
   pub named : FindsNames s.named s.placed
 
--- the map finds the couplings, and there is room for as many more as is said
+-- the map finds the couplings, their slots are in order, and there is room for as many more as is said
 pub record AreMated (c : couplings.Inside) : Type 0 where
-  pub finds : FindsMates c.mated c.made.items
+  pub finds : FindsMates c.mated (couplings_in c.made.items)
+  pub by_making : SlotsByMaking c.made.items
   pub list_room : vec_len c.made + c.room ≤ vec_capacity c.made
   pub map_room : 2 * c.room ≤ spare c.mated

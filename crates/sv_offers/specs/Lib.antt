@@ -5,4 +5,5 @@ pub mod Kept
 pub mod Placed
 pub mod Places
 pub mod Shelf
+pub mod Slots
 pub mod Table

@@ -1,6 +1,5 @@
--- Offers by place, and couplings by where they were made.
+-- Offers by place, and the couplings that they are in.
 use Rattle.std.specs.Prelude.{◌≡◌, ℕ, ◌<◌, ◌≤◌, ◌==◌, not, nat_lt, true, List, ◌++◌, ◌∷◌, filter, find, count_by, All, AllPairs, Option, Some, None, option_and_then, if◌then◌else◌}
-use Rattle.std.specs.List.Sorted.{IsNonDecreasingBy}
 use Rattle.sv_events.specs.declared.row.Ending.{Ending}
 use Rattle.sv_offers.specs.Table.{PlainOffers}
 use Rattle.sv_rules.specs.Coupling.{both_stand, has_place, offer_at}
@@ -11,10 +10,6 @@ use Rattle.sv_rules.specs.declared.standing.Standing.{Standing}
 -- the offers come by place, no two at one
 abbrev pub ByPlace : List Standing → Type 0
 ByPlace offers = AllPairs (λ one other. one.place < other.place) offers
-
--- the couplings come by the place of the act that made them
-abbrev pub ByMaking : List Made → Type 0
-ByMaking coupled = IsNonDecreasingBy (λ made. made.at) coupled
 
 -- no place is in two couplings
 abbrev pub AreOnce : List Made → Type 0
@@ -46,11 +41,10 @@ abbrev pub with_free : List Standing → Option Standing → List Standing
 with_free offers None = offers
 with_free offers (Some free) = with_place offers free
 
--- the offers and the couplings of a table fit together: both come in their order, the two offers of each coupling stand, and
--- no offer is in two
+-- the offers and the couplings of a table fit together: the offers come in their order, the two offers of each coupling stand,
+-- and no offer is in two
 pub record FitTogether (table : PlainOffers) : Type 0 where
   pub by_place : ByPlace table.offers
-  pub by_making : ByMaking table.coupled
   pub stand : All (λ made. both_stand table.offers made.pair ≡ true) table.coupled
   pub once : AreOnce table.coupled
 

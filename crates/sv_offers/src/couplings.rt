@@ -1,19 +1,22 @@
-ghost use Rattle.std.specs.Prelude.{◌≡◌, ◌++◌, ◌+◌, ◌^◌, ◌∷◌, ◌≤◌, ◌<◌, true, [], Contains, OnOk, OnErr, find, get_or, length, vec_len, vec_capacity};
-ghost use Rattle.sv_offers.specs.Places.{AreOnce, ByMaking, without_coupling};
+ghost use Rattle.std.specs.Prelude.{◌≡◌, ◌++◌, ◌+◌, ◌^◌, ◌∷◌, ◌≤◌, ◌<◌, [], All, OnOk, OnErr, find};
+ghost use Rattle.sv_offers.specs.Places.{AreOnce, without_coupling};
 ghost use Rattle.sv_rules.specs.Coupling.{has_place, is_coupled};
 ghost use Rattle.sv_rules.specs.declared.coupling.Made.{Made};
 
 use crate::index::{Mated, forget_mates, note_mates};
+use crate::slots::{Slot, put_last, take_out, tidy};
 use apl_arrays::WantOfMemory;
 use std::alloc::Global;
 use std::collections::HashMap;
 use std::marker::Model;
 use sv_rules::Made;
 
-/// Couplings in the order in which they were made, each found at once by the places of its offers; with room for more.
+/// Couplings in the order in which they were made, each found at once by the places of its offers; with room for more. Each
+/// has a slot, which is left empty where the coupling ends, so that no other moves. From time to time, where more than half
+/// of the slots are empty, these are cleaned up: so no more of them are gone over than twice the endings since.
 #[derive(Drop)]
 pub struct Couplings {
-    made: Vec<Made>,
+    made: Vec<Slot>,
     mated: Mated,
     room: usize,
 }
@@ -21,11 +24,12 @@ pub struct Couplings {
 impl Model for Couplings {
     ghost use Rattle.apl_arrays.specs.List.{Listed};
     ghost use Rattle.sv_offers.specs.Inside.{AreMated};
+    ghost use Rattle.sv_offers.specs.Slots.{couplings_in};
     ghost use Rattle.sv_rules.specs.declared.coupling.Made.{Made};
 
     ghost Value = { Listed Made };
 
-    ghost view = { λ c. record { items = c.made.items; room = c.room } };
+    ghost view = { λ c. record { items = couplings_in c.made.items; room = c.room } };
 
     ghost invariant = { AreMated };
 }
@@ -68,27 +72,29 @@ impl Couplings {
         if self.room >= count {
             return Ok(());
         }
+        // Each coupling is in the map twice: where there are more slots than that, more than half are empty.
+        tidy(&mut self.made, self.mated.len());
         self.made.reserve(count)?;
         self.mated.reserve(2 * count)?;
         self.room = count;
         Ok(())
     }
 
-    /// One coupling more, which goes last, where there is room. No memory.
+    /// One coupling more, which goes last, where there is room and none was made later. No memory.
     pub fn push(&mut self, made: Made)
-        requires { 0 < self.old.room }
+        requires room { 0 < self.old.room }
+        requires later { All (λ other. other.at ≤ made.at) self.old.items }
         ensures items { self.new.items ≡ self.old.items ++ made ∷ [] }
         ensures room { self.new.room + 1 ≡ self.old.room }
     {
-        self.made.push_reserved(made);
+        put_last(&mut self.made, &made);
         note_mates(&mut self.mated, &made);
         self.room -= 1;
     }
 
     /// The coupling of the offer at a place goes, and is answered, if it has one. It leaves no room. No memory.
     pub fn part(&mut self, place: u64) -> Option<Made>
-        requires by_making { ByMaking self.old.items }
-        requires once { AreOnce self.old.items }
+        requires { AreOnce self.old.items }
         ensures found { result ≡ find (has_place place) self.old.items }
         ensures items { self.new.items ≡ without_coupling self.old.items place }
         ensures room { self.new.room ≡ self.old.room }
@@ -98,34 +104,4 @@ impl Couplings {
         forget_mates(&mut self.mated, &made);
         Some(made)
     }
-}
-
-// Where a coupling is: among those that were made at one place.
-fn place_of(coupled: &[Made], made: &Made) -> usize
-    requires by_making { ByMaking coupled.now }
-    requires there { Contains coupled.now made.now }
-    ensures within { result < length coupled.now }
-    ensures here { (other : Made) → get_or coupled.now result other ≡ made.now }
-{
-    let first = coupled.partition_point(|other| other.at < made.at);
-    for at in first..coupled.len() {
-        if coupled[at] == *made {
-            return at;
-        }
-    }
-    unreachable!()
-}
-
-// Takes one of the couplings out, that of the offer at a place.
-fn take_out(coupled: &mut Vec<Made>, made: &Made, place: u64)
-    requires by_making { ByMaking coupled.old.items }
-    requires once { AreOnce coupled.old.items }
-    requires there { Contains coupled.old.items made.now }
-    requires here { has_place place made.now ≡ true }
-    ensures items { coupled.new.items ≡ without_coupling coupled.old.items place }
-    ensures len { vec_len coupled.new ≤ vec_len coupled.old }
-    ensures capacity { vec_capacity coupled.new ≡ vec_capacity coupled.old }
-{
-    let at = place_of(coupled, made);
-    coupled.remove(at);
 }

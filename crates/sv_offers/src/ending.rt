@@ -1,5 +1,5 @@
 ghost use Rattle.std.specs.Prelude.{◌≡◌, ◌+◌, ◌<◌, ◌≤◌, [], All, Contains, length, true, vec_capacity, vec_len};
-ghost use Rattle.sv_offers.specs.Places.{AreOnce, ByMaking, ByPlace, other_place, set_free, with_free, without_coupling, without_place};
+ghost use Rattle.sv_offers.specs.Places.{AreOnce, ByPlace, other_place, set_free, with_free, without_coupling, without_place};
 ghost use Rattle.sv_rules.specs.Coupling.{both_stand, kept_by_ending, offer_at, reopened_by_ending};
 ghost use Rattle.sv_rules.specs.Standing.{is_ended, without_ended};
 
@@ -41,7 +41,6 @@ fn part(
     ending: &Ending,
 ) -> Option<Standing>
     requires by_place { ByPlace offers.now }
-    requires by_making { ByMaking coupled.old.items }
     requires once { AreOnce coupled.old.items }
     ensures free { result ≡ set_free offers.now coupled.old.items place party ending.now }
     ensures coupled { coupled.new.items ≡ without_coupling coupled.old.items place }
@@ -63,7 +62,6 @@ fn end_one(
     requires by_place { ByPlace offers.old }
     requires there { Contains offers.old offer.now }
     requires ends { is_ended party ending.now offer.now ≡ true }
-    requires by_making { ByMaking coupled.old.items }
     requires once { AreOnce coupled.old.items }
     requires noted { ByPlace reopened.old.items }
     requires room { vec_len reopened.old < vec_capacity reopened.old }
@@ -89,7 +87,6 @@ pub fn end_all(
     ending: &Ending,
 )
     requires by_place { ByPlace offers.old }
-    requires by_making { ByMaking coupled.old.items }
     requires stand { All (λ made. both_stand offers.old made.pair ≡ true) coupled.old.items }
     requires once { AreOnce coupled.old.items }
     requires none { reopened.old.items ≡ [] }

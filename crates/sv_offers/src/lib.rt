@@ -11,6 +11,7 @@ mod placed;
 mod places;
 mod room;
 mod shelves;
+mod slots;
 mod standings;
 mod table;
 #[cfg(test)]

@@ -1,4 +1,4 @@
-ghost use Rattle.std.specs.Prelude.{◌≡◌, ◌+◌, ◌≤◌, ◌<◌, ◌++◌, option_map, option_to_list, length, map};
+ghost use Rattle.std.specs.Prelude.{◌≡◌, ◌+◌, ◌≤◌, ◌<◌, ◌++◌, All, option_map, option_to_list, length, map};
 ghost use Rattle.sv_rules.specs.Coupling.{recoupled, pair_of};
 
 use crate::couplings::Couplings;
@@ -9,7 +9,8 @@ use sv_rules::{Made, Standing, pair_of};
 
 /// Couples a new offer with its open match, if there is one. No memory.
 pub fn join(coupled: &mut Couplings, other: &Option<Standing>, new: &Standing)
-    requires { 0 < coupled.old.room }
+    requires room { 0 < coupled.old.room }
+    requires later { All (λ made. made.at ≤ new.now.place) coupled.old.items }
     ensures items { coupled.new.items ≡ coupled.old.items ++ option_to_list (option_map (λ other. record { pair = pair_of other new.now; at = new.now.place }) other.now) }
     ensures room { coupled.old.room ≤ coupled.new.room + 1 }
 {
@@ -32,6 +33,7 @@ pub fn recouple(
 )
     requires room { length reopened.now ≤ coupled.old.room }
     requires pairs { length reopened.now ≤ made.old.room }
+    requires later { All (λ made. made.at ≤ at) coupled.old.items }
     ensures items { coupled.new.items ≡ coupled.old.items ++ recoupled at offers.now coupled.old.items reopened.now }
     ensures room { coupled.old.room ≤ coupled.new.room + length reopened.now }
     ensures made { made.new.items ≡ made.old.items ++ map (λ made. made.pair) (recoupled at offers.now coupled.old.items reopened.now) }

@@ -1,13 +1,11 @@
 use Rattle.std.proofs.Common.{◌<◌, ◌∙◌, ap, length, not, refl, subst, sym, arith}
-use Rattle.std.proofs.lemmas.List.Kept.{AllPairs-filter, IsNonDecreasingBy-filter}
+use Rattle.std.proofs.lemmas.List.Kept.{AllPairs-filter}
 use Rattle.sv_offer_laws.proofs.Members.{find_passed}
-use Rattle.sv_rules.specs.Coupling.{both_stand}
 use Rattle.sv_rules.specs.Standing.{is_ended, without_ended}
-use Rattle.sv_rules.specs.declared.coupling.Made.{Made}
 use Rattle.sv_rules.specs.declared.standing.Standing.{Standing}
 use Rattle.sv_offers.proofs.EndLemmas.{EndedSoFar, all_ended, ended_as, is_reopened, none_ended, one_ended, still_once}
 use Rattle.sv_offers.proofs.PlaceLemmas.{one_fewer, one_more_at_most}
-use Rattle.sv_offers.specs.Places.{ByMaking, ByPlace, set_free}
+use Rattle.sv_offers.specs.Places.{ByPlace, set_free}
 use Rattle.sv_offers.proofs.ending.end_all.Goals as goal
 
 pub loop-offer-init : goal.loop-offer-init
@@ -27,11 +25,6 @@ end_one-requires-clause-there c = (find_passed (is_ended c.args.party c.args.end
 
 pub end_one-requires-clause-ends : goal.end_one-requires-clause-ends
 end_one-requires-clause-ends c = (find_passed (is_ended c.args.party c.args.ending.now) c.loop-offer.offers c.in-Some.offer (sym c.in-Some.ensures)).0
-
-pub end_one-requires-clause-by_making : goal.end_one-requires-clause-by_making
-end_one-requires-clause-by_making c =
-    subst ByMaking (sym c.loop-offer.invariant.ended.coupled_still)
-    (IsNonDecreasingBy-filter (λ (made : Made). made.at) (λ made. both_stand c.loop-offer.offers made.pair) c.args.coupled.now.items c.requires.by_making)
 
 pub end_one-requires-clause-once : goal.end_one-requires-clause-once
 end_one-requires-clause-once c =

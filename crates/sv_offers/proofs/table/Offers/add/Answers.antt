@@ -1,5 +1,6 @@
-use Rattle.std.proofs.Common.{◌∙◌, ◌++◌, ◌∷◌, [], ap, length, length-append, subst, sym, List, arith}
-use Rattle.std.specs.Prelude.{option_map, option_to_list}
+use Rattle.std.proofs.Common.{◌∙◌, ◌<◌, ◌≤◌, ◌++◌, ◌∷◌, [], ap, length, length-append, subst, sym, List, arith}
+use Rattle.std.specs.Prelude.{All, option_map, option_to_list}
+use Rattle.std.proofs.lemmas.List.Elements.{All-weaker}
 use Rattle.sv_rules.specs.Coupling.{open_match, pair_of}
 use Rattle.sv_rules.specs.declared.coupling.Made.{Made}
 use Rattle.sv_rules.specs.declared.standing.Standing.{Standing}
@@ -11,6 +12,13 @@ use Rattle.sv_offers.proofs.table.Offers.add.Goals as goal
 
 pub add-requires : goal.add-requires
 add-requires c = record { by_place = c.self.invariant.fit.by_place; above = (subst (λ (v : PlainOffers). IsNext v c.args.new.now.place) (sym c.self.view_is) c.requires).above }
+
+pub join-requires-clause-later : goal.join-requires-clause-later
+join-requires-clause-later c =
+    let at = c.args.new.now.place in
+    let later = (subst (λ (v : PlainOffers). IsNext v at) (sym c.self.view_is) c.requires).later in
+    subst (λ (made : List Made). All (λ m. m.at ≤ at) made) (sym c.reserve.ensures.items)
+    (All-weaker (λ (made : Made). made.at < at) (λ m. m.at ≤ at) (λ m h. omega arith) c.self.inside.coupled.items later)
 
 pub invariant_of-self-2 : goal.invariant_of-self-2
 invariant_of-self-2 c =
