@@ -19,7 +19,7 @@ fn match_of_party(offers: &Standings, coupled: &Couplings, offer: &Standing) -> 
     offers
         .of(offer.to)
         .iter()
-        .find(|other| is_open_match(coupled, offer, other))
+        .find(|theirs| is_open_match(coupled, offer, theirs))
         .copied()
 }
 
