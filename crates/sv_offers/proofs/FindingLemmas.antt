@@ -1,5 +1,5 @@
 -- The first of each key.
-use Rattle.std.proofs.Common.{◌≡◌, refl, sym, ap, ap₂, ◌∙◌, ℕ, Bool, true, false, ◌||◌, cond, eqb, List, [], ◌∷◌, Option, Some, None, filter, find, inl, inr}
+use Rattle.std.proofs.Common.{◌≡◌, refl, sym, ap, ap₂, ◌∙◌, ℕ, Bool, true, false, ◌||◌, cond, eqb, List, [], ◌∷◌, Option, Some, None, filter, find, inl, inr, subst}
 use Rattle.std.specs.Prelude.{Contains, is_some}
 use Rattle.std.specs.HashMap.{get}
 use Rattle.std.specs.List.{list_any}
@@ -12,7 +12,7 @@ use Rattle.sv_offer_laws.proofs.OwnLemmas.{own-itself, same_name-is}
 use Rattle.sv_offers.proofs.FilterLemmas.{found_among}
 use Rattle.sv_offers.proofs.PlaceLemmas.{kept_elsewhere}
 use Rattle.sv_offers.proofs.ShelfLemmas.{of_party}
-use Rattle.sv_offers.specs.Addressed.{is_made_to, listed_at}
+use Rattle.sv_offers.specs.Addressed.{listed_at, places_to}
 use Rattle.sv_offers.specs.Finding.{same_key}
 use Rattle.sv_offers.specs.Inside.{AreFound}
 use Rattle.sv_offers.specs.Places.{ByPlace, without_place}
@@ -81,7 +81,8 @@ pub found_as_before : (old new : Inside) → AreFound old → new.placed ≡ old
     ((party : ℕ) (surrogate : Option (List ℕ)) → listed_at new.made_to party surrogate ≡ listed_at old.made_to party surrogate) →
     ((key : ℕ × List ℕ) → get same_key new.named key ≡ get same_key old.named key) → AreFound new
 found_as_before old new found offers own made_to named = record {
+  by_place = subst ByPlace (sym offers) found.by_place;
   own = λ party. own party ∙ found.own party ∙ ap (filter (of_party party)) (sym offers);
-  made_to = λ party surrogate. made_to party surrogate ∙ found.made_to party surrogate ∙ ap (filter (is_made_to party surrogate)) (sym offers);
+  made_to = λ party surrogate. made_to party surrogate ∙ found.made_to party surrogate ∙ ap (λ (os : List Standing). places_to os party surrogate) (sym offers);
   named = λ party local. named (party, local) ∙ found.named party local ∙ ap (λ (os : List Standing). own_offer os party local) (sym offers);
 }

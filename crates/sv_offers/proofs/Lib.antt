@@ -3,10 +3,12 @@ mod EndLemmas
 mod FilterLemmas
 mod FindingLemmas
 mod FitLemmas
+mod LookLemmas
 mod MatchLemmas
 mod OnlyLemmas
 mod OrderLemmas
 mod PlaceLemmas
+mod SetLemmas
 mod ShelfLemmas
 mod SlotLemmas
 mod TableLemmas

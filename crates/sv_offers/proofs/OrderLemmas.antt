@@ -27,7 +27,7 @@ tests true false = refl
 tests false true = refl
 tests false false = refl
 
-same_test : (a b : ℕ) → is_eq (nat_cmp a b) ≡ eqb b a
+pub same_test : (a b : ℕ) → is_eq (nat_cmp a b) ≡ eqb b a
 same_test a b =
     tests (ltb a b) (eqb a b)
     ∙ elim (cases_Bool (eqb a b)) [

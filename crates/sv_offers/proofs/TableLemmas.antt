@@ -1,5 +1,5 @@
 -- The table's look-ups, and the steps of an ending one after another.
-use Rattle.std.proofs.Common.{◌≡◌, ℕ, Bool, true, false, not, ◌&&◌, eqb, List, [], ◌∷◌, ◌++◌, Option, Some, None, find, ap, sym, refl, ◌∙◌, cond}
+use Rattle.std.proofs.Common.{◌≡◌, ℕ, Bool, true, false, not, eqb, List, [], ◌∷◌, ◌++◌, Option, Some, None, find, ap, sym, refl, ◌∙◌, cond}
 use Rattle.std.proofs.Math.Bool.{and_comm}
 use Rattle.std.proofs.lemmas.Bool.{and_from, and_parts}
 use Rattle.std.specs.List.{filter}
@@ -10,7 +10,7 @@ use Rattle.sv_rules.specs.declared.standing.Standing.{Standing}
 use Rattle.sv_rules.specs.Standing.{without_ended}
 use Rattle.sv_rules.specs.Coupling.{is_coupled, kept_by_ending, made_by_ending, open_match, pair_of, recoupled, reopened_by_ending}
 use Rattle.sv_offer_laws.proofs.Members.{filter-filter}
-use Rattle.sv_offers.proofs.FilterLemmas.{commute, filter_alike, found_among}
+use Rattle.sv_offers.proofs.FilterLemmas.{commute, filter_alike}
 use Rattle.sv_offers.specs.Addressed.{is_made_to}
 use Rattle.sv_offers.specs.Table.{PlainOffers, after_ending, after_offer, is_open_to, open_among}
 
@@ -64,26 +64,9 @@ added_table table new offers coupled match is_offers is_match is_coupled =
     ∙ ap (λ ms. let t : PlainOffers = record { offers = table.offers ++ new ∷ []; coupled = ms } in t)
     (is_coupled ∙ ap (λ o. table.coupled ++ option_to_list (option_map (λ match. let m : Made = record { pair = pair_of match new; at = new.place } in m) o)) is_match)
 
--- the open offers among those made to a party
-asked_twice : (t n : Bool) → ((t && true) && (t && n)) ≡ (n && t)
-asked_twice true true = refl
-asked_twice true false = refl
-asked_twice false true = refl
-asked_twice false false = refl
-
-pub open_made_to : (table : PlainOffers) (party : ℕ) →
-    filter (is_open_to table.coupled party) (filter (is_made_to party None) table.offers) ≡ open_among table party
-open_made_to table party =
-    filter-filter (is_open_to table.coupled party) (is_made_to party None) table.offers
-    ∙ filter_alike _ _ (λ offer. asked_twice (eqb offer.to party) (not (is_coupled table.coupled offer.place))) table.offers
-    ∙ sym (filter-filter (λ (offer : Standing). eqb offer.to party) (λ (offer : Standing). not (is_coupled table.coupled offer.place)) table.offers)
-
-pub first_made_to : (table : PlainOffers) (party : ℕ) →
-    find (is_open_to table.coupled party) (filter (is_made_to party None) table.offers) ≡ find (λ _. true) (open_among table party)
-first_made_to table party =
-    found_among (is_open_to table.coupled party) (is_made_to party None)
-    (λ offer open'. and_from (eqb offer.to party) true (and_parts (eqb offer.to party) (not (is_coupled table.coupled offer.place)) open').0 refl) table.offers
-    ∙ sym (first_by_test table party)
+-- an open offer to a party is among those that are made to it
+pub open_is_made_to : (coupled : List Made) (party : ℕ) (offer : Standing) → is_open_to coupled party offer ≡ true → is_made_to party None offer ≡ true
+open_is_made_to coupled party offer open' = and_from (eqb offer.to party) true (and_parts (eqb offer.to party) (not (is_coupled coupled offer.place)) open').0 refl
 
 -- the open offers that one party made to another, among its own
 pub own_open_to : (table : PlainOffers) (from to : ℕ) →

@@ -1,5 +1,5 @@
--- Lists of offers by the party that they are made to, and by their surrogates.
-use Rattle.std.specs.Prelude.{◌≡◌, ℕ, Bool, true, ◌==◌, ◌&&◌, List, [], filter, Option, Some, None, option_map, if◌then◌else◌}
+-- Lists of the places of offers, by the party that these are made to and by their surrogates.
+use Rattle.std.specs.Prelude.{◌≡◌, ℕ, Bool, true, ◌==◌, ◌&&◌, List, [], filter, map, not, Option, Some, None, option_map, if◌then◌else◌}
 use Rattle.std.specs.HashMap.{get}
 use Rattle.std.specs.Option.{option_eq, unwrap_or}
 use Rattle.apl_arrays.specs.Name.{same_name}
@@ -19,12 +19,16 @@ is_under (Some surrogate) offer = same_name offer.surrogate surrogate
 abbrev pub is_made_to : ℕ → Option (List ℕ) → Standing → Bool
 is_made_to party surrogate offer = offer.to == party && is_under surrogate offer
 
--- the offers of a list, none where there is no list
-abbrev pub listed_at : Addressed → ℕ → Option (List ℕ) → List Standing
+-- the places of a list, none where there is no list
+abbrev pub listed_at : Addressed → ℕ → Option (List ℕ) → List ℕ
 listed_at addressed party surrogate = unwrap_or (get same_list addressed.lists (party, surrogate)) []
 
+-- the places but one
+abbrev pub without : List ℕ → ℕ → List ℕ
+without places place = filter (λ other. not (other == place)) places
+
 -- one list is another now, if it is there; the others are as before
-abbrev pub ChangesList : Addressed → Addressed → (ℕ × Option (List ℕ)) → (List Standing → List Standing) → Type 0
+abbrev pub ChangesList : Addressed → Addressed → (ℕ × Option (List ℕ)) → (List ℕ → List ℕ) → Type 0
 ChangesList old new key change = (list : ℕ × Option (List ℕ)) → get same_list new.lists list
     ≡ (if same_list key list then option_map change (get same_list old.lists list) else get same_list old.lists list)
 
@@ -32,6 +36,10 @@ ChangesList old new key change = (list : ℕ × Option (List ℕ)) → get same_
 abbrev pub KeepsLists : Addressed → Addressed → Type 0
 KeepsLists old new = (list : ℕ × Option (List ℕ)) → get same_list new.lists list ≡ get same_list old.lists list
 
--- the lists have of these offers those that are made to each party, of all surrogates and of each
+-- the places of the offers that are made to a party, of one surrogate or of all
+abbrev pub places_to : List Standing → ℕ → Option (List ℕ) → List ℕ
+places_to offers party surrogate = map (λ offer. offer.place) (filter (is_made_to party surrogate) offers)
+
+-- the lists have the places of those of these offers that are made to each party, of all surrogates and of each
 abbrev pub HasMadeTo : Addressed → List Standing → Type 0
-HasMadeTo addressed offers = (party : ℕ) (surrogate : Option (List ℕ)) → listed_at addressed party surrogate ≡ filter (is_made_to party surrogate) offers
+HasMadeTo addressed offers = (party : ℕ) (surrogate : Option (List ℕ)) → listed_at addressed party surrogate ≡ places_to offers party surrogate

@@ -3,13 +3,16 @@ use Rattle.std.specs.Prelude.{◌≤◌, ◌+◌, ◌*◌, vec_len, vec_capacity
 use Rattle.std.specs.HashMap.{spare}
 use Rattle.sv_offers.specs.Addressed.{HasMadeTo}
 use Rattle.sv_offers.specs.Finding.{FindsMates, FindsNames}
+use Rattle.sv_offers.specs.Places.{ByPlace}
 use Rattle.sv_offers.specs.Shelf.{HasOwn}
 use Rattle.sv_offers.specs.Slots.{SlotsByMaking, couplings_in}
 use Rattle.sv_offers.specs.declared.couplings.Couplings.TheInside as couplings
 use Rattle.sv_offers.specs.declared.standings.Standings.TheInside as standings
 
--- the lists have each party's offers, and those that are made to it; the map finds them by party and local name
+-- the offers come by place; the lists have each party's, and the places of those that are made to it; the map finds them by
+-- party and local name
 pub record AreFound (s : standings.Inside) : Type 0 where
+  pub by_place : ByPlace s.placed
   pub own : HasOwn s.own s.placed
   pub made_to : HasMadeTo s.made_to s.placed
   pub named : FindsNames s.named s.placed

@@ -2,6 +2,7 @@ pub mod Addressed
 pub mod Finding
 pub mod Inside
 pub mod Kept
+pub mod PlaceSet
 pub mod Placed
 pub mod Places
 pub mod Shelf

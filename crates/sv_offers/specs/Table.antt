@@ -1,7 +1,7 @@
-use Rattle.std.specs.Prelude.{ℕ, Bool, ◌==◌, ◌&&◌, not, List, [], ◌∷◌, ◌++◌, map, filter, Option, option_map, option_to_list}
+use Rattle.std.specs.Prelude.{ℕ, Bool, ◌==◌, ◌&&◌, not, List, [], ◌∷◌, ◌++◌, map, filter, Option, None, Some, option_map, option_to_list, if◌then◌else◌}
 use Rattle.sv_events.specs.declared.entry.Pair.{Pair}
 use Rattle.sv_events.specs.declared.row.Ending.{Ending}
-use Rattle.sv_rules.specs.Coupling.{is_coupled, kept_by_ending, made_by_ending, open_match, pair_of}
+use Rattle.sv_rules.specs.Coupling.{is_coupled, is_open_match, kept_by_ending, made_by_ending, offer_at, open_match, pair_of}
 use Rattle.sv_rules.specs.Standing.{without_ended}
 use Rattle.sv_rules.specs.declared.coupling.Made.{Made}
 use Rattle.sv_rules.specs.declared.standing.Standing.{Standing}
@@ -33,9 +33,22 @@ after_ending at table party ending = record {
   coupled = kept_by_ending table.offers table.coupled party ending ++ made_by_ending at table.offers table.coupled party ending;
 }
 
+-- an offer that passes a test, if there is one
+abbrev pub passing : (Standing → Bool) → Option Standing → Option Standing
+passing test None = None
+passing test (Some offer) = if test offer then Some offer else None
+
 -- the offer is open, and made to a party by its number
 abbrev pub is_open_to : List Made → ℕ → Standing → Bool
 is_open_to coupled party offer = offer.to == party && not (is_coupled coupled offer.place)
+
+-- the offer at a place, if it is open and made to a party by its number
+abbrev pub open_at : List Standing → List Made → ℕ → ℕ → Option Standing
+open_at offers coupled party place = passing (is_open_to coupled party) (offer_at offers place)
+
+-- the offer at a place, if it is open and matches another
+abbrev pub match_at : List Standing → List Made → Standing → ℕ → Option Standing
+match_at offers coupled offer place = passing (is_open_match coupled offer) (offer_at offers place)
 
 -- the open offers made to a party by its number, by place
 abbrev pub open_among : PlainOffers → ℕ → List Standing

@@ -1,21 +1,20 @@
-ghost use Rattle.std.specs.Prelude.{◌≡◌, ◌<◌, ◌++◌, ◌∷◌, ℕ, [], List, All, Option, IsSome, OnOk, OnErr, if◌then◌else◌};
+ghost use Rattle.std.specs.Prelude.{◌≡◌, ◌≢◌, ◌<◌, ◌++◌, ◌∷◌, ℕ, [], List, All, Option, Some, IsSome, OnOk, OnErr, if◌then◌else◌};
 ghost use Rattle.std.specs.HashMap.{get};
 ghost use Rattle.std.specs.Option.{option_copied, unwrap_or};
-ghost use Rattle.sv_offers.specs.Addressed.{ChangesList, KeepsLists, is_made_to, listed_at, same_list};
-ghost use Rattle.sv_offers.specs.Places.{without_place};
+ghost use Rattle.sv_offers.specs.Addressed.{ChangesList, KeepsLists, is_made_to, listed_at, same_list, without};
 
-use crate::placed::Placed;
+use crate::place_set::PlaceSet;
 use apl_arrays::{Name, WantOfMemory};
 use std::alloc::Global;
 use std::collections::HashMap;
 use sv_rules::Standing;
 
-/// Offers by the party that they are made to, in lists by place: all that are made to one, and those of one surrogate. There
-/// is no list without an offer.
+/// The places of offers by the party that these are made to: of all that are made to one, and of those of one surrogate. There
+/// is no list without a place.
 #[derive(Drop)]
 pub struct Addressed {
     alloc: Global,
-    lists: HashMap<(u32, Option<Name>), Placed>,
+    lists: HashMap<(u32, Option<Name>), PlaceSet>,
 }
 
 impl Addressed {
@@ -29,8 +28,8 @@ impl Addressed {
         }
     }
 
-    /// The offers made to a party, of one surrogate or of all, if there are any. No memory.
-    pub fn of(&self, party: u32, surrogate: Option<Name>) -> Option<&Placed>
+    /// The places of the offers made to a party, of one surrogate or of all, if there are any. No memory.
+    pub fn of(&self, party: u32, surrogate: Option<Name>) -> Option<&PlaceSet>
         ensures { unwrap_or (option_copied result) [] ≡ listed_at self.now party surrogate }
     {
         self.lists.get(&(party, surrogate))
@@ -39,9 +38,9 @@ impl Addressed {
     /// One offer more, at a place above all, which goes last in both its lists. It takes memory; after `WantOfMemory` all is as
     /// before.
     pub fn add(&mut self, new: &Standing) -> Result<(), WantOfMemory>
-        requires { (surrogate : Option (List ℕ)) → All (λ offer. offer.place < new.now.place) (listed_at self.old new.now.to surrogate) }
+        requires { (surrogate : Option (List ℕ)) → All (λ place. place < new.now.place) (listed_at self.old new.now.to surrogate) }
         ensures ok { OnOk result ((party : ℕ) (surrogate : Option (List ℕ)) → listed_at self.new party surrogate
-            ≡ (if is_made_to party surrogate new.now then listed_at self.old party surrogate ++ new.now ∷ [] else listed_at self.old party surrogate)) }
+            ≡ (if is_made_to party surrogate new.now then listed_at self.old party surrogate ++ new.now.place ∷ [] else listed_at self.old party surrogate)) }
         ensures err { OnErr result ((party : ℕ) (surrogate : Option (List ℕ)) → listed_at self.new party surrogate ≡ listed_at self.old party surrogate) }
     {
         self.add_to(None, new)?;
@@ -57,7 +56,7 @@ impl Addressed {
     /// An offer goes from both its lists. No memory.
     pub fn remove(&mut self, offer: &Standing)
         ensures { (party : ℕ) (surrogate : Option (List ℕ)) → listed_at self.new party surrogate
-            ≡ (if is_made_to party surrogate offer.now then without_place (listed_at self.old party surrogate) offer.now.place else listed_at self.old party surrogate) }
+            ≡ (if is_made_to party surrogate offer.now then without (listed_at self.old party surrogate) offer.now.place else listed_at self.old party surrogate) }
     {
         self.remove_from(None, offer);
         self.remove_from(Some(offer.surrogate), offer);
@@ -65,20 +64,26 @@ impl Addressed {
 
     // An offer goes last in one of its lists. It takes memory; after `WantOfMemory` all is as before.
     fn add_to(&mut self, surrogate: Option<Name>, new: &Standing) -> Result<(), WantOfMemory>
-        requires { All (λ offer. offer.place < new.now.place) (listed_at self.old new.now.to surrogate) }
+        requires { All (λ place. place < new.now.place) (listed_at self.old new.now.to surrogate) }
         ensures ok { OnOk result ((party : ℕ) (name : Option (List ℕ)) → listed_at self.new party name
-            ≡ (if same_list (new.now.to, surrogate) (party, name) then listed_at self.old party name ++ new.now ∷ [] else listed_at self.old party name)) }
+            ≡ (if same_list (new.now.to, surrogate) (party, name) then listed_at self.old party name ++ new.now.place ∷ [] else listed_at self.old party name)) }
         ensures err { OnErr result ((party : ℕ) (name : Option (List ℕ)) → listed_at self.new party name ≡ listed_at self.old party name) }
     {
         let key = (new.to, surrogate);
         self.open(key)?;
-        self.push(&key, new)
+        match self.push(&key, new) {
+            Ok(()) => Ok(()),
+            Err(WantOfMemory) => {
+                self.close(&key);
+                Err(WantOfMemory)
+            }
+        }
     }
 
     // An offer goes from one of its lists, and the list where it was the last. No memory.
     fn remove_from(&mut self, surrogate: Option<Name>, offer: &Standing)
         ensures { (party : ℕ) (name : Option (List ℕ)) → listed_at self.new party name
-            ≡ (if same_list (offer.now.to, surrogate) (party, name) then without_place (listed_at self.old party name) offer.now.place else listed_at self.old party name) }
+            ≡ (if same_list (offer.now.to, surrogate) (party, name) then without (listed_at self.old party name) offer.now.place else listed_at self.old party name) }
     {
         let key = (offer.to, surrogate);
         self.take_out(&key, offer.place);
@@ -91,7 +96,7 @@ impl Addressed {
         ensures ok { OnOk result (IsSome (get same_list self.new.lists key)) }
     {
         if !self.lists.contains_key(&key) {
-            self.lists.insert(key, Placed::new(self.alloc))?;
+            self.lists.insert(key, PlaceSet::new(self.alloc))?;
         }
         Ok(())
     }
@@ -99,19 +104,19 @@ impl Addressed {
     // An offer goes last in a list. It takes memory; after `WantOfMemory` all is as before.
     fn push(&mut self, key: &(u32, Option<Name>), new: &Standing) -> Result<(), WantOfMemory>
         requires there { IsSome (get same_list self.old.lists key.now) }
-        requires above { All (λ offer. offer.place < new.now.place) (listed_at self.old key.now.0 key.now.1) }
-        ensures ok { OnOk result (ChangesList self.old self.new key.now (λ offers. offers ++ new.now ∷ [])) }
+        requires above { All (λ place. place < new.now.place) (listed_at self.old key.now.0 key.now.1) }
+        ensures ok { OnOk result (ChangesList self.old self.new key.now (λ places. places ++ new.now.place ∷ [])) }
         ensures err { OnErr result (KeepsLists self.old self.new) }
     {
         match self.lists.get_mut(key) {
-            Some(list) => list.add(new),
+            Some(list) => list.add(new.place),
             None => unreachable!(),
         }
     }
 
     // From a list the offer at a place goes, if there is the list. No memory.
     fn take_out(&mut self, key: &(u32, Option<Name>), place: u64)
-        ensures { ChangesList self.old self.new key.now (λ offers. without_place offers place) }
+        ensures { ChangesList self.old self.new key.now (λ places. without places place) }
     {
         match self.lists.get_mut(key) {
             Some(list) => list.remove(place),
@@ -121,7 +126,8 @@ impl Addressed {
 
     // A list without an offer goes. No memory.
     fn close(&mut self, key: &(u32, Option<Name>))
-        ensures { (party : ℕ) (name : Option (List ℕ)) → listed_at self.new party name ≡ listed_at self.old party name }
+        ensures same { (party : ℕ) (name : Option (List ℕ)) → listed_at self.new party name ≡ listed_at self.old party name }
+        ensures gone { get same_list self.new.lists key.now ≢ Some [] }
     {
         let Some(list) = self.lists.get(key) else {
             return;

@@ -7,6 +7,7 @@ mod ending;
 mod index;
 mod listing;
 mod matching;
+mod place_set;
 mod placed;
 mod places;
 mod room;

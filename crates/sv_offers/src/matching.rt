@@ -1,4 +1,5 @@
 ghost use Rattle.std.specs.Prelude.{◌≡◌, ◌≢◌, Some};
+ghost use Rattle.sv_offers.specs.Table.{match_at};
 ghost use Rattle.sv_rules.specs.Coupling.{coupling_at, coupling_of, is_open_match, offer_at, open_match, rejoined};
 
 use crate::couplings::Couplings;
@@ -23,16 +24,35 @@ fn match_of_party(offers: &Standings, coupled: &Couplings, offer: &Standing) -> 
         .copied()
 }
 
+// The offer at a place, if it is open and matches another.
+fn match_at(
+    offers: &Standings,
+    coupled: &Couplings,
+    offer: &Standing,
+    place: u64,
+) -> Option<Standing>
+    ensures { result ≡ match_at offers.now coupled.now.items offer.now place }
+{
+    let other = offers.at(place)?;
+    if is_open_match(coupled, offer, &other) {
+        Some(other)
+    } else {
+        None
+    }
+}
+
 // Of the open matches of an offer that is made to any the oldest: they are made to its party, under its surrogate.
 fn match_of_any(offers: &Standings, coupled: &Couplings, offer: &Standing) -> Option<Standing>
     requires { offer.now.to ≡ 0 }
     ensures { result ≡ open_match offers.now coupled.now.items offer.now }
 {
-    offers
-        .made_to(offer.party, Some(offer.surrogate))?
-        .iter()
-        .find(|other| is_open_match(coupled, offer, other))
-        .copied()
+    let places = offers.places_to(offer.party, Some(offer.surrogate))?;
+    for place in places.iter() {
+        if let Some(other) = match_at(offers, coupled, offer, *place) {
+            return Some(other);
+        }
+    }
+    None
 }
 
 /// Of the open matches of an offer the oldest, if it has any. No memory.

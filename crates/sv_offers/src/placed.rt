@@ -1,13 +1,10 @@
 ghost use Rattle.std.specs.Prelude.{◌≡◌, ◌<◌, ◌++◌, ◌∷◌, [], All, OnOk, OnErr, length};
-ghost use Rattle.std.specs.Map.Iter.{ShowsInOrder, deref};
 ghost use Rattle.sv_offers.specs.Places.{without_place};
 ghost use Rattle.sv_rules.specs.Coupling.{offer_at};
-ghost use Rattle.sv_rules.specs.declared.standing.Standing.{Standing};
 
 use apl_arrays::WantOfMemory;
 use std::alloc::Global;
 use std::collections::BTreeMap;
-use std::collections::btree_map::Values;
 use std::marker::Model;
 use sv_rules::Standing;
 
@@ -45,14 +42,6 @@ impl Placed {
         ensures { result ≡ length self.now }
     {
         self.offers.len()
-    }
-
-    /// The offers, by place. No memory.
-    pub fn iter(&self) -> Values<'_, u64, Standing>
-        ensures rest { result ≡ self.now }
-        ensures runs { ShowsInOrder (deref {X = Standing}) }
-    {
-        self.offers.values()
     }
 
     /// The offer at a place, if there is one. No memory.

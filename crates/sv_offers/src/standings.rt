@@ -1,12 +1,13 @@
 ghost use Rattle.std.specs.Prelude.{◌≡◌, ◌==◌, ◌++◌, ◌∷◌, ◌<◌, [], All, Contains, OnOk, OnErr, filter, find, length};
 ghost use Rattle.std.specs.Option.{option_copied, unwrap_or};
-ghost use Rattle.sv_offers.specs.Addressed.{is_made_to};
+ghost use Rattle.sv_offers.specs.Addressed.{places_to};
 ghost use Rattle.sv_offers.specs.Places.{ByPlace, without_place};
 ghost use Rattle.sv_rules.specs.Coupling.{offer_at};
 ghost use Rattle.sv_rules.specs.Standing.{is_ended, offer_count, own_offer};
 
 use crate::addressed::Addressed;
 use crate::index::{Named, note_name, replace_name};
+use crate::place_set::PlaceSet;
 use crate::placed::Placed;
 use crate::shelves::Shelves;
 use apl_arrays::{Name, WantOfMemory};
@@ -75,9 +76,10 @@ impl Standings {
         self.own.of(party)
     }
 
-    /// The offers made to a party by its number, by place, of one surrogate or of all, if there are any. No memory.
-    pub fn made_to(&self, party: u32, surrogate: Option<Name>) -> Option<&Placed>
-        ensures { unwrap_or (option_copied result) [] ≡ filter (is_made_to party surrogate) self.now }
+    /// The places of the offers made to a party by its number, of one surrogate or of all, if there are any. No memory.
+    pub fn places_to(&self, party: u32, surrogate: Option<Name>) -> Option<&PlaceSet>
+        ensures places { unwrap_or (option_copied result) [] ≡ places_to self.now party surrogate }
+        ensures by_place { ByPlace self.now }
     {
         self.made_to.of(party, surrogate)
     }
@@ -105,8 +107,7 @@ impl Standings {
 
     /// One offer more, at a place above all, which goes last. It takes memory; after `WantOfMemory` all is as before.
     pub fn add(&mut self, new: &Standing) -> Result<(), WantOfMemory>
-        requires by_place { ByPlace self.old }
-        requires above { All (λ offer. offer.place < new.now.place) self.old }
+        requires { All (λ offer. offer.place < new.now.place) self.old }
         ensures ok { OnOk result (self.new ≡ self.old ++ new.now ∷ []) }
         ensures err { OnErr result (self.new ≡ self.old) }
     {
@@ -138,8 +139,7 @@ impl Standings {
 
     /// One of the offers goes. No memory.
     pub fn remove(&mut self, offer: &Standing)
-        requires by_place { ByPlace self.old }
-        requires there { Contains self.old offer.now }
+        requires { Contains self.old offer.now }
         ensures { self.new ≡ without_place self.old offer.now.place }
     {
         self.own.remove(offer.party, offer.place);

@@ -11,7 +11,7 @@ use crate::listing::{first_to, names_to, open_to};
 use crate::matching::{coupling_at, coupling_on, open_match};
 use crate::room::{join, recouple};
 use crate::standings::Standings;
-use apl_arrays::{List, Name, NameList, PartyList, WantOfMemory};
+use apl_arrays::{Name, NameList, PartyList, WantOfMemory};
 use std::alloc::Global;
 use std::marker::Model;
 use sv_events::{Ending, PairList};
@@ -111,17 +111,15 @@ impl Offers {
     pub fn oldest_to(&self, party: u32) -> Option<Standing>
         ensures { result ≡ find (λ _. true) (open_among self.now party) }
     {
-        first_to(self.offers.made_to(party, None)?, &self.coupled, party)
+        first_to(&self.offers, &self.coupled, party)
     }
 
     /// The parties with open offers made to a party by its number, ascending, each once. It takes memory for them.
     pub fn parties_to(&self, alloc: Global, party: u32) -> Result<PartyList, WantOfMemory>
         ensures { IfOk result (λ list. list.items ≡ parties_of (open_among self.now party)) }
     {
-        match self.offers.made_to(party, None) {
-            None => Ok(List::new(alloc)),
-            Some(offers) => parties_of(alloc, &open_to(alloc, offers, &self.coupled, party)?),
-        }
+        let opened = open_to(alloc, &self.offers, &self.coupled, party)?;
+        parties_of(alloc, &opened)
     }
 
     /// The surrogates of the open offers of a party that are made to another by its number, by place. It takes memory

@@ -1,18 +1,16 @@
 use Rattle.std.proofs.Common.{◌∙◌, ◌<◌, ap, cond, subst, ℕ, List, Option, None}
 use Rattle.std.specs.Prelude.{All}
-use Rattle.sv_offers.specs.Addressed.{listed_at, same_list}
-use Rattle.sv_offers.specs.Places.{without_place}
-use Rattle.sv_rules.specs.declared.standing.Standing.{Standing}
+use Rattle.sv_offers.specs.Addressed.{listed_at, same_list, without}
 use Rattle.sv_offers.proofs.AddressedLemmas.{added_and_gone, list_is}
 use Rattle.sv_offers.proofs.addressed.Addressed.add.Goals as goal
 
--- the offer went last in one list and goes again
+-- the place went last in one list and goes again
 pub returns-in-Err-clause-err : goal.returns-in-Err-clause-err
 returns-in-Err-clause-err c = λ party name.
     let new = c.args.new.now in
     let all : ℕ × Option (List ℕ) = (new.to, None) in
     let here = same_list all (party, name) in
     c.remove_from.ensures party name
-    ∙ ap (λ (offers : List Standing). cond here (without_place offers new.place) offers) (c.in-Err.ensures.err party name ∙ c.in_ok-add_to.ensures.ok party name)
-    ∙ added_and_gone here (listed_at c.args.self.now party name) new
-    (λ is. subst (λ (key : ℕ × Option (List ℕ)). All (λ (o : Standing). o.place < new.place) (listed_at c.args.self.now key.0 key.1)) (list_is all (party, name) is) (c.requires None))
+    ∙ ap (λ (places : List ℕ). cond here (without places new.place) places) (c.in-Err.ensures.err party name ∙ c.in_ok-add_to.ensures.ok party name)
+    ∙ added_and_gone here (listed_at c.args.self.now party name) new.place
+    (λ is. subst (λ (key : ℕ × Option (List ℕ)). All (λ (p : ℕ). p < new.place) (listed_at c.args.self.now key.0 key.1)) (list_is all (party, name) is) (c.requires None))

@@ -2,13 +2,13 @@ use Rattle.std.proofs.Common.{◌≡◌, ◌∙◌, ap, sym, ℕ, List, Option, 
 use Rattle.std.specs.HashMap.{get}
 use Rattle.std.proofs.lemmas.Result.{on_err_weaker}
 use Rattle.sv_offers.specs.Addressed.{same_list}
-use Rattle.sv_offers.specs.declared.placed.Placed.{Placed}
+use Rattle.sv_offers.specs.declared.place_set.PlaceSet.{PlaceSet}
 use Rattle.sv_offers.proofs.AddressedLemmas.{kept_there, list_is}
 use Rattle.sv_offers.proofs.addressed.Addressed.push.Goals as goal
 
 pub returns-clause-err : goal.returns-clause-err
 returns-clause-err c =
-    let found : (ℕ × Option (List ℕ)) → Option Placed = get same_list c.args.self.now.lists in
+    let found : (ℕ × Option (List ℕ)) → Option PlaceSet = get same_list c.args.self.now.lists in
     let here : found c.args.key.now ≡ Some c.in-Some.list.now = sym c.in-Some.ensures.value in
     on_err_weaker c.add.result
     (λ same list.

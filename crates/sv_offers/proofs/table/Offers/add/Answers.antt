@@ -11,7 +11,7 @@ use Rattle.sv_offers.proofs.TableLemmas.{added_table}
 use Rattle.sv_offers.proofs.table.Offers.add.Goals as goal
 
 pub add-requires : goal.add-requires
-add-requires c = record { by_place = c.self.invariant.fit.by_place; above = (subst (λ (v : PlainOffers). IsNext v c.args.new.now.place) (sym c.self.view_is) c.requires).above }
+add-requires c = (subst (λ (v : PlainOffers). IsNext v c.args.new.now.place) (sym c.self.view_is) c.requires).above
 
 pub join-requires-clause-later : goal.join-requires-clause-later
 join-requires-clause-later c =
