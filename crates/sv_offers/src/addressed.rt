@@ -114,7 +114,7 @@ impl Addressed {
         }
     }
 
-    // From a list the offer at a place goes, if there is the list. No memory.
+    // From a list a place goes, if there is the list. No memory.
     fn take_out(&mut self, key: &(u32, Option<Name>), place: u64)
         ensures { ChangesList self.old self.new key.now (λ places. without places place) }
     {
@@ -124,7 +124,7 @@ impl Addressed {
         }
     }
 
-    // A list without an offer goes. No memory.
+    // A list without a place goes. No memory.
     fn close(&mut self, key: &(u32, Option<Name>))
         ensures same { (party : ℕ) (name : Option (List ℕ)) → listed_at self.new party name ≡ listed_at self.old party name }
         ensures gone { get same_list self.new.lists key.now ≢ Some [] }
