@@ -28,14 +28,6 @@ found_among p q implies (x ∷ xs) = elim (cases_Bool (q x)) [
     none (inl passes) other = let both : q x ≡ true = implies x passes in cc
     none (inr stays) other = stays
 
--- and all that pass the one are among them
-pub all_among : {X : Type 0} (p q : X → Bool) → ((x : X) → p x ≡ true → q x ≡ true) → (xs : List X) → filter p (filter q xs) ≡ filter p xs
-all_among {X} p q implies xs = filter-filter p q xs ∙ filter_alike _ _ (λ x. by x (p x) refl) xs
-  where
-    by : (x : X) (b : Bool) → p x ≡ b → (q x && p x) ≡ p x
-    by x true passes = ap (λ b. b && p x) (implies x passes)
-    by x false fails = ap (λ b. q x && b) fails ∙ and-false (q x) ∙ sym fails
-
 -- a test that none passes keeps none
 pub none_kept : {X : Type 0} (p : X → Bool) (xs : List X) → All (λ x. p x ≡ false) xs → filter p xs ≡ []
 none_kept p [] none = refl

@@ -1,6 +1,6 @@
 -- The first of each key.
-use Rattle.std.proofs.Common.{◌≡◌, refl, sym, ap, ap₂, ◌∙◌, ℕ, Bool, true, false, ◌||◌, cond, eqb, List, [], ◌∷◌, Option, Some, None, filter, find, inl, inr, subst}
-use Rattle.std.specs.Prelude.{Contains, is_some}
+use Rattle.std.proofs.Common.{◌≡◌, refl, sym, ap, ap₂, ◌∙◌, ℕ, ◌<◌, ◌^◌, Bool, true, false, ◌||◌, cond, eqb, List, [], ◌∷◌, Option, Some, None, filter, find, inl, inr, subst}
+use Rattle.std.specs.Prelude.{All, Contains, is_some}
 use Rattle.std.specs.HashMap.{get}
 use Rattle.std.specs.List.{list_any}
 use Rattle.std.specs.Option.{option_or}
@@ -16,6 +16,7 @@ use Rattle.sv_offers.specs.Addressed.{listed_at, places_to}
 use Rattle.sv_offers.specs.Finding.{same_key}
 use Rattle.sv_offers.specs.Inside.{AreFound}
 use Rattle.sv_offers.specs.Places.{ByPlace, without_place}
+use Rattle.sv_offers.specs.Senders.{has_sent, is_sent}
 use Rattle.sv_offers.specs.Shelf.{shelf_at}
 use Rattle.sv_offers.specs.declared.standings.Standings.TheInside.{Inside}
 use Rattle.sv_rules.specs.Standing.{is_own, own_offer}
@@ -79,10 +80,13 @@ name_replaced offers gone next by_place there is party local =
 -- where the lists and the map answer as before, the offers are found as before
 pub found_as_before : (old new : Inside) → AreFound old → new.placed ≡ old.placed → ((party : ℕ) → shelf_at new.own party ≡ shelf_at old.own party) →
     ((party : ℕ) (surrogate : Option (List ℕ)) → listed_at new.made_to party surrogate ≡ listed_at old.made_to party surrogate) →
+    ((to from place : ℕ) → has_sent new.senders to from place ≡ has_sent old.senders to from place) →
     ((key : ℕ × List ℕ) → get same_key new.named key ≡ get same_key old.named key) → AreFound new
-found_as_before old new found offers own made_to named = record {
+found_as_before old new found offers own made_to sent named = record {
   by_place = subst ByPlace (sym offers) found.by_place;
+  fits = subst (All (λ offer. offer.place < 2 ^ 64)) (sym offers) found.fits;
   own = λ party. own party ∙ found.own party ∙ ap (filter (of_party party)) (sym offers);
   made_to = λ party surrogate. made_to party surrogate ∙ found.made_to party surrogate ∙ ap (λ (os : List Standing). places_to os party surrogate) (sym offers);
+  sent = λ to from place. sent to from place ∙ found.sent to from place ∙ ap (list_any (is_sent to from place)) (sym offers);
   named = λ party local. named (party, local) ∙ found.named party local ∙ ap (λ (os : List Standing). own_offer os party local) (sym offers);
 }

@@ -1,13 +1,16 @@
 mod AddressedLemmas
+mod AscendLemmas
 mod EndLemmas
 mod FilterLemmas
 mod FindingLemmas
 mod FitLemmas
+mod KeyLemmas
 mod LookLemmas
 mod MatchLemmas
 mod OnlyLemmas
 mod OrderLemmas
 mod PlaceLemmas
+mod SenderLemmas
 mod SetLemmas
 mod ShelfLemmas
 mod SlotLemmas

@@ -1,12 +1,11 @@
 -- Offers that are looked up by their places.
 use Rattle.std.proofs.Common.{◌≡◌, refl, ap, ◌∙◌, ℕ, ◌<◌, Bool, true, false, cond, List, [], ◌∷◌, map, filter, find, Option, Some, None, inl, inr, arith}
 use Rattle.std.specs.Prelude.{All, Contains}
-use Rattle.std.specs.List.{cons_option, filter_map}
 use Rattle.std.specs.Option.{option_or}
 use Rattle.std.proofs.lemmas.Bool.{eq-eqb, ne_eqb}
 use Rattle.std.proofs.lemmas.List.Elements.{All-contains, All-contains_itself, All-filter, All-head, All-tail, All-weaker}
 use Rattle.sv_offer_laws.proofs.Members.{Contains-cons_cases}
-use Rattle.sv_offers.proofs.FilterLemmas.{all_among, found_among}
+use Rattle.sv_offers.proofs.FilterLemmas.{found_among}
 use Rattle.sv_offers.proofs.PlaceLemmas.{behind_are_above, behind_by_place}
 use Rattle.sv_offers.specs.Addressed.{is_made_to, places_to}
 use Rattle.sv_offers.specs.Places.{ByPlace}
@@ -30,7 +29,7 @@ abbrev pub first_at : (ℕ → Option Standing) → List ℕ → Option Standing
 first_at look [] = None
 first_at look (place ∷ places) = option_or (look place) (first_at look places)
 
--- looked up one after another, the first offer that passes is found, and all that pass are
+-- looked up one after another, the first offer that passes is found
 abbrev Looks : (ℕ → Option Standing) → (Standing → Bool) → Standing → Type 0
 Looks look test offer = look offer.place ≡ cond (test offer) (Some offer) None
 
@@ -43,17 +42,6 @@ first_passes (offer ∷ offers) look test looks =
     by : (b : Bool) → first_at look (map (λ o. o.place) offers) ≡ find test offers →
         option_or (cond b (Some offer) None) (first_at look (map (λ o. o.place) offers)) ≡ cond b (Some offer) (find test offers)
     by true rest = refl
-    by false rest = rest
-
-all_pass : (offers : List Standing) (look : ℕ → Option Standing) (test : Standing → Bool) → All (Looks look test) offers → filter_map look (map (λ o. o.place) offers) ≡ filter test offers
-all_pass [] look test looks = refl
-all_pass (offer ∷ offers) look test looks =
-    ap (λ o. cons_option o (filter_map look (map (λ o. o.place) offers))) (All-head (Looks look test) offer offers looks)
-    ∙ by (test offer) (all_pass offers look test (All-tail (Looks look test) offer offers looks))
-  where
-    by : (b : Bool) → filter_map look (map (λ o. o.place) offers) ≡ filter test offers →
-        cons_option (cond b (Some offer) None) (filter_map look (map (λ o. o.place) offers)) ≡ cond b (offer ∷ filter test offers) (filter test offers)
-    by true rest = ap (λ os. offer ∷ os) rest
     by false rest = rest
 
 -- each offer that is made to a party is found at its place
@@ -70,10 +58,3 @@ pub first_made : (offers : List Standing) (party : ℕ) (surrogate : Option (Lis
 first_made offers party surrogate test by_place implies =
     first_passes (filter (is_made_to party surrogate) offers) (λ place. passing test (offer_at offers place)) test (all_look offers party surrogate test by_place)
     ∙ found_among test (is_made_to party surrogate) implies offers
-
-pub all_made : (offers : List Standing) (party : ℕ) (surrogate : Option (List ℕ)) (test : Standing → Bool) → ByPlace offers →
-    ((offer : Standing) → test offer ≡ true → is_made_to party surrogate offer ≡ true) →
-    filter_map (λ place. passing test (offer_at offers place)) (places_to offers party surrogate) ≡ filter test offers
-all_made offers party surrogate test by_place implies =
-    all_pass (filter (is_made_to party surrogate) offers) (λ place. passing test (offer_at offers place)) test (all_look offers party surrogate test by_place)
-    ∙ all_among test (is_made_to party surrogate) implies offers

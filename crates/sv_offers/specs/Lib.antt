@@ -5,6 +5,7 @@ pub mod Kept
 pub mod PlaceSet
 pub mod Placed
 pub mod Places
+pub mod Senders
 pub mod Shelf
 pub mod Slots
 pub mod Table

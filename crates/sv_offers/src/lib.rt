@@ -11,6 +11,7 @@ mod place_set;
 mod placed;
 mod places;
 mod room;
+mod senders;
 mod shelves;
 mod slots;
 mod standings;

@@ -1,14 +1,19 @@
-ghost use Rattle.std.specs.Prelude.{◌≡◌, ◌==◌, ◌++◌, ◌∷◌, ◌<◌, [], All, Contains, OnOk, OnErr, filter, find, length};
-ghost use Rattle.std.specs.Option.{option_copied, unwrap_or};
+ghost use Rattle.std.specs.Prelude.{◌≡◌, ◌==◌, ◌&&◌, ◌++◌, ◌∷◌, ◌<◌, ◌≤◌, [], All, Contains, IfSome, OnOk, OnErr, filter, find, length, true};
+ghost use Rattle.std.specs.List.{list_any};
+ghost use Rattle.std.specs.Option.{IsSomeAnd, option_copied, unwrap_or};
 ghost use Rattle.sv_offers.specs.Addressed.{places_to};
 ghost use Rattle.sv_offers.specs.Places.{ByPlace, without_place};
+ghost use Rattle.sv_offers.specs.Senders.{is_above};
+ghost use Rattle.sv_offers.specs.Table.{is_open_to};
 ghost use Rattle.sv_rules.specs.Coupling.{offer_at};
 ghost use Rattle.sv_rules.specs.Standing.{is_ended, offer_count, own_offer};
 
 use crate::addressed::Addressed;
+use crate::couplings::Couplings;
 use crate::index::{Named, note_name, replace_name};
 use crate::place_set::PlaceSet;
 use crate::placed::Placed;
+use crate::senders::Senders;
 use crate::shelves::Shelves;
 use apl_arrays::{Name, WantOfMemory};
 use std::alloc::Global;
@@ -28,12 +33,13 @@ pub fn is_ended(party: u32, ending: &Ending, offer: &Standing) -> bool
 }
 
 /// Offers by place, each found without going over those of others: by its place, by its party, by the party that it is made
-/// to and its surrogate, and by its party and its local name.
+/// to and its surrogate, by both parties, and by its party and its local name.
 #[derive(Drop)]
 pub struct Standings {
     placed: Placed,
     own: Shelves,
     made_to: Addressed,
+    senders: Senders,
     named: Named,
 }
 
@@ -58,6 +64,7 @@ impl Standings {
             placed: Placed::new(alloc),
             own: Shelves::new(alloc),
             made_to: Addressed::new(alloc),
+            senders: Senders::new(alloc),
             named: HashMap::new(alloc),
         }
     }
@@ -82,6 +89,22 @@ impl Standings {
         ensures by_place { ByPlace self.now }
     {
         self.made_to.of(party, surrogate)
+    }
+
+    /// Of the parties that made offers to a party by its number the lowest, or the lowest above another, if there is one. No
+    /// memory.
+    pub fn next_sender(&self, to: u32, last: Option<u32>) -> Option<u32>
+        ensures above { IfSome result (λ next. is_above last next ≡ true) }
+        ensures lowest { All (λ offer. offer.to ≡ to → is_above last offer.party ≡ true → IsSomeAnd result (λ next. next ≤ offer.party)) self.now }
+    {
+        self.senders.next(to, last)
+    }
+
+    /// Whether a party has an open offer that is made to another by its number. No memory.
+    pub fn has_open(&self, coupled: &Couplings, to: u32, from: u32) -> bool
+        ensures { result ≡ list_any (λ offer. offer.party == from && is_open_to coupled.now.items to offer) self.now }
+    {
+        self.senders.has_open(coupled, to, from)
     }
 
     /// The offer of a party of a local name, if there is one. No memory.
@@ -114,17 +137,18 @@ impl Standings {
         self.named.reserve(1)?;
         self.own.reserve(new.party)?;
         self.placed.add(new)?;
-        match self.made_to.add(new) {
-            Ok(()) => {
-                self.own.push(new);
-                note_name(&mut self.named, new);
-                Ok(())
-            }
-            Err(WantOfMemory) => {
-                self.placed.remove(new.place);
-                Err(WantOfMemory)
-            }
+        if let Err(WantOfMemory) = self.made_to.add(new) {
+            self.placed.remove(new.place);
+            return Err(WantOfMemory);
         }
+        if let Err(WantOfMemory) = self.senders.add(new) {
+            self.made_to.remove(new);
+            self.placed.remove(new.place);
+            return Err(WantOfMemory);
+        }
+        self.own.push(new);
+        note_name(&mut self.named, new);
+        Ok(())
     }
 
     /// The first offer that an act of a party ends, if there is one. No memory.
@@ -144,6 +168,7 @@ impl Standings {
     {
         self.own.remove(offer.party, offer.place);
         self.made_to.remove(offer);
+        self.senders.remove(offer);
         self.placed.remove(offer.place);
         let next = own_offer(self.own.of(offer.party), offer.party, &offer.local);
         replace_name(&mut self.named, offer, next);

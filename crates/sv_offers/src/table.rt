@@ -7,7 +7,7 @@ ghost use Rattle.sv_rules.specs.Standing.{offer_count, own_offer};
 
 use crate::couplings::Couplings;
 use crate::ending::end_all;
-use crate::listing::{first_to, names_to, open_to};
+use crate::listing::{first_to, names_to, parties_to};
 use crate::matching::{coupling_at, coupling_on, open_match};
 use crate::room::{join, recouple};
 use crate::standings::Standings;
@@ -15,7 +15,7 @@ use apl_arrays::{Name, NameList, PartyList, WantOfMemory};
 use std::alloc::Global;
 use std::marker::Model;
 use sv_events::{Ending, PairList};
-use sv_rules::{Coupling, Standing, parties_of};
+use sv_rules::{Coupling, Standing};
 
 /// The offers that stand, by place, and the couplings, in the order in which they were made.
 #[derive(Drop)]
@@ -118,8 +118,7 @@ impl Offers {
     pub fn parties_to(&self, alloc: Global, party: u32) -> Result<PartyList, WantOfMemory>
         ensures { IfOk result (λ list. list.items ≡ parties_of (open_among self.now party)) }
     {
-        let opened = open_to(alloc, &self.offers, &self.coupled, party)?;
-        parties_of(alloc, &opened)
+        parties_to(alloc, &self.offers, &self.coupled, party)
     }
 
     /// The surrogates of the open offers of a party that are made to another by its number, by place. It takes memory

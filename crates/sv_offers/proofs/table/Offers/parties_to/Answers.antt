@@ -9,7 +9,6 @@ use Rattle.sv_offers.proofs.table.Offers.parties_to.Goals as goal
 pub returns : goal.returns
 returns c =
     let list =
-    c.deref.ensures.value ∙ c.in_ok-opened.ensures
-    ∙ ap (λ (v : PlainOffers). filter (is_open_to v.coupled c.args.party) v.offers) c.self.view_is
+    ap (λ (v : PlainOffers). filter (is_open_to v.coupled c.args.party) v.offers) c.self.view_is
     ∙ sym (open_by_test c.args.self.now c.args.party) in
-    subst (λ xs. IfOk c.parties_of.result (λ got. got.items ≡ parties_of xs)) list c.parties_of.ensures
+    subst (λ xs. IfOk c.parties_to.result (λ got. got.items ≡ parties_of xs)) list c.parties_to.ensures
