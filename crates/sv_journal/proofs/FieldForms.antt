@@ -15,9 +15,6 @@ pub record Ends (behind : List ℕ) : Type 0 where
   pub digits : NoDigit behind
   pub names : NoName behind
 
-ends_blank : (behind : List ℕ) → Ends (32 ∷ behind)
-ends_blank behind = record { digits = refl; names = refl }
-
 -- parties and names behind a blank
 
 abbrev pub party_text : ℕ → List ℕ

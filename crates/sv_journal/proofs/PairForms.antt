@@ -1,5 +1,5 @@
 -- Reading pairs to the end of a line.
-use Rattle.std.proofs.Common.{◌≡◌, Some, ℕ, ◌+◌, ◌-◌, ◌^◌, true, false, List, [], ◌∷◌, ◌++◌, Ok, codes, length, inl, inr, refl, sym, ap, ◌∙◌, arith}
+use Rattle.std.proofs.Common.{◌≡◌, ℕ, ◌+◌, ◌-◌, ◌^◌, true, false, List, [], ◌∷◌, ◌++◌, Ok, codes, length, inl, inr, refl, sym, ap, ◌∙◌, arith}
 use Rattle.std.proofs.lemmas.Bool.{false≢true}
 use Rattle.std.specs.Fmt.{decimal}
 use Rattle.std.specs.List.{flat_map, AllByRecursion}
@@ -7,14 +7,14 @@ use Rattle.apl_arrays.specs.Glyph.{is_digit}
 use Rattle.apl_arrays.specs.Run.{begins}
 use Rattle.sv_events.specs.declared.entry.Pair.{Pair}
 use Rattle.apl_arrays.specs.List.{first_of}
-use Rattle.sv_text.specs.Reading.{◌>>=◌, as_read, begins_with, literal_at}
+use Rattle.sv_text.specs.Reading.{◌>>=◌, as_read, literal_at}
 use Rattle.sv_text.specs.NumberReading.{number_at}
 use Rattle.sv_text.proofs.NumberForms.{InRange, NoDigit, reads_number}
 use Rattle.sv_text.proofs.Readers.{SameFirst, Stopped, IsReader, AreGlyphs, same_end, after_text, then_read, made, no_further}
 use Rattle.sv_journal.specs.EntryReading.{pair_at, is_left, pairs_at}
 use Rattle.sv_journal.specs.EntryText.{pair_text}
 use Rattle.sv_journal.specs.IsEntry.{IsPair}
-use Rattle.sv_journal.proofs.ListedForms.{PairsBehind, blank_first}
+use Rattle.sv_journal.proofs.ListedForms.{PairsBehind}
 use Rattle.sv_journal.proofs.WhileForms.{GoesOn, ReadsAll, reads_all}
 
 -- nothing follows
@@ -51,9 +51,6 @@ reads_higher a h =
     let some : IsHigher a (a + 1) = record { least = omega arith; most = omega (arith, h.most) } in
     after_text (codes " ") (λ p. decimal p.b) (λ p. (p.a ≡ a) × IsPair p) NoDigit SameFirst (λ rest. as_read (pair_of a) (number_at (a + 1) (2 ^ 64 - 1) rest)) (pair_of a (a + 1)) (pair_there a h (a + 1) some)
     (made decimal (IsHigher a) NoDigit SameFirst (number_at (a + 1) (2 ^ 64 - 1)) (pair_of a) (λ p. p.b) (λ p. (p.a ≡ a) × IsPair p) (reads_number (a + 1) (2 ^ 64 - 1) (omega arith) (omega (arith, h.most))) (pair_higher a) (λ p k. ap (λ x. pair_of x p.b) (sym k.0)) (pair_there a h) (λ b k. refl))
-
-pair_spelled : (p : Pair) → IsPair p → codes " + " ++ (decimal p.a ++ higher_text p) ≡ pair_text p
-pair_spelled p h = refl
 
 some_pair : (a : ℕ) → IsLower a → (p : Pair) × (p.a ≡ a) × IsPair p
 unfolding pair_of
@@ -130,10 +127,3 @@ starts_pair more = inr (more, refl)
 pub pairs_behind : (pairs : List Pair) → PairsBehind (pairs_text pairs ++ [])
 pairs_behind [] = inl refl
 pairs_behind (pair ∷ pairs) = starts_pair _
-
--- where pairs stop behind a blank, they took it
-pairs_take_blank : (line : List ℕ) (left : ℕ) (h : Stopped pairs_text (AllByRecursion IsPair) Nothing line left) → begins_with 32 line ≡ true → h.part ≡ [] → ⊥
-pairs_take_blank line left h blank none =
-    let whole : line ≡ h.rest = h.whole ∙ ap (λ t. t ++ h.rest) none in
-    let first : first_of h.rest ≡ Some 32 = ap first_of (sym whole) ∙ blank_first line blank in
-    h.none (pair_of 1 2 ∷ []) [] (pairs_text (pair_of 1 2 ∷ []) ++ []) (first_pair, tt) refl (ap (λ t. t ++ (pairs_text (pair_of 1 2 ∷ []) ++ [])) (sym none)) (sym first)

@@ -1,6 +1,6 @@
 -- How many offers a leave or a retraction reopens.
-use Rattle.std.proofs.Common.{◌≡◌, refl, sym, ap, ◌∙◌, subst, ℕ, suc, ◌+◌, ◌<◌, ◌≤◌, Bool, true, false, ◌&&◌, ◌||◌, not, cond, eqb, List, [], ◌∷◌, ◌++◌, length, get_or, length-append, Option, Some, None, inl, inr, arith}
-use Rattle.std.specs.Prelude.{Contains, All, AllPairs, filter, count_by, option_to_list}
+use Rattle.std.proofs.Common.{◌≡◌, refl, sym, ap, ◌∙◌, subst, ℕ, suc, ◌+◌, ◌<◌, ◌≤◌, Bool, true, false, ◌&&◌, ◌||◌, not, cond, eqb, List, [], ◌∷◌, length, get_or, inl, inr, arith}
+use Rattle.std.specs.Prelude.{Contains, All, AllPairs, filter, count_by}
 use Rattle.std.specs.List.{list_any}
 use Rattle.std.proofs.lemmas.Bool.{cases_Bool, and_parts, and_cases, not-true, not_from_false, both_ways, or_cases, or_left, or_right, eq-eqb, eqb-true, ne_eqb}
 use Rattle.std.proofs.lemmas.Cmp.{nat_eq_equiv}
@@ -12,7 +12,7 @@ use Rattle.sv_events.specs.declared.row.Ending.{Ending}
 use Rattle.sv_rules.specs.declared.standing.Standing.{Standing}
 use Rattle.sv_rules.specs.declared.coupling.Made.{Made}
 use Rattle.sv_rules.specs.Standing.{is_ended, without_ended}
-use Rattle.sv_rules.specs.Coupling.{stands_at, both_stand, couplings_among, has_place, is_coupled, rejoined, recoupled, kept_by_ending, reopened_by_ending}
+use Rattle.sv_rules.specs.Coupling.{stands_at, both_stand, couplings_among, has_place, is_coupled, kept_by_ending, reopened_by_ending}
 use Rattle.sv_offer_laws.proofs.Members.{Contains-head, Contains-behind, Contains-filter, count_by-filter, count_by-none, list_any_member, All-both}
 use Rattle.sv_offer_laws.proofs.PlaceLemmas.{ComesBefore}
 use Rattle.sv_offer_laws.proofs.RecoupledLemmas.{uses_of}
@@ -219,14 +219,3 @@ one_passes p (o ∷ offers) ascend same =
           let counted : cond {A = ℕ} (p o) 1 0 ≡ 0 = ap (λ b. cond {A = ℕ} b 1 0) other in
           omega (arith, count, counted, one_passes p offers (tail_ascends o offers ascend) (λ one two has_one passes has_two also. same one two (Contains-behind o offers one has_one) passes (Contains-behind o offers two has_two) also))
     ]
-
--- no more pairs are made than offers are reopened
-pub recoupled_few : (at : ℕ) (offers : List Standing) (coupled : List Made) (reopened : List Standing) → length (recoupled at offers coupled reopened) ≤ length reopened
-recoupled_few at offers coupled [] = omega arith
-recoupled_few at offers coupled (o ∷ reopened) =
-    let made = option_to_list (rejoined at offers coupled o) in
-    omega (arith, length-append made (recoupled at offers (coupled ++ made) reopened), one_at_most (rejoined at offers coupled o), recoupled_few at offers (coupled ++ made) reopened)
-  where
-    one_at_most : (m : Option Made) → length (option_to_list m) ≤ 1
-    one_at_most None = omega arith
-    one_at_most (Some m) = omega arith

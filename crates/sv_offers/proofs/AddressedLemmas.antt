@@ -1,7 +1,7 @@
 -- Lists of places by the party that offers are made to, with a list more and with a list fewer.
 use Rattle.std.proofs.Common.{◌≡◌, refl, ap, ap₂, sym, ◌∙◌, ◌<◌, ℕ, Bool, true, false, not, cond, eqb, List, [], ◌∷◌, ◌++◌, map, length, Option, Some, None, arith}
 use Rattle.std.specs.List.{filter}
-use Rattle.std.specs.Prelude.{All, Contains, IsSome, option_map}
+use Rattle.std.specs.Prelude.{All, Contains, option_map}
 use Rattle.std.specs.Option.{option_eq, unwrap_or}
 use Rattle.std.proofs.lemmas.Bool.{and_parts, eqb-true}
 use Rattle.std.proofs.lemmas.List.{map_push}
@@ -36,14 +36,7 @@ pub none_taken : (here : Bool) (old : Option PlaceSet) → (here ≡ true → un
 none_taken true old none = sym (none refl)
 none_taken false old none = refl
 
--- what a change of a list that is there makes of its offers
-pub changed_there : (here : Bool) (change : PlaceSet → PlaceSet) (old : Option PlaceSet) → (here ≡ true → IsSome old) →
-    unwrap_or (cond here (option_map change old) old) [] ≡ cond here (change (unwrap_or old [])) (unwrap_or old [])
-changed_there true change None there = let no = there refl in cc
-changed_there true change (Some list) there = refl
-changed_there false change old there = refl
-
--- and of one that makes nothing of no offers
+-- what a change of a list that makes nothing of no offers makes of its own
 pub changed_or_none : (here : Bool) (change : PlaceSet → PlaceSet) (old : Option PlaceSet) → change [] ≡ [] →
     unwrap_or (cond here (option_map change old) old) [] ≡ cond here (change (unwrap_or old [])) (unwrap_or old [])
 changed_or_none true change None nothing = sym nothing

@@ -1,12 +1,11 @@
 -- Numbers that are listed ascending, each once, from the lowest on.
-use Rattle.std.proofs.Common.{◌≡◌, refl, sym, ap, ◌∙◌, ℕ, zero, suc, ◌<◌, ◌≤◌, Bool, true, false, not, ◌||◌, ◌⊎◌, cond, eqb, ltb, List, [], ◌∷◌, ◌++◌, Option, Some, None, inl, inr, arith}
+use Rattle.std.proofs.Common.{◌≡◌, refl, ap, ◌∙◌, ℕ, ◌<◌, ◌≤◌, Bool, true, false, not, cond, eqb, ltb, List, [], ◌∷◌, ◌++◌, Option, Some, None, inl, inr, arith}
 use Rattle.std.specs.Prelude.{All, filter}
 use Rattle.std.specs.List.{list_any}
 use Rattle.std.specs.Option.{IsSomeAnd}
-use Rattle.std.proofs.lemmas.Bool.{cases_Bool, eqb-true, eq-eqb, ltb-false, ltb-true, le-ltb, lt-ltb, ne_eqb}
+use Rattle.std.proofs.lemmas.Bool.{cases_Bool, eq-eqb, eqb-false, eqb-true, false_from_ne_true, ltb-false, ltb-true, le-ltb, lt-ltb, ne_eqb, not-true, not_from_false}
 use Rattle.std.proofs.lemmas.List.Elements.{All-cons, All-head, All-tail, All-weaker, filter_passes}
 use Rattle.sv_offer_laws.proofs.Members.{filter_whole}
-use Rattle.sv_offers.proofs.KeyLemmas.{was_not}
 use Rattle.sv_offers.specs.Senders.{is_above}
 use Rattle.sv_rules.specs.Questions.{ascending, with_number}
 
@@ -77,7 +76,7 @@ stays_below (Some last) next number above stays = omega (arith, ltb-true last ne
 
 upto_below : (last : Option ℕ) (next : ℕ) (numbers : List ℕ) → is_above last next ≡ true → Below next (upto_last last numbers)
 upto_below last next numbers above =
-    All-weaker (λ n. not (is_above last n) ≡ true) (λ n. n < next) (λ n stays. stays_below last next n above (was_not (is_above last n) stays)) (upto_last last numbers)
+    All-weaker (λ n. not (is_above last n) ≡ true) (λ n. n < next) (λ n stays. stays_below last next n above (not-true (is_above last n) stays)) (upto_last last numbers)
     (filter_passes (λ n. not (is_above last n)) numbers)
 
 -- with the next number the list is that of all up to it, if it is among them; else nothing is new
@@ -96,7 +95,7 @@ next_listed last next (number ∷ numbers) is_next =
             | inl same ↦
                 let is : number ≡ next = eqb-true number next same in
                 rw (up, same, le-ltb next number (omega (arith, is))) (ap (with_number number) rest ∙ again number (list_any (λ n. eqb n next) numbers) before is below)
-            | inr apart ↦ rw (up, apart, lt-ltb next number (omega (arith, from, ne_from number next apart))) rest
+            | inr apart ↦ rw (up, apart, lt-ltb next number (omega (arith, from, eqb-false number next apart))) rest
           ]
       | inr stays ↦
           let lower : number < next = stays_below last next number is_next.above stays in
@@ -113,18 +112,11 @@ next_listed last next (number ∷ numbers) is_next =
     in_front true before lower = lower_in_front next number before lower
     in_front false before lower = refl
 
-    ne_from : (a b : ℕ) → eqb a b ≡ false → (a ≡ b) → ⊥
-    ne_from a b apart same = let no = eq-eqb a b same in cc
-
 -- where none comes next, these are all
 pub none_next : (last : Option ℕ) (numbers : List ℕ) → All (λ n. is_above last n ≡ true → IsSomeAnd None (λ next. next ≤ n)) numbers → upto_last last numbers ≡ numbers
 none_next last numbers none =
     filter_whole (λ n. not (is_above last n)) numbers
-    (All-weaker (λ n. is_above last n ≡ true → ⊥) (λ n. not (is_above last n) ≡ true) (λ n stays. by (is_above last n) stays) numbers none)
-  where
-    by : (b : Bool) → (b ≡ true → ⊥) → not b ≡ true
-    by true up = absurd (up refl)
-    by false up = refl
+    (All-weaker (λ n. is_above last n ≡ true → ⊥) (λ n. not (is_above last n) ≡ true) (λ n stays. not_from_false (is_above last n) (false_from_ne_true (is_above last n) stays)) numbers none)
 
 -- before the first there are none
 pub list_before : (numbers : List ℕ) → upto_last None numbers ≡ []

@@ -10,7 +10,7 @@ use Rattle.sv_offer_laws.proofs.LookupLemmas.{find_is}
 use Rattle.sv_offer_laws.proofs.Members.{list_any_member}
 use Rattle.sv_offer_laws.proofs.OwnLemmas.{own-itself, same_name-is}
 use Rattle.sv_offers.proofs.FilterLemmas.{found_among}
-use Rattle.sv_offers.proofs.PlaceLemmas.{kept_elsewhere}
+use Rattle.sv_offers.proofs.PlaceLemmas.{found_elsewhere}
 use Rattle.sv_offers.proofs.ShelfLemmas.{of_party}
 use Rattle.sv_offers.specs.Addressed.{listed_at, places_to}
 use Rattle.sv_offers.specs.Finding.{same_key}
@@ -74,7 +74,7 @@ name_replaced offers gone next by_place there is party local =
     elim (cases_Bool (own gone)) [
       | inl here ↦ rw here (is ∙ by_own (own_offer left) gone party local here)
       | inr elsewhere ↦ rw elsewhere
-          (sym (found_among own own (λ o h. h) offers) ∙ ap (find own) (sym (kept_elsewhere own offers gone by_place there elsewhere)) ∙ found_among own own (λ o h. h) left)
+          (sym (found_elsewhere own offers gone by_place there elsewhere))
     ]
 
 -- where the lists and the map answer as before, the offers are found as before

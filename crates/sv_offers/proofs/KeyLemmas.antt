@@ -8,19 +8,20 @@ use Rattle.std.specs.Ordering.{MatchOrdering, is_eq, is_gt, is_le, is_lt, nat_cm
 use Rattle.std.specs.declared.cmp.Ordering.{Ordering}
 use Rattle.std.specs.declared.cmp.Ordering.TheVariants.{Less, Equal, Greater}
 use Rattle.std.specs.declared.ops.Bound.TheVariants.{Included}
-use Rattle.std.proofs.lemmas.Bool.{and_from, and_parts, eq-eqb, eqb-true, lt-ltb, ltb-true}
-use Rattle.std.proofs.lemmas.Cmp.{nat_eq_equiv, nat_cmp_total, ranked, tied_itself}
+use Rattle.std.proofs.lemmas.Bool.{and_from, and_parts, eq-eqb, eqb-true, lt-ltb, ltb-true, not-true}
+use Rattle.std.specs.Cmp.{nat_cmp_is}
+use Rattle.std.proofs.lemmas.Bool.Decides.{nat_tests}
+use Rattle.std.proofs.lemmas.Cmp.{ranked}
 use Rattle.std.proofs.lemmas.List.Elements.{All-contains, filter_passes}
 use Rattle.std.proofs.lemmas.List.Folds.{Any-from_list_any}
 use Rattle.sv_offer_laws.proofs.Members.{Contains-filter, Contains-from_filter, list_any_member}
-use Rattle.sv_offers.proofs.OrderLemmas.{same_test}
 use Rattle.sv_offers.specs.Senders.{is_above, key_order, start_after}
 use Rattle.sv_rules.specs.Coupling.{is_coupled}
 use Rattle.sv_rules.specs.declared.coupling.Made.{Made}
 
 -- two numbers tie where they are the same, and two orders one after the other where both tie
 numbers_tie : (one other : ℕ) → is_eq (nat_cmp one other) ≡ eqb one other
-numbers_tie one other = same_test one other ∙ nat_eq_equiv.symm other one
+numbers_tie one other = grind (arith, nat_tests)
 
 both_tie : (first second : Ordering) → is_eq (ordering_then first second) ≡ (is_eq first && is_eq second)
 both_tie Less second = refl
@@ -43,10 +44,10 @@ is_same : (one other : ℕ) → nat_cmp one other ≡ Equal → one ≡ other
 is_same one other order = ranked one other Equal (sym order)
 
 ties_itself : (number : ℕ) → nat_cmp number number ≡ Equal
-ties_itself number = tied_itself nat_cmp_total number
+ties_itself number = sym (nat_cmp_is number number Equal refl)
 
 comes_before : (one other : ℕ) → one < other → nat_cmp one other ≡ Less
-comes_before one other lower = ap (λ l. cond l Less (cond (eqb one other) Equal Greater)) (lt-ltb one other lower)
+comes_before one other lower = sym (nat_cmp_is one other Less lower)
 
 not_behind : (one other : ℕ) → one ≤ other → is_gt (nat_cmp one other) ≡ false
 not_behind one other upto = by (nat_cmp one other) (ranked one other (nat_cmp one other) refl)
@@ -75,11 +76,6 @@ upto_key one other upto = by (nat_cmp one.0 other.0) (nat_cmp one.1 other.1) ref
     by Equal Greater first second upto = cc
     by Greater y first second upto = cc
 
--- what is not so
-pub was_not : (b : Bool) → not b ≡ true → b ≡ false
-was_not true wrong = let both : false ≡ true = wrong in cc
-was_not false right = refl
-
 -- from the start on the offers are to the party or a higher one, and those to it by parties above the last
 pub from_start : (to : ℕ) (last : Option ℕ) (key : ℕ × ℕ × ℕ) → IsFromStart key_order (start_after to last) key →
     (to ≤ key.0) × (to ≡ key.0 → key.2 < 2 ^ 64 → is_above last key.1 ≡ true)
@@ -95,13 +91,21 @@ from_start to (Some last) key inside = by (nat_cmp to key.0) (nat_cmp last key.1
     by Equal Greater first second behind = cc
     by Greater y first second behind = cc
 
--- so a party that is found there is above the last, and no offer's at a later key is lower
+-- so a party that is found there is above the last, has a key there, and no offer's at a later key is lower
 pub found_above : (to : ℕ) (last : Option ℕ) (key : ℕ × ℕ × ℕ) (found : Option ℕ) → IsFromStart key_order (start_after to last) key → key.2 < 2 ^ 64 →
     found ≡ cond (eqb key.0 to) (Some key.1) None → IfSome found (λ from. is_above last from ≡ true)
 found_above to last key found inside fits is = subst (λ o. IfSome o (λ from. is_above last from ≡ true)) (sym is) (by (eqb key.0 to) refl)
   where
     by : (b : Bool) → eqb key.0 to ≡ b → IfSome (cond b (Some key.1) None) (λ from. is_above last from ≡ true)
     by true here = (from_start to last key inside).1 (sym (eqb-true key.0 to here)) fits
+    by false other = tt
+
+pub found_there : (P : (ℕ × ℕ × ℕ) → Type 0) (to : ℕ) (key : ℕ × ℕ × ℕ) (found : Option ℕ) → P key → found ≡ cond (eqb key.0 to) (Some key.1) None →
+    IfSome found (λ from. (place : ℕ) × P (to, from, place))
+found_there P to key found there is = subst (λ o. IfSome o (λ from. (place : ℕ) × P (to, from, place))) (sym is) (by (eqb key.0 to) refl)
+  where
+    by : (b : Bool) → eqb key.0 to ≡ b → IfSome (cond b (Some key.1) None) (λ from. (place : ℕ) × P (to, from, place))
+    by true here = (key.2, subst (λ (t : ℕ). P (t, key.1, key.2)) (eqb-true key.0 to here) there)
     by false other = tt
 
 pub found_lowest : (to : ℕ) (last : Option ℕ) (key : ℕ × ℕ × ℕ) (found : Option ℕ) (from place : ℕ) → IsFromStart key_order (start_after to last) key →
@@ -171,7 +175,7 @@ some_open_key keys to from coupled some =
     let ties : is_eq (key_order (to, from, key.2) key) ≡ true =
     keys_tie (to, from, key.2) key
     ∙ and_from (eqb to key.0 && eqb from key.1) (eqb key.2 key.2) (and_from (eqb to key.0) (eqb from key.1) (eq-eqb to key.0 ends.0) (eq-eqb from key.1 ends.1)) (eq-eqb key.2 key.2 refl) in
-    (key.2, list_any_member (λ (k : ℕ × ℕ × ℕ). is_eq (key_order (to, from, key.2) k)) keys key ties (Contains-from_filter (is_between to from) keys key there), was_not (is_coupled coupled key.2) found.4)
+    (key.2, list_any_member (λ (k : ℕ × ℕ × ℕ). is_eq (key_order (to, from, key.2) k)) keys key ties (Contains-from_filter (is_between to from) keys key there), not-true (is_coupled coupled key.2) found.4)
 
 -- where none is open each offer, at a place in 64 bits, is coupled
 pub no_open_key : (keys : List (ℕ × ℕ × ℕ)) (to from : ℕ) (coupled : List Made) → list_any (is_open_key coupled) (filter (is_between to from) keys) ≡ false →

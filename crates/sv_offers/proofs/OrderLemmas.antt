@@ -1,13 +1,12 @@
 -- Offers in the order of their places, each kept under its own.
-use Rattle.std.proofs.Common.{◌≡◌, refl, sym, ap, ap₂, ◌∙◌, ℕ, ◌<◌, Bool, true, false, not, ◌&&◌, cond, eqb, ltb, List, [], ◌∷◌, ◌++◌, filter, Some, inl, inr, arith}
+use Rattle.std.proofs.Common.{◌≡◌, refl, sym, ap, ap₂, ◌∙◌, ℕ, ◌<◌, Bool, true, false, not, cond, eqb, List, [], ◌∷◌, ◌++◌, filter, Some, inl, inr, arith}
 use Rattle.std.specs.Prelude.{All}
 use Rattle.std.specs.BTreeMap.{insert_entry, is_at}
 use Rattle.std.specs.Map.{lookup, remove_entry, values_of}
 use Rattle.std.specs.Ordering.{is_eq, match_ordering, nat_cmp}
 use Rattle.std.specs.declared.cmp.Ordering.TheVariants.{Less, Equal, Greater}
-use Rattle.std.proofs.Math.Bool.{and-false}
+use Rattle.std.proofs.lemmas.Bool.Decides.{nat_tests}
 use Rattle.std.proofs.lemmas.Bool.{cases_Bool, eqb-true, eq-eqb, ne_eqb, le-ltb}
-use Rattle.std.proofs.lemmas.Cmp.{nat_eq_equiv}
 use Rattle.std.proofs.lemmas.List.{append-nil}
 use Rattle.std.proofs.lemmas.List.Elements.{All-cons, All-head, All-tail, All-weaker, filter-append}
 use Rattle.sv_offer_laws.proofs.Members.{filter_whole}
@@ -21,22 +20,8 @@ abbrev pub Under : (ℕ × Standing) → Type 0
 Under entry = entry.0 ≡ entry.1.place
 
 -- whether two numbers are in one place
-tests : (lower same : Bool) → is_eq (cond lower Less (cond same Equal Greater)) ≡ (not lower && same)
-tests true true = refl
-tests true false = refl
-tests false true = refl
-tests false false = refl
-
 pub same_test : (a b : ℕ) → is_eq (nat_cmp a b) ≡ eqb b a
-same_test a b =
-    tests (ltb a b) (eqb a b)
-    ∙ elim (cases_Bool (eqb a b)) [
-      | inl same ↦
-          let is : a ≡ b = eqb-true a b same in
-          ap (λ l. not l && eqb a b) (le-ltb a b (omega arith))
-      | inr other ↦ ap (λ e. not (ltb a b) && e) other ∙ and-false (not (ltb a b)) ∙ sym other
-    ]
-    ∙ nat_eq_equiv.symm a b
+same_test a b = grind (arith, nat_tests)
 
 at_entry : (place : ℕ) (entry : ℕ × Standing) → Under entry → is_at (nat_cmp place) entry.0 ≡ eqb entry.1.place place
 at_entry place entry under = same_test place entry.0 ∙ ap (λ n. eqb n place) under

@@ -1,5 +1,5 @@
 -- Offers by place, with one more and with one fewer.
-use Rattle.std.proofs.Common.{◌≡◌, refl, sym, ap, ◌∙◌, ℕ, zero, suc, ◌+◌, ◌<◌, ◌≤◌, Bool, true, false, not, ◌&&◌, ◌||◌, cond, eqb, ltb, List, [], ◌∷◌, ◌++◌, length, get_or, drop, filter, Option, Some, None, ◌⊎◌, inl, inr, arith, length-append}
+use Rattle.std.proofs.Common.{◌≡◌, refl, sym, ap, ◌∙◌, ℕ, zero, suc, ◌+◌, ◌<◌, ◌≤◌, Bool, true, false, not, ◌&&◌, ◌||◌, cond, eqb, ltb, List, [], ◌∷◌, ◌++◌, length, get_or, drop, filter, find, Option, Some, None, ◌⊎◌, inl, inr, arith, length-append}
 use Rattle.std.specs.Prelude.{All, Contains, count_by, is_some}
 use Rattle.std.proofs.lemmas.Bool.{cases_Bool, cases_order, eqb-true, eq-eqb, ne_eqb, le-ltb, lt-ltb}
 use Rattle.std.proofs.lemmas.Cmp.{nat_eq_equiv}
@@ -13,7 +13,7 @@ use Rattle.std.specs.List.Sorted.{IsNonDecreasingBy}
 use Rattle.sv_offer_laws.proofs.LookupLemmas.{find_is}
 use Rattle.sv_offer_laws.proofs.Members.{Contains-behind, Contains-cons_cases, Contains-head, count_by-none, filter-filter, filter_same, filter_whole}
 use Rattle.sv_offer_laws.proofs.PlaceLemmas.{same_by_place}
-use Rattle.sv_offers.proofs.FilterLemmas.{filter_alike, none_kept, split_front}
+use Rattle.sv_offers.proofs.FilterLemmas.{filter_alike, found_among, none_kept, split_front}
 use Rattle.sv_offers.specs.Places.{ByPlace, with_free, with_place, without_coupling, without_place}
 use Rattle.sv_rules.specs.Coupling.{both_stand, couplings_among, has_place, offer_at, stands_at}
 use Rattle.sv_rules.specs.declared.coupling.Made.{Made}
@@ -75,6 +75,12 @@ kept_elsewhere p offers offer by_place there fails =
         let is : o ≡ offer = same_by_place offers o offer by_place has there (eqb-true o.place offer.place here) in
         ap (λ b. not b && p o) here ∙ sym (ap p is ∙ fails)
     by o has (inr elsewhere) = ap (λ b. not b && p o) elsewhere
+
+-- and what it does not pass is found as before
+pub found_elsewhere : (p : Standing → Bool) (offers : List Standing) (offer : Standing) → ByPlace offers → Contains offers offer → p offer ≡ false →
+    find p (without_place offers offer.place) ≡ find p offers
+found_elsewhere p offers offer by_place there fails =
+    sym (found_among p p (λ o h. h) (without_place offers offer.place)) ∙ ap (find p) (kept_elsewhere p offers offer by_place there fails) ∙ found_among p p (λ o h. h) offers
 
 none_either : (b : Bool) → ◌≡◌ {A = Option Standing} None (cond b None None)
 none_either true = refl

@@ -1,22 +1,21 @@
 -- Offers by the parties that made them, with one more and with one fewer.
-use Rattle.std.proofs.Common.{◌≡◌, refl, sym, ap, ap₂, ◌∙◌, subst, ℕ, ◌<◌, ◌≤◌, ◌^◌, Bool, true, false, not, ◌&&◌, ◌||◌, ◌⊎◌, cond, eqb, List, [], ◌∷◌, ◌++◌, Option, find, map, inl, inr}
+use Rattle.std.proofs.Common.{◌≡◌, refl, sym, ap, ap₂, ◌∙◌, subst, ℕ, ◌<◌, ◌≤◌, ◌^◌, Bool, true, false, not, ◌&&◌, ◌||◌, ◌⊎◌, cond, eqb, List, [], ◌∷◌, ◌++◌, Option, map, inl, inr}
 use Rattle.std.specs.Bool.{OnFalse, OnTrue}
 use Rattle.std.specs.List.{filter, list_any}
 use Rattle.std.specs.Prelude.{All, Contains, is_some}
 use Rattle.std.specs.Ordering.{is_eq}
 use Rattle.std.proofs.Math.Bool.{and-false, and-true, or_comm, or-false}
-use Rattle.std.proofs.lemmas.Bool.{and_from, and_parts, cases_Bool, eq-eqb, eqb-true, ne_eqb}
+use Rattle.std.proofs.lemmas.Bool.{and_from, and_parts, cases_Bool, eq-eqb, eqb-true, ne_eqb, not-true}
 use Rattle.std.specs.Option.{IsSomeAnd}
 use Rattle.std.proofs.lemmas.List.Elements.{All-contains, All-contains_itself, All-filter, All-map, All-weaker, filter_passes}
 use Rattle.std.proofs.lemmas.List.Folds.{Any-from_list_any, list_any-append, list_any_none}
 use Rattle.sv_offer_laws.proofs.LookupLemmas.{find_is}
 use Rattle.sv_offer_laws.proofs.Members.{list_any_member}
-use Rattle.sv_offers.proofs.FilterLemmas.{found_among}
-use Rattle.sv_offers.proofs.KeyLemmas.{keys_tie, was_not}
-use Rattle.sv_offers.proofs.PlaceLemmas.{kept_elsewhere}
+use Rattle.sv_offers.proofs.KeyLemmas.{keys_tie}
+use Rattle.sv_offers.proofs.PlaceLemmas.{found_elsewhere}
 use Rattle.sv_offers.specs.Places.{ByPlace, without_place}
 use Rattle.sv_offers.specs.Senders.{is_above, is_sent, key_order}
-use Rattle.sv_offers.specs.Table.{is_open_to}
+use Rattle.sv_offers.specs.Table.{is_open_by, is_open_to}
 use Rattle.sv_rules.specs.Coupling.{is_coupled}
 use Rattle.sv_rules.specs.declared.coupling.Made.{Made}
 use Rattle.sv_rules.specs.declared.standing.Standing.{Standing}
@@ -43,7 +42,7 @@ left_sent offers gone to from place by_place there = elim (cases_Bool (sent gone
       let at : gone.place ≡ place = eqb-true gone.place place (and_parts (eqb gone.to to && eqb gone.party from) (eqb gone.place place) here).1 in
       rw here (sym (list_any_none sent (without_place offers gone.place) (All-weaker (λ o. not (eqb o.place gone.place) ≡ true) (λ o. sent o ≡ false) (λ o other. elsewhere o at other) (without_place offers gone.place) (filter_passes (λ o. not (eqb o.place gone.place)) offers))))
   | inr others ↦
-      rw others (sym (find_is sent offers) ∙ ap is_some (sym (found_among sent sent (λ o h. h) offers) ∙ ap (find sent) (sym (kept_elsewhere sent offers gone by_place there others)) ∙ found_among sent sent (λ o h. h) (without_place offers gone.place)) ∙ find_is sent (without_place offers gone.place))
+      rw others (sym (find_is sent offers) ∙ ap is_some (sym (found_elsewhere sent offers gone by_place there others)) ∙ find_is sent (without_place offers gone.place))
 ]
   where
     sent : Standing → Bool
@@ -67,6 +66,13 @@ own_sent offers offer there =
     (and_from (eqb offer.to offer.to && eqb offer.party offer.party) (eqb offer.place offer.place)
     (and_from (eqb offer.to offer.to) (eqb offer.party offer.party) (eq-eqb offer.to offer.to refl) (eq-eqb offer.party offer.party refl)) (eq-eqb offer.place offer.place refl)) there
 
+-- who made one at a place made one
+pub some_sent : (offers : List Standing) (to from place : ℕ) → list_any (is_sent to from place) offers ≡ true → list_any (λ offer. eqb offer.to to && eqb offer.party from) offers ≡ true
+some_sent offers to from place sent =
+    let found = Any-from_list_any (is_sent to from place) offers sent in
+    list_any_member (λ (o : Standing). eqb o.to to && eqb o.party from) offers found.1
+    (and_parts (eqb found.1.to to && eqb found.1.party from) (eqb found.1.place place) found.4).0 (found.0, found.2, found.3)
+
 -- what is no higher than any party that the set has is no higher than any that made one of the offers
 pub lowest_sender : (offers : List Standing) (to : ℕ) (last next : Option ℕ) →
     ((from place : ℕ) → is_above last from ≡ true → list_any (is_sent to from place) offers ≡ true → IsSomeAnd next (λ n. n ≤ from)) →
@@ -77,15 +83,12 @@ lowest_sender offers to last next lowest =
     offers (All-contains_itself offers)
 
 -- whether the set has an open offer is whether some of the offers is one
-abbrev pub is_open_by : List Made → ℕ → ℕ → Standing → Bool
-is_open_by coupled to from offer = eqb offer.party from && is_open_to coupled to offer
-
 open_parts : (coupled : List Made) (to from : ℕ) (offer : Standing) → is_open_by coupled to from offer ≡ true →
     (offer.party ≡ from) × (offer.to ≡ to) × (is_coupled coupled offer.place ≡ false)
 open_parts coupled to from offer open' =
     let parts = and_parts (eqb offer.party from) (is_open_to coupled to offer) open' in
     let more = and_parts (eqb offer.to to) (not (is_coupled coupled offer.place)) parts.1 in
-    (eqb-true offer.party from parts.0, eqb-true offer.to to more.0, was_not (is_coupled coupled offer.place) more.1)
+    (eqb-true offer.party from parts.0, eqb-true offer.to to more.0, not-true (is_coupled coupled offer.place) more.1)
 
 open_is_sent : (offers : List Standing) (coupled : List Made) (to from place : ℕ) → list_any (is_sent to from place) offers ≡ true → is_coupled coupled place ≡ false →
     list_any (is_open_by coupled to from) offers ≡ true

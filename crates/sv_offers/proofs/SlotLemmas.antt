@@ -73,10 +73,6 @@ none_held : (pair : Option Pair) → is_none pair ≡ true → pair ≡ None
 none_held None none = refl
 none_held (Some p) none = cc
 
-pub some_last : (slots : List Slot) → ends_empty slots ≡ true → 0 < length slots
-some_last [] ends = cc
-some_last (slot ∷ slots) ends = omega arith
-
 pub popped : (old new : List Slot) (last : Option Slot) → old ≡ new ++ option_to_list last → ends_empty old ≡ true → couplings_in new ≡ couplings_in old
 popped old new None is ends = ap couplings_in (sym (is ∙ append-nil new))
 popped old new (Some slot) is ends =

@@ -1,4 +1,4 @@
--- The offers made to each party by its number, by the parties that made them.
+-- Offers by the party that each is made to, 0 where it is made to any, by the party that made it, and by place.
 use Rattle.std.specs.List.{list_any}
 use Rattle.std.specs.Prelude.{◌≡◌, ◌==◌, ◌&&◌, ◌-◌, ◌^◌, ℕ, Bool, true, nat_lt, List, Option, Some, None}
 use Rattle.std.specs.BTreeSet.{contains}
@@ -25,7 +25,7 @@ is_sent to from place offer = (offer.to == to && offer.party == from) && offer.p
 abbrev pub HasSent : Senders → List Standing → Type 0
 HasSent senders offers = (to from place : ℕ) → has_sent senders to from place ≡ list_any (is_sent to from place) offers
 
--- a party is above another, if there is another
+-- a party is above the last one; where there is no last one, each is
 abbrev pub is_above : Option ℕ → ℕ → Bool
 is_above None party = true
 is_above (Some last) party = nat_lt last party

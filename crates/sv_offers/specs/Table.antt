@@ -42,6 +42,10 @@ passing test (Some offer) = if test offer then Some offer else None
 abbrev pub is_open_to : List Made → ℕ → Standing → Bool
 is_open_to coupled party offer = offer.to == party && not (is_coupled coupled offer.place)
 
+-- and is so by another
+abbrev pub is_open_by : List Made → ℕ → ℕ → Standing → Bool
+is_open_by coupled party from offer = offer.party == from && is_open_to coupled party offer
+
 -- the offer at a place, if it is open and made to a party by its number
 abbrev pub open_at : List Standing → List Made → ℕ → ℕ → Option Standing
 open_at offers coupled party place = passing (is_open_to coupled party) (offer_at offers place)

@@ -1,4 +1,4 @@
-ghost use Rattle.std.specs.Prelude.{◌≡◌, ◌==◌, ◌<◌, ◌++◌, ◌∷◌, ℕ, [], All, OnOk, OnErr, IsTrue, filter, length, not};
+ghost use Rattle.std.specs.Prelude.{◌≡◌, ◌==◌, ◌<◌, ◌++◌, ◌∷◌, ℕ, [], All, OnOk, OnErr, filter, length, not};
 ghost use Rattle.std.specs.Map.Iter.{ShowsInOrder, deref};
 
 use apl_arrays::WantOfMemory;

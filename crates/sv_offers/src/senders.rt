@@ -38,7 +38,7 @@ fn start_after(to: u32, last: Option<u32>) -> Bound<Key>
     }
 }
 
-// The party that made the offer of a key, if it is to another.
+// The party that made the offer of a key, if the offer is made to this party.
 fn sender(key: Key, to: u32) -> Option<u32>
     ensures fits { key.2 < 2 ^ 64 }
     ensures sender { result ≡ (if key.0 == to then Some key.1 else None) }
@@ -56,7 +56,7 @@ impl Senders {
         }
     }
 
-    /// One offer more. It takes memory; after `WantOfMemory` all is as before.
+    /// One offer more, whose place has 64 bits. It takes memory; after `WantOfMemory` all is as before.
     pub fn add(&mut self, new: &Standing) -> Result<(), WantOfMemory>
         ensures ok { OnOk result ((to from place : ℕ) → has_sent self.new to from place ≡ (is_sent to from place new.now || has_sent self.old to from place)) }
         ensures err { OnErr result ((to from place : ℕ) → has_sent self.new to from place ≡ has_sent self.old to from place) }
@@ -77,6 +77,7 @@ impl Senders {
     /// Of the parties that made offers to a party the lowest, or the lowest above another, if there is one. No memory.
     pub fn next(&self, to: u32, last: Option<u32>) -> Option<u32>
         ensures above { IfSome result (λ from. is_above last from ≡ true) }
+        ensures made { IfSome result (λ from. (place : ℕ) × (has_sent self.now to from place ≡ true)) }
         ensures lowest { (from place : ℕ) → is_above last from ≡ true → has_sent self.now to from place ≡ true → IsSomeAnd result (λ next. next ≤ from) }
     {
         let range = (start_after(to, last), Bound::Unbounded);
@@ -84,7 +85,7 @@ impl Senders {
         sender(*key, to)
     }
 
-    /// Whether a party made an offer to another that is in none of some couplings. No memory.
+    /// Whether some offer of a party to another is in none of these couplings. No memory.
     pub fn has_open(&self, coupled: &Couplings, to: u32, from: u32) -> bool
         ensures some { OnTrue result ((place : ℕ) × (has_sent self.now to from place ≡ true) × (is_coupled coupled.now.items place ≡ false)) }
         ensures none { OnFalse result ((place : ℕ) → place < 2 ^ 64 → has_sent self.now to from place ≡ true → is_coupled coupled.now.items place ≡ true) }

@@ -4,7 +4,7 @@ ghost use Rattle.std.specs.Option.{IsSomeAnd, option_copied, unwrap_or};
 ghost use Rattle.sv_offers.specs.Addressed.{places_to};
 ghost use Rattle.sv_offers.specs.Places.{ByPlace, without_place};
 ghost use Rattle.sv_offers.specs.Senders.{is_above};
-ghost use Rattle.sv_offers.specs.Table.{is_open_to};
+ghost use Rattle.sv_offers.specs.Table.{is_open_by};
 ghost use Rattle.sv_rules.specs.Coupling.{offer_at};
 ghost use Rattle.sv_rules.specs.Standing.{is_ended, offer_count, own_offer};
 
@@ -33,7 +33,7 @@ pub fn is_ended(party: u32, ending: &Ending, offer: &Standing) -> bool
 }
 
 /// Offers by place, each found without going over those of others: by its place, by its party, by the party that it is made
-/// to and its surrogate, by both parties, and by its party and its local name.
+/// to and its surrogate, and by its party and its local name; and who made offers to a party, from one to the next.
 #[derive(Drop)]
 pub struct Standings {
     placed: Placed,
@@ -95,6 +95,7 @@ impl Standings {
     /// memory.
     pub fn next_sender(&self, to: u32, last: Option<u32>) -> Option<u32>
         ensures above { IfSome result (λ next. is_above last next ≡ true) }
+        ensures made { IfSome result (λ next. list_any (λ offer. offer.to == to && offer.party == next) self.now ≡ true) }
         ensures lowest { All (λ offer. offer.to ≡ to → is_above last offer.party ≡ true → IsSomeAnd result (λ next. next ≤ offer.party)) self.now }
     {
         self.senders.next(to, last)
@@ -102,7 +103,7 @@ impl Standings {
 
     /// Whether a party has an open offer that is made to another by its number. No memory.
     pub fn has_open(&self, coupled: &Couplings, to: u32, from: u32) -> bool
-        ensures { result ≡ list_any (λ offer. offer.party == from && is_open_to coupled.now.items to offer) self.now }
+        ensures { result ≡ list_any (is_open_by coupled.now.items to from) self.now }
     {
         self.senders.has_open(coupled, to, from)
     }

@@ -139,11 +139,11 @@ fn added(rt: &impl Abort, table: &mut Offers, new: &Standing, before: &str) -> O
 }
 
 fn room(rt: &impl Abort, alloc: Global) -> PairList
-    ensures { 24 ≤ result.room }
+    ensures { 28 ≤ result.room }
 {
     let mut made = List::new(alloc);
-    if made.reserve(24).is_err() {
-        made.reserve(24).expect(rt, "memory was refused twice");
+    if made.reserve(28).is_err() {
+        made.reserve(28).expect(rt, "memory was refused twice");
     }
     made
 }
@@ -166,7 +166,7 @@ fn ended(
     wanted: &[(u64, u64)],
 )
     requires next { IsNext table.old at }
-    requires few { length table.old.offers ≤ 24 }
+    requires few { length table.old.offers ≤ 28 }
     ensures next { IsNext table.new (at + 1) }
     ensures few { length table.new.offers ≤ length table.old.offers }
 {
@@ -178,7 +178,7 @@ fn ended(
 // The act of a row is made at a place: before it these stand.
 fn done(rt: &impl Abort, alloc: Global, table: &mut Offers, place: u64, row: &Row, before: &str)
     requires next { IsNext table.old place }
-    requires few { length table.old.offers ≤ 24 }
+    requires few { length table.old.offers ≤ 28 }
     ensures next { IsNext table.new (place + 1) }
     ensures few { length table.new.offers ≤ length table.old.offers + 1 }
 {

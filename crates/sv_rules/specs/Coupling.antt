@@ -86,15 +86,9 @@ abbrev pub made_by_ending : ℕ → List Standing → List Made → ℕ → Endi
 made_by_ending at offers coupled party ending =
     recoupled at (without_ended offers party ending) (kept_by_ending offers coupled party ending) (reopened_by_ending offers coupled party ending)
 
--- the same of a leave: what it keeps, reopens and makes
-abbrev pub kept_by_leave : List Standing → List Made → ℕ → List Made
-kept_by_leave offers coupled party = kept_by_ending offers coupled party All
-
+-- the offers that a leave reopens
 abbrev pub reopened_by_leave : List Standing → List Made → ℕ → List Standing
 reopened_by_leave offers coupled party = reopened_by_ending offers coupled party All
-
-abbrev pub made_by_leave : ℕ → List Standing → List Made → ℕ → List Made
-made_by_leave at offers coupled party = made_by_ending at offers coupled party All
 
 -- the offer at a place
 abbrev pub offer_at : List Standing → ℕ → Option Standing

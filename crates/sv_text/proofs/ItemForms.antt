@@ -1,24 +1,24 @@
 -- Reading the items of arrays.
-use Rattle.std.proofs.Common.{◌≡◌, ℕ, ℤ, pos, negsuc, zero, suc, ◌+◌, ◌-◌, ◌<◌, ◌≤◌, ◌^◌, Bool, true, false, cond, eqb, List, [], ◌∷◌, ◌++◌, Option, Some, None, Ok, Err, map, codes, length, ◌⊎◌, inl, inr, refl, sym, ap, ◌∙◌, subst, append_assoc, arith}
+use Rattle.std.proofs.Common.{◌≡◌, ℕ, ℤ, pos, negsuc, zero, suc, ◌+◌, ◌-◌, ◌^◌, Bool, true, false, cond, eqb, List, [], ◌∷◌, ◌++◌, Some, None, Ok, map, codes, ◌⊎◌, inl, inr, refl, sym, ap, ◌∙◌, subst, arith}
 use Rattle.std.specs.Prelude.{neg_ℤ}
 use Rattle.std.proofs.lemmas.Bool.{false≢true, cases_Bool}
 use Rattle.std.proofs.lemmas.Bool.Decides.{nat_tests}
 use Rattle.std.specs.Fmt.{decimal}
-use Rattle.std.specs.List.{flat_map, AllByRecursion}
+use Rattle.std.specs.List.{flat_map}
 use Rattle.apl_arrays.specs.Glyph.{IsGlyph, is_digit, overbar, quote}
 use Rattle.apl_arrays.specs.Run.{begins}
 use Rattle.line_text.specs.Number.{number_text}
 use Rattle.line_text.specs.Spaced.{spaced}
 use Rattle.line_text.proofs.SameNumbers.{Fits64, begins_count}
 use Rattle.line_text.proofs.Spaced.{spaced_is}
-use Rattle.apl_arrays.specs.List.{first_of, others_of}
-use Rattle.sv_text.specs.Reading.{Reader, Reading, ◌>>=◌, always, as_read, begins_with, list_at, literal_at, read_behind}
+use Rattle.apl_arrays.specs.List.{first_of}
+use Rattle.sv_text.specs.Reading.{Reading, ◌>>=◌, always, list_at, literal_at, read_behind}
 use Rattle.sv_text.specs.NumberReading.{number_at}
-use Rattle.sv_text.specs.ValueReading.{negative_at, positive_at, integer_at, next_integer_at, numbers_at, behind_char, char_at, quoted_at}
+use Rattle.sv_text.specs.ValueReading.{negative_at, positive_at, integer_at, next_integer_at, numbers_at, char_at, quoted_at}
 use Rattle.sv_text.specs.ValueText.{char_text}
 use Rattle.sv_text.proofs.ListForms.{AreSoMany, head_or, rest_of, copies, copies_fit, no_more, reads_list, list_of_first}
 use Rattle.sv_text.proofs.NumberForms.{InRange, NoDigit, reads_number, begins_same}
-use Rattle.sv_text.proofs.Readers.{SameFirst, Anything, Found, Reads, IsReader, AreGlyphs, reformed, retexted, behind_glyph, after_text, then_read, made, widened, nothing_more, no_further}
+use Rattle.sv_text.proofs.Readers.{SameFirst, Anything, Reads, IsReader, AreGlyphs, reformed, retexted, behind_glyph, after_text, then_read, made, widened, nothing_more, no_further}
 
 -- numbers
 
@@ -192,10 +192,6 @@ quote_glyph = (omega arith, omega arith, λ same. omega arith)
 
 IsQuote : ℕ → Type 0
 IsQuote g = g ≡ quote
-
-quote_only : (e : ℕ) → IsQuote e → e ≡ quote
-unfolding IsQuote
-quote_only e h = h
 
 quote_text : (e : ℕ) → IsQuote e → quote ∷ quote ∷ [] ≡ char_text e
 unfolding IsQuote

@@ -1,8 +1,8 @@
-use Rattle.std.proofs.Common.{subst, ℕ, List}
-use Rattle.std.specs.BTreeSet.{IsKeyRangeOf}
+use Rattle.std.proofs.Common.{◌≡◌, true, subst, ℕ, List}
+use Rattle.std.specs.BTreeSet.{IsKeyRangeOf, contains}
 use Rattle.std.specs.declared.ops.Bound.{Bound}
 use Rattle.std.specs.declared.ops.Bound.TheVariants.{Unbounded}
-use Rattle.sv_offers.proofs.KeyLemmas.{behind_start, found_above, found_lowest}
+use Rattle.sv_offers.proofs.KeyLemmas.{behind_start, found_above, found_lowest, found_there}
 use Rattle.sv_offers.specs.Senders.{key_order, start_after}
 use Rattle.sv_offers.proofs.senders.Senders.next.Goals as goal
 
@@ -18,6 +18,12 @@ returns-clause-above c =
     let range = subst (λ (start : Bound (ℕ × ℕ × ℕ)). IsKeyRangeOf key_order start Unbounded c.args.self.now.sent c.range.result) c.start_after.ensures (c.range.ensures.in_range tt) in
     let first = subst (λ (keys : List (ℕ × ℕ × ℕ)). IsKeyRangeOf key_order (start_after c.args.to c.args.last) Unbounded c.args.self.now.sent keys) c.in_ok-key.ensures.steps range in
     found_above c.args.to c.args.last c.in_ok-key.key.now c.sender.result first.1.0.0 c.sender.ensures.fits c.sender.ensures.sender
+
+pub returns-clause-made : goal.returns-clause-made
+returns-clause-made c =
+    let range = subst (λ (start : Bound (ℕ × ℕ × ℕ)). IsKeyRangeOf key_order start Unbounded c.args.self.now.sent c.range.result) c.start_after.ensures (c.range.ensures.in_range tt) in
+    let first = subst (λ (keys : List (ℕ × ℕ × ℕ)). IsKeyRangeOf key_order (start_after c.args.to c.args.last) Unbounded c.args.self.now.sent keys) c.in_ok-key.ensures.steps range in
+    found_there (λ key. contains key_order c.args.self.now.sent key ≡ true) c.args.to c.in_ok-key.key.now c.sender.result first.1.1 c.sender.ensures.sender
 
 pub returns-clause-lowest : goal.returns-clause-lowest
 returns-clause-lowest c = λ from place above has.

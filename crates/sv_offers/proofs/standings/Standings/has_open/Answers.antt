@@ -1,7 +1,8 @@
 use Rattle.std.proofs.Common.{◌∙◌, ap, sym}
 use Rattle.std.specs.List.{list_any}
 use Rattle.std.proofs.lemmas.Bool.{OnFalse_at, OnFalse_from, OnTrue_at, OnTrue_from}
-use Rattle.sv_offers.proofs.SenderLemmas.{is_open_by, open_by_set}
+use Rattle.sv_offers.proofs.SenderLemmas.{open_by_set}
+use Rattle.sv_offers.specs.Table.{is_open_by}
 use Rattle.sv_offers.proofs.standings.Standings.has_open.Goals as goal
 
 pub returns : goal.returns
