@@ -44,6 +44,3 @@ pub use text::{GlyphRefused, add_utf8, glyph_at, glyphs_of, texts_are_read_in_on
 pub use threads::{lists_may_cross_threads, values_may_cross_threads};
 pub use verb::{Dyad, Mix1, Mix2, Monad, Verb, Way};
 pub use word::{blank_count, digit_count, next_word, words_stand_between_blanks};
-
-#[cfg(test)]
-mod tests;

@@ -3,8 +3,6 @@
 
 pub mod laws;
 mod merging;
-#[cfg(test)]
-mod tests;
 mod text;
 
 pub use merging::{Merged, merge};

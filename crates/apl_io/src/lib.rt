@@ -35,8 +35,3 @@ pub use source::Source;
 pub use store_error::StoreError;
 pub use text_store::TextStore;
 pub use whole::{ReadRefused, WriteFault, read_all, write_all};
-
-#[cfg(test)]
-mod device_tests;
-#[cfg(test)]
-mod tests;

@@ -11,8 +11,6 @@ mod loops;
 mod moves;
 mod rows;
 mod shapes;
-#[cfg(test)]
-mod tests;
 
 pub use along::{Along, moved_along};
 pub use axes::{Axes, moved_by_axes};

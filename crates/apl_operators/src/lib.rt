@@ -17,8 +17,6 @@ mod running;
 mod scanning;
 mod steps;
 mod sums;
-#[cfg(test)]
-mod tests;
 
 pub use applying::apply;
 pub use inner_product::inner;

@@ -8,8 +8,6 @@ mod reading;
 pub mod rules;
 mod scalar;
 mod table;
-#[cfg(test)]
-mod tests;
 
 pub use reading::read_all;
 pub use scalar::{dyadic, monadic};

@@ -9,8 +9,6 @@ pub mod laws;
 mod lookup;
 mod numbers;
 mod places;
-#[cfg(test)]
-mod tests;
 
 pub use decoding::decode;
 pub use encoding::encode;

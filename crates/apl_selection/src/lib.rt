@@ -13,8 +13,6 @@ mod listing;
 mod picks;
 mod strides;
 mod subscripts;
-#[cfg(test)]
-mod tests;
 
 pub use assignment::index_assign;
 pub use catenation::catenate;

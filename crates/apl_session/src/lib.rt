@@ -9,8 +9,6 @@ mod progress;
 mod receipts;
 mod session;
 mod spare;
-#[cfg(test)]
-mod tests;
 mod transcripts;
 mod under_way;
 

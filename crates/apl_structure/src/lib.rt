@@ -11,8 +11,6 @@ mod reshaping;
 mod reversal;
 mod rotation;
 mod taking;
-#[cfg(test)]
-mod tests;
 mod transposition;
 
 pub use apl_selection::{Subs, catenate, compress, expand, index, index_assign};

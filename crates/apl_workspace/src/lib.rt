@@ -17,8 +17,6 @@ mod room;
 mod seen;
 mod symbol;
 mod table;
-#[cfg(test)]
-mod tests;
 mod what;
 mod workspace;
 

@@ -7,7 +7,5 @@ mod ending;
 mod parties;
 mod seat;
 mod start;
-#[cfg(test)]
-mod tests;
 
 pub use driver::{replay, replay_with};

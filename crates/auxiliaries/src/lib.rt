@@ -18,5 +18,3 @@ pub use laws::{
 pub use replier::Replier;
 pub use text_aux::TextAux;
 
-#[cfg(test)]
-mod tests;

@@ -12,8 +12,6 @@ mod offset;
 mod parties;
 mod refused;
 mod section;
-#[cfg(test)]
-mod tests;
 mod text;
 mod user;
 pub mod worked;

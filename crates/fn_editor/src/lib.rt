@@ -10,8 +10,6 @@ mod number;
 mod opening;
 mod prompt;
 mod showing;
-#[cfg(test)]
-mod tests;
 
 pub use editor::{Editor, Fed};
 pub use laws::{

@@ -17,5 +17,3 @@ pub use scanning::scan;
 pub use token::{Token, TokenKind, Tokens};
 pub use token_list::TokenList;
 
-#[cfg(test)]
-mod tests;

@@ -21,6 +21,3 @@ pub use node_list::NodeList;
 pub use parsing::parse;
 pub use refused::ParseRefused;
 pub use tree::{Form, Fun, Node, Places, Tree};
-
-#[cfg(test)]
-mod tests;

@@ -5,8 +5,6 @@
 mod lines;
 mod machines;
 mod notes;
-#[cfg(test)]
-mod tests;
 mod workspaces;
 
 use anyhow::Result;

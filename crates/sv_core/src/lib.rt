@@ -10,8 +10,6 @@ mod leaves;
 mod opening;
 mod processor;
 mod telling;
-#[cfg(test)]
-mod tests;
 mod updating;
 mod working;
 

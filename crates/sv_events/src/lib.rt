@@ -6,8 +6,6 @@ mod event;
 mod fitting;
 mod journal;
 mod row;
-#[cfg(test)]
-mod tests;
 mod weight;
 mod work;
 

@@ -16,8 +16,6 @@ mod shelves;
 mod slots;
 mod standings;
 mod table;
-#[cfg(test)]
-mod tests;
 
 pub use standings::is_ended;
 pub use table::Offers;

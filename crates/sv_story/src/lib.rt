@@ -3,8 +3,6 @@
 
 mod laws;
 mod share;
-#[cfg(test)]
-mod tests;
 
 pub use laws::shares_follow_stories;
 pub use share::{Known, Share, alone};
