@@ -1,0 +1,62 @@
+ghost use Rattle.std.specs.Prelude.{◌≡◌, ◌+◌, ◌-◌, ◌^◌, min, IsTrue, IsFalse};
+
+use crate::Tally;
+use anyhow::{Context, Result};
+use std::alloc::Global;
+
+/// What was looked at while calls were made, in that order: how many cases, how many of them differed, and the place of
+/// the first that did.
+#[derive(Clone, Copy, Debug, PartialEq, Eq)]
+pub struct Looks {
+    pub tally: Tally,
+    pub first: Option<u64>,
+}
+
+impl Looks {
+    /// Nothing was looked at yet. No memory.
+    pub fn new() -> Self
+        ensures cases { result.tally.cases ≡ 0 }
+        ensures differing { result.tally.differing ≡ 0 }
+    {
+        Looks {
+            tally: Tally::new(),
+            first: None,
+        }
+    }
+
+    /// Counts a case, which differs where this does not hold. The counts stand still at the greatest `u64`. No memory.
+    pub fn holds(&mut self, is_so: bool)
+        ensures cases { self.new.tally.cases ≡ min (self.old.tally.cases + 1) (2 ^ 64 - 1) }
+        ensures differs { IsFalse is_so → self.new.tally.differing ≡ min (self.old.tally.differing + 1) (2 ^ 64 - 1) }
+        ensures agrees { IsTrue is_so → self.new.tally.differing ≡ self.old.tally.differing }
+    {
+        self.tally.count(!is_so);
+        if !is_so && self.first.is_none() {
+            self.first = Some(self.tally.cases);
+        }
+    }
+}
+
+/// Calls that are made one after another, each with what is looked at behind it.
+pub trait Calls {
+    /// Makes the calls, and looks at what they give.
+    fn make(&self, alloc: Global, looks: &mut Looks) -> Result<()>;
+}
+
+/// Makes calls, and once more from the first where they ended early, as where memory was refused. A line is printed for
+/// them, with the place of the first case that differed, if one did. Memory as the calls take it.
+pub fn run_calls<R: Print + AllocGlobal, C: Calls>(rt: &R, name: &str, calls: &C) -> Result<Tally> {
+    let mut looks = Looks::new();
+    if calls.make(rt.alloc(), &mut looks).is_err() {
+        looks = Looks::new();
+        let made = calls.make(rt.alloc(), &mut looks);
+        made.context(format_args!("calls of {name}"))?;
+    }
+    let Looks { tally, first } = looks;
+    let Tally { cases, differing } = tally;
+    println!(rt; "{name}: {cases} cases, of which {differing} differ")?;
+    if let Some(place) = first {
+        println!(rt; "{name}: the first that differs is case {place}")?;
+    }
+    Ok(tally)
+}
