@@ -17,4 +17,3 @@ pub use laws::{
 };
 pub use replier::Replier;
 pub use text_aux::TextAux;
-

@@ -16,4 +16,3 @@ pub use refused::ScanRefused;
 pub use scanning::scan;
 pub use token::{Token, TokenKind, Tokens};
 pub use token_list::TokenList;
-
