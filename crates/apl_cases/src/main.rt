@@ -2,59 +2,90 @@
 // how each came out.
 #![tactic(auto)]
 
-mod characters;
-mod display;
-mod items;
+mod arrays;
+mod glyphs;
 mod names;
 mod reports;
-mod shapes;
 
-use anyhow::Result;
-use case_tables::{Tally, conclude, run_table, run_tables};
-use characters::{BadGlyphs, Glyphs};
-use display::Shown;
-use items::{PlacedItems, Scalars};
-use names::{FileNames, Names, Order, Words};
-use reports::Texts;
-use shapes::{Equality, Shapes};
+use anyhow::{Result, bail};
+use arrays::{equality_text, format_text, item_text, lines_text, scalar_text, shape_text};
+use case_tables::{Trial, conclude, run_tables};
+use glyphs::{code_text, refusal_place};
+use names::{file_name_order, file_name_text, name_order, name_text, word_text};
+use reports::{refusal_text, report_text};
+use std::alloc::Global;
 use std::process::ExitCode;
 
-fn glyphs_and_names(rt: &HostRuntime) -> Result<Tally> {
-    let mut tally = run_table(rt, "glyphs.txt", &Glyphs)?;
-    tally.add(run_table(rt, "bad_glyphs.txt", &BadGlyphs)?);
-    tally.add(run_table(rt, "names.txt", &Names)?);
-    tally.add(run_table(rt, "file_names.txt", &FileNames)?);
-    tally.add(run_table(rt, "words.txt", &Words)?);
-    let orders = [
-        ("name_order.txt", Order::Names),
-        ("file_name_order.txt", Order::FileNames),
-    ];
-    tally.add(run_tables(rt, &orders)?);
-    Ok(tally)
+// What a table tries: the top of the table says what its fields are.
+#[derive(Clone, Copy, Debug)]
+enum Topic {
+    Glyphs,
+    BadGlyphs,
+    Names,
+    FileNames,
+    Words,
+    NameOrder,
+    FileNameOrder,
+    Shapes,
+    Equality,
+    Scalars,
+    Items,
+    Reports,
+    Refusals,
+    Lines,
+    Formats,
 }
 
-fn arrays(rt: &HostRuntime) -> Result<Tally> {
-    let mut tally = run_table(rt, "shapes.txt", &Shapes)?;
-    tally.add(run_table(rt, "equality.txt", &Equality)?);
-    tally.add(run_table(rt, "scalars.txt", &Scalars)?);
-    tally.add(run_table(rt, "items.txt", &PlacedItems)?);
-    Ok(tally)
-}
+impl Trial for Topic {
+    fn given(&self) -> usize {
+        match self {
+            Topic::NameOrder | Topic::FileNameOrder => 2,
+            Topic::Shapes | Topic::Equality | Topic::Items => 2,
+            _ => 1,
+        }
+    }
 
-fn texts(rt: &HostRuntime) -> Result<Tally> {
-    let told = [
-        ("reports.txt", Texts::Reports),
-        ("refusals.txt", Texts::Refusals),
-    ];
-    let mut tally = run_tables(rt, &told)?;
-    let shown = [("lines.txt", Shown::Lines), ("formats.txt", Shown::Format)];
-    tally.add(run_tables(rt, &shown)?);
-    Ok(tally)
+    fn found(&self, alloc: Global, fields: &[&str]) -> Result<String> {
+        let [first, second, ..] = fields else {
+            bail!("two fields are wanted");
+        };
+        match self {
+            Topic::Glyphs => code_text(alloc, first),
+            Topic::BadGlyphs => refusal_place(alloc, first),
+            Topic::Names => name_text(alloc, first),
+            Topic::FileNames => file_name_text(alloc, first),
+            Topic::Words => word_text(alloc, first),
+            Topic::NameOrder => name_order(alloc, first, second),
+            Topic::FileNameOrder => file_name_order(alloc, first, second),
+            Topic::Shapes => shape_text(alloc, first, second),
+            Topic::Equality => equality_text(alloc, first, second),
+            Topic::Scalars => scalar_text(alloc, first),
+            Topic::Items => item_text(alloc, first, second),
+            Topic::Reports => report_text(alloc, first),
+            Topic::Refusals => refusal_text(alloc, first),
+            Topic::Lines => lines_text(alloc, first),
+            Topic::Formats => format_text(alloc, first),
+        }
+    }
 }
 
 fn main(rt: HostRuntime) -> Result<ExitCode> {
-    let mut tally = glyphs_and_names(&rt)?;
-    tally.add(arrays(&rt)?);
-    tally.add(texts(&rt)?);
-    conclude(&rt, tally)
+    let tables = [
+        ("glyphs.txt", Topic::Glyphs),
+        ("bad_glyphs.txt", Topic::BadGlyphs),
+        ("names.txt", Topic::Names),
+        ("file_names.txt", Topic::FileNames),
+        ("words.txt", Topic::Words),
+        ("name_order.txt", Topic::NameOrder),
+        ("file_name_order.txt", Topic::FileNameOrder),
+        ("shapes.txt", Topic::Shapes),
+        ("equality.txt", Topic::Equality),
+        ("scalars.txt", Topic::Scalars),
+        ("items.txt", Topic::Items),
+        ("reports.txt", Topic::Reports),
+        ("refusals.txt", Topic::Refusals),
+        ("lines.txt", Topic::Lines),
+        ("formats.txt", Topic::Formats),
+    ];
+    conclude(&rt, run_tables(&rt, &tables)?)
 }

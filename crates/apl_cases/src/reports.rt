@@ -1,36 +1,39 @@
-use anyhow::{Context, Result, bail};
+use anyhow::{Context, Result, bail, ensure};
 use apl_arrays::{ArrayRefused, Fail, GlyphRefused, Report, WantOfMemory};
-use case_tables::Trial;
 use std::alloc::Global;
 
-/// Reports or refusals: which one, and its text.
-#[derive(Clone, Copy, Debug)]
-pub enum Texts {
-    Reports,
-    Refusals,
+fn report_of(name: &str) -> Result<Report> {
+    Ok(match name {
+        "Character" => Report::Character,
+        "Syntax" => Report::Syntax,
+        "Value" => Report::Value,
+        "Domain" => Report::Domain,
+        "Rank" => Report::Rank,
+        "Length" => Report::Length,
+        "Index" => Report::Index,
+        "Defn" => Report::Defn,
+        "WsFull" => Report::WsFull,
+        "Interrupt" => Report::Interrupt,
+        "SvInterrupt" => Report::SvInterrupt,
+        "SvFull" => Report::SvFull,
+        "SvLimit" => Report::SvLimit,
+        _ => bail!("no report: {name}"),
+    })
 }
 
-fn report_of(name: &str) -> Option<Report> {
-    match name {
-        "Character" => Some(Report::Character),
-        "Syntax" => Some(Report::Syntax),
-        "Value" => Some(Report::Value),
-        "Domain" => Some(Report::Domain),
-        "Rank" => Some(Report::Rank),
-        "Length" => Some(Report::Length),
-        "Index" => Some(Report::Index),
-        "Defn" => Some(Report::Defn),
-        "WsFull" => Some(Report::WsFull),
-        "Interrupt" => Some(Report::Interrupt),
-        "SvInterrupt" => Some(Report::SvInterrupt),
-        "SvFull" => Some(Report::SvFull),
-        "SvLimit" => Some(Report::SvLimit),
-        _ => None,
-    }
+/// The text of a report, which a failure tells too.
+pub fn report_text(alloc: Global, name: &str) -> Result<String> {
+    let report = report_of(name)?;
+    let told = Fail::from(report).to_string(alloc)?;
+    ensure!(
+        told.as_str() == report.text(),
+        "a failure tells another text"
+    );
+    Ok(told)
 }
 
-// A place stands behind the name of a refusal that tells one.
-fn refusal_text(alloc: Global, name: &str) -> Result<String> {
+/// The text of a refusal. A place stands behind the name of one that tells it.
+pub fn refusal_text(alloc: Global, name: &str) -> Result<String> {
     Ok(match name {
         "ArrayRefused::TooLarge" => ArrayRefused::TooLarge.to_string(alloc)?,
         "ArrayRefused::BadShape" => ArrayRefused::BadShape.to_string(alloc)?,
@@ -43,28 +46,4 @@ fn refusal_text(alloc: Global, name: &str) -> Result<String> {
             GlyphRefused::BadGlyph(place).to_string(alloc)?
         }
     })
-}
-
-// A failure tells its report.
-fn report_text(alloc: Global, name: &str) -> Result<String> {
-    let report = report_of(name).context("no report")?;
-    let told = Fail::from(report).to_string(alloc)?;
-    if told.as_str() != report.text() {
-        bail!("a failure tells another text");
-    }
-    Ok(told)
-}
-
-impl Trial for Texts {
-    fn given(&self) -> usize {
-        1
-    }
-
-    fn found(&self, alloc: Global, fields: &[&str]) -> Result<String> {
-        let name = *fields.first().context("a report or a refusal is wanted")?;
-        match self {
-            Texts::Reports => report_text(alloc, name),
-            Texts::Refusals => refusal_text(alloc, name),
-        }
-    }
 }

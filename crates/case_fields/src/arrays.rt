@@ -1,7 +1,7 @@
-use crate::{number_of, numbers_of, push_numbers, push_quoted, quoted, unescaped};
+use crate::{number_of, numbers_of, push_numbers, push_quoted, quoted, stated, unescaped};
 use anyhow::{Context, Result, bail};
-use apl_arrays::{Array, Fail, Items, ItemsRef, NumberList, Way, glyphs_of};
-use std::alloc::{AllocError, Global};
+use apl_arrays::{Array, Fail, Items, ItemsRef, List, NumberList, Way, glyphs_of};
+use std::alloc::Global;
 
 /// The axes that a text names, with blanks between.
 pub fn axes_of(alloc: Global, text: &str) -> Result<Vec<u32>> {
@@ -35,40 +35,45 @@ pub fn array_of(alloc: Global, field: &str) -> Result<Array> {
     Ok(Array::try_new(alloc, &axes_of(alloc, axes)?, items)?)
 }
 
-fn push_shape(text: &mut String, shape: &[u32]) -> Result<(), AllocError> {
-    for (place, axis) in shape.iter().enumerate() {
-        if place > 0 {
-            text.push(' ')?;
-        }
-        write!(text, "{axis}")?;
-    }
-    Ok(())
+/// The array that a field says, or none where it is `-`.
+pub fn optional_of(alloc: Global, field: &str) -> Result<Option<Array>> {
+    stated(field).map(|text| array_of(alloc, text)).transpose()
 }
 
-fn push_items(alloc: Global, text: &mut String, items: ItemsRef<'_>) -> Result<()> {
-    match items {
-        ItemsRef::Numbers(numbers) => push_numbers(text, numbers)?,
-        ItemsRef::Chars(line) => push_quoted(alloc, text, line)?,
-    }
-    Ok(())
+/// A vector of so many zeros.
+pub fn zeros(alloc: Global, count: u32) -> Result<Array> {
+    let numbers = List::from(vec![in alloc; 0_i64; count as usize]?);
+    Ok(Array::try_new(alloc, &[count], Items::Numbers(NumberList::from(numbers)))?)
 }
 
 /// The text of an array, as fields have it.
 pub fn array_text(alloc: Global, array: &Array) -> Result<String> {
-    let mut text = String::new(alloc);
-    text.push_str(if array.is_chars() { "C(" } else { "N(" })?;
-    push_shape(&mut text, array.shape())?;
-    text.push(')')?;
-    push_items(alloc, &mut text, array.items())?;
+    let kind = if array.is_chars() { "C" } else { "N" };
+    let mut axes = String::new(alloc);
+    for axis in array.shape() {
+        write!(axes, " {axis}")?;
+    }
+    let mut text = format!(in alloc; "{kind}({})", axes.trim_start())?;
+    match array.items() {
+        ItemsRef::Numbers(numbers) => push_numbers(&mut text, numbers)?,
+        ItemsRef::Chars(line) => push_quoted(alloc, &mut text, line)?,
+    }
     Ok(text)
+}
+
+/// The text of the report with which a call was refused.
+pub fn report_text(fail: Fail) -> Result<&'static str> {
+    match fail {
+        Fail::Report(report) => Ok(report.text()),
+        Fail::WantOfMemory => bail!("out of memory"),
+    }
 }
 
 /// The text of the array that a call gave, or of its report.
 pub fn outcome_text(alloc: Global, outcome: Result<Array, Fail>) -> Result<String> {
     match outcome {
         Ok(array) => array_text(alloc, &array),
-        Err(Fail::Report(report)) => Ok(String::from_str(alloc, report.text())?),
-        Err(Fail::WantOfMemory) => bail!("out of memory"),
+        Err(fail) => Ok(String::from_str(alloc, report_text(fail)?)?),
     }
 }
 
@@ -83,8 +88,5 @@ pub fn way_of(sign: &str) -> Result<Way> {
 
 /// The number that a field names as an axis, or none where it is `-`.
 pub fn axis_of(alloc: Global, field: &str) -> Result<Option<i64>> {
-    if field == "-" {
-        return Ok(None);
-    }
-    Ok(Some(number_of(alloc, field)?))
+    stated(field).map(|word| number_of(alloc, word)).transpose()
 }

@@ -1,5 +1,5 @@
 use anyhow::{Context, Result};
-use apl_arrays::{Glyph, Line, Name, glyphs_of, utf8_of};
+use apl_arrays::{Glyph, Line, LineList, Name, NameList, glyphs_of, utf8_of};
 use case_tables::bytes_of;
 use std::alloc::Global;
 use std::str;
@@ -7,6 +7,11 @@ use std::str;
 /// The text that a field says, with its escapes.
 pub fn unescaped(alloc: Global, field: &str) -> Result<String> {
     Ok(String::from_str(alloc, str::from_utf8(&bytes_of(alloc, field)?)?)?)
+}
+
+/// What a field says, or none where it is `-`.
+pub fn stated(field: &str) -> Option<&str> {
+    (field != "-").then_some(field)
 }
 
 /// What stands between the quotes of a field.
@@ -27,6 +32,15 @@ pub fn name_of(alloc: Global, text: &str) -> Result<Name> {
     Name::of(line_of(alloc, text)?.as_slice()).context("no name")
 }
 
+/// The names that a text spells, with blanks between.
+pub fn names_of(alloc: Global, text: &str) -> Result<NameList> {
+    let mut names = NameList::new(alloc);
+    for word in text.split_whitespace() {
+        names.push(name_of(alloc, word)?)?;
+    }
+    Ok(names)
+}
+
 /// Adds glyphs to a text.
 pub fn push_glyphs(alloc: Global, text: &mut String, glyphs: &[Glyph]) -> Result<()> {
     let line = Line::from(Vec::from_slice(alloc, glyphs)?);
@@ -35,13 +49,26 @@ pub fn push_glyphs(alloc: Global, text: &mut String, glyphs: &[Glyph]) -> Result
     Ok(())
 }
 
+/// The text of glyphs.
+pub fn glyphs_text(alloc: Global, glyphs: &[Glyph]) -> Result<String> {
+    let mut text = String::new(alloc);
+    push_glyphs(alloc, &mut text, glyphs)?;
+    Ok(text)
+}
+
+/// Adds lines to a text, with an end behind each.
+pub fn push_lines(alloc: Global, text: &mut String, lines: &LineList, end: &str) -> Result<()> {
+    for line in lines.as_slice() {
+        push_glyphs(alloc, text, line.as_slice())?;
+        text.push_str(end)?;
+    }
+    Ok(())
+}
+
 /// Adds characters to a text, in quotes, with each quote among them twice.
 pub fn push_quoted(alloc: Global, text: &mut String, glyphs: &[Glyph]) -> Result<()> {
-    let mut plain = String::new(alloc);
-    push_glyphs(alloc, &mut plain, glyphs)?;
-    text.push('\'')?;
-    text.push_str(plain.replace(alloc, "'", "''")?.as_str())?;
-    text.push('\'')?;
+    let plain = glyphs_text(alloc, glyphs)?.replace(alloc, "'", "''")?;
+    write!(text, "'{plain}'")?;
     Ok(())
 }
 
@@ -57,11 +84,6 @@ pub fn push_names(alloc: Global, text: &mut String, names: &[Name]) -> Result<()
 /// The text of names, with blanks between.
 pub fn names_text(alloc: Global, names: &[Name]) -> Result<String> {
     let mut text = String::new(alloc);
-    for (at, name) in names.iter().enumerate() {
-        if at > 0 {
-            text.push(' ')?;
-        }
-        push_glyphs(alloc, &mut text, name.glyphs())?;
-    }
-    Ok(text)
+    push_names(alloc, &mut text, names)?;
+    Ok(String::from_str(alloc, text.trim_start())?)
 }

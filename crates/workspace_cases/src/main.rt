@@ -2,32 +2,64 @@
 // and prints how each came out.
 #![tactic(auto)]
 
-mod conditions;
 mod definitions;
-mod filling;
+mod executing;
 mod functions;
-mod headers;
-mod merges;
-mod notation;
 mod questions;
 mod scripts;
 mod steps;
-mod texts;
 
-use anyhow::Result;
-use case_tables::{conclude, run_table};
-use definitions::Definitions;
-use headers::Headers;
-use merges::Merges;
-use scripts::Scripts;
+use anyhow::{Result, bail};
+use case_tables::{Trial, conclude, run_tables};
+use definitions::definition_text;
+use executing::{executed_text, merging};
+use functions::header_text;
+use scripts::script_text;
+use std::alloc::Global;
 use std::process::ExitCode;
-use texts::Texts;
+
+// What a table tries: the top of the table says what its fields are.
+#[derive(Clone, Copy, Debug)]
+enum Topic {
+    Headers,
+    Scripts,
+    Definitions,
+    Texts,
+    Merges,
+}
+
+impl Trial for Topic {
+    fn given(&self) -> usize {
+        match self {
+            Topic::Headers | Topic::Scripts | Topic::Texts => 1,
+            Topic::Definitions => 2,
+            Topic::Merges => 3,
+        }
+    }
+
+    fn found(&self, alloc: Global, fields: &[&str]) -> Result<String> {
+        match (self, fields) {
+            (Topic::Headers, [line, ..]) => header_text(alloc, line),
+            (Topic::Scripts, [steps, asked, ..]) => script_text(alloc, steps, asked),
+            (Topic::Definitions, [steps, lines, _, asked, ..]) => definition_text(
+                alloc, steps, lines, asked,
+            ),
+            (Topic::Texts, [value, ..]) => executed_text(alloc, value),
+            (Topic::Merges, [into, from, names, _, asked, ..]) => merging(
+                alloc, into, from, names, asked,
+            ),
+            _ => bail!("a field is wanting"),
+        }
+    }
+}
 
 fn main(rt: HostRuntime) -> Result<ExitCode> {
-    let mut tally = run_table(&rt, "headers.txt", &Headers)?;
-    tally.add(run_table(&rt, "workspaces.txt", &Scripts)?);
-    tally.add(run_table(&rt, "editor.txt", &Definitions)?);
-    tally.add(run_table(&rt, "texts.txt", &Texts)?);
-    tally.add(run_table(&rt, "merges.txt", &Merges)?);
-    conclude(&rt, tally)
+    let tables = [
+        ("headers.txt", Topic::Headers),
+        ("workspaces.txt", Topic::Scripts),
+        ("editor.txt", Topic::Definitions),
+        ("texts.txt", Topic::Texts),
+        ("merges.txt", Topic::Merges),
+    ];
+    conclude(&rt, run_tables(&rt, &tables)?)
 }

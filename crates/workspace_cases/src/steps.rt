@@ -1,174 +1,158 @@
-use crate::conditions::{is_function, is_variable, may_be_asked};
-use crate::filling::fill;
-use crate::functions::takes;
-use crate::notation::{function_of, optional_of, report_of};
-use anyhow::{Context, Result, bail};
-use apl_arrays::{Name, Report};
-use apl_workspace::{Args, PRINTED_LIMIT, Seen, Workspace};
-use case_fields::{array_of, name_of};
+ghost use Rattle.apl_workspace.specs.Frame.{AreArgumentsOf};
+ghost use Rattle.std.specs.Prelude.{IsTrue};
+
+use crate::functions::function_of;
+use anyhow::{Context, Result, bail, ensure};
+use apl_arrays::{Array, ELEMENT_LIMIT, Fail, Name};
+use apl_workspace::{Args, Function, PRINTED_LIMIT, Seen, Workspace};
+use case_fields::{array_of, name_of, optional_of, zeros};
 use std::alloc::Global;
 
-fn assign(alloc: Global, ws: &mut Workspace, text: &str) -> Result<Option<Report>> {
-    let (name, value) = text.split_once(" ").context("no value")?;
-    let name = name_of(alloc, name)?;
-    let value = array_of(alloc, value)?;
-    if matches!(ws.look(&name), Seen::Shared(_)) {
-        bail!("a shared name is not assigned");
-    }
-    report_of(ws.assign(&name, value))
+/// What comes of a step: it may be refused.
+pub type Outcome = Result<(), Fail>;
+
+fn assign(ws: &mut Workspace, name: &Name, value: Array) -> Result<Outcome> {
+    let is_shared = matches!(ws.look(name), Seen::Shared(_));
+    ensure!(!is_shared, "a shared name is not assigned");
+    Ok(ws.assign(name, value))
 }
 
-fn define(alloc: Global, ws: &mut Workspace, text: &str) -> Result<Option<Report>> {
-    let function = function_of(alloc, text)?;
-    if is_variable(ws, &function.name()) {
-        bail!("a variable is not defined");
+// Assigns zeros to names W0, W1 and so on until the workspace weighs so much. A value weighs 1 and its items.
+fn fill(alloc: Global, ws: &mut Workspace, weight: usize) -> Result<Outcome> {
+    for number in 0..300_u32 {
+        let left = weight.saturating_sub(ws.weight());
+        if left == 0 {
+            return Ok(Ok(()));
+        }
+        let count = left.saturating_sub(1).min(ELEMENT_LIMIT);
+        let name = name_of(alloc, format!(in alloc; "W{number}")?.as_str())?;
+        let outcome = assign(ws, &name, zeros(alloc, u32::try_from(count)?)?)?;
+        if outcome.is_err() {
+            return Ok(outcome);
+        }
     }
-    report_of(ws.define(function))
+    bail!("the weight was not reached");
+}
+
+fn define(alloc: Global, ws: &mut Workspace, text: &str) -> Result<Outcome> {
+    let function = function_of(alloc, text)?;
+    let seen = ws.global(&function.name());
+    let is_variable = matches!(seen, Seen::Value(_) | Seen::Shared(_));
+    ensure!(!is_variable, "a variable is not defined");
+    Ok(ws.define(function))
 }
 
 // Erases a name, which is there or is not.
-fn erase(alloc: Global, ws: &mut Workspace, text: &str, is_there: bool) -> Result<()> {
-    let name = name_of(alloc, text)?;
-    if ws.is_shared(&name) {
-        bail!("a shared name is not erased");
-    }
-    if ws.erase(&name) != is_there {
-        bail!("another answer to an erasure");
-    }
-    Ok(())
+fn erase(ws: &mut Workspace, name: &Name, is_there: bool) -> Result<Outcome> {
+    ensure!(!ws.is_shared(name), "a shared name is not erased");
+    ensure!(ws.erase(name) == is_there, "another answer to an erasure");
+    Ok(Ok(()))
 }
 
-fn mark(alloc: Global, ws: &mut Workspace, text: &str) -> Result<Option<Report>> {
+// Marks a name with a value, a surrogate and an addressee.
+fn mark(alloc: Global, ws: &mut Workspace, name: &Name, text: &str) -> Result<Outcome> {
     let (front, to) = text.rsplit_once(" ").context("no addressee")?;
-    let (front, surrogate) = front.rsplit_once(" ").context("no surrogate")?;
-    let (name, value) = front.split_once(" ").context("no value")?;
-    let (name, surrogate) = (name_of(alloc, name)?, name_of(alloc, surrogate)?);
-    let value = optional_of(alloc, value)?;
+    let (value, surrogate) = front.rsplit_once(" ").context("no surrogate")?;
+    let (value, surrogate) = (optional_of(alloc, value)?, name_of(alloc, surrogate)?);
     let to: u32 = to.parse().context("no party")?;
-    if !may_be_asked(to) {
-        bail!("no party that an offer is made to");
-    }
-    if is_function(ws, &name) {
-        bail!("a function is not shared");
-    }
-    report_of(ws.mark(&name, value, surrogate, to))
+    let is_addressee = matches!(to, 0 | 10 | 20 | 1001..=1999);
+    ensure!(is_addressee, "no party that an offer is made to");
+    let is_function = matches!(ws.global(name), Seen::Function(_));
+    ensure!(!is_function, "a function is not shared");
+    Ok(ws.mark(name, value, surrogate, to))
 }
 
-fn unmark(alloc: Global, ws: &mut Workspace, text: &str) -> Result<()> {
-    let (name, value) = text.split_once(" ").context("no value")?;
-    let name = name_of(alloc, name)?;
-    let value = optional_of(alloc, value)?;
-    if !ws.is_shared(&name) {
-        bail!("the name is not shared");
-    }
-    ws.unmark(&name, value);
-    Ok(())
+fn unmark(ws: &mut Workspace, name: &Name, value: Option<Array>) -> Result<Outcome> {
+    ensure!(ws.is_shared(name), "the name is not shared");
+    ws.unmark(name, value);
+    Ok(Ok(()))
 }
 
-fn renew(alloc: Global, ws: &mut Workspace, text: &str) -> Result<Option<Report>> {
-    let (name, value) = text.split_once(" ").context("no value")?;
-    let name = name_of(alloc, name)?;
-    let value = array_of(alloc, value)?;
-    if !ws.is_shared(&name) {
-        bail!("the name is not shared");
-    }
-    report_of(ws.renew(&name, value))
+fn renew(ws: &mut Workspace, name: &Name, value: Array) -> Result<Outcome> {
+    ensure!(ws.is_shared(name), "the name is not shared");
+    Ok(ws.renew(name, value))
 }
 
-// Enters a function with its arguments.
-fn enter_with(ws: &mut Workspace, name: &Name, args: Args) -> Result<Option<Report>> {
-    let fits = match ws.look(name) {
-        Seen::Function(function) => takes(function, &args),
-        _ => false,
-    };
-    if !fits {
-        bail!("no function with these arguments");
-    }
-    report_of(ws.push_frame(name, args))
+// Whether a function's header has these arguments.
+fn takes(function: &Function, args: &Args) -> bool
+    ensures { IsTrue result → AreArgumentsOf function.now.header args.now }
+{
+    let header = function.header();
+    header.left.is_some() == args.left.is_some() && header.right.is_some() == args.right.is_some()
 }
 
-fn enter(alloc: Global, ws: &mut Workspace, text: &str) -> Result<Option<Report>> {
-    let (name, args) = text.split_once(" ").unwrap_or((text, "- -"));
-    let (left, right) = args.split_once(" ").context("no right argument")?;
-    let name = name_of(alloc, name)?;
+// Enters a function with a left and a right argument, or with none.
+fn enter(alloc: Global, ws: &mut Workspace, name: &Name, text: &str) -> Result<Outcome> {
+    let (left, right) = text.split_once(" ").unwrap_or(("-", "-"));
     let args = Args {
         left: optional_of(alloc, left)?,
         right: optional_of(alloc, right)?,
     };
-    enter_with(ws, &name, args)
-}
-
-fn leave(ws: &mut Workspace) -> Result<()> {
-    if ws.depth() == 0 {
-        bail!("no function is under way");
-    }
-    ws.pop_frame();
-    Ok(())
+    let fits = match ws.look(name) {
+        Seen::Function(function) => takes(function, &args),
+        _ => false,
+    };
+    ensure!(fits, "no function with these arguments");
+    Ok(ws.push_frame(name, args))
 }
 
 // Enters a function without arguments so often, or until it is refused.
-fn deepen(alloc: Global, ws: &mut Workspace, text: &str) -> Result<Option<Report>> {
-    let (name, times) = text.split_once(" ").context("no count")?;
-    let times: u32 = times.parse().context("no count")?;
-    let name = name_of(alloc, name)?;
-    let mut refused = None;
+fn deepen(alloc: Global, ws: &mut Workspace, name: &Name, times: u32) -> Result<Outcome> {
     for _ in 0..times {
-        if refused.is_none() {
-            let args = Args {
-                left: None,
-                right: None,
-            };
-            refused = enter_with(ws, &name, args)?;
+        let outcome = enter(alloc, ws, name, "")?;
+        if outcome.is_err() {
+            return Ok(outcome);
         }
     }
-    Ok(refused)
+    Ok(Ok(()))
 }
 
-fn count(ws: &mut Workspace, text: &str) -> Result<()> {
-    let glyphs: u64 = text.parse().context("no count")?;
-    if glyphs > PRINTED_LIMIT - ws.printed() {
-        bail!("the limit of printed glyphs");
-    }
+fn leave(ws: &mut Workspace) -> Result<Outcome> {
+    ensure!(ws.depth() > 0, "no function is under way");
+    ws.pop_frame();
+    Ok(Ok(()))
+}
+
+fn count(ws: &mut Workspace, glyphs: u64) -> Result<Outcome> {
+    let left = PRINTED_LIMIT - ws.printed();
+    ensure!(glyphs <= left, "the limit of printed glyphs");
     ws.count_printed(glyphs);
-    Ok(())
+    Ok(Ok(()))
 }
 
 // The workspace is exchanged for its copy.
-fn copy(ws: &mut Workspace) -> Result<()> {
-    if ws.depth() > 0 {
-        bail!("a function is under way");
-    }
+fn copy(ws: &mut Workspace) -> Result<Outcome> {
+    ensure!(ws.depth() == 0, "a function is under way");
     *ws = ws.copy()?;
-    Ok(())
+    Ok(Ok(()))
 }
 
-// A step that is never refused.
-fn granted(alloc: Global, ws: &mut Workspace, word: &str, rest: &str) -> Result<()> {
+// A step with a name.
+fn step_of_name(alloc: Global, ws: &mut Workspace, word: &str, rest: &str) -> Result<Outcome> {
+    let (name, rest) = rest.split_once(" ").unwrap_or((rest, ""));
+    let name = name_of(alloc, name)?;
     match word {
-        "erase" => erase(alloc, ws, rest, true),
-        "miss" => erase(alloc, ws, rest, false),
-        "unmark" => unmark(alloc, ws, rest),
-        "leave" => leave(ws),
-        "count" => count(ws, rest),
-        "copy" => copy(ws),
-        _ => bail!("no step: {word} {rest}"),
+        "assign" => assign(ws, &name, array_of(alloc, rest)?),
+        "erase" => erase(ws, &name, true),
+        "miss" => erase(ws, &name, false),
+        "mark" => mark(alloc, ws, &name, rest),
+        "unmark" => unmark(ws, &name, optional_of(alloc, rest)?),
+        "renew" => renew(ws, &name, array_of(alloc, rest)?),
+        "enter" => enter(alloc, ws, &name, rest),
+        "deepen" => deepen(alloc, ws, &name, rest.parse().context("no count")?),
+        _ => bail!("no step: {word}"),
     }
 }
 
-/// Does a step: its report where it was refused.
-pub fn step(alloc: Global, ws: &mut Workspace, text: &str) -> Result<Option<Report>> {
+/// Does a step.
+pub fn step(alloc: Global, ws: &mut Workspace, text: &str) -> Result<Outcome> {
     let (word, rest) = text.split_once(" ").unwrap_or((text, ""));
     match word {
-        "assign" => assign(alloc, ws, rest),
         "define" => define(alloc, ws, rest),
-        "mark" => mark(alloc, ws, rest),
-        "renew" => renew(alloc, ws, rest),
-        "enter" => enter(alloc, ws, rest),
-        "deepen" => deepen(alloc, ws, rest),
-        "fill" => fill(alloc, ws, rest),
-        _ => {
-            granted(alloc, ws, word, rest)?;
-            Ok(None)
-        }
+        "fill" => fill(alloc, ws, rest.parse().context("no weight")?),
+        "leave" => leave(ws),
+        "count" => count(ws, rest.parse().context("no count")?),
+        "copy" => copy(ws),
+        _ => step_of_name(alloc, ws, word, rest),
     }
 }
