@@ -1,5 +1,6 @@
+ghost use Rattle.std.specs.Prelude.{◌≡◌, IsTrue};
 ghost use Rattle.apl_workspace.specs.Frame.{AreArgumentsOf};
-ghost use Rattle.std.specs.Prelude.{IsTrue};
+ghost use Rattle.apl_workspace.specs.Workspace.{is_addressee};
 
 use crate::functions::function_of;
 use anyhow::{Context, Result, bail, ensure};
@@ -49,14 +50,20 @@ fn erase(ws: &mut Workspace, name: &Name, is_there: bool) -> Result<Outcome> {
     Ok(Ok(()))
 }
 
+// Whether an offer may be made to a number: to anybody, to an auxiliary, or to a user.
+fn may_be_asked(party: u32) -> bool
+    ensures { result ≡ is_addressee party }
+{
+    party == 0 || party == 10 || party == 20 || (party >= 1001 && party <= 1999)
+}
+
 // Marks a name with a value, a surrogate and an addressee.
 fn mark(alloc: Global, ws: &mut Workspace, name: &Name, text: &str) -> Result<Outcome> {
     let (front, to) = text.rsplit_once(" ").context("no addressee")?;
     let (value, surrogate) = front.rsplit_once(" ").context("no surrogate")?;
     let (value, surrogate) = (optional_of(alloc, value)?, name_of(alloc, surrogate)?);
     let to: u32 = to.parse().context("no party")?;
-    let is_addressee = matches!(to, 0 | 10 | 20 | 1001..=1999);
-    ensure!(is_addressee, "no party that an offer is made to");
+    ensure!(may_be_asked(to), "no party that an offer is made to");
     let is_function = matches!(ws.global(name), Seen::Function(_));
     ensure!(!is_function, "a function is not shared");
     Ok(ws.mark(name, value, surrogate, to))
