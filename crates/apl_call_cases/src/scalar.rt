@@ -1,0 +1,45 @@
+use crate::given::{given, vector};
+use anyhow::Result;
+use apl_arrays::{Dyad, Glyph, Item, Monad, Report};
+use apl_scalar::{dyadic, identity_of, item_of, monadic};
+use case_tables::{Calls, Looks};
+use std::alloc::Global;
+
+/// Scalar functions of arrays, of items, and their identities.
+#[derive(Clone, Copy, Debug)]
+pub struct ScalarCalls;
+
+impl Calls for ScalarCalls {
+    fn make(&self, alloc: Global, looks: &mut Looks) -> Result<()> {
+        of_arrays(alloc, looks)?;
+        of_items(looks);
+        Ok(())
+    }
+}
+
+// Calls that give an array, and one that gives a report.
+fn of_arrays(alloc: Global, looks: &mut Looks) -> Result<()> {
+    let two = vector(alloc, &[2, -5])?;
+    let one = vector(alloc, &[3])?;
+    let magnitude = given(monadic(alloc, Monad::Magnitude, &two))?;
+    looks.holds(magnitude == Ok(vector(alloc, &[2, 5])?));
+    let product = given(dyadic(alloc, Dyad::Times, &two, &one))?;
+    looks.holds(product == Ok(vector(alloc, &[6, -15])?));
+    let power = given(dyadic(alloc, Dyad::Power, &one, &two))?;
+    looks.holds(power == Err(Report::Domain));
+    Ok(())
+}
+
+// Items and identities follow the table.
+fn of_items(looks: &mut Looks) {
+    let letter = Item::Char(Glyph::BLANK);
+    let number = Item::Number(32);
+    let difference = item_of(Dyad::Minus, &Item::Number(2), &Item::Number(5));
+    looks.holds(difference == Some(-3));
+    looks.holds(item_of(Dyad::Equal, &letter, &letter) == Some(1));
+    looks.holds(item_of(Dyad::NotEqual, &letter, &number) == Some(1));
+    looks.holds(item_of(Dyad::Less, &number, &letter) == None);
+    looks.holds(identity_of(Dyad::Times) == Some(1));
+    looks.holds(identity_of(Dyad::Maximum) == Some(i64::MIN));
+    looks.holds(identity_of(Dyad::Nand) == None);
+}
