@@ -1,0 +1,177 @@
+use crate::letters::letter;
+use anyhow::{Result, bail};
+use apl_arrays::{Array, Fail, Items, Name, NameList};
+use apl_execute::{Merged, merge, text_of};
+use apl_workspace::{Seen, Workspace};
+use case_fields::line_of;
+use case_tables::{Calls, Looks};
+use std::alloc::Global;
+
+/// Characters that are executed as text, and names that one workspace takes over from another.
+#[derive(Clone, Copy, Debug)]
+pub struct Execute;
+
+impl Calls for Execute {
+    fn make(&self, alloc: Global, looks: &mut Looks) -> Result<()> {
+        let names = Names {
+            x: letter(b'X')?,
+            y: letter(b'Y')?,
+            s: letter(b'S')?,
+            z: letter(b'Z')?,
+        };
+        take_text(alloc, looks)?;
+        take_names_over(alloc, &names, looks)
+    }
+}
+
+// Names of workspaces.
+#[derive(Clone, Copy, Debug)]
+struct Names {
+    x: Name,
+    y: Name,
+    s: Name,
+    z: Name,
+}
+
+fn take_text(alloc: Global, looks: &mut Looks) -> Result<()> {
+    let value = Array::try_new(alloc, &[1], Items::Chars(line_of(alloc, "A")?))?;
+    let text = text_of(alloc, &value)?;
+    looks.holds(text.as_slice() == letter(b'A')?.glyphs());
+    Ok(())
+}
+
+// A workspace in which names have numbers.
+fn with_numbers(alloc: Global, numbers: &[(Name, i64)]) -> Result<Workspace> {
+    let mut ws = Workspace::new(alloc);
+    for (name, number) in numbers {
+        if matches!(ws.look(name), Seen::Shared(_)) {
+            bail!("a shared name is not assigned");
+        }
+        ws.assign(name, Array::scalar(alloc, *number)?)?;
+    }
+    Ok(ws)
+}
+
+// Shares a name, with a copy of its value.
+fn share(ws: &mut Workspace, name: Name, copy: Array) -> Result<()> {
+    if matches!(ws.global(&name), Seen::Function(_)) {
+        bail!("a function is not shared");
+    }
+    ws.mark(&name, Some(copy), name, 0)?;
+    Ok(())
+}
+
+fn first_is(value: &Array, number: i64) -> bool {
+    value.numbers().first() == Some(&number)
+}
+
+fn has_number(ws: &Workspace, name: &Name, number: i64) -> bool {
+    match ws.look(name) {
+        Seen::Value(value) => first_is(value, number),
+        _ => false,
+    }
+}
+
+fn shares_number(ws: &Workspace, name: &Name, number: i64) -> bool {
+    match ws.look(name) {
+        Seen::Shared(Some(copy)) => first_is(copy, number),
+        _ => false,
+    }
+}
+
+fn listed(alloc: Global, names: &[Name]) -> Result<NameList> {
+    let mut list = NameList::new(alloc);
+    for name in names {
+        list.push(*name)?;
+    }
+    Ok(list)
+}
+
+// Whether a workspace has X 8, and shares S with the copy 5 and one offer.
+fn is_as_made(ws: &Workspace, names: &Names) -> bool {
+    has_number(ws, &names.x, 8) && shares_number(ws, &names.s, 5) && ws.weight() == 4
+}
+
+// What a merge gives, at the second time where memory was refused at the first and the workspace was then as it was made.
+fn merged(
+    alloc: Global,
+    names: &Names,
+    into: &Workspace,
+    from: &Workspace,
+    asked: Option<&NameList>,
+) -> Option<Merged> {
+    if into.depth() > 0 || from.depth() > 0 {
+        return None;
+    }
+    match merge(alloc, into, from, asked) {
+        Ok(done) => Some(done),
+        Err(Fail::Report(_)) => None,
+        Err(Fail::WantOfMemory) => {
+            if !is_as_made(into, names) {
+                return None;
+            }
+            merge(alloc, into, from, asked).ok()
+        }
+    }
+}
+
+// X, Z, S and once more X are taken over.
+fn take_named(
+    alloc: Global,
+    names: &Names,
+    into: &Workspace,
+    from: &Workspace,
+    looks: &mut Looks,
+) -> Result<()> {
+    let Names { x, y, s, z } = *names;
+    let asked = listed(alloc, &[x, z, s, x])?;
+    let done = merged(alloc, names, into, from, Some(&asked));
+    looks.holds(done.is_some());
+    let Some(
+        Merged {
+            workspace: ws,
+            missing,
+            shared,
+        },
+    ) = done
+    else {
+        return Ok(());
+    };
+    looks.holds(has_number(&ws, &x, 3) && shares_number(&ws, &s, 5));
+    looks.holds(matches!(ws.look(&y), Seen::Nothing));
+    looks.holds(ws.remakes()?.as_slice().len() == 1 && ws.weight() == 4);
+    looks.holds(missing.as_slice() == [z].as_slice());
+    looks.holds(shared.as_slice() == [s].as_slice());
+    Ok(())
+}
+
+// All names are taken over.
+fn take_all(alloc: Global, names: &Names, into: &Workspace, from: &Workspace, looks: &mut Looks) {
+    let Names { x, y, s, .. } = *names;
+    let done = merged(alloc, names, into, from, None);
+    looks.holds(done.is_some());
+    if let Some(
+        Merged {
+            workspace: ws,
+            missing,
+            shared,
+        },
+    ) = done
+    {
+        looks.holds(has_number(&ws, &x, 3) && has_number(&ws, &y, 4));
+        looks.holds(shares_number(&ws, &s, 5) && ws.weight() == 6);
+        looks.holds(missing.as_slice().is_empty());
+        looks.holds(shared.as_slice() == [s].as_slice());
+    }
+}
+
+fn take_names_over(alloc: Global, names: &Names, looks: &mut Looks) -> Result<()> {
+    let Names { x, y, s, .. } = *names;
+    let mut into = with_numbers(alloc, &[(x, 8)])?;
+    share(&mut into, s, Array::scalar(alloc, 5)?)?;
+    let from = with_numbers(alloc, &[(x, 3), (y, 4), (s, 6)])?;
+    take_named(alloc, names, &into, &from, looks)?;
+    take_all(alloc, names, &into, &from, looks);
+    looks.holds(is_as_made(&into, names) && into.remakes()?.as_slice().len() == 1);
+    Ok(())
+}

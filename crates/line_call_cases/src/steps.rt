@@ -1,0 +1,135 @@
+ghost use Rattle.std.specs.Prelude.{IfOk};
+ghost use Rattle.apl_workspace.specs.Function.{IsFunction};
+
+use crate::accounts::account_at_last;
+use crate::conditions::{is_function, is_variable, takes};
+use crate::granting::is_granted;
+use crate::letters::letter;
+use anyhow::{Context, Result};
+use apl_arrays::{Array, LineList};
+use apl_workspace::{Args, Function, PRINTED_LIMIT, Seen, Workspace};
+use case_fields::line_of;
+use std::alloc::Global;
+
+/// A call: the name X has a value, a function F is defined, X is shared, glyphs are printed, F is entered with an argument
+/// or left, the workspace is exchanged for its copy, or X is shared no more.
+#[derive(Clone, Copy, Debug)]
+pub enum Step {
+    Assign(i64),
+    Define,
+    Mark(i64),
+    Print(u64),
+    Enter(i64),
+    Leave,
+    Copy,
+    Unmark(i64),
+}
+
+// F, with a local X and a line with a label.
+fn function(alloc: Global) -> Result<Function>
+    ensures { IfOk result IsFunction }
+{
+    let mut lines = LineList::new(alloc);
+    lines.push(line_of(alloc, "L:X")?)?;
+    Function::of(alloc, line_of(alloc, "F B;X")?, lines)?.context("F has no header")
+}
+
+fn assign(ws: &mut Workspace, value: Array) -> Result<bool> {
+    let x = letter(b'X')?;
+    if matches!(ws.look(&x), Seen::Shared(_)) {
+        return Ok(false);
+    }
+    is_granted(ws.assign(&x, value))
+}
+
+fn define(alloc: Global, ws: &mut Workspace) -> Result<bool> {
+    let function = function(alloc)?;
+    if is_variable(ws, &function.name()) {
+        return Ok(false);
+    }
+    is_granted(ws.define(function))
+}
+
+fn mark(ws: &mut Workspace, value: Array) -> Result<bool> {
+    let x = letter(b'X')?;
+    if is_function(ws, &x) {
+        return Ok(false);
+    }
+    is_granted(ws.mark(&x, Some(value), x, 0))
+}
+
+fn print(ws: &mut Workspace, glyphs: u64) -> bool {
+    if glyphs > PRINTED_LIMIT - ws.printed() {
+        return false;
+    }
+    ws.count_printed(glyphs);
+    true
+}
+
+fn enter(ws: &mut Workspace, value: Array) -> Result<bool> {
+    let f = letter(b'F')?;
+    let args = Args {
+        left: None,
+        right: Some(value),
+    };
+    let fits = match ws.look(&f) {
+        Seen::Function(function) => takes(function, &args),
+        _ => false,
+    };
+    if !fits {
+        return Ok(false);
+    }
+    is_granted(ws.push_frame(&f, args))
+}
+
+fn leave(ws: &mut Workspace) -> bool {
+    if ws.depth() == 0 {
+        return false;
+    }
+    ws.pop_frame();
+    true
+}
+
+fn copy(ws: &mut Workspace) -> Result<bool> {
+    if ws.depth() > 0 {
+        return Ok(false);
+    }
+    *ws = ws.copy()?;
+    Ok(true)
+}
+
+fn unmark(ws: &mut Workspace, value: Array) -> Result<bool> {
+    let x = letter(b'X')?;
+    if !ws.is_shared(&x) {
+        return Ok(false);
+    }
+    ws.unmark(&x, Some(value));
+    Ok(true)
+}
+
+// Whether a call may be made and is granted. An `Err` says that memory was refused.
+fn is_done(alloc: Global, ws: &mut Workspace, step: Step) -> Result<bool> {
+    match step {
+        Step::Assign(number) => assign(ws, Array::scalar(alloc, number)?),
+        Step::Define => define(alloc, ws),
+        Step::Mark(number) => mark(ws, Array::scalar(alloc, number)?),
+        Step::Print(glyphs) => Ok(print(ws, glyphs)),
+        Step::Enter(number) => enter(ws, Array::scalar(alloc, number)?),
+        Step::Leave => Ok(leave(ws)),
+        Step::Copy => copy(ws),
+        Step::Unmark(number) => unmark(ws, Array::scalar(alloc, number)?),
+    }
+}
+
+/// Whether a call is granted, at the second time where memory was refused at the first and the workspace told then what
+/// it told before.
+pub fn is_taken(alloc: Global, ws: &mut Workspace, step: Step) -> Result<bool> {
+    let before = account_at_last(ws)?;
+    match is_done(alloc, ws, step) {
+        Ok(is_so) => Ok(is_so),
+        Err(_) => {
+            let is_same = account_at_last(ws)? == before;
+            Ok(is_same && is_done(alloc, ws, step).unwrap_or(false))
+        }
+    }
+}
