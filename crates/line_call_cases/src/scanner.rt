@@ -37,7 +37,9 @@ fn look_at_kinds(all: &[Token], looks: &mut Looks) {
         matches!(kind_at(all, 4), Some(TokenKind::Chars(chars)) if chars.as_slice().len() == 1),
     );
     looks.holds(matches!(kind_at(all, 5), Some(TokenKind::System(SystemName::Svo))));
-    looks.holds(matches!(kind_at(all, 6), Some(TokenKind::Sign(Glyph::EXECUTE))));
+    looks.holds(
+        matches!(kind_at(all, 6), Some(TokenKind::Sign(glyph)) if *glyph == Glyph::EXECUTE),
+    );
 }
 
 // What the token at a place is.
