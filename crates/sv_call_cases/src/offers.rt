@@ -142,6 +142,7 @@ fn all_stand_still(table: &Offers, marks: &str) -> Result<()> {
 }
 
 // An offer is added, the second time where memory was refused: the partner that it is coupled with, if it is.
+#[tactic(auto, using(crate::proofs::TableLemmas::stands_last))]
 fn added(table: &mut Offers, new: &Standing, before: &str) -> Result<Option<Standing>>
     requires { IsNext table.old new.now.place }
     ensures next { OnOk result (IsNext table.new (new.now.place + 1)) }
@@ -176,6 +177,7 @@ fn are_pairs(looks: &mut Looks, made: &[Pair], wanted: &[(u64, u64)]) {
 }
 
 // An act of a party ends offers, and makes the pairs of its row.
+#[tactic(auto, using(crate::proofs::TableLemmas::room_suffices, crate::proofs::TableLemmas::few_left, crate::proofs::TableLemmas::next_after))]
 fn ended(
     alloc: Global,
     looks: &mut Looks,

@@ -129,6 +129,7 @@ fn entries(alloc: Global) -> Result<Journal> {
 }
 
 // Another try of the act that a user waits for.
+#[tactic(auto, using(crate::proofs::RetryLemmas::users_stay))]
 fn retried(core: &mut Core, user: u32) -> Result<Retry>
     requires { IsTrue (waits core.old.journal user) }
     ensures { core.new.users ≡ core.old.users }

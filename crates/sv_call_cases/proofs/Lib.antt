@@ -1,0 +1,2 @@
+pub mod RetryLemmas
+pub mod TableLemmas
