@@ -1,0 +1,239 @@
+ghost use Rattle.std.specs.Prelude.{◌≡◌, ◌∷◌, [], IsTrue, not, false};
+ghost use Rattle.apl_session.specs.Wants.{MayGoOn};
+ghost use Rattle.apl_session.specs.declared.session.Stage.TheVariants.{Waiting};
+ghost use Rattle.sv_rules.specs.Entries.{has_left};
+ghost use Rattle.sv_rules.specs.Legal.{is_user};
+ghost use Rattle.sv_rules.specs.Work.{is_auxiliary};
+
+use crate::helping::{let_go, session_of};
+use anyhow::{Context, Result, bail};
+use apl_session::{Session, Stage, Wants};
+use case_tables::{Calls, Looks};
+use line_text::add_user_lines;
+use std::alloc::Global;
+use sv_core::Core;
+use sv_events::{Act, Answer, Retry};
+use sv_journal::add_journal;
+use sv_rules::{is_auxiliary, is_leave};
+
+/// Two users in turns, of whom the second is held within a function: there it tries its act again so often that its
+/// partner's set is far off, and nothing changes until the partner sets the name.
+#[derive(Clone, Copy, Debug)]
+pub struct HeldInAFunction;
+
+// The users, and their lines.
+const FIRST: u32 = 1001;
+
+const SECOND: u32 = 1002;
+
+const FIRST_LINES: [&str; 3] = ["1002 ⎕SVO 'X'", "1 0 0 1 ⎕SVC 'X'", "X←5"];
+
+const SECOND_LINES: [&str; 6] = ["1001 ⎕SVO 'X'", "∇R←G B;L", "L←B×2", "R←L+X", "∇", "G 10"];
+
+// What is printed of it all.
+const OUTPUT: &str = "user 1001
+|      1002 ⎕SVO 'X'
+|1
+|      1 0 0 1 ⎕SVC 'X'
+|1 0 0 1
+|      X←5
+user 1002
+|      1001 ⎕SVO 'X'
+|2
+|      ∇R←G B;L
+|[1]   L←B×2
+|[2]   R←L+X
+|[3]   ∇
+|      G 10
+|25
+journal
+1 1001 offer 1002 X X none : degree 1
+2 1002 offer 1001 X X none : degree 2 + 1 2
+3 1001 control X 1 0 0 1 : vector 1 0 0 1
+4 1002 use X : held 4 partner
+5 1001 set X N()5 : granted
+6 1002 use X : value N()5
+7 1001 leave : done
+8 1002 leave : done
+end
+";
+
+// How often the act is tried again.
+const TRIES: usize = 50;
+
+// A session hears an answer, and waits on where it is held.
+fn hear(session: &mut Session<u8>, answer: Answer) -> Result<()>
+    requires { session.old.stage ≡ Waiting }
+{
+    match answer {
+        Answer::Held(_) => Ok(()),
+        other => Ok(session.answer(other)?),
+    }
+}
+
+// A user makes the act that its session asks.
+fn act(core: &mut Core, session: &mut Session<u8>, user: u32, act: Act) -> Result<()>
+    requires stage { session.old.stage ≡ Waiting }
+    requires member { IsTrue (is_user core.old.users user) }
+    requires person { is_auxiliary user ≡ false }
+    requires present { IsTrue (not (has_left core.old.journal user)) }
+    ensures { core.new.users ≡ core.old.users }
+{
+    if core.waits(user) || is_leave(&act) {
+        let_go(act);
+        bail!("another act is asked while one waits");
+    }
+    let answer = core.step(user, act)?;
+    hear(session, answer)
+}
+
+// The answer to a user that tries the act again for which it waits.
+#[tactic(auto, using(crate::proofs::RetryLemmas::users_stay))]
+fn retried(core: &mut Core, user: u32) -> Result<Retry>
+    ensures { core.new.users ≡ core.old.users }
+{
+    if !core.waits(user) {
+        bail!("the user does not wait");
+    }
+    Ok(core.retry(user)?)
+}
+
+// A user tries the act again that its session waits for.
+fn try_again(core: &mut Core, session: &mut Session<u8>, user: u32) -> Result<()>
+    requires { session.old.stage ≡ Waiting }
+    ensures { core.new.users ≡ core.old.users }
+{
+    match retried(core, user)? {
+        Retry::Now(answer) => hear(session, answer),
+        Retry::StillHeld => Ok(()),
+    }
+}
+
+// A user makes the next act of its session, or leaves where its lines are done.
+fn go_on(core: &mut Core, session: &mut Session<u8>, user: u32) -> Result<()>
+    requires stage { MayGoOn session.old.stage }
+    requires member { IsTrue (is_user core.old.users user) }
+    requires person { is_auxiliary user ≡ false }
+    requires present { IsTrue (not (has_left core.old.journal user)) }
+    ensures { core.new.users ≡ core.old.users }
+{
+    match session.next()? {
+        Wants::Act(wanted) => act(core, session, user, wanted),
+        Wants::Finished => {
+            core.leave(user);
+            Ok(())
+        }
+    }
+}
+
+// The turn of a user that has not left.
+fn turn(core: &mut Core, users: &[u32], session: &mut Session<u8>) -> Result<()>
+    requires { core.old.users ≡ users.now }
+    ensures { core.new.users ≡ core.old.users }
+{
+    let user = session.user();
+    if !users.contains(&user) || is_auxiliary(user) || core.has_left(user) {
+        bail!("it is nobody's turn");
+    }
+    match session.stage() {
+        Stage::Waiting => try_again(core, session, user),
+        Stage::Ready | Stage::Finished | Stage::Failed => go_on(core, session, user),
+    }
+}
+
+// The text of the journal when it has so many of its entries.
+fn journal_until(alloc: Global, count: usize) -> Result<String> {
+    let (_, entries) = OUTPUT
+        .split_once("journal\n")
+        .context("the journal is there")?;
+    let mut text = String::from_str(alloc, "journal\n")?;
+    for line in entries.lines().take(count) {
+        text.push_str(line)?;
+        text.push('\n')?;
+    }
+    text.push_str("end\n")?;
+    Ok(text)
+}
+
+// Whether the journal has so many of its entries, and no others.
+fn is_until(alloc: Global, core: &Core, count: usize) -> Result<bool> {
+    let mut bytes = Vec::new(alloc);
+    add_journal(alloc, &mut bytes, core.journal())?;
+    Ok(bytes.as_slice() == journal_until(alloc, count)?.as_bytes())
+}
+
+// A user's turn adds the next entry, with which there are so many.
+fn adds(
+    alloc: Global,
+    looks: &mut Looks,
+    core: &mut Core,
+    users: &[u32],
+    session: &mut Session<u8>,
+    count: usize,
+) -> Result<()>
+    requires { core.old.users ≡ users.now }
+    ensures { core.new.users ≡ core.old.users }
+{
+    turn(core, users, session)?;
+    looks.holds(is_until(alloc, core, count)?);
+    Ok(())
+}
+
+// The user that is held tries its act again and again: it is held still, and the journal has the same entries.
+fn tries_on(alloc: Global, looks: &mut Looks, core: &mut Core, user: u32) -> Result<()>
+    ensures { core.new.users ≡ core.old.users }
+{
+    for _attempt in 0..TRIES {
+        looks.holds(retried(core, user)? == Retry::StillHeld);
+        looks.holds(is_until(alloc, core, 4)?);
+    }
+    Ok(())
+}
+
+// All turns of the two users, with those tries between the fourth entry and the fifth.
+fn take_turns(
+    alloc: Global,
+    looks: &mut Looks,
+    core: &mut Core,
+    first: &mut Session<u8>,
+    second: &mut Session<u8>,
+) -> Result<()>
+    requires { core.old.users ≡ (FIRST ∷ SECOND ∷ []) }
+{
+    let users = [FIRST, SECOND];
+    adds(alloc, looks, core, &users, first, 1)?;
+    adds(alloc, looks, core, &users, second, 2)?;
+    adds(alloc, looks, core, &users, first, 3)?;
+    adds(alloc, looks, core, &users, second, 4)?;
+    tries_on(alloc, looks, core, SECOND)?;
+    adds(alloc, looks, core, &users, first, 5)?;
+    adds(alloc, looks, core, &users, second, 6)?;
+    adds(alloc, looks, core, &users, first, 7)?;
+    adds(alloc, looks, core, &users, second, 8)
+}
+
+// What both users saw, and the journal.
+fn printed(
+    alloc: Global,
+    core: &Core,
+    first: &Session<u8>,
+    second: &Session<u8>,
+) -> Result<Vec<u8>> {
+    let mut bytes = Vec::new(alloc);
+    add_user_lines(alloc, &mut bytes, FIRST, first.transcript())?;
+    add_user_lines(alloc, &mut bytes, SECOND, second.transcript())?;
+    add_journal(alloc, &mut bytes, core.journal())?;
+    Ok(bytes)
+}
+
+impl Calls for HeldInAFunction {
+    fn make(&self, alloc: Global, looks: &mut Looks) -> Result<()> {
+        let mut core = Core::new(alloc, &[FIRST, SECOND])?;
+        let mut first = session_of(alloc, FIRST, &FIRST_LINES)?;
+        let mut second = session_of(alloc, SECOND, &SECOND_LINES)?;
+        take_turns(alloc, looks, &mut core, &mut first, &mut second)?;
+        let bytes = printed(alloc, &core, &first, &second)?;
+        looks.holds(bytes.as_slice() == OUTPUT.as_bytes());
+        Ok(())
+    }
+}

@@ -1,0 +1,21 @@
+ghost use Rattle.std.specs.Prelude.{◌≡◌, IfOk};
+ghost use Rattle.apl_session.specs.declared.session.Stage.TheVariants.{Ready};
+
+use anyhow::Result;
+use apl_arrays::{LineList, glyphs_of};
+use apl_session::Session;
+use std::alloc::Global;
+
+/// The session of a user with these lines, which is lent 7.
+pub fn session_of(alloc: Global, user: u32, texts: &[&str]) -> Result<Session<u8>>
+    ensures { IfOk result (λ session. session.stage ≡ Ready) }
+{
+    let mut lines = LineList::new(alloc);
+    for text in texts {
+        lines.push(glyphs_of(alloc, text.as_bytes())?)?;
+    }
+    Ok(Session::new(alloc, user, lines, 7))
+}
+
+/// Lets go of a value.
+pub fn let_go<T: Drop>(_value: T) {}
