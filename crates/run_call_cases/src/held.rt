@@ -1,7 +1,7 @@
-ghost use Rattle.std.specs.Prelude.{◌≡◌, ◌∷◌, [], IsTrue, not, false};
+ghost use Rattle.std.specs.Prelude.{◌≡◌, IsTrue, not, false};
 ghost use Rattle.apl_session.specs.Wants.{MayGoOn};
 ghost use Rattle.apl_session.specs.declared.session.Stage.TheVariants.{Waiting};
-ghost use Rattle.sv_rules.specs.Entries.{has_left};
+ghost use Rattle.sv_rules.specs.Entries.{has_left, is_leave};
 ghost use Rattle.sv_rules.specs.Legal.{is_user};
 ghost use Rattle.sv_rules.specs.Work.{is_auxiliary};
 
@@ -14,7 +14,7 @@ use std::alloc::Global;
 use sv_core::Core;
 use sv_events::{Act, Answer, Retry};
 use sv_journal::add_journal;
-use sv_rules::{is_auxiliary, is_leave};
+use sv_rules::is_auxiliary;
 
 /// Two users in turns, of whom the second is held within a function: there it tries its act again so often that its
 /// partner's set is far off, and nothing changes until the partner sets the name.
@@ -22,6 +22,8 @@ use sv_rules::{is_auxiliary, is_leave};
 pub struct HeldInAFunction;
 
 // The users, and their lines.
+const USERS: [u32; 2] = [FIRST, SECOND];
+
 const FIRST: u32 = 1001;
 
 const SECOND: u32 = 1002;
@@ -74,12 +76,13 @@ fn hear(session: &mut Session<u8>, answer: Answer) -> Result<()>
 // A user makes the act that its session asks.
 fn act(core: &mut Core, session: &mut Session<u8>, user: u32, act: Act) -> Result<()>
     requires stage { session.old.stage ≡ Waiting }
+    requires stays { IsTrue (not (is_leave act)) }
     requires member { IsTrue (is_user core.old.users user) }
     requires person { is_auxiliary user ≡ false }
     requires present { IsTrue (not (has_left core.old.journal user)) }
     ensures { core.new.users ≡ core.old.users }
 {
-    if core.waits(user) || is_leave(&act) {
+    if core.waits(user) {
         let_go(act);
         bail!("another act is asked while one waits");
     }
@@ -126,19 +129,34 @@ fn go_on(core: &mut Core, session: &mut Session<u8>, user: u32) -> Result<()>
     }
 }
 
+// Whether a session can be asked for its next act.
+fn may_go_on(stage: Stage) -> bool
+    ensures { IsTrue result → MayGoOn stage }
+{
+    match stage {
+        Stage::Ready => true,
+        Stage::Waiting => false,
+        Stage::Finished => true,
+        Stage::Failed => true,
+    }
+}
+
 // The turn of a user that has not left.
-fn turn(core: &mut Core, users: &[u32], session: &mut Session<u8>) -> Result<()>
-    requires { core.old.users ≡ users.now }
+fn turn(core: &mut Core, session: &mut Session<u8>) -> Result<()>
+    requires { core.old.users ≡ USERS }
     ensures { core.new.users ≡ core.old.users }
 {
     let user = session.user();
-    if !users.contains(&user) || is_auxiliary(user) || core.has_left(user) {
+    if !USERS.contains(&user) || is_auxiliary(user) || core.has_left(user) {
         bail!("it is nobody's turn");
     }
-    match session.stage() {
-        Stage::Waiting => try_again(core, session, user),
-        Stage::Ready | Stage::Finished | Stage::Failed => go_on(core, session, user),
+    if may_go_on(session.stage()) {
+        return go_on(core, session, user);
     }
+    if session.stage() != Stage::Waiting {
+        bail!("no turn is left");
+    }
+    try_again(core, session, user)
 }
 
 // The text of the journal when it has so many of its entries.
@@ -167,14 +185,13 @@ fn adds(
     alloc: Global,
     looks: &mut Looks,
     core: &mut Core,
-    users: &[u32],
     session: &mut Session<u8>,
     count: usize,
 ) -> Result<()>
-    requires { core.old.users ≡ users.now }
+    requires { core.old.users ≡ USERS }
     ensures { core.new.users ≡ core.old.users }
 {
-    turn(core, users, session)?;
+    turn(core, session)?;
     looks.holds(is_until(alloc, core, count)?);
     Ok(())
 }
@@ -198,18 +215,17 @@ fn take_turns(
     first: &mut Session<u8>,
     second: &mut Session<u8>,
 ) -> Result<()>
-    requires { core.old.users ≡ (FIRST ∷ SECOND ∷ []) }
+    requires { core.old.users ≡ USERS }
 {
-    let users = [FIRST, SECOND];
-    adds(alloc, looks, core, &users, first, 1)?;
-    adds(alloc, looks, core, &users, second, 2)?;
-    adds(alloc, looks, core, &users, first, 3)?;
-    adds(alloc, looks, core, &users, second, 4)?;
+    adds(alloc, looks, core, first, 1)?;
+    adds(alloc, looks, core, second, 2)?;
+    adds(alloc, looks, core, first, 3)?;
+    adds(alloc, looks, core, second, 4)?;
     tries_on(alloc, looks, core, SECOND)?;
-    adds(alloc, looks, core, &users, first, 5)?;
-    adds(alloc, looks, core, &users, second, 6)?;
-    adds(alloc, looks, core, &users, first, 7)?;
-    adds(alloc, looks, core, &users, second, 8)
+    adds(alloc, looks, core, first, 5)?;
+    adds(alloc, looks, core, second, 6)?;
+    adds(alloc, looks, core, first, 7)?;
+    adds(alloc, looks, core, second, 8)
 }
 
 // What both users saw, and the journal.
@@ -226,14 +242,47 @@ fn printed(
     Ok(bytes)
 }
 
+// All turns, and what is printed of them.
+fn is_held(
+    alloc: Global,
+    looks: &mut Looks,
+    core: &mut Core,
+    first: &mut Session<u8>,
+    second: &mut Session<u8>,
+) -> Result<()>
+    requires { core.old.users ≡ USERS }
+{
+    take_turns(alloc, looks, core, first, second)?;
+    looks.holds(printed(alloc, core, first, second)?.as_slice() == OUTPUT.as_bytes());
+    Ok(())
+}
+
+// The same over a processor of its own.
+fn over_core(
+    alloc: Global,
+    looks: &mut Looks,
+    first: &mut Session<u8>,
+    second: &mut Session<u8>,
+) -> Result<()> {
+    let mut core = Core::new(alloc, &USERS)?;
+    let made = is_held(alloc, looks, &mut core, first, second);
+    let_go(core);
+    made
+}
+
+// The same with a session of the second user.
+fn with_second(alloc: Global, looks: &mut Looks, first: &mut Session<u8>) -> Result<()> {
+    let mut second = session_of(alloc, SECOND, &SECOND_LINES)?;
+    let made = over_core(alloc, looks, first, &mut second);
+    let_go(second);
+    made
+}
+
 impl Calls for HeldInAFunction {
     fn make(&self, alloc: Global, looks: &mut Looks) -> Result<()> {
-        let mut core = Core::new(alloc, &[FIRST, SECOND])?;
         let mut first = session_of(alloc, FIRST, &FIRST_LINES)?;
-        let mut second = session_of(alloc, SECOND, &SECOND_LINES)?;
-        take_turns(alloc, looks, &mut core, &mut first, &mut second)?;
-        let bytes = printed(alloc, &core, &first, &second)?;
-        looks.holds(bytes.as_slice() == OUTPUT.as_bytes());
-        Ok(())
+        let made = with_second(alloc, looks, &mut first);
+        let_go(first);
+        made
     }
 }

@@ -202,12 +202,15 @@ fn adds(
     requires { AscendBy (λ transcript. transcript.user) (transcripts.old.items ++ (record { user = user; lines = [] }) ∷ []) }
     ensures { OnOk result (transcripts.new.items ≡ transcripts.old.items ++ (record { user = user; lines = [] }) ∷ []) }
 {
-    let is_kept = transcripts.push(empty_transcript(alloc, user)).is_ok();
-    looks.holds(is_kept || are_of(transcripts, before));
-    if is_kept {
-        Ok(())
-    } else {
-        Ok(transcripts.push(empty_transcript(alloc, user))?)
+    match transcripts.push(empty_transcript(alloc, user)) {
+        Ok(()) => {
+            looks.holds(true);
+            Ok(())
+        }
+        Err(_) => {
+            looks.holds(are_of(transcripts, before));
+            Ok(transcripts.push(empty_transcript(alloc, user))?)
+        }
     }
 }
 
