@@ -43,15 +43,16 @@ pub trait Calls {
     fn make(&self, alloc: Global, looks: &mut Looks) -> Result<()>;
 }
 
-/// Makes calls, and once more from the first where they ended early, as where memory was refused. A line is printed for
-/// them, with the place of the first case that differed, if one did. Memory as the calls take it.
+/// Makes calls, and once more from the first where they ended early and no case had differed, as where memory was refused. A
+/// line is printed for them, with the place of the first case that differed, if one did. Memory as the calls take it.
 pub fn run_calls<R: Print + AllocGlobal, C: Calls>(rt: &R, name: &str, calls: &C) -> Result<Tally> {
     let mut looks = Looks::new();
-    if calls.make(rt.alloc(), &mut looks).is_err() {
+    let mut made = calls.make(rt.alloc(), &mut looks);
+    if made.is_err() && looks.tally.agrees() {
         looks = Looks::new();
-        let made = calls.make(rt.alloc(), &mut looks);
-        made.context(format_args!("calls of {name}"))?;
+        made = calls.make(rt.alloc(), &mut looks);
     }
+    made.context(format_args!("calls of {name}"))?;
     let Looks { tally, first } = looks;
     let Tally { cases, differing } = tally;
     println!(rt; "{name}: {cases} cases, of which {differing} differ")?;
