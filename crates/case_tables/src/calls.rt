@@ -1,4 +1,4 @@
-ghost use Rattle.std.specs.Prelude.{◌≡◌, ◌+◌, ◌-◌, ◌^◌, min, IsTrue, IsFalse};
+ghost use Rattle.std.specs.Prelude.{◌≡◌, ◌+◌, ◌-◌, ◌^◌, min, Some, None, IsTrue, IsFalse};
 
 use crate::Tally;
 use anyhow::{Context, Result};
@@ -29,6 +29,8 @@ impl Looks {
         ensures cases { self.new.tally.cases ≡ min (self.old.tally.cases + 1) (2 ^ 64 - 1) }
         ensures differs { IsFalse is_so → self.new.tally.differing ≡ min (self.old.tally.differing + 1) (2 ^ 64 - 1) }
         ensures agrees { IsTrue is_so → self.new.tally.differing ≡ self.old.tally.differing }
+        ensures first { IsFalse is_so → self.old.first ≡ None → self.new.first ≡ Some self.new.tally.cases }
+        ensures stays { IsTrue is_so → self.new.first ≡ self.old.first }
     {
         self.tally.count(!is_so);
         if !is_so && self.first.is_none() {
@@ -39,12 +41,13 @@ impl Looks {
 
 /// Calls that are made one after another, each with what is looked at behind it.
 pub trait Calls {
-    /// Makes the calls, and looks at what they give.
+    /// Makes the calls, and looks at what they give. An error says that memory was refused, and nothing else: any other that
+    /// a call gives is a case that differs.
     fn make(&self, alloc: Global, looks: &mut Looks) -> Result<()>;
 }
 
-/// Makes calls, and once more from the first where they ended early and no case had differed, as where memory was refused. A
-/// line is printed for them, with the place of the first case that differed, if one did. Memory as the calls take it.
+/// Makes calls, and once more from the first where memory was refused and no case had differed. A line is printed for them,
+/// and one with the place of the first case that differed, if one did. Memory as the calls take it.
 pub fn run_calls<R: Print + AllocGlobal, C: Calls>(rt: &R, name: &str, calls: &C) -> Result<Tally> {
     let mut looks = Looks::new();
     let mut made = calls.make(rt.alloc(), &mut looks);
@@ -52,12 +55,12 @@ pub fn run_calls<R: Print + AllocGlobal, C: Calls>(rt: &R, name: &str, calls: &C
         looks = Looks::new();
         made = calls.make(rt.alloc(), &mut looks);
     }
-    made.context(format_args!("calls of {name}"))?;
     let Looks { tally, first } = looks;
     let Tally { cases, differing } = tally;
     println!(rt; "{name}: {cases} cases, of which {differing} differ")?;
     if let Some(place) = first {
         println!(rt; "{name}: the first that differs is case {place}")?;
     }
+    made.context(format_args!("calls of {name}"))?;
     Ok(tally)
 }

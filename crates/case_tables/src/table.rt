@@ -30,7 +30,7 @@ fn after_fields(row: &str, count: usize) -> Option<&str> {
     row.splitn(count.saturating_add(1), SEPARATOR).nth(count)
 }
 
-// Whether a row differs. A line is printed where it does.
+// Whether a row differs. A line is printed where it does. What is found is looked for once more where memory was refused.
 fn row_differs<R: Print + AllocGlobal, T: Trial>(
     rt: &R,
     file: &str,
@@ -39,7 +39,11 @@ fn row_differs<R: Print + AllocGlobal, T: Trial>(
 ) -> Result<bool> {
     let wanted = after_fields(row, trial.given()).context("nothing says what is wanted")?;
     let wanted = bytes_of(rt.alloc(), wanted)?;
-    let found = trial.found(rt.alloc(), &fields(rt.alloc(), row)?)?;
+    let fields = fields(rt.alloc(), row)?;
+    let found = match trial.found(rt.alloc(), &fields) {
+        Ok(found) => found,
+        Err(_) => trial.found(rt.alloc(), &fields)?,
+    };
     if found.as_bytes() == wanted.as_slice() {
         return Ok(false);
     }

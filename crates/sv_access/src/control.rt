@@ -30,15 +30,3 @@ pub fn join(a: Control, b: Control) -> Control
         a.0[3] || b.0[3],
     ])
 }
-
-#[cfg(test)]
-mod tests {
-    use super::*;
-
-    #[test]
-    fn swaps_each_pair(rt: HostRuntime) {
-        let c = Control([true, false, false, true]);
-        assert_eq!(rt; swap(c), Control([false, true, true, false]));
-        assert_eq!(rt; join(c, c), Control([true, true, true, true]));
-    }
-}

@@ -38,26 +38,3 @@ pub fn view(state: State, side: Side) -> Control
         }
     }
 }
-
-#[cfg(test)]
-mod tests {
-    use super::*;
-
-    #[test]
-    fn shows_each_side_its_view(rt: HostRuntime) {
-        let given_by_a = after(State::Quiet, Side::A, Kind::Set);
-        assert_eq!(rt;
-            view(given_by_a, Side::A),
-            Control([true, false, true, false])
-        );
-        assert_eq!(rt;
-            view(given_by_a, Side::B),
-            Control([false, true, false, true])
-        );
-        let used_by_b = after(given_by_a, Side::B, Kind::Use);
-        assert_eq!(rt;
-            view(used_by_b, Side::B),
-            Control([false, false, true, true])
-        );
-    }
-}
