@@ -1,6 +1,6 @@
 use crate::nodes::push_node;
 use anyhow::{Context, Result, bail};
-use case_fields::{line_of, name_of, push_glyphs, unescaped};
+use case_fields::{line_of, name_of, push_glyphs, stated, unescaped};
 use case_tables::Trial;
 use line_scanner::scan;
 use line_trees::{Class, Classes, Form, ParseRefused, Tree, parse};
@@ -25,10 +25,7 @@ fn class_of(alloc: Global, word: &str) -> Result<Class> {
 // The classes of a field: `NAME=ARGUMENTS`, the names ascending, with blanks between, or `-` where there are none.
 fn classes_of(alloc: Global, field: &str) -> Result<Classes> {
     let mut classes = Classes::new(alloc);
-    if field == "-" {
-        return Ok(classes);
-    }
-    for word in field.split_whitespace() {
+    for word in stated(field).unwrap_or("").split_whitespace() {
         let class = class_of(alloc, word)?;
         if !classes.come_before(&class.name) {
             bail!("the names of classes do not ascend");

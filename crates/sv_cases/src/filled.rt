@@ -2,7 +2,8 @@ ghost use Rattle.std.specs.Prelude.{◌≡◌};
 
 use crate::retries::try_again;
 use anyhow::{Result, bail};
-use apl_arrays::{Array, Glyph, Items, List, Name, NumberList};
+use apl_arrays::{Glyph, Name};
+use case_fields::zeros;
 use case_tables::Trial;
 use std::alloc::Global;
 use sv_access::Control;
@@ -79,15 +80,6 @@ fn questions(alloc: Global) -> Result<String> {
         }
         _ => bail!("the last entry is no leave"),
     }
-}
-
-// So many zeros.
-fn zeros(alloc: Global, count: u32) -> Result<Array> {
-    let mut numbers = List::new(alloc);
-    for _made in 0..count {
-        numbers.push(0)?;
-    }
-    Ok(Array::try_new(alloc, &[count], Items::Numbers(NumberList::from(numbers)))?)
 }
 
 // A user sets a name to 16,384 zeros, so many times.

@@ -1,5 +1,5 @@
 use anyhow::{Context, Result, bail};
-use case_fields::{line_of, unescaped};
+use case_fields::{line_of, stated, unescaped};
 use std::alloc::Global;
 use sv_events::Entry;
 use sv_journal::{EntryRefused, read};
@@ -7,10 +7,7 @@ use sv_journal::{EntryRefused, read};
 /// The users that a field names, with blanks between, or none where it is a dash.
 pub fn users_of(alloc: Global, field: &str) -> Result<Vec<u32>> {
     let mut users = Vec::new(alloc);
-    if field == "-" {
-        return Ok(users);
-    }
-    for word in field.split_whitespace() {
+    for word in stated(field).unwrap_or("").split_whitespace() {
         users.push(word.parse::<u32>().context("no user")?)?;
     }
     Ok(users)

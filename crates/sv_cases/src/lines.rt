@@ -1,9 +1,8 @@
 use anyhow::{Result, bail};
-use apl_arrays::{Line, utf8_of};
-use case_fields::{line_of, unescaped};
+use apl_arrays::Line;
+use case_fields::{glyphs_text, line_of, unescaped};
 use case_tables::Trial;
 use std::alloc::Global;
-use std::str;
 use sv_journal::{EntryRefused, read, text_of};
 
 /// Lines that are read as entries of a journal: `again` where an entry with this text is read, else how long the part
@@ -16,8 +15,7 @@ pub(crate) fn compared(alloc: Global, line: &Line, written: &Line) -> Result<Str
     if line == written {
         return Ok(String::from_str(alloc, "again")?);
     }
-    let bytes = utf8_of(alloc, written)?;
-    Ok(String::from_str(alloc, str::from_utf8(bytes.as_slice())?)?)
+    glyphs_text(alloc, written.as_slice())
 }
 
 impl Trial for JournalLines {

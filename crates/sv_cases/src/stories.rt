@@ -1,6 +1,6 @@
 use anyhow::{Context, Result, bail};
 use apl_arrays::{Array, WantOfMemory};
-use case_fields::value_text;
+use case_fields::{stated, value_text};
 use case_tables::Trial;
 use std::alloc::Global;
 use sv_access::{Side, State};
@@ -20,10 +20,9 @@ struct Told {
 
 // A number, or none for a dash.
 fn number_of(word: &str) -> Result<Option<i64>> {
-    if word == "-" {
-        return Ok(None);
-    }
-    Ok(Some(word.parse::<i64>().context("no number")?))
+    stated(word)
+        .map(|number| number.parse().context("no number"))
+        .transpose()
 }
 
 fn side_of(word: &str) -> Result<Side> {
