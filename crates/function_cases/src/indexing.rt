@@ -1,6 +1,6 @@
 use anyhow::{Result, bail};
 use apl_structure::{Subs, index, index_assign};
-use case_fields::{array_of, outcome_text};
+use case_fields::{array_of, optional_of, outcome_text};
 use case_tables::Trial;
 use std::alloc::Global;
 
@@ -16,12 +16,7 @@ pub struct Assignments;
 fn subs_of(alloc: Global, field: &str) -> Result<Subs> {
     let mut subs = Subs::new(alloc);
     for part in field.split(" ; ") {
-        let sub = if part == "-" {
-            None
-        } else {
-            Some(array_of(alloc, part)?)
-        };
-        subs.push(sub)?;
+        subs.push(optional_of(alloc, part)?)?;
     }
     Ok(subs)
 }

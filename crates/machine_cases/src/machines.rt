@@ -11,7 +11,7 @@ use apl_machine::{LineRead, Machine, Stop, hear_alone, read_line};
 use apl_meaning::{input_shown, report_line};
 use apl_operators::Steps;
 use apl_workspace::Workspace;
-use case_fields::{line_of, push_glyphs, unescaped};
+use case_fields::{glyphs_text, line_of, unescaped};
 use line_trees::Tree;
 use std::alloc::Global;
 use std::marker::Brand;
@@ -109,9 +109,7 @@ fn note_report(alloc: Global, printed: &mut Notes, fail: Fail, line: &Line) -> R
 // Notes lines that were printed.
 fn note_lines(alloc: Global, printed: &mut Notes, lines: LineList) -> Result<()> {
     for line in lines.as_slice() {
-        let mut text = String::new(alloc);
-        push_glyphs(alloc, &mut text, line.as_slice())?;
-        printed.push(text)?;
+        printed.push(glyphs_text(alloc, line.as_slice())?)?;
     }
     Ok(())
 }
@@ -125,8 +123,7 @@ fn note_act(alloc: Global, acts: &mut Notes, act: Act) -> Result<()> {
         made: PairList::new(alloc),
     };
     let line = text_of(alloc, 1, &entry)?;
-    let mut text = String::new(alloc);
-    push_glyphs(alloc, &mut text, line.as_slice())?;
+    let text = glyphs_text(alloc, line.as_slice())?;
     let act = text
         .strip_prefix("1 1001 ")
         .and_then(|rest| rest.strip_suffix(" : done"))

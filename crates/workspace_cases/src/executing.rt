@@ -32,9 +32,12 @@ pub fn merging(alloc: Global, into: &str, from: &str, names: &str, asked: &str) 
     let (into, from) = (workspace_of(alloc, into)?, workspace_of(alloc, from)?);
     ensure!(into.depth() == 0, "a function is under way");
     ensure!(from.depth() == 0, "a function is under way");
-    let is_part = names != "all";
-    let names = names_of(alloc, names)?;
-    match merge(alloc, &into, &from, is_part.then_some(&names)) {
+    let names = if names == "all" {
+        None
+    } else {
+        Some(names_of(alloc, names)?)
+    };
+    match merge(alloc, &into, &from, names.as_ref()) {
         Ok(merged) => merged_text(alloc, &merged, asked),
         Err(fail) => {
             let report = report_text(fail)?;

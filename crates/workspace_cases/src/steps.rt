@@ -90,7 +90,8 @@ fn takes(function: &Function, args: &Args) -> bool
 
 // Enters a function with a left and a right argument, or with none.
 fn enter(alloc: Global, ws: &mut Workspace, name: &Name, text: &str) -> Result<Outcome> {
-    let (left, right) = text.split_once(" ").unwrap_or(("-", "-"));
+    let fields = if text.is_empty() { "- -" } else { text };
+    let (left, right) = fields.split_once(" ").context("no right argument")?;
     let args = Args {
         left: optional_of(alloc, left)?,
         right: optional_of(alloc, right)?,
