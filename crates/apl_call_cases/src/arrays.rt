@@ -1,6 +1,6 @@
 ghost use Rattle.std.specs.Prelude.{IsTrue, OnOk};
 
-use anyhow::{Context, Result, bail, ensure};
+use anyhow::{Result, ensure};
 use apl_arrays::{
     Array, ArrayRefused, Bytes, Fail, File, FileList, FileName, GlyphRefused, Items, Line,
     LineList, List, NumberList, Report, WantOfMemory, utf8_of,
@@ -112,13 +112,16 @@ fn lines_are_taken_out(alloc: Global, looks: &mut Looks) -> Result<()> {
 fn files_are_listed(alloc: Global, looks: &mut Looks) -> Result<()> {
     let mut files = FileList::new(alloc);
     files.reserve(1)?;
-    let name = FileName::of("a.txt").context("no name of a file")?;
+    let Some(name) = FileName::of("a.txt") else {
+        looks.holds(false);
+        return Ok(());
+    };
     let bytes = Bytes::from(Vec::from_slice(alloc, b"hello")?);
     files.push(File { name, bytes })?;
     let all = files.into_vec();
     looks.holds(all.len() == 1);
     let [file, ..] = all.as_slice() else {
-        bail!("no file is listed");
+        return Ok(());
     };
     looks.holds(file.name.as_bytes() == b"a.txt".as_slice());
     looks.holds(file.bytes.as_slice() == b"hello".as_slice());

@@ -2,7 +2,8 @@ ghost use Rattle.std.specs.Prelude.{◌≡◌, IfOk, length};
 ghost use Rattle.apl_arrays.specs.Array.{item_count, plain_items};
 
 use anyhow::{Result, bail};
-use apl_arrays::{Array, Fail, Items, List, NumberList, Report, WantOfMemory};
+use apl_arrays::{Array, ArrayRefused, Fail, Items, List, NumberList, Report, WantOfMemory};
+use case_tables::Looks;
 use std::alloc::Global;
 
 /// The items that are these numbers, in a list also where there is one alone.
@@ -12,22 +13,40 @@ pub fn numbers(alloc: Global, numbers: &[i64]) -> Result<Items, WantOfMemory>
     Ok(Items::Numbers(NumberList::from(List::of(alloc, numbers)?)))
 }
 
-/// The array of a shape and of numbers.
-pub fn array(alloc: Global, shape: &[u32], items: &[i64]) -> Result<Array> {
-    Ok(Array::try_new(alloc, shape, numbers(alloc, items)?)?)
+/// The array of a shape and of numbers, or the report that its items do not fit.
+pub fn array(alloc: Global, shape: &[u32], items: &[i64]) -> Result<Array, Fail> {
+    match Array::try_new(alloc, shape, numbers(alloc, items)?) {
+        Ok(array) => Ok(array),
+        Err(ArrayRefused::WantOfMemory) => Err(Fail::WantOfMemory),
+        Err(_) => Err(Fail::Report(Report::Length)),
+    }
 }
 
 /// The vector of numbers.
-pub fn vector(alloc: Global, items: &[i64]) -> Result<Array> {
-    let length = u32::try_from(items.len())?;
-    array(alloc, &[length], items)
+pub fn vector(alloc: Global, items: &[i64]) -> Result<Array, Fail> {
+    match u32::try_from(items.len()) {
+        Ok(length) => array(alloc, &[length], items),
+        Err(_) => Err(Fail::Report(Report::Length)),
+    }
 }
 
 /// What a call gave, where memory did not run out.
-pub fn given<T: Drop>(answer: Result<T, Fail>) -> Result<Result<T, Report>> {
+pub fn given<T: Drop>(answer: Result<T, Fail>) -> Result<Result<T, Report>, WantOfMemory> {
     match answer {
         Ok(value) => Ok(Ok(value)),
         Err(Fail::Report(report)) => Ok(Err(report)),
+        Err(Fail::WantOfMemory) => Err(WantOfMemory),
+    }
+}
+
+/// Counts a case that differs where calls ended early with a report. An `Err` says that memory was refused.
+pub fn ended(outcome: Result<(), Fail>, looks: &mut Looks) -> Result<()> {
+    match outcome {
+        Ok(()) => Ok(()),
+        Err(Fail::Report(_)) => {
+            looks.holds(false);
+            Ok(())
+        }
         Err(Fail::WantOfMemory) => bail!("out of memory"),
     }
 }

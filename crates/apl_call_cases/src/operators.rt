@@ -1,6 +1,6 @@
 ghost use Rattle.std.specs.Prelude.{◌≡◌, ◌<◌};
 
-use crate::given::array;
+use crate::given::{array, ended};
 use anyhow::Result;
 use apl_arrays::{Dyad, Fail, Mix1, Mix2, Monad, Report, Verb, Way};
 use apl_operators::{Steps, apply};
@@ -16,17 +16,17 @@ pub struct OperatorCalls;
 
 impl Calls for OperatorCalls {
     fn make(&self, alloc: Global, looks: &mut Looks) -> Result<()> {
-        counted(alloc, looks)
+        ended(counted(alloc, looks), looks)
     }
 }
 
 // The verbs, counted in a ledger of their own.
-fn counted(alloc: Global, looks: &mut Looks) -> Result<()> {
+fn counted(alloc: Global, looks: &mut Looks) -> Result<(), Fail> {
     verbs::<Brand>(alloc, Blank::new(1), looks)
 }
 
 // Each kind of verb, and that the counter has no bytes.
-fn verbs<L: Ledger>(alloc: Global, blank: Blank, looks: &mut Looks) -> Result<()>
+fn verbs<L: Ledger>(alloc: Global, blank: Blank, looks: &mut Looks) -> Result<(), Fail>
     requires name { blank.name ≡ L.name }
     requires parts { blank.parts ≡ L.parts }
     requires some { 0 < blank.parts }
@@ -38,7 +38,11 @@ fn verbs<L: Ledger>(alloc: Global, blank: Blank, looks: &mut Looks) -> Result<()
 }
 
 // A scalar and a mixed function of one and of two arguments.
-fn functions<L: Ledger>(alloc: Global, steps: &mut Steps<L>, looks: &mut Looks) -> Result<()> {
+fn functions<L: Ledger>(
+    alloc: Global,
+    steps: &mut Steps<L>,
+    looks: &mut Looks,
+) -> Result<(), Fail> {
     let a = array(alloc, &[3], &[1, 2, 5])?;
     let b = array(alloc, &[3], &[3, 1, 4])?;
     let negative = Verb::One(Monad::Negative);
@@ -57,7 +61,7 @@ fn functions<L: Ledger>(alloc: Global, steps: &mut Steps<L>, looks: &mut Looks) 
 }
 
 // Each operator, and a quotient that is not exact.
-fn derived<L: Ledger>(alloc: Global, steps: &mut Steps<L>, looks: &mut Looks) -> Result<()> {
+fn derived<L: Ledger>(alloc: Global, steps: &mut Steps<L>, looks: &mut Looks) -> Result<(), Fail> {
     let a = array(alloc, &[2], &[2, 5])?;
     let b = array(alloc, &[2, 2], &[3, 1, 4, 2])?;
     let reduce = Verb::Reduce(Dyad::Minus, Way::First);

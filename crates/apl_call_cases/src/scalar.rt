@@ -1,6 +1,6 @@
-use crate::given::{given, vector};
+use crate::given::{ended, given, vector};
 use anyhow::Result;
-use apl_arrays::{Dyad, Glyph, Item, Monad, Report};
+use apl_arrays::{Dyad, Fail, Glyph, Item, Monad, Report};
 use apl_scalar::{dyadic, identity_of, item_of, monadic};
 use case_tables::{Calls, Looks};
 use std::alloc::Global;
@@ -11,14 +11,14 @@ pub struct ScalarCalls;
 
 impl Calls for ScalarCalls {
     fn make(&self, alloc: Global, looks: &mut Looks) -> Result<()> {
-        of_arrays(alloc, looks)?;
+        ended(of_arrays(alloc, looks), looks)?;
         of_items(looks);
         Ok(())
     }
 }
 
 // Calls that give an array, and one that gives a report.
-fn of_arrays(alloc: Global, looks: &mut Looks) -> Result<()> {
+fn of_arrays(alloc: Global, looks: &mut Looks) -> Result<(), Fail> {
     let two = vector(alloc, &[2, -5])?;
     let one = vector(alloc, &[3])?;
     let magnitude = given(monadic(alloc, Monad::Magnitude, &two))?;

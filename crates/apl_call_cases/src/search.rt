@@ -1,4 +1,4 @@
-use crate::given::vector;
+use crate::given::{ended, vector};
 use anyhow::Result;
 use apl_arrays::{Array, Fail, Report};
 use apl_search::{decode, encode, grade_down, grade_up, index_of, member};
@@ -11,13 +11,13 @@ pub struct SearchCalls;
 
 impl Calls for SearchCalls {
     fn make(&self, alloc: Global, looks: &mut Looks) -> Result<()> {
-        looked_up(alloc, looks)?;
-        digits(alloc, looks)
+        ended(looked_up(alloc, looks), looks)?;
+        ended(digits(alloc, looks), looks)
     }
 }
 
 // Look-ups by a walk and by halves, and grades.
-fn looked_up(alloc: Global, looks: &mut Looks) -> Result<()> {
+fn looked_up(alloc: Global, looks: &mut Looks) -> Result<(), Fail> {
     let few = vector(alloc, &[3, 1, 4, 1])?;
     let many = [9, 2, 6, 2, 0, 5, -1, 8, 7, 9, 3, -4, 6, 2, 1, 1, 0, 5];
     let many = vector(alloc, &many)?;
@@ -31,7 +31,7 @@ fn looked_up(alloc: Global, looks: &mut Looks) -> Result<()> {
 }
 
 // Digits and their value, and a digit that leaves 64 bits.
-fn digits(alloc: Global, looks: &mut Looks) -> Result<()> {
+fn digits(alloc: Global, looks: &mut Looks) -> Result<(), Fail> {
     let bases = vector(alloc, &[24, 60, 60])?;
     let ones = vector(alloc, &[1, 1, 1])?;
     let seconds = Array::scalar(alloc, 3661)?;

@@ -1,6 +1,6 @@
-use crate::given::array;
+use crate::given::{array, ended};
 use anyhow::Result;
-use apl_arrays::{Array, Way};
+use apl_arrays::{Array, Fail, Way};
 use apl_selection::{Subs, catenate, compress, expand, index, index_assign};
 use case_tables::{Calls, Looks};
 use std::alloc::Global;
@@ -11,14 +11,18 @@ pub struct SelectionCalls;
 
 impl Calls for SelectionCalls {
     fn make(&self, alloc: Global, looks: &mut Looks) -> Result<()> {
-        let b = array(alloc, &[2, 2], &[3, 1, 4, 2])?;
-        joined_and_kept(alloc, &b, looks)?;
-        selected(alloc, &b, looks)
+        ended(each_call(alloc, looks), looks)
     }
 }
 
+fn each_call(alloc: Global, looks: &mut Looks) -> Result<(), Fail> {
+    let b = array(alloc, &[2, 2], &[3, 1, 4, 2])?;
+    joined_and_kept(alloc, &b, looks)?;
+    selected(alloc, &b, looks)
+}
+
 // What is joined, kept or filled along an axis.
-fn joined_and_kept(alloc: Global, b: &Array, looks: &mut Looks) -> Result<()> {
+fn joined_and_kept(alloc: Global, b: &Array, looks: &mut Looks) -> Result<(), Fail> {
     let a = array(alloc, &[2], &[0, 1])?;
     let joined = catenate(alloc, &a, b, Some(1))?;
     looks.holds(joined == array(alloc, &[3, 2], &[0, 1, 3, 1, 4, 2])?);
@@ -31,7 +35,7 @@ fn joined_and_kept(alloc: Global, b: &Array, looks: &mut Looks) -> Result<()> {
 }
 
 // What subscripts select, and items put over it.
-fn selected(alloc: Global, b: &Array, looks: &mut Looks) -> Result<()> {
+fn selected(alloc: Global, b: &Array, looks: &mut Looks) -> Result<(), Fail> {
     let mut subs = Subs::new(alloc);
     subs.push(None)?;
     subs.push(Some(array(alloc, &[2], &[2, 1])?))?;

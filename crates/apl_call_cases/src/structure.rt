@@ -1,6 +1,6 @@
-use crate::given::array;
+use crate::given::{array, ended};
 use anyhow::Result;
-use apl_arrays::{Array, Way};
+use apl_arrays::{Array, Fail, Way};
 use apl_structure::{
     drop_items, iota, ravel, reshape, reverse, rotate, shape_of, take, transpose, transpose_by,
 };
@@ -13,15 +13,19 @@ pub struct StructureCalls;
 
 impl Calls for StructureCalls {
     fn make(&self, alloc: Global, looks: &mut Looks) -> Result<()> {
-        let b = array(alloc, &[2, 3], &[3, 1, 4, 2, 7, 5])?;
-        shaped(alloc, &b, looks)?;
-        taken(alloc, &b, looks)?;
-        turned(alloc, &b, looks)
+        ended(each_call(alloc, looks), looks)
     }
 }
 
+fn each_call(alloc: Global, looks: &mut Looks) -> Result<(), Fail> {
+    let b = array(alloc, &[2, 3], &[3, 1, 4, 2, 7, 5])?;
+    shaped(alloc, &b, looks)?;
+    taken(alloc, &b, looks)?;
+    turned(alloc, &b, looks)
+}
+
 // Numbers from 1 on, a shape, and items in another shape.
-fn shaped(alloc: Global, b: &Array, looks: &mut Looks) -> Result<()> {
+fn shaped(alloc: Global, b: &Array, looks: &mut Looks) -> Result<(), Fail> {
     let two = Array::scalar(alloc, 2)?;
     let shape = array(alloc, &[2], &[2, 3])?;
     let all = array(alloc, &[6], &[3, 1, 4, 2, 7, 5])?;
@@ -33,7 +37,7 @@ fn shaped(alloc: Global, b: &Array, looks: &mut Looks) -> Result<()> {
 }
 
 // What is taken and dropped along each axis.
-fn taken(alloc: Global, b: &Array, looks: &mut Looks) -> Result<()> {
+fn taken(alloc: Global, b: &Array, looks: &mut Looks) -> Result<(), Fail> {
     let counts = array(alloc, &[2], &[1, -2])?;
     let first = array(alloc, &[1, 2], &[1, 4])?;
     let rest = array(alloc, &[1, 1], &[2])?;
@@ -43,7 +47,7 @@ fn taken(alloc: Global, b: &Array, looks: &mut Looks) -> Result<()> {
 }
 
 // Lines and axes the other way round.
-fn turned(alloc: Global, b: &Array, looks: &mut Looks) -> Result<()> {
+fn turned(alloc: Global, b: &Array, looks: &mut Looks) -> Result<(), Fail> {
     let two_one = array(alloc, &[2], &[2, 1])?;
     let across = array(alloc, &[3, 2], &[3, 2, 1, 7, 4, 5])?;
     let rows = reverse(alloc, b, Way::First, None)?;

@@ -79,7 +79,8 @@ fn account_of(ws: &Workspace) -> Result<Account> {
     })
 }
 
-/// All that a workspace tells, at the second time where memory was refused at the first.
-pub fn account_at_last(ws: &Workspace) -> Result<Account> {
-    account_of(ws).or_else(|_| account_of(ws))
+/// All that a workspace tells, at the second time where memory was refused at the first, or nothing where it tells it at
+/// neither.
+pub fn account_at_last(ws: &Workspace) -> Option<Account> {
+    account_of(ws).or_else(|_| account_of(ws)).ok()
 }

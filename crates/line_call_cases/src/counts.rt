@@ -17,7 +17,8 @@ fn counts_of(ws: &Workspace) -> Result<Counts> {
     ])
 }
 
-/// What is counted in a workspace, at the second time where memory was refused at the first.
-pub fn counts_at_last(ws: &Workspace) -> Result<Counts> {
-    counts_of(ws).or_else(|_| counts_of(ws))
+/// What is counted in a workspace, at the second time where memory was refused at the first, or nothing where it is
+/// counted at neither.
+pub fn counts_at_last(ws: &Workspace) -> Option<Counts> {
+    counts_of(ws).or_else(|_| counts_of(ws)).ok()
 }

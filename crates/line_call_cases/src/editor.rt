@@ -38,10 +38,13 @@ impl Calls for Editing {
     fn make(&self, alloc: Global, looks: &mut Looks) -> Result<()> {
         let mut ws = Workspace::new(alloc);
         ws.count_printed(9);
-        let mut editor = opened(alloc, &ws, FIRST)?;
+        let Some(mut editor) = opened(alloc, &ws, FIRST)? else {
+            looks.holds(false);
+            return Ok(());
+        };
         let name = editor.name();
         enter_lines(alloc, &mut editor, looks)?;
-        let close = closed(editor, &mut ws)?;
+        let close = closed(editor, &mut ws);
         if close == Close::Refused && matches!(ws.look(&name), Seen::Nothing) {
             bail!("out of memory");
         }
@@ -55,11 +58,18 @@ impl Calls for Editing {
     }
 }
 
-// The definition that a line opens, at the second time where memory was refused at the first.
-fn opened(alloc: Global, ws: &Workspace, text: &str) -> Result<Editor> {
+// The definition that a line opens, at the second time where memory was refused at the first, or nothing where it opens
+// none.
+fn opened(alloc: Global, ws: &Workspace, text: &str) -> Result<Option<Editor>> {
     let line = line_of(alloc, text)?;
-    let opened = Editor::start(alloc, &line, ws).or_else(|_| Editor::start(alloc, &line, ws))?;
-    Ok(opened.editor)
+    let started = match Editor::start(alloc, &line, ws) {
+        Err(Fail::WantOfMemory) => Editor::start(alloc, &line, ws),
+        started => started,
+    };
+    match started {
+        Ok(opened) => Ok(Some(opened.editor)),
+        Err(_) => Ok(None),
+    }
 }
 
 // What a line shows, or nothing where the definition is closed or a report comes of it.
@@ -74,25 +84,28 @@ fn fed(editor: &mut Editor, line: &Line) -> Result<Option<LineList>, WantOfMemor
     }
 }
 
-// What `[⎕]` shows, at the second time where memory was refused at the first.
-fn shown_by(editor: &mut Editor, ask: &Line) -> Result<Option<LineList>, WantOfMemory> {
-    fed(editor, ask).or_else(|_| fed(editor, ask))
+// What `[⎕]` shows, at the second time where memory was refused at the first, or nothing where it shows nothing.
+fn shown_by(editor: &mut Editor, ask: &Line) -> Option<LineList> {
+    match fed(editor, ask) {
+        Ok(shown) => shown,
+        Err(WantOfMemory) => fed(editor, ask).unwrap_or(None),
+    }
 }
 
 // Whether a line is done, at the second time where memory was refused at the first and the definition was shown then as
 // before.
-fn is_done(editor: &mut Editor, ask: &Line, line: &Line) -> Result<bool> {
+fn is_done(editor: &mut Editor, ask: &Line, line: &Line) -> bool {
     let prompt = editor.prompt();
-    let Some(before) = shown_by(editor, ask)? else {
-        return Ok(false);
+    let Some(before) = shown_by(editor, ask) else {
+        return false;
     };
     match fed(editor, line) {
-        Ok(shown) => Ok(shown.is_some()),
+        Ok(shown) => shown.is_some(),
         Err(_) => {
             let is_same = editor.prompt().glyphs() == prompt.glyphs();
-            let shown = shown_by(editor, ask)?;
+            let shown = shown_by(editor, ask);
             let is_shown = shown.is_some_and(|lines| lines.as_slice() == before.as_slice());
-            Ok(is_same && is_shown && fed(editor, line)?.is_some())
+            is_same && is_shown && matches!(fed(editor, line), Ok(Some(_)))
         }
     }
 }
@@ -101,13 +114,13 @@ fn is_done(editor: &mut Editor, ask: &Line, line: &Line) -> Result<bool> {
 fn enter_lines(alloc: Global, editor: &mut Editor, looks: &mut Looks) -> Result<()> {
     let ask = line_of(alloc, "[⎕]")?;
     for (text, prompt, count) in LINES {
-        looks.holds(is_done(editor, &ask, &line_of(alloc, text)?)?);
+        looks.holds(is_done(editor, &ask, &line_of(alloc, text)?));
         let prompt = line_of(alloc, prompt)?;
         looks.holds(editor.prompt().glyphs() == prompt.as_slice());
-        let shown = shown_by(editor, &ask)?;
+        let shown = shown_by(editor, &ask);
         looks.holds(shown.is_some_and(|lines| lines.as_slice().len() == count));
     }
-    looks.holds(is_done(editor, &ask, &line_of(alloc, LAST)?)?);
+    looks.holds(is_done(editor, &ask, &line_of(alloc, LAST)?));
     Ok(())
 }
 
@@ -120,19 +133,19 @@ enum Close {
     Wrong,
 }
 
-fn closed(editor: Editor, ws: &mut Workspace) -> Result<Close> {
+fn closed(editor: Editor, ws: &mut Workspace) -> Close {
     if !editor.is_closed() || is_variable(ws, &editor.name()) {
-        return Ok(Close::Wrong);
+        return Close::Wrong;
     }
-    let before = counts_at_last(ws)?;
+    let before = counts_at_last(ws);
     match editor.close(ws) {
-        Ok(()) => Ok(Close::Done),
+        Ok(()) => Close::Done,
         Err(fail) => {
-            let is_same = counts_at_last(ws)? == before;
-            Ok(match fail {
+            let is_same = before.is_some() && counts_at_last(ws) == before;
+            match fail {
                 Fail::WantOfMemory if is_same => Close::Refused,
                 _ => Close::Wrong,
-            })
+            }
         }
     }
 }
@@ -152,8 +165,10 @@ fn has_lines(alloc: Global, ws: &Workspace, name: &Name, lines: &[&str]) -> Resu
 // Whether one line changes the function that is there, at the second time where memory was refused at the first and the
 // function was as before.
 fn is_changed(alloc: Global, ws: &mut Workspace, name: &Name) -> Result<bool> {
-    let editor = opened(alloc, ws, CHANGE)?;
-    match closed(editor, ws)? {
+    let Some(editor) = opened(alloc, ws, CHANGE)? else {
+        return Ok(false);
+    };
+    match closed(editor, ws) {
         Close::Done => Ok(true),
         Close::Wrong => Ok(false),
         Close::Refused => {
@@ -161,8 +176,8 @@ fn is_changed(alloc: Global, ws: &mut Workspace, name: &Name) -> Result<bool> {
                 return Ok(false);
             }
             match opened(alloc, ws, CHANGE) {
-                Ok(editor) => Ok(closed(editor, ws)? == Close::Done),
-                Err(_) => Ok(false),
+                Ok(Some(editor)) => Ok(closed(editor, ws) == Close::Done),
+                _ => Ok(false),
             }
         }
     }

@@ -1,5 +1,6 @@
+use crate::granting::{given, is_granted};
 use crate::letters::letter;
-use anyhow::{Result, bail};
+use anyhow::Result;
 use apl_arrays::{Array, Fail, Items, Name, NameList};
 use apl_execute::{Merged, merge, text_of};
 use apl_workspace::{Seen, Workspace};
@@ -34,31 +35,47 @@ struct Names {
 }
 
 fn take_text(alloc: Global, looks: &mut Looks) -> Result<()> {
-    let value = Array::try_new(alloc, &[1], Items::Chars(line_of(alloc, "A")?))?;
-    let text = text_of(alloc, &value)?;
-    looks.holds(text.as_slice() == letter(b'A')?.glyphs());
+    let items = Items::Chars(line_of(alloc, "A")?);
+    if items.len() != 1 {
+        looks.holds(false);
+        return Ok(());
+    }
+    let value = Array::shaped(alloc, &[1], items)?;
+    let a = letter(b'A')?;
+    let text = given(text_of(alloc, &value))?;
+    looks.holds(text.is_some_and(|text| text.as_slice() == a.glyphs()));
     Ok(())
 }
 
-// A workspace in which names have numbers.
-fn with_numbers(alloc: Global, numbers: &[(Name, i64)]) -> Result<Workspace> {
+// A workspace in which names have numbers, or nothing where one is not granted.
+fn with_numbers(alloc: Global, numbers: &[(Name, i64)]) -> Result<Option<Workspace>> {
     let mut ws = Workspace::new(alloc);
     for (name, number) in numbers {
         if matches!(ws.look(name), Seen::Shared(_)) {
-            bail!("a shared name is not assigned");
+            return Ok(None);
         }
-        ws.assign(name, Array::scalar(alloc, *number)?)?;
+        if !is_granted(ws.assign(name, Array::scalar(alloc, *number)?))? {
+            return Ok(None);
+        }
     }
-    Ok(ws)
+    Ok(Some(ws))
 }
 
-// Shares a name, with a copy of its value.
-fn share(ws: &mut Workspace, name: Name, copy: Array) -> Result<()> {
+// Whether a name is shared, with a copy of its value.
+fn is_marked(ws: &mut Workspace, name: Name, copy: Array) -> Result<bool> {
     if matches!(ws.global(&name), Seen::Function(_)) {
-        bail!("a function is not shared");
+        return Ok(false);
     }
-    ws.mark(&name, Some(copy), name, 0)?;
-    Ok(())
+    is_granted(ws.mark(&name, Some(copy), name, 0))
+}
+
+// A workspace that has X 8, and shares S with the copy 5, or nothing where that is not granted.
+fn sharing(alloc: Global, names: &Names) -> Result<Option<Workspace>> {
+    let Some(mut ws) = with_numbers(alloc, &[(names.x, 8)])? else {
+        return Ok(None);
+    };
+    let is_shared = is_marked(&mut ws, names.s, Array::scalar(alloc, 5)?)?;
+    Ok(if is_shared { Some(ws) } else { None })
 }
 
 fn first_is(value: &Array, number: i64) -> bool {
@@ -167,9 +184,12 @@ fn take_all(alloc: Global, names: &Names, into: &Workspace, from: &Workspace, lo
 
 fn take_names_over(alloc: Global, names: &Names, looks: &mut Looks) -> Result<()> {
     let Names { x, y, s, .. } = *names;
-    let mut into = with_numbers(alloc, &[(x, 8)])?;
-    share(&mut into, s, Array::scalar(alloc, 5)?)?;
+    let into = sharing(alloc, names)?;
     let from = with_numbers(alloc, &[(x, 3), (y, 4), (s, 6)])?;
+    let (Some(into), Some(from)) = (into, from) else {
+        looks.holds(false);
+        return Ok(());
+    };
     take_named(alloc, names, &into, &from, looks)?;
     take_all(alloc, names, &into, &from, looks);
     looks.holds(is_as_made(&into, names) && into.remakes()?.as_slice().len() == 1);

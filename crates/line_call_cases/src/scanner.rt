@@ -1,4 +1,4 @@
-use anyhow::Result;
+use anyhow::{Result, bail};
 use apl_arrays::{Glyph, SystemName, WantOfMemory};
 use case_fields::line_of;
 use case_tables::{Calls, Looks};
@@ -17,8 +17,20 @@ impl Calls for Scanner {
     }
 }
 
+/// The tokens of a line, or nothing where it has none. An `Err` says that memory was refused.
+pub fn tokens_of(alloc: Global, text: &str) -> Result<Option<Tokens>> {
+    match scan(alloc, &line_of(alloc, text)?) {
+        Ok(tokens) => Ok(Some(tokens)),
+        Err(ScanRefused::WantOfMemory) => bail!("out of memory"),
+        Err(_) => Ok(None),
+    }
+}
+
 fn cut_line(alloc: Global, looks: &mut Looks) -> Result<()> {
-    let Tokens { tokens, length } = scan(alloc, &line_of(alloc, "X←1 ¯2,'A'⎕SVO⍎")?)?;
+    let Some(Tokens { tokens, length }) = tokens_of(alloc, "X←1 ¯2,'A'⎕SVO⍎")? else {
+        looks.holds(false);
+        return Ok(());
+    };
     looks.holds(length == 15);
     let all = tokens.into_vec();
     looks.holds(all.len() == 7);

@@ -1,11 +1,11 @@
-ghost use Rattle.std.specs.Prelude.{IfOk};
+ghost use Rattle.std.specs.Prelude.{IfOk, IfSome};
 ghost use Rattle.apl_workspace.specs.Function.{IsFunction};
 
 use crate::accounts::account_at_last;
 use crate::conditions::{is_function, is_variable, takes};
 use crate::granting::is_granted;
 use crate::letters::letter;
-use anyhow::{Context, Result};
+use anyhow::Result;
 use apl_arrays::{Array, LineList};
 use apl_workspace::{Args, Function, PRINTED_LIMIT, Seen, Workspace};
 use case_fields::line_of;
@@ -25,13 +25,13 @@ pub enum Step {
     Unmark(i64),
 }
 
-// F, with a local X and a line with a label.
-fn function(alloc: Global) -> Result<Function>
-    ensures { IfOk result IsFunction }
+// F, with a local X and a line with a label, or nothing where its header is none.
+fn function(alloc: Global) -> Result<Option<Function>>
+    ensures { IfOk result (λ made. IfSome made IsFunction) }
 {
     let mut lines = LineList::new(alloc);
     lines.push(line_of(alloc, "L:X")?)?;
-    Function::of(alloc, line_of(alloc, "F B;X")?, lines)?.context("F has no header")
+    Ok(Function::of(alloc, line_of(alloc, "F B;X")?, lines)?)
 }
 
 fn assign(ws: &mut Workspace, value: Array) -> Result<bool> {
@@ -43,7 +43,9 @@ fn assign(ws: &mut Workspace, value: Array) -> Result<bool> {
 }
 
 fn define(alloc: Global, ws: &mut Workspace) -> Result<bool> {
-    let function = function(alloc)?;
+    let Some(function) = function(alloc)? else {
+        return Ok(false);
+    };
     if is_variable(ws, &function.name()) {
         return Ok(false);
     }
@@ -123,13 +125,13 @@ fn is_done(alloc: Global, ws: &mut Workspace, step: Step) -> Result<bool> {
 
 /// Whether a call is granted, at the second time where memory was refused at the first and the workspace told then what
 /// it told before.
-pub fn is_taken(alloc: Global, ws: &mut Workspace, step: Step) -> Result<bool> {
-    let before = account_at_last(ws)?;
+pub fn is_taken(alloc: Global, ws: &mut Workspace, step: Step) -> bool {
+    let before = account_at_last(ws);
     match is_done(alloc, ws, step) {
-        Ok(is_so) => Ok(is_so),
+        Ok(is_so) => is_so && before.is_some(),
         Err(_) => {
-            let is_same = account_at_last(ws)? == before;
-            Ok(is_same && is_done(alloc, ws, step).unwrap_or(false))
+            let is_same = before.is_some() && account_at_last(ws) == before;
+            is_same && is_done(alloc, ws, step).unwrap_or(false)
         }
     }
 }
