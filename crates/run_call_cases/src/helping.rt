@@ -1,9 +1,10 @@
 ghost use Rattle.std.specs.Prelude.{◌≡◌, IfOk};
 ghost use Rattle.apl_session.specs.declared.session.Stage.TheVariants.{Ready};
 
-use anyhow::Result;
+use anyhow::{Result, bail};
 use apl_arrays::{LineList, glyphs_of};
 use apl_session::Session;
+use bundle_text::{Bundle, BundleRefused, read};
 use std::alloc::Global;
 
 /// The session of a user with these lines, which is lent 7.
@@ -15,6 +16,15 @@ pub fn session_of(alloc: Global, user: u32, texts: &[&str]) -> Result<Session<u8
         lines.push(glyphs_of(alloc, text.as_bytes())?)?;
     }
     Ok(Session::new(alloc, user, lines, 7))
+}
+
+/// The bundle that a text is of, or none where it is refused as malformed. An `Err` says that memory was refused.
+pub fn bundle_of(alloc: Global, text: &str) -> Result<Option<Bundle>> {
+    match read(alloc, text.as_bytes()) {
+        Ok(bundle) => Ok(Some(bundle)),
+        Err(BundleRefused::Malformed { .. }) => Ok(None),
+        Err(BundleRefused::WantOfMemory) => bail!("out of memory"),
+    }
 }
 
 /// Lets go of a value.

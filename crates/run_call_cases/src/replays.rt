@@ -1,14 +1,14 @@
 ghost use Rattle.std.specs.Prelude.{◌≡◌, ◌≤◌, IfOk, length, vec_len};
 
 use crate::failing::failing_at;
-use crate::helping::let_go;
+use crate::helping::{bundle_of, let_go};
 use anyhow::{Result, bail};
 use apl_arrays::{Array, FileList, Line, Readings, WantOfMemory};
 use apl_io::{CallNumbers, Devices, MemoryClock, MemoryShelf, MemoryText, Shelf};
 use apl_session::{Ended, Outcome, RunOf};
 use aplsv_replay::{replay, replay_with};
 use auxiliaries::Replier;
-use bundle_text::{Bundle, read};
+use bundle_text::Bundle;
 use case_tables::{Calls, Looks};
 use line_text::add_line;
 use std::alloc::Global;
@@ -157,10 +157,9 @@ struct Ready {
     shelves: Vec<MemoryShelf>,
 }
 
-fn made_ready(alloc: Global, text: &str) -> Result<Ready>
+fn made_ready(alloc: Global, bundle: Bundle) -> Result<Ready>
     ensures { IfOk result (λ ready. length ready.bundle.users ≤ vec_len ready.shelves) }
 {
-    let bundle = read(alloc, text.as_bytes())?;
     match shelves_for(alloc, bundle.users().len()) {
         Ok(shelves) => Ok(Ready { bundle, shelves }),
         Err(error) => {
@@ -171,8 +170,8 @@ fn made_ready(alloc: Global, text: &str) -> Result<Ready>
 }
 
 // A run over no text file, no reading, and these shelves.
-fn run(alloc: Global, text: &str) -> Result<Run> {
-    let Ready { bundle, shelves } = made_ready(alloc, text)?;
+fn run(alloc: Global, bundle: Bundle) -> Result<Run> {
+    let Ready { bundle, shelves } = made_ready(alloc, bundle)?;
     let devices = Devices {
         text: MemoryText::new(alloc, FileList::new(alloc), CallNumbers::new(alloc)),
         clock: MemoryClock::new(Readings::new(alloc), CallNumbers::new(alloc)),
@@ -182,8 +181,8 @@ fn run(alloc: Global, text: &str) -> Result<Run> {
 }
 
 // A run in which 10 answers 42, and 20 answers 43.
-fn run_fixed(alloc: Global, text: &str) -> Result<FixedRun> {
-    let Ready { bundle, shelves } = made_ready(alloc, text)?;
+fn run_fixed(alloc: Global, bundle: Bundle) -> Result<FixedRun> {
+    let Ready { bundle, shelves } = made_ready(alloc, bundle)?;
     let ten = Fixed { alloc, number: 42 };
     let twenty = Fixed { alloc, number: 43 };
     Ok(replay_with(alloc, bundle, ten, twenty, shelves))
@@ -215,7 +214,11 @@ fn printed(alloc: Global, ended: &Ended) -> Result<Vec<u8>> {
 }
 
 fn prints(alloc: Global, looks: &mut Looks, text: &str, wanted: &str) -> Result<()> {
-    let run = run(alloc, text)?;
+    let Some(bundle) = bundle_of(alloc, text)? else {
+        looks.holds(false);
+        return Ok(());
+    };
+    let run = run(alloc, bundle)?;
     let bytes = printed(alloc, &run.ended);
     let_go(run);
     looks.holds(bytes?.as_slice() == wanted.as_bytes());
@@ -223,7 +226,11 @@ fn prints(alloc: Global, looks: &mut Looks, text: &str, wanted: &str) -> Result<
 }
 
 fn prints_fixed(alloc: Global, looks: &mut Looks, text: &str, wanted: &str) -> Result<()> {
-    let run = run_fixed(alloc, text)?;
+    let Some(bundle) = bundle_of(alloc, text)? else {
+        looks.holds(false);
+        return Ok(());
+    };
+    let run = run_fixed(alloc, bundle)?;
     let bytes = printed(alloc, &run.ended);
     let_go(run);
     looks.holds(bytes?.as_slice() == wanted.as_bytes());
@@ -248,7 +255,11 @@ fn failing_calls(alloc: Global, shelves: &mut [MemoryShelf]) -> Result<Vec<u64>>
 
 // Each user has its shelf back.
 fn gives_shelves_back(alloc: Global, looks: &mut Looks) -> Result<()> {
-    let mut run = run(alloc, SHARED)?;
+    let Some(bundle) = bundle_of(alloc, SHARED)? else {
+        looks.holds(false);
+        return Ok(());
+    };
+    let mut run = run(alloc, bundle)?;
     let calls = failing_calls(alloc, &mut run.devices.shelves);
     let_go(run);
     looks.holds(calls?.as_slice() == [1, 2].as_slice());
