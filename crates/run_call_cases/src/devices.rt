@@ -31,7 +31,7 @@ fn keeps_for_a_user<S: Shelf>(looks: &mut Looks, shelf: &mut S, name: &Name) -> 
     given(shelf.write(1001, name, b"SAVED"))?;
     looks.holds(are_bytes(given(shelf.read(1001, name))?, b"SAVED"));
     let names = given(shelf.names(1001))?;
-    looks.holds(matches!(names, Some(names) if names.as_slice() == [*name].as_slice()));
+    looks.holds(matches!(&names, Some(names) if names.as_slice() == [*name].as_slice()));
     looks.holds(given(shelf.remove(1001, name))? == Some(true));
     looks.holds(shelf.faults() == 0);
     Ok(())
