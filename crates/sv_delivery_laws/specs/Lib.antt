@@ -1,0 +1,5 @@
+pub mod Sent
+pub mod Turns
+pub mod Stretch
+pub mod DeliveryLaws
+pub mod Worked

@@ -1,0 +1,159 @@
+-- Worked stretches, with the oldest entry first.
+use Rattle.std.specs.Prelude.{ℕ, pos, true, false, List, [], ◌∷◌, ◌++◌, reverse, codes, Option, Some, None}
+use Rattle.apl_arrays.specs.Array.{PlainArray, scalar}
+use Rattle.sv_access.specs.Control.{four_elements, no_control}
+use Rattle.sv_access.specs.declared.access.Side.TheVariants.{A, B}
+use Rattle.sv_access.specs.declared.control.Control.{Control}
+use Rattle.sv_access.specs.declared.verdict.Owners.TheVariants.{Mine}
+use Rattle.sv_events.specs.Answer.{degree, granted, value, held, vector, done}
+use Rattle.sv_events.specs.Entry.{PlainEntry, uncoupled}
+use Rattle.sv_events.specs.declared.event.Act.TheVariants.{Offer, SetControl, Set, Use, Leave}
+use Rattle.sv_rules.specs.declared.coupling.Coupling.{Coupling}
+use Rattle.sv_rules.specs.declared.standing.Standing.{Standing}
+use Rattle.sv_rules.specs.Entries.{Entries}
+use Rattle.sv_delivery_laws.specs.Stretch.{Stretch}
+
+-- the users
+abbrev pub users : List ℕ
+users = 1001 ∷ 1002 ∷ 1003 ∷ []
+
+-- X, and a number as a value
+abbrev pub x : List ℕ
+x = codes "X"
+
+abbrev pub number : ℕ → PlainArray
+number n = scalar (pos n)
+
+-- each access is controlled; a set by me and a use by the partner are; the other two are
+abbrev pub all_four : Control
+all_four = four_elements true true true true
+
+abbrev pub first_and_fourth : Control
+first_and_fourth = four_elements true false false true
+
+abbrev pub second_and_third : Control
+second_and_third = four_elements false true true false
+
+-- a party offers X to another, or to any, and it stays open, or is coupled at once
+abbrev pub offers : ℕ → ℕ → Option PlainArray → PlainEntry
+offers party to handed = uncoupled party (Offer to x x handed) (degree 1)
+
+abbrev pub joins : ℕ → ℕ → Option PlainArray → ℕ → ℕ → PlainEntry
+joins party to handed a b = record { party = party; act = Offer to x x handed; answer = degree 2; made = record { a = a; b = b } ∷ [] }
+
+-- a leave couples two others
+abbrev pub leaves_two : ℕ → ℕ → ℕ → PlainEntry
+leaves_two party a b = record { party = party; act = Leave; answer = done; made = record { a = a; b = b } ∷ [] }
+
+-- a set and a use of X; a set that is held by the party's own vector; and a control that then is in force
+abbrev pub sets : ℕ → ℕ → PlainEntry
+sets party n = uncoupled party (Set x (number n)) granted
+
+abbrev pub uses : ℕ → ℕ → PlainEntry
+uses party n = uncoupled party (Use x) (value (number n))
+
+abbrev pub set_is_held : ℕ → ℕ → PlainEntry
+set_is_held party n = uncoupled party (Set x (number n)) (held (record { element = 1; owners = Mine }))
+
+abbrev pub controls : ℕ → Control → PlainEntry
+controls party control = uncoupled party (SetControl x control) (vector control)
+
+-- the standing offer of X
+abbrev pub offer_of_x : ℕ → ℕ → ℕ → Standing
+offer_of_x place party to = record { place = place; party = party; to = to; local = x; surrogate = x }
+
+-- the coupling of two such offers of 1001 and 1002
+abbrev pub coupling_of_x : ℕ → ℕ → Coupling
+coupling_of_x second at = record { a = offer_of_x 1 1001 1002; b = offer_of_x second 1002 1001; at = at }
+
+-- 1001 and 1002 share X, no value is known, and 1001 sets a control; then come a stretch's entries
+abbrev pub shared_under : Control → List PlainEntry → Stretch
+shared_under control entries = record {
+  entries = reverse entries;
+  before = reverse (offers 1001 1002 None ∷ joins 1002 1001 None 1 2 ∷ controls 1001 control ∷ []);
+  coupling = coupling_of_x 2 2;
+  giver = B;
+}
+
+-- 1002 sets over the 1 of 1001, which it has not seen
+abbrev pub set_over_unseen : Stretch
+set_over_unseen = shared_under all_four (sets 1001 1 ∷ sets 1002 9 ∷ uses 1001 9 ∷ sets 1001 2 ∷ uses 1002 2 ∷ [])
+
+-- the same stretch without its last entry
+abbrev pub ends_unseen : Stretch
+ends_unseen = shared_under all_four (sets 1001 1 ∷ sets 1002 9 ∷ uses 1001 9 ∷ sets 1001 2 ∷ [])
+
+abbrev pub seen_later : Entries
+seen_later = uses 1002 2 ∷ []
+
+-- 1001 has no partner yet, and its second set is held until 1002 has used the first
+abbrev pub before_a_partner : Entries
+before_a_partner = reverse (offers 1001 1002 None ∷ controls 1001 first_and_fourth ∷ [])
+
+abbrev pub begins_alone : Stretch
+begins_alone = record {
+  entries = reverse (sets 1001 1 ∷ set_is_held 1001 2 ∷ joins 1002 1001 None 1 5 ∷ uses 1002 1 ∷ sets 1001 2 ∷ uses 1002 2 ∷ []);
+  before = before_a_partner;
+  coupling = coupling_of_x 5 5;
+  giver = A;
+}
+
+-- the same stretch up to the first set
+abbrev pub ends_alone : Stretch
+ends_alone = record begins_alone { entries = sets 1001 1 ∷ [] }
+
+abbrev pub joined_later : Entries
+joined_later = reverse (set_is_held 1001 2 ∷ joins 1002 1001 None 1 5 ∷ uses 1002 1 ∷ sets 1001 2 ∷ uses 1002 2 ∷ [])
+
+-- 1002 sets X while its partner-to-be is coupled with 1003, and is the giver and side B once 1003 has left
+abbrev pub given_by_b : Stretch
+given_by_b = record {
+  entries = reverse (sets 1002 5 ∷ set_is_held 1002 6 ∷ leaves_two 1003 1 3 ∷ uses 1001 5 ∷ sets 1002 6 ∷ uses 1001 6 ∷ []);
+  before = reverse (offers 1001 0 None ∷ joins 1003 1001 None 1 2 ∷ offers 1002 1001 None ∷ controls 1002 first_and_fourth ∷ []);
+  coupling = record { a = offer_of_x 1 1001 0; b = offer_of_x 3 1002 1001; at = 7 };
+  giver = B;
+}
+
+-- the control is lifted after the first set: the second is granted, and 1002 never sees the first
+abbrev pub control_is_lifted : Stretch
+control_is_lifted = shared_under first_and_fourth (sets 1001 1 ∷ controls 1001 no_control ∷ sets 1001 2 ∷ uses 1002 2 ∷ [])
+
+-- 1001 controls what the other direction wants
+abbrev pub other_way_controlled : Stretch
+other_way_controlled = shared_under second_and_third (sets 1001 1 ∷ sets 1001 2 ∷ uses 1002 2 ∷ [])
+
+-- two sets of 1001, of which control would hold the second
+abbrev pub two_unseen : Stretch
+two_unseen = shared_under first_and_fourth (sets 1001 1 ∷ sets 1001 2 ∷ [])
+
+-- 1001 asks and 1002 replies; the last reply is unseen
+abbrev pub asked_twice : Stretch
+asked_twice =
+    shared_under all_four
+    (sets 1001 1 ∷ uses 1002 1 ∷ sets 1002 10 ∷ uses 1001 10 ∷ sets 1001 2 ∷ uses 1002 2 ∷ sets 1002 20 ∷ [])
+
+-- 1002 uses a 1 that was unseen at the start, and sets over the 2 that follows
+abbrev pub begins_unseen : Stretch
+begins_unseen = record {
+  entries = reverse (uses 1002 1 ∷ sets 1001 2 ∷ sets 1002 10 ∷ []);
+  before = reverse (offers 1001 1002 None ∷ joins 1002 1001 None 1 2 ∷ controls 1001 all_four ∷ sets 1001 1 ∷ []);
+  coupling = coupling_of_x 2 2;
+  giver = B;
+}
+
+-- 1001 uses its own 1, as nothing holds the use
+abbrev pub uses_its_own : Stretch
+uses_its_own = shared_under no_control (sets 1001 1 ∷ uses 1001 1 ∷ [])
+
+-- 1001 hands in 7 with its offer, and sets 8
+abbrev pub hands_in : Stretch
+hands_in = record {
+  entries = reverse (joins 1002 1001 None 1 3 ∷ uses 1002 7 ∷ sets 1001 8 ∷ []);
+  before = reverse (offers 1001 1002 (Some (number 7)) ∷ controls 1001 first_and_fourth ∷ []);
+  coupling = coupling_of_x 3 3;
+  giver = A;
+}
+
+-- the journal to the end of a stretch
+abbrev pub to_the_end : Stretch → Entries
+to_the_end stretch = stretch.entries ++ stretch.before

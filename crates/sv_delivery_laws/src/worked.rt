@@ -1,0 +1,140 @@
+//! Worked stretches: what is sent, taken out and used in them, and which statements would be wrong. The calls do nothing.
+
+ghost use Rattle.std.specs.Prelude.{◌≡◌, ◌+◌, false, [], ◌∷◌, length, Some, IsTrue};
+ghost use Rattle.sv_access.specs.declared.access.Side.TheVariants.{A, B};
+ghost use Rattle.sv_access.specs.declared.access.Kind.TheVariants.{Set, Use};
+ghost use Rattle.sv_rules.specs.Legal.{IsLegal};
+ghost use Rattle.sv_rules.specs.Story.{first_set};
+ghost use Rattle.sv_delivery_laws.specs.Sent.{set_by, used_by, unseen_value, values_sent, taken_out, remaining};
+ghost use Rattle.sv_delivery_laws.specs.Turns.{takes_turns};
+ghost use Rattle.sv_delivery_laws.specs.Stretch.{IsStretch, story_before, story_in, story_after, is_controlled, is_full_for};
+ghost use Rattle.sv_delivery_laws.specs.DeliveryLaws.{IsHeldFor, LosesNothing, IsUsedInOrder, IsFeed, AreUsesHeld, IsExchange, EachIsUsed};
+ghost use Rattle.sv_delivery_laws.specs.Worked.{users, number, set_over_unseen, ends_unseen, seen_later, begins_alone, ends_alone, joined_later, given_by_b, control_is_lifted, other_way_controlled, two_unseen, asked_twice, begins_unseen, uses_its_own, hands_in, to_the_end};
+
+/// A value that its receiver sets over is taken out. All that was sent is not used, also with one more: so the statement is
+/// wrong that takes nothing out.
+pub fn set_over_is_taken_out()
+    ensures legal { IsLegal users (to_the_end set_over_unseen) }
+    ensures stretch { IsStretch [] set_over_unseen }
+    ensures held_for_a { IsHeldFor A set_over_unseen }
+    ensures held_for_b { IsHeldFor B set_over_unseen }
+    ensures sent { values_sent A (story_in set_over_unseen) (story_before set_over_unseen) ≡ number 2 ∷ number 1 ∷ [] }
+    ensures taken_out { taken_out A (story_in set_over_unseen) (story_before set_over_unseen) ≡ number 1 ∷ [] }
+    ensures remaining { remaining A (story_in set_over_unseen) (story_before set_over_unseen) ≡ number 2 ∷ [] }
+    ensures used { used_by B (story_in set_over_unseen) ≡ number 2 ∷ [] }
+    ensures seen { unseen_value A (story_after set_over_unseen) ≡ [] }
+    ensures sent_back { remaining B (story_in set_over_unseen) (story_before set_over_unseen) ≡ number 9 ∷ [] }
+    ensures used_back { used_by A (story_in set_over_unseen) ≡ number 9 ∷ [] }
+    ensures not_in_order { IsUsedInOrder A (story_after set_over_unseen) → ⊥ }
+    ensures all_sent { ¬ (values_sent A (story_in set_over_unseen) (story_before set_over_unseen) ≡ used_by B (story_in set_over_unseen)) }
+    ensures one_more { ¬ (length (remaining A (story_in set_over_unseen) (story_before set_over_unseen)) ≡ length (used_by B (story_in set_over_unseen)) + 1) }
+{}
+
+/// A stretch may end while a value is unseen, which then is the one that remains beside those used; two do not remain, and
+/// where two sets are unseen the journal is not legal.
+pub fn one_remains_unseen()
+    ensures legal { IsLegal users (to_the_end ends_unseen) }
+    ensures stretch { IsStretch [] ends_unseen }
+    ensures in_the_middle { IsStretch seen_later ends_unseen }
+    ensures remaining { remaining A (story_in ends_unseen) (story_before ends_unseen) ≡ number 2 ∷ [] }
+    ensures used { used_by B (story_in ends_unseen) ≡ [] }
+    ensures unseen { unseen_value A (story_after ends_unseen) ≡ number 2 ∷ [] }
+    ensures two_more { ¬ (length (remaining A (story_in ends_unseen) (story_before ends_unseen)) ≡ length (used_by B (story_in ends_unseen)) + 2) }
+    ensures two_unseen { remaining A (story_in two_unseen) (story_before two_unseen) ≡ number 2 ∷ number 1 ∷ [] }
+    ensures two_controlled { IsHeldFor A two_unseen }
+    ensures two_illegal { ¬ IsLegal users (to_the_end two_unseen) }
+{}
+
+/// A stretch may begin before the coupling is made, and may end there too.
+pub fn stretches_begin_before_the_coupling()
+    ensures legal { IsLegal users (to_the_end begins_alone) }
+    ensures stretch { IsStretch [] begins_alone }
+    ensures held { IsHeldFor A begins_alone }
+    ensures not_for_b { is_controlled 2 begins_alone ≡ false }
+    ensures sent { remaining A (story_in begins_alone) (story_before begins_alone) ≡ number 2 ∷ number 1 ∷ [] }
+    ensures used { used_by B (story_in begins_alone) ≡ number 2 ∷ number 1 ∷ [] }
+    ensures ends { IsStretch joined_later ends_alone }
+    ensures ends_held { IsHeldFor A ends_alone }
+    ensures sent_alone { remaining A (story_in ends_alone) (story_before ends_alone) ≡ number 1 ∷ [] }
+    ensures unseen_alone { unseen_value A (story_after ends_alone) ≡ number 1 ∷ [] }
+    ensures used_alone { used_by B (story_in ends_alone) ≡ [] }
+{}
+
+/// Side B may be the giver before it is coupled: what its vector says of its own sets and its partner's uses are the
+/// elements 2 and 3 there, and not 1 and 4.
+pub fn side_b_gives()
+    ensures legal { IsLegal users (to_the_end given_by_b) }
+    ensures stretch { IsStretch [] given_by_b }
+    ensures held { IsHeldFor B given_by_b }
+    ensures not_for_a { is_controlled 1 given_by_b ≡ false }
+    ensures nor_so { is_controlled 4 given_by_b ≡ false }
+    ensures sent { remaining B (story_in given_by_b) (story_before given_by_b) ≡ number 6 ∷ number 5 ∷ [] }
+    ensures used { used_by A (story_in given_by_b) ≡ number 6 ∷ number 5 ∷ [] }
+    ensures feed { IsFeed B given_by_b }
+{}
+
+/// Where a control is lifted in a stretch nothing is said: a value may be lost.
+pub fn lifted_control_says_nothing()
+    ensures legal { IsLegal users (to_the_end control_is_lifted) }
+    ensures stretch { IsStretch [] control_is_lifted }
+    ensures lifted { is_controlled 1 control_is_lifted ≡ false }
+    ensures lost { LosesNothing A control_is_lifted → ⊥ }
+{}
+
+/// The elements 2 and 3 say nothing of what A sends.
+pub fn the_other_elements_say_nothing()
+    ensures legal { IsLegal users (to_the_end other_way_controlled) }
+    ensures stretch { IsStretch [] other_way_controlled }
+    ensures second { IsTrue (is_controlled 2 other_way_controlled) }
+    ensures third { IsTrue (is_controlled 3 other_way_controlled) }
+    ensures lost { LosesNothing A other_way_controlled → ⊥ }
+{}
+
+/// A value that is handed in with an offer is the first that its side sends.
+pub fn handed_in_is_sent_first()
+    ensures legal { IsLegal users (to_the_end hands_in) }
+    ensures stretch { IsStretch [] hands_in }
+    ensures held { IsHeldFor A hands_in }
+    ensures feed { IsFeed A hands_in }
+    ensures first { story_before hands_in ≡ first_set A (Some (number 7)) }
+    ensures sent { set_by A (story_after hands_in) ≡ number 8 ∷ number 7 ∷ [] }
+    ensures used { used_by B (story_after hands_in) ≡ number 7 ∷ [] }
+    ensures unseen { unseen_value A (story_after hands_in) ≡ number 8 ∷ [] }
+{}
+
+/// Requests have one reply each, and the last one here is unseen.
+pub fn requests_are_answered()
+    ensures legal { IsLegal users (to_the_end asked_twice) }
+    ensures stretch { IsStretch [] asked_twice }
+    ensures full { IsTrue (is_full_for A asked_twice) }
+    ensures not_for_b { is_full_for B asked_twice ≡ false }
+    ensures held_for_a { IsHeldFor A asked_twice }
+    ensures held_for_b { IsHeldFor B asked_twice }
+    ensures uses { AreUsesHeld asked_twice }
+    ensures exchange { IsExchange A asked_twice }
+    ensures asked { set_by A (story_in asked_twice) ≡ number 2 ∷ number 1 ∷ [] }
+    ensures heard { used_by B (story_in asked_twice) ≡ number 2 ∷ number 1 ∷ [] }
+    ensures replied { set_by B (story_in asked_twice) ≡ number 20 ∷ number 10 ∷ [] }
+    ensures answered { used_by A (story_in asked_twice) ≡ number 10 ∷ [] }
+    ensures unseen { unseen_value B (story_after asked_twice) ≡ number 20 ∷ [] }
+{}
+
+/// Of requests nothing is said where the other side begins with a set, where something is unseen at the start, or where no
+/// use is held.
+pub fn requests_need_their_premises()
+    ensures asks { IsTrue (takes_turns Set A (story_in set_over_unseen)) }
+    ensures sets_first { takes_turns Use B (story_in set_over_unseen) ≡ false }
+    ensures not_used { EachIsUsed A set_over_unseen → ⊥ }
+    ensures unseen_legal { IsLegal users (to_the_end begins_unseen) }
+    ensures unseen_stretch { IsStretch [] begins_unseen }
+    ensures unseen_uses { AreUsesHeld begins_unseen }
+    ensures unseen_asks { IsTrue (takes_turns Set A (story_in begins_unseen)) }
+    ensures unseen_replies { IsTrue (takes_turns Use B (story_in begins_unseen)) }
+    ensures unseen_first { unseen_value A (story_before begins_unseen) ≡ number 1 ∷ [] }
+    ensures unseen_lost { EachIsUsed A begins_unseen → ⊥ }
+    ensures free_legal { IsLegal users (to_the_end uses_its_own) }
+    ensures free_stretch { IsStretch [] uses_its_own }
+    ensures free_exchange { IsExchange A uses_its_own }
+    ensures free_uses { is_controlled 3 uses_its_own ≡ false }
+    ensures free_not_replied { EachIsUsed B uses_its_own → ⊥ }
+{}
