@@ -1,7 +1,10 @@
 -- Requests and replies: where both sides take turns and no use comes early, there is one order of all accesses.
-use Rattle.std.proofs.Common.{◌≡◌, refl, sym, ap, ◌∙◌, subst, Bool, true, false, ◌||◌, not, List, [], ◌∷◌, ◌++◌, Option, Some}
+use Rattle.std.proofs.Common.{◌≡◌, refl, sym, ap, ◌∙◌, subst, Bool, true, false, ◌||◌, not, List, [], ◌∷◌, ◌++◌, Option, Some, ℕ, zero, suc, ◌<◌, length, reverse, arith}
+use Rattle.std.specs.Prelude.{slice_get}
 use Rattle.std.proofs.lemmas.Bool.{and_parts, both_ways, not-false}
 use Rattle.std.proofs.lemmas.Option.{same_Some}
+use Rattle.std.proofs.lemmas.List.{length-reverse, reverse-append}
+use Rattle.apl_arrays.specs.Array.{PlainArray}
 use Rattle.sv_access.specs.declared.access.Side.{Side}
 use Rattle.sv_access.specs.declared.access.Side.TheVariants.{A, B}
 use Rattle.sv_access.specs.declared.access.Kind.{Kind}
@@ -9,6 +12,7 @@ use Rattle.sv_access.specs.declared.access.Kind.TheVariants.{Set, Use}
 use Rattle.sv_access.specs.Access.{other_side, same_side, same_kind}
 use Rattle.sv_access.specs.Story.{Story, last_value, is_unseen, is_early}
 use Rattle.sv_access.proofs.StoryLemmas.{is_unseen_others_use}
+use Rattle.sv_delivery_laws.specs.DeliveryLaws.{from_the_oldest}
 use Rattle.sv_delivery_laws.specs.Sent.{set_by, used_by, unseen_value}
 use Rattle.sv_delivery_laws.specs.Turns.{turn_of, takes_turns}
 use Rattle.sv_delivery_laws.proofs.DeliveryLemmas.{NeverEarly, UsesGetLast}
@@ -171,3 +175,15 @@ each_is_used {V} side stretch before at = by at
     by (request v asking replying unseen quiet_r last asked replied) = (some side _ _ v unseen last asked, none other _ _ quiet_r replied)
     by (hearing asking replying quiet_a quiet_r asked replied) = (none side _ _ quiet_a asked, none other _ _ quiet_r replied)
     by (reply v asking replying quiet_a unseen last asked replied) = (none side _ _ quiet_a asked, some other _ _ v unseen last replied)
+
+-- what stands at a number in the front of a list
+at_front : {V : Type 0} (xs ys : List V) (k : ℕ) → k < length xs → slice_get (xs ++ ys) k ≡ slice_get xs k
+at_front [] ys k within = absurd (omega (arith, within))
+at_front (x ∷ xs) ys zero within = refl
+at_front (x ∷ xs) ys (suc k) within = at_front xs ys k (omega (arith, within))
+
+-- values with newer ones on top have the same numbers, counted from the oldest
+pub same_by_number : (more older all : List PlainArray) (k : ℕ) → all ≡ more ++ older → k < length older → from_the_oldest older k ≡ from_the_oldest all k
+same_by_number more older all k is within =
+    let turned : reverse all ≡ reverse older ++ reverse more = ap reverse is ∙ reverse-append more older in
+    sym (at_front (reverse older) (reverse more) k (omega (arith, within, length-reverse older))) ∙ ap (λ (vs : List PlainArray). slice_get vs k) (sym turned)

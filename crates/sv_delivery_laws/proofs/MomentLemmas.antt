@@ -1,7 +1,7 @@
 -- The moments of a stretch, from its end back to its start.
 use Rattle.std.proofs.Common.{◌≡◌, refl, sym, ap, ◌∙◌, subst, ℕ, ◌+◌, ◌<◌, ◌≤◌, Bool, true, false, not, cond, eqb, ltb, List, [], ◌∷◌, ◌++◌, length, Some, inl, inr, arith}
 use Rattle.std.specs.Prelude.{Contains, is_some}
-use Rattle.std.proofs.lemmas.Bool.{cases_Bool, cases_lt, both_ways, or_left, or_right, or_parts, eq-eqb, eqb-false, lt-ltb, le-ltb, not_from_false, false_from_ne_true}
+use Rattle.std.proofs.lemmas.Bool.{cases_Bool, cases_lt, both_ways, or_left, or_right, or_parts, eq-eqb, eqb-false, lt-ltb, le-ltb, not_from_false, not-true, false_from_ne_true}
 use Rattle.std.proofs.lemmas.Option.{same_Some}
 use Rattle.std.proofs.lemmas.List.{length-append}
 use Rattle.std.proofs.lemmas.List.Elements.{All-contains, Contains-append_left}
@@ -12,18 +12,19 @@ use Rattle.sv_events.specs.Entry.{PlainEntry}
 use Rattle.sv_rules.specs.declared.coupling.Coupling.{Coupling}
 use Rattle.sv_rules.specs.declared.coupling.Made.{Made}
 use Rattle.sv_rules.specs.declared.standing.Standing.{Standing}
-use Rattle.sv_rules.specs.Coupling.{both_stand, couplings, couplings_among, coupling_now, has_place, is_coupled, open_offers}
+use Rattle.sv_rules.specs.Coupling.{both_stand, couplings, made_in, couplings_among, coupling_now, has_place, is_coupled, open_offers}
 use Rattle.sv_rules.specs.Entries.{Entries, next_place}
 use Rattle.sv_rules.specs.Legal.{IsLegal}
 use Rattle.sv_rules.specs.Standing.{standing}
 use Rattle.sv_rules.specs.Story.{coupling_ends, known, opens_at}
 use Rattle.sv_offer_laws.specs.CouplingLaws.{IsCouplingOf}
 use Rattle.sv_offer_laws.specs.LegalLaws.{IsInOrder, made_at}
-use Rattle.sv_offer_laws.proofs.Members.{Contains-filter, list_any_member}
+use Rattle.sv_offer_laws.proofs.Members.{Contains-filter, Contains-from_filter, filter_passed, list_any_member}
+use Rattle.sv_offer_laws.proofs.PlaceLemmas.{IsPlaceIn, places_within}
 use Rattle.sv_offer_laws.proofs.LegalLemmas.{IsSound-from_legal, couplings_go_on, order_of_couplings, stood_before}
 use Rattle.sv_offer_laws.proofs.LookupLemmas.{found_as_made}
-use Rattle.sv_offer_laws.proofs.NowLemmas.{coupling_among, coupling_was, made_is_found}
-use Rattle.sv_story_laws.specs.StoryLaws.{offer_on}
+use Rattle.sv_offer_laws.proofs.NowLemmas.{coupling_among, coupling_places, coupling_was, made_is_found}
+use Rattle.sv_story_laws.specs.StoryLaws.{CouplingEnds, offer_on}
 use Rattle.sv_story_laws.proofs.OpeningLemmas.{offers_open_where_couplings_end}
 use Rattle.sv_delivery_laws.specs.Stretch.{giver_of, last_opening, StandsOrIsOpen}
 
@@ -161,3 +162,60 @@ is_open journal offer has free =
 pub stands_or_is_open : (giver : Side) (coupling : Coupling) (journal : Entries) → Moment giver coupling journal → StandsOrIsOpen giver journal coupling
 stands_or_is_open giver coupling journal (stands at now) = inl now
 stands_or_is_open giver coupling journal (alone early has free) = inr (early, is_open journal (offer_on coupling giver) has free)
+
+-- an offer opened last at a place of the journal
+pub opened_within : (journal : Entries) (offer : Standing) → last_opening journal offer ≤ length journal
+opened_within [] offer = omega arith
+opened_within (e ∷ journal) offer = elim (cases_Bool (opens_at e journal offer)) [
+  | inl opens ↦ rw opens (omega arith)
+  | inr stays ↦ rw stays (omega (arith, opened_within journal offer))
+]
+
+-- at such a moment the giver's offer stands
+stands_then : (users : List ℕ) (journal : Entries) (giver : Side) (coupling : Coupling) → IsLegal users journal → StandsOrIsOpen giver journal coupling → Contains (standing journal) (offer_on coupling giver)
+stands_then users journal giver coupling legal (inl now) = has_offer_on journal coupling.a.place coupling giver (found_as_made users journal legal coupling.a.place coupling now)
+stands_then users journal giver coupling legal (inr lone) =
+    Contains-from_filter (λ (o : Standing). not (is_coupled (couplings journal) o.place)) (standing journal) (offer_on coupling giver) lone.1
+
+-- an entry between two such moments does not open it
+opens_not_between : (users : List ℕ) (e : PlainEntry) (journal : Entries) (giver : Side) (coupling : Coupling) → IsLegal users (e ∷ journal) →
+    StandsOrIsOpen giver (e ∷ journal) coupling → StandsOrIsOpen giver journal coupling → opens_at e journal (offer_on coupling giver) ≡ false
+opens_not_between users e journal giver coupling legal now before = false_from_ne_true (opens_at e journal (offer_on coupling giver)) opens_not
+  where
+    offer : Standing
+    offer = offer_on coupling giver
+
+    within : offer.place ≤ length journal
+    within = (All-contains (IsPlaceIn (length journal)) (standing journal) offer (places_within journal) (stands_then users journal giver coupling legal.1 before)).1
+
+    keeps : StandsOrIsOpen giver (e ∷ journal) coupling → StandsOrIsOpen giver journal coupling → CouplingEnds e journal offer → ⊥
+    keeps now (inr lone) ending =
+        both_ways (is_coupled (couplings journal) offer.place)
+        (not-true (is_coupled (couplings journal) offer.place) (filter_passed (λ (o : Standing). not (is_coupled (couplings journal) o.place)) (standing journal) offer lone.1))
+        (list_any_member (has_place offer.place) (couplings journal) ending.made ending.here ending.coupled)
+    keeps (inr early) (inl was) ending =
+        let is = found_as_made users journal legal.1 coupling.a.place coupling was in
+        let places = coupling_places users journal legal.1 coupling.a.place coupling is in omega (arith, places.1, early.0)
+    keeps (inl still) (inl was) ending =
+        let is = found_as_made users journal legal.1 coupling.a.place coupling was in
+        let is_still = found_as_made users (e ∷ journal) legal coupling.a.place coupling still in
+        let first = made_is_found users journal legal.1 offer.place ending.made ending.coupled ending.here in
+        let second = made_is_found users journal legal.1 offer.place (made_of coupling) (coupling_among journal coupling.a.place coupling is) (place_on coupling giver) in
+        let same : ending.made ≡ made_of coupling = same_Some ending.made (made_of coupling) (sym first ∙ second) in
+        let stand : Made → Bool = λ (m : Made). both_stand (standing (e ∷ journal)) m.pair in
+        ending.ended (ap stand same ∙ filter_passed stand (made_in (e ∷ journal)) (made_of coupling) (coupling_among (e ∷ journal) coupling.a.place coupling is_still))
+
+    opens_not : opens_at e journal offer ≡ true → ⊥
+    opens_not opens = elim ((offers_open_where_couplings_end users journal e offer legal (stands_then users (e ∷ journal) giver coupling legal now)).0 opens) [
+      | inl new ↦ omega (arith, within, new)
+      | inr ending ↦ keeps now before ending
+    ]
+
+-- so none of the entries between such moments does
+pub opened_by_the_start : (users : List ℕ) (entries before : Entries) (giver : Side) (coupling : Coupling) → IsLegal users (entries ++ before) →
+    ((newer older : Entries) → entries ≡ newer ++ older → StandsOrIsOpen giver (older ++ before) coupling) → last_opening (entries ++ before) (offer_on coupling giver) ≤ length before
+opened_by_the_start users [] before giver coupling legal moments = opened_within before (offer_on coupling giver)
+opened_by_the_start users (e ∷ entries) before giver coupling legal moments =
+    let stays = opens_not_between users e (entries ++ before) giver coupling legal (moments [] (e ∷ entries) refl) (moments (e ∷ []) entries refl) in
+    rw stays
+    (opened_by_the_start users entries before giver coupling legal.1 (λ newer older same. moments (e ∷ newer) older (ap (λ (es : Entries). e ∷ es) same)))

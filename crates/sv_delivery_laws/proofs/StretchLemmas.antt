@@ -26,54 +26,62 @@ use Rattle.sv_offer_laws.proofs.LookupLemmas.{found_as_made}
 use Rattle.sv_offer_laws.proofs.NowLemmas.{coupling_places, none_now}
 use Rattle.sv_offer_laws.proofs.PlaceLemmas.{IsPlaceIn, places_within}
 use Rattle.sv_story_laws.specs.StoryLaws.{offer_on}
-use Rattle.sv_delivery_laws.specs.DeliveryLaws.{StretchesAddToTheStory, StretchesStandOrAreOpen, IsHeldFor, LosesNothing, LosesNothingUnderControl, IsUsedInOrder, FeedsLoseNothing, IsExchange, EachIsUsed, RequestsHaveOneReply, WhatControlGives, FullVectorsHoldForBoth}
+use Rattle.sv_delivery_laws.specs.DeliveryLaws.{StretchesAddToTheStory, StandsOrIsOpenThroughout, StretchesStandOrAreOpen, IsHeldFor, LosesNothing, LosesNothingUnderControl, IsUsedInOrder, FeedsLoseNothing, IsExchange, EachIsUsed, RequestsHaveOneReply, WhatControlGives, FullVectorsHoldForBoth}
 use Rattle.sv_delivery_laws.specs.Sent.{set_by, used_by, unseen_value}
-use Rattle.sv_delivery_laws.specs.Stretch.{Stretch, IsStretch, IsStretchIn, added_by, added_in, control_then, has_throughout, is_controlled, is_full_throughout, is_full_vector, story_after, story_before, story_in, story_then}
+use Rattle.sv_delivery_laws.specs.Stretch.{Stretch, IsStretch, IsStretchIn, added_by, added_in, control_then, has_throughout, is_controlled, is_full_throughout, is_full_vector, story_after, story_before, story_in, story_then, last_opening}
 use Rattle.sv_delivery_laws.proofs.AddedLemmas.{AddsLate, adds_late, joint_then, adds_nothing, adds_one, story_grows, vector_then}
 use Rattle.sv_delivery_laws.proofs.DeliveryLemmas.{IsInOrder, NeverEarly, UsesGetLast, all_sent, feeds_in_order, in_order, one_more}
-use Rattle.sv_delivery_laws.proofs.ExchangeLemmas.{each_is_used, exchange_is_at}
-use Rattle.sv_delivery_laws.proofs.MomentLemmas.{Moment, Point, alone, has_offer_on, opened_since_its_entry, point_before, points, stands, stands_or_is_open}
+use Rattle.sv_delivery_laws.proofs.ExchangeLemmas.{each_is_used, exchange_is_at, same_by_number}
+use Rattle.sv_delivery_laws.proofs.MomentLemmas.{Moment, Point, alone, has_offer_on, opened_by_the_start, opened_since_its_entry, point_before, points, stands, stands_or_is_open}
 
--- a stretch of a legal journal, moment by moment
-record IsPart (users : List ℕ) (stretch : Stretch) : Type 0 where
-  pub legal : IsLegal users (stretch.entries ++ stretch.before)
+-- the journal to which a stretch belongs, from the entries by which its coupling stands back to its start
+record IsWhole (users : List ℕ) (later : Entries) (stretch : Stretch) : Type 0 where
+  pub legal : IsLegal users (later ++ (stretch.entries ++ stretch.before))
   pub place : (offer_on stretch.coupling stretch.giver).place ≤ length stretch.before
-  pub point : Point stretch.giver stretch.coupling (length stretch.before) (stretch.entries ++ stretch.before)
+  pub point : Point stretch.giver stretch.coupling (length stretch.before) (later ++ (stretch.entries ++ stretch.before))
 
-is_part : (users : List ℕ) (journal : Entries) → IsLegal users journal → (stretch : Stretch) → IsStretchIn journal stretch → IsPart users stretch
-is_part users journal legal stretch within = record {
-  legal = IsLegal-before users later here legal_later;
+is_whole : (users : List ℕ) (journal : Entries) → IsLegal users journal → (after later : Entries) (stretch : Stretch) →
+    journal ≡ after ++ (later ++ (stretch.entries ++ stretch.before)) → IsStretch later stretch → IsWhole users later stretch
+is_whole users journal legal after later stretch same is = record {
+  legal = legal_whole;
   place = place;
-  point = points users later here stretch.giver stretch.coupling (length stretch.before) legal_later place (omega (arith, length-append stretch.entries stretch.before)) (record {
-    moment = stands (coupling_places users whole legal_later stretch.coupling.a.place stretch.coupling is_coupling).1 is.stands;
+  point = record {
+    moment = stands (coupling_places users whole legal_whole stretch.coupling.a.place stretch.coupling is_coupling).1 is.stands;
     opened = is.opened;
     gives = λ made. is.giver;
-  });
+  };
 }
   where
-    later : Entries
-    later = within.1
-
-    here : Entries
-    here = stretch.entries ++ stretch.before
-
     whole : Entries
-    whole = later ++ here
+    whole = later ++ (stretch.entries ++ stretch.before)
 
-    is : IsStretch later stretch
-    is = within.3
-
-    legal_later : IsLegal users whole
-    legal_later = IsLegal-before users within.0 whole (subst (IsLegal users) within.2 legal)
+    legal_whole : IsLegal users whole
+    legal_whole = IsLegal-before users after whole (subst (IsLegal users) same legal)
 
     is_coupling : IsCouplingOf whole stretch.coupling.a.place stretch.coupling
-    is_coupling = found_as_made users whole legal_later stretch.coupling.a.place stretch.coupling is.stands
+    is_coupling = found_as_made users whole legal_whole stretch.coupling.a.place stretch.coupling is.stands
 
     place : (offer_on stretch.coupling stretch.giver).place ≤ length stretch.before
     place =
         let offer = offer_on stretch.coupling stretch.giver in
         let at = All-contains (IsPlaceIn (length whole)) (standing whole) offer (places_within whole) (has_offer_on whole stretch.coupling.a.place stretch.coupling stretch.giver is_coupling) in
         omega (arith, opened_since_its_entry whole offer at.0 at.1, is.opened)
+
+-- a stretch of a legal journal, at its end
+record IsPart (users : List ℕ) (stretch : Stretch) : Type 0 where
+  pub legal : IsLegal users (stretch.entries ++ stretch.before)
+  pub place : (offer_on stretch.coupling stretch.giver).place ≤ length stretch.before
+  pub point : Point stretch.giver stretch.coupling (length stretch.before) (stretch.entries ++ stretch.before)
+
+is_part : (users : List ℕ) (journal : Entries) → IsLegal users journal → (stretch : Stretch) → IsStretchIn journal stretch → IsPart users stretch
+is_part users journal legal stretch within =
+    let whole = is_whole users journal legal within.0 within.1 stretch within.2 within.3 in
+    let here : Entries = stretch.entries ++ stretch.before in
+    record {
+      legal = IsLegal-before users within.1 here whole.legal;
+      place = whole.place;
+      point = points users within.1 here stretch.giver stretch.coupling (length stretch.before) whole.legal whole.place (omega (arith, length-append stretch.entries stretch.before)) whole.point;
+    }
 
 -- what the entries of a stretch add to the story: control holds it back while it would come early
 record AddsInOrder (giver : Side) (coupling : Coupling) (entries before : Entries) : Type 0 where
@@ -133,14 +141,40 @@ of_part users stretch part = adds_in_order users stretch.giver stretch.coupling 
 pub stretches_add_to_the_story : (users : List ℕ) (journal : Entries) → IsLegal users journal → StretchesAddToTheStory journal
 stretches_add_to_the_story users journal legal stretch within = (of_part users stretch (is_part users journal legal stretch within)).whole
 
--- and at each moment of it the coupling stands, or the giver's offer is open
+-- stretches are where the coupling stands, or the giver's offer is open
 pub stretches_stand_or_are_open : (users : List ℕ) (journal : Entries) → IsLegal users journal → StretchesStandOrAreOpen journal
-stretches_stand_or_are_open users journal legal stretch within newer older same =
-    let part = is_part users journal legal stretch within in
-    let split : stretch.entries ++ stretch.before ≡ newer ++ (older ++ stretch.before) = ap (λ (es : Entries). es ++ stretch.before) same ∙ append_assoc newer older stretch.before in
-    let point = points users newer (older ++ stretch.before) stretch.giver stretch.coupling (length stretch.before) (subst (IsLegal users) split part.legal) part.place
-    (omega (arith, length-append older stretch.before)) (subst (Point stretch.giver stretch.coupling (length stretch.before)) split part.point) in
-    stands_or_is_open stretch.giver stretch.coupling (older ++ stretch.before) point.moment
+stretches_stand_or_are_open users journal legal after later stretch same = (there, back)
+  where
+    before : Entries
+    before = stretch.before
+
+    whole : Entries
+    whole = later ++ (stretch.entries ++ before)
+
+    there : IsStretch later stretch → StandsOrIsOpenThroughout later stretch
+    there is =
+        let part = is_whole users journal legal after later stretch same is in
+        record {
+          stands = is.stands;
+          giver = is.giver;
+          throughout = λ newer older parts.
+              let split : whole ≡ newer ++ (older ++ before) =
+              sym (append_assoc later stretch.entries before) ∙ ap (λ (es : Entries). es ++ before) parts ∙ append_assoc newer older before in
+              let point = points users newer (older ++ before) stretch.giver stretch.coupling (length before) (subst (IsLegal users) split part.legal) part.place
+              (omega (arith, length-append older before)) (subst (Point stretch.giver stretch.coupling (length before)) split part.point) in
+              stands_or_is_open stretch.giver stretch.coupling (older ++ before) point.moment;
+        }
+
+    back : StandsOrIsOpenThroughout later stretch → IsStretch later stretch
+    back is =
+        let split : (later ++ stretch.entries) ++ before ≡ whole = append_assoc later stretch.entries before in
+        let legal_whole : IsLegal users whole = IsLegal-before users after whole (subst (IsLegal users) same legal) in
+        record {
+          stands = is.stands;
+          giver = is.giver;
+          opened = subst (λ (es : Entries). last_opening es (offer_on stretch.coupling stretch.giver) ≤ length before) split
+              (opened_by_the_start users (later ++ stretch.entries) before stretch.giver stretch.coupling (subst (IsLegal users) (sym split) legal_whole) is.throughout);
+        }
 
 -- where control holds for a side, what remains of what it sends is in order
 ordered : (users : List ℕ) (stretch : Stretch) → IsPart users stretch → (side : Side) → IsHeldFor side stretch → IsInOrder side (story_in stretch) (story_before stretch)
@@ -176,7 +210,7 @@ quiet told A h = not-true (is_unseen A told) ((state_by_unseen told).of_neither.
 quiet told B h = not-true (is_unseen B told) ((state_by_unseen told).of_neither.0 h).1
 
 pub requests_have_one_reply : (users : List ℕ) (journal : Entries) → IsLegal users journal → RequestsHaveOneReply journal
-requests_have_one_reply users journal legal stretch within held side exchange = both side exchange
+requests_have_one_reply users journal legal stretch within' held side exchange = both side exchange
   where
     added : Story PlainArray
     added = story_in stretch
@@ -185,10 +219,13 @@ requests_have_one_reply users journal legal stretch within held side exchange = 
     before = story_before stretch
 
     adds : AddsInOrder stretch.giver stretch.coupling stretch.entries stretch.before
-    adds = of_part users stretch (is_part users journal legal stretch within)
+    adds = of_part users stretch (is_part users journal legal stretch within')
 
     at_end : (s : Side) → set_by s added ≡ unseen_value s (added ++ before) ++ used_by (other_side s) added → EachIsUsed s stretch
-    at_end s h = h ∙ ap (λ (told : Story PlainArray). unseen_value s told ++ used_by (other_side s) added) (sym adds.whole)
+    at_end s h = record {
+      in_order = h ∙ ap (λ (told : Story PlainArray). unseen_value s told ++ used_by (other_side s) added) (sym adds.whole);
+      by_number = λ k within. same_by_number (unseen_value s (added ++ before)) (used_by (other_side s) added) (set_by s added) k h within;
+    }
 
     both : (s : Side) → IsExchange s stretch → EachIsUsed s stretch × EachIsUsed (other_side s) stretch
     both A is =

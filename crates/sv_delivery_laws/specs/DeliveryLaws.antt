@@ -1,5 +1,5 @@
 -- What control gives: nothing that a side sent is lost but what its receiver set over.
-use Rattle.std.specs.Prelude.{◌≡◌, ◌+◌, ◌≤◌, ◌⊎◌, ℕ, List, [], ◌∷◌, ◌++◌, length, Option, Some, IsTrue, if◌then◌else◌}
+use Rattle.std.specs.Prelude.{◌≡◌, ◌+◌, ◌<◌, ◌≤◌, ◌⊎◌, ◌↔◌, ℕ, List, [], ◌∷◌, ◌++◌, length, reverse, slice_get, Option, Some, IsTrue, if◌then◌else◌}
 use Rattle.apl_arrays.specs.Array.{PlainArray}
 use Rattle.sv_access.specs.declared.access.Side.{Side}
 use Rattle.sv_access.specs.declared.access.Side.TheVariants.{A, B}
@@ -7,11 +7,12 @@ use Rattle.sv_access.specs.declared.access.Kind.TheVariants.{Set, Use}
 use Rattle.sv_access.specs.declared.state.State.TheVariants.{Quiet}
 use Rattle.sv_access.specs.Access.{other_side}
 use Rattle.sv_access.specs.Story.{Story, is_unseen, last_value, state_of_story}
+use Rattle.sv_rules.specs.Coupling.{coupling_now}
 use Rattle.sv_rules.specs.Entries.{Entries}
 use Rattle.sv_rules.specs.Legal.{IsLegal}
 use Rattle.sv_rules.specs.Story.{first_set}
 use Rattle.sv_delivery_laws.specs.Sent.{Sent, just_sent, sent, set_by, used_by, unseen_value, values_sent, taken_out, remaining}
-use Rattle.sv_delivery_laws.specs.Stretch.{Stretch, IsStretchIn, StandsOrIsOpen, story_before, story_in, story_after, is_controlled, is_full_for}
+use Rattle.sv_delivery_laws.specs.Stretch.{Stretch, IsStretch, IsStretchIn, giver_of, StandsOrIsOpen, story_before, story_in, story_after, is_controlled, is_full_for}
 use Rattle.sv_delivery_laws.specs.Turns.{takes_turns}
 
 -- a side sends its unseen value at the start of a stretch, if it has one, and what it sets in it
@@ -40,11 +41,20 @@ abbrev pub StretchesAddToTheStory : Entries → Type 0
 StretchesAddToTheStory journal =
     (stretch : Stretch) → IsStretchIn journal stretch → story_after stretch ≡ story_in stretch ++ story_before stretch
 
--- and at each of its moments the coupling stands, or is still to be made while the giver's offer is open
+-- the coupling stands after some later entries, with this giver; and at each moment from the start of the stretch on it
+-- stands, or is still to be made while the giver's offer is open
+pub record StandsOrIsOpenThroughout (later : Entries) (stretch : Stretch) : Type 0 where
+  pub stands : coupling_now (later ++ (stretch.entries ++ stretch.before)) stretch.coupling.a.place ≡ Some stretch.coupling
+  pub giver : giver_of (later ++ (stretch.entries ++ stretch.before)) stretch.coupling ≡ stretch.giver
+  pub throughout :
+      (newer older : Entries) → later ++ stretch.entries ≡ newer ++ older →
+      StandsOrIsOpen stretch.giver (older ++ stretch.before) stretch.coupling
+
+-- these are the stretches of the journal
 abbrev pub StretchesStandOrAreOpen : Entries → Type 0
 StretchesStandOrAreOpen journal =
-    (stretch : Stretch) → IsStretchIn journal stretch → (newer older : Entries) →
-    stretch.entries ≡ newer ++ older → StandsOrIsOpen stretch.giver (older ++ stretch.before) stretch.coupling
+    (after later : Entries) (stretch : Stretch) → journal ≡ after ++ (later ++ (stretch.entries ++ stretch.before)) →
+    IsStretch later stretch ↔ StandsOrIsOpenThroughout later stretch
 
 -- the control that holds back what would lose a value of a side: elements 1 and 4 for A's, 2 and 3 for B's
 abbrev pub IsHeldFor : Side → Stretch → Type 0
@@ -101,11 +111,18 @@ pub record IsExchange (side : Side) (stretch : Stretch) : Type 0 where
   pub asks : IsTrue (takes_turns Set side (story_in stretch))
   pub replies : IsTrue (takes_turns Use (other_side side) (story_in stretch))
 
--- the other side used in the stretch what a side set in it, the first, the second and so on, but for the newest where it is
--- unseen
-abbrev pub EachIsUsed : Side → Stretch → Type 0
-EachIsUsed side stretch =
-    set_by side (story_in stretch) ≡ unseen_value side (story_after stretch) ++ used_by (other_side side) (story_in stretch)
+-- one of some values, counted from the oldest, which is number 0
+abbrev pub from_the_oldest : List PlainArray → ℕ → Option PlainArray
+from_the_oldest values number = slice_get (reverse values) number
+
+-- the other side used in the stretch what a side set in it, in order, but for the newest where it is unseen: each use got
+-- the set of its number
+pub record EachIsUsed (side : Side) (stretch : Stretch) : Type 0 where
+  pub in_order :
+      set_by side (story_in stretch) ≡ unseen_value side (story_after stretch) ++ used_by (other_side side) (story_in stretch)
+  pub by_number :
+      (number : ℕ) → number < length (used_by (other_side side) (story_in stretch)) →
+      from_the_oldest (used_by (other_side side) (story_in stretch)) number ≡ from_the_oldest (set_by side (story_in stretch)) number
 
 -- a request has one reply, in any stretch of the journal in which uses are held
 abbrev pub RequestsHaveOneReply : Entries → Type 0

@@ -118,9 +118,26 @@ given_by_b = record {
 abbrev pub control_is_lifted : Stretch
 control_is_lifted = shared_under first_and_fourth (sets 1001 1 ∷ controls 1001 no_control ∷ sets 1001 2 ∷ uses 1002 2 ∷ [])
 
--- 1001 controls what the other direction wants
-abbrev pub other_way_controlled : Stretch
-other_way_controlled = shared_under second_and_third (sets 1001 1 ∷ sets 1001 2 ∷ uses 1002 2 ∷ [])
+-- under a control one user sets two values, and the other uses the second
+abbrev pub set_twice : Control → ℕ → ℕ → Stretch
+set_twice control one other = shared_under control (sets one 1 ∷ sets one 2 ∷ uses other 2 ∷ [])
+
+-- under a control one user sets a value, and the other uses it twice
+abbrev pub used_twice : Control → ℕ → ℕ → Stretch
+used_twice control one other = shared_under control (sets one 1 ∷ uses other 1 ∷ uses other 1 ∷ [])
+
+-- one element alone
+abbrev pub only_first : Control
+only_first = four_elements true false false false
+
+abbrev pub only_second : Control
+only_second = four_elements false true false false
+
+abbrev pub only_third : Control
+only_third = four_elements false false true false
+
+abbrev pub only_fourth : Control
+only_fourth = four_elements false false false true
 
 -- two sets of 1001, of which control would hold the second
 abbrev pub two_unseen : Stretch
@@ -151,6 +168,15 @@ hands_in = record {
   entries = reverse (joins 1002 1001 None 1 3 ∷ uses 1002 7 ∷ sets 1001 8 ∷ []);
   before = reverse (offers 1001 1002 (Some (number 7)) ∷ controls 1001 first_and_fourth ∷ []);
   coupling = coupling_of_x 3 3;
+  giver = A;
+}
+
+-- 1002 uses the 7 twice that was handed in, before 1001 sets its control and 8
+abbrev pub used_before : Stretch
+used_before = record {
+  entries = reverse (sets 1001 8 ∷ uses 1002 8 ∷ []);
+  before = reverse (offers 1001 1002 (Some (number 7)) ∷ joins 1002 1001 None 1 2 ∷ uses 1002 7 ∷ uses 1002 7 ∷ controls 1001 first_and_fourth ∷ []);
+  coupling = coupling_of_x 2 2;
   giver = A;
 }
 

@@ -9,7 +9,7 @@ ghost use Rattle.sv_delivery_laws.specs.Sent.{set_by, used_by, unseen_value, val
 ghost use Rattle.sv_delivery_laws.specs.Turns.{takes_turns};
 ghost use Rattle.sv_delivery_laws.specs.Stretch.{IsStretch, story_before, story_in, story_after, is_controlled, is_full_for};
 ghost use Rattle.sv_delivery_laws.specs.DeliveryLaws.{IsHeldFor, LosesNothing, IsUsedInOrder, IsFeed, AreUsesHeld, IsExchange, EachIsUsed};
-ghost use Rattle.sv_delivery_laws.specs.Worked.{users, number, set_over_unseen, ends_unseen, seen_later, begins_alone, ends_alone, joined_later, given_by_b, control_is_lifted, other_way_controlled, two_unseen, asked_twice, begins_unseen, uses_its_own, hands_in, to_the_end};
+ghost use Rattle.sv_delivery_laws.specs.Worked.{users, number, set_over_unseen, ends_unseen, seen_later, begins_alone, ends_alone, joined_later, given_by_b, control_is_lifted, first_and_fourth, second_and_third, only_first, only_second, only_third, only_fourth, set_twice, used_twice, used_before, two_unseen, asked_twice, begins_unseen, uses_its_own, hands_in, to_the_end};
 
 /// A value that its receiver sets over is taken out. All that was sent is not used, also with one more: so the statement is
 /// wrong that takes nothing out.
@@ -81,13 +81,33 @@ pub fn lifted_control_says_nothing()
     ensures lost { LosesNothing A control_is_lifted → ⊥ }
 {}
 
-/// The elements 2 and 3 say nothing of what A sends.
+/// The elements of the other direction say nothing: 2 and 3 of what A sends, and 1 and 4 of what B sends.
 pub fn the_other_elements_say_nothing()
-    ensures legal { IsLegal users (to_the_end other_way_controlled) }
-    ensures stretch { IsStretch [] other_way_controlled }
-    ensures second { IsTrue (is_controlled 2 other_way_controlled) }
-    ensures third { IsTrue (is_controlled 3 other_way_controlled) }
-    ensures lost { LosesNothing A other_way_controlled → ⊥ }
+    ensures legal { IsLegal users (to_the_end (set_twice second_and_third 1001 1002)) }
+    ensures stretch { IsStretch [] (set_twice second_and_third 1001 1002) }
+    ensures held_for_b { IsHeldFor B (set_twice second_and_third 1001 1002) }
+    ensures lost { LosesNothing A (set_twice second_and_third 1001 1002) → ⊥ }
+    ensures turned_legal { IsLegal users (to_the_end (set_twice first_and_fourth 1002 1001)) }
+    ensures turned_stretch { IsStretch [] (set_twice first_and_fourth 1002 1001) }
+    ensures held_for_a { IsHeldFor A (set_twice first_and_fourth 1002 1001) }
+    ensures turned_lost { LosesNothing B (set_twice first_and_fourth 1002 1001) → ⊥ }
+{}
+
+/// Neither does one element alone, since without that of its sets a side sets over its own value, and without that of its
+/// uses the other side uses one twice.
+pub fn one_element_says_nothing()
+    ensures first_legal { IsLegal users (to_the_end (used_twice only_first 1001 1002)) }
+    ensures first_held { IsTrue (is_controlled 1 (used_twice only_first 1001 1002)) }
+    ensures first_lost { LosesNothing A (used_twice only_first 1001 1002) → ⊥ }
+    ensures fourth_legal { IsLegal users (to_the_end (set_twice only_fourth 1001 1002)) }
+    ensures fourth_held { IsTrue (is_controlled 4 (set_twice only_fourth 1001 1002)) }
+    ensures fourth_lost { LosesNothing A (set_twice only_fourth 1001 1002) → ⊥ }
+    ensures second_legal { IsLegal users (to_the_end (used_twice only_second 1002 1001)) }
+    ensures second_held { IsTrue (is_controlled 2 (used_twice only_second 1002 1001)) }
+    ensures second_lost { LosesNothing B (used_twice only_second 1002 1001) → ⊥ }
+    ensures third_legal { IsLegal users (to_the_end (set_twice only_third 1002 1001)) }
+    ensures third_held { IsTrue (is_controlled 3 (set_twice only_third 1002 1001)) }
+    ensures third_lost { LosesNothing B (set_twice only_third 1002 1001) → ⊥ }
 {}
 
 /// A value that is handed in with an offer is the first that its side sends.
@@ -100,6 +120,17 @@ pub fn handed_in_is_sent_first()
     ensures sent { set_by A (story_after hands_in) ≡ number 8 ∷ number 7 ∷ [] }
     ensures used { used_by B (story_after hands_in) ≡ number 7 ∷ [] }
     ensures unseen { unseen_value A (story_after hands_in) ≡ number 8 ∷ [] }
+{}
+
+/// A feed begins before its values are used: of one that was used twice nothing makes the whole story one.
+pub fn feeds_begin_in_order()
+    ensures legal { IsLegal users (to_the_end used_before) }
+    ensures stretch { IsStretch [] used_before }
+    ensures held { IsHeldFor A used_before }
+    ensures one_way { set_by B (story_in used_before) ≡ [] }
+    ensures stretch_used { used_by B (story_in used_before) ≡ number 8 ∷ [] }
+    ensures not_begun { IsUsedInOrder A (story_before used_before) → ⊥ }
+    ensures not_in_order { IsUsedInOrder A (story_after used_before) → ⊥ }
 {}
 
 /// Requests have one reply each, and the last one here is unseen.
