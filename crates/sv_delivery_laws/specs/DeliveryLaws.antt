@@ -61,12 +61,21 @@ abbrev pub IsHeldFor : Side → Stretch → Type 0
 IsHeldFor A stretch = IsTrue (is_controlled 1 stretch) × IsTrue (is_controlled 4 stretch)
 IsHeldFor B stretch = IsTrue (is_controlled 2 stretch) × IsTrue (is_controlled 3 stretch)
 
+-- one of some values, counted from the oldest, which is number 0
+abbrev pub from_the_oldest : List PlainArray → ℕ → Option PlainArray
+from_the_oldest values number = slice_get (reverse values) number
+
 -- what the other side used is what remains of what the side sent, in order and each once, but for the newest where it is
--- unseen; so at most one more remains; and where nothing was taken out it is all that the side sent
+-- unseen: so each use got the one of its number, and at most one more remains; and where nothing was taken out it is all
+-- that the side sent
 pub record LosesNothing (side : Side) (stretch : Stretch) : Type 0 where
   pub in_order :
       remaining side (story_in stretch) (story_before stretch) ≡
       unseen_value side (story_after stretch) ++ used_by (other_side side) (story_in stretch)
+  pub by_number :
+      (number : ℕ) → number < length (used_by (other_side side) (story_in stretch)) →
+      from_the_oldest (used_by (other_side side) (story_in stretch)) number ≡
+      from_the_oldest (remaining side (story_in stretch) (story_before stretch)) number
   pub one_more :
       length (remaining side (story_in stretch) (story_before stretch)) ≡
       length (used_by (other_side side) (story_in stretch)) + (if is_unseen side (story_after stretch) then 1 else 0)
@@ -110,10 +119,6 @@ pub record IsExchange (side : Side) (stretch : Stretch) : Type 0 where
   pub quiet : state_of_story (story_before stretch) ≡ Quiet
   pub asks : IsTrue (takes_turns Set side (story_in stretch))
   pub replies : IsTrue (takes_turns Use (other_side side) (story_in stretch))
-
--- one of some values, counted from the oldest, which is number 0
-abbrev pub from_the_oldest : List PlainArray → ℕ → Option PlainArray
-from_the_oldest values number = slice_get (reverse values) number
 
 -- the other side used in the stretch what a side set in it, in order, but for the newest where it is unseen: each use got
 -- the set of its number

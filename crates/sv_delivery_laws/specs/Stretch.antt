@@ -91,8 +91,8 @@ is_controlled element stretch = has_throughout element stretch.giver stretch.ent
 abbrev pub is_full_for : Side → Stretch → Bool
 is_full_for side stretch = is_full_throughout (offer_on stretch.coupling side) stretch.entries stretch.before
 
--- the stretch is one of its coupling, which stands after some later entries: the giver is the coupling's, and since its
--- offer opened with what the story begins, the stretch has come
+-- the coupling stands after the stretch and some later entries, the giver is its own, and the giver's offer opened last
+-- before the stretch
 pub record IsStretch (later : Entries) (stretch : Stretch) : Type 0 where
   pub stands :
       coupling_now (later ++ (stretch.entries ++ stretch.before)) stretch.coupling.a.place ≡ Some stretch.coupling

@@ -126,6 +126,9 @@ set_twice control one other = shared_under control (sets one 1 ∷ sets one 2 �
 abbrev pub used_twice : Control → ℕ → ℕ → Stretch
 used_twice control one other = shared_under control (sets one 1 ∷ uses other 1 ∷ uses other 1 ∷ [])
 
+abbrev pub third_and_fourth : Control
+third_and_fourth = four_elements false false true true
+
 -- one element alone
 abbrev pub only_first : Control
 only_first = four_elements true false false false
@@ -158,9 +161,22 @@ begins_unseen = record {
   giver = B;
 }
 
--- 1001 uses its own 1, as nothing holds the use
-abbrev pub uses_its_own : Stretch
-uses_its_own = shared_under no_control (sets 1001 1 ∷ uses 1001 1 ∷ [])
+-- a value of 1002 is unseen, and nothing follows
+abbrev pub reply_unseen : Stretch
+reply_unseen = record {
+  entries = [];
+  before = reverse (offers 1001 1002 None ∷ joins 1002 1001 None 1 2 ∷ controls 1001 all_four ∷ sets 1002 5 ∷ []);
+  coupling = coupling_of_x 2 2;
+  giver = B;
+}
+
+-- 1001 uses its own 1, as only the uses of 1002 are held
+abbrev pub asks_itself : Stretch
+asks_itself = shared_under only_fourth (sets 1001 1 ∷ uses 1001 1 ∷ [])
+
+-- 1002 replies to 1 and then uses its own reply, as only the uses of 1001 are held
+abbrev pub replies_to_itself : Stretch
+replies_to_itself = shared_under only_third (sets 1001 1 ∷ uses 1002 1 ∷ sets 1002 10 ∷ uses 1002 10 ∷ [])
 
 -- 1001 hands in 7 with its offer, and sets 8
 abbrev pub hands_in : Stretch

@@ -9,7 +9,7 @@ ghost use Rattle.sv_delivery_laws.specs.Sent.{set_by, used_by, unseen_value, val
 ghost use Rattle.sv_delivery_laws.specs.Turns.{takes_turns};
 ghost use Rattle.sv_delivery_laws.specs.Stretch.{IsStretch, story_before, story_in, story_after, is_controlled, is_full_for};
 ghost use Rattle.sv_delivery_laws.specs.DeliveryLaws.{IsHeldFor, LosesNothing, IsUsedInOrder, IsFeed, AreUsesHeld, IsExchange, EachIsUsed};
-ghost use Rattle.sv_delivery_laws.specs.Worked.{users, number, set_over_unseen, ends_unseen, seen_later, begins_alone, ends_alone, joined_later, given_by_b, control_is_lifted, first_and_fourth, second_and_third, only_first, only_second, only_third, only_fourth, set_twice, used_twice, used_before, two_unseen, asked_twice, begins_unseen, uses_its_own, hands_in, to_the_end};
+ghost use Rattle.sv_delivery_laws.specs.Worked.{users, number, set_over_unseen, ends_unseen, seen_later, begins_alone, ends_alone, joined_later, given_by_b, control_is_lifted, first_and_fourth, second_and_third, only_first, only_second, only_third, only_fourth, set_twice, used_twice, used_before, two_unseen, asked_twice, begins_unseen, reply_unseen, asks_itself, replies_to_itself, third_and_fourth, hands_in, to_the_end};
 
 /// A value that its receiver sets over is taken out. All that was sent is not used, also with one more: so the statement is
 /// wrong that takes nothing out.
@@ -150,22 +150,44 @@ pub fn requests_are_answered()
     ensures unseen { unseen_value B (story_after asked_twice) ≡ number 20 ∷ [] }
 {}
 
-/// Of requests nothing is said where the other side begins with a set, where something is unseen at the start, or where no
-/// use is held.
-pub fn requests_need_their_premises()
-    ensures asks { IsTrue (takes_turns Set A (story_in set_over_unseen)) }
+/// Of requests nothing is said where one side does not take turns, or the other begins with a set.
+pub fn requests_take_turns()
     ensures sets_first { takes_turns Use B (story_in set_over_unseen) ≡ false }
+    ensures asks { IsTrue (takes_turns Set A (story_in set_over_unseen)) }
+    ensures held { AreUsesHeld set_over_unseen }
     ensures not_used { EachIsUsed A set_over_unseen → ⊥ }
-    ensures unseen_legal { IsLegal users (to_the_end begins_unseen) }
-    ensures unseen_stretch { IsStretch [] begins_unseen }
-    ensures unseen_uses { AreUsesHeld begins_unseen }
-    ensures unseen_asks { IsTrue (takes_turns Set A (story_in begins_unseen)) }
-    ensures unseen_replies { IsTrue (takes_turns Use B (story_in begins_unseen)) }
-    ensures unseen_first { unseen_value A (story_before begins_unseen) ≡ number 1 ∷ [] }
-    ensures unseen_lost { EachIsUsed A begins_unseen → ⊥ }
-    ensures free_legal { IsLegal users (to_the_end uses_its_own) }
-    ensures free_stretch { IsStretch [] uses_its_own }
-    ensures free_exchange { IsExchange A uses_its_own }
-    ensures free_uses { is_controlled 3 uses_its_own ≡ false }
-    ensures free_not_replied { EachIsUsed B uses_its_own → ⊥ }
+    ensures twice_legal { IsLegal users (to_the_end (set_twice third_and_fourth 1001 1002)) }
+    ensures twice { takes_turns Set A (story_in (set_twice third_and_fourth 1001 1002)) ≡ false }
+    ensures twice_replies { IsTrue (takes_turns Use B (story_in (set_twice third_and_fourth 1001 1002))) }
+    ensures twice_held { AreUsesHeld (set_twice third_and_fourth 1001 1002) }
+    ensures twice_lost { EachIsUsed A (set_twice third_and_fourth 1001 1002) → ⊥ }
+{}
+
+/// Neither is it where a value of a side is unseen at the start.
+pub fn requests_begin_quietly()
+    ensures legal { IsLegal users (to_the_end begins_unseen) }
+    ensures stretch { IsStretch [] begins_unseen }
+    ensures held { AreUsesHeld begins_unseen }
+    ensures asks { IsTrue (takes_turns Set A (story_in begins_unseen)) }
+    ensures replies { IsTrue (takes_turns Use B (story_in begins_unseen)) }
+    ensures unseen { unseen_value A (story_before begins_unseen) ≡ number 1 ∷ [] }
+    ensures lost { EachIsUsed A begins_unseen → ⊥ }
+    ensures reply_legal { IsLegal users (to_the_end reply_unseen) }
+    ensures reply_stretch { IsStretch [] reply_unseen }
+    ensures reply_first { unseen_value B (story_before reply_unseen) ≡ number 5 ∷ [] }
+    ensures reply_unused { EachIsUsed B reply_unseen → ⊥ }
+{}
+
+/// Nor where the uses of one side are not held.
+pub fn requests_need_held_uses()
+    ensures legal { IsLegal users (to_the_end asks_itself) }
+    ensures exchange { IsExchange A asks_itself }
+    ensures fourth { IsTrue (is_controlled 4 asks_itself) }
+    ensures third { is_controlled 3 asks_itself ≡ false }
+    ensures not_replied { EachIsUsed B asks_itself → ⊥ }
+    ensures other_legal { IsLegal users (to_the_end replies_to_itself) }
+    ensures other_exchange { IsExchange A replies_to_itself }
+    ensures other_third { IsTrue (is_controlled 3 replies_to_itself) }
+    ensures other_fourth { is_controlled 4 replies_to_itself ≡ false }
+    ensures not_asked { EachIsUsed A replies_to_itself → ⊥ }
 {}
