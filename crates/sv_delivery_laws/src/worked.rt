@@ -11,8 +11,8 @@ ghost use Rattle.sv_delivery_laws.specs.Stretch.{IsStretch, story_before, story_
 ghost use Rattle.sv_delivery_laws.specs.DeliveryLaws.{IsHeldFor, LosesNothing, IsUsedInOrder, IsFeed, AreUsesHeld, IsExchange, EachIsUsed};
 ghost use Rattle.sv_delivery_laws.specs.Worked.{users, number, set_over_unseen, ends_unseen, seen_later, begins_alone, ends_alone, joined_later, given_by_b, control_is_lifted, first_and_fourth, second_and_third, only_first, only_second, only_third, only_fourth, set_twice, used_twice, used_before, two_unseen, asked_twice, begins_unseen, reply_unseen, asks_itself, replies_to_itself, third_and_fourth, hands_in, to_the_end};
 
-/// A value that its receiver sets over is taken out. All that was sent is not used, also with one more: so the statement is
-/// wrong that takes nothing out.
+/// A value that its receiver sets over is taken out, and then no more remains than was used. Without the taking out the
+/// statement would be wrong: what was sent is not what was used.
 pub fn set_over_is_taken_out()
     ensures legal { IsLegal users (to_the_end set_over_unseen) }
     ensures stretch { IsStretch [] set_over_unseen }
