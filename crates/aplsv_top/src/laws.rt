@@ -1,8 +1,9 @@
-ghost use Rattle.aplsv_top.specs.OutputLaws.{BundlesHaveOneOutput};
+ghost use Rattle.aplsv_top.specs.OutputLaws.{BundlesHaveOneOutput, PrintedControlLosesNothing};
 
 use auxiliaries::files_are_read_in_one_way;
 use bundle_text::texts_are_of_one_bundle;
 use session_rules::one_transcript_of_parts;
+use sv_delivery_laws::delivery_law;
 
 /// A bundle has one output: the text that is written is a function of the bytes read. The call does nothing.
 pub fn a_bundle_has_one_output()
@@ -11,4 +12,12 @@ pub fn a_bundle_has_one_output()
     texts_are_of_one_bundle();
     files_are_read_in_one_way();
     one_transcript_of_parts();
+}
+
+/// What control gives holds of the journal in each output: in a stretch of a coupling that is under control nothing is lost
+/// but what its receiver set over, a feed is used whole and in order, and a request has one reply. The call does nothing.
+pub fn printed_control_loses_nothing()
+    ensures { PrintedControlLosesNothing }
+{
+    delivery_law();
 }

@@ -2,6 +2,7 @@ ghost use Rattle.std.specs.Prelude.{◌≡◌, ◌≤◌, ◌||◌, ◌&&◌, []
 ghost use Rattle.std.specs.Option.{option_copied};
 ghost use Rattle.sv_core.specs.Core.{ArePeople, core_after};
 ghost use Rattle.sv_core.specs.Retry.{core_retried, plain_retry};
+ghost use Rattle.sv_delivery_laws.specs.DeliveryLaws.{WhatControlGives};
 ghost use Rattle.sv_events.specs.Answer.{plain_answer};
 ghost use Rattle.sv_rules.specs.Entries.{has_left, is_full, is_leave};
 ghost use Rattle.sv_rules.specs.Journal.{journal_of};
@@ -16,6 +17,7 @@ use apl_arrays::WantOfMemory;
 use std::alloc::Global;
 use std::marker::Model;
 use sv_cells::Cells;
+use sv_delivery_laws::delivery_law;
 use sv_events::{Act, Answer, Ending, Entry, Journal, PairList, Retry};
 use sv_log::{Log, Member};
 use sv_offers::Offers;
@@ -114,11 +116,14 @@ impl Core {
         self.log.is_full()
     }
 
-    /// The entries, oldest first. No memory.
+    /// The entries, oldest first. Under full control nothing is lost of what its couplings carry but what the receiver set
+    /// over. No memory.
     pub fn journal(&self) -> &[Entry]
         ensures value { journal_of result.now ≡ self.now.journal }
         ensures legal { IsLegal self.now.users self.now.journal }
+        ensures control { WhatControlGives self.now.journal }
     {
+        delivery_law();
         self.log.entries()
     }
 
