@@ -1,15 +1,19 @@
-// Runs the tables of the folder that it is started in against the crates of arrays and of what is shown of them, and prints
-// how each came out.
+// Runs the tables of the folder that it is started in against the crates of arrays, of what is shown of them and of functions,
+// makes calls of these one after another, and prints how each came out.
 #![tactic(auto)]
 
 mod arrays;
+mod calls;
+mod functions;
 mod glyphs;
 mod names;
 mod reports;
 
 use anyhow::{Result, bail};
 use arrays::{equality_text, format_text, item_text, lines_text, scalar_text, shape_text};
+use calls::all_calls;
 use case_tables::{Trial, conclude, run_tables};
+use functions::function_tables;
 use glyphs::{code_text, refusal_place};
 use names::{file_name_order, file_name_text, name_order, name_text, word_text};
 use reports::{refusal_text, report_text};
@@ -87,5 +91,8 @@ fn main(rt: HostRuntime) -> Result<ExitCode> {
         ("lines.txt", Topic::Lines),
         ("formats.txt", Topic::Formats),
     ];
-    conclude(&rt, run_tables(&rt, &tables)?)
+    let mut tally = run_tables(&rt, &tables)?;
+    tally.add(function_tables(&rt)?);
+    tally.add(all_calls(&rt)?);
+    conclude(&rt, tally)
 }

@@ -1,7 +1,7 @@
 ghost use Rattle.std.specs.Prelude.{◌≡◌, IfOk, vec_len};
 ghost use Rattle.apl_arrays.specs.Limits.{most_users};
 
-use crate::case::Case;
+use crate::case::{Case, Device};
 use anyhow::Result;
 use apl_arrays::{Bytes, FileList, List, USER_LIMIT, WantOfMemory};
 use apl_io::{CallNumbers, MemoryClock, MemoryShelf, MemorySink, MemorySource, MemoryText};
@@ -43,24 +43,61 @@ fn shelves(alloc: Global) -> Result<Vec<MemoryShelf>, WantOfMemory>
     Ok(shelves)
 }
 
+// What the program ends with over these words, source and sink, and over no file, no reading and empty shelves.
+fn finished(
+    alloc: Global,
+    words: &[String],
+    source: &mut MemorySource,
+    sink: &mut MemorySink,
+) -> Result<Status, WantOfMemory> {
+    let shelves = shelves(alloc)?;
+    let text = MemoryText::new(alloc, FileList::new(alloc), CallNumbers::new(alloc));
+    let clock = MemoryClock::new(List::new(alloc), CallNumbers::new(alloc));
+    let finish = aplsv_replay_words(alloc, words, source, sink, text, clock, shelves);
+    let status = finish.status;
+    drop(finish);
+    Ok(status)
+}
+
+// How a run ended that left these bytes written.
+fn ended_as(alloc: Global, status: Status, written: &[u8]) -> Result<Ended, WantOfMemory> {
+    if status == Status::WantOfMemory {
+        return Err(WantOfMemory);
+    }
+    let told = status.to_string(alloc)?;
+    let written = Vec::from_slice(alloc, written)?;
+    Ok(Ended {
+        code: status.code(),
+        told,
+        written,
+    })
+}
+
+// A run into a sink of its own.
+fn run_into_sink(
+    alloc: Global,
+    case: &Case<'_>,
+    words: &[String],
+    source: &mut MemorySource,
+) -> Result<Ended, WantOfMemory> {
+    let Device { piece, fails } = case.sink;
+    let mut sink = MemorySink::new(alloc, case.room, piece.max(1), numbers(alloc, fails)?)?;
+    let ended = match finished(alloc, words, source, &mut sink) {
+        Ok(status) => ended_as(alloc, status, sink.bytes()),
+        Err(WantOfMemory) => Err(WantOfMemory),
+    };
+    drop(sink);
+    ended
+}
+
 fn run_once(alloc: Global, case: &Case<'_>) -> Result<Ended, WantOfMemory> {
     let words = words_of(alloc, case.words)?;
     let input = Bytes::from(Vec::from_slice(alloc, case.input)?);
-    let (from, to) = (case.source, case.sink);
-    let mut source = MemorySource::new(input, from.piece.max(1), numbers(alloc, from.fails)?);
-    let mut sink = MemorySink::new(alloc, case.room, to.piece.max(1), numbers(alloc, to.fails)?)?;
-    let text = MemoryText::new(alloc, FileList::new(alloc), CallNumbers::new(alloc));
-    let clock = MemoryClock::new(List::new(alloc), CallNumbers::new(alloc));
-    let shelves = shelves(alloc)?;
-    let finish = aplsv_replay_words(alloc, &words, &mut source, &mut sink, text, clock, shelves);
-    if finish.status == Status::WantOfMemory {
-        return Err(WantOfMemory);
-    }
-    Ok(Ended {
-        code: finish.status.code(),
-        told: finish.status.to_string(alloc)?,
-        written: Vec::from_slice(alloc, sink.bytes())?,
-    })
+    let Device { piece, fails } = case.source;
+    let mut source = MemorySource::new(input, piece.max(1), numbers(alloc, fails)?);
+    let ended = run_into_sink(alloc, case, &words, &mut source);
+    drop(source);
+    ended
 }
 
 /// Runs a case, once more where memory was refused.

@@ -23,6 +23,9 @@ impl Trial for ClockSessions {
         };
         let fails = calls_of(alloc, *fails)?;
         let clock = MemoryClock::new(numbers_of(alloc, *readings)?, fails);
-        answers(alloc, &mut ClockAux::new(clock), *values)
+        let mut aux = ClockAux::new(clock);
+        let told = answers(alloc, &mut aux, *values);
+        drop(aux);
+        told
     }
 }

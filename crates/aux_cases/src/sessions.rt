@@ -1,4 +1,5 @@
 use anyhow::Result;
+use apl_arrays::{Array, WantOfMemory};
 use auxiliaries::Replier;
 use case_fields::{value_of, value_text};
 use std::alloc::Global;
@@ -17,14 +18,32 @@ fn times_of(part: &str) -> Result<(usize, &str)> {
     }
 }
 
+// The last answer to a value that is given so many times.
+fn last_answer<R: Replier>(
+    replier: &mut R,
+    times: usize,
+    value: &Array,
+) -> Result<Array, WantOfMemory> {
+    for _ in 1..times {
+        drop(replier.reply(USER, value)?);
+    }
+    replier.reply(USER, value)
+}
+
+// The text of an answer.
+fn answer_text(alloc: Global, answer: Array) -> Result<String> {
+    let text = value_text(alloc, &answer);
+    drop(answer);
+    text
+}
+
 // The answer to a value. Of a value that is given more than once the last answer counts.
 fn answer<R: Replier>(alloc: Global, replier: &mut R, part: &str) -> Result<String> {
     let (times, value) = times_of(part)?;
     let value = value_of(alloc, value)?;
-    for _ in 1..times {
-        let _ = replier.reply(USER, &value)?;
-    }
-    value_text(alloc, &replier.reply(USER, &value)?)
+    let answer = last_answer(replier, times, &value);
+    drop(value);
+    answer_text(alloc, answer?)
 }
 
 /// The answers to the values that a field says, in the same form.

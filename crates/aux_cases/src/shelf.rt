@@ -62,6 +62,18 @@ fn step(alloc: Global, shelf: &mut MemoryShelf, text: &str) -> Result<String> {
     }
 }
 
+// What steps give, one after another.
+fn steps_text(alloc: Global, shelf: &mut MemoryShelf, steps: &str) -> Result<String> {
+    let mut text = String::new(alloc);
+    for (at, part) in steps.split(BETWEEN).enumerate() {
+        if at > 0 {
+            text.push_str(BETWEEN)?;
+        }
+        text.push_str(step(alloc, shelf, part)?.as_str())?;
+    }
+    Ok(text)
+}
+
 impl Trial for Shelves {
     fn given(&self) -> usize {
         2
@@ -72,13 +84,8 @@ impl Trial for Shelves {
             bail!("calls and steps are wanted");
         };
         let mut shelf = MemoryShelf::new(alloc, calls_of(alloc, *fails)?);
-        let mut text = String::new(alloc);
-        for (at, part) in steps.split(BETWEEN).enumerate() {
-            if at > 0 {
-                text.push_str(BETWEEN)?;
-            }
-            text.push_str(step(alloc, &mut shelf, part)?.as_str())?;
-        }
-        Ok(text)
+        let told = steps_text(alloc, &mut shelf, *steps);
+        drop(shelf);
+        told
     }
 }

@@ -30,6 +30,18 @@ fn step(alloc: Global, store: &mut MemoryText, text: &str) -> Result<String> {
     }
 }
 
+// What steps give, one after another.
+fn steps_text(alloc: Global, store: &mut MemoryText, steps: &str) -> Result<String> {
+    let mut text = String::new(alloc);
+    for (at, part) in steps.split(BETWEEN).enumerate() {
+        if at > 0 {
+            text.push_str(BETWEEN)?;
+        }
+        text.push_str(step(alloc, store, part)?.as_str())?;
+    }
+    Ok(text)
+}
+
 impl Trial for Stores {
     fn given(&self) -> usize {
         3
@@ -40,13 +52,8 @@ impl Trial for Stores {
             bail!("a file, calls and steps are wanted");
         };
         let mut store = store_of(alloc, *file, *fails)?;
-        let mut text = String::new(alloc);
-        for (at, part) in steps.split(BETWEEN).enumerate() {
-            if at > 0 {
-                text.push_str(BETWEEN)?;
-            }
-            text.push_str(step(alloc, &mut store, part)?.as_str())?;
-        }
-        Ok(text)
+        let told = steps_text(alloc, &mut store, *steps);
+        drop(store);
+        told
     }
 }

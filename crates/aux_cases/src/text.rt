@@ -32,10 +32,25 @@ fn answers_and_file(
     values: &str,
     file: &str,
 ) -> Result<String> {
-    let told = answers(alloc, &mut aux, values)?;
-    let (name, _) = file.split_once(":").context("no name of a file")?;
-    let kept = file_text(alloc, &mut aux.into_store(), name)?;
+    let told = answers(alloc, &mut aux, values);
+    let mut store = aux.into_store();
+    let kept = kept_text(alloc, &mut store, file);
+    drop(store);
+    let (told, kept) = (told?, kept?);
     Ok(format!(in alloc; "{told} ¦ {kept}")?)
+}
+
+// The file that the store has under the name which a field has before its colon.
+fn kept_text(alloc: Global, store: &mut MemoryText, file: &str) -> Result<String> {
+    let (name, _) = file.split_once(":").context("no name of a file")?;
+    file_text(alloc, store, name)
+}
+
+// The answers of a session.
+fn answers_alone(alloc: Global, mut aux: TextAux<MemoryText>, values: &str) -> Result<String> {
+    let told = answers(alloc, &mut aux, values);
+    drop(aux);
+    told
 }
 
 impl Trial for TextSessions {
@@ -47,10 +62,10 @@ impl Trial for TextSessions {
         let [file, fails, values, wanted @ ..] = fields else {
             bail!("a file, calls and values are wanted");
         };
-        let mut aux = TextAux::new(alloc, store_of(alloc, *file, *fails)?);
+        let aux = TextAux::new(alloc, store_of(alloc, *file, *fails)?);
         match wanted {
             [_, after] => answers_and_file(alloc, aux, *values, *after),
-            _ => answers(alloc, &mut aux, *values),
+            _ => answers_alone(alloc, aux, *values),
         }
     }
 }
@@ -67,9 +82,21 @@ const BEFORE: [&str; 3] = ["'NEXT'", "'READ NOTES'", "'WRITE OUT' / 'PUT A'"];
 fn answers_behind(alloc: Global, before: &str, fails: &str, value: &str) -> Result<String> {
     let store = store_of(alloc, "NOTES:ONE\\nTWO\\n", fails)?;
     let mut aux = TextAux::new(alloc, store);
-    let _ = answers(alloc, &mut aux, before)?;
+    let told = answers_then(alloc, &mut aux, before, value);
+    drop(aux);
+    told
+}
+
+// The same of an auxiliary.
+fn answers_then(
+    alloc: Global,
+    aux: &mut TextAux<MemoryText>,
+    before: &str,
+    value: &str,
+) -> Result<String> {
+    drop(answers(alloc, aux, before)?);
     let values = format!(in alloc; "{value}{BETWEEN}'NEXT'{BETWEEN}'DONE'")?;
-    answers(alloc, &mut aux, values.as_str())
+    answers(alloc, aux, values.as_str())
 }
 
 impl Trial for TextCommands {

@@ -3,7 +3,7 @@ ghost use Rattle.apl_workspace.specs.Function.{IsFunction};
 ghost use Rattle.apl_workspace.specs.Meaning.{is_variable_meaning};
 ghost use Rattle.apl_workspace.specs.Workspace.{global_in};
 
-use crate::machines::{Play, answers_of};
+use crate::machines::{Play, answers_of, kept_where_done};
 use crate::notes::Notes;
 use crate::workspaces::told;
 use anyhow::{Context, Result, bail};
@@ -34,15 +34,9 @@ impl Trial for Lines {
             acts: Notes::new(alloc),
         };
         let workspace = take_steps(&mut play, Workspace::new(alloc), steps)?;
-        if !play.answers.is_empty() {
-            bail!("answers are left");
-        }
-        let mut text = play.printed.into_text()?;
-        text.push_str(" ¦ ")?;
-        text.push_str(play.acts.into_text()?.as_str())?;
-        text.push_str(" ¦ ")?;
-        text.push_str(told(alloc, &workspace)?.as_str())?;
-        Ok(text)
+        let left = told(alloc, &workspace);
+        drop(workspace);
+        play.into_text(left?.as_str())
     }
 }
 
@@ -67,8 +61,8 @@ fn take_step(play: &mut Play, workspace: Workspace, step: &str) -> Result<Worksp
         None => play.evaluate(workspace, step),
         Some(text) => {
             let mut workspace = workspace;
-            define(play.alloc, &mut workspace, text)?;
-            Ok(workspace)
+            let defined = define(play.alloc, &mut workspace, text);
+            kept_where_done(workspace, defined)
         }
     }
 }
@@ -79,6 +73,7 @@ fn define(alloc: Global, workspace: &mut Workspace, text: &str) -> Result<()>
 {
     let function = function_of(alloc, text)?;
     if is_variable(workspace, &function.name()) {
+        drop(function);
         bail!("a variable is not defined: {text}");
     }
     if workspace.define(function).is_err() {

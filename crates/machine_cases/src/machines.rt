@@ -1,11 +1,11 @@
-ghost use Rattle.std.specs.Prelude.{◌≡◌, ◌<◌, [], IfOk, OnOk};
+ghost use Rattle.std.specs.Prelude.{◌≡◌, ◌<◌, [], IfOk, OnOk, vec_len};
 ghost use Rattle.line_trees.specs.Parsing.{plain_tree};
 ghost use Rattle.apl_machine.specs.Alone.{IsOnShared};
-ghost use Rattle.apl_machine.specs.Machine.{IsIdle, MayRun};
+ghost use Rattle.apl_machine.specs.Machine.{IsIdle, IsOpenStage, MayRun};
 ghost use Rattle.apl_machine.specs.Runs.{IsTreeOf};
 
 use crate::notes::Notes;
-use anyhow::{Context, Result, bail};
+use anyhow::{Context, Result, bail, ensure};
 use apl_arrays::{Fail, Line, LineList};
 use apl_machine::{LineRead, Machine, Stop, hear_alone, read_line};
 use apl_meaning::{input_shown, report_line};
@@ -34,11 +34,46 @@ impl Play {
         requires { workspace.frames ≡ [] }
         ensures { IfOk result (λ after. after.frames ≡ []) }
     {
-        let line = line_of(self.alloc, text)?;
-        match read_line(self.alloc, &workspace, &line) {
-            Ok(LineRead::Alone(act)) => self.make_alone(workspace, &line, act),
-            Ok(LineRead::Tree(tree)) => self.run_line(workspace, &line, tree),
-            Err(_) => bail!("a line is no statement"),
+        match line_of(self.alloc, text) {
+            Ok(line) => self.take_line(workspace, &line),
+            Err(error) => {
+                drop(workspace);
+                Err(error)
+            }
+        }
+    }
+
+    /// What is printed, asked and left of it all, in this order.
+    pub fn into_text(self, left: &str) -> Result<String> {
+        let Play {
+            answers,
+            printed,
+            acts,
+            ..
+        } = self;
+        let is_done = answers.is_empty();
+        drop(answers);
+        ensure!(is_done, "answers are left");
+        let mut text = printed.into_text()?;
+        text.push_str(" ¦ ")?;
+        text.push_str(acts.into_text()?.as_str())?;
+        text.push_str(" ¦ ")?;
+        text.push_str(left)?;
+        Ok(text)
+    }
+
+    // Evaluates a line as it is read.
+    fn take_line(&mut self, workspace: Workspace, line: &Line) -> Result<Workspace>
+        requires { workspace.frames ≡ [] }
+        ensures { IfOk result (λ after. after.frames ≡ []) }
+    {
+        match read_line(self.alloc, &workspace, line) {
+            Ok(LineRead::Alone(act)) => self.make_alone(workspace, line, act),
+            Ok(LineRead::Tree(tree)) => self.run_line(workspace, line, tree),
+            Err(_) => {
+                drop(workspace);
+                bail!("a line is no statement")
+            }
         }
     }
 
@@ -49,15 +84,24 @@ impl Play {
         ensures { IfOk result (λ after. after.frames ≡ []) }
     {
         let mut workspace = workspace;
-        let mut output = LineList::new(self.alloc);
+        let made = self.make(&mut workspace, line, &act);
+        let noted = note_act(self.alloc, &mut self.acts, act);
+        kept_where_done(workspace, made.and(noted))
+    }
+
+    // Makes an act alone: its answer is the next one.
+    fn make(&mut self, workspace: &mut Workspace, line: &Line, act: &Act) -> Result<()>
+        requires { IsOnShared workspace.old act.now }
+        ensures { workspace.new.frames ≡ workspace.old.frames }
+    {
         let answer = self.answers.pop().context("no answer is left")?;
-        let heard = hear_alone(self.alloc, &mut workspace, &act, answer, &mut output);
-        note_act(self.alloc, &mut self.acts, act)?;
+        let mut output = LineList::new(self.alloc);
+        let heard = hear_alone(self.alloc, workspace, act, answer, &mut output);
         note_lines(self.alloc, &mut self.printed, output)?;
-        if let Err(fail) = heard {
-            note_report(self.alloc, &mut self.printed, fail, line)?;
+        match heard {
+            Ok(()) => Ok(()),
+            Err(fail) => note_report(self.alloc, &mut self.printed, fail, line),
         }
-        Ok(workspace)
     }
 
     // Evaluates a line that has this tree.
@@ -67,9 +111,23 @@ impl Play {
         ensures { IfOk result (λ after. after.frames ≡ []) }
     {
         let mut machine = Machine::new(self.alloc, workspace);
+        match self.run_tree(&mut machine, line, tree) {
+            Ok(()) => Ok(machine.into_workspace()),
+            Err(error) => {
+                drop(machine);
+                Err(error)
+            }
+        }
+    }
+
+    // Runs a machine over a line that has this tree.
+    fn run_tree(&mut self, machine: &mut Machine, line: &Line, tree: Tree) -> Result<()>
+        requires idle { IsIdle machine.old }
+        requires tree { IsTreeOf machine.old.interpreter.workspace line.now.items (plain_tree tree) }
+        ensures { OnOk result (IsIdle machine.new) }
+    {
         machine.begin(line, tree)?;
-        self.run::<Brand>(&mut machine, Blank::new(1))?;
-        Ok(machine.into_workspace())
+        self.run::<Brand>(machine, Blank::new(1))
     }
 
     // Runs a machine until its line is over.
@@ -82,15 +140,37 @@ impl Play {
     {
         let mut steps = Steps::<L>::new(blank);
         'acts: loop {
-            let stop = machine.run(&mut steps)?;
-            note_lines(self.alloc, &mut self.printed, machine.take_output())?;
-            match stop {
-                Stop::Done | Stop::Failed(_) => return Ok(()),
-                Stop::Asks(act) => {
-                    note_act(self.alloc, &mut self.acts, act)?;
-                    machine.resume(self.answers.pop().context("no answer is left")?)?;
+            match machine.run(&mut steps)? {
+                Stop::Done | Stop::Failed(_) => {
+                    return note_lines(self.alloc, &mut self.printed, machine.take_output());
                 }
+                Stop::Asks(act) => self.answer(machine, act)?,
             }
+        }
+    }
+
+    // Notes an act that is open, and gives it the next answer.
+    fn answer(&mut self, machine: &mut Machine, act: Act) -> Result<()>
+        requires { IsOpenStage machine.old.stage }
+        ensures runs { OnOk result (MayRun machine.new.stage) }
+        ensures taken { OnOk result (vec_len self.new.answers < vec_len self.old.answers) }
+    {
+        note_act(self.alloc, &mut self.acts, act)?;
+        note_lines(self.alloc, &mut self.printed, machine.take_output())?;
+        let answer = self.answers.pop().context("no answer is left")?;
+        Ok(machine.resume(answer)?)
+    }
+}
+
+/// A workspace on which something was done, or why it was not.
+pub fn kept_where_done(workspace: Workspace, done: Result<()>) -> Result<Workspace>
+    ensures { IfOk result (λ after. after ≡ workspace) }
+{
+    match done {
+        Ok(()) => Ok(workspace),
+        Err(error) => {
+            drop(workspace);
+            Err(error)
         }
     }
 }
@@ -116,19 +196,25 @@ fn note_lines(alloc: Global, printed: &mut Notes, lines: LineList) -> Result<()>
 
 // Notes an act that was asked: the text of its entry without its place, its party and its answer.
 fn note_act(alloc: Global, acts: &mut Notes, act: Act) -> Result<()> {
+    let text = entry_text(alloc, act)?;
+    let act = text
+        .strip_prefix("1 1001 ")
+        .and_then(|rest| rest.strip_suffix(" : done"))
+        .context("no text of an act")?;
+    acts.push(String::from_str(alloc, act)?)
+}
+
+// The text of an entry of this act, which is done.
+fn entry_text(alloc: Global, act: Act) -> Result<String> {
     let entry = Entry {
         party: 1001,
         act,
         answer: Answer::Done,
         made: PairList::new(alloc),
     };
-    let line = text_of(alloc, 1, &entry)?;
-    let text = glyphs_text(alloc, line.as_slice())?;
-    let act = text
-        .strip_prefix("1 1001 ")
-        .and_then(|rest| rest.strip_suffix(" : done"))
-        .context("no text of an act")?;
-    acts.push(String::from_str(alloc, act)?)
+    let line = text_of(alloc, 1, &entry);
+    drop(entry);
+    glyphs_text(alloc, line?.as_slice())
 }
 
 /// The answers that a text says, the last one first: each as the journal writes it, or `full`; `N×` before one says that it
@@ -160,9 +246,22 @@ fn answer_of(alloc: Global, text: &str) -> Result<Answer> {
     whole.push_str(text)?;
     let line = line_of(alloc, whole.as_str())?;
     match read(alloc, &line) {
-        Ok((_, entry)) => Ok(entry.answer),
+        Ok((_, entry)) => Ok(answer_in(entry)),
         Err(_) => bail!("no answer: {text}"),
     }
+}
+
+// The answer of an entry.
+fn answer_in(entry: Entry) -> Answer {
+    let Entry {
+        act,
+        answer,
+        made,
+        ..
+    } = entry;
+    drop(act);
+    drop(made);
+    answer
 }
 
 // An act that has such an answer in a journal.

@@ -1,6 +1,6 @@
 use crate::failing::failing_at;
 use anyhow::{Result, bail};
-use apl_arrays::{Bytes, File, FileList, FileName, Name, Readings};
+use apl_arrays::{Bytes, File, FileList, FileName, Name, NameList, Readings};
 use apl_io::{
     CallNumbers, Clock, Failed, MemoryClock, MemoryShelf, MemoryText, Shelf, StoreError, TextStore,
 };
@@ -14,7 +14,23 @@ pub struct Devices;
 
 // Whether these bytes were given.
 fn are_bytes(found: Option<Option<Bytes>>, wanted: &[u8]) -> bool {
-    matches!(found, Some(Some(bytes)) if bytes.as_slice() == wanted)
+    let are_these = matches!(&found, Some(Some(bytes)) if bytes.as_slice() == wanted);
+    drop(found);
+    are_these
+}
+
+// Whether it was told that there are no bytes.
+fn is_absent(found: Option<Option<Bytes>>) -> bool {
+    let is_so = matches!(&found, Some(None));
+    drop(found);
+    is_so
+}
+
+// Whether this name was given, alone.
+fn is_name(found: Option<NameList>, name: &Name) -> bool {
+    let is_so = matches!(&found, Some(names) if names.as_slice() == [*name].as_slice());
+    drop(found);
+    is_so
 }
 
 // What a call gave, or none where the device failed. An `Err` says that memory was refused.
@@ -30,8 +46,7 @@ fn keeps_for_a_user<S: Shelf>(looks: &mut Looks, shelf: &mut S, name: &Name) -> 
     shelf.set_place("a")?;
     given(shelf.write(1001, name, b"SAVED"))?;
     looks.holds(are_bytes(given(shelf.read(1001, name))?, b"SAVED"));
-    let names = given(shelf.names(1001))?;
-    looks.holds(matches!(&names, Some(names) if names.as_slice() == [*name].as_slice()));
+    looks.holds(is_name(given(shelf.names(1001))?, name));
     looks.holds(given(shelf.remove(1001, name))? == Some(true));
     looks.holds(shelf.faults() == 0);
     Ok(())
@@ -45,7 +60,7 @@ fn keeps_files<T: TextStore>(looks: &mut Looks, store: &mut T) -> Result<()> {
     looks.holds(store.faults() == 1);
     given(store.replace("OUT", b"TWO"))?;
     looks.holds(are_bytes(given(store.read("OUT"))?, b"TWO"));
-    looks.holds(matches!(given(store.read("GONE"))?, Some(None)));
+    looks.holds(is_absent(given(store.read("GONE"))?));
     Ok(())
 }
 
@@ -59,7 +74,9 @@ fn gives_readings<C: Clock>(looks: &mut Looks, clock: &mut C) {
 fn keeps_entries(alloc: Global, looks: &mut Looks) -> Result<()> {
     let name = name_of(alloc, "X")?;
     let mut shelf = MemoryShelf::new(alloc, CallNumbers::new(alloc));
-    keeps_for_a_user(looks, &mut shelf, &name)
+    let made = keeps_for_a_user(looks, &mut shelf, &name);
+    drop(shelf);
+    made
 }
 
 fn keeps_texts(alloc: Global, looks: &mut Looks) -> Result<()> {
@@ -71,7 +88,9 @@ fn keeps_texts(alloc: Global, looks: &mut Looks) -> Result<()> {
     let bytes = Bytes::from(Vec::from_slice(alloc, b"ONE")?);
     files.push(File { name, bytes })?;
     let mut store = MemoryText::new(alloc, files, failing_at(alloc, 2)?);
-    keeps_files(looks, &mut store)
+    let made = keeps_files(looks, &mut store);
+    drop(store);
+    made
 }
 
 fn keeps_time(alloc: Global, looks: &mut Looks) -> Result<()> {

@@ -5,7 +5,7 @@ ghost use Rattle.sv_rules.specs.Entries.{has_left, is_leave};
 ghost use Rattle.sv_rules.specs.Legal.{is_user};
 ghost use Rattle.sv_rules.specs.Work.{is_auxiliary};
 
-use crate::helping::{let_go, session_of};
+use crate::helping::session_of;
 use anyhow::Result;
 use apl_session::{Session, Stage, Wants};
 use case_tables::{Calls, Looks};
@@ -67,10 +67,11 @@ const TRIES: usize = 50;
 fn hear(session: &mut Session<u8>, answer: Answer) -> Result<()>
     requires { session.old.stage ≡ Waiting }
 {
-    match answer {
-        Answer::Held(_) => Ok(()),
-        other => Ok(session.answer(other)?),
+    if matches!(&answer, Answer::Held(_)) {
+        drop(answer);
+        return Ok(());
     }
+    Ok(session.answer(answer)?)
 }
 
 // A user makes the act that its session asks, unless another waits.
@@ -83,7 +84,7 @@ fn act(core: &mut Core, session: &mut Session<u8>, user: u32, act: Act) -> Resul
     ensures { core.new.users ≡ core.old.users }
 {
     if core.waits(user) {
-        let_go(act);
+        drop(act);
         return Ok(());
     }
     let answer = core.step(user, act)?;
@@ -111,6 +112,13 @@ fn try_again(core: &mut Core, session: &mut Session<u8>, user: u32) -> Result<()
         Some(Retry::StillHeld) => Ok(()),
         None => Ok(()),
     }
+}
+
+// Whether a user that tried again is still held.
+fn is_still_held(retry: Option<Retry>) -> bool {
+    let is_so = matches!(&retry, Some(Retry::StillHeld));
+    drop(retry);
+    is_so
 }
 
 // A user makes the next act of its session, or leaves where its lines are done.
@@ -203,7 +211,7 @@ fn tries_on(alloc: Global, looks: &mut Looks, core: &mut Core, user: u32) -> Res
     ensures { core.new.users ≡ core.old.users }
 {
     for _attempt in 0..TRIES {
-        looks.holds(retried(core, user)? == Some(Retry::StillHeld));
+        looks.holds(is_still_held(retried(core, user)?));
         looks.holds(is_until(alloc, core, 4)?);
     }
     Ok(())
@@ -269,7 +277,7 @@ fn over_core(
 ) -> Result<()> {
     let mut core = Core::new(alloc, &USERS)?;
     let made = is_held(alloc, looks, &mut core, first, second);
-    let_go(core);
+    drop(core);
     made
 }
 
@@ -277,7 +285,7 @@ fn over_core(
 fn with_second(alloc: Global, looks: &mut Looks, first: &mut Session<u8>) -> Result<()> {
     let mut second = session_of(alloc, SECOND, &SECOND_LINES)?;
     let made = over_core(alloc, looks, first, &mut second);
-    let_go(second);
+    drop(second);
     made
 }
 
@@ -285,7 +293,7 @@ impl Calls for HeldInAFunction {
     fn make(&self, alloc: Global, looks: &mut Looks) -> Result<()> {
         let mut first = session_of(alloc, FIRST, &FIRST_LINES)?;
         let made = with_second(alloc, looks, &mut first);
-        let_go(first);
+        drop(first);
         made
     }
 }

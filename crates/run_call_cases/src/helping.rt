@@ -26,6 +26,3 @@ pub fn bundle_of(alloc: Global, text: &str) -> Result<Option<Bundle>> {
         Err(BundleRefused::WantOfMemory) => bail!("out of memory"),
     }
 }
-
-/// Lets go of a value.
-pub fn let_go<T: Drop>(_value: T) {}

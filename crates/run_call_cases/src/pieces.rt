@@ -33,6 +33,14 @@ fn source_of(alloc: Global, bytes: &[u8], piece: usize, fails: u64) -> Result<Me
     Ok(MemorySource::new(bytes, piece.max(1), failing_at(alloc, fails)?))
 }
 
+// How a source was read: as wanted, or otherwise, or memory ran out, which is no fault of it.
+#[derive(Clone, Copy, Debug, PartialEq, Eq)]
+enum Read {
+    AsWanted,
+    Otherwise,
+    Wanting,
+}
+
 // Such a source is read.
 fn read_once(alloc: Global, bytes: &[u8], reading: Reading) -> Result<Outcome> {
     let mut source = source_of(alloc, bytes, reading.piece, reading.fails)?;
@@ -58,7 +66,20 @@ fn is_as_wanted(outcome: &Outcome, wanted: Result<&[u8], ReadRefused>) -> bool {
     }
 }
 
-// Reads such a source, and once more where memory ran out, which is no fault of it.
+// How a source was read, beside what is wanted.
+fn compared(outcome: Outcome, wanted: Result<&[u8], ReadRefused>) -> Read {
+    let read = if is_as_wanted(&outcome, wanted) {
+        Read::AsWanted
+    } else if is_wanting(&outcome) && outcome.faults == 0 {
+        Read::Wanting
+    } else {
+        Read::Otherwise
+    };
+    drop(outcome);
+    read
+}
+
+// Reads such a source, and once more where memory ran out.
 fn reads(
     alloc: Global,
     looks: &mut Looks,
@@ -66,13 +87,11 @@ fn reads(
     reading: Reading,
     wanted: Result<&[u8], ReadRefused>,
 ) -> Result<()> {
-    let first = read_once(alloc, bytes, reading)?;
-    if is_wanting(&first) {
-        let second = read_once(alloc, bytes, reading)?;
-        looks.holds(first.faults == 0 && is_as_wanted(&second, wanted));
-    } else {
-        looks.holds(is_as_wanted(&first, wanted));
+    let mut read = compared(read_once(alloc, bytes, reading)?, wanted);
+    if read == Read::Wanting {
+        read = compared(read_once(alloc, bytes, reading)?, wanted);
     }
+    looks.holds(read == Read::AsWanted);
     Ok(())
 }
 

@@ -1,7 +1,7 @@
 ghost use Rattle.std.specs.Prelude.{◌≡◌, ◌≤◌, IfOk, length, vec_len};
 
 use crate::failing::failing_at;
-use crate::helping::{bundle_of, let_go};
+use crate::helping::bundle_of;
 use anyhow::{Result, bail};
 use apl_arrays::{Array, FileList, Line, Readings, WantOfMemory};
 use apl_io::{CallNumbers, Devices, MemoryClock, MemoryShelf, MemoryText, Shelf};
@@ -163,7 +163,7 @@ fn made_ready(alloc: Global, bundle: Bundle) -> Result<Ready>
     match shelves_for(alloc, bundle.users().len()) {
         Ok(shelves) => Ok(Ready { bundle, shelves }),
         Err(error) => {
-            let_go(bundle);
+            drop(bundle);
             Err(error)
         }
     }
@@ -220,7 +220,7 @@ fn prints(alloc: Global, looks: &mut Looks, text: &str, wanted: &str) -> Result<
     };
     let run = run(alloc, bundle)?;
     let bytes = printed(alloc, &run.ended);
-    let_go(run);
+    drop(run);
     looks.holds(bytes?.as_slice() == wanted.as_bytes());
     Ok(())
 }
@@ -232,7 +232,7 @@ fn prints_fixed(alloc: Global, looks: &mut Looks, text: &str, wanted: &str) -> R
     };
     let run = run_fixed(alloc, bundle)?;
     let bytes = printed(alloc, &run.ended);
-    let_go(run);
+    drop(run);
     looks.holds(bytes?.as_slice() == wanted.as_bytes());
     Ok(())
 }
@@ -261,7 +261,7 @@ fn gives_shelves_back(alloc: Global, looks: &mut Looks) -> Result<()> {
     };
     let mut run = run(alloc, bundle)?;
     let calls = failing_calls(alloc, &mut run.devices.shelves);
-    let_go(run);
+    drop(run);
     looks.holds(calls?.as_slice() == [1, 2].as_slice());
     Ok(())
 }

@@ -30,15 +30,29 @@ fn answers<R: Replier>(
     wanted: &str,
 ) -> Result<()> {
     let value = value_of(alloc, value)?;
-    let wanted = value_of(alloc, wanted)?;
-    looks.holds(answer(replier, &value)? == wanted);
-    Ok(())
+    let answered = answer(replier, &value);
+    drop(value);
+    is_value(alloc, looks, answered?, wanted)
+}
+
+// An answer is this value.
+fn is_value(alloc: Global, looks: &mut Looks, answered: Array, wanted: &str) -> Result<()> {
+    match value_of(alloc, wanted) {
+        Ok(value) => {
+            looks.holds(answered == value);
+            drop(answered);
+            drop(value);
+            Ok(())
+        }
+        Err(error) => {
+            drop(answered);
+            Err(error)
+        }
+    }
 }
 
 // A file is written and read.
-fn writes_and_reads(alloc: Global, looks: &mut Looks) -> Result<()> {
-    let store = MemoryText::new(alloc, FileList::new(alloc), CallNumbers::new(alloc));
-    let mut aux = TextAux::new(alloc, store);
+fn writes_and_reads<R: Replier>(alloc: Global, looks: &mut Looks, aux: &mut R) -> Result<()> {
     for (value, wanted) in [
         ("'NEXT'", "2"),
         ("'WRITE OUT'", "0"),
@@ -47,24 +61,38 @@ fn writes_and_reads(alloc: Global, looks: &mut Looks) -> Result<()> {
         ("'READ OUT'", "0"),
         ("'NEXT'", "'HI'"),
     ] {
-        answers(alloc, looks, &mut aux, value, wanted)?;
+        answers(alloc, looks, aux, value, wanted)?;
     }
-    Replier::forget(&mut aux, USER);
-    answers(alloc, looks, &mut aux, "'NEXT'", "2")
+    aux.forget(USER);
+    answers(alloc, looks, aux, "'NEXT'", "2")
+}
+
+fn keeps_a_file(alloc: Global, looks: &mut Looks) -> Result<()> {
+    let store = MemoryText::new(alloc, FileList::new(alloc), CallNumbers::new(alloc));
+    let mut aux = TextAux::new(alloc, store);
+    let made = writes_and_reads(alloc, looks, &mut aux);
+    drop(aux);
+    made
 }
 
 // A clock is read to its end.
+fn reads_to_the_end<R: Replier>(alloc: Global, looks: &mut Looks, aux: &mut R) -> Result<()> {
+    answers(alloc, looks, aux, "0", "100")?;
+    answers(alloc, looks, aux, "0", "¯2")
+}
+
 fn tells_the_time(alloc: Global, looks: &mut Looks) -> Result<()> {
     let mut readings = Readings::new(alloc);
     readings.push(100)?;
     let mut aux = ClockAux::new(MemoryClock::new(readings, CallNumbers::new(alloc)));
-    answers(alloc, looks, &mut aux, "0", "100")?;
-    answers(alloc, looks, &mut aux, "0", "¯2")
+    let made = reads_to_the_end(alloc, looks, &mut aux);
+    drop(aux);
+    made
 }
 
 impl Calls for Repliers {
     fn make(&self, alloc: Global, looks: &mut Looks) -> Result<()> {
-        writes_and_reads(alloc, looks)?;
+        keeps_a_file(alloc, looks)?;
         tells_the_time(alloc, looks)
     }
 }

@@ -2,7 +2,7 @@ ghost use Rattle.std.specs.Prelude.{◌≡◌, ◌∷◌, [], ◌++◌, IfOk, On
 ghost use Rattle.apl_arrays.specs.Ascending.{AscendBy};
 ghost use Rattle.apl_session.specs.Wants.{MayGoOn};
 
-use crate::helping::{let_go, session_of};
+use crate::helping::session_of;
 use anyhow::Result;
 use apl_arrays::{Array, LineList};
 use apl_session::{Session, Transcript, Transcripts, Wants};
@@ -79,14 +79,18 @@ fn give(session: &mut Session<u8>, answer: Answer) -> Result<()>
     requires { MayGoOn session.old.stage }
     ensures { IfOk result (λ done. MayGoOn session.new.stage) }
 {
-    match session.next()? {
-        Wants::Act(act) => {
-            let_go(act);
+    match session.next() {
+        Ok(Wants::Act(act)) => {
+            drop(act);
             Ok(session.answer(answer)?)
         }
-        Wants::Finished => {
-            let_go(answer);
+        Ok(Wants::Finished) => {
+            drop(answer);
             Ok(())
+        }
+        Err(refused) => {
+            drop(answer);
+            Err(refused.into())
         }
     }
 }
@@ -128,7 +132,7 @@ fn printed(alloc: Global, session: &mut Session<u8>) -> Result<Vec<u8>>
 {
     let mut bytes = Vec::new(alloc);
     match session.next()? {
-        Wants::Act(act) => let_go(act),
+        Wants::Act(act) => drop(act),
         Wants::Finished => {
             for line in session.transcript() {
                 add_line(&mut bytes, line)?;
@@ -150,7 +154,7 @@ fn walked(alloc: Global, session: &mut Session<u8>, told: Told) -> Result<Vec<u8
 fn prints(alloc: Global, looks: &mut Looks, told: Told, wanted: &str) -> Result<()> {
     let mut session = session_of(alloc, 1001, &LINES)?;
     let bytes = walked(alloc, &mut session, told);
-    let_go(session);
+    drop(session);
     looks.holds(bytes?.as_slice() == wanted.as_bytes());
     Ok(())
 }
@@ -160,7 +164,7 @@ fn keeps_receipts(alloc: Global, looks: &mut Looks) -> Result<()> {
     let mut session = session_of(alloc, 1001, &LINES)?;
     let given = give_all(alloc, &mut session, Told::Used);
     let count = session.receipts().len();
-    let_go(session);
+    drop(session);
     given?;
     looks.holds(count == 4);
     Ok(())
@@ -170,6 +174,7 @@ fn keeps_receipts(alloc: Global, looks: &mut Looks) -> Result<()> {
 fn gives_shelf_back(alloc: Global, looks: &mut Looks) -> Result<()> {
     let parts = session_of(alloc, 1001, &LINES)?.into_parts();
     looks.holds(parts.shelf == 7);
+    drop(parts);
     Ok(())
 }
 

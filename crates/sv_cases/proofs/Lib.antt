@@ -1,1 +1,2 @@
 pub mod RetryLemmas
+pub mod TableLemmas

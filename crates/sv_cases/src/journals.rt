@@ -13,16 +13,20 @@ pub fn users_of(alloc: Global, field: &str) -> Result<Vec<u32>> {
     Ok(users)
 }
 
+// The entry of this place, where it has the place that is wanted.
+fn entry_at(place: u64, entry: Entry, wanted: u64) -> Result<Entry> {
+    if place == wanted {
+        return Ok(entry);
+    }
+    drop(entry);
+    bail!("entry {wanted} says that its place is {place}")
+}
+
 // The entry of a text, which has this place.
 fn entry_of(alloc: Global, text: &str, wanted: u64) -> Result<Entry> {
     let line = line_of(alloc, unescaped(alloc, text)?.as_str())?;
     match read(alloc, &line) {
-        Ok((place, entry)) => {
-            if place != wanted {
-                bail!("entry {wanted} says that its place is {place}");
-            }
-            Ok(entry)
-        }
+        Ok((place, entry)) => entry_at(place, entry, wanted),
         Err(EntryRefused::BadEntry(at)) => bail!("entry {wanted} is no entry's text at {at}"),
         Err(EntryRefused::WantOfMemory) => bail!("out of memory"),
     }

@@ -3,6 +3,7 @@ use apl_arrays::Line;
 use case_fields::{glyphs_text, line_of, unescaped};
 use case_tables::Trial;
 use std::alloc::Global;
+use sv_events::Entry;
 use sv_journal::{EntryRefused, read, text_of};
 
 /// Lines that are read as entries of a journal: `again` where an entry with this text is read, else how long the part
@@ -18,6 +19,13 @@ pub(crate) fn compared(alloc: Global, line: &Line, written: &Line) -> Result<Str
     glyphs_text(alloc, written.as_slice())
 }
 
+// How a line compares with the text of the entry that was read from it. The entry is let go.
+fn written_again(alloc: Global, line: &Line, place: u64, entry: Entry) -> Result<String> {
+    let written = text_of(alloc, place, &entry);
+    drop(entry);
+    compared(alloc, line, &written?)
+}
+
 impl Trial for JournalLines {
     fn given(&self) -> usize {
         1
@@ -29,7 +37,7 @@ impl Trial for JournalLines {
         };
         let line = line_of(alloc, unescaped(alloc, *field)?.as_str())?;
         match read(alloc, &line) {
-            Ok((place, entry)) => compared(alloc, &line, &text_of(alloc, place, &entry)?),
+            Ok((place, entry)) => written_again(alloc, &line, place, entry),
             Err(EntryRefused::BadEntry(at)) => Ok(format!(in alloc; "{at}")?),
             Err(EntryRefused::WantOfMemory) => bail!("out of memory"),
         }

@@ -1,7 +1,9 @@
 // Runs the tables of the folder that it is started in against the texts of entries and of values, the plain rules and the
-// processor, and prints how each came out.
+// processor, makes calls of the processor and of what it stands on, and prints how each came out.
 #![tactic(auto)]
 
+mod calls;
+mod equal;
 mod filled;
 mod journals;
 mod judged;
@@ -13,6 +15,7 @@ mod told;
 mod value_lines;
 
 use anyhow::Result;
+use calls::all_calls;
 use case_tables::{conclude, run_table};
 use filled::Filled;
 use judged::Judged;
@@ -31,5 +34,6 @@ fn main(rt: HostRuntime) -> Result<ExitCode> {
     tally.add(run_table(&rt, "legal_journals.txt", &Played)?);
     tally.add(run_table(&rt, "illegal_journals.txt", &Judged)?);
     tally.add(run_table(&rt, "filled.txt", &Filled)?);
+    tally.add(all_calls(&rt)?);
     conclude(&rt, tally)
 }

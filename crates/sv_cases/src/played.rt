@@ -7,6 +7,7 @@ ghost use Rattle.sv_rules.specs.Legal.{act_for, is_user};
 ghost use Rattle.sv_rules.specs.Refused.{awaited};
 ghost use Rattle.sv_rules.specs.Work.{is_auxiliary};
 
+use crate::equal::is_equal;
 use crate::journals::{entries_of, users_of, verdict};
 use crate::retries::{still_held_are_told, try_again};
 use crate::told::is_told;
@@ -67,7 +68,7 @@ fn work(alloc: Global, core: &mut Core, entry: &Entry) -> Result<bool>
     let due = act_due(alloc, core.work_of(entry.party), place, &entry.act)?;
     match due {
         None => Ok(false),
-        Some(act) => Ok(core.step(entry.party, act)? == entry.answer),
+        Some(act) => Ok(is_equal(core.step(entry.party, act)?, &entry.answer)),
     }
 }
 
@@ -85,11 +86,11 @@ fn act(alloc: Global, core: &mut Core, entry: &Entry) -> Result<bool>
     if core.waits(entry.party) {
         return match try_again(core, entry.party)? {
             Retry::StillHeld => Ok(false),
-            Retry::Now(answer) => Ok(answer == entry.answer),
+            Retry::Now(answer) => Ok(is_equal(answer, &entry.answer)),
         };
     }
     let answer = core.step(entry.party, entry.act.copy(alloc)?)?;
-    Ok(answer == entry.answer)
+    Ok(is_equal(answer, &entry.answer))
 }
 
 // Whether the processor makes this entry next and answers as it says, where it tells whoever is still held so before.
@@ -110,17 +111,26 @@ fn makes(alloc: Global, core: &mut Core, users: &[u32], entry: &Entry) -> Result
     Ok(answered && entries.len() == before + 1 && entries.last() == Some(entry))
 }
 
-// How many of the entries the processor makes, from the first on.
-fn made_count(alloc: Global, users: &[u32], entries: &[Entry]) -> Result<usize>
-    requires { ArePeople users.now }
+// How many of the entries a processor makes, from the first on.
+fn made_by(alloc: Global, core: &mut Core, users: &[u32], entries: &[Entry]) -> Result<usize>
+    requires { core.old.users ≡ users.now }
 {
-    let mut core = Core::new(alloc, users)?;
     for (count, entry) in entries.iter().enumerate() {
-        if !makes(alloc, &mut core, users, entry)? {
+        if !makes(alloc, core, users, entry)? {
             return Ok(count);
         }
     }
     Ok(entries.len())
+}
+
+// How many of the entries the processor of these users makes, from the first on.
+fn made_count(alloc: Global, users: &[u32], entries: &[Entry]) -> Result<usize>
+    requires { ArePeople users.now }
+{
+    let mut core = Core::new(alloc, users)?;
+    let made = made_by(alloc, &mut core, users, entries);
+    drop(core);
+    made
 }
 
 // Whether no user is an auxiliary.

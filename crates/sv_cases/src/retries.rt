@@ -29,6 +29,13 @@ fn is_still_held(alloc: Global, users: &[u32], entries: &[Entry], user: u32) -> 
     }
 }
 
+// Whether a retry is told that it is still held. It is let go.
+fn waits_on(retry: Retry) -> bool {
+    let is_so = matches!(&retry, Retry::StillHeld);
+    drop(retry);
+    is_so
+}
+
 // Whether a user is told that it is still held, where it tries again.
 fn is_kept_back(core: &mut Core, user: u32) -> Result<bool>
     ensures { core.new.users ≡ core.old.users }
@@ -36,10 +43,7 @@ fn is_kept_back(core: &mut Core, user: u32) -> Result<bool>
     if !core.waits(user) {
         return Ok(false);
     }
-    match try_again(core, user)? {
-        Retry::StillHeld => Ok(true),
-        Retry::Now(_) => Ok(false),
-    }
+    Ok(waits_on(try_again(core, user)?))
 }
 
 /// Whether each user that is still held by the plain rules is told so where it tries again.

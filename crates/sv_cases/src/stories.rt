@@ -1,5 +1,6 @@
+use crate::equal::is_equal;
 use anyhow::{Context, Result, bail};
-use apl_arrays::{Array, WantOfMemory};
+use apl_arrays::Array;
 use case_fields::{stated, value_text};
 use case_tables::Trial;
 use std::alloc::Global;
@@ -46,10 +47,10 @@ fn told_of(text: &str) -> Result<Told> {
     Ok(Told { side, set })
 }
 
-fn array_of(alloc: Global, number: Option<i64>) -> Result<Option<Array>, WantOfMemory> {
+fn array_of(number: Option<i64>) -> Option<Array> {
     match number {
-        None => Ok(None),
-        Some(number) => Ok(Some(Array::scalar(alloc, number)?)),
+        None => None,
+        Some(number) => Some(Array::of_number(number)),
     }
 }
 
@@ -125,16 +126,28 @@ fn last_set(story: &[Told]) -> Option<i64> {
     None
 }
 
-// An access that is granted, after a story. A use has to give the number set last in it, or none, and then changes nothing.
-fn tell(alloc: Global, share: &mut Share, story: &[Told], told: &Told) -> Result<()> {
-    if let Some(value) = array_of(alloc, told.set)? {
-        share.set(told.side, value)?;
-        return Ok(());
-    }
-    if share.get(told.side)? != array_of(alloc, last_set(story))? {
+// Whether a value is the scalar of a number, or neither is there. The value is let go.
+fn is_number(value: Option<Array>, number: Option<i64>) -> bool {
+    let wanted = array_of(number);
+    let is_so = is_equal(value, &wanted);
+    drop(wanted);
+    is_so
+}
+
+// A use has to give the number set last, or none, and then changes nothing.
+fn used(share: &mut Share, side: Side, wanted: Option<i64>) -> Result<()> {
+    if !is_number(share.get(side)?, wanted) {
         bail!("a use gives another value than the one set last");
     }
     Ok(())
+}
+
+// An access that is granted, after a story.
+fn tell(share: &mut Share, story: &[Told], told: &Told) -> Result<()> {
+    match told.set {
+        None => used(share, told.side, last_set(story)),
+        Some(number) => Ok(share.set(told.side, Array::of_number(number))?),
+    }
 }
 
 // What the share says, and what going over the story says where that is another state.
@@ -151,6 +164,14 @@ fn shared_text(alloc: Global, share: &Share, story: &[Told]) -> Result<String> {
     Ok(text)
 }
 
+// The accesses of a story are made from this one on: what the share says then.
+fn text_after(alloc: Global, share: &mut Share, story: &[Told], first: usize) -> Result<String> {
+    for at in first..story.len() {
+        tell(share, &story[..at], &story[at])?;
+    }
+    shared_text(alloc, share, story)
+}
+
 impl Trial for Stories {
     fn given(&self) -> usize {
         2
@@ -163,11 +184,10 @@ impl Trial for Stories {
         let (a, b) = known.split_once(' ').context("two values are wanted")?;
         let (a, b) = (number_of(a)?, number_of(b)?);
         let story = story_of(alloc, a, b, *accesses)?;
-        let mut share = Share::new(alloc, array_of(alloc, a)?, array_of(alloc, b)?);
+        let mut share = Share::new(alloc, array_of(a), array_of(b));
         let first = usize::from(a.is_some() || b.is_some());
-        for at in first..story.len() {
-            tell(alloc, &mut share, &story[..at], &story[at])?;
-        }
-        shared_text(alloc, &share, &story)
+        let found = text_after(alloc, &mut share, &story, first);
+        drop(share);
+        found
     }
 }

@@ -1,0 +1,104 @@
+ghost use Rattle.std.specs.Prelude.{◌≡◌, ◌<◌, true, false, is_some};
+ghost use Rattle.apl_operators.specs.Apply.{is_dyadic, takes_axis};
+
+use crate::calls::given::{array, ended, lent_both, look_at};
+use anyhow::Result;
+use apl_arrays::{Array, Dyad, Fail, Mix1, Mix2, Monad, Report, Verb, Way};
+use apl_operators::{Steps, apply};
+use case_tables::{Calls, Looks};
+use std::alloc::Global;
+use std::marker::Brand;
+use std::mem::size_of_val;
+use std::sync::ledger::{Blank, Ledger};
+
+/// Each kind of verb applied, counted by a counter without bytes.
+#[derive(Clone, Copy, Debug)]
+pub struct OperatorCalls;
+
+impl Calls for OperatorCalls {
+    fn make(&self, alloc: Global, looks: &mut Looks) -> Result<()> {
+        ended(counted(alloc, looks), looks)
+    }
+}
+
+// The verbs, counted in a ledger of their own.
+fn counted(alloc: Global, looks: &mut Looks) -> Result<(), Fail> {
+    verbs::<Brand>(alloc, Blank::new(1), looks)
+}
+
+// Each kind of verb, and that the counter has no bytes.
+fn verbs<L: Ledger>(alloc: Global, blank: Blank, looks: &mut Looks) -> Result<(), Fail>
+    requires name { blank.name ≡ L.name }
+    requires parts { blank.parts ≡ L.parts }
+    requires some { 0 < blank.parts }
+{
+    let mut steps = Steps::<L>::new(blank);
+    looks.holds(size_of_val(&steps) == 0);
+    functions(alloc, &mut steps, looks)?;
+    derived(alloc, &mut steps, looks)
+}
+
+// What a verb gives of one argument.
+fn of_one<L: Ledger>(
+    alloc: Global,
+    verb: Verb,
+    b: &Array,
+    axis: Option<i64>,
+    steps: &mut Steps<L>,
+) -> Result<Array, Fail>
+    requires monadic { is_dyadic verb ≡ false }
+    requires axis { is_some axis ≡ true → takes_axis verb ≡ true }
+{
+    apply(alloc, &verb, None, b, axis, steps)
+}
+
+// What a verb gives of two arguments.
+fn of_two<L: Ledger>(
+    alloc: Global,
+    verb: Verb,
+    a: &Array,
+    b: &Array,
+    steps: &mut Steps<L>,
+) -> Result<Array, Fail>
+    requires { is_dyadic verb ≡ true }
+{
+    apply(alloc, &verb, Some(a), b, None, steps)
+}
+
+// A scalar and a mixed function of one and of two arguments.
+fn functions<L: Ledger>(
+    alloc: Global,
+    steps: &mut Steps<L>,
+    looks: &mut Looks,
+) -> Result<(), Fail> {
+    let a = array(alloc, &[3], &[1, 2, 5]);
+    lent_both(a, array(alloc, &[3], &[3, 1, 4]), |a, b| {
+        let negated = of_one(alloc, Verb::One(Monad::Negative), b, None, steps);
+        look_at(looks, negated, array(alloc, &[3], &[-3, -1, -4]))?;
+        let difference = of_two(alloc, Verb::Two(Dyad::Minus), a, b, steps);
+        look_at(looks, difference, array(alloc, &[3], &[-2, 1, 1]))?;
+        let reverse = Verb::Mixed1(Mix1::Reverse(Way::Last));
+        let reversed = of_one(alloc, reverse, b, Some(1), steps);
+        look_at(looks, reversed, array(alloc, &[3], &[4, 1, 3]))?;
+        let members = of_two(alloc, Verb::Mixed2(Mix2::Member), a, b, steps);
+        look_at(looks, members, array(alloc, &[3], &[1, 0, 0]))
+    })
+}
+
+// Each operator, and a quotient that is not exact.
+fn derived<L: Ledger>(alloc: Global, steps: &mut Steps<L>, looks: &mut Looks) -> Result<(), Fail> {
+    let a = array(alloc, &[2], &[2, 5]);
+    lent_both(a, array(alloc, &[2, 2], &[3, 1, 4, 2]), |a, b| {
+        let reduced = of_one(alloc, Verb::Reduce(Dyad::Minus, Way::First), b, None, steps);
+        look_at(looks, reduced, array(alloc, &[2], &[-1, -1]))?;
+        let scanned = of_one(alloc, Verb::Scan(Dyad::Plus, Way::First), b, Some(2), steps);
+        look_at(looks, scanned, array(alloc, &[2, 2], &[3, 4, 4, 6]))?;
+        let product = of_two(alloc, Verb::Inner(Dyad::Minus, Dyad::Times), a, b, steps);
+        look_at(looks, product, array(alloc, &[2], &[-14, -8]))?;
+        let table = of_two(alloc, Verb::Outer(Dyad::Plus), a, a, steps);
+        look_at(looks, table, array(alloc, &[2, 2], &[4, 7, 7, 10]))?;
+        let quotient = of_two(alloc, Verb::Outer(Dyad::Divide), a, a, steps);
+        looks.holds(quotient.err() == Some(Fail::Report(Report::Domain)));
+        Ok(())
+    })
+}

@@ -1,0 +1,174 @@
+ghost use Rattle.std.specs.Prelude.{◌≡◌, IsTrue};
+ghost use Rattle.apl_workspace.specs.Frame.{AreArgumentsOf};
+ghost use Rattle.apl_workspace.specs.Workspace.{is_addressee};
+
+use crate::workspaces::functions::function_of;
+use crate::workspaces::holding::both;
+use anyhow::{Context, Result, bail, ensure};
+use apl_arrays::{Array, ELEMENT_LIMIT, Fail, Name};
+use apl_workspace::{Args, Function, PRINTED_LIMIT, Seen, Workspace};
+use case_fields::{array_of, name_of, optional_of, zeros};
+use std::alloc::Global;
+use std::mem;
+
+/// What comes of a step: it may be refused.
+pub type Outcome = Result<(), Fail>;
+
+fn assign(ws: &mut Workspace, name: &Name, value: Array) -> Result<Outcome> {
+    if matches!(ws.look(name), Seen::Shared(_)) {
+        drop(value);
+        bail!("a shared name is not assigned");
+    }
+    Ok(ws.assign(name, value))
+}
+
+// Assigns zeros to names W0, W1 and so on until the workspace weighs so much. A value weighs 1 and its items.
+fn fill(alloc: Global, ws: &mut Workspace, weight: usize) -> Result<Outcome> {
+    for number in 0..300_u32 {
+        let left = weight.saturating_sub(ws.weight());
+        if left == 0 {
+            return Ok(Ok(()));
+        }
+        let count = left.saturating_sub(1).min(ELEMENT_LIMIT);
+        let name = name_of(alloc, format!(in alloc; "W{number}")?.as_str())?;
+        let outcome = assign(ws, &name, zeros(alloc, u32::try_from(count)?)?)?;
+        if outcome.is_err() {
+            return Ok(outcome);
+        }
+    }
+    bail!("the weight was not reached");
+}
+
+fn define(alloc: Global, ws: &mut Workspace, text: &str) -> Result<Outcome> {
+    let function = function_of(alloc, text)?;
+    let seen = ws.global(&function.name());
+    if matches!(seen, Seen::Value(_) | Seen::Shared(_)) {
+        drop(function);
+        bail!("a variable is not defined");
+    }
+    Ok(ws.define(function))
+}
+
+// Erases a name, which is there or is not.
+fn erase(ws: &mut Workspace, name: &Name, is_there: bool) -> Result<Outcome> {
+    ensure!(!ws.is_shared(name), "a shared name is not erased");
+    ensure!(ws.erase(name) == is_there, "another answer to an erasure");
+    Ok(Ok(()))
+}
+
+// Whether an offer may be made to a number: to anybody, to an auxiliary, or to a user.
+fn may_be_asked(party: u32) -> bool
+    ensures { result ≡ is_addressee party }
+{
+    party == 0 || party == 10 || party == 20 || (party >= 1001 && party <= 1999)
+}
+
+// Marks a name with a value, a surrogate and an addressee.
+fn mark(alloc: Global, ws: &mut Workspace, name: &Name, text: &str) -> Result<Outcome> {
+    let (front, to) = text.rsplit_once(" ").context("no addressee")?;
+    let (value, surrogate) = front.rsplit_once(" ").context("no surrogate")?;
+    let surrogate = name_of(alloc, surrogate)?;
+    let to: u32 = to.parse().context("no party")?;
+    ensure!(may_be_asked(to), "no party that an offer is made to");
+    let is_function = matches!(ws.global(name), Seen::Function(_));
+    ensure!(!is_function, "a function is not shared");
+    Ok(ws.mark(name, optional_of(alloc, value)?, surrogate, to))
+}
+
+fn unmark(alloc: Global, ws: &mut Workspace, name: &Name, text: &str) -> Result<Outcome> {
+    ensure!(ws.is_shared(name), "the name is not shared");
+    ws.unmark(name, optional_of(alloc, text)?);
+    Ok(Ok(()))
+}
+
+fn renew(alloc: Global, ws: &mut Workspace, name: &Name, text: &str) -> Result<Outcome> {
+    ensure!(ws.is_shared(name), "the name is not shared");
+    Ok(ws.renew(name, array_of(alloc, text)?))
+}
+
+// Whether a function's header has these arguments.
+fn takes(function: &Function, args: &Args) -> bool
+    ensures { IsTrue result → AreArgumentsOf function.now.header args.now }
+{
+    let header = function.header();
+    header.left.is_some() == args.left.is_some() && header.right.is_some() == args.right.is_some()
+}
+
+// Enters a function with a left and a right argument, or with none.
+fn enter(alloc: Global, ws: &mut Workspace, name: &Name, text: &str) -> Result<Outcome> {
+    let fields = if text.is_empty() { "- -" } else { text };
+    let (left, right) = fields.split_once(" ").context("no right argument")?;
+    let (left, right) = both(optional_of(alloc, left), optional_of(alloc, right))?;
+    let args = Args { left, right };
+    let fits = match ws.look(name) {
+        Seen::Function(function) => takes(function, &args),
+        _ => false,
+    };
+    if !fits {
+        drop(args);
+        bail!("no function with these arguments");
+    }
+    Ok(ws.push_frame(name, args))
+}
+
+// Enters a function without arguments so often, or until it is refused.
+fn deepen(alloc: Global, ws: &mut Workspace, name: &Name, times: u32) -> Result<Outcome> {
+    for _ in 0..times {
+        let outcome = enter(alloc, ws, name, "")?;
+        if outcome.is_err() {
+            return Ok(outcome);
+        }
+    }
+    Ok(Ok(()))
+}
+
+fn leave(ws: &mut Workspace) -> Result<Outcome> {
+    ensure!(ws.depth() > 0, "no function is under way");
+    ws.pop_frame();
+    Ok(Ok(()))
+}
+
+fn count(ws: &mut Workspace, glyphs: u64) -> Result<Outcome> {
+    let left = PRINTED_LIMIT - ws.printed();
+    ensure!(glyphs <= left, "the limit of printed glyphs");
+    ws.count_printed(glyphs);
+    Ok(Ok(()))
+}
+
+// The workspace is exchanged for its copy.
+fn copy(ws: &mut Workspace) -> Result<Outcome> {
+    ensure!(ws.depth() == 0, "a function is under way");
+    let copy = ws.copy()?;
+    drop(mem::replace(ws, copy));
+    Ok(Ok(()))
+}
+
+// A step with a name.
+fn step_of_name(alloc: Global, ws: &mut Workspace, word: &str, rest: &str) -> Result<Outcome> {
+    let (name, rest) = rest.split_once(" ").unwrap_or((rest, ""));
+    let name = name_of(alloc, name)?;
+    match word {
+        "assign" => assign(ws, &name, array_of(alloc, rest)?),
+        "erase" => erase(ws, &name, true),
+        "miss" => erase(ws, &name, false),
+        "mark" => mark(alloc, ws, &name, rest),
+        "unmark" => unmark(alloc, ws, &name, rest),
+        "renew" => renew(alloc, ws, &name, rest),
+        "enter" => enter(alloc, ws, &name, rest),
+        "deepen" => deepen(alloc, ws, &name, rest.parse().context("no count")?),
+        _ => bail!("no step: {word}"),
+    }
+}
+
+/// Does a step.
+pub fn step(alloc: Global, ws: &mut Workspace, text: &str) -> Result<Outcome> {
+    let (word, rest) = text.split_once(" ").unwrap_or((text, ""));
+    match word {
+        "define" => define(alloc, ws, rest),
+        "fill" => fill(alloc, ws, rest.parse().context("no weight")?),
+        "leave" => leave(ws),
+        "count" => count(ws, rest.parse().context("no count")?),
+        "copy" => copy(ws),
+        _ => step_of_name(alloc, ws, word, rest),
+    }
+}

@@ -1,2 +1,0 @@
-pub mod RetryLemmas
-pub mod TableLemmas

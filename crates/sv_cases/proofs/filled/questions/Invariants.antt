@@ -1,5 +1,0 @@
-use Rattle.std.proofs.Common.{◌≡◌, [], ◌∷◌}
-use Rattle.sv_cases.proofs.filled.questions.Given as goal
-
-abbrev pub invariant-loop-asked : goal.invariant-loop-asked
-invariant-loop-asked l = l.core.users ≡ 1001 ∷ 1002 ∷ []
