@@ -136,18 +136,31 @@ fn lines_are_taken_out(alloc: Global, looks: &mut Looks) -> Result<()> {
 fn lines_are_replaced(alloc: Global, lines: &mut LineList, looks: &mut Looks) -> Result<()> {
     needed(looks, lines.as_slice().len() == 3)?;
     let replaced = lines.replace(1, line_of(alloc, "X")?);
-    lent(Ok(replaced), |line| {
-        looks.holds(*line == line_of(alloc, "A")?);
-        Ok(())
-    })?;
+    looks.holds(is_line(alloc, replaced, "A")?);
     needed(looks, lines.as_slice().len() == 3)?;
     looks.holds(lines.remove(0).as_slice().is_empty());
     looks.holds(are(alloc, lines, &["X", "AB"])?);
     let copy = LineList::from(lines.copy(alloc)?.into_vec());
-    lent(Ok(copy), |copy| {
-        looks.holds(are(alloc, copy, &["X", "AB"])?);
-        Ok(())
-    })
+    let are_there = are(alloc, &copy, &["X", "AB"]);
+    drop(copy);
+    looks.holds(are_there?);
+    Ok(())
+}
+
+// Whether a line is this text.
+fn is_line(alloc: Global, line: Line, text: &str) -> Result<bool> {
+    match line_of(alloc, text) {
+        Ok(wanted) => {
+            let is_so = line == wanted;
+            drop(line);
+            drop(wanted);
+            Ok(is_so)
+        }
+        Err(error) => {
+            drop(line);
+            Err(error)
+        }
+    }
 }
 
 fn files_are_listed(alloc: Global, looks: &mut Looks) -> Result<()> {

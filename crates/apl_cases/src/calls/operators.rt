@@ -1,9 +1,8 @@
-ghost use Rattle.std.specs.Prelude.{◌≡◌, ◌<◌, true, false, is_some};
-ghost use Rattle.apl_operators.specs.Apply.{is_dyadic, takes_axis};
+ghost use Rattle.std.specs.Prelude.{◌≡◌, ◌<◌};
 
 use crate::calls::given::{array, ended, lent_both, look_at};
 use anyhow::Result;
-use apl_arrays::{Array, Dyad, Fail, Mix1, Mix2, Monad, Report, Verb, Way};
+use apl_arrays::{Dyad, Fail, Mix1, Mix2, Monad, Report, Verb, Way};
 use apl_operators::{Steps, apply};
 use case_tables::{Calls, Looks};
 use std::alloc::Global;
@@ -38,33 +37,6 @@ fn verbs<L: Ledger>(alloc: Global, blank: Blank, looks: &mut Looks) -> Result<()
     derived(alloc, &mut steps, looks)
 }
 
-// What a verb gives of one argument.
-fn of_one<L: Ledger>(
-    alloc: Global,
-    verb: Verb,
-    b: &Array,
-    axis: Option<i64>,
-    steps: &mut Steps<L>,
-) -> Result<Array, Fail>
-    requires monadic { is_dyadic verb ≡ false }
-    requires axis { is_some axis ≡ true → takes_axis verb ≡ true }
-{
-    apply(alloc, &verb, None, b, axis, steps)
-}
-
-// What a verb gives of two arguments.
-fn of_two<L: Ledger>(
-    alloc: Global,
-    verb: Verb,
-    a: &Array,
-    b: &Array,
-    steps: &mut Steps<L>,
-) -> Result<Array, Fail>
-    requires { is_dyadic verb ≡ true }
-{
-    apply(alloc, &verb, Some(a), b, None, steps)
-}
-
 // A scalar and a mixed function of one and of two arguments.
 fn functions<L: Ledger>(
     alloc: Global,
@@ -73,14 +45,14 @@ fn functions<L: Ledger>(
 ) -> Result<(), Fail> {
     let a = array(alloc, &[3], &[1, 2, 5]);
     lent_both(a, array(alloc, &[3], &[3, 1, 4]), |a, b| {
-        let negated = of_one(alloc, Verb::One(Monad::Negative), b, None, steps);
+        let negated = apply(alloc, &Verb::One(Monad::Negative), None, b, None, steps);
         look_at(looks, negated, array(alloc, &[3], &[-3, -1, -4]))?;
-        let difference = of_two(alloc, Verb::Two(Dyad::Minus), a, b, steps);
+        let difference = apply(alloc, &Verb::Two(Dyad::Minus), Some(a), b, None, steps);
         look_at(looks, difference, array(alloc, &[3], &[-2, 1, 1]))?;
         let reverse = Verb::Mixed1(Mix1::Reverse(Way::Last));
-        let reversed = of_one(alloc, reverse, b, Some(1), steps);
+        let reversed = apply(alloc, &reverse, None, b, Some(1), steps);
         look_at(looks, reversed, array(alloc, &[3], &[4, 1, 3]))?;
-        let members = of_two(alloc, Verb::Mixed2(Mix2::Member), a, b, steps);
+        let members = apply(alloc, &Verb::Mixed2(Mix2::Member), Some(a), b, None, steps);
         look_at(looks, members, array(alloc, &[3], &[1, 0, 0]))
     })
 }
@@ -89,15 +61,18 @@ fn functions<L: Ledger>(
 fn derived<L: Ledger>(alloc: Global, steps: &mut Steps<L>, looks: &mut Looks) -> Result<(), Fail> {
     let a = array(alloc, &[2], &[2, 5]);
     lent_both(a, array(alloc, &[2, 2], &[3, 1, 4, 2]), |a, b| {
-        let reduced = of_one(alloc, Verb::Reduce(Dyad::Minus, Way::First), b, None, steps);
+        let reduce = Verb::Reduce(Dyad::Minus, Way::First);
+        let reduced = apply(alloc, &reduce, None, b, None, steps);
         look_at(looks, reduced, array(alloc, &[2], &[-1, -1]))?;
-        let scanned = of_one(alloc, Verb::Scan(Dyad::Plus, Way::First), b, Some(2), steps);
+        let scan = Verb::Scan(Dyad::Plus, Way::First);
+        let scanned = apply(alloc, &scan, None, b, Some(2), steps);
         look_at(looks, scanned, array(alloc, &[2, 2], &[3, 4, 4, 6]))?;
-        let product = of_two(alloc, Verb::Inner(Dyad::Minus, Dyad::Times), a, b, steps);
+        let inner = Verb::Inner(Dyad::Minus, Dyad::Times);
+        let product = apply(alloc, &inner, Some(a), b, None, steps);
         look_at(looks, product, array(alloc, &[2], &[-14, -8]))?;
-        let table = of_two(alloc, Verb::Outer(Dyad::Plus), a, a, steps);
+        let table = apply(alloc, &Verb::Outer(Dyad::Plus), Some(a), a, None, steps);
         look_at(looks, table, array(alloc, &[2, 2], &[4, 7, 7, 10]))?;
-        let quotient = of_two(alloc, Verb::Outer(Dyad::Divide), a, a, steps);
+        let quotient = apply(alloc, &Verb::Outer(Dyad::Divide), Some(a), a, None, steps);
         looks.holds(quotient.err() == Some(Fail::Report(Report::Domain)));
         Ok(())
     })
