@@ -1,6 +1,8 @@
-// Runs the cases of the folder that it is started in through the top call, and prints how each came out.
+// Runs the cases of the folder that it is started in through the top call, makes calls of what stands below it, and prints how
+// each came out.
 #![tactic(auto)]
 
+mod calls;
 mod case;
 mod devices;
 mod ending;
@@ -11,6 +13,7 @@ mod run;
 mod trials;
 
 use anyhow::Result;
+use calls::all_calls;
 use case_tables::{Tally, conclude, run_table};
 use devices::Devices;
 use ending::memory_differs;
@@ -28,6 +31,7 @@ fn all_cases(rt: &HostRuntime) -> Result<Tally> {
     tally.add(run_table(rt, "devices.txt", &Devices { rt })?);
     tally.add(each_prefix(rt)?);
     tally.count(memory_differs(rt)?);
+    tally.add(all_calls(rt)?);
     Ok(tally)
 }
 

@@ -1,5 +1,4 @@
 mod accounts;
-mod conditions;
 mod counts;
 mod editor;
 mod execute;

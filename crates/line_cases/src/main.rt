@@ -3,6 +3,7 @@
 #![tactic(auto)]
 
 mod calls;
+mod conditions;
 mod nodes;
 mod system_names;
 mod tokens;

@@ -1,5 +1,5 @@
-use crate::calls::conditions::is_variable;
 use crate::calls::counts::counts_at_last;
+use crate::conditions::is_variable;
 use anyhow::{Result, bail};
 use apl_arrays::{Fail, Line, LineList, Name, WantOfMemory};
 use apl_workspace::{Seen, Workspace};
@@ -84,7 +84,10 @@ fn close_and_change(
 // none.
 fn opened(alloc: Global, ws: &Workspace, text: &str) -> Result<Option<Editor>> {
     let line = line_of(alloc, text)?;
-    let opened = Editor::start(alloc, &line, ws).or_else(|_| Editor::start(alloc, &line, ws));
+    let opened = match Editor::start(alloc, &line, ws) {
+        Err(Fail::WantOfMemory) => Editor::start(alloc, &line, ws),
+        opened => opened,
+    };
     drop(line);
     Ok(opened.ok().map(definition_of))
 }

@@ -1,5 +1,6 @@
 ghost use Rattle.std.specs.Prelude.{◌≡◌, true};
 
+use crate::conditions::is_variable;
 use crate::workspaces::functions::{LINE_END, function_text};
 use crate::workspaces::holding::kept;
 use crate::workspaces::questions::answers;
@@ -75,7 +76,7 @@ impl Desk {
         requires { editor.closed ≡ true }
     {
         let name = editor.name();
-        if matches!(self.ws.global(&name), Seen::Value(_) | Seen::Shared(_)) {
+        if is_variable(&self.ws, &name) {
             drop(editor);
             bail!("a variable is not defined");
         }

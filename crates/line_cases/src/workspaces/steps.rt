@@ -1,12 +1,12 @@
-ghost use Rattle.std.specs.Prelude.{◌≡◌, IsTrue};
-ghost use Rattle.apl_workspace.specs.Frame.{AreArgumentsOf};
+ghost use Rattle.std.specs.Prelude.{◌≡◌};
 ghost use Rattle.apl_workspace.specs.Workspace.{is_addressee};
 
+use crate::conditions::{is_function, is_variable, takes};
 use crate::workspaces::functions::function_of;
 use crate::workspaces::holding::both;
 use anyhow::{Context, Result, bail, ensure};
 use apl_arrays::{Array, ELEMENT_LIMIT, Fail, Name};
-use apl_workspace::{Args, Function, PRINTED_LIMIT, Seen, Workspace};
+use apl_workspace::{Args, PRINTED_LIMIT, Seen, Workspace};
 use case_fields::{array_of, name_of, optional_of, zeros};
 use std::alloc::Global;
 use std::mem;
@@ -41,8 +41,7 @@ fn fill(alloc: Global, ws: &mut Workspace, weight: usize) -> Result<Outcome> {
 
 fn define(alloc: Global, ws: &mut Workspace, text: &str) -> Result<Outcome> {
     let function = function_of(alloc, text)?;
-    let seen = ws.global(&function.name());
-    if matches!(seen, Seen::Value(_) | Seen::Shared(_)) {
+    if is_variable(ws, &function.name()) {
         drop(function);
         bail!("a variable is not defined");
     }
@@ -70,8 +69,7 @@ fn mark(alloc: Global, ws: &mut Workspace, name: &Name, text: &str) -> Result<Ou
     let surrogate = name_of(alloc, surrogate)?;
     let to: u32 = to.parse().context("no party")?;
     ensure!(may_be_asked(to), "no party that an offer is made to");
-    let is_function = matches!(ws.global(name), Seen::Function(_));
-    ensure!(!is_function, "a function is not shared");
+    ensure!(!is_function(ws, name), "a function is not shared");
     Ok(ws.mark(name, optional_of(alloc, value)?, surrogate, to))
 }
 
@@ -84,14 +82,6 @@ fn unmark(alloc: Global, ws: &mut Workspace, name: &Name, text: &str) -> Result<
 fn renew(alloc: Global, ws: &mut Workspace, name: &Name, text: &str) -> Result<Outcome> {
     ensure!(ws.is_shared(name), "the name is not shared");
     Ok(ws.renew(name, array_of(alloc, text)?))
-}
-
-// Whether a function's header has these arguments.
-fn takes(function: &Function, args: &Args) -> bool
-    ensures { IsTrue result → AreArgumentsOf function.now.header args.now }
-{
-    let header = function.header();
-    header.left.is_some() == args.left.is_some() && header.right.is_some() == args.right.is_some()
 }
 
 // Enters a function with a left and a right argument, or with none.

@@ -1,4 +1,4 @@
-use crate::failing::failing_at;
+use crate::calls::failing::failing_at;
 use anyhow::Result;
 use apl_io::{
     Bytes, CallNumbers, Failed, MemorySink, MemorySource, ReadRefused, Sink, Source, WriteFault,

@@ -1,7 +1,7 @@
 ghost use Rattle.std.specs.Prelude.{◌≡◌, ◌≤◌, IfOk, length, vec_len};
 
-use crate::failing::failing_at;
-use crate::helping::bundle_of;
+use crate::calls::failing::failing_at;
+use crate::calls::helping::bundle_of;
 use anyhow::{Result, bail};
 use apl_arrays::{Array, FileList, Line, Readings, WantOfMemory};
 use apl_io::{CallNumbers, Devices, MemoryClock, MemoryShelf, MemoryText, Shelf};

@@ -1,4 +1,4 @@
-use crate::failing::failing_at;
+use crate::calls::failing::failing_at;
 use anyhow::{Result, bail};
 use apl_arrays::{Bytes, File, FileList, FileName, Name, NameList, Readings};
 use apl_io::{

@@ -5,7 +5,7 @@ ghost use Rattle.sv_rules.specs.Entries.{has_left, is_leave};
 ghost use Rattle.sv_rules.specs.Legal.{is_user};
 ghost use Rattle.sv_rules.specs.Work.{is_auxiliary};
 
-use crate::helping::session_of;
+use crate::calls::helping::session_of;
 use anyhow::Result;
 use apl_session::{Session, Stage, Wants};
 use case_tables::{Calls, Looks};

@@ -1,4 +1,4 @@
-use crate::helping::bundle_of;
+use crate::calls::helping::bundle_of;
 use anyhow::Result;
 use apl_arrays::WantOfMemory;
 use bundle_text::{Bundle, BundleRefused, BundleRule};

@@ -1,5 +1,5 @@
 use Rattle.std.proofs.Common.{◌≡◌, vec_len}
-use Rattle.run_call_cases.proofs.replays.shelves_for.Given as goal
+use Rattle.aplsv_rows.proofs.calls.replays.shelves_for.Given as goal
 
 abbrev pub invariant-loop-made : goal.invariant-loop-made
 invariant-loop-made l = vec_len l.shelves ≡ l.made

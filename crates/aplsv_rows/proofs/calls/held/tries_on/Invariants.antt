@@ -1,5 +1,5 @@
 use Rattle.std.proofs.Common.{◌≡◌}
-use Rattle.run_call_cases.proofs.held.tries_on.Given as goal
+use Rattle.aplsv_rows.proofs.calls.held.tries_on.Given as goal
 
 -- the users stay
 abbrev pub invariant-loop-attempt : goal.invariant-loop-attempt

@@ -2,7 +2,7 @@ ghost use Rattle.std.specs.Prelude.{◌≡◌, ◌∷◌, [], ◌++◌, IfOk, On
 ghost use Rattle.apl_arrays.specs.Ascending.{AscendBy};
 ghost use Rattle.apl_session.specs.Wants.{MayGoOn};
 
-use crate::helping::session_of;
+use crate::calls::helping::session_of;
 use anyhow::Result;
 use apl_arrays::{Array, LineList};
 use apl_session::{Session, Transcript, Transcripts, Wants};
