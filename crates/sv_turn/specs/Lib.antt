@@ -1,0 +1,5 @@
+pub mod Journals
+pub mod Views
+pub mod Order
+pub mod Plays
+pub mod Seating

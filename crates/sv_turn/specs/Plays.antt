@@ -1,0 +1,43 @@
+-- What each step tells the seat that makes it.
+use Rattle.std.specs.Prelude.{◌≡◌, ◌≢◌, ℕ, ◌%◌, ◌^◌, List, [], ◌∷◌, length, Option, Some}
+use Rattle.atomic_table.specs.Table.{Me, Step, rest}
+use Rattle.sv_turn.specs.declared.view.Stage.{Stage}
+use Rattle.sv_turn.specs.declared.view.Stage.TheVariants.{Away, Waits, Holds}
+use Rattle.sv_turn.specs.declared.view.View.{View}
+use Rattle.sv_turn.specs.Journals.{places_of, Begins}
+use Rattle.sv_turn.specs.Views.{numbered, at_stage, holder_of, counted}
+
+-- the word that a ticket stands for: its remainder
+abbrev pub word_of : Stage → ℕ
+word_of Away = 0
+word_of (Waits ticket) = ticket % 2 ^ 64
+word_of (Holds ticket) = ticket % 2 ^ 64
+
+-- the true number of a ticket
+abbrev pub ticket_of : Stage → ℕ
+ticket_of Away = 0
+ticket_of (Waits ticket) = ticket
+ticket_of (Holds ticket) = ticket
+
+module _ {S E : Type 0} where
+  abbrev pub Numbers : Step (Option S) → Me (Option S) (View E) → ℕ → Me (Option S) (View E) → Type 0
+  Numbers st me found me' = me' ≡ (numbered st.first me.0, me.1)
+
+  abbrev pub Draws : Step (Option S) → Me (Option S) (View E) → ℕ → Me (Option S) (View E) → Type 0
+  Draws st me found me' = (ticket : ℕ) × (me' ≡ (at_stage (Waits ticket) me.0, me.1)) × (found ≡ ticket % 2 ^ 64)
+
+  -- what the state is where the seat's turn has come
+  pub record Finds (entries : S → List E) (members_of : S → List ℕ) (party_of : E → ℕ) (v : View E) (y : S) : Type 0 where
+    pub begins : Begins v.account.known (entries y)
+    pub places : v.account.places ≡ places_of party_of v.account.party (entries y)
+    pub members : members_of y ≡ v.members
+
+  abbrev pub Looks : (S → List E) → (S → List ℕ) → (E → ℕ) → Step (Option S) → Me (Option S) (View E) → ℕ → Me (Option S) (View E) → Type 0
+  Looks entries members_of party_of st me found me' =
+      (found ≡ word_of me.0.stage → (y : S) × (me' ≡ (holder_of (ticket_of me.0.stage) (entries y) me.0, (0, Some y) ∷ me.1)) × Finds entries members_of party_of me.0 y) × (found ≢ word_of me.0.stage → me' ≡ me)
+
+  abbrev pub Counts : (S → List E) → Step (Option S) → Me (Option S) (View E) → ℕ → Me (Option S) (View E) → Type 0
+  Counts entries st me found me' = (y : S) → me.1 ≡ (0, Some y) ∷ [] → me' ≡ (counted (length (entries y)) (entries y) me.0, me.1)
+
+  abbrev pub Releases : Step (Option S) → Me (Option S) (View E) → ℕ → Me (Option S) (View E) → Type 0
+  Releases st me found me' = me' ≡ (at_stage Away me.0, rest me.1)

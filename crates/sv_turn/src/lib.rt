@@ -1,0 +1,19 @@
+//! The turn: one state with one journal, which one seat at a time enters.
+#![tactic(auto)]
+
+mod history;
+mod memory;
+mod opening;
+mod order;
+mod seat;
+mod seats;
+mod steps;
+mod turnstile;
+mod view;
+
+pub use history::History;
+pub use memory::WantOfMemory;
+pub use seat::Seat;
+pub use seats::Seats;
+pub use turnstile::Turnstile;
+pub use view::{Account, Stage, View};
