@@ -2,3 +2,5 @@ pub mod Sums
 pub mod Places
 pub mod Carrying
 pub mod Numbering
+pub mod Ending
+pub mod Gathering

@@ -31,7 +31,7 @@ module _ {S E : Type 0} (entries : S → List E) (members_of : S → List ℕ) (
       let d : Course E = record c { top = party; owner = put c.owner party seat } in
       let greatest : max c.top party ≡ party = omega arith in
       let keep : (j : ℕ) (a : Account E) → Stands party_of c j a → Stands party_of d j a =
-          λ j a h. stands_on party_of c d j j a (omega arith) (put_else c.owner party seat a.party (λ e. let n = h.numbered in omega arith) ∙ h.owned) refl (begins_self c.journal) h in
+      λ j a h. stands_on party_of c d j j a (omega arith) (put_else c.owner party seat a.party (λ e. let n = h.numbered in omega arith) ∙ h.owned) refl (begins_self c.journal) h in
       let mine : Fits party_of members d seat (numbered party v) = record {
         made = λ _. (made.0, refl);
         members_kept = fit.members_kept;
@@ -63,7 +63,7 @@ module _ {S E : Type 0} (entries : S → List E) (members_of : S → List ℕ) (
       let c = r.course in let fit = r.each seat v at in let p : ℕ = v.account.party in let new : ℕ = length s.views in let mine = fit.mine somebody in
       let d : Course E = record c { owner = put c.owner p new } in let views : List (View E) = set s.views seat (left_of v) in
       let keep : (j : ℕ) (a : Account E) → a.party ≢ p → Stands party_of c j a → Stands party_of d j a =
-          λ j a ne h. stands_on party_of c d j j a (omega arith) (put_else c.owner p new a.party ne ∙ h.owned) refl (begins_self c.journal) h in
+      λ j a ne h. stands_on party_of c d j j a (omega arith) (put_else c.owner p new a.party ne ∙ h.owned) refl (begins_self c.journal) h in
       let left : Fits party_of members d seat (left_of v) = record {
         made = fit.made;
         members_kept = λ _. fit.members_kept (omega arith);
@@ -84,7 +84,7 @@ module _ {S E : Type 0} (entries : S → List E) (members_of : S → List ℕ) (
         queues = tt;
       } in
       let others : (j : ℕ) (u : View E) → j ≢ seat → get_elem? s.views j ≡ some u → Fits party_of members d j u =
-          λ j u ne e. carry party_of members c d j u (λ _ h k. (h, k)) (λ a h. keep j a (λ is. ne (sym h.owned ∙ (ap c.owner is ∙ mine.owned))) h) (queues_on c d j u.account.known u.stage (λ t q. q) (λ t q. q)) (r.each j u e) in
+      λ j u ne e. carry party_of members c d j u (λ _ h k. (h, k)) (λ a h. keep j a (λ is. ne (sym h.owned ∙ (ap c.owner is ∙ mine.owned))) h) (queues_on c d j u.account.known u.stage (λ t q. q) (λ t q. q)) (r.each j u e) in
       let long : length views ≡ new = length-set s.views seat (left_of v) in
       let weigh = sum_set weight_of s.views seat v (left_of v) at in let wait = sum_set tickets_of s.views seat v (left_of v) at in let turn = sum_set turns_of s.views seat v (left_of v) at in
       let more = sum_by_push weight_of views (right_of v) in let more_waiting = sum_by_push tickets_of views (right_of v) in let more_turns = sum_by_push turns_of views (right_of v) in record {
@@ -112,13 +112,13 @@ module _ {S E : Type 0} (entries : S → List E) (members_of : S → List ℕ) (
       let handed : (q : ℕ) → c.owner q ≡ other → owner q ≡ seat = λ q is. ap (λ b. cond b seat (c.owner q)) (eq-eqb (c.owner q) other is) in
       let stayed : (q j : ℕ) → c.owner q ≡ j → j ≢ other → owner q ≡ j = λ q j is ne. ap (λ b. cond b seat (c.owner q)) (ne_eqb (c.owner q) other (λ e. ne (sym is ∙ e))) ∙ is in
       let keep : (j : ℕ) (a : Account E) → j ≢ other → Stands party_of c j a → Stands party_of d j a =
-          λ j a ne h. stands_on party_of c d j j a (omega arith) (stayed a.party j h.owned ne) refl (begins_self c.journal) h in
+      λ j a ne h. stands_on party_of c d j j a (omega arith) (stayed a.party j h.owned ne) refl (begins_self c.journal) h in
       let take : (a : Account E) → Stands party_of c other a → Stands party_of d seat a × (a.party ≢ v.account.party) =
-          λ a h. (stands_on party_of c d other seat a (omega arith) (handed a.party h.owned) refl (begins_self c.journal) h, λ e. apart (sym h.owned ∙ (ap c.owner e ∙ mine.owned))) in
+      λ a h. (stands_on party_of c d other seat a (omega arith) (handed a.party h.owned) refl (begins_self c.journal) h, λ e. apart (sym h.owned ∙ (ap c.owner e ∙ mine.owned))) in
       let Kept : Account E → Type 0 = λ a. Stands party_of d seat a × (a.party ≢ v.account.party) in
-      let all_kept : All Kept (w.account ∷ w.kept ++ v.kept) = All-cons Kept w.account (w.kept ++ v.kept) (take w.account theirs) (All-append Kept w.kept v.kept
-          (All-weaker (λ a. Stands party_of c other a × (a.party ≢ w.account.party)) Kept (λ a h. take a h.0) w.kept gone.others)
-          (All-weaker (λ a. Stands party_of c seat a × (a.party ≢ v.account.party)) Kept (λ a h. (keep seat a (λ e. apart (sym e)) h.0, h.1)) v.kept fit.others)) in
+      let all_kept : All Kept (v.kept ++ w.account ∷ w.kept) = All-append Kept v.kept (w.account ∷ w.kept)
+      (All-weaker (λ a. Stands party_of c seat a × (a.party ≢ v.account.party)) Kept (λ a h. (keep seat a (λ e. apart (sym e)) h.0, h.1)) v.kept fit.others)
+      (All-cons Kept w.account w.kept (take w.account theirs) (All-weaker (λ a. Stands party_of c other a × (a.party ≢ w.account.party)) Kept (λ a h. take a h.0) w.kept gone.others)) in
       let both : Fits party_of members d seat (joined v w) = record {
         made = fit.made;
         members_kept = λ _. fit.members_kept (fit.heavy somebody);
@@ -138,8 +138,8 @@ module _ {S E : Type 0} (entries : S → List E) (members_of : S → List ℕ) (
         queues = tt;
       } in
       let others : (j : ℕ) (u : View E) → j ≢ other → get_elem? views j ≡ some u → Fits party_of members d j u =
-          λ j u ne e'. each_set entries members_of party_of parties members (λ i x. i ≢ other → Fits party_of members d i x) s.views seat (joined v w) (λ _. both)
-          (λ i x _ e far. carry party_of members c d i x (λ _ h k. (h, k)) (λ a h. keep i a far h) (queues_on c d i x.account.known x.stage (λ t q. q) (λ t q. q)) (r.each i x e)) j u e' ne in
+      λ j u ne e'. each_set entries members_of party_of parties members (λ i x. i ≢ other → Fits party_of members d i x) s.views seat (joined v w) (λ _. both)
+      (λ i x _ e far. carry party_of members c d i x (λ _ h k. (h, k)) (λ a h. keep i a far h) (queues_on c d i x.account.known x.stage (λ t q. q) (λ t q. q)) (r.each i x e)) j u e' ne in
       let a = sum_set weight_of s.views seat v (joined v w) at in let b = sum_set weight_of views other w spent there in
       let a₁ = sum_set tickets_of s.views seat v (joined v w) at in let b₁ = sum_set tickets_of views other w spent there in
       let a₂ = sum_set turns_of s.views seat v (joined v w) at in let b₂ = sum_set turns_of views other w spent there in

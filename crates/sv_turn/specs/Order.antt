@@ -49,6 +49,10 @@ module _ {E : Type 0} where
     pub others : All (λ a. Stands party_of c seat a × (a.party ≢ v.account.party)) v.kept
     pub queues : Queues c seat v.account.known v.stage
 
+-- the account has the places of its party in the journal, which begins with what it knows
+abbrev pub IsTold : {E : Type 0} → (E → ℕ) → List E → Account E → Type 0
+IsTold party_of journal a = (a.places ≡ places_of party_of a.party journal) × Begins a.known journal
+
 -- the table is in order, where so many parties were handed to the maker, and the state at the start had these members
 pub record InOrder {S E : Type 0} (entries : S → List E) (members_of : S → List ℕ) (party_of : E → ℕ) (parties : ℕ) (members : List ℕ) (s : State (Option S) (View E)) : Type 0 where
   pub course : Course E

@@ -1,6 +1,7 @@
 -- Seats and turnstiles as contracts see them.
 use Rattle.std.specs.Prelude.{◌≡◌, ℕ, ◌-◌, List, [], ◌∷◌, All, map, length, vec_len, vec_capacity}
 use Rattle.atomic_table.specs.Seated.{TableId}
+use Rattle.sv_turn.specs.declared.view.Account.{Account}
 use Rattle.sv_turn.specs.declared.view.View.{View}
 use Rattle.sv_turn.specs.declared.seat.Seat.{Seat}
 use Rattle.sv_turn.specs.declared.turnstile.Turnstile.{Turnstile}
@@ -21,6 +22,10 @@ module _ {E : Type 0} where
   -- the party and the places of its entries
   abbrev pub party_and_places : Seat E → ℕ × List ℕ
   party_and_places seat = (seat.party, seat.mine.items)
+
+  -- what the seat knows of its party
+  abbrev pub account_of : Seat E → Account E
+  account_of seat = record { party = seat.party; places = seat.mine.items; known = known_of seat }
 
   -- a closed seat can enter nothing
   abbrev pub IsClosed : Seat E → Type 0

@@ -48,7 +48,7 @@ module _ {E : Type 0} where
 
   -- a seat that took in another
   abbrev pub joined : View E → View E → View E
-  joined v w = record v { weight = v.weight + w.weight; kept = w.account ∷ w.kept ++ v.kept }
+  joined v w = record v { weight = v.weight + w.weight; kept = v.kept ++ w.account ∷ w.kept }
 
   -- the seat at this stage
   abbrev pub at_stage : Stage → View E → View E
@@ -61,6 +61,10 @@ module _ {E : Type 0} where
   -- the seat after its entry was counted, at this place
   abbrev pub counted : ℕ → List E → View E → View E
   counted place journal v = record v { account = record { party = v.account.party; places = v.account.places ++ place ∷ []; known = journal } }
+
+  -- its own account, and those that it took in
+  abbrev pub accounts_of : View E → List (Account E)
+  accounts_of v = v.account ∷ v.kept
 
   abbrev pub weight_of : View E → ℕ
   weight_of v = v.weight

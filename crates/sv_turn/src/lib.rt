@@ -1,6 +1,7 @@
 //! The turn: one state with one journal, which one seat at a time enters.
 #![tactic(auto)]
 
+mod closing;
 mod history;
 mod memory;
 mod opening;

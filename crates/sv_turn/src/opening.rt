@@ -60,11 +60,7 @@ fn one_slot<S: Drop>(alloc: Global, start: S) -> Result<Vec<Option<S>>, WantOfMe
     Ok(slots)
 }
 
-fn sit<S, E>(
-    alloc: Global,
-    place: atomic_table::Seat<Option<S>, View<E>>,
-    party: u32,
-) -> Seat<E>
+fn sit<S, E>(alloc: Global, place: atomic_table::Seat<Option<S>, View<E>>, party: u32) -> Seat<E>
     requires { (0 < party) × (place.me.1 ≡ []) × Sits party [] place.me.0 }
     ensures { (result.badge.table_id ≡ place.table_id) × (result.badge.views ≡ place.me.0 ∷ []) × (result.party ≡ party) × (result.mine.items ≡ []) }
 {

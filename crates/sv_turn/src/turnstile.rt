@@ -13,5 +13,5 @@ pub struct Turnstile<S: History> {
     // A bell for each place in the row of those who wait.
     pub(crate) bells: Vec<EventCount>,
     ghost sized: { (table.shared.table_id.words ≡ 4) × (table.shared.table_id.slots ≡ 1) },
-    ghost belled: { 0 < vec_len bells },
+    ghost belled: { (0 < vec_len bells) × (vec_len bells ≡ table.shared.key.parties) },
 }
