@@ -4,3 +4,4 @@ pub mod Carrying
 pub mod Numbering
 pub mod Ending
 pub mod Gathering
+pub mod Turns

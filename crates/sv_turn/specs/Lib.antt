@@ -3,3 +3,4 @@ pub mod Views
 pub mod Order
 pub mod Plays
 pub mod Seating
+pub mod Turning

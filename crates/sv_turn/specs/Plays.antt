@@ -5,19 +5,13 @@ use Rattle.sv_turn.specs.declared.view.Stage.{Stage}
 use Rattle.sv_turn.specs.declared.view.Stage.TheVariants.{Away, Waits, Holds}
 use Rattle.sv_turn.specs.declared.view.View.{View}
 use Rattle.sv_turn.specs.Journals.{places_of, Begins}
-use Rattle.sv_turn.specs.Views.{numbered, at_stage, holder_of, counted}
+use Rattle.sv_turn.specs.Views.{numbered, ticket_of, at_stage, holder_of, counted}
 
 -- the word that a ticket stands for: its remainder
 abbrev pub word_of : Stage → ℕ
 word_of Away = 0
 word_of (Waits ticket) = ticket % 2 ^ 64
 word_of (Holds ticket) = ticket % 2 ^ 64
-
--- the true number of a ticket
-abbrev pub ticket_of : Stage → ℕ
-ticket_of Away = 0
-ticket_of (Waits ticket) = ticket
-ticket_of (Holds ticket) = ticket
 
 module _ {S E : Type 0} where
   abbrev pub Numbers : Step (Option S) → Me (Option S) (View E) → ℕ → Me (Option S) (View E) → Type 0
@@ -41,3 +35,7 @@ module _ {S E : Type 0} where
 
   abbrev pub Releases : Step (Option S) → Me (Option S) (View E) → ℕ → Me (Option S) (View E) → Type 0
   Releases st me found me' = me' ≡ (at_stage Away me.0, rest me.1)
+
+  -- the seat's turn has come: the slot is out with it
+  abbrev pub IsHere : (S → List E) → (S → List ℕ) → (E → ℕ) → Me (Option S) (View E) → Me (Option S) (View E) → Type 0
+  IsHere entries members_of party_of me me' = (y : S) × (me' ≡ (holder_of (ticket_of me.0.stage) (entries y) me.0, (0, Some y) ∷ me.1)) × Finds entries members_of party_of me.0 y

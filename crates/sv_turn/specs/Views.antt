@@ -17,6 +17,12 @@ turns Away = 0
 turns (Waits ticket) = 0
 turns (Holds ticket) = 1
 
+-- the true number of a ticket
+abbrev pub ticket_of : Stage → ℕ
+ticket_of Away = 0
+ticket_of (Waits ticket) = ticket
+ticket_of (Holds ticket) = ticket
+
 module _ {E : Type 0} where
   -- the account of a party that has seen nothing
   abbrev pub opened : ℕ → Account E

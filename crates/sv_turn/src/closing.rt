@@ -7,21 +7,12 @@ ghost use Rattle.sv_turn.specs.Order.{IsTold};
 ghost use Rattle.sv_turn.specs.Seating.{IsSeatAt, IsClosed, BelongsTo, party_and_places, account_of, known_of, seats_given, start_members};
 
 use crate::order::{Order, Start};
+use crate::sitting::rise;
 use crate::steps::gather;
 use crate::view::View;
 use crate::{History, Seat, Seats, Turnstile};
-use atomic_table::{Badge, Shared, Table};
+use atomic_table::{Shared, Table};
 use std::alloc::Global;
-use std::mem;
-
-// Takes the right to enter out of a seat.
-fn leave<S, E>(seat: &mut Seat<E>) -> atomic_table::Seat<Option<S>, View<E>>
-    requires { (view : View E) × (seat.old.badge.views ≡ view ∷ []) }
-    ensures place { (result.table_id ≡ seat.old.badge.table_id) × (result.me.1 ≡ []) × (seat.old.badge.views ≡ result.me.0 ∷ []) }
-    ensures seat { IsClosed seat.new × (party_and_places seat.new ≡ party_and_places seat.old) }
-{
-    mem::replace(&mut seat.badge, Badge::blank()).into_seat()
-}
 
 // Takes in one more seat.
 fn gather_next<S: History>(
@@ -38,7 +29,7 @@ fn gather_next<S: History>(
     ensures accounts { accounts_of place.new.me.0 ≡ accounts_of place.old.me.0 ++ account_of seat.old ∷ [] }
     ensures seat { IsClosed seat.new × (party_and_places seat.new ≡ party_and_places seat.old) }
 {
-    gather(shared, place, leave(seat));
+    gather(shared, place, rise(seat));
 }
 
 // The first seat, as what takes in the others.
@@ -51,7 +42,7 @@ fn gather_first<S: History>(
     ensures accounts { accounts_of result.me.0 ≡ account_of seat.old ∷ [] }
     ensures seat { IsClosed seat.new × (party_and_places seat.new ≡ party_and_places seat.old) }
 {
-    leave(seat)
+    rise(seat)
 }
 
 // One seat with the right of all.

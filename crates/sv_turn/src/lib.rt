@@ -2,13 +2,17 @@
 #![tactic(auto)]
 
 mod closing;
+mod entering;
+mod finishing;
 mod history;
 mod memory;
 mod opening;
 mod order;
 mod seat;
 mod seats;
+mod sitting;
 mod steps;
+mod turn;
 mod turnstile;
 mod view;
 
@@ -16,5 +20,6 @@ pub use history::History;
 pub use memory::WantOfMemory;
 pub use seat::Seat;
 pub use seats::Seats;
+pub use turn::Turn;
 pub use turnstile::Turnstile;
 pub use view::{Account, Stage, View};

@@ -2,7 +2,7 @@
 //! The words are the tickets taken, the tickets served, the length of the journal and the last party numbered. The slot holds the state.
 ghost use Rattle.sv_turn.specs.Views.{maker_of, spent, left_of, right_of, joined};
 ghost use Rattle.sv_turn.specs.Order.{InOrder};
-ghost use Rattle.sv_turn.specs.Plays.{Numbers};
+ghost use Rattle.sv_turn.specs.Plays.{Numbers, Draws, Looks, Counts, Releases};
 
 use crate::History;
 use crate::view::View;
@@ -47,4 +47,32 @@ impl<E> Join<View<E>> for Gathered {
     ghost both = { joined };
 
     ghost spent = { spent };
+}
+
+/// A seat takes a ticket.
+pub struct Draw;
+
+impl<S: History> Play<Option<S>, View<S::Entry>> for Draw {
+    ghost then = { Draws };
+}
+
+/// A seat looks whether its turn has come.
+pub struct Look;
+
+impl<S: History> Play<Option<S>, View<S::Entry>> for Look {
+    ghost then = { Looks S.entries S.members_of S.party_of };
+}
+
+/// A seat gives its turn on.
+pub struct Release;
+
+impl<S: History> Play<Option<S>, View<S::Entry>> for Release {
+    ghost then = { Releases };
+}
+
+/// A seat counts its entry.
+pub struct Count;
+
+impl<S: History> Play<Option<S>, View<S::Entry>> for Count {
+    ghost then = { Counts S.entries };
 }

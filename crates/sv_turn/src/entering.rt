@@ -1,0 +1,130 @@
+//! Entering a turnstile and leaving it.
+ghost use Rattle.std.specs.Prelude.{◌≡◌, ℕ, ◌%◌, ◌^◌, ◌+◌, ◌<◌, [], ◌∷◌, true, false, None, Some, vec_len};
+ghost use Rattle.std.specs.Borrow.{sem};
+ghost use Rattle.sv_turn.specs.declared.view.Stage.TheVariants.{Waits};
+ghost use Rattle.sv_turn.specs.Journals.{places_of, Begins};
+ghost use Rattle.sv_turn.specs.Plays.{IsHere};
+ghost use Rattle.sv_turn.specs.Seating.{BelongsTo, IsSeatAt, start_members, known_of};
+ghost use Rattle.sv_turn.specs.Turning.{found_in, members_in, table_in, IsGiven, LendsState};
+
+use crate::sitting::{rise, settle};
+use crate::steps::{draw, look, put, release, take};
+use crate::turn::Turn;
+use crate::view::View;
+use crate::{History, Seat, Turnstile};
+use crossbeam_utils::Backoff;
+use crossbeam_utils::sync::EventCount;
+use std::sync::Wait;
+
+impl<S: History> Turnstile<S> {
+    // The bell of a ticket: its place in the row.
+    pub(crate) fn bell(&self, ticket: u64) -> &EventCount {
+        &self.bells[(ticket % self.bells.len() as u64) as usize]
+    }
+
+    // One look, and a pause where the turn hasn't come. A thread that paused often enough sleeps until the bell of its ticket rings.
+    fn try_turn<R: Wait>(
+        &self,
+        rt: &R,
+        place: &mut atomic_table::Seat<Option<S>, View<S::Entry>>,
+        ticket: u64,
+        backoff: &Backoff,
+    ) -> bool
+        requires table { place.old.table_id ≡ self.now.table.shared.table_id }
+        requires waits { (number : ℕ) × (place.old.me.0.stage ≡ Waits number) × (ticket ≡ number % 2 ^ 64) }
+        ensures table { place.new.table_id ≡ place.old.table_id }
+        ensures here { result ≡ true → IsHere S.entries S.members_of S.party_of place.old.me place.new.me }
+        ensures waits { result ≡ false → place.new.me ≡ place.old.me }
+    {
+        if !backoff.is_completed() {
+            backoff.snooze();
+            return look(&self.table.shared, place, ticket);
+        }
+        let key = self.bell(ticket).prepare_wait();
+        if look(&self.table.shared, place, ticket) {
+            return true;
+        }
+        key.wait(rt);
+        false
+    }
+
+    // Waits until the turn of a ticket comes.
+    fn wait_turn<R: Wait>(
+        &self,
+        rt: &R,
+        place: &mut atomic_table::Seat<Option<S>, View<S::Entry>>,
+        ticket: u64,
+    )
+        requires table { place.old.table_id ≡ self.now.table.shared.table_id }
+        requires waits { (number : ℕ) × (place.old.me.0.stage ≡ Waits number) × (ticket ≡ number % 2 ^ 64) }
+        ensures table { place.new.table_id ≡ place.old.table_id }
+        ensures here { IsHere S.entries S.members_of S.party_of place.old.me place.new.me }
+    {
+        if look(&self.table.shared, place, ticket) {
+            return;
+        }
+        let backoff = Backoff::new();
+        for _ in rt.forever() {
+            if self.try_turn(rt, place, ticket, &backoff) {
+                return;
+            }
+        }
+        unreachable!()
+    }
+
+    /// Waits for the turn of a seat, and takes it. It may wait for ever.
+    pub fn enter<'a, R: Wait>(&'a self, rt: &R, seat: &'a mut Seat<S::Entry>) -> Turn<'a, S>
+        requires own { BelongsTo S.members_of self.now seat.old }
+        ensures same_reference { result.seat.ghost_name ≡ seat.entry.ghost_name }
+        ensures seat { (result.seat.now.party ≡ seat.old.party) × (result.seat.now.mine ≡ seat.old.mine) }
+        ensures given { IsGiven result }
+        ensures begins { Begins (known_of seat.old) (S.entries result.state) }
+        ensures mine { seat.old.mine.items ≡ places_of S.party_of seat.old.party (S.entries result.state) }
+        ensures members { S.members_of result.state ≡ start_members S.members_of self.now }
+        ensures found { (found_in result ≡ S.entries result.state) × (members_in result ≡ start_members S.members_of self.now) × (table_in result ≡ self.now.table.shared.table_id) }
+    {
+        let mut place = rise(seat);
+        let ticket = draw(&self.table.shared, &mut place);
+        self.wait_turn(rt, &mut place, ticket);
+        let state = take(&self.table.shared, &mut place);
+        Turn {
+            seat,
+            stile: self,
+            place,
+            ticket,
+            state,
+        }
+    }
+}
+
+impl<'a, S: History> Turn<'a, S> {
+    /// The state. It takes no memory.
+    pub fn state(&mut self) -> &mut S
+        ensures* writes_back { sem 𝓛 (LendsState S.row S.Entry.row S.History self.entry result) }
+        ensures value { result.now ≡ self.old.state }
+    {
+        &mut self.state
+    }
+
+    /// Ends the turn, with the journal and the members as they were found. It takes no memory.
+    pub fn give_back(self)
+        requires given { IsGiven self }
+        requires journal { S.entries self.state ≡ found_in self }
+        requires members { S.members_of self.state ≡ members_in self }
+        ensures same { (self.exit.0.now.party ≡ self.entry.seat.now.party) × (self.exit.0.now.mine ≡ self.entry.seat.now.mine) }
+        ensures known { known_of self.exit.0.now ≡ found_in self.entry }
+        ensures own { IsSeatAt (table_in self.entry) (members_in self.entry) self.exit.0.now }
+    {
+        let Turn {
+            seat,
+            stile,
+            mut place,
+            ticket,
+            state,
+        } = self;
+        put(&stile.table.shared, &mut place, state);
+        release(&stile.table.shared, &mut place);
+        settle(seat, place);
+        stile.bell(ticket.wrapping_add(1)).notify_one();
+    }
+}
