@@ -5,3 +5,4 @@ pub mod Numbering
 pub mod Ending
 pub mod Gathering
 pub mod Turns
+pub mod PlaceLaws

@@ -5,6 +5,7 @@ mod closing;
 mod entering;
 mod finishing;
 mod history;
+mod laws;
 mod memory;
 mod opening;
 mod order;
@@ -17,9 +18,9 @@ mod turnstile;
 mod view;
 
 pub use history::History;
+pub use laws::places_law;
 pub use memory::WantOfMemory;
 pub use seat::Seat;
 pub use seats::Seats;
 pub use turn::Turn;
 pub use turnstile::Turnstile;
-pub use view::{Account, Stage, View};

@@ -20,6 +20,13 @@ impl<E> Seats<E> {
         }
     }
 
+    /// The seats of a `Vec`, in its order. It takes no memory.
+    pub fn of_vec(list: Vec<Seat<E>>) -> Seats<E>
+        ensures { result.list ≡ list }
+    {
+        Seats { list }
+    }
+
     /// The seats, in their order. It takes no memory.
     pub fn as_slice(&self) -> &[Seat<E>]
         ensures { result.now ≡ self.now.list.items }

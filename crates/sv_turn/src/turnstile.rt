@@ -8,6 +8,7 @@ use crossbeam_utils::sync::EventCount;
 use std::alloc::Global;
 
 /// A state with a journal, which one seat at a time enters.
+#[derive(Drop)]
 pub struct Turnstile<S: History> {
     pub(crate) table: Table<Option<S>, View<S::Entry>, Start<S>, Order, Global>,
     // A bell for each place in the row of those who wait.
