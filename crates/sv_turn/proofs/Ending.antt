@@ -1,5 +1,5 @@
 -- A seat that has the whole weight is alone, so the slot is at home.
-use Rattle.std.proofs.Common.{◌≡◌, ◌≢◌, ℕ, zero, suc, ◌+◌, ◌<◌, ◌≤◌, List, [], ◌∷◌, All, sum_by, Option, Some, sym, ap, ◌∙◌, arith, subst}
+use Rattle.std.proofs.Common.{◌≡◌, ◌≢◌, ℕ, zero, suc, ◌<◌, ◌≤◌, List, All, sum_by, Option, Some, sym, ap, ◌∙◌, arith, subst}
 use Rattle.std.proofs.lemmas.List.Elements.{All-cons, All-weaker}
 use mathlib.Core.Option.{some, some-injective}
 use mathlib.Core.Option as maybe
@@ -10,7 +10,7 @@ use Rattle.sv_turn.specs.declared.view.Stage.TheVariants.{Away, Waits, Holds}
 use Rattle.sv_turn.specs.declared.view.Account.{Account}
 use Rattle.sv_turn.specs.declared.view.View.{View}
 use Rattle.sv_turn.specs.Views.{weight_of, turns_of, tickets, turns, accounts_of}
-use Rattle.sv_turn.specs.Order.{Course, Stands, IsTold, InOrder}
+use Rattle.sv_turn.specs.Order.{Stands, IsTold, InOrder}
 use Rattle.sv_turn.proofs.Sums.{sum_apart, sum_found}
 
 pub turns_below : (stage : Stage) → turns stage ≤ tickets stage

@@ -1,17 +1,16 @@
 -- Numbering, splitting and joining seats keep the rule, and so does the table at the start.
-use Rattle.std.proofs.Common.{◌≡◌, ◌≢◌, ◌⊎◌, ℕ, ◌+◌, ◌-◌, ◌%◌, ◌^◌, ◌<◌, ◌≤◌, ◌==◌, max, cond, true, false, List, [], ◌∷◌, ◌++◌, length, set, slice_index, All, sum_by, Option, Some, refl, sym, ap, ◌∙◌, subst, ⊎_elim, arith, eq-eqb, ne_eqb, length-set}
+use Rattle.std.proofs.Common.{◌≡◌, ◌≢◌, ℕ, ◌%◌, ◌^◌, ◌<◌, ◌≤◌, ◌==◌, max, cond, true, List, [], ◌∷◌, ◌++◌, length, set, slice_index, All, Option, Some, refl, sym, ap, ◌∙◌, subst, ⊎_elim, arith, eq-eqb, ne_eqb, length-set}
 use Rattle.std.proofs.lemmas.List.Elements.{All-nil, All-cons, All-append, All-weaker}
 use Rattle.std.proofs.lemmas.List.Sums.{sum_by_push}
 use mathlib.Core.Option.{none, some, some-ne-none}
 use lib.ListN.{get_elem?}
 use Rattle.atomic_table.specs.Table.{State, Me, step, keeps, Allows, Splits, Joins, opening}
-use Rattle.atomic_table.proofs.Lists.{at_set, set_else}
-use Rattle.sv_turn.specs.declared.view.Stage.{Stage}
-use Rattle.sv_turn.specs.declared.view.Stage.TheVariants.{Away, Waits, Holds}
+use Rattle.atomic_table.proofs.Lists.{set_else}
+use Rattle.sv_turn.specs.declared.view.Stage.TheVariants.{Away}
 use Rattle.sv_turn.specs.declared.view.Account.{Account}
 use Rattle.sv_turn.specs.declared.view.View.{View}
 use Rattle.sv_turn.specs.Views.{weight_of, tickets_of, turns_of, tickets, turns, maker_of, spent, numbered, left_of, right_of, joined}
-use Rattle.sv_turn.specs.Order.{Course, words_of, Queues, Stands, Fits, InOrder}
+use Rattle.sv_turn.specs.Order.{Course, Stands, Fits, InOrder}
 use Rattle.sv_turn.specs.Plays.{Numbers}
 use Rattle.sv_turn.proofs.Sums.{at_end, sum_set}
 use Rattle.sv_turn.proofs.Places.{begins_self, begins_none, no_places}

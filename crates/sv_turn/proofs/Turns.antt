@@ -14,8 +14,8 @@ use Rattle.sv_turn.specs.declared.view.Account.{Account}
 use Rattle.sv_turn.specs.declared.view.View.{View}
 use Rattle.sv_turn.specs.Journals.{places_of, Begins, AddsOne}
 use Rattle.sv_turn.specs.Views.{weight_of, tickets_of, turns_of, tickets, turns, ticket_of, at_stage, holder_of, counted}
-use Rattle.sv_turn.specs.Order.{Course, words_of, Queues, Stands, Fits, InOrder}
-use Rattle.sv_turn.specs.Plays.{Draws, Finds, Looks, Counts, Releases, word_of}
+use Rattle.sv_turn.specs.Order.{Course, Queues, Stands, Fits, InOrder}
+use Rattle.sv_turn.specs.Plays.{Draws, Looks, Counts, Releases, word_of}
 use Rattle.sv_turn.proofs.Sums.{sum_set, sum_at, sum_found, sum_less}
 use Rattle.sv_turn.proofs.Places.{begins_self, other_places, own_places}
 use Rattle.sv_turn.proofs.Carrying.{put, put_here, put_else, wrapped, queues_on, stands_on, carry, turned, moved}

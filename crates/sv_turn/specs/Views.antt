@@ -1,5 +1,5 @@
 -- What a seat knows, and how the steps change it. Party 0 is nobody.
-use Rattle.std.specs.Prelude.{◌≡◌, ℕ, ◌+◌, ◌-◌, ◌<◌, Bool, true, false, List, [], ◌∷◌, ◌++◌, All}
+use Rattle.std.specs.Prelude.{◌≡◌, ℕ, ◌+◌, ◌-◌, true, false, List, [], ◌∷◌, ◌++◌}
 use Rattle.sv_turn.specs.declared.view.Stage.{Stage}
 use Rattle.sv_turn.specs.declared.view.Stage.TheVariants.{Away, Waits, Holds}
 use Rattle.sv_turn.specs.declared.view.Account.{Account}

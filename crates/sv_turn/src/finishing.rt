@@ -20,6 +20,13 @@ fn note<E>(seat: &mut Seat<E>, place: u64)
 }
 
 impl<E> Seat<E> {
+    /// Whose seat it is. It takes no memory.
+    pub fn party(&self) -> u32
+        ensures { (result ≡ self.now.party) × (0 < result) }
+    {
+        self.party
+    }
+
     /// Makes room for the places of at least two entries. It takes memory where there is less; `WantOfMemory` leaves the seat as it was.
     pub fn reserve(&mut self) -> Result<(), WantOfMemory>
         ensures room { OnOk result (2 ≤ spare_of self.new) }

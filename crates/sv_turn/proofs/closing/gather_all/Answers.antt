@@ -1,6 +1,5 @@
-use Rattle.std.proofs.Common.{rules, arith, ◌≡◌, ℕ, ◌<◌, ◌≤◌, List, ◌∷◌, [], ◌++◌, All, length, sym, ap, ◌∙◌, subst, length-set, take_all}
+use Rattle.std.proofs.Common.{rules, arith, ℕ, ◌<◌, ◌≤◌, List, ◌∷◌, [], ◌++◌, All, length, sym, ap, ◌∙◌, subst, length-set, take_all}
 use lib.Seq.{map-set_same}
-use Rattle.sv_turn.specs.declared.seat.Seat.{Seat}
 use Rattle.sv_turn.specs.declared.view.Account.{Account}
 use Rattle.sv_turn.specs.Seating.{IsSeatAt, IsClosed, party_and_places, account_of}
 use Rattle.sv_turn.proofs.Gathering.{same_at, same_after, mapped_more, all_more}

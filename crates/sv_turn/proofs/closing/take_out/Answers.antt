@@ -1,5 +1,5 @@
 use Rattle.std.proofs.Common.{rules, ◌≡◌, sym, ◌∙◌, ap, subst, All, Some}
-use mathlib.Core.Option.{some, some-injective}
+use mathlib.Core.Option.{some-injective}
 use Rattle.sv_turn.specs.Views.{accounts_of}
 use Rattle.sv_turn.specs.Order.{IsTold}
 use Rattle.sv_turn.proofs.Ending.{ended}

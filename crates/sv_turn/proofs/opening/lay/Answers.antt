@@ -1,4 +1,4 @@
-use Rattle.std.proofs.Common.{rules, arith, ap, sym}
+use Rattle.std.proofs.Common.{rules, ap, sym}
 use Rattle.sv_turn.proofs.Numbering.{starts}
 use Rattle.sv_turn.proofs.opening.lay.Goals as goal
 

@@ -1,5 +1,4 @@
-use Rattle.std.proofs.Common.{rules, ◌≡◌, ap, sym, ◌∙◌}
-use Rattle.sv_turn.specs.Plays.{word_of}
+use Rattle.std.proofs.Common.{rules}
 use Rattle.sv_turn.proofs.Turns.{looks}
 use Rattle.sv_turn.proofs.steps.look.Goals as goal
 

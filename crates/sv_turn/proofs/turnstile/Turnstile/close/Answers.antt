@@ -1,4 +1,4 @@
-use Rattle.std.proofs.Common.{◌≡◌, ℕ, List, All, map, sym, subst}
+use Rattle.std.proofs.Common.{◌≡◌, ℕ, List, All, sym, subst}
 use Rattle.std.proofs.lemmas.List.Elements.{All-map, All-weaker}
 use Rattle.sv_turn.specs.Journals.{places_of, Begins}
 use Rattle.sv_turn.specs.Order.{IsTold}
