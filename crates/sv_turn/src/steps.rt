@@ -2,7 +2,7 @@
 ghost use Rattle.std.specs.Prelude.{◌≡◌, ℕ, ◌%◌, ◌^◌, ◌<◌, [], ◌∷◌, true, false, Some, None, length};
 ghost use Rattle.sv_turn.specs.declared.view.Stage.TheVariants.{Away, Waits, Holds};
 ghost use Rattle.sv_turn.specs.Journals.{AddsOne};
-ghost use Rattle.sv_turn.specs.Views.{numbered, left_of, right_of, joined, at_stage, counted};
+ghost use Rattle.sv_turn.specs.Views.{numbered, left_of, right_of, joined, ticket_of, at_stage, counted};
 ghost use Rattle.sv_turn.specs.Plays.{IsHere};
 
 use crate::History;
@@ -129,7 +129,7 @@ pub fn release<S: History>(
     place: &mut Seat<Option<S>, View<S::Entry>>,
 )
     requires table { (place.old.table_id ≡ shared.now.table_id) × (shared.now.table_id.words ≡ 4) }
-    requires holds { (number : ℕ) × (place.old.me.0.stage ≡ Holds number) }
+    requires holds { place.old.me.0.stage ≡ Holds (ticket_of place.old.me.0.stage) }
     requires state { (state : S) × (place.old.me.1 ≡ (0, Some state) ∷ []) × (S.entries state ≡ place.old.me.0.account.known) × (S.members_of state ≡ place.old.me.0.members) }
     ensures table { place.new.table_id ≡ place.old.table_id }
     ensures view { place.new.me ≡ (at_stage Away place.old.me.0, []) }
@@ -143,7 +143,7 @@ pub fn count<S: History>(
     place: &mut Seat<Option<S>, View<S::Entry>>,
 )
     requires table { (place.old.table_id ≡ shared.now.table_id) × (shared.now.table_id.words ≡ 4) }
-    requires holds { (number : ℕ) × (place.old.me.0.stage ≡ Holds number) }
+    requires holds { place.old.me.0.stage ≡ Holds (ticket_of place.old.me.0.stage) }
     requires state { (state : S) × (place.old.me.1 ≡ (0, Some state) ∷ []) × AddsOne S.party_of place.old.me.0.account.party place.old.me.0.account.known (S.entries state) }
     ensures table { place.new.table_id ≡ place.old.table_id }
     ensures view { (state : S) → place.old.me.1 ≡ (0, Some state) ∷ [] → place.new.me ≡ (counted (length (S.entries state)) (S.entries state) place.old.me.0, place.old.me.1) }
