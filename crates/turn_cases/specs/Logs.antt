@@ -1,5 +1,5 @@
 -- The journal of the cases: the party of each entry.
-use Rattle.std.specs.Prelude.{◌≡◌, ℕ, ◌<◌, List, [], All, AllPairs, reverse}
+use Rattle.std.specs.Prelude.{ℕ, List, [], reverse}
 use Rattle.turn_cases.specs.declared.log.Log.{Log}
 
 -- the entries, the newest first
