@@ -85,7 +85,7 @@ impl Machine {
                 Ok(())
             }
             Err(WantOfMemory) => {
-                discard(reading);
+                drop(reading);
                 Err(WantOfMemory)
             }
         }
@@ -228,4 +228,3 @@ impl Machine {
     }
 }
 
-fn discard(_reading: Reading) {}

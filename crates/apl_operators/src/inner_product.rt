@@ -16,14 +16,8 @@ use apl_arrays::{
     Array, Dyad, Fail, Glyph, ItemsRef, RANK_LIMIT, Report, count_of_elements, shape_fault,
 };
 use apl_items::{glyph_at, is_single, joined_shape, number_at};
-use apl_scalar::{character_of, dyadic_table, rules};
+use apl_scalar::{character_of, item_of_numbers, rules};
 use std::alloc::Global;
-
-macro_rules! pairs_of {
-    (($($argument:expr),*), $rule:expr, $identity:expr) => {
-        products_by_pairs($($argument,)* $rule)
-    };
-}
 
 /// The inner product of two arrays: each row of the first with each column of the second, paired by one function and
 /// reduced by another; the shape is that of the first without its last axis, then that of the second without its first. An
@@ -161,7 +155,7 @@ fn products_of_items(
     }
 }
 
-/// The products of numbers. The function that pairs them is chosen once.
+/// The products of numbers. The functions that loops pair them by are chosen once; all others are asked for by each pair.
 fn number_products(
     alloc: Global,
     f: Dyad,
@@ -178,7 +172,25 @@ fn number_products(
     requires in_b { Reaches (length b.now) (extent.paired * extent.columns) }
     ensures { AnswersFirst result (numbers_answer shape.now (inner_at f g (numbers a.now) (numbers b.now) extent.paired extent.columns)) }
 {
-    dyadic_table!(g, pairs_of(alloc, f, g, shape, a, b, extent))
+    match g {
+        Dyad::Plus => products_by_pairs(alloc, f, g, shape, a, b, extent, rules::plus),
+        Dyad::Times => products_by_pairs(alloc, f, g, shape, a, b, extent, rules::times),
+        Dyad::And => products_by_pairs(alloc, f, g, shape, a, b, extent, rules::and),
+        Dyad::Equal => products_by_pairs(alloc, f, g, shape, a, b, extent, rules::equal),
+        Dyad::NotEqual => products_by_pairs(alloc, f, g, shape, a, b, extent, rules::not_equal),
+        _ => products_by_pairs(
+            alloc,
+            f,
+            g,
+            shape,
+            a,
+            b,
+            extent,
+            |a: i64, b: i64| -> Option<i64>
+                ensures { result ≡ dyadic_item g a b }
+            { item_of_numbers(g, a, b) },
+        ),
+    }
 }
 
 /// The products of numbers, paired by the rule of a function.

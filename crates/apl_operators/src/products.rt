@@ -10,14 +10,8 @@ ghost use Rattle.apl_operators.specs.Reduction.{Joins};
 use crate::reduction::reduced;
 use crate::rows::numbers_by_rows;
 use apl_arrays::{Array, Dyad, Fail};
-use apl_scalar::dyadic_table;
+use apl_scalar::{item_of_numbers, rules};
 use std::alloc::Global;
-
-macro_rules! reductions_of {
-    (($($argument:expr),*), $rule:expr, $identity:expr) => {
-        products_by($($argument,)* $rule)
-    };
-}
 
 /// How many rows the first argument has, how many items are paired in each product, and how many columns the second has.
 #[derive(Clone, Copy)]
@@ -27,7 +21,8 @@ pub(crate) struct Extent {
     pub columns: usize,
 }
 
-/// All products, by a rule for the pair of two places. The function that reduces them is chosen once.
+/// All products, by a rule for the pair of two places. The functions that loops reduce them by are chosen once; all others
+/// are asked for by each pair.
 pub(crate) fn all_products<P: Fn(usize, usize) -> Option<i64>>(
     alloc: Global,
     f: Dyad,
@@ -41,7 +36,23 @@ pub(crate) fn all_products<P: Fn(usize, usize) -> Option<i64>>(
     requires callable { (x y : ℕ) → x < extent.rows * extent.paired → y < extent.paired * extent.columns → P.pre pair.now x y }
     ensures { (item : ℕ → ℕ → Option ℤ) → FollowsPairs (P.post pair.now) (extent.rows * extent.paired) (extent.paired * extent.columns) item → AnswersFirst result (numbers_answer shape.now (products_at f item extent.paired extent.columns)) }
 {
-    dyadic_table!(f, reductions_of(alloc, f, shape, extent, pair))
+    match f {
+        Dyad::Plus => products_by(alloc, f, shape, extent, pair, rules::plus),
+        Dyad::Maximum => products_by(alloc, f, shape, extent, pair, rules::maximum),
+        Dyad::Minimum => products_by(alloc, f, shape, extent, pair, rules::minimum),
+        Dyad::And => products_by(alloc, f, shape, extent, pair, rules::and),
+        Dyad::Or => products_by(alloc, f, shape, extent, pair, rules::or),
+        _ => products_by(
+            alloc,
+            f,
+            shape,
+            extent,
+            pair,
+            |a: i64, b: i64| -> Option<i64>
+                ensures { result ≡ dyadic_item f a b }
+            { item_of_numbers(f, a, b) },
+        ),
+    }
 }
 
 /// All products, reduced by the rule of a function.

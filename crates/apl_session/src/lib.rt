@@ -2,7 +2,6 @@
 #![tactic(auto)]
 
 mod alone;
-mod letting_go;
 mod lines;
 mod outcome;
 mod progress;

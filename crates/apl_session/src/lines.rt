@@ -11,7 +11,6 @@ ghost use Rattle.apl_terminal.specs.Terminal.{echoing, free_prompt, printing};
 ghost use Rattle.apl_session.specs.Standing.{EndsBy, IsAt, IsIdleAt, IsLastRead, IsPaused, IsUnderWay, PausesAt, StandsIn, with_output_of, with_workspace_of};
 ghost use Rattle.apl_session.specs.declared.under_way.UnderWay.TheVariants as under_way;
 
-use crate::letting_go::let_go;
 use crate::progress::Progress;
 use crate::under_way::UnderWay;
 use apl_arrays::{Fail, Line, LineList, WantOfMemory};
@@ -81,7 +80,7 @@ impl Progress {
     {
         match read_line(self.alloc, self.terminal.workspace(), line) {
             Ok(LineRead::Alone(act)) => {
-                let_go(mem::replace(&mut self.under_way, UnderWay::Alone(act)));
+                drop(mem::replace(&mut self.under_way, UnderWay::Alone(act)));
                 Ok(())
             }
             Ok(LineRead::Tree(tree)) => self.begin(line, tree, steps),
@@ -119,7 +118,7 @@ impl Progress {
         match machine.begin(line, tree) {
             Ok(()) => self.run(machine, steps),
             Err(WantOfMemory) => {
-                let_go(machine);
+                drop(machine);
                 Err(WantOfMemory)
             }
         }
@@ -144,7 +143,7 @@ impl Progress {
         match machine.run(steps) {
             Ok(stop) => self.show(machine, stop),
             Err(WantOfMemory) => {
-                let_go(machine);
+                drop(machine);
                 Err(WantOfMemory)
             }
         }
@@ -167,8 +166,8 @@ impl Progress {
                 Ok(())
             }
             Err(WantOfMemory) => {
-                let_go(machine);
-                let_go(stop);
+                drop(machine);
+                drop(stop);
                 Err(WantOfMemory)
             }
         }
@@ -180,7 +179,7 @@ impl Progress {
         ensures rest { self.new ≡ record self.old { terminal = self.new.terminal } }
     {
         if lines.as_slice().is_empty() {
-            let_go(lines);
+            drop(lines);
             Ok(())
         } else {
             self.terminal.print(lines)
@@ -209,7 +208,7 @@ impl Progress {
         ensures paused { IsPaused self.new.under_way }
         ensures read { self.new.read ≡ self.old.read }
     {
-        let_go(mem::replace(&mut self.under_way, UnderWay::Asking(machine, act)));
+        drop(mem::replace(&mut self.under_way, UnderWay::Asking(machine, act)));
     }
 
     // Takes back the workspace of a line that is over. No memory.

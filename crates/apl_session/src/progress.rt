@@ -5,7 +5,6 @@ ghost use Rattle.apl_terminal.specs.Terminal.{new_terminal};
 ghost use Rattle.apl_machine.specs.Machine.{IsOpenStage};
 ghost use Rattle.apl_session.specs.Standing.{ComesTo, IsAnswered, IsHanded, IsOpenLine, IsPaused, MayAdvance, StandsIn, has_open_act, open_act};
 
-use crate::letting_go::let_go;
 use crate::spare::Spare;
 use crate::under_way::UnderWay;
 use apl_arrays::{Line, LineList, WantOfMemory};
@@ -103,20 +102,20 @@ impl Progress {
             UnderWay::Alone(act) => match self.hear(&lines[self.read - 1], &act, answer) {
                 Ok(()) => Ok(act),
                 Err(WantOfMemory) => {
-                    let_go(act);
+                    drop(act);
                     Err(WantOfMemory)
                 }
             },
             UnderWay::Asking(machine, act) => match self.hand(machine, answer) {
                 Ok(()) => Ok(act),
                 Err(WantOfMemory) => {
-                    let_go(act);
+                    drop(act);
                     Err(WantOfMemory)
                 }
             },
             other => {
-                let_go(other);
-                let_go(answer);
+                drop(other);
+                drop(answer);
                 Err(WantOfMemory)
             }
         }
@@ -131,11 +130,11 @@ impl Progress {
         let mut machine = machine;
         match machine.resume(answer) {
             Ok(()) => {
-                let_go(mem::replace(&mut self.under_way, UnderWay::Answered(machine)));
+                drop(mem::replace(&mut self.under_way, UnderWay::Answered(machine)));
                 Ok(())
             }
             Err(WantOfMemory) => {
-                let_go(machine);
+                drop(machine);
                 Err(WantOfMemory)
             }
         }
@@ -158,8 +157,8 @@ impl Progress {
             spare,
             ..
         } = self;
-        let_go(under_way);
-        let_go(spare);
+        drop(under_way);
+        drop(spare);
         terminal.into_transcript()
     }
 
@@ -174,7 +173,7 @@ impl Progress {
             UnderWay::Nothing => Ok(()),
             UnderWay::Answered(machine) => self.run(machine, steps),
             other => {
-                let_go(other);
+                drop(other);
                 Err(WantOfMemory)
             }
         }

@@ -1,7 +1,6 @@
 ghost use Rattle.std.specs.Prelude.{◌≡◌, [], IfOk};
 ghost use Rattle.apl_machine.specs.Machine.{IsIdle, idle_on};
 
-use crate::letting_go::let_go;
 use crate::under_way::boxed;
 use apl_arrays::WantOfMemory;
 use apl_machine::Machine;
@@ -55,7 +54,7 @@ impl Spare {
     {
         let mut machine = machine;
         let workspace = machine.take_workspace();
-        let_go(mem::replace(&mut self.machine, Some(machine)));
+        drop(mem::replace(&mut self.machine, Some(machine)));
         workspace
     }
 }

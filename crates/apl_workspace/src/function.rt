@@ -43,7 +43,8 @@ impl Function {
         ensures whole { IfOk result (λ made. IfSome made IsFunction) }
     {
         if !keeps_limits(&text, &lines) {
-            discard(text, lines);
+            drop(text);
+            drop(lines);
             return Ok(None);
         }
         match Header::read(alloc, &text)? {
@@ -172,4 +173,3 @@ fn all_short(lines: &[Line]) -> bool
     lines.iter().all(|line| is_short(line))
 }
 
-fn discard(_text: Line, _lines: LineList) {}

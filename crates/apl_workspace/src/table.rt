@@ -86,7 +86,7 @@ impl Table {
         };
         let weight = self.weight - there.weight() + after;
         if weight > most {
-            discard(meaning);
+            drop(meaning);
             return Err(Fail::Report(Report::WsFull));
         }
         self.weight = weight;
@@ -114,10 +114,10 @@ impl Table {
     {
         let weight = self.weight + after;
         if weight > most {
-            discard(meaning);
+            drop(meaning);
             return Err(Fail::Report(Report::WsFull));
         }
-        discard_old(put_in(&mut self.names, name, meaning)?);
+        drop(put_in(&mut self.names, name, meaning)?);
         self.weight = weight;
         Ok(())
     }
@@ -178,7 +178,7 @@ impl Table {
         ensures weight { table_weight self.new ≤ most }
     {
         match value {
-            None => discard_old(self.remove(name)),
+            None => drop(self.remove(name)),
             Some(value) => match self.put(*name, Meaning::Value(value), most) {
                 Ok(()) => {}
                 Err(_) => self.keep_copy(name),
@@ -194,8 +194,8 @@ impl Table {
     {
         let _ = &self.names;
         match own_copy(self.swap(name, Meaning::Nothing)) {
-            None => discard_old(self.remove(name)),
-            Some(copy) => discard_old(self.swap(name, Meaning::Value(copy))),
+            None => drop(self.remove(name)),
+            Some(copy) => drop(self.swap(name, Meaning::Value(copy))),
         }
     }
 
@@ -264,10 +264,6 @@ fn put_in(
 {
     Ok(names.insert(name, meaning)?)
 }
-
-fn discard(_meaning: Meaning) {}
-
-fn discard_old(_meaning: Option<Meaning>) {}
 
 /// The own copy of the value of a shared name.
 fn own_copy(meaning: Option<Meaning>) -> Option<Array>

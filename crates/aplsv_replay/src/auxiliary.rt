@@ -132,7 +132,7 @@ impl<X: Replier> Auxiliary<X> {
         let place = core.journal().len() as u64 + 1;
         match core.step(self.party, act_of(work, place, reply)) {
             Ok(answer) => {
-                let_go(answer);
+                drop(answer);
                 Ok(())
             }
             Err(_) => Err(WantOfMemory),
@@ -141,4 +141,3 @@ impl<X: Replier> Auxiliary<X> {
 }
 
 // Lets go of an answer.
-fn let_go(_answer: Answer) {}

@@ -115,7 +115,7 @@ impl<K> Seat<K> {
         ensures stays { has_left core.new.journal self.old.session.user ≡ false }
     {
         if core.waits(self.user()) {
-            discard(act);
+            drop(act);
             return self.retry(core);
         }
         let answer = core.step(self.user(), act)?;
@@ -158,4 +158,3 @@ impl<K> Seat<K> {
     }
 }
 
-fn discard(_act: Act) {}

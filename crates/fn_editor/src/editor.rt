@@ -352,7 +352,7 @@ fn put_line(
     ensures err { OnErr result (lines.new.entries ≡ lines.old.entries) }
 {
     let before = lines.insert(number, text)?;
-    discard(before);
+    drop(before);
     Ok(())
 }
 
@@ -361,7 +361,6 @@ fn remove_line(lines: &mut BTreeMap<LineNumber, LineText>, number: LineNumber)
     ensures { lines.new.entries ≡ without_line lines.old.entries number }
 {
     let before = lines.remove(&number);
-    discard(before);
+    drop(before);
 }
 
-fn discard(_text: Option<LineText>) {}

@@ -102,7 +102,7 @@ impl Cell {
     {
         match &mut self.held {
             Held::Shared(share) => set_shared(share, side, value),
-            Held::Alone(_) | Held::Lent => discard(value),
+            Held::Alone(_) | Held::Lent => drop(value),
         }
     }
 
@@ -149,8 +149,6 @@ fn set_shared(share: &mut Share, side: Side, value: Array)
         Err(_) => unreachable!(),
     }
 }
-
-fn discard(_value: Array) {}
 
 /// The cells of two offers whose coupling ends: each holds again what its party knows.
 #[derive(Debug, Drop)]

@@ -98,7 +98,7 @@ impl Cells {
         requires { IsSome (cell_at self.old place) }
         ensures { PutsAt self.old self.new place (Some cell) }
     {
-        discard(self.replace(place, cell));
+        drop(self.replace(place, cell));
     }
 
     /// The party of the offer at a place sets a control. No memory.
@@ -193,4 +193,3 @@ impl Cells {
     }
 }
 
-fn discard(_cell: Cell) {}

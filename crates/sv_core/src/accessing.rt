@@ -13,7 +13,7 @@ ghost use Rattle.sv_rules.specs.Refused.{hold_on};
 ghost use Rattle.sv_rules.specs.Standing.{own_offer, standing};
 
 use crate::Core;
-use crate::telling::{discard_answer, no_act};
+use crate::telling::no_act;
 use crate::updating::{note_set, note_use};
 use apl_arrays::{Array, List, WantOfMemory};
 use std::alloc::Global;
@@ -179,7 +179,7 @@ impl Core {
             coupling,
             given.value(),
         ) else {
-            discard_answer(given);
+            drop(given);
             return no_act(act);
         };
         self.log.push(Entry {
@@ -253,7 +253,7 @@ fn use_given(
     log.reserve()?;
     let kept = given_by(alloc, value)?;
     if note_use(cells, offer, coupling).is_err() {
-        discard_answer(kept);
+        drop(kept);
         return Err(WantOfMemory);
     }
     Ok(kept)

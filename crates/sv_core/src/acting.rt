@@ -8,7 +8,7 @@ ghost use Rattle.sv_rules.specs.Outcome.{outcome};
 ghost use Rattle.sv_rules.specs.Standing.{own_offer, standing};
 
 use crate::Core;
-use crate::telling::{Told, discard_told, enter, no_act, told_twice};
+use crate::telling::{Told, enter, no_act, told_twice};
 use apl_arrays::{List, WantOfMemory};
 use sv_events::{Act, Answer, Controlling, Ending, Question};
 use sv_rules::Standing;
@@ -83,7 +83,7 @@ impl Core {
             Err(_) => return no_act(act),
         };
         if self.log.reserve().is_err() {
-            discard_told(told);
+            drop(told);
             return no_act(act);
         }
         Ok(enter(&mut self.log, party, act, told, List::new(self.alloc)))

@@ -17,7 +17,7 @@ ghost use Rattle.sv_rules.specs.Standing.{offer_count, own_offer, standing};
 ghost use Rattle.sv_rules.specs.Story.{handed_in, known};
 
 use crate::Core;
-use crate::telling::{Told, discard_told, enter, no_act, told_twice};
+use crate::telling::{Told, enter, no_act, told_twice};
 use crate::updating::{end_together, join};
 use apl_arrays::{List, Name, WantOfMemory};
 use std::alloc::Global;
@@ -100,7 +100,7 @@ impl Core {
         );
         match added {
             Err(_) => {
-                discard_pairs(made);
+                drop(made);
                 no_act(act)
             }
             Ok(other) => {
@@ -154,8 +154,8 @@ impl Core {
         };
         let mut made = List::new(self.alloc);
         if room_for_pair(&mut self.log, &mut made).is_err() {
-            discard_told(told);
-            discard_pairs(made);
+            drop(told);
+            drop(made);
             return no_act(act);
         }
         let at = self.log.next_place();
@@ -181,8 +181,6 @@ impl Core {
         told_twice(self.alloc, Answer::Kept { degree, value })
     }
 }
-
-fn discard_pairs(_made: PairList) {}
 
 // Room for an entry and for the pair that it makes. It takes memory; after `WantOfMemory` there is no less room than before.
 fn room_for_pair(log: &mut Log, made: &mut PairList) -> Result<(), WantOfMemory>

@@ -150,7 +150,7 @@ impl Core {
         ensures err { OnErr result (self.new ≡ self.old) }
     {
         if self.log.is_full() {
-            discard_act(act);
+            drop(act);
             return Ok(Answer::Full);
         }
         self.make(party, act)
@@ -231,4 +231,3 @@ fn act_awaited(entries: &[Entry], party: u32, place: u64) -> &Act
     &entries[place as usize - 1].act
 }
 
-pub(crate) fn discard_act(_act: Act) {}

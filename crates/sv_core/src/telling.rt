@@ -22,7 +22,7 @@ pub fn told_twice(alloc: Global, answer: Answer) -> Result<Told, WantOfMemory>
     match answer.copy(alloc) {
         Ok(kept) => Ok(Told { answer, kept }),
         Err(_) => {
-            discard_answer(answer);
+            drop(answer);
             Err(WantOfMemory)
         }
     }
@@ -44,10 +44,6 @@ pub fn enter(log: &mut Log, party: u32, act: Act, told: Told, made: PairList) ->
     });
     told.answer
 }
-
-pub fn discard_told(_told: Told) {}
-
-pub fn discard_answer(_answer: Answer) {}
 
 pub fn no_act(_act: Act) -> Result<Answer, WantOfMemory>
     ensures { IsErr result }

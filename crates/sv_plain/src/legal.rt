@@ -80,11 +80,9 @@ fn is_lone_act(work: Work, place: u64, act: &Act) -> bool
 {
     let due = act_of(work, place, None);
     let same = same_act(&due, act);
-    discard(due);
+    drop(due);
     same
 }
-
-fn discard(_act: Act) {}
 
 // Whether a user that waits for an act, or for none, may do this one.
 fn is_may_do(waited: Option<&Act>, act: &Act) -> bool

@@ -5,7 +5,7 @@ ghost use Rattle.apl_workspace.specs.Meaning.{table_weight, with_meaning, withou
 ghost use Rattle.apl_arrays.specs.Name.{name_order, same_name};
 ghost use Rattle.apl_workspace.specs.Sorted.{sorted};
 
-use super::{Table, discard_old, put_in};
+use super::{Table, put_in};
 use crate::Meaning;
 use apl_arrays::{Name, WantOfMemory};
 use indexmap::IndexMap;
@@ -78,7 +78,7 @@ fn copy_entry(
         None => unreachable!(),
         Some((name, meaning)) => {
             if !gone.contains(name) {
-                discard_old(put_in(copy, *name, meaning.copy(alloc)?)?);
+                drop(put_in(copy, *name, meaning.copy(alloc)?)?);
             }
             Ok(())
         }

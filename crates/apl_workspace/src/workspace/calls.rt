@@ -22,14 +22,14 @@ impl Workspace {
         ensures full { IfErr result (IsNotEntered self.old (with_frame self.old function.now args)) }
     {
         if self.frames.len() >= DEPTH_LIMIT {
-            discard(args);
+            drop(args);
             return Err(Fail::Report(Report::WsFull));
         }
         reserve_one(&mut self.frames)?;
         let frame = self.frame_for(function, args)?;
         let weight = self.frames_weight + frame.weight();
         if self.globals.weight() + weight > WEIGHT_LIMIT {
-            discard_frame(frame);
+            drop(frame);
             return Err(Fail::Report(Report::WsFull));
         }
         self.frames.push_reserved(frame);
@@ -44,7 +44,7 @@ impl Workspace {
     {
         if let Some(frame) = self.frames.pop() {
             self.frames_weight -= frame.weight();
-            discard_frame(frame);
+            drop(frame);
         }
     }
 
@@ -60,6 +60,3 @@ impl Workspace {
     }
 }
 
-fn discard(_args: Args) {}
-
-fn discard_frame(_frame: Table) {}

@@ -22,7 +22,7 @@ impl Workspace {
         ensures refused { IfErr result (IsNotAssigned (is_there self.old name.now) (is_assignable (look self.old name.now)) (assigned self.old name.now value)) }
     {
         if !self.is_assignable(name) {
-            discard(value);
+            drop(value);
             return Err(Fail::Report(Report::Syntax));
         }
         self.give(name, value)
@@ -105,4 +105,3 @@ impl Workspace {
     }
 }
 
-fn discard(_value: Array) {}
