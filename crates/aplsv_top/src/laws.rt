@@ -15,7 +15,8 @@ pub fn a_bundle_has_one_output()
 }
 
 /// What control gives holds of the journal in each output: in a stretch of a coupling that is under control nothing is lost
-/// but what its receiver set over, a feed is used whole and in order, and a request has one reply. The call does nothing.
+/// but what its receiver set over, a feed is used in order and whole but for a newest value that is unseen, and a request has
+/// one reply. The call does nothing.
 pub fn printed_control_loses_nothing()
     ensures { PrintedControlLosesNothing }
 {

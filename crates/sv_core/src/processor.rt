@@ -116,8 +116,8 @@ impl Core {
         self.log.is_full()
     }
 
-    /// The entries, oldest first. Under full control nothing is lost of what its couplings carry but what the receiver set
-    /// over. No memory.
+    /// The entries, oldest first. Of what a side sends in a coupling nothing is lost but what the other side set over, while
+    /// control holds back its second sets and the other's second uses. No memory.
     pub fn journal(&self) -> &[Entry]
         ensures value { journal_of result.now ≡ self.now.journal }
         ensures legal { IsLegal self.now.users self.now.journal }

@@ -5,9 +5,9 @@ use Rattle.sv_access.specs.Control.{four_elements, no_control}
 use Rattle.sv_access.specs.declared.access.Side.TheVariants.{A, B}
 use Rattle.sv_access.specs.declared.control.Control.{Control}
 use Rattle.sv_access.specs.declared.verdict.Owners.TheVariants.{Mine}
-use Rattle.sv_events.specs.Answer.{degree, granted, value, held, vector, done}
+use Rattle.sv_events.specs.Answer.{degree, granted, value, held, vector, kept, done}
 use Rattle.sv_events.specs.Entry.{PlainEntry, uncoupled}
-use Rattle.sv_events.specs.declared.event.Act.TheVariants.{Offer, SetControl, Set, Use, Leave}
+use Rattle.sv_events.specs.declared.event.Act.TheVariants.{Offer, Retract, SetControl, Set, Use, Leave}
 use Rattle.sv_rules.specs.declared.coupling.Coupling.{Coupling}
 use Rattle.sv_rules.specs.declared.standing.Standing.{Standing}
 use Rattle.sv_rules.specs.Entries.{Entries}
@@ -58,6 +58,10 @@ set_is_held party n = uncoupled party (Set x (number n)) (held (record { element
 abbrev pub controls : ℕ → Control → PlainEntry
 controls party control = uncoupled party (SetControl x control) (vector control)
 
+-- a retraction of X, which was coupled, by a party that knows no value of it
+abbrev pub retracts : ℕ → PlainEntry
+retracts party = uncoupled party (Retract x) (kept 2 None)
+
 -- the standing offer of X
 abbrev pub offer_of_x : ℕ → ℕ → ℕ → Standing
 offer_of_x place party to = record { place = place; party = party; to = to; local = x; surrogate = x }
@@ -104,6 +108,34 @@ ends_alone = record begins_alone { entries = sets 1001 1 ∷ [] }
 
 abbrev pub joined_later : Entries
 joined_later = reverse (set_is_held 1001 2 ∷ joins 1002 1001 None 1 5 ∷ uses 1002 1 ∷ sets 1001 2 ∷ uses 1002 2 ∷ [])
+
+-- 1001 sets X before 1002 retracts it, so that its own offer opens again with the 1; then 1002 offers anew
+abbrev pub until_retracted : Entries
+until_retracted = reverse (offers 1001 1002 None ∷ joins 1002 1001 None 1 2 ∷ sets 1001 1 ∷ [])
+
+abbrev pub since_retracted : Entries
+since_retracted = reverse (retracts 1002 ∷ controls 1001 first_and_fourth ∷ [])
+
+abbrev pub opens_again : Stretch
+opens_again = record {
+  entries = reverse (joins 1002 1001 None 1 6 ∷ uses 1002 1 ∷ sets 1001 2 ∷ uses 1002 2 ∷ []);
+  before = since_retracted ++ until_retracted;
+  coupling = coupling_of_x 6 6;
+  giver = A;
+}
+
+-- the same entries and those from the retraction on, behind which the offer opened
+abbrev pub begins_too_early : Stretch
+begins_too_early = record opens_again { entries = opens_again.entries ++ since_retracted; before = until_retracted }
+
+-- the coupling with the first offer of 1002, up to its retraction
+abbrev pub ends_retracted : Stretch
+ends_retracted = record {
+  entries = reverse (sets 1001 1 ∷ retracts 1002 ∷ []);
+  before = reverse (offers 1001 1002 None ∷ joins 1002 1001 None 1 2 ∷ []);
+  coupling = coupling_of_x 2 2;
+  giver = B;
+}
 
 -- 1002 sets X while its partner-to-be is coupled with 1003, and is the giver and side B once 1003 has left
 abbrev pub given_by_b : Stretch
@@ -161,7 +193,7 @@ begins_unseen = record {
   giver = B;
 }
 
--- a value of 1002 is unseen, and nothing follows
+-- a value of 1002 is unseen, and nothing follows: a request would take it out
 abbrev pub reply_unseen : Stretch
 reply_unseen = record {
   entries = [];

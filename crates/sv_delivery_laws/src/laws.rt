@@ -20,8 +20,8 @@ pub fn stretch_law()
 {}
 
 /// The law of delivery in a legal journal: what the other side uses of what a side sent, in a stretch in which control holds
-/// for that side; that a feed is used whole and in order; that a request has one reply; and all three as one fact. The
-/// call does nothing.
+/// for that side; that a feed is used in order and whole but for its newest value, which may be unseen; that a request has
+/// one reply; and all three as one fact. The call does nothing.
 pub fn delivery_law()
     ensures control { InLegalJournals LosesNothingUnderControl }
     ensures feeds { InLegalJournals FeedsLoseNothing }

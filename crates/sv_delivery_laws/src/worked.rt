@@ -9,7 +9,7 @@ ghost use Rattle.sv_delivery_laws.specs.Sent.{set_by, used_by, unseen_value, val
 ghost use Rattle.sv_delivery_laws.specs.Turns.{takes_turns};
 ghost use Rattle.sv_delivery_laws.specs.Stretch.{IsStretch, story_before, story_in, story_after, is_controlled, is_full_for};
 ghost use Rattle.sv_delivery_laws.specs.DeliveryLaws.{IsHeldFor, LosesNothing, IsUsedInOrder, IsFeed, AreUsesHeld, IsExchange, EachIsUsed};
-ghost use Rattle.sv_delivery_laws.specs.Worked.{users, number, set_over_unseen, ends_unseen, seen_later, begins_alone, ends_alone, joined_later, given_by_b, control_is_lifted, first_and_fourth, second_and_third, only_first, only_second, only_third, only_fourth, set_twice, used_twice, used_before, two_unseen, asked_twice, begins_unseen, reply_unseen, asks_itself, replies_to_itself, third_and_fourth, hands_in, to_the_end};
+ghost use Rattle.sv_delivery_laws.specs.Worked.{users, number, set_over_unseen, ends_unseen, seen_later, begins_alone, ends_alone, joined_later, opens_again, begins_too_early, ends_retracted, given_by_b, control_is_lifted, first_and_fourth, second_and_third, only_first, only_second, only_third, only_fourth, set_twice, used_twice, used_before, two_unseen, asked_twice, begins_unseen, reply_unseen, asks_itself, replies_to_itself, third_and_fourth, hands_in, to_the_end};
 
 /// A value that its receiver sets over is taken out, and then no more remains than was used. Without the taking out the
 /// statement would be wrong: what was sent is not what was used.
@@ -60,6 +60,21 @@ pub fn stretches_begin_before_the_coupling()
     ensures used_alone { used_by B (story_in ends_alone) ≡ [] }
 {}
 
+/// An offer that opens again begins its story with what its party knew, which is the first value that is sent. No stretch
+/// begins before that opening, and none ends behind its coupling.
+pub fn stretches_begin_behind_the_opening()
+    ensures legal { IsLegal users (to_the_end opens_again) }
+    ensures stretch { IsStretch [] opens_again }
+    ensures held { IsHeldFor A opens_again }
+    ensures first { story_before opens_again ≡ first_set A (Some (number 1)) }
+    ensures sent { remaining A (story_in opens_again) (story_before opens_again) ≡ number 2 ∷ number 1 ∷ [] }
+    ensures used { used_by B (story_in opens_again) ≡ number 2 ∷ number 1 ∷ [] }
+    ensures feed { IsFeed A opens_again }
+    ensures not_earlier { IsStretch [] begins_too_early → ⊥ }
+    ensures legal_to_its_end { IsLegal users (to_the_end ends_retracted) }
+    ensures not_later { IsStretch [] ends_retracted → ⊥ }
+{}
+
 /// Side B may be the giver before it is coupled: what its vector says of its own sets and its partner's uses are the
 /// elements 2 and 3 there, and not 1 and 4.
 pub fn side_b_gives()
@@ -97,15 +112,19 @@ pub fn the_other_elements_say_nothing()
 /// uses the other side uses one twice.
 pub fn one_element_says_nothing()
     ensures first_legal { IsLegal users (to_the_end (used_twice only_first 1001 1002)) }
+    ensures first_stretch { IsStretch [] (used_twice only_first 1001 1002) }
     ensures first_held { IsTrue (is_controlled 1 (used_twice only_first 1001 1002)) }
     ensures first_lost { LosesNothing A (used_twice only_first 1001 1002) → ⊥ }
     ensures fourth_legal { IsLegal users (to_the_end (set_twice only_fourth 1001 1002)) }
+    ensures fourth_stretch { IsStretch [] (set_twice only_fourth 1001 1002) }
     ensures fourth_held { IsTrue (is_controlled 4 (set_twice only_fourth 1001 1002)) }
     ensures fourth_lost { LosesNothing A (set_twice only_fourth 1001 1002) → ⊥ }
     ensures second_legal { IsLegal users (to_the_end (used_twice only_second 1002 1001)) }
+    ensures second_stretch { IsStretch [] (used_twice only_second 1002 1001) }
     ensures second_held { IsTrue (is_controlled 2 (used_twice only_second 1002 1001)) }
     ensures second_lost { LosesNothing B (used_twice only_second 1002 1001) → ⊥ }
     ensures third_legal { IsLegal users (to_the_end (set_twice only_third 1002 1001)) }
+    ensures third_stretch { IsStretch [] (set_twice only_third 1002 1001) }
     ensures third_held { IsTrue (is_controlled 3 (set_twice only_third 1002 1001)) }
     ensures third_lost { LosesNothing B (set_twice only_third 1002 1001) → ⊥ }
 {}
@@ -152,11 +171,13 @@ pub fn requests_are_answered()
 
 /// Of requests nothing is said where one side does not take turns, or the other begins with a set.
 pub fn requests_take_turns()
+    ensures stretch { IsStretch [] set_over_unseen }
     ensures sets_first { takes_turns Use B (story_in set_over_unseen) ≡ false }
     ensures asks { IsTrue (takes_turns Set A (story_in set_over_unseen)) }
     ensures held { AreUsesHeld set_over_unseen }
     ensures not_used { EachIsUsed A set_over_unseen → ⊥ }
     ensures twice_legal { IsLegal users (to_the_end (set_twice third_and_fourth 1001 1002)) }
+    ensures twice_stretch { IsStretch [] (set_twice third_and_fourth 1001 1002) }
     ensures twice { takes_turns Set A (story_in (set_twice third_and_fourth 1001 1002)) ≡ false }
     ensures twice_replies { IsTrue (takes_turns Use B (story_in (set_twice third_and_fourth 1001 1002))) }
     ensures twice_held { AreUsesHeld (set_twice third_and_fourth 1001 1002) }
@@ -181,11 +202,13 @@ pub fn requests_begin_quietly()
 /// Nor where the uses of one side are not held.
 pub fn requests_need_held_uses()
     ensures legal { IsLegal users (to_the_end asks_itself) }
+    ensures stretch { IsStretch [] asks_itself }
     ensures exchange { IsExchange A asks_itself }
     ensures fourth { IsTrue (is_controlled 4 asks_itself) }
     ensures third { is_controlled 3 asks_itself ≡ false }
     ensures not_replied { EachIsUsed B asks_itself → ⊥ }
     ensures other_legal { IsLegal users (to_the_end replies_to_itself) }
+    ensures other_stretch { IsStretch [] replies_to_itself }
     ensures other_exchange { IsExchange A replies_to_itself }
     ensures other_third { IsTrue (is_controlled 3 replies_to_itself) }
     ensures other_fourth { is_controlled 4 replies_to_itself ≡ false }
