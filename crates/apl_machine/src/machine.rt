@@ -227,4 +227,3 @@ impl Machine {
         }
     }
 }
-

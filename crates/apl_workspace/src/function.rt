@@ -172,4 +172,3 @@ fn all_short(lines: &[Line]) -> bool
 {
     lines.iter().all(|line| is_short(line))
 }
-

@@ -363,4 +363,3 @@ fn remove_line(lines: &mut BTreeMap<LineNumber, LineText>, number: LineNumber)
     let before = lines.remove(&number);
     drop(before);
 }
-

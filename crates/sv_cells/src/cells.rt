@@ -192,4 +192,3 @@ impl Cells {
         self.put(b, cell_b);
     }
 }
-

@@ -230,4 +230,3 @@ fn act_awaited(entries: &[Entry], party: u32, place: u64) -> &Act
 {
     &entries[place as usize - 1].act
 }
-

@@ -104,4 +104,3 @@ impl Workspace {
         self.globals.put(name, meaning, most)
     }
 }
-
