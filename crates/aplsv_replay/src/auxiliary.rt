@@ -10,7 +10,7 @@ ghost use Rattle.aplsv_replay.specs.SoFar.{GrowsBy, HasAnswered, IsIdleIf, IsSer
 use apl_arrays::{Array, Name, WantOfMemory};
 use auxiliaries::Replier;
 use sv_core::Core;
-use sv_events::{Answer, Work, act_of};
+use sv_events::{Work, act_of};
 
 /// An auxiliary in a run: its party, what answers behind it, and whether memory ran out for it.
 #[derive(Drop)]
@@ -139,5 +139,3 @@ impl<X: Replier> Auxiliary<X> {
         }
     }
 }
-
-// Lets go of an answer.
