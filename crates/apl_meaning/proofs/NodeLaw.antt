@@ -5,9 +5,10 @@ use Rattle.std.specs.List.{filter_map}
 use Rattle.apl_arrays.specs.Array.{PlainArray}
 use Rattle.apl_arrays.specs.declared.report.Report.TheVariants.{Value}
 use Rattle.apl_selection.specs.Indexing.{selection_of}
+use Rattle.line_trees.specs.declared.tree.Fun.{Fun}
 use Rattle.line_trees.specs.Nodes as node
 use Rattle.line_trees.specs.Nodes.{PlainNode}
-use Rattle.line_trees.specs.Trees.{Expr, constant, value, niladic, paren, indexed, monadic, monadic_along, dyadic, dyadic_along, assign, assign_at, Subscripts, no_more, omitted, given, Placed, PlacedList, placed, placed_subscripts}
+use Rattle.line_trees.specs.Trees.{Expr, constant, value, niladic, paren, indexed, monadic, monadic_along, dyadic, dyadic_along, assign, assign_at, Subscripts, no_more, omitted, given, Placed, PlacedList, list_with, with_node, placed, placed_subscripts}
 use Rattle.apl_meaning.specs.State.{State, Outcome, gives, refuses, asks, and_then, outcome_of}
 use Rattle.apl_meaning.specs.Variables.{assignment, items_assignment, reference}
 use Rattle.apl_meaning.specs.Tasks.{Run}
@@ -143,22 +144,13 @@ through : (run : Run) (k : ℕ) (others : List PlainNode) (values : List PlainAr
 through run k others values None t = refl
 through run k others values (Some x) t = refl
 
-mutual
-  pub nodes_give : (run : Run) (nodes : List PlainNode) (e : Expr) → Give run nodes (placed nodes e) e
-  nodes_give run nodes (constant items) = record { fresh = node.constant items ∷ []; whole = refl; give = λ others values s. left_then run others values (valued (constant_outcome items s)); first = λ others values t. refl }
-  nodes_give run nodes (value name) =
-      record { fresh = node.value name ∷ []; whole = refl; give = λ others values s. left_then run others values (valued (reference name s)); first = λ others values t. refl }
-  nodes_give run nodes (niladic name) =
-      record {
-        fresh = node.niladic name ∷ [];
-        whole = refl;
-        give = λ others values s. left_then run others values (call run name (record { left = None; right = None }) s);
-        first = λ others values t. refl;
-      }
-  nodes_give run nodes (paren e) =
-      let p : Placed = placed nodes e in
+-- ---- the nodes of an expression, where those of its parts give what they do
+
+module _ (run : Run) (nodes : List PlainNode) where
+  -- parentheses give what is given in them
+  paren_gives : (p : Placed) (e : Expr) → Give run nodes p e → Give run nodes (with_node p.0 (node.paren p.1)) (paren e)
+  paren_gives p e h =
       let n = node.paren p.1 in
-      let h = nodes_give run nodes e in
       record {
         fresh = h.fresh ++ n ∷ [];
         whole = one_more nodes h.fresh (n ∷ []) p.0 h.whole;
@@ -167,10 +159,11 @@ mutual
             ∙ then_same (evaluated run e s) (λ v t. after_nodes run (n ∷ others) (with_found v values) t) (λ v t. after_nodes run others (with_found v values) t) (λ v t. through run p.1 others values v t);
         first = λ others values t. regrouped run h.fresh (n ∷ []) others (wanting values) t ∙ h.first (n ∷ others) values t;
       }
-  nodes_give run nodes (monadic f right) =
-      let p : Placed = placed nodes right in
+
+  -- a function of its right argument: the argument, then the function
+  monadic_gives : (p : Placed) (f : Fun) (right : Expr) → Give run nodes p right → Give run nodes (with_node p.0 (node.apply f None p.1 None)) (monadic f right)
+  monadic_gives p f right h =
       let n = node.apply f None p.1 None in
-      let h = nodes_give run nodes right in
       record {
         fresh = h.fresh ++ n ∷ [];
         whole = one_more nodes h.fresh (n ∷ []) p.0 h.whole;
@@ -179,12 +172,11 @@ mutual
             ∙ needed_then run (n ∷ others) others values values (λ r t. performed run f None r None t) (evaluated run right s) (λ t. refl) (λ r t. left_then run others values (performed run f None r None t));
         first = λ others values t. regrouped run h.fresh (n ∷ []) others (wanting values) t ∙ h.first (n ∷ others) values t;
       }
-  nodes_give run nodes (monadic_along f axis right) =
-      let r : Placed = placed nodes right in
-      let k : Placed = placed r.0 axis in
+
+  -- along an axis: the right argument, the axis, then the function
+  monadic_along_gives : (r k : Placed) (f : Fun) (axis right : Expr) → Give run nodes r right → Give run r.0 k axis → Give run nodes (with_node k.0 (node.apply f None r.1 (Some k.1))) (monadic_along f axis right)
+  monadic_along_gives r k f axis right h a =
       let n = node.apply f None r.1 (Some k.1) in
-      let h = nodes_give run nodes right in
-      let a = nodes_give run r.0 axis in
       record {
         fresh = h.fresh ++ (a.fresh ++ n ∷ []);
         whole = two_more nodes h.fresh a.fresh (n ∷ []) r.0 k.0 h.whole a.whole;
@@ -195,12 +187,11 @@ mutual
             ∙ needed_then run (n ∷ others) others (x ∷ values) values (λ y u. performed_along run f None y x u) (evaluated run axis t) (λ u. refl) (λ y u. left_then run others values (performed_along run f None y x u)));
         first = λ others values t. regrouped_twice run h.fresh a.fresh (n ∷ []) others (wanting values) t ∙ h.first (a.fresh ++ n ∷ others) values t;
       }
-  nodes_give run nodes (dyadic f left right) =
-      let r : Placed = placed nodes right in
-      let l : Placed = placed r.0 left in
+
+  -- a function of two arguments: the right one, the left one, then the function
+  dyadic_gives : (r l : Placed) (f : Fun) (left right : Expr) → Give run nodes r right → Give run r.0 l left → Give run nodes (with_node l.0 (node.apply f (Some l.1) r.1 None)) (dyadic f left right)
+  dyadic_gives r l f left right h a =
       let n = node.apply f (Some l.1) r.1 None in
-      let h = nodes_give run nodes right in
-      let a = nodes_give run r.0 left in
       record {
         fresh = h.fresh ++ (a.fresh ++ n ∷ []);
         whole = two_more nodes h.fresh a.fresh (n ∷ []) r.0 l.0 h.whole a.whole;
@@ -211,14 +202,12 @@ mutual
             ∙ needed_then run (n ∷ others) others (x ∷ values) values (λ y u. performed run f (Some y) x None u) (evaluated run left t) (λ u. refl) (λ y u. left_then run others values (performed run f (Some y) x None u)));
         first = λ others values t. regrouped_twice run h.fresh a.fresh (n ∷ []) others (wanting values) t ∙ h.first (a.fresh ++ n ∷ others) values t;
       }
-  nodes_give run nodes (dyadic_along f left axis right) =
-      let r : Placed = placed nodes right in
-      let k : Placed = placed r.0 axis in
-      let l : Placed = placed k.0 left in
+
+  -- along an axis: the right argument, the axis, the left argument, then the function
+  dyadic_along_gives : (r k l : Placed) (f : Fun) (left axis right : Expr) → Give run nodes r right → Give run r.0 k axis → Give run k.0 l left
+      → Give run nodes (with_node l.0 (node.apply f (Some l.1) r.1 (Some k.1))) (dyadic_along f left axis right)
+  dyadic_along_gives r k l f left axis right h a b =
       let n = node.apply f (Some l.1) r.1 (Some k.1) in
-      let h = nodes_give run nodes right in
-      let a = nodes_give run r.0 axis in
-      let b = nodes_give run k.0 left in
       record {
         fresh = h.fresh ++ (a.fresh ++ (b.fresh ++ n ∷ []));
         whole = three_more nodes h.fresh a.fresh b.fresh (n ∷ []) r.0 k.0 l.0 h.whole a.whole b.whole;
@@ -232,12 +221,11 @@ mutual
             ∙ needed_then run (n ∷ others) others (y ∷ x ∷ values) values (λ z w. performed_along run f (Some z) y x w) (evaluated run left u) (λ w. refl) (λ z w. left_then run others values (performed_along run f (Some z) y x w))));
         first = λ others values t. regrouped_thrice run h.fresh a.fresh b.fresh (n ∷ []) others (wanting values) t ∙ h.first (a.fresh ++ (b.fresh ++ n ∷ others)) values t;
       }
-  nodes_give run nodes (indexed e subs) =
-      let p : PlacedList = placed_subscripts nodes subs in
-      let v : Placed = placed p.0 e in
+
+  -- a value with subscripts: the subscripts, the value, then what they select of it
+  indexed_gives : (p : PlacedList) (v : Placed) (e : Expr) (subs : Subscripts) → GiveAll run nodes p subs → Give run p.0 v e → Give run nodes (with_node v.0 (node.indexed v.1 p.1)) (indexed e subs)
+  indexed_gives p v e subs h a =
       let n = node.indexed v.1 p.1 in
-      let h = nodes_give_all run nodes subs in
-      let a = nodes_give run p.0 e in
       record {
         fresh = h.fresh ++ (a.fresh ++ n ∷ []);
         whole = two_more nodes h.fresh a.fresh (n ∷ []) p.0 v.0 h.whole a.whole;
@@ -250,10 +238,11 @@ mutual
             ap (λ (q : Popped). and_then (leaving_values q.values (valued (outcome_of (selection_of array q.subs) u))) (λ v w. after_nodes run others v w)) (is values) ∙ left_then run others values (valued (outcome_of (selection_of array list) u))));
         first = λ others values t. regrouped_twice run h.fresh a.fresh (n ∷ []) others (wanting values) t ∙ h.first (a.fresh ++ n ∷ others) (a.first (n ∷ others)) values t;
       }
-  nodes_give run nodes (assign name right) =
-      let p : Placed = placed nodes right in
+
+  -- an assignment: the right side, then the name
+  assign_gives : (p : Placed) (name : List ℕ) (right : Expr) → Give run nodes p right → Give run nodes (with_node p.0 (node.assign name p.1)) (assign name right)
+  assign_gives p name right h =
       let n = node.assign name p.1 in
-      let h = nodes_give run nodes right in
       record {
         fresh = h.fresh ++ n ∷ [];
         whole = one_more nodes h.fresh (n ∷ []) p.0 h.whole;
@@ -262,12 +251,12 @@ mutual
             ∙ needed_then run (n ∷ others) others values values (λ r t. and_then (assignment name r t) (λ _ u. gives (Some r) u)) (evaluated run right s) (λ t. refl) (λ r t. left_then run others values (and_then (assignment name r t) (λ _ u. gives (Some r) u)));
         first = λ others values t. regrouped run h.fresh (n ∷ []) others (wanting values) t ∙ h.first (n ∷ others) values t;
       }
-  nodes_give run nodes (assign_at name subs right) =
-      let r : Placed = placed nodes right in
-      let p : PlacedList = placed_subscripts r.0 subs in
+
+  -- an assignment to items: the right side, the subscripts, then the name
+  assign_at_gives : (r : Placed) (p : PlacedList) (name : List ℕ) (subs : Subscripts) (right : Expr) → Give run nodes r right → GiveAll run r.0 p subs
+      → Give run nodes (with_node p.0 (node.assign_at name p.1 r.1)) (assign_at name subs right)
+  assign_at_gives r p name subs right h a =
       let n = node.assign_at name p.1 r.1 in
-      let h = nodes_give run nodes right in
-      let a = nodes_give_all run r.0 subs in
       record {
         fresh = h.fresh ++ (a.fresh ++ n ∷ []);
         whole = two_more nodes h.fresh a.fresh (n ∷ []) r.0 p.0 h.whole a.whole;
@@ -282,36 +271,71 @@ mutual
         first = λ others values t. regrouped_twice run h.fresh a.fresh (n ∷ []) others (wanting values) t ∙ h.first (a.fresh ++ n ∷ others) values t;
       }
 
+  -- a subscript that is omitted gives no value before those of the others
+  omitted_give : (p : PlacedList) (more : Subscripts) → GiveAll run nodes p more → GiveAll run nodes (list_with None p.0 p.1) (omitted more)
+  omitted_give p more h = record {
+    fresh = h.fresh;
+    whole = h.whole;
+    give = λ others values s refuse.
+        h.give others values s refuse ∙ sym (grouped (evaluated_subscripts run more s) (λ list t. gives (None ∷ list) t) (λ list t. after_nodes run others (ready (given_values list ++ values)) t));
+    first = h.first;
+    taken = λ s. omitted_taken p.1 (evaluated_subscripts run more s) (h.taken s);
+  }
+
+  -- one that is given gives its value before them
+  given_give : (p : PlacedList) (v : Placed) (e : Expr) (more : Subscripts) → GiveAll run nodes p more → Give run p.0 v e → GiveAll run nodes (list_with (Some v.1) v.0 p.1) (given e more)
+  given_give p v e more h a = record {
+    fresh = h.fresh ++ a.fresh;
+    whole = a.whole ∙ one_more nodes h.fresh a.fresh p.0 h.whole;
+    give = λ others values s refuse.
+        regrouped run h.fresh a.fresh others (ready values) s ∙ h.give (a.fresh ++ others) values s (a.first others)
+        ∙ then_same (evaluated_subscripts run more s) (λ list t. after_nodes run (a.fresh ++ others) (ready (given_values list ++ values)) t)
+        (λ list t. and_then (and_then (needed (evaluated run e t)) (λ sub u. gives (Some sub ∷ list) u)) (λ l u. after_nodes run others (ready (given_values l ++ values)) u))
+        (λ list t. a.give others (given_values list ++ values) t ∙ sub_then run others list values (evaluated run e t) refuse)
+        ∙ sym (grouped (evaluated_subscripts run more s) (λ list t. and_then (needed (evaluated run e t)) (λ sub u. gives (Some sub ∷ list) u)) (λ list t. after_nodes run others (ready (given_values list ++ values)) t));
+    first = λ others refuse values t. regrouped run h.fresh a.fresh others (wanting values) t ∙ h.first (a.fresh ++ others) (a.first others) values t;
+    taken = λ s. given_taken run e p.1 v.1 (evaluated_subscripts run more s) (h.taken s);
+  }
+
+-- the nodes of each expression give what it gives, and those of each list of subscripts
+mutual
+  pub nodes_give : (run : Run) (nodes : List PlainNode) (e : Expr) → Give run nodes (placed nodes e) e
+  nodes_give run nodes (constant items) = record { fresh = node.constant items ∷ []; whole = refl; give = λ others values s. left_then run others values (valued (constant_outcome items s)); first = λ others values t. refl }
+  nodes_give run nodes (value name) =
+      record { fresh = node.value name ∷ []; whole = refl; give = λ others values s. left_then run others values (valued (reference name s)); first = λ others values t. refl }
+  nodes_give run nodes (niladic name) =
+      record {
+        fresh = node.niladic name ∷ [];
+        whole = refl;
+        give = λ others values s. left_then run others values (call run name (record { left = None; right = None }) s);
+        first = λ others values t. refl;
+      }
+  nodes_give run nodes (paren e) = paren_gives run nodes (placed nodes e) e (nodes_give run nodes e)
+  nodes_give run nodes (monadic f right) = monadic_gives run nodes (placed nodes right) f right (nodes_give run nodes right)
+  nodes_give run nodes (monadic_along f axis right) =
+      let r : Placed = placed nodes right in
+      monadic_along_gives run nodes r (placed r.0 axis) f axis right (nodes_give run nodes right) (nodes_give run r.0 axis)
+  nodes_give run nodes (dyadic f left right) =
+      let r : Placed = placed nodes right in
+      dyadic_gives run nodes r (placed r.0 left) f left right (nodes_give run nodes right) (nodes_give run r.0 left)
+  nodes_give run nodes (dyadic_along f left axis right) =
+      let r : Placed = placed nodes right in
+      let k : Placed = placed r.0 axis in
+      dyadic_along_gives run nodes r k (placed k.0 left) f left axis right (nodes_give run nodes right) (nodes_give run r.0 axis) (nodes_give run k.0 left)
+  nodes_give run nodes (indexed e subs) =
+      let p : PlacedList = placed_subscripts nodes subs in
+      indexed_gives run nodes p (placed p.0 e) e subs (nodes_give_all run nodes subs) (nodes_give run p.0 e)
+  nodes_give run nodes (assign name right) = assign_gives run nodes (placed nodes right) name right (nodes_give run nodes right)
+  nodes_give run nodes (assign_at name subs right) =
+      let r : Placed = placed nodes right in
+      assign_at_gives run nodes r (placed_subscripts r.0 subs) name subs right (nodes_give run nodes right) (nodes_give_all run r.0 subs)
+
   pub nodes_give_all : (run : Run) (nodes : List PlainNode) (subs : Subscripts) → GiveAll run nodes (placed_subscripts nodes subs) subs
   nodes_give_all run nodes no_more = record { fresh = []; whole = sym (append-nil nodes); give = λ others values s h. refl; first = λ others h. h; taken = λ s values. refl }
-  nodes_give_all run nodes (omitted more) =
-      let p : PlacedList = placed_subscripts nodes more in
-      let h = nodes_give_all run nodes more in
-      record {
-        fresh = h.fresh;
-        whole = h.whole;
-        give = λ others values s refuse.
-            h.give others values s refuse ∙ sym (grouped (evaluated_subscripts run more s) (λ list t. gives (None ∷ list) t) (λ list t. after_nodes run others (ready (given_values list ++ values)) t));
-        first = h.first;
-        taken = λ s. omitted_taken p.1 (evaluated_subscripts run more s) (h.taken s);
-      }
+  nodes_give_all run nodes (omitted more) = omitted_give run nodes (placed_subscripts nodes more) more (nodes_give_all run nodes more)
   nodes_give_all run nodes (given e more) =
       let p : PlacedList = placed_subscripts nodes more in
-      let v : Placed = placed p.0 e in
-      let h = nodes_give_all run nodes more in
-      let a = nodes_give run p.0 e in
-      record {
-        fresh = h.fresh ++ a.fresh;
-        whole = a.whole ∙ one_more nodes h.fresh a.fresh p.0 h.whole;
-        give = λ others values s refuse.
-            regrouped run h.fresh a.fresh others (ready values) s ∙ h.give (a.fresh ++ others) values s (a.first others)
-            ∙ then_same (evaluated_subscripts run more s) (λ list t. after_nodes run (a.fresh ++ others) (ready (given_values list ++ values)) t)
-            (λ list t. and_then (and_then (needed (evaluated run e t)) (λ sub u. gives (Some sub ∷ list) u)) (λ l u. after_nodes run others (ready (given_values l ++ values)) u))
-            (λ list t. a.give others (given_values list ++ values) t ∙ sub_then run others list values (evaluated run e t) refuse)
-            ∙ sym (grouped (evaluated_subscripts run more s) (λ list t. and_then (needed (evaluated run e t)) (λ sub u. gives (Some sub ∷ list) u)) (λ list t. after_nodes run others (ready (given_values list ++ values)) t));
-        first = λ others refuse values t. regrouped run h.fresh a.fresh others (wanting values) t ∙ h.first (a.fresh ++ others) (a.first others) values t;
-        taken = λ s. given_taken run e p.1 v.1 (evaluated_subscripts run more s) (h.taken s);
-      }
+      given_give run nodes p (placed p.0 e) e more (nodes_give_all run nodes more) (nodes_give run p.0 e)
 
 -- what the last node gave
 last_found : (o : Outcome Found) → and_then (and_then o (λ v t. gives (with_found v []) t)) (λ v t. gives (found_in v) t) ≡ o

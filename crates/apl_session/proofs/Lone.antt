@@ -1,9 +1,8 @@
 -- A line that is one act alone: what waits for its answer, and what the answer does.
-use Rattle.std.proofs.Common.{◌≡◌, ℕ, suc, ◌+◌, ◌<◌, ◌≤◌, List, [], ◌∷◌, ◌++◌, drop, length, refl, sym, ap, subst, ◌∙◌, append-nil, append_assoc, arith}
+use Rattle.std.proofs.Common.{◌≡◌, ℕ, ◌<◌, ◌≤◌, List, [], ◌∷◌, ◌++◌, drop, length, refl, sym, ap, subst, ◌∙◌, append-nil, append_assoc, arith}
 use Rattle.std.proofs.lemmas.List.{drop_all}
 use Rattle.std.proofs.Math.Nat.{lt_of_not-le}
-use Rattle.std.specs.Prelude.{Err, None, Option, Some}
-use Rattle.apl_arrays.specs.Array.{PlainArray}
+use Rattle.std.specs.Prelude.{Err, None, Some}
 use Rattle.apl_arrays.specs.declared.report.Fail.{Fail}
 use Rattle.apl_arrays.specs.declared.report.Fail.TheVariants as fail
 use Rattle.apl_arrays.specs.declared.report.Report.{Report}
@@ -12,7 +11,7 @@ use Rattle.apl_machine.proofs.Steps.{grouped}
 use Rattle.apl_meaning.specs.Answers.{got, report_of_kind, taken_from, unless_ended, with_copy}
 use Rattle.apl_meaning.specs.Meaning.{closed, mean_of_line, most_statements, start_of}
 use Rattle.apl_meaning.specs.Printing.{input_shown, report_lines, value_printed}
-use Rattle.apl_meaning.specs.State.{Effect, State, gives, refuses, asks, and_then}
+use Rattle.apl_meaning.specs.State.{Effect, State, gives, asks, and_then}
 use Rattle.apl_meaning.specs.Tasks.{goes_on}
 use Rattle.apl_workspace.specs.Workspace.{PlainWorkspace}
 use Rattle.sv_events.specs.Answer.{PlainAnswer}

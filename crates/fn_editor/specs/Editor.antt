@@ -8,7 +8,7 @@ use Rattle.apl_arrays.specs.Limits.{most_line_glyphs}
 use Rattle.apl_workspace.specs.Function.{PlainFunction}
 use Rattle.apl_workspace.specs.Header.{PlainHeader, header_of}
 use Rattle.apl_workspace.specs.Limits.{most_function_lines}
-use Rattle.fn_editor.specs.Number.{line_number, whole_part}
+use Rattle.fn_editor.specs.Number.{line_number}
 use Rattle.fn_editor.specs.Prompt.{prompt_text}
 
 -- lines with their numbers, which ascend

@@ -1,5 +1,6 @@
 -- The nodes of a tree stand for that tree.
 use Rattle.std.proofs.Common.{◌≡◌, ℕ, zero, suc, ◌+◌, ◌<◌, List, [], ◌∷◌, ◌++◌, Option, Some, None, length, get_or, refl, ap, ◌∙◌, arith, length-append}
+use Rattle.line_trees.specs.declared.tree.Fun.{Fun}
 use Rattle.line_trees.specs.Nodes as node
 use Rattle.line_trees.specs.Nodes.{PlainNode}
 use Rattle.line_trees.specs.Trees.{Expr, constant, value, niladic, paren, indexed, monadic, monadic_along, dyadic, dyadic_along, assign, assign_at, Subscripts, no_more, omitted, given, Statement, nothing, branch, whole, execute, LineTree, Placed, PlacedList, with_node, placed, placed_subscripts, as_nodes, subscripts_at, expr_of, trees_from, tree_numbered, line_tree_of}
@@ -80,6 +81,43 @@ pub record StandAll (nodes : List PlainNode) (p : PlacedList) (subs : Subscripts
 stands_added : (nodes last : List PlainNode) (n : PlainNode) (e : Expr) → Keeps nodes last → expr_of (trees_from [] last) n ≡ e → Stands nodes (with_node last n) e
 stands_added nodes last n e keeps h = record { holds = holds_added last n e h; keeps = λ k x was. keeps_added last n k x (keeps k x was) }
 
+-- ---- a node behind the nodes of its parts
+
+module _ (nodes : List PlainNode) where
+  -- a value with subscripts stands behind the subscripts and the value
+  indexed_stands : (s : PlacedList) (p : Placed) (v : Expr) (subs : Subscripts) → StandAll nodes s subs → Stands s.0 p v → Stands nodes (with_node p.0 (node.indexed p.1 s.1)) (indexed v subs)
+  indexed_stands s p v subs h k =
+      stands_added nodes p.0 (node.indexed p.1 s.1) (indexed v subs) (λ i x was. k.keeps i x (h.keeps i x was))
+      (ap (λ (x : Expr). indexed x (subscripts_at (trees_from [] p.0) s.1)) k.holds.is ∙ ap (indexed v) (subscripts_are p.0 s.1 subs (keeps_all s.0 p.0 s.1 subs k.keeps h.hold)))
+
+  -- a function along an axis stands behind its right argument and the axis
+  monadic_along_stands : (r p : Placed) (f : Fun) (axis right : Expr) → Stands nodes r right → Stands r.0 p axis → Stands nodes (with_node p.0 (node.apply f None r.1 (Some p.1))) (monadic_along f axis right)
+  monadic_along_stands r p f axis right h k =
+      stands_added nodes p.0 (node.apply f None r.1 (Some p.1)) (monadic_along f axis right) (λ i x was. k.keeps i x (h.keeps i x was))
+      (ap (λ (x : Expr). monadic_along f x (tree_numbered p.0 r.1)) k.holds.is ∙ ap (monadic_along f axis) (k.keeps r.1 right h.holds).is)
+
+  -- a function of two arguments stands behind the right one and the left one
+  dyadic_stands : (r p : Placed) (f : Fun) (left right : Expr) → Stands nodes r right → Stands r.0 p left → Stands nodes (with_node p.0 (node.apply f (Some p.1) r.1 None)) (dyadic f left right)
+  dyadic_stands r p f left right h k =
+      stands_added nodes p.0 (node.apply f (Some p.1) r.1 None) (dyadic f left right) (λ i x was. k.keeps i x (h.keeps i x was))
+      (ap (λ (x : Expr). dyadic f x (tree_numbered p.0 r.1)) k.holds.is ∙ ap (dyadic f left) (k.keeps r.1 right h.holds).is)
+
+  -- along an axis it stands behind the right argument, the axis and the left argument
+  dyadic_along_stands : (r a p : Placed) (f : Fun) (left axis right : Expr) → Stands nodes r right → Stands r.0 a axis → Stands a.0 p left
+      → Stands nodes (with_node p.0 (node.apply f (Some p.1) r.1 (Some a.1))) (dyadic_along f left axis right)
+  dyadic_along_stands r a p f left axis right h k l =
+      stands_added nodes p.0 (node.apply f (Some p.1) r.1 (Some a.1)) (dyadic_along f left axis right) (λ i x was. l.keeps i x (k.keeps i x (h.keeps i x was)))
+      (ap (λ (x : Expr). dyadic_along f x (tree_numbered p.0 a.1) (tree_numbered p.0 r.1)) l.holds.is ∙ ap (λ (x : Expr). dyadic_along f left x (tree_numbered p.0 r.1)) (l.keeps a.1 axis k.holds).is
+      ∙ ap (dyadic_along f left axis) (l.keeps r.1 right (k.keeps r.1 right h.holds)).is)
+
+  -- an assignment to items stands behind the right side and the subscripts
+  assign_at_stands : (r : Placed) (s : PlacedList) (n : List ℕ) (subs : Subscripts) (right : Expr) → Stands nodes r right → StandAll r.0 s subs
+      → Stands nodes (with_node s.0 (node.assign_at n s.1 r.1)) (assign_at n subs right)
+  assign_at_stands r s n subs right h k =
+      stands_added nodes s.0 (node.assign_at n s.1 r.1) (assign_at n subs right) (λ i x was. k.keeps i x (h.keeps i x was))
+      (ap (λ (x : Subscripts). assign_at n x (tree_numbered s.0 r.1)) (subscripts_are s.0 s.1 subs k.hold) ∙ ap (assign_at n subs) (k.keeps r.1 right h.holds).is)
+
+-- the nodes of each expression stand for it, and those of each list of subscripts
 mutual
   pub stands : (nodes : List PlainNode) (e : Expr) → Stands nodes (placed nodes e) e
   stands nodes (constant items) = stands_added nodes nodes (node.constant items) (constant items) (λ k x h. h) refl
@@ -91,50 +129,28 @@ mutual
       stands_added nodes p.0 (node.paren p.1) (paren e) h.keeps (ap paren h.holds.is)
   stands nodes (indexed v subs) =
       let s : PlacedList = placed_subscripts nodes subs in
-      let p : Placed = placed s.0 v in
-      let h = stand_all nodes subs in
-      let k = stands s.0 v in
-      stands_added nodes p.0 (node.indexed p.1 s.1) (indexed v subs) (λ i x was. k.keeps i x (h.keeps i x was))
-      (ap (λ (x : Expr). indexed x (subscripts_at (trees_from [] p.0) s.1)) k.holds.is ∙ ap (indexed v) (subscripts_are p.0 s.1 subs (keeps_all s.0 p.0 s.1 subs k.keeps h.hold)))
+      indexed_stands nodes s (placed s.0 v) v subs (stand_all nodes subs) (stands s.0 v)
   stands nodes (monadic f right) =
       let p : Placed = placed nodes right in
       let h = stands nodes right in
       stands_added nodes p.0 (node.apply f None p.1 None) (monadic f right) h.keeps (ap (monadic f) h.holds.is)
   stands nodes (monadic_along f axis right) =
       let r : Placed = placed nodes right in
-      let p : Placed = placed r.0 axis in
-      let h = stands nodes right in
-      let k = stands r.0 axis in
-      stands_added nodes p.0 (node.apply f None r.1 (Some p.1)) (monadic_along f axis right) (λ i x was. k.keeps i x (h.keeps i x was))
-      (ap (λ (x : Expr). monadic_along f x (tree_numbered p.0 r.1)) k.holds.is ∙ ap (monadic_along f axis) (k.keeps r.1 right h.holds).is)
+      monadic_along_stands nodes r (placed r.0 axis) f axis right (stands nodes right) (stands r.0 axis)
   stands nodes (dyadic f left right) =
       let r : Placed = placed nodes right in
-      let p : Placed = placed r.0 left in
-      let h = stands nodes right in
-      let k = stands r.0 left in
-      stands_added nodes p.0 (node.apply f (Some p.1) r.1 None) (dyadic f left right) (λ i x was. k.keeps i x (h.keeps i x was))
-      (ap (λ (x : Expr). dyadic f x (tree_numbered p.0 r.1)) k.holds.is ∙ ap (dyadic f left) (k.keeps r.1 right h.holds).is)
+      dyadic_stands nodes r (placed r.0 left) f left right (stands nodes right) (stands r.0 left)
   stands nodes (dyadic_along f left axis right) =
       let r : Placed = placed nodes right in
       let a : Placed = placed r.0 axis in
-      let p : Placed = placed a.0 left in
-      let h = stands nodes right in
-      let k = stands r.0 axis in
-      let l = stands a.0 left in
-      stands_added nodes p.0 (node.apply f (Some p.1) r.1 (Some a.1)) (dyadic_along f left axis right) (λ i x was. l.keeps i x (k.keeps i x (h.keeps i x was)))
-      (ap (λ (x : Expr). dyadic_along f x (tree_numbered p.0 a.1) (tree_numbered p.0 r.1)) l.holds.is ∙ ap (λ (x : Expr). dyadic_along f left x (tree_numbered p.0 r.1)) (l.keeps a.1 axis k.holds).is
-      ∙ ap (dyadic_along f left axis) (l.keeps r.1 right (k.keeps r.1 right h.holds)).is)
+      dyadic_along_stands nodes r a (placed a.0 left) f left axis right (stands nodes right) (stands r.0 axis) (stands a.0 left)
   stands nodes (assign n right) =
       let p : Placed = placed nodes right in
       let h = stands nodes right in
       stands_added nodes p.0 (node.assign n p.1) (assign n right) h.keeps (ap (assign n) h.holds.is)
   stands nodes (assign_at n subs right) =
       let r : Placed = placed nodes right in
-      let s : PlacedList = placed_subscripts r.0 subs in
-      let h = stands nodes right in
-      let k = stand_all r.0 subs in
-      stands_added nodes s.0 (node.assign_at n s.1 r.1) (assign_at n subs right) (λ i x was. k.keeps i x (h.keeps i x was))
-      (ap (λ (x : Subscripts). assign_at n x (tree_numbered s.0 r.1)) (subscripts_are s.0 s.1 subs k.hold) ∙ ap (assign_at n subs) (k.keeps r.1 right h.holds).is)
+      assign_at_stands nodes r (placed_subscripts r.0 subs) n subs right (stands nodes right) (stand_all r.0 subs)
 
   pub stand_all : (nodes : List PlainNode) (subs : Subscripts) → StandAll nodes (placed_subscripts nodes subs) subs
   stand_all nodes no_more = record { hold = tt; keeps = λ k x h. h }

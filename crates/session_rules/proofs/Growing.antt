@@ -1,12 +1,11 @@
 -- What a session echoes and prints only grows.
-use Rattle.std.proofs.Common.{◌≡◌, ℕ, ◌+◌, Bool, true, false, List, [], ◌∷◌, ◌++◌, length, refl, sym, ap, subst, ◌∙◌, append-nil, append_assoc}
+use Rattle.std.proofs.Common.{◌≡◌, ℕ, ◌+◌, Bool, true, false, List, [], ◌∷◌, ◌++◌, refl, sym, ap, subst, ◌∙◌, append-nil, append_assoc}
 use Rattle.std.specs.Prelude.{Option, Some, None, Ok, Err, nat_le, if◌then◌else◌}
 use Rattle.apl_arrays.specs.declared.report.Report.TheVariants.{Defn, Interrupt, WsFull}
-use Rattle.apl_meaning.specs.Laws.{waiting_act}
 use Rattle.apl_meaning.specs.Meaning.{mean_of_line, mean_of_read, most_statements}
 use Rattle.apl_meaning.specs.Printing.{input_shown, report_lines}
 use Rattle.apl_meaning.specs.Reading.{Read, read_with}
-use Rattle.apl_meaning.specs.State.{Effect, gives, refuses, asks, state_of}
+use Rattle.apl_meaning.specs.State.{state_of}
 use Rattle.apl_meaning.proofs.Lines.{comes_first}
 use Rattle.apl_workspace.specs.Limits.{most_printed, most_weight}
 use Rattle.apl_workspace.specs.Workspace.{PlainWorkspace, with_global, with_printed, workspace_weight}
@@ -17,9 +16,9 @@ use Rattle.fn_editor.specs.Opening.{opened}
 use Rattle.fn_editor.specs.Prompt.{prompt_text}
 use Rattle.sv_events.specs.Answer.{PlainAnswer}
 use Rattle.sv_events.specs.declared.event.Act.{Act}
-use Rattle.session_rules.specs.Course.{Course, beginning, behind, with_terminal}
+use Rattle.session_rules.specs.Course.{Course, beginning, with_terminal}
 use Rattle.apl_terminal.specs.LineKind.{is_opening}
-use Rattle.session_rules.specs.Session.{line_by, lines_done, next_line, session_of, statement_done}
+use Rattle.session_rules.specs.Session.{line_by, lines_done, next_line, statement_done}
 use Rattle.session_rules.specs.SessionLaws.{TranscriptsGrow}
 use Rattle.apl_terminal.specs.Terminal.{PlainTerminal, closing, echoing, editing, free_prompt, glyph_count, printing, reporting, showing}
 use Rattle.session_rules.proofs.MoreAnswers.{and_further, next_more, waits_on}

@@ -1,11 +1,10 @@
 -- Before each entry of a run some user has not left.
-use Rattle.std.proofs.Common.{◌≡◌, ℕ, ◌==◌, ◌||◌, ◌⊎◌, Bool, true, false, not, List, [], ◌∷◌, IsTrue, inl, inr, sym, ap, subst, ◌∙◌}
+use Rattle.std.proofs.Common.{◌≡◌, ℕ, ◌==◌, ◌||◌, Bool, true, false, not, List, [], ◌∷◌, IsTrue, inl, inr, sym, ap, subst, ◌∙◌}
 use Rattle.std.proofs.lemmas.Bool.{and_parts, eq-eqb, eqb-true, or_cases, or_left, or_right}
-use Rattle.std.specs.List.{list_any}
 use Rattle.apl_arrays.specs.Parties.{clock_party, text_party}
 use Rattle.sv_events.specs.Entry.{PlainEntry}
 use Rattle.sv_rules.specs.Entries.{Entries, has_left}
-use Rattle.sv_rules.specs.Legal.{IsLegal, is_user}
+use Rattle.sv_rules.specs.Legal.{is_user}
 use Rattle.sv_rules.specs.Work.{is_auxiliary}
 use Rattle.session_rules.specs.Auxiliaries.{acts_among, some_stay}
 use Rattle.session_rules.specs.RunLaws.{NothingFollowsTheLastLeave}

@@ -12,7 +12,7 @@ use Rattle.apl_meaning.specs.Reading.{Read, read_with}
 use Rattle.apl_meaning.proofs.Lines.{rest_comes_back}
 use Rattle.session_rules.specs.Course.{Course, beginning, behind, with_terminal}
 use Rattle.apl_terminal.specs.LineKind.{is_opening}
-use Rattle.session_rules.specs.Session.{free_line, line_by, lines_done, next_line, session_of, statement_done}
+use Rattle.session_rules.specs.Session.{line_by, lines_done, next_line, statement_done}
 use Rattle.session_rules.specs.SessionLaws.{MoreAnswersComeBack}
 use Rattle.fn_editor.specs.Opening.{opened}
 use Rattle.apl_terminal.specs.Terminal.{PlainTerminal, echoing, editing, free_prompt}

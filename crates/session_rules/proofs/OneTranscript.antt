@@ -1,6 +1,6 @@
 -- A journal gives each user one transcript.
 use Rattle.std.proofs.Common.{◌≡◌, ◌⊎◌, ℕ, List, [], ◌∷◌, ◌++◌, map, refl, sym, ap, ap₂, ◌∙◌, inl, inr, append_assoc}
-use Rattle.std.specs.Prelude.{Option, Some, None}
+use Rattle.std.specs.Prelude.{None}
 use Rattle.sv_events.specs.Answer.{PlainAnswer, full}
 use Rattle.sv_events.specs.declared.event.Act.{Act}
 use Rattle.sv_rules.specs.Entries.{Entries}
@@ -10,7 +10,7 @@ use Rattle.session_rules.specs.Course.{Course}
 use Rattle.session_rules.specs.Run.{AreUserParts}
 use Rattle.session_rules.specs.RunLaws.{PartsMakeOneTranscript}
 use Rattle.session_rules.specs.Session.{session_of}
-use Rattle.session_rules.specs.UserPart.{IsFinished, IsUserPart, answered_entries, answers_of}
+use Rattle.session_rules.specs.UserPart.{IsFinished, answered_entries, answers_of}
 use Rattle.session_rules.proofs.MoreAnswers.{more_comes_back}
 
 -- the answers that refused acts have

@@ -1,11 +1,10 @@
 -- What an entry of another party changes of a party's part: nothing.
-use Rattle.std.proofs.Common.{◌≡◌, ◌≢◌, ℕ, ◌&&◌, ◌||◌, Bool, true, false, not, cond, List, [], ◌∷◌, ◌++◌, map, IsTrue, if◌then◌else◌, refl, sym, ap, ◌∙◌, subst}
+use Rattle.std.proofs.Common.{◌≡◌, ◌≢◌, ℕ, ◌&&◌, ◌||◌, Bool, not, cond, List, [], ◌∷◌, ◌++◌, IsTrue, if◌then◌else◌, sym, ap, ◌∙◌, subst}
 use Rattle.std.proofs.lemmas.Bool.{ne_eqb}
-use Rattle.std.specs.Prelude.{Option, Some, None, IfSome, find, option_and_then, option_to_list, slice_get}
+use Rattle.std.specs.Prelude.{Some, IfSome, option_to_list, slice_get}
 use Rattle.apl_arrays.specs.Array.{PlainArray}
 use Rattle.auxiliaries.specs.Run.{Event, IsReplierRun}
 use Rattle.sv_events.specs.Entry.{PlainEntry}
-use Rattle.sv_events.specs.declared.event.Act.{Act}
 use Rattle.sv_rules.specs.Entries.{Entries, has_left, is_full, is_held, is_leave, kind_of}
 use Rattle.sv_rules.specs.Refused.{awaited}
 use Rattle.bundle_text.specs.User.{PlainUser}

@@ -1,9 +1,7 @@
 -- How far a session has come.
-use Rattle.std.specs.Prelude.{◌++◌, ℕ, List, [], Option, None}
+use Rattle.std.specs.Prelude.{◌++◌, List, [], Option, None}
 use Rattle.apl_meaning.specs.Laws.{waiting_act}
 use Rattle.apl_meaning.specs.State.{Effect, state_of}
-use Rattle.apl_workspace.specs.Workspace.{PlainWorkspace}
-use Rattle.fn_editor.specs.Editor.{PlainEditor}
 use Rattle.sv_events.specs.Answer.{PlainAnswer}
 use Rattle.sv_events.specs.declared.event.Act.{Act}
 use Rattle.apl_terminal.specs.Terminal.{PlainTerminal, new_terminal}

@@ -1,20 +1,13 @@
 -- What is kept of the standing offers goes on with an entry that opens and ends no offers.
-use Rattle.std.proofs.Common.{◌≡◌, refl, sym, ap, ◌∙◌, subst, ℕ, ◌+◌, ◌≤◌, ◌<◌, Bool, true, false, ◌&&◌, not, eqb, ltb, List, [], ◌∷◌, ◌++◌, length, ◌||◌, Option, Some, None, ◌⊎◌, inl, inr, arith}
-use Rattle.std.specs.Prelude.{Contains, IsTrue, find, is_some, unwrap_or, if◌then◌else◌}
-use Rattle.std.proofs.lemmas.Bool.{lt-ltb, and_parts, eq-eqb, eqb-true, not-true, both_ways, cases_Bool}
+use Rattle.std.proofs.Common.{◌≡◌, refl, sym, ap, ◌∙◌, subst, ℕ, ◌+◌, ◌≤◌, Bool, true, false, ◌&&◌, not, eqb, ltb, List, ◌∷◌, length, ◌||◌, Option, Some, None, inl, inr, arith}
+use Rattle.std.specs.Prelude.{Contains, find, is_some, unwrap_or, if◌then◌else◌}
+use Rattle.std.proofs.lemmas.Bool.{lt-ltb, eqb-true, cases_Bool}
 use Rattle.std.proofs.lemmas.Option.{none-some, same_Some}
 use Rattle.std.proofs.lemmas.List.Elements.{All-contains}
-use Rattle.apl_arrays.specs.Array.{PlainArray}
-use Rattle.sv_access.specs.Control.{no_control}
-use Rattle.sv_access.specs.Story.{last_value}
-use Rattle.sv_access.specs.declared.access.Kind.TheVariants as kind
 use Rattle.sv_access.specs.declared.access.Side.{Side}
-use Rattle.sv_access.specs.declared.access.Side.TheVariants.{A, B}
-use Rattle.sv_access.specs.declared.control.Control.{Control}
 use Rattle.sv_events.specs.Entry.{PlainEntry}
-use Rattle.sv_story.specs.Share.{PlainShare, shared_value}
+use Rattle.sv_story.specs.Share.{PlainShare}
 use Rattle.sv_cells.specs.Cell.{known_alone}
-use Rattle.sv_cells.specs.Cells.{cell_at}
 use Rattle.sv_cells.specs.declared.cell.Cell.{Cell}
 use Rattle.sv_cells.specs.declared.cell.Held.{Held}
 use Rattle.sv_cells.specs.declared.cell.Held.TheVariants.{Alone, Shared, Lent}
@@ -22,12 +15,12 @@ use Rattle.sv_cells.specs.declared.cells.Cells.{Cells}
 use Rattle.sv_rules.specs.Control.{control_on, side_at, vector_of}
 use Rattle.sv_rules.specs.Coupling.{coupling_at, coupling_now, couplings}
 use Rattle.std.specs.Option.{option_map_or}
-use Rattle.sv_rules.specs.Entries.{Entries, next_place, since}
+use Rattle.sv_rules.specs.Entries.{Entries, since}
 use Rattle.sv_rules.specs.Legal.{IsLegal}
 use Rattle.sv_rules.specs.Outcome.{value_for}
-use Rattle.sv_rules.specs.Standing.{standing, is_match}
-use Rattle.sv_rules.specs.Story.{GrantedAccess, access_on, known, known_after, story}
-use Rattle.sv_rules.specs.Work.{is_auxiliary, gets_value, lacks_control, owes_reply, tries}
+use Rattle.sv_rules.specs.Standing.{standing}
+use Rattle.sv_rules.specs.Story.{access_on, known_after}
+use Rattle.sv_rules.specs.Work.{gets_value, lacks_control, owes_reply, tries}
 use Rattle.sv_rules.specs.declared.coupling.Coupling.{Coupling}
 use Rattle.sv_rules.specs.declared.standing.Standing.{Standing}
 use Rattle.sv_offer_laws.specs.CouplingLaws.{IsCouplingOf}
@@ -39,8 +32,8 @@ use Rattle.sv_offer_laws.proofs.NowLemmas.{coupling_among, coupling_places, coup
 use Rattle.sv_offer_laws.proofs.PlaceLemmas.{IsPlaceIn, places_within}
 use Rattle.sv_story_laws.proofs.AnswerLemmas.{uses_get_what_they_find}
 use Rattle.sv_story_laws.proofs.OpeningLemmas.{known_later}
-use Rattle.sv_cell_laws.specs.Fits.{FitsShare, HoldsShare, has_share, has_none, FitsHeld, is_open, is_coupled, FitsWork, FitsCell, FitCells}
-use Rattle.sv_cell_laws.specs.Steps.{Stays, HeldAfter, alone_then, shared_then, lent_then, WorkAfter, CellAfter, CellsAfter, with_entry}
+use Rattle.sv_cell_laws.specs.Fits.{FitsShare, HoldsShare, has_share, has_none, FitsHeld, is_open, is_coupled, FitsCell, FitCells}
+use Rattle.sv_cell_laws.specs.Steps.{Stays, HeldAfter, alone_then, shared_then, lent_then, CellAfter, CellsAfter, with_entry}
 use Rattle.sv_cell_laws.proofs.ShareSteps.{GetsShared, OneAccess, share_goes_on_by}
 
 -- the place of a standing offer

@@ -1,17 +1,15 @@
 -- What is kept while offers end together.
-use Rattle.std.proofs.Common.{◌≡◌, refl, sym, ap, ◌∙◌, subst, ℕ, ◌+◌, ◌≤◌, ◌<◌, Bool, true, false, ◌&&◌, ◌||◌, not, eqb, ltb, List, [], ◌∷◌, ◌++◌, length, take, Option, Some, None, ◌⊎◌, inl, inr, arith}
-use Rattle.std.specs.Prelude.{Contains, IsTrue, IsSome, option_and_then, if◌then◌else◌}
-use Rattle.std.specs.List.{list_any, filter}
-use Rattle.std.proofs.lemmas.Bool.{cases_Bool, eq-eqb, eqb-true, eqb-false, ne_eqb, or_cases, or_left, or_right, or_from, and_parts, and_from, both_ways}
+use Rattle.std.proofs.Common.{◌≡◌, refl, sym, ap, ◌∙◌, subst, ℕ, ◌<◌, Bool, true, false, ◌&&◌, ◌||◌, eqb, List, [], ◌∷◌, ◌++◌, Option, Some, None, inl, inr}
+use Rattle.std.specs.Prelude.{Contains, IsSome, option_and_then, if◌then◌else◌}
+use Rattle.std.specs.List.{list_any}
+use Rattle.std.proofs.lemmas.Bool.{eq-eqb, eqb-true, or_cases, or_left, or_right, or_from, and_parts, and_from, both_ways}
 use Rattle.std.proofs.lemmas.List.Folds.{list_any-append}
 use Rattle.std.proofs.lemmas.Option.{none-some, same_Some}
-use Rattle.sv_access.specs.declared.access.Side.{Side}
 use Rattle.sv_access.specs.declared.access.Side.TheVariants.{A, B}
 use Rattle.sv_cells.specs.Cell.{holding, share_in}
 use Rattle.sv_cells.specs.Cells.{PartsAt, cell_at}
 use Rattle.sv_cells.specs.declared.cell.Cell.{Cell}
-use Rattle.sv_cells.specs.declared.cell.Held.{Held}
-use Rattle.sv_cells.specs.declared.cell.Held.TheVariants.{Alone, Shared, Lent}
+use Rattle.sv_cells.specs.declared.cell.Held.TheVariants.{Alone, Shared}
 use Rattle.sv_cells.specs.declared.cells.Cells.{Cells}
 use Rattle.sv_rules.specs.Control.{side_at}
 use Rattle.sv_rules.specs.Coupling.{coupling_at}
@@ -23,7 +21,8 @@ use Rattle.sv_rules.specs.declared.coupling.Made.{Made}
 use Rattle.sv_rules.specs.declared.standing.Standing.{Standing}
 use Rattle.sv_story.specs.Share.{PlainShare}
 use Rattle.sv_cell_laws.specs.Ends.{FitsIn, CellsIn, IsTable, Parts, ends_one, share_at, unless_ended, coupled_without}
-use Rattle.sv_cell_laws.specs.Fits.{FitsShare, HoldsShare, has_share, has_none, FitsHeld, is_open, is_coupled, FitsWork}
+use Rattle.sv_cell_laws.specs.Fits.{FitsShare, HoldsShare, has_share, has_none, FitsHeld, is_open, is_coupled}
+use Rattle.sv_cell_laws.proofs.PutSteps.{cells_put}
 
 -- cells fit alike where the couplings are the same
 pub cells_alike : (journal : Entries) (among : Standing → Type 0) (f g : ℕ → Option Coupling) (cells : Cells) → ((place : ℕ) → f place ≡ g place) → CellsIn journal among f cells → CellsIn journal among g cells
@@ -53,8 +52,9 @@ pub cells_parted : (journal : Entries) (offers : List Standing) (f g : ℕ → O
     ((o p : Standing) → Contains offers o → Contains offers p → o.place ≡ p.place → o ≡ p) → Contains offers c.a → Contains offers c.b → c.a.place < c.b.place → f c.a.place ≡ Some c → f c.b.place ≡ Some c →
     ((place : ℕ) → has_place_of c place ≡ true → g place ≡ None) → ((place : ℕ) → has_place_of c place ≡ false → g place ≡ f place) →
     (cells cells' : Cells) → CellsIn journal (Contains offers) f cells → PartsAt cells cells' c.a.place c.b.place → CellsIn journal (Contains offers) g cells'
-cells_parted journal offers f g c one has_a has_b lower at_a at_b gone others cells cells' fit parts offer has =
-    by (cases_Bool (eqb c.a.place offer.place)) (cases_Bool (eqb c.b.place offer.place))
+cells_parted journal offers f g c one has_a has_b lower at_a at_b gone others cells cells' fit parts =
+    cells_put journal (Contains offers) f g c.a c.b one has_a has_b (λ place x y. others place (or_from (eqb c.a.place place) (eqb c.b.place place) x y)) cells cells' fit low high
+    (parts of_a.0 of_b.0 shared.0 of_a.1 (ap share_in shared.1) of_b.1) low_fits high_fits
   where
     of_a : (cell : Cell) × (cell_at cells c.a.place ≡ Some cell) × FitsIn journal c.a cell (f c.a.place)
     of_a = fit c.a has_a
@@ -70,12 +70,6 @@ cells_parted journal offers f g c one has_a has_b lower at_a at_b gone others ce
 
     high : Cell
     high = holding of_b.0 (Alone (shared.0).b)
-
-    at_place : (place : ℕ) (x y : Bool) → eqb c.a.place place ≡ x → eqb c.b.place place ≡ y → cell_at cells' place ≡ (if x then Some low else (if y then Some high else cell_at cells place))
-    at_place place x y is_x is_y =
-        parts of_a.0 of_b.0 shared.0 of_a.1 (ap share_in shared.1) of_b.1 place
-        ∙ ap (λ (b : Bool). if b then Some low else (if eqb c.b.place place then Some high else cell_at cells place)) is_x
-        ∙ ap (λ (b : Bool). if x then Some low else (if b then Some high else cell_at cells place)) is_y
 
     low_fits : FitsIn journal c.a low (g c.a.place)
     low_fits =
@@ -94,18 +88,6 @@ cells_parted journal offers f g c one has_a has_b lower at_a at_b gone others ce
           held = is_open none (ap Alone (shared.2).b);
           work = λ auxiliary now some. absurd (none-some now (sym none ∙ some));
         }
-
-    by : (eqb c.a.place offer.place ≡ true) ⊎ (eqb c.a.place offer.place ≡ false) → (eqb c.b.place offer.place ≡ true) ⊎ (eqb c.b.place offer.place ≡ false) →
-        (cell : Cell) × (cell_at cells' offer.place ≡ Some cell) × FitsIn journal offer cell (g offer.place)
-    by (inl x) y =
-        let same = one c.a offer has_a has (eqb-true c.a.place offer.place x) in
-        (low, at_place offer.place true (eqb c.b.place offer.place) x refl, subst (λ (o : Standing). FitsIn journal o low (g o.place)) same low_fits)
-    by (inr x) (inl y) =
-        let same = one c.b offer has_b has (eqb-true c.b.place offer.place y) in
-        (high, at_place offer.place false true x y, subst (λ (o : Standing). FitsIn journal o high (g o.place)) same high_fits)
-    by (inr x) (inr y) =
-        let old = fit offer has in
-        (old.0, at_place offer.place false false x y ∙ old.1, subst (FitsIn journal offer old.0) (sym (others offer.place (or_from (eqb c.a.place offer.place) (eqb c.b.place offer.place) x y))) old.2)
 
 pub or-false : (b : Bool) → (b || false) ≡ b
 or-false true = refl

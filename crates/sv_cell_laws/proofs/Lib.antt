@@ -3,6 +3,7 @@ pub mod CellSteps
 pub mod TouchSteps
 pub mod AccessSteps
 pub mod QuietSteps
+pub mod PutSteps
 pub mod OpenSteps
 pub mod EndSteps
 pub mod EndJournal

@@ -1,7 +1,6 @@
 -- What is kept goes on with a new offer.
-use Rattle.std.proofs.Common.{◌≡◌, refl, sym, ap, ◌∙◌, subst, ℕ, ◌+◌, ◌≤◌, ◌<◌, Bool, true, false, not, eqb, ltb, List, [], ◌∷◌, ◌++◌, length, Option, Some, None, ◌⊎◌, inl, inr, arith}
-use Rattle.std.specs.Prelude.{Contains, IsTrue, unwrap_or, if◌then◌else◌}
-use Rattle.std.specs.List.{list_any}
+use Rattle.std.proofs.Common.{◌≡◌, refl, sym, ap, ◌∙◌, subst, ℕ, ◌+◌, ◌<◌, Bool, true, false, eqb, ltb, List, [], ◌∷◌, length, Option, Some, None, ◌⊎◌, inl, inr, arith}
+use Rattle.std.specs.Prelude.{Contains, unwrap_or, if◌then◌else◌}
 use Rattle.std.proofs.lemmas.Bool.{cases_Bool, cases_lt, eq-eqb, eqb-true, eqb-false, ne_eqb, lt-ltb, le-ltb}
 use Rattle.std.proofs.lemmas.List.Elements.{All-contains, Contains-append_cases, Contains-append_left, Contains-append_right}
 use Rattle.std.proofs.lemmas.Option.{none-some, same_Some}
@@ -11,33 +10,33 @@ use Rattle.sv_access.specs.declared.access.Side.TheVariants.{A, B}
 use Rattle.sv_events.specs.Entry.{PlainEntry}
 use Rattle.sv_events.specs.declared.entry.Pair.{Pair}
 use Rattle.sv_cells.specs.Cell.{coupled_with, known_alone, new_cell}
-use Rattle.sv_cells.specs.Cells.{cell_at}
+use Rattle.sv_cells.specs.Cells.{PutsTwo, cell_at}
 use Rattle.sv_cells.specs.declared.cell.Cell.{Cell}
 use Rattle.sv_cells.specs.declared.cell.Held.TheVariants.{Alone, Shared, Lent}
 use Rattle.sv_cells.specs.declared.cells.Cells.{Cells}
-use Rattle.sv_rules.specs.Control.{control_on, side_at, vector_of}
+use Rattle.sv_rules.specs.Control.{vector_of}
 use Rattle.sv_rules.specs.Coupling.{coupling_now, made_in, pair_of}
-use Rattle.sv_rules.specs.Entries.{Entries, next_place, since}
+use Rattle.sv_rules.specs.Entries.{Entries, next_place}
 use Rattle.sv_rules.specs.Legal.{IsLegal}
 use Rattle.sv_rules.specs.Standing.{standing}
-use Rattle.sv_rules.specs.Story.{access_on, handed_in, known, known_after}
+use Rattle.sv_rules.specs.Story.{handed_in, known, known_after}
 use Rattle.sv_rules.specs.Work.{lacks_control, owes_reply}
 use Rattle.sv_rules.specs.declared.coupling.Coupling.{Coupling}
 use Rattle.sv_rules.specs.declared.coupling.Made.{Made}
 use Rattle.sv_rules.specs.declared.standing.Standing.{Standing}
-use Rattle.sv_story.specs.Share.{share_of}
-use Rattle.sv_offer_laws.specs.CouplingLaws.{IsCouplingOf, WasMade}
+use Rattle.sv_story.specs.Share.{PlainShare, share_of}
 use Rattle.sv_offer_laws.specs.LegalLaws.{IsInOrder, made_at}
 use Rattle.sv_offer_laws.proofs.Members.{Contains-head, Contains-cons_cases}
 use Rattle.sv_offer_laws.proofs.CouplingLemmas.{made_in-from_WasMade, made_at_cases}
 use Rattle.sv_offer_laws.proofs.LegalLemmas.{IsSound-from_legal}
 use Rattle.sv_offer_laws.proofs.LookupLemmas.{found_as_made}
-use Rattle.sv_offer_laws.proofs.NowLemmas.{coupling_is_found, coupling_places, coupling_was}
+use Rattle.sv_offer_laws.proofs.NowLemmas.{coupling_is_found, coupling_was}
 use Rattle.sv_story_laws.proofs.OpeningLemmas.{known_later}
-use Rattle.sv_cell_laws.specs.Fits.{FitsShare, HoldsShare, has_share, has_none, FitsHeld, is_open, is_coupled, FitsCell, FitCells}
-use Rattle.sv_cell_laws.specs.Steps.{CellAfter, OpensOffer, OpensCells, Untouched, made_with}
+use Rattle.sv_cell_laws.specs.Fits.{FitsShare, has_share, has_none, FitsHeld, is_open, is_coupled, FitsCell, FitCells, FitsWork}
+use Rattle.sv_cell_laws.specs.Steps.{OpensOffer, OpensCells, Untouched, made_with}
 use Rattle.sv_cell_laws.proofs.CellSteps.{cell_goes_on, placed, vector_later}
 use Rattle.sv_cell_laws.proofs.QuietSteps.{no_access_by_row, no_control_by_row, no_tries_by_row}
+use Rattle.sv_cell_laws.proofs.PutSteps.{puts_two}
 use Rattle.sv_cell_laws.proofs.ShareSteps.{new_share_fits}
 use Rattle.sv_cell_laws.proofs.TouchSteps.{cell_stays, one_place}
 
@@ -134,10 +133,10 @@ known_new journal e new place = let late : ltb new.place (length journal + 1) �
 vector_new : (journal : Entries) (e : PlainEntry) (new : Standing) → new.place ≡ next_place journal → vector_of (e ∷ journal) new ≡ no_control
 vector_new journal e new place = let late : ltb new.place (length journal + 1) ≡ false = le-ltb _ _ (omega (arith, place)) in rw late refl
 
-pub lacks_new : (journal : Entries) (e : PlainEntry) (offer : Standing) (coupling : Coupling) → coupling.at ≡ next_place journal → lacks_control (e ∷ journal) offer coupling ≡ true
+lacks_new : (journal : Entries) (e : PlainEntry) (offer : Standing) (coupling : Coupling) → coupling.at ≡ next_place journal → lacks_control (e ∷ journal) offer coupling ≡ true
 lacks_new journal e offer coupling at = let late : ltb coupling.at (length journal + 1) ≡ false = le-ltb _ _ (omega (arith, at)) in rw late refl
 
-pub owes_new : (journal : Entries) (e : PlainEntry) (offer : Standing) (coupling : Coupling) → coupling.at ≡ next_place journal → owes_reply (e ∷ journal) offer coupling ≡ false
+owes_new : (journal : Entries) (e : PlainEntry) (offer : Standing) (coupling : Coupling) → coupling.at ≡ next_place journal → owes_reply (e ∷ journal) offer coupling ≡ false
 owes_new journal e offer coupling at = let late : ltb coupling.at (length journal + 1) ≡ false = le-ltb _ _ (omega (arith, at)) in rw late refl
 
 -- a new offer stands
@@ -192,99 +191,117 @@ fits_alone users journal e new legal opens cells cells' fit puts offer has = by 
           }),
         )
 
--- the cells with that of a new offer that is coupled
-fits_coupled : (users : List ℕ) (journal : Entries) (e : PlainEntry) (new match : Standing) → IsLegal users (e ∷ journal) → OpensOffer journal e new (Some match) → (cells cells' : Cells) →
-    FitCells journal cells → OpensCells cells cells' new (handed_in e.act) (Some match) → FitCells (e ∷ journal) cells'
-fits_coupled users journal e new match legal opens cells cells' fit puts offer has = by (older_or_new journal e new (Some match) opens offer has)
-  where
-    matched : Contains (standing journal) match × (coupling_now journal match.place ≡ None)
-    matched = opens.matched match refl
+-- what is known of an offer that is not coupled is what its cell holds
+pub alone_known : (journal : Entries) (offer : Standing) (cell : Cell) (coupling : Option Coupling) → coupling ≡ None → FitsHeld journal offer cell coupling → known_alone cell.held ≡ known journal offer
+alone_known journal offer cell coupling none (is_open alone held) = ap known_alone held
+alone_known journal offer cell coupling none (is_coupled now some holds) = absurd (none-some now (sym none ∙ some))
 
-    low : match.place < new.place
-    low = omega (arith, placed journal match matched.0, opens.place)
+-- on an offer that the newest entry coupled a control is lacking, and no reply is owed
+pub work_new : (journal : Entries) (e : PlainEntry) (offer : Standing) (cell : Cell) (made coupling : Coupling) → made.at ≡ next_place journal → Some made ≡ Some coupling →
+    cell.lacks_control ≡ true → cell.owes_reply ≡ false → FitsWork (e ∷ journal) offer cell coupling
+work_new journal e offer cell made coupling at same lacks owes =
+    let newest : coupling.at ≡ next_place journal = ap (λ (c : Coupling). c.at) (sym (same_Some made coupling same)) ∙ at in
+    record { lacks = lacks ∙ sym (lacks_new journal e offer coupling newest); owes = owes ∙ sym (owes_new journal e offer coupling newest) }
 
-    now : Coupling
-    now = record { a = match; b = new; at = next_place journal }
+-- ---- a new offer that is coupled with its match
 
-    pair_made : Contains e.made (let p : Pair = record { a = match.place; b = new.place } in p)
-    pair_made = subst (λ (ps : List Pair). Contains ps (record { a = match.place; b = new.place })) (sym (opens.made ∙ ap (λ p. p ∷ []) (pair_is match new low))) (Contains-head _ [])
+module _ (users : List ℕ) (journal : Entries) (e : PlainEntry) (new match : Standing) (legal : IsLegal users (e ∷ journal)) (opens : OpensOffer journal e new (Some match)) where
+  -- the match stands, and is open
+  matched : Contains (standing journal) match × (coupling_now journal match.place ≡ None)
+  matched = opens.matched match refl
 
-    is_now : (place : ℕ) → (match.place ≡ place) ⊎ (new.place ≡ place) → coupling_now (e ∷ journal) place ≡ Some now
-    is_now place here = coupling_is_found users (e ∷ journal) legal place now (record {
-      has_a = older_stands journal e new (Some match) opens match matched.0;
-      has_b = new_stands journal e new (Some match) opens;
-      here = here;
-      lower_first = low;
-      made = (journal, e, [], refl, refl, pair_made);
-    })
+  -- it is the lower one of the two
+  match_is_lower : match.place < new.place
+  match_is_lower = omega (arith, placed journal match matched.0, opens.place)
 
-    was : (cell : Cell) × (cell_at cells match.place ≡ Some cell) × FitsCell journal match cell
-    was = fit match matched.0
+  -- the entry makes their pair
+  pair_is_made : Contains e.made (let p : Pair = record { a = match.place; b = new.place } in p)
+  pair_is_made =
+      subst (λ (ps : List Pair). Contains ps (record { a = match.place; b = new.place })) (sym (opens.made ∙ ap (λ p. p ∷ []) (pair_is match new match_is_lower))) (Contains-head _ [])
 
-    alone_known : FitsHeld journal match was.0 (coupling_now journal match.place) → known_alone (was.0).held ≡ known journal match
-    alone_known (is_open none held) = ap known_alone held
-    alone_known (is_coupled c some holds) = absurd (none-some c (sym matched.1 ∙ some))
+  -- their coupling
+  abbrev new_coupling : Coupling
+  new_coupling = record { a = match; b = new; at = next_place journal }
 
-    known_match : known (e ∷ journal) match ≡ known journal match
-    known_match =
-        known_later e journal match (placed journal match matched.0) ∙ ap (λ a. known_after a (known journal match)) (no_access_by_row e match opens.no_access)
+  -- it is found at the place of each
+  coupled_at : (place : ℕ) → (match.place ≡ place) ⊎ (new.place ≡ place) → coupling_now (e ∷ journal) place ≡ Some new_coupling
+  coupled_at place here = coupling_is_found users (e ∷ journal) legal place new_coupling (record {
+    has_a = older_stands journal e new (Some match) opens match matched.0;
+    has_b = new_stands journal e new (Some match) opens;
+    here = here;
+    lower_first = match_is_lower;
+    made = (journal, e, [], refl, refl, pair_is_made);
+  })
 
-    shared : FitsShare (e ∷ journal) now (share_of (known_alone (was.0).held) (handed_in e.act))
-    shared =
-        subst (λ (v : Option PlainArray). FitsShare (e ∷ journal) now (share_of v (handed_in e.act))) (known_match ∙ sym (alone_known (was.2).held))
-        (subst (λ (v : Option PlainArray). FitsShare (e ∷ journal) now (share_of (known (e ∷ journal) match) v)) (known_new journal e new opens.place)
-        (new_share_fits users (e ∷ journal) legal match.place now (is_now match.place (inl refl)) (omega arith)))
+  -- of the match the same is known as before
+  match_known : known (e ∷ journal) match ≡ known journal match
+  match_known =
+      known_later e journal match (placed journal match matched.0) ∙ ap (λ a. known_after a (known journal match)) (no_access_by_row e match opens.no_access)
 
-    low_cell : Cell
-    low_cell = coupled_with (was.0).vector (Shared (share_of (known_alone (was.0).held) (handed_in e.act)))
+  -- the new offer is the higher one, and its cell has no share
+  high_fits : FitsCell (e ∷ journal) new (coupled_with no_control Lent)
+  high_fits = record {
+    vector = sym (vector_new journal e new opens.place);
+    held = is_coupled new_coupling (coupled_at new.place (inr refl)) (has_none (ap (λ (b : Bool). if b then A else B) (ne_eqb match.place new.place (λ same. omega (arith, match_is_lower, same)))) refl);
+    work = λ auxiliary coupling found. work_new journal e new (coupled_with no_control Lent) new_coupling coupling refl (sym (coupled_at new.place (inr refl)) ∙ found) refl refl;
+  }
 
-    high_cell : Cell
-    high_cell = coupled_with no_control Lent
+  module _ (cell : Cell) (fits : FitsCell journal match cell) where
+    -- what the two share
+    abbrev new_share : PlainShare
+    new_share = share_of (known_alone cell.held) (handed_in e.act)
 
-    at_place : (place : ℕ) (a b : Bool) → eqb match.place place ≡ a → eqb new.place place ≡ b → cell_at cells' place ≡ (if a then Some low_cell else (if b then Some high_cell else cell_at cells place))
-    at_place place a b is_a is_b =
-        puts (was.0) (was.1) place ∙ ap (λ (x : Bool). if x then Some low_cell else (if eqb new.place place then Some high_cell else cell_at cells place)) is_a
-        ∙ ap (λ (y : Bool). if a then Some low_cell else (if y then Some high_cell else cell_at cells place)) is_b
+    -- it is the share of their coupling
+    share_fits : FitsShare (e ∷ journal) new_coupling new_share
+    share_fits =
+        subst (λ (v : Option PlainArray). FitsShare (e ∷ journal) new_coupling (share_of v (handed_in e.act)))
+        (match_known ∙ sym (alone_known journal match cell (coupling_now journal match.place) matched.1 fits.held))
+        (subst (λ (v : Option PlainArray). FitsShare (e ∷ journal) new_coupling (share_of (known (e ∷ journal) match) v)) (known_new journal e new opens.place)
+        (new_share_fits users (e ∷ journal) legal match.place new_coupling (coupled_at match.place (inl refl)) (omega arith)))
 
-    low_fits : FitsCell (e ∷ journal) match low_cell
+    -- the match is the lower one, and its cell has the share
+    low_fits : FitsCell (e ∷ journal) match (coupled_with cell.vector (Shared new_share))
     low_fits = record {
-      vector = (was.2).vector ∙ sym (vector_later e journal match (placed journal match matched.0) ∙ ap (λ c. unwrap_or c (vector_of journal match)) (no_control_by_row e match opens.no_control));
-      held = is_coupled now (is_now match.place (inl refl)) (has_share (ap (λ (b : Bool). if b then A else B) (eq-eqb match.place match.place refl)) _ refl shared);
-      work = λ auxiliary coupling found.
-          let same : now ≡ coupling = same_Some now coupling (sym (is_now match.place (inl refl)) ∙ found) in
-          let at : coupling.at ≡ next_place journal = sym (ap (λ (c : Coupling). c.at) same) in
-          record { lacks = sym (lacks_new journal e match coupling at); owes = sym (owes_new journal e match coupling at) };
+      vector = fits.vector ∙ sym (vector_later e journal match (placed journal match matched.0) ∙ ap (λ c. unwrap_or c (vector_of journal match)) (no_control_by_row e match opens.no_control));
+      held = is_coupled new_coupling (coupled_at match.place (inl refl)) (has_share (ap (λ (b : Bool). if b then A else B) (eq-eqb match.place match.place refl)) new_share refl share_fits);
+      work = λ auxiliary coupling found. work_new journal e match (coupled_with cell.vector (Shared new_share)) new_coupling coupling refl (sym (coupled_at match.place (inl refl)) ∙ found) refl refl;
     }
 
-    high_fits : FitsCell (e ∷ journal) new high_cell
-    high_fits = record {
-      vector = sym (vector_new journal e new opens.place);
-      held = is_coupled now (is_now new.place (inr refl)) (has_none (ap (λ (b : Bool). if b then A else B) (ne_eqb match.place new.place (λ same. omega (arith, low, same)))) refl);
-      work = λ auxiliary coupling found.
-          let same : now ≡ coupling = same_Some now coupling (sym (is_now new.place (inr refl)) ∙ found) in
-          let at : coupling.at ≡ next_place journal = sym (ap (λ (c : Coupling). c.at) same) in
-          record { lacks = sym (lacks_new journal e new coupling at); owes = sym (owes_new journal e new coupling at) };
-    }
+  -- the cells with those of the two
+  fits_coupled : (cells cells' : Cells) → FitCells journal cells → OpensCells cells cells' new (handed_in e.act) (Some match) → FitCells (e ∷ journal) cells'
+  fits_coupled cells cells' fit puts offer has = by (older_or_new journal e new (Some match) opens offer has)
+    where
+      was : (cell : Cell) × (cell_at cells match.place ≡ Some cell) × FitsCell journal match cell
+      was = fit match matched.0
 
-    by : Contains (standing journal) offer ⊎ (new ≡ offer) → (cell : Cell) × (cell_at cells' offer.place ≡ Some cell) × FitsCell (e ∷ journal) offer cell
-    by (inr same) =
-        let here = eq-eqb new.place offer.place (ap (λ (o : Standing). o.place) same) in
-        let apart = ne_eqb match.place offer.place (λ m. omega (arith, low, m, ap (λ (o : Standing). o.place) same)) in
-        (high_cell, at_place offer.place false true apart here, subst (λ (o : Standing). FitsCell (e ∷ journal) o high_cell) same high_fits)
-    by (inl old) =
-        let apart = ne_eqb new.place offer.place (λ same. omega (arith, placed journal offer old, opens.place, same)) in
-        elim (cases_Bool (eqb match.place offer.place)) [
-          | inl here ↦
-              let same = one_place journal match offer matched.0 old (eqb-true match.place offer.place here) in
-              (low_cell, at_place offer.place true false here apart, subst (λ (o : Standing). FitsCell (e ∷ journal) o low_cell) same low_fits)
-          | inr other ↦
-              let had = fit offer old in (
-                had.0,
-                at_place offer.place false false other apart ∙ had.1,
-                older_fits users journal e new (Some match) legal opens offer old
-                    (λ m is at. eqb-false match.place offer.place other (ap (λ (o : Standing). o.place) (same_Some match m is) ∙ at)) had.0 had.2,
-              )
-        ]
+      low : Cell
+      low = coupled_with (was.0).vector (Shared (share_of (known_alone (was.0).held) (handed_in e.act)))
+
+      high : Cell
+      high = coupled_with no_control Lent
+
+      two : PutsTwo cells cells' match.place low new.place high
+      two = puts was.0 was.1
+
+      by : Contains (standing journal) offer ⊎ (new ≡ offer) → (cell : Cell) × (cell_at cells' offer.place ≡ Some cell) × FitsCell (e ∷ journal) offer cell
+      by (inr same) =
+          let here = eq-eqb new.place offer.place (ap (λ (o : Standing). o.place) same) in
+          let apart = ne_eqb match.place offer.place (λ m. omega (arith, match_is_lower, m, ap (λ (o : Standing). o.place) same)) in
+          (high, puts_two cells cells' match.place new.place low high two offer.place false true apart here, subst (λ (o : Standing). FitsCell (e ∷ journal) o high) same high_fits)
+      by (inl old) =
+          let apart = ne_eqb new.place offer.place (λ same. omega (arith, placed journal offer old, opens.place, same)) in
+          elim (cases_Bool (eqb match.place offer.place)) [
+            | inl here ↦
+                let same = one_place journal match offer matched.0 old (eqb-true match.place offer.place here) in
+                (low, puts_two cells cells' match.place new.place low high two offer.place true false here apart, subst (λ (o : Standing). FitsCell (e ∷ journal) o low) same (low_fits was.0 was.2))
+            | inr other ↦
+                let had = fit offer old in (
+                  had.0,
+                  puts_two cells cells' match.place new.place low high two offer.place false false other apart ∙ had.1,
+                  older_fits users journal e new (Some match) legal opens offer old
+                      (λ m is at. eqb-false match.place offer.place other (ap (λ (o : Standing). o.place) (same_Some match m is) ∙ at)) had.0 had.2,
+                )
+          ]
 
 -- the cells go on with a new offer
 pub cells_opened : (users : List ℕ) (journal : Entries) (e : PlainEntry) (new : Standing) (match : Option Standing) → IsLegal users (e ∷ journal) → OpensOffer journal e new match → (cells cells' : Cells) →

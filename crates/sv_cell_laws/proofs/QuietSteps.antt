@@ -1,8 +1,8 @@
 -- Which entries touch nothing, set a control, or make an access.
-use Rattle.std.proofs.Common.{◌≡◌, refl, sym, ap, ◌∙◌, subst, ℕ, Bool, true, false, ◌&&◌, not, eqb, leb, List, [], ◌∷◌, ◌++◌, map, filter, cond, Option, Some, None, is_none, ◌⊎◌, inl, inr}
-use Rattle.std.specs.Prelude.{Contains, IsTrue, is_some, option_map, if◌then◌else◌}
+use Rattle.std.proofs.Common.{◌≡◌, refl, sym, ap, ◌∙◌, ℕ, Bool, true, false, ◌&&◌, eqb, leb, List, [], ◌∷◌, ◌++◌, map, filter, cond, Option, Some, None, is_none}
+use Rattle.std.specs.Prelude.{Contains, IsTrue}
 use Rattle.std.specs.Option.{option_map_or}
-use Rattle.std.proofs.lemmas.Bool.{eq-eqb, eqb-true, cases_Bool, and_parts, and_from, both_ways}
+use Rattle.std.proofs.lemmas.Bool.{eq-eqb, eqb-true, and_parts, and_from}
 use Rattle.std.proofs.lemmas.Cmp.{nat_list_eq_equiv}
 use Rattle.std.proofs.lemmas.List.{append-nil}
 use Rattle.std.proofs.lemmas.Option.{none-some, same_Some}
@@ -10,7 +10,7 @@ use Rattle.apl_arrays.specs.Array.{PlainArray}
 use Rattle.sv_access.specs.declared.access.Kind.{Kind}
 use Rattle.sv_access.specs.declared.access.Kind.TheVariants as kind
 use Rattle.sv_access.specs.declared.control.Control.{Control}
-use Rattle.sv_events.specs.Answer.{PlainAnswer, degree, granted, held, abandoned, no_value, not_shared, offer_limit, value}
+use Rattle.sv_events.specs.Answer.{degree, granted, no_value, not_shared, offer_limit, value}
 use Rattle.sv_events.specs.Entry.{PlainEntry}
 use Rattle.sv_events.specs.Row.{act_row}
 use Rattle.sv_events.specs.declared.event.Act.{Act}
@@ -18,7 +18,6 @@ use Rattle.sv_events.specs.declared.event.Act.TheVariants.{Offer, Retract, SetCo
 use Rattle.sv_events.specs.declared.event.Hold.{Hold}
 use Rattle.sv_events.specs.declared.row.Accessing.{Accessing}
 use Rattle.sv_events.specs.declared.row.Controlling.{Controlling}
-use Rattle.sv_events.specs.declared.row.Ending.{Ending}
 use Rattle.sv_events.specs.declared.row.Ending.TheVariants.{One, All}
 use Rattle.sv_events.specs.declared.row.Opening.{Opening}
 use Rattle.sv_events.specs.declared.row.Question.{Question}
@@ -28,10 +27,10 @@ use Rattle.apl_arrays.specs.Name.{same_name}
 use Rattle.sv_events.specs.Fits.{is_degree}
 use Rattle.sv_rules.specs.Entries.{Entries, next_place, kind_of}
 use Rattle.sv_rules.specs.Legal.{IsLegal, MayFollow, entry_for}
-use Rattle.sv_rules.specs.Outcome.{Outcome, outcome, answer_only, joined_to, offer_outcome, new_offer, retraction_outcome, access_answer, unless_refused, refusal_answer, granted_answer, value_answer, value_for}
+use Rattle.sv_rules.specs.Outcome.{Outcome, outcome, answer_only, joined_to, offer_outcome, retraction_outcome, access_answer, unless_refused, refusal_answer, granted_answer, value_answer, value_for}
 use Rattle.sv_rules.specs.Refused.{hold_of, hold_on, waits}
-use Rattle.sv_rules.specs.Standing.{standing, own_offer, offer_count, offer_made, with_offer}
-use Rattle.sv_rules.specs.Story.{GrantedAccess, access_on, access_to, granted_on}
+use Rattle.sv_rules.specs.Standing.{standing, own_offer, offer_count, with_offer}
+use Rattle.sv_rules.specs.Story.{GrantedAccess, access_on, granted_on}
 use Rattle.sv_rules.specs.Work.{is_auxiliary, tries}
 use Rattle.sv_rules.specs.declared.coupling.Made.{Made}
 use Rattle.sv_rules.specs.declared.standing.Standing.{Standing}
@@ -40,7 +39,7 @@ use Rattle.sv_offer_laws.proofs.OwnLemmas.{same_name-is, own_offer-is, own_offer
 use Rattle.sv_story_laws.specs.StoryLaws.{IsAccessOn}
 use Rattle.sv_story_laws.proofs.AccessLemmas.{IsAccessOn-from_access, access_on-from_IsAccessOn}
 use Rattle.sv_story_laws.proofs.AuxiliaryLemmas.{auxiliaries_are_never_refused}
-use Rattle.sv_cell_laws.specs.Steps.{Stays, Untouched, TouchesNothing, SetsControl, MakesAccess, set_of, use_of}
+use Rattle.sv_cell_laws.specs.Steps.{Stays, TouchesNothing, SetsControl, MakesAccess, set_of, use_of}
 
 -- what can be nothing is none
 none_if : {X : Type 0} (o : Option X) → ((x : X) → o ≡ Some x → ⊥) → o ≡ None

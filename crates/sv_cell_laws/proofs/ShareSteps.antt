@@ -1,27 +1,24 @@
 -- A share goes on as the story of its coupling does.
-use Rattle.std.proofs.Common.{◌≡◌, refl, sym, ap, ◌∙◌, subst, ℕ, ◌≤◌, ◌<◌, Bool, true, false, ltb, List, [], ◌∷◌, ◌++◌, length, Option, Some, None, ◌+◌, ◌⊎◌, inl, inr, arith}
-use Rattle.std.specs.Prelude.{Contains}
+use Rattle.std.proofs.Common.{◌≡◌, refl, sym, ap, ◌∙◌, subst, ℕ, ◌≤◌, true, ltb, List, ◌∷◌, ◌++◌, length, Option, Some, None, ◌+◌, ◌⊎◌, inl, inr, arith}
 use Rattle.std.specs.Option.{option_or}
 use Rattle.std.proofs.lemmas.Bool.{lt-ltb}
 use Rattle.std.proofs.lemmas.List.{append_assoc}
-use Rattle.std.proofs.lemmas.Option.{none-some, same_Some}
+use Rattle.std.proofs.lemmas.Option.{none-some}
 use Rattle.apl_arrays.specs.Array.{PlainArray}
 use Rattle.sv_access.specs.declared.access.Side.{Side}
 use Rattle.sv_access.specs.declared.access.Side.TheVariants.{A, B}
 use Rattle.sv_access.specs.declared.access.Kind.{Kind}
 use Rattle.sv_access.specs.declared.access.Kind.TheVariants as kind
 use Rattle.sv_access.specs.State.{state_after}
-use Rattle.sv_access.specs.Story.{Story, last_value, state_of_story}
+use Rattle.sv_access.specs.Story.{Story}
 use Rattle.sv_events.specs.Entry.{PlainEntry}
-use Rattle.sv_story.specs.Share.{PlainShare, IsShareOf, after_access, after_set, after_use, known_to, knowing, share_of, shared_value}
+use Rattle.sv_story.specs.Share.{PlainShare, IsShareOf, after_access, after_set, after_use, known_to, share_of, shared_value}
 use Rattle.sv_rules.specs.Coupling.{coupling_now}
-use Rattle.sv_rules.specs.Entries.{Entries, next_place}
+use Rattle.sv_rules.specs.Entries.{Entries}
 use Rattle.sv_rules.specs.Legal.{IsLegal}
-use Rattle.sv_rules.specs.Standing.{standing}
 use Rattle.sv_rules.specs.Story.{GrantedAccess, access_on, known, known_after, story, story_part}
 use Rattle.sv_rules.specs.declared.coupling.Coupling.{Coupling}
-use Rattle.sv_rules.specs.declared.standing.Standing.{Standing}
-use Rattle.sv_story_laws.specs.StoryLaws.{BeginsWithTheGivers, state_at_coupling}
+use Rattle.sv_story_laws.specs.StoryLaws.{state_at_coupling}
 use Rattle.sv_story_laws.proofs.OpeningLemmas.{known_later, stories_begin_with_the_givers}
 use Rattle.sv_cell_laws.specs.Fits.{FitsShare}
 use Rattle.sv_cell_laws.specs.Steps.{with_access, with_entry}

@@ -1,7 +1,7 @@
 -- What an entry leaves as it was of what is kept.
-use Rattle.std.proofs.Common.{◌≡◌, refl, sym, ap, ◌∙◌, subst, ℕ, Bool, true, false, ◌&&◌, not, eqb, List, ◌∷◌, Option, Some, None, ◌⊎◌, inl, inr}
-use Rattle.std.specs.Prelude.{Contains, IsTrue, is_some, option_map, unwrap_or, if◌then◌else◌}
-use Rattle.std.proofs.lemmas.Bool.{eq-eqb, eqb-true, eqb-false, cases_Bool}
+use Rattle.std.proofs.Common.{◌≡◌, sym, ap, ◌∙◌, subst, ℕ, Bool, true, false, ◌&&◌, not, eqb, List, ◌∷◌, Option, Some, None, ◌⊎◌, inl, inr}
+use Rattle.std.specs.Prelude.{Contains, is_some, option_map, unwrap_or, if◌then◌else◌}
+use Rattle.std.proofs.lemmas.Bool.{eqb-true, eqb-false, cases_Bool}
 use Rattle.sv_access.specs.declared.access.Side.{Side}
 use Rattle.sv_access.specs.declared.access.Side.TheVariants.{A, B}
 use Rattle.sv_access.specs.declared.control.Control.{Control}
@@ -10,22 +10,22 @@ use Rattle.sv_cells.specs.Cell.{known_alone, controlled}
 use Rattle.sv_cells.specs.Cells.{cell_at, ChangesAt}
 use Rattle.sv_cells.specs.declared.cell.Cell.{Cell}
 use Rattle.sv_cells.specs.declared.cell.Held.{Held}
-use Rattle.sv_cells.specs.declared.cell.Held.TheVariants.{Alone, Shared, Lent}
+use Rattle.sv_cells.specs.declared.cell.Held.TheVariants.{Alone, Shared}
 use Rattle.sv_cells.specs.declared.cells.Cells.{Cells}
-use Rattle.sv_rules.specs.Control.{control_on, side_at}
+use Rattle.sv_rules.specs.Control.{side_at}
 use Rattle.sv_rules.specs.Coupling.{coupling_now}
 use Rattle.sv_rules.specs.Entries.{Entries}
 use Rattle.sv_rules.specs.Legal.{IsLegal}
 use Rattle.sv_rules.specs.Standing.{standing}
 use Rattle.sv_rules.specs.Story.{GrantedAccess, access_on, known, known_after}
-use Rattle.sv_rules.specs.Work.{is_auxiliary, gets_value, tries}
+use Rattle.sv_rules.specs.Work.{gets_value}
 use Rattle.sv_rules.specs.declared.coupling.Coupling.{Coupling}
 use Rattle.sv_rules.specs.declared.standing.Standing.{Standing}
 use Rattle.sv_story.specs.Share.{PlainShare}
 use Rattle.sv_offer_laws.proofs.LookupLemmas.{found_as_made}
 use Rattle.sv_offer_laws.proofs.PlaceLemmas.{places_ascend, same_by_place}
 use Rattle.sv_cell_laws.specs.Fits.{HoldsShare, has_share, has_none, FitsHeld, is_open, is_coupled, FitsCell, FitCells}
-use Rattle.sv_cell_laws.specs.Steps.{Stays, HeldAfter, alone_then, shared_then, lent_then, WorkAfter, CellAfter, CellsAfter, with_access, with_entry, Untouched, TouchesNothing, SetsControl}
+use Rattle.sv_cell_laws.specs.Steps.{HeldAfter, alone_then, shared_then, lent_then, CellAfter, with_access, with_entry, Untouched, TouchesNothing, SetsControl}
 use Rattle.sv_cell_laws.proofs.CellSteps.{cells_go_on}
 
 -- a share stays, where neither side makes an access

@@ -1,5 +1,4 @@
-use Rattle.std.specs.Prelude.{◌≡◌, ℕ, Option, Some, None, Contains, IsTrue}
-use Rattle.apl_arrays.specs.Array.{PlainArray}
+use Rattle.std.specs.Prelude.{◌≡◌, Option, Some, None, Contains, IsTrue}
 use Rattle.sv_access.specs.declared.access.Side.{Side}
 use Rattle.sv_access.specs.declared.access.Side.TheVariants.{A, B}
 use Rattle.sv_story.specs.Share.{PlainShare, IsShareOf}

@@ -1,11 +1,10 @@
 -- What a party may make now, and what a core keeps where offers open and end.
-use Rattle.std.proofs.Common.{◌≡◌, refl, sym, ap, ◌∙◌, subst, ℕ, ◌+◌, ◌≤◌, ◌<◌, Bool, true, false, ◌&&◌, ◌||◌, not, eqb, List, [], ◌∷◌, ◌++◌, length, map, cond, All, Option, Some, None, ◌⊎◌, inl, inr, arith}
-use Rattle.std.specs.Prelude.{Contains, IsTrue, if◌then◌else◌}
+use Rattle.std.proofs.Common.{◌≡◌, refl, sym, ap, ◌∙◌, ℕ, ◌+◌, ◌≤◌, ◌<◌, Bool, true, false, ◌&&◌, ◌||◌, not, eqb, List, [], ◌∷◌, ◌++◌, length, cond, All, Option, Some, None, ◌⊎◌, inl, inr, arith}
+use Rattle.std.specs.Prelude.{if◌then◌else◌}
 use Rattle.std.proofs.lemmas.Bool.{cases_Bool, or_cases, eq-eqb, eqb-true, ne_eqb, and_from, not_from_false, or_right, both_ways}
 use Rattle.std.proofs.lemmas.List.Sums.{sum_by-cons}
-use Rattle.std.proofs.lemmas.Option.{none-some, same_Some}
+use Rattle.std.proofs.lemmas.Option.{none-some}
 use Rattle.apl_arrays.specs.Array.{PlainArray}
-use Rattle.apl_arrays.specs.List.{Listed}
 use Rattle.sv_events.specs.Entry.{PlainEntry}
 use Rattle.sv_events.specs.Row.{act_row}
 use Rattle.sv_events.specs.declared.entry.Pair.{Pair}
@@ -14,7 +13,7 @@ use Rattle.sv_events.specs.declared.event.Act.TheVariants.{Retract, Leave}
 use Rattle.sv_events.specs.declared.row.Ending.{Ending}
 use Rattle.sv_access.specs.Control.{no_control}
 use Rattle.sv_cells.specs.Cell.{coupled_with, known_alone, new_cell}
-use Rattle.sv_cells.specs.Cells.{CouplesAt, KeepsCells, PutsAt, cell_at}
+use Rattle.sv_cells.specs.Cells.{CouplesAt, PutsAt, cell_at}
 use Rattle.sv_cells.specs.declared.cell.Cell.{Cell}
 use Rattle.sv_cells.specs.declared.cell.Held.TheVariants.{Shared, Lent}
 use Rattle.sv_cells.specs.declared.cells.Cells.{Cells}
@@ -31,7 +30,6 @@ use Rattle.sv_rules.specs.Legal.{IsLegal, MayFollow, act_due, entry_for, is_user
 use Rattle.sv_rules.specs.Refused.{awaited}
 use Rattle.sv_rules.specs.Standing.{own_offer, standing, without_ended}
 use Rattle.sv_rules.specs.Work.{is_auxiliary, work_of}
-use Rattle.sv_rules.specs.declared.coupling.Made.{Made}
 use Rattle.sv_rules.specs.declared.standing.Standing.{Standing}
 use Rattle.sv_story.specs.Share.{share_of}
 use Rattle.sv_story_laws.proofs.StepLemmas.{leaves_may_follow, steps_may_follow, work_may_follow}

@@ -213,6 +213,75 @@ pub own-from : (party : ℕ) (local : List ℕ) (offer : Standing) → offer.par
 own-from party local offer own named =
     subst (λ (p : ℕ). is_own p local offer ≡ true) own (subst (λ (n : List ℕ). is_own offer.party n offer ≡ true) named (own-itself offer))
 
+-- ---- an entry that is later than a coupling, and who set last
+
+module _ (e : PlainEntry) (journal : Entries) (offer : Standing) (coupling : Coupling) (old : coupling.at ≤ length journal) where
+  -- the story of the coupling before the entry
+  abbrev told : Story PlainArray
+  told = story journal coupling
+
+  -- the side of the offer
+  abbrev own_side : Side
+  own_side = side_at coupling offer.place
+
+  -- a use that was due found a set of the partner that was unseen
+  partner_set_last : (local : List ℕ) → work_of journal e.party ≡ work.Use local → e.act ≡ Use local → Contains (standing journal) offer → coupling_now journal offer.place ≡ Some coupling →
+      (e.party ≡ offer.party) × (e.act ≡ Use offer.local) → is_last_setter (other_side own_side) told ≡ true
+  partner_set_last local is same stood was used =
+      let named : Use offer.local ≡ Use local = sym used.1 ∙ same in
+      let local_is : offer.local ≡ local = cc in
+      let w = use_due journal e.party local is in
+      let one : w.0 ≡ offer = own_is_one journal e.party local w.0 offer w.1.stands (own-from e.party local w.0 w.1.own w.1.named) stood (own-from e.party local offer (sym used.0) local_is) in
+      let same_coupling : w.1.coupling ≡ coupling = same_Some w.1.coupling coupling (sym w.1.now ∙ ap (λ (o : Standing). coupling_now journal o.place) one ∙ was) in
+      let unseen : has_unseen journal offer coupling ≡ true =
+      subst (λ (c : Coupling). has_unseen journal offer c ≡ true) same_coupling (subst (λ (o : Standing). has_unseen journal o w.1.coupling ≡ true) one w.1.here) in
+      (and_parts (is_last_setter (other_side own_side) told) (not (has_used_since (other_side (other_side own_side)) told)) unseen).0
+
+  -- so after a use by an auxiliary its own side did not set last
+  not_last_after_use : (users : List ℕ) → IsLegal users (e ∷ journal) → is_auxiliary offer.party ≡ true → Contains (standing journal) offer → coupling_now journal offer.place ≡ Some coupling →
+      (e.party ≡ offer.party) × (e.act ≡ Use offer.local) → is_last_setter own_side (story (e ∷ journal) coupling) ≡ false
+  not_last_after_use users legal aux stood was used = elim (due_access (work_of journal e.party) (next_place journal) (act_row e.act).hands_in e.act due) [
+    | no_access none ↦ absurd (none-some _ (sym none ∙ ap (λ (a : Act). (act_row a).row.accesses) used.1))
+    | replies local reply is same ↦ absurd (let no : Use offer.local ≡ Set local reply = sym used.1 ∙ same in cc)
+    | uses local is same ↦
+        ap (is_last_setter own_side) (story_later e journal coupling old)
+        ∙ use_part own_side A (access_on coupling.a e) (story_part B (access_on coupling.b e) ++ told) (uses_only coupling.a e offer.local used.1)
+        ∙ use_part own_side B (access_on coupling.b e) told (uses_only coupling.b e offer.local used.1)
+        ∙ one_set_last own_side told (partner_set_last local is same stood was used)
+  ]
+    where
+      aux_entry : is_auxiliary e.party ≡ true
+      aux_entry = ap is_auxiliary used.0 ∙ aux
+
+      due : act_for (work_of journal e.party) (next_place journal) (act_row e.act).hands_in ≡ Some e.act
+      due = subst (λ (b : Bool). act_due b journal e.party e.act ≡ Some e.act) aux_entry legal.0.due
+
+  -- nor after an entry that makes no access on its offer, if it did not before
+  not_last_after_another : Contains (standing (e ∷ journal)) offer → IsCouplingOf (e ∷ journal) offer.place coupling → access_on offer e ≡ None → is_last_setter own_side told ≡ false →
+      is_last_setter own_side (story (e ∷ journal) coupling) ≡ false
+  not_last_after_another has is none before = elim (cases_Bool (eqb coupling.a.place offer.place)) [
+    | inl low ↦
+        let side_is : own_side ≡ A = ap (λ (b : Bool). if b then A else B) low in
+        let none_a : access_on coupling.a e ≡ None = ap (λ (o : Standing). access_on o e) (one coupling.a is.has_a (eqb-true coupling.a.place offer.place low)) ∙ none in
+        subst (λ (s : Side). is_last_setter s (story (e ∷ journal) coupling) ≡ false) (sym side_is)
+        (ap (is_last_setter A) (story_later e journal coupling old)
+        ∙ ap (λ (got : Option GrantedAccess). is_last_setter A (story_part A got ++ (story_part B (access_on coupling.b e) ++ told))) none_a
+        ∙ others_part A (access_on coupling.b e) told (subst (λ (s : Side). is_last_setter s told ≡ false) side_is before))
+    | inr not_low ↦ elim is.here [
+      | inl low ↦ absurd (eqb-false coupling.a.place offer.place not_low low)
+      | inr high ↦
+          let side_is : own_side ≡ B = ap (λ (b : Bool). if b then A else B) not_low in
+          let none_b : access_on coupling.b e ≡ None = ap (λ (o : Standing). access_on o e) (one coupling.b is.has_b high) ∙ none in
+          subst (λ (s : Side). is_last_setter s (story (e ∷ journal) coupling) ≡ false) (sym side_is)
+          (ap (is_last_setter B) (story_later e journal coupling old)
+          ∙ others_part B (access_on coupling.a e) (story_part B (access_on coupling.b e) ++ told)
+          (ap (λ (got : Option GrantedAccess). is_last_setter B (story_part B got ++ told)) none_b ∙ subst (λ (s : Side). is_last_setter s told ≡ false) side_is before))
+    ]
+  ]
+    where
+      one : (other : Standing) → Contains (standing (e ∷ journal)) other → other.place ≡ offer.place → other ≡ offer
+      one other there same = same_by_place (standing (e ∷ journal)) other offer (places_ascend (e ∷ journal)) there has same
+
 -- an auxiliary that owes a reply used the partner's set, and has set nothing since
 own_set_is_not_last : (users : List ℕ) (journal : Entries) → IsLegal users journal → (offer : Standing) (coupling : Coupling) → is_auxiliary offer.party ≡ true → Contains (standing journal) offer →
     coupling_now journal offer.place ≡ Some coupling → owes_reply journal offer coupling ≡ true → is_last_setter (side_at coupling offer.place) (story journal coupling) ≡ false
@@ -227,71 +296,12 @@ own_set_is_not_last users (e ∷ journal) legal offer coupling aux has now owes 
       let stood = stood_before e journal offer early has in
       let was = coupling_was users e journal legal offer.place coupling now old in
       elim (cases_Bool (tries offer e)) [
-        | inl tried ↦ let gets : gets_value offer e ≡ true = rw tried at (rw later at owes) in by_use old stood was (got_by_use offer e gets)
+        | inl tried ↦ let gets : gets_value offer e ≡ true = rw tried at (rw later at owes) in not_last_after_use e journal offer coupling old users legal aux stood was (got_by_use offer e gets)
         | inr not_tried ↦
             let before = own_set_is_not_last users journal legal.1 offer coupling aux stood was (rw not_tried at (rw later at owes)) in
-            by_another old is (untried offer e not_tried) before
+            not_last_after_another e journal offer coupling old has is (untried offer e not_tried) before
       ]
 ]
-  where
-    told : Story PlainArray
-    told = story journal coupling
-
-    side : Side
-    side = side_at coupling offer.place
-
-    -- where its use is the newest entry, it was due, since a set of the partner was unseen
-    by_use : coupling.at ≤ length journal → Contains (standing journal) offer → coupling_now journal offer.place ≡ Some coupling → (e.party ≡ offer.party) × (e.act ≡ Use offer.local) →
-        is_last_setter side (story (e ∷ journal) coupling) ≡ false
-    by_use old stood was used = elim (due_access (work_of journal e.party) (next_place journal) (act_row e.act).hands_in e.act due) [
-      | no_access none ↦ absurd (none-some _ (sym none ∙ ap (λ (a : Act). (act_row a).row.accesses) used.1))
-      | replies local reply is same ↦ absurd (let no : Use offer.local ≡ Set local reply = sym used.1 ∙ same in cc)
-      | uses local is same ↦
-          let named : Use offer.local ≡ Use local = sym used.1 ∙ same in
-          let local_is : offer.local ≡ local = cc in
-          let w = use_due journal e.party local is in
-          let one : w.0 ≡ offer = own_is_one journal e.party local w.0 offer w.1.stands (own-from e.party local w.0 w.1.own w.1.named) stood (own-from e.party local offer (sym used.0) local_is) in
-          let same_coupling : w.1.coupling ≡ coupling = same_Some w.1.coupling coupling (sym w.1.now ∙ ap (λ (o : Standing). coupling_now journal o.place) one ∙ was) in
-          let unseen : has_unseen journal offer coupling ≡ true =
-          subst (λ (c : Coupling). has_unseen journal offer c ≡ true) same_coupling (subst (λ (o : Standing). has_unseen journal o w.1.coupling ≡ true) one w.1.here) in
-          let parts = and_parts (is_last_setter (other_side side) told) (not (has_used_since (other_side (other_side side)) told)) unseen in
-          ap (is_last_setter side) (story_later e journal coupling old)
-          ∙ use_part side A (access_on coupling.a e) (story_part B (access_on coupling.b e) ++ told) (uses_only coupling.a e offer.local used.1)
-          ∙ use_part side B (access_on coupling.b e) told (uses_only coupling.b e offer.local used.1)
-          ∙ one_set_last side told parts.0
-    ]
-      where
-        aux_entry : is_auxiliary e.party ≡ true
-        aux_entry = ap is_auxiliary used.0 ∙ aux
-
-        due : act_for (work_of journal e.party) (next_place journal) (act_row e.act).hands_in ≡ Some e.act
-        due = subst (λ (b : Bool). act_due b journal e.party e.act ≡ Some e.act) aux_entry legal.0.due
-
-    -- an entry that is no set or use of its own leaves it so
-    by_another : coupling.at ≤ length journal → IsCouplingOf (e ∷ journal) offer.place coupling → access_on offer e ≡ None → is_last_setter side told ≡ false →
-        is_last_setter side (story (e ∷ journal) coupling) ≡ false
-    by_another old is none before = elim (cases_Bool (eqb coupling.a.place offer.place)) [
-      | inl low ↦
-          let side_is : side ≡ A = ap (λ (b : Bool). if b then A else B) low in
-          let none_a : access_on coupling.a e ≡ None = ap (λ (o : Standing). access_on o e) (one coupling.a is.has_a (eqb-true coupling.a.place offer.place low)) ∙ none in
-          subst (λ (s : Side). is_last_setter s (story (e ∷ journal) coupling) ≡ false) (sym side_is)
-          (ap (is_last_setter A) (story_later e journal coupling old)
-          ∙ ap (λ (got : Option GrantedAccess). is_last_setter A (story_part A got ++ (story_part B (access_on coupling.b e) ++ told))) none_a
-          ∙ others_part A (access_on coupling.b e) told (subst (λ (s : Side). is_last_setter s told ≡ false) side_is before))
-      | inr not_low ↦ elim is.here [
-        | inl low ↦ absurd (eqb-false coupling.a.place offer.place not_low low)
-        | inr high ↦
-            let side_is : side ≡ B = ap (λ (b : Bool). if b then A else B) not_low in
-            let none_b : access_on coupling.b e ≡ None = ap (λ (o : Standing). access_on o e) (one coupling.b is.has_b high) ∙ none in
-            subst (λ (s : Side). is_last_setter s (story (e ∷ journal) coupling) ≡ false) (sym side_is)
-            (ap (is_last_setter B) (story_later e journal coupling old)
-            ∙ others_part B (access_on coupling.a e) (story_part B (access_on coupling.b e) ++ told)
-            (ap (λ (got : Option GrantedAccess). is_last_setter B (story_part B got ++ told)) none_b ∙ subst (λ (s : Side). is_last_setter s told ≡ false) side_is before))
-      ]
-    ]
-      where
-        one : (other : Standing) → Contains (standing (e ∷ journal)) other → other.place ≡ offer.place → other ≡ offer
-        one other there same = same_by_place (standing (e ∷ journal)) other offer (places_ascend (e ∷ journal)) there has same
 
 -- after a legal journal the access of an auxiliary's work is not refused
 pub work_is_in_time : (users : List ℕ) (journal : Entries) → IsLegal users journal → (party place : ℕ) (handed : Option PlainArray) (act : Act) → is_auxiliary party ≡ true →

@@ -1,11 +1,5 @@
-use Rattle.std.proofs.Common.{◌≡◌, ap, sym, ◌∙◌, subst, Some, None, Option}
-use Rattle.std.specs.Prelude.{Contains, IfSome, is_some}
-use Rattle.std.specs.Option.{option_copied}
-use Rattle.sv_cells.specs.Cells.{cell_at}
-use Rattle.sv_core.specs.Core.{PlainCore}
-use Rattle.sv_rules.specs.Legal.{IsLegal}
+use Rattle.std.proofs.Common.{sym, ◌∙◌}
 use Rattle.sv_rules.specs.Standing.{standing}
-use Rattle.sv_rules.specs.Coupling.{coupling_now}
 use Rattle.sv_offer_laws.proofs.OwnLemmas.{own_offer-parts}
 use Rattle.sv_core.proofs.processor.Core.control_in_force.Goals as goal
 

@@ -1,9 +1,7 @@
-use Rattle.std.proofs.Common.{◌++◌, ◌+◌, ◌<◌, ◌∙◌, ◌≡◌, ◌≤◌, OnErr, OnOk, Option, Some, ap, length, refl, subst, sym}
+use Rattle.std.proofs.Common.{◌++◌, ◌<◌, ◌∙◌, Option, ap, refl, subst, sym}
 use Rattle.std.proofs.lemmas.Bool.{not-true}
 use Rattle.std.specs.Prelude.{option_map, option_to_list}
-use Rattle.sv_cells.specs.Cell.{new_cell}
-use Rattle.sv_cells.specs.Cells.{PutsAt}
-use Rattle.sv_offers.specs.Table.{PlainOffers, after_offer}
+use Rattle.sv_offers.specs.Table.{PlainOffers}
 use Rattle.sv_rules.specs.Coupling.{pair_of}
 use Rattle.sv_rules.specs.Entries.{is_leave, next_place}
 use Rattle.sv_rules.specs.Legal.{MayFollow, entry_for}

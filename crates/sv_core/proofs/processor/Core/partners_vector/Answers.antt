@@ -1,10 +1,6 @@
-use Rattle.std.proofs.Common.{◌≡◌, ap, sym, ◌∙◌, subst, Some, None, Option}
-use Rattle.std.specs.Prelude.{Contains, IfSome, is_some, option_and_then}
-use Rattle.std.specs.Option.{option_copied}
-use Rattle.sv_core.specs.Core.{PlainCore, IsFound}
-use Rattle.sv_rules.specs.Legal.{IsLegal}
-use Rattle.sv_rules.specs.Standing.{standing}
-use Rattle.sv_rules.specs.Coupling.{coupling_now}
+use Rattle.std.proofs.Common.{subst, Option}
+use Rattle.std.specs.Prelude.{IfSome}
+use Rattle.sv_core.specs.Core.{IsFound}
 use Rattle.sv_rules.specs.declared.coupling.Coupling.{Coupling}
 use Rattle.sv_core.proofs.processor.Core.partners_vector.Goals as goal
 

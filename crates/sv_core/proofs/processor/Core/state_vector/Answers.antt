@@ -1,11 +1,5 @@
-use Rattle.std.proofs.Common.{◌≡◌, ap, sym, ◌∙◌, subst, Some, None, Option}
-use Rattle.std.specs.Prelude.{Contains, IfSome, is_some}
-use Rattle.std.specs.Option.{option_copied}
-use Rattle.sv_cells.specs.Cells.{cell_at}
-use Rattle.sv_core.specs.Core.{PlainCore}
-use Rattle.sv_rules.specs.Legal.{IsLegal}
-use Rattle.sv_rules.specs.Standing.{standing}
-use Rattle.sv_rules.specs.Coupling.{coupling_now}
+use Rattle.std.proofs.Common.{ap, sym, ◌∙◌, subst, Option}
+use Rattle.std.specs.Prelude.{IfSome}
 use Rattle.sv_access.specs.State.{vector_of_state}
 use Rattle.sv_access.specs.Story.{state_of_story}
 use Rattle.sv_access.specs.declared.access.Side.{Side}
