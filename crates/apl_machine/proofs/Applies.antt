@@ -10,15 +10,15 @@ use Rattle.apl_meaning.specs.Expressions.{valued}
 use Rattle.apl_meaning.specs.Meaning.{closed}
 use Rattle.apl_meaning.specs.State.{State, gives, refuses, outcome_of}
 use Rattle.apl_meaning.specs.Verbs.{application, both_or_neither, may_be_applied}
-use Rattle.apl_machine.specs.declared.evaluation.Evaluation.{Evaluation}
-use Rattle.apl_machine.specs.declared.flow.Flow.{Flow}
-use Rattle.apl_machine.specs.Evaluating.{caller_of}
-use Rattle.apl_machine.specs.Interpreter.{PlainInterpreter, here, state_at}
-use Rattle.apl_machine.specs.Moves.{Comes, Moves, part_gives}
-use Rattle.apl_machine.specs.Stack.{carried_on}
-use Rattle.apl_machine.proofs.Moving.{comes_then}
-use Rattle.apl_machine.proofs.Same.{comes_as}
-use Rattle.apl_machine.proofs.Taken.{answer_gives}
+use Rattle.apl_statements.specs.declared.evaluation.Evaluation.{Evaluation}
+use Rattle.apl_statements.specs.declared.flow.Flow.{Flow}
+use Rattle.apl_statements.specs.Evaluating.{caller_of}
+use Rattle.apl_statements.specs.Interpreter.{PlainInterpreter, here, state_at}
+use Rattle.apl_statements.specs.Moves.{Comes, Moves, part_gives}
+use Rattle.apl_statements.specs.Stack.{carried_on}
+use Rattle.apl_statements.proofs.Moving.{comes_then}
+use Rattle.apl_statements.proofs.Same.{comes_as}
+use Rattle.apl_statements.proofs.Taken.{answer_gives}
 
 may_as : {A : Type 0} (f : Verb) (value : A → PlainArray) (left : Option A) (axis : Option ℤ) → (both_or_neither (is_dyadic f) (is_some left) && (not (is_some axis) || takes_axis f)) ≡ may_be_applied f (option_map value left) axis
 may_as f value None None = refl

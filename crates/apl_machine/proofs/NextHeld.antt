@@ -9,20 +9,21 @@ use Rattle.apl_meaning.specs.Deeds.{value_of}
 use Rattle.apl_meaning.specs.Expressions.{valued}
 use Rattle.apl_meaning.specs.State.{gives}
 use Rattle.apl_meaning.specs.Variables.{reference}
-use Rattle.apl_machine.specs.declared.evaluation.Evaluation.{Evaluation}
-use Rattle.apl_machine.specs.declared.part.Part.{Part}
-use Rattle.apl_machine.specs.declared.part.Part.TheVariants as part
-use Rattle.apl_machine.specs.declared.values.Held.{Held}
-use Rattle.apl_machine.specs.declared.values.Held.TheVariants as held
-use Rattle.apl_machine.specs.Evaluating.{caller_of}
-use Rattle.apl_machine.specs.Interpreter.{PlainInterpreter, here, state_at}
-use Rattle.apl_machine.specs.Moves.{part_gives}
-use Rattle.apl_machine.specs.Nexts.{IsNextHeld, IsValueSeen}
-use Rattle.apl_machine.specs.Parts.{IsConstant}
-use Rattle.apl_machine.specs.Stack.{carried_on}
-use Rattle.apl_machine.specs.Values.{constant_of, held_value, no_array, parts_of}
 use Rattle.apl_arrays.specs.Array.{PlainArray}
-use Rattle.apl_machine.proofs.Same.{at_once}
+use Rattle.apl_values.specs.declared.part.Part.{Part}
+use Rattle.apl_values.specs.declared.part.Part.TheVariants as part
+use Rattle.apl_values.specs.declared.values.Held.{Held}
+use Rattle.apl_values.specs.declared.values.Held.TheVariants as held
+use Rattle.apl_values.specs.Parts.{IsConstant}
+use Rattle.apl_values.specs.Values.{constant_of, held_value, no_array}
+use Rattle.apl_statements.specs.declared.evaluation.Evaluation.{Evaluation}
+use Rattle.apl_statements.specs.Evaluating.{caller_of}
+use Rattle.apl_statements.specs.Interpreter.{PlainInterpreter, here, state_at}
+use Rattle.apl_statements.specs.Moves.{part_gives}
+use Rattle.apl_statements.specs.Stack.{carried_on}
+use Rattle.apl_statements.specs.Holding.{parts_of}
+use Rattle.apl_statements.proofs.Same.{at_once}
+use Rattle.apl_machine.specs.Nexts.{IsNextHeld, IsValueSeen}
 use Rattle.apl_machine.proofs.StepParts.{IsNext, next_constant, next_gives, passed, refers_to, to_come}
 
 -- a constant

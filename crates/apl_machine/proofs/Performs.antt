@@ -15,19 +15,21 @@ use Rattle.apl_meaning.specs.Tasks.{Next}
 use Rattle.apl_meaning.specs.Expressions.{Found, performed}
 use Rattle.apl_meaning.specs.Nodes.{Values, apply_step, leaving_values}
 use Rattle.apl_meaning.specs.Meaning.{ran}
-use Rattle.apl_machine.specs.declared.evaluation.Evaluation.{Evaluation}
-use Rattle.apl_machine.specs.declared.evaluation.Operands.{Operands}
-use Rattle.apl_machine.specs.declared.values.Held.{Held}
-use Rattle.apl_machine.specs.Interpreter.{PlainInterpreter, state_at}
-use Rattle.apl_machine.specs.Evaluating.{evaluation_of}
-use Rattle.apl_machine.specs.Stack.{onward}
-use Rattle.apl_machine.specs.Moves.{Comes, if_there, part_gives, part_takes}
-use Rattle.apl_machine.specs.Operands.{operand_count, operand_list}
-use Rattle.apl_machine.specs.Values.{IsAxis, IsNoAxis, held_value, held_values, parts_of}
-use Rattle.apl_machine.proofs.Gives.{takes_values}
-use Rattle.apl_machine.proofs.Parts.{performed_where, performs}
-use Rattle.apl_machine.proofs.Same.{SameAt, at_once}
-use Rattle.apl_machine.proofs.Taken.{all_back, all_front}
+use Rattle.apl_values.specs.declared.values.Held.{Held}
+use Rattle.apl_values.specs.Values.{held_value}
+use Rattle.apl_statements.specs.declared.evaluation.Evaluation.{Evaluation}
+use Rattle.apl_statements.specs.declared.evaluation.Operands.{Operands}
+use Rattle.apl_statements.specs.Interpreter.{PlainInterpreter, state_at}
+use Rattle.apl_statements.specs.Evaluating.{evaluation_of}
+use Rattle.apl_statements.specs.Stack.{onward}
+use Rattle.apl_statements.specs.Moves.{Comes, if_there, part_gives, part_takes}
+use Rattle.apl_statements.specs.Operands.{operand_count, operand_list}
+use Rattle.apl_statements.specs.Holding.{held_values, parts_of}
+use Rattle.apl_statements.proofs.Gives.{takes_values}
+use Rattle.apl_statements.proofs.Parts.{performed_where, performs}
+use Rattle.apl_statements.proofs.Same.{SameAt, at_once}
+use Rattle.apl_statements.proofs.Taken.{all_back, all_front}
+use Rattle.apl_machine.specs.Axes.{IsAxis, IsNoAxis}
 
 there : {A B : Type 0} (f : A → B) (o : Option A) → is_some (option_map f o) ≡ is_some o
 there f None = refl

@@ -13,12 +13,13 @@ use Rattle.apl_meaning.specs.Statements.{line_outcome}
 use Rattle.apl_meaning.specs.Meaning.{closed, ran, run_below}
 use Rattle.apl_meaning.proofs.Enough.{RunsAgree, begun_agrees, enough, line_agrees}
 use Rattle.apl_meaning.proofs.Lines.{runs}
-use Rattle.apl_machine.specs.Interpreter.{PlainInterpreter, here, state_at}
-use Rattle.apl_machine.specs.Machine.{PlainStage, idle, begins, is_open, has_answer, lost, PlainMachine, IsOpenIn, ended_by, machine_after, machine_before, stage_to_come, still_to_come}
-use Rattle.apl_machine.specs.Moves.{Moves}
-use Rattle.apl_machine.specs.Pending.{PlainPending, act_of}
+use Rattle.apl_values.specs.Pending.{PlainPending, act_of}
+use Rattle.apl_statements.specs.Interpreter.{PlainInterpreter, here, state_at}
+use Rattle.apl_statements.specs.Moves.{Moves}
+use Rattle.apl_statements.specs.Stack.{PlainCaller, PlainWaiting, behind}
+use Rattle.apl_calls.specs.Ended.{ended_by}
+use Rattle.apl_machine.specs.Machine.{PlainStage, idle, begins, is_open, has_answer, lost, PlainMachine, IsOpenIn, machine_after, machine_before, stage_to_come, still_to_come}
 use Rattle.apl_machine.specs.Runs.{ComesTo, Stands, StandsOn, mean_behind}
-use Rattle.apl_machine.specs.Stack.{PlainCaller, PlainWaiting, behind}
 
 -- nothing more behind a part
 then_nothing : (o : Outcome Next) → and_then o (λ next t. gives next t) ≡ o

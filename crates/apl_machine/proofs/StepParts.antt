@@ -9,7 +9,7 @@ use Rattle.apl_arrays.specs.declared.report.Fail.{Fail}
 use Rattle.apl_arrays.specs.declared.report.Fail.TheVariants as fail
 use Rattle.apl_arrays.specs.declared.report.Report.{Report}
 use Rattle.apl_arrays.specs.declared.report.Report.TheVariants.{Value, WsFull}
-use Rattle.apl_items.specs.Answers.{answer_of, first_report, shape_faults, unless}
+use Rattle.apl_items.specs.Answers.{first_report, shape_faults, unless}
 use Rattle.apl_workspace.specs.Workspace.{look}
 use Rattle.apl_workspace.specs.declared.meaning.Meaning.{Meaning}
 use Rattle.line_trees.specs.Nodes as node
@@ -22,21 +22,23 @@ use Rattle.apl_meaning.specs.Expressions.{Found, constant_array, constant_outcom
 use Rattle.apl_meaning.specs.Nodes.{Values, apply_step, leaving_values, node_step, ready}
 use Rattle.apl_meaning.specs.Meaning.{ran}
 use Rattle.apl_meaning.specs.Variables.{reference, reference_by}
-use Rattle.apl_machine.specs.declared.evaluation.Evaluation.{Evaluation}
-use Rattle.apl_machine.specs.declared.flow.Flow.{Flow}
-use Rattle.apl_machine.specs.declared.flow.Flow.TheVariants as flow
-use Rattle.apl_machine.specs.declared.part.Part.{Part}
-use Rattle.apl_machine.specs.declared.part.Part.TheVariants as part
-use Rattle.apl_machine.specs.declared.reading.Reading.{Reading}
-use Rattle.apl_machine.specs.declared.values.Held.TheVariants as held
-use Rattle.apl_machine.specs.Evaluating.{caller_of, evaluation_of, values_where}
-use Rattle.apl_machine.specs.Interpreter.{PlainInterpreter, here, state_at}
-use Rattle.apl_machine.specs.Moves.{Coming, Comes, flow_to_come, if_there, part_gives, part_takes}
-use Rattle.apl_machine.specs.Parts.{IsConstant, IsPart, is_paren, plain_part, plain_parts}
-use Rattle.apl_machine.specs.Stack.{assignment_step, carried_on, onward}
-use Rattle.apl_machine.specs.Values.{constant_of, held_value, held_values, no_array, parts_of}
-use Rattle.apl_machine.proofs.Parts.{next_around_none, next_part, next_wants, part_leaves}
-use Rattle.apl_machine.proofs.Same.{SameAt, at_once}
+use Rattle.apl_values.specs.declared.part.Part.{Part}
+use Rattle.apl_values.specs.declared.part.Part.TheVariants as part
+use Rattle.apl_values.specs.declared.reading.Reading.{Reading}
+use Rattle.apl_values.specs.declared.values.Held.TheVariants as held
+use Rattle.apl_values.specs.Parts.{IsConstant, IsPart, is_paren, plain_part, plain_parts}
+use Rattle.apl_values.specs.Values.{constant_of, held_value, no_array}
+use Rattle.apl_values.proofs.Constants.{constant_gives}
+use Rattle.apl_statements.specs.declared.evaluation.Evaluation.{Evaluation}
+use Rattle.apl_statements.specs.declared.flow.Flow.{Flow}
+use Rattle.apl_statements.specs.declared.flow.Flow.TheVariants as flow
+use Rattle.apl_statements.specs.Evaluating.{caller_of, evaluation_of, values_where}
+use Rattle.apl_statements.specs.Interpreter.{PlainInterpreter, here, state_at}
+use Rattle.apl_statements.specs.Moves.{Coming, Comes, flow_to_come, if_there, part_gives, part_takes}
+use Rattle.apl_statements.specs.Stack.{assignment_step, carried_on, onward}
+use Rattle.apl_statements.specs.Holding.{held_values, parts_of}
+use Rattle.apl_statements.proofs.Parts.{next_around_none, next_part, next_wants, part_leaves}
+use Rattle.apl_statements.proofs.Same.{SameAt, at_once}
 
 -- the next part is the first of the nodes that are left
 behind_it : (parts : List Part) (at : ℕ) (part : Part) → slice_get parts at ≡ Some part → drop at (plain_parts parts) ≡ plain_part part ∷ drop (suc at) (plain_parts parts)
@@ -59,12 +61,6 @@ steps_to m e part s is there = next_part m e (plain_part part) s (part_next (par
 -- a part that takes none
 pub takes_none : (m : PlainInterpreter) (e : Evaluation) (found : State → Outcome Found) (s : State) → part_takes m e (λ values s. leaving_values values (found s)) s ≡ part_gives m e found s
 takes_none m e found s = part_leaves m e (held_values m.workspace e) (found s)
-
--- a constant
-pub constant_gives : (array : PlainArray) (s : State) → IsConstant array → valued (constant_outcome array.items s) ≡ gives (Some array) s
-constant_gives array s is =
-    ap (λ (a : PlainArray). valued (outcome_of (answer_of (shape_faults a.shape) a) s)) is.whole
-    ∙ ap (λ (report : Option Report). valued (outcome_of (unless report array) s)) is.fits
 
 -- one that would be too large
 pub constant_refused : (items : PlainItems) (s : State) → first_report (shape_faults (constant_array items).shape) ≡ Some WsFull → valued (constant_outcome items s) ≡ refuses WsFull s

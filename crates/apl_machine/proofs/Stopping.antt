@@ -4,16 +4,16 @@ use Rattle.std.specs.Prelude.{Ok, Err}
 use Rattle.apl_arrays.specs.declared.report.Fail.{Fail}
 use Rattle.apl_arrays.specs.declared.report.Fail.TheVariants as fail
 use Rattle.sv_events.specs.declared.event.Act.{Act}
-use Rattle.apl_machine.specs.declared.flow.Pause.{Pause}
-use Rattle.apl_machine.specs.declared.flow.Pause.TheVariants as pause
+use Rattle.apl_values.specs.Pending.{act_of, plain_pending}
+use Rattle.apl_statements.specs.declared.flow.Pause.{Pause}
+use Rattle.apl_statements.specs.declared.flow.Pause.TheVariants as pause
+use Rattle.apl_statements.specs.Evaluating.{caller_of}
+use Rattle.apl_statements.specs.Interpreter.{PlainInterpreter, here}
+use Rattle.apl_statements.specs.Moves.{ComesToPause}
+use Rattle.apl_statements.specs.Sound.{IsPause}
 use Rattle.apl_machine.specs.declared.flow.Stop.{Stop}
-use Rattle.apl_machine.specs.Evaluating.{caller_of}
-use Rattle.apl_machine.specs.Interpreter.{PlainInterpreter, here}
 use Rattle.apl_machine.specs.Machine.{PlainMachine, idle, is_open, machine_after, still_to_come}
-use Rattle.apl_machine.specs.Moves.{ComesToPause}
-use Rattle.apl_machine.specs.Pending.{act_of, plain_pending}
 use Rattle.apl_machine.specs.Runs.{AsksThere, EndsBy, EndsDone, StopsAs}
-use Rattle.apl_machine.specs.Sound.{IsPause}
 use Rattle.apl_machine.specs.Stops.{EndsAs, PausesAs}
 use Rattle.apl_machine.proofs.Standing.{comes_to_act, comes_to_end, comes_to_report, stands_on}
 

@@ -1,5 +1,5 @@
 -- A machine as plain data, what is still to come of it, and what its calls change.
-use Rattle.std.specs.Prelude.{◌≡◌, ◌++◌, ℕ, List, []}
+use Rattle.std.specs.Prelude.{◌≡◌, ℕ, List, []}
 use Rattle.apl_arrays.specs.declared.report.Report.{Report}
 use Rattle.apl_workspace.specs.Workspace.{PlainWorkspace}
 use Rattle.line_trees.specs.Parsing.{PlainTree}
@@ -10,14 +10,14 @@ use Rattle.apl_meaning.specs.State.{State, Outcome, gives, and_then}
 use Rattle.apl_meaning.specs.Tasks.{Next, goes_on, immediate, begun}
 use Rattle.apl_meaning.specs.Statements.{line_outcome}
 use Rattle.apl_meaning.specs.Meaning.{most_statements, ran}
-use Rattle.apl_meaning.specs.Printing.{report_lines}
+use Rattle.apl_values.specs.Parts.{reading_tree}
+use Rattle.apl_values.specs.Pending.{PlainPending, act_of, asked_for, brought_by, plain_pending}
+use Rattle.apl_statements.specs.Evaluating.{caller_of}
+use Rattle.apl_statements.specs.Interpreter.{PlainInterpreter, at_rest_on}
+use Rattle.apl_statements.specs.Stack.{PlainCaller, PlainWaiting, behind, carried_on}
+use Rattle.apl_calls.specs.Ended.{ended_by}
 use Rattle.apl_machine.specs.declared.machine.Stage.{Stage}
 use Rattle.apl_machine.specs.declared.machine.Stage.TheVariants as stage
-use Rattle.apl_machine.specs.Evaluating.{caller_of}
-use Rattle.apl_machine.specs.Interpreter.{PlainInterpreter, here}
-use Rattle.apl_machine.specs.Parts.{reading_tree}
-use Rattle.apl_machine.specs.Pending.{PlainPending, act_of, asked_for, brought_by, plain_pending}
-use Rattle.apl_machine.specs.Stack.{PlainCaller, PlainWaiting, behind, carried_on}
 
 -- what a machine does between calls: it is idle; it is to begin a line of this tree; an act is open, behind which the statement goes on; the act has its answer; or memory ran out, for good
 pub data PlainStage : Type 0 where
@@ -54,7 +54,7 @@ still_to_come m s = stage_to_come m.stage m.interpreter.stack s
 
 -- an idle machine on a workspace
 abbrev pub idle_on : PlainWorkspace → PlainMachine
-idle_on w = record { interpreter = record { workspace = w; output = []; statements = 0; input = []; stack = [] }; stage = idle }
+idle_on w = record { interpreter = at_rest_on w; stage = idle }
 
 -- a machine is idle: no line is under way
 pub record IsIdle (m : PlainMachine) : Type 0 where
@@ -93,10 +93,6 @@ IsOpenStage lost = ⊥
 -- a machine that is to begin a line of this tree
 abbrev pub machine_before : List ℕ → PlainTree → PlainMachine → PlainMachine
 machine_before line tree m = record { interpreter = record m.interpreter { statements = most_statements; input = line }; stage = begins tree }
-
--- a line was ended by a report: its two lines are printed, and all functions under way are left
-abbrev pub ended_by : Report → PlainInterpreter → PlainInterpreter
-ended_by report m = record m { workspace = record m.workspace { frames = [] }; output = m.output ++ report_lines report (here m); stack = [] }
 
 -- a machine whose line was ended by a report
 abbrev pub machine_after : Report → PlainInterpreter → PlainMachine

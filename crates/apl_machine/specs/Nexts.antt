@@ -4,14 +4,15 @@ use Rattle.apl_arrays.specs.Array.{PlainArray}
 use Rattle.apl_workspace.specs.declared.meaning.Meaning.{Meaning}
 use Rattle.apl_workspace.specs.declared.meaning.Meaning.TheVariants as meaning
 use Rattle.apl_meaning.specs.State.{gives}
-use Rattle.apl_machine.specs.declared.evaluation.Evaluation.{Evaluation}
-use Rattle.apl_machine.specs.declared.values.Held.{Held}
-use Rattle.apl_machine.specs.Evaluating.{evaluation_of}
-use Rattle.apl_machine.specs.Interpreter.{PlainInterpreter}
-use Rattle.apl_machine.specs.Moves.{Moves, part_gives}
-use Rattle.apl_machine.specs.Stack.{onward}
-use Rattle.apl_machine.specs.Values.{IsHeld, held_value, parts_of}
-use Rattle.apl_machine.specs.Work.{parts_left}
+use Rattle.apl_values.specs.declared.values.Held.{Held}
+use Rattle.apl_values.specs.Values.{IsHeld, held_value}
+use Rattle.apl_statements.specs.declared.evaluation.Evaluation.{Evaluation}
+use Rattle.apl_statements.specs.Evaluating.{evaluation_of}
+use Rattle.apl_statements.specs.Interpreter.{PlainInterpreter}
+use Rattle.apl_statements.specs.Moves.{Moves, part_gives}
+use Rattle.apl_statements.specs.Stack.{onward}
+use Rattle.apl_statements.specs.Holding.{parts_of}
+use Rattle.apl_statements.specs.Work.{parts_left}
 
 -- a name stands for a value
 abbrev pub IsValueSeen : Meaning → Type 0

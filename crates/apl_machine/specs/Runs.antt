@@ -1,10 +1,7 @@
 -- Where a machine stands in a line, and how it may stop: what the calls of a machine promise.
-use Rattle.std.specs.Prelude.{◌≡◌, ◌+◌, ◌++◌, ℕ, List, [], Ok, length}
+use Rattle.std.specs.Prelude.{◌≡◌, ◌+◌, ◌++◌, ℕ, List, []}
 use Rattle.apl_arrays.specs.declared.report.Report.{Report}
 use Rattle.apl_workspace.specs.Workspace.{PlainWorkspace}
-use Rattle.line_scanner.specs.Scanning.{reading_of}
-use Rattle.line_scanner.specs.Token.{PlainToken}
-use Rattle.line_trees.specs.Parsing.{PlainTree, parsed}
 use Rattle.line_trees.specs.Trees.{LineTree}
 use Rattle.sv_events.specs.Answer.{PlainAnswer}
 use Rattle.sv_events.specs.declared.event.Act.{Act}
@@ -13,17 +10,11 @@ use Rattle.apl_meaning.specs.Tasks.{begun, immediate}
 use Rattle.apl_meaning.specs.Statements.{line_outcome}
 use Rattle.apl_meaning.specs.Meaning.{closed, most_statements, run_below, start_of}
 use Rattle.apl_meaning.specs.Printing.{report_lines}
-use Rattle.apl_meaning.specs.Reading.{classes_of}
+use Rattle.apl_statements.specs.Interpreter.{state_at}
 use Rattle.apl_machine.specs.declared.flow.Stop.{Stop}
 use Rattle.apl_machine.specs.declared.flow.Stop.TheVariants as stop
-use Rattle.apl_machine.specs.Interpreter.{state_at}
 use Rattle.apl_machine.specs.Machine.{PlainMachine, IsIdle, IsOpenAct, still_to_come}
-
--- this is the tree of a text, with the classes of a workspace
-pub record IsTreeOf (w : PlainWorkspace) (text : List ℕ) (tree : PlainTree) : Type 0 where
-  pub tokens : List PlainToken
-  pub scanned : reading_of text ≡ Ok tokens
-  pub nodes : parsed (classes_of w) tokens (length text) ≡ Ok tree
+pub use Rattle.apl_values.specs.Parts.{IsTreeOf}
 
 -- the meaning of a line that is begun when these lines were printed: as `mean` says, and what it prints stands behind them
 abbrev pub mean_behind : List (List ℕ) → LineTree → List ℕ → PlainWorkspace → List PlainAnswer → Effect

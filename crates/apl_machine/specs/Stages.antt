@@ -1,13 +1,13 @@
 -- What holds of every machine, and the machine as plain data.
 use Rattle.apl_workspace.specs.Workspace.{PlainWorkspace}
+use Rattle.apl_values.specs.Parts.{IsReading}
+use Rattle.apl_values.specs.Pending.{IsPending}
+use Rattle.apl_statements.specs.Interpreter.{here}
+use Rattle.apl_statements.specs.Sound.{IsCaller}
 use Rattle.apl_machine.specs.declared.machine.Machine.TheInside.{Inside}
 use Rattle.apl_machine.specs.declared.machine.Stage.{Stage}
 use Rattle.apl_machine.specs.declared.machine.Stage.TheVariants as stage
-use Rattle.apl_machine.specs.Interpreter.{here}
 use Rattle.apl_machine.specs.Machine.{PlainMachine, plain_stage}
-use Rattle.apl_machine.specs.Parts.{IsReading}
-use Rattle.apl_machine.specs.Pending.{IsPending}
-use Rattle.apl_machine.specs.Sound.{IsCaller}
 
 -- what holds of a stage
 abbrev pub IsStage : PlainWorkspace → Stage → Type 0

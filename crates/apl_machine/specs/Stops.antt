@@ -2,14 +2,14 @@
 use Rattle.std.specs.Prelude.{◌≡◌}
 use Rattle.apl_arrays.specs.declared.report.Fail.{Fail}
 use Rattle.apl_arrays.specs.declared.report.Fail.TheVariants as fail
-use Rattle.apl_machine.specs.declared.flow.Pause.{Pause}
-use Rattle.apl_machine.specs.declared.flow.Pause.TheVariants as pause
+use Rattle.apl_values.specs.Pending.{act_of, plain_pending}
+use Rattle.apl_statements.specs.declared.flow.Pause.{Pause}
+use Rattle.apl_statements.specs.declared.flow.Pause.TheVariants as pause
+use Rattle.apl_statements.specs.Evaluating.{caller_of}
+use Rattle.apl_statements.specs.Interpreter.{PlainInterpreter, here}
 use Rattle.apl_machine.specs.declared.flow.Stop.{Stop}
 use Rattle.apl_machine.specs.declared.flow.Stop.TheVariants as stop
-use Rattle.apl_machine.specs.Evaluating.{caller_of}
-use Rattle.apl_machine.specs.Interpreter.{PlainInterpreter, here}
 use Rattle.apl_machine.specs.Machine.{PlainMachine, idle, is_open, machine_after}
-use Rattle.apl_machine.specs.Pending.{act_of, plain_pending}
 
 -- a machine stops where its run paused: it is idle, or the act is open behind which the statement goes on
 abbrev pub PausesAs : PlainInterpreter → Pause → PlainMachine → Stop → Type 0

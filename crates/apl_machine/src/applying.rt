@@ -1,4 +1,4 @@
-ghost use Rattle.std.specs.Prelude.{◌≡◌, ◌-◌, ◌≤◌, ◌&&◌, ◌||◌, Some, false, IfErr, IfOk, IfSome, not, option_map};
+ghost use Rattle.std.specs.Prelude.{◌≡◌, ◌-◌, ◌≤◌, ◌&&◌, ◌||◌, Some, IfErr, IfOk, IfSome, not, option_map};
 ghost use Rattle.std.specs.Option.{option_copied};
 ghost use Rattle.apl_arrays.specs.declared.report.Fail.TheVariants as fail;
 ghost use Rattle.apl_meaning.specs.Expressions.{valued};
@@ -6,121 +6,134 @@ ghost use Rattle.apl_meaning.specs.Meaning.{ran};
 ghost use Rattle.apl_meaning.specs.Nodes.{apply_step};
 ghost use Rattle.apl_meaning.specs.Verbs.{application, both_or_neither, named_axis};
 ghost use Rattle.apl_operators.specs.Apply.{is_dyadic, takes_axis};
-ghost use Rattle.apl_machine.specs.Moves.{Comes, if_there, part_gives, part_takes};
-ghost use Rattle.apl_machine.specs.Sound.{IsCaller, IsFlow};
-ghost use Rattle.apl_machine.specs.Values.{IsAxis, IsHeld, IsNoAxis, held_value, parts_of};
-ghost use Rattle.apl_machine.specs.Work.{StaysWithin};
+ghost use Rattle.apl_values.specs.Values.{IsHeld, held_value};
+ghost use Rattle.apl_statements.specs.Moves.{Comes, if_there, part_gives, part_takes};
+ghost use Rattle.apl_statements.specs.Sound.{IsCaller, IsFlow};
+ghost use Rattle.apl_statements.specs.Holding.{parts_of};
+ghost use Rattle.apl_statements.specs.Work.{StaysWithin};
+ghost use Rattle.apl_machine.specs.Axes.{IsAxis, IsNoAxis};
 
-use crate::evaluation::{Evaluation, Operands};
-use crate::flow::Flow;
-use crate::interpreter::Interpreter;
-use crate::values::{Held, array_of};
+use apl_acts::system;
 use apl_arrays::{Array, Fail, ItemsRef, Mix1, Mix2, Report, Verb};
+use apl_calls::call;
 use apl_operators::{Steps, apply};
+use apl_statements::{Evaluation, Flow, Interpreter, Operands};
+use apl_values::{Held, array_of};
 use apl_workspace::Args;
 use line_trees::Fun;
 use std::sync::ledger::Ledger;
 
-impl Interpreter {
-    /// A function of its arguments, all of which are evaluated: a primitive one, a defined one, or a system function.
-    pub(crate) fn perform<L: Ledger>(
-        &mut self,
-        e: Evaluation,
-        function: Fun,
-        has_left: bool,
-        has_axis: bool,
-        steps: &mut Steps<L>,
-    ) -> Result<Flow, Fail>
-        requires sound { IsCaller self.old.workspace e }
-        ensures rises { steps.old ≤ steps.new }
-        ensures comes { Comes self.old (part_takes self.old e (apply_step ran function (if_there has_left) (if_there has_axis))) (steps.new - steps.old) self.new result }
-        ensures sound { IfOk result (IsFlow self.new) }
-        ensures within { IfOk result (StaysWithin self.old e self.new) }
-    {
-        let mut e = e;
-        let Operands { left, axis, right } = e.take_operands(has_left, has_axis)?;
-        let number = self.axis_of(&e, axis)?;
-        match function {
-            Fun::Verb(verb) => self.apply(e, verb, left, right, number, steps),
-            Fun::Defined(name) => {
-                let args = self.args_of(&e, left, right)?;
-                self.call(e, name, args)
-            }
-            Fun::System(name) => self.system(e, name, left, right),
+/// A function of its arguments, all of which are evaluated: a primitive one, a defined one, or a system function.
+pub fn perform<L: Ledger>(
+    interpreter: &mut Interpreter,
+    e: Evaluation,
+    function: Fun,
+    has_left: bool,
+    has_axis: bool,
+    steps: &mut Steps<L>,
+) -> Result<Flow, Fail>
+    requires sound { IsCaller interpreter.old.workspace e }
+    ensures rises { steps.old ≤ steps.new }
+    ensures comes { Comes interpreter.old (part_takes interpreter.old e (apply_step ran function (if_there has_left) (if_there has_axis))) (steps.new - steps.old) interpreter.new result }
+    ensures sound { IfOk result (IsFlow interpreter.new) }
+    ensures within { IfOk result (StaysWithin interpreter.old e interpreter.new) }
+{
+    let mut e = e;
+    let Operands { left, axis, right } = e.take_operands(has_left, has_axis)?;
+    let number = axis_of(interpreter, &e, axis)?;
+    match function {
+        Fun::Verb(verb) => apply_verb(interpreter, e, verb, left, right, number, steps),
+        Fun::Defined(name) => {
+            let args = args_of(interpreter, &e, left, right)?;
+            call(interpreter, e, name, args)
         }
+        Fun::System(name) => system(interpreter, e, name, left, right),
     }
+}
 
-    // The axis that a value names: LENGTH ERROR where it has not one element, else DOMAIN ERROR for a character.
-    fn axis_of(&self, e: &Evaluation, axis: Option<Held>) -> Result<Option<i64>, Fail>
-        requires { IfSome axis (IsHeld self.now.workspace (parts_of e.now)) }
-        ensures ok { IfOk result (IsAxis (option_map (held_value self.now.workspace (parts_of e.now)) axis)) }
-        ensures refused { IfErr result (IsNoAxis (option_map (held_value self.now.workspace (parts_of e.now)) axis)) }
-    {
-        match axis {
-            None => Ok(None),
-            Some(held) => Ok(Some(named_axis(array_of(&held, e.parts(), &self.workspace))?)),
-        }
+// The axis that a value names: LENGTH ERROR where it has not one element, else DOMAIN ERROR for a character.
+fn axis_of(
+    interpreter: &Interpreter,
+    e: &Evaluation,
+    axis: Option<Held>,
+) -> Result<Option<i64>, Fail>
+    requires { IfSome axis (IsHeld interpreter.now.workspace (parts_of e.now)) }
+    ensures ok { IfOk result (IsAxis (option_map (held_value interpreter.now.workspace (parts_of e.now)) axis)) }
+    ensures refused { IfErr result (IsNoAxis (option_map (held_value interpreter.now.workspace (parts_of e.now)) axis)) }
+{
+    match axis {
+        None => Ok(None),
+        Some(held) => Ok(Some(named_axis(array_of(&held, e.parts(), &interpreter.workspace))?)),
     }
+}
 
-    // The arguments of a call as arrays of their own.
-    fn args_of(&self, e: &Evaluation, left: Option<Held>, right: Held) -> Result<Args, Fail>
-        requires left { IfSome left (IsHeld self.now.workspace (parts_of e.now)) }
-        requires right { IsHeld self.now.workspace (parts_of e.now) right }
-        ensures ok { IfOk result (λ args. args ≡ record { left = option_map (held_value self.now.workspace (parts_of e.now)) left; right = Some (held_value self.now.workspace (parts_of e.now) right) }) }
-        ensures refused { IfErr result (λ why. why ≡ fail.WantOfMemory) }
-    {
-        let right = self.owned(e, right)?;
-        let left = match left {
-            None => None,
-            Some(held) => Some(self.owned(e, held)?),
-        };
-        Ok(Args {
-            left,
-            right: Some(right),
-        })
+// The arguments of a call as arrays of their own.
+fn args_of(
+    interpreter: &Interpreter,
+    e: &Evaluation,
+    left: Option<Held>,
+    right: Held,
+) -> Result<Args, Fail>
+    requires left { IfSome left (IsHeld interpreter.now.workspace (parts_of e.now)) }
+    requires right { IsHeld interpreter.now.workspace (parts_of e.now) right }
+    ensures ok { IfOk result (λ args. args ≡ record { left = option_map (held_value interpreter.now.workspace (parts_of e.now)) left; right = Some (held_value interpreter.now.workspace (parts_of e.now) right) }) }
+    ensures refused { IfErr result (λ why. why ≡ fail.WantOfMemory) }
+{
+    let right = interpreter.owned(e, right)?;
+    let left = match left {
+        None => None,
+        Some(held) => Some(interpreter.owned(e, held)?),
+    };
+    Ok(Args {
+        left,
+        right: Some(right),
+    })
+}
+
+// A primitive function, or an operator with its operands, through the one door. It counts one application.
+fn apply_verb<L: Ledger>(
+    interpreter: &Interpreter,
+    e: Evaluation,
+    verb: Verb,
+    left: Option<Held>,
+    right: Held,
+    axis: Option<i64>,
+    steps: &mut Steps<L>,
+) -> Result<Flow, Fail>
+    requires sound { IsCaller interpreter.now.workspace e }
+    requires left { IfSome left (IsHeld interpreter.now.workspace (parts_of e)) }
+    requires right { IsHeld interpreter.now.workspace (parts_of e) right }
+    ensures rises { steps.old ≤ steps.new }
+    ensures comes { Comes interpreter.now (part_gives interpreter.now e (λ s. valued (application verb (option_map (held_value interpreter.now.workspace (parts_of e)) left) (held_value interpreter.now.workspace (parts_of e) right) axis s))) (steps.new - steps.old) interpreter.now result }
+    ensures sound { IfOk result (IsFlow interpreter.now) }
+    ensures within { IfOk result (StaysWithin interpreter.now e interpreter.now) }
+{
+    if !may_be_applied(&verb, left.is_some(), axis.is_some()) {
+        return Err(Fail::Report(Report::Syntax));
     }
+    let array = apply(
+        interpreter.alloc,
+        &verb,
+        lent(interpreter, &e, left.as_ref()),
+        array_of(&right, e.parts(), &interpreter.workspace),
+        axis,
+        steps,
+    )?;
+    interpreter.give(e, Held::Made(array))
+}
 
-    // A primitive function, or an operator with its operands, through the one door. It counts one application.
-    fn apply<L: Ledger>(
-        &self,
-        e: Evaluation,
-        verb: Verb,
-        left: Option<Held>,
-        right: Held,
-        axis: Option<i64>,
-        steps: &mut Steps<L>,
-    ) -> Result<Flow, Fail>
-        requires sound { IsCaller self.now.workspace e }
-        requires left { IfSome left (IsHeld self.now.workspace (parts_of e)) }
-        requires right { IsHeld self.now.workspace (parts_of e) right }
-        ensures rises { steps.old ≤ steps.new }
-        ensures comes { Comes self.now (part_gives self.now e (λ s. valued (application verb (option_map (held_value self.now.workspace (parts_of e)) left) (held_value self.now.workspace (parts_of e) right) axis s))) (steps.new - steps.old) self.now result }
-        ensures sound { IfOk result (IsFlow self.now) }
-        ensures within { IfOk result (StaysWithin self.now e self.now) }
-    {
-        if !may_be_applied(&verb, left.is_some(), axis.is_some()) {
-            return Err(Fail::Report(Report::Syntax));
-        }
-        let array = apply(
-            self.alloc,
-            &verb,
-            self.lent(&e, left.as_ref()),
-            array_of(&right, e.parts(), &self.workspace),
-            axis,
-            steps,
-        )?;
-        self.give(e, Held::Made(array))
-    }
-
-    // A value that is lent, where there is one.
-    fn lent<'a>(&'a self, e: &'a Evaluation, held: Option<&'a Held>) -> Option<&'a Array>
-        requires { IfSome (option_copied held) (IsHeld self.now.workspace (parts_of e.now)) }
-        ensures { option_copied result ≡ option_map (held_value self.now.workspace (parts_of e.now)) (option_copied held.entry) }
-    {
-        match held {
-            None => None,
-            Some(held) => Some(array_of(held, e.parts(), &self.workspace)),
-        }
+// A value that is lent, where there is one.
+fn lent<'a>(
+    interpreter: &'a Interpreter,
+    e: &'a Evaluation,
+    held: Option<&'a Held>,
+) -> Option<&'a Array>
+    requires { IfSome (option_copied held) (IsHeld interpreter.now.workspace (parts_of e.now)) }
+    ensures { option_copied result ≡ option_map (held_value interpreter.now.workspace (parts_of e.now)) (option_copied held.entry) }
+{
+    match held {
+        None => None,
+        Some(held) => Some(array_of(held, e.parts(), &interpreter.workspace)),
     }
 }
 

@@ -19,9 +19,9 @@ ghost use Rattle.apl_meaning.specs.Statements.{is_silent, statement_outcome, tex
 ghost use Rattle.apl_meaning.specs.Variables.{items_assignment, reference};
 ghost use Rattle.apl_meaning.specs.Deeds.{Deed};
 ghost use Rattle.apl_meaning.specs.Naming.{Naming};
-ghost use Rattle.apl_machine.specs.Pending.{asked_for, assigned_giving, in_rows, names_asked, parties_asked, refers, replaces, sets};
-ghost use Rattle.apl_machine.specs.Rows.{PlainRow, asks_act, rest_of_rows, row_zeros};
-ghost use Rattle.apl_machine.specs.Stack.{PlainCaller, PlainEvaluation, PlainWaiting, after_step, at_line, begun_at, behind, branches, calling, carried_on, executes, onward, onward_lines, prints, rest_of_statement, resumed};
+ghost use Rattle.apl_values.specs.Pending.{asked_for, assigned_giving, in_rows, names_asked, parties_asked, refers, replaces, sets};
+ghost use Rattle.apl_values.specs.Rows.{PlainRow, asks_act, rest_of_rows, row_zeros};
+ghost use Rattle.apl_statements.specs.Stack.{PlainCaller, PlainEvaluation, PlainWaiting, after_step, at_line, begun_at, behind, branches, calling, carried_on, executes, onward, onward_lines, prints, rest_of_statement, resumed};
 
 /// A node makes its step, and what it leaves on the stack is what the statement goes on with; the end of a function gives
 /// its caller the result. The call does nothing. No memory.

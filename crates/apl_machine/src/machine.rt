@@ -1,21 +1,23 @@
-ghost use Rattle.std.specs.Prelude.{◌≡◌, ◌-◌, ◌≤◌, [], ◌∷◌, Ok, Err, IfOk, IsErr, IsOk, OnErr, OnOk};
+ghost use Rattle.std.specs.Prelude.{◌≡◌, ◌-◌, ◌≤◌, [], ◌∷◌, Err, IfOk, IsErr, IsOk, OnErr, OnOk};
 ghost use Rattle.apl_arrays.specs.declared.report.Fail.TheVariants as fail;
 ghost use Rattle.line_trees.specs.Parsing.{plain_tree};
 ghost use Rattle.line_trees.specs.Trees.{line_tree_of};
 ghost use Rattle.sv_events.specs.Answer.{plain_answer};
+ghost use Rattle.apl_values.specs.Parts.{IsTreeOf};
+ghost use Rattle.apl_statements.specs.Moves.{Comes, ComesToPause};
+ghost use Rattle.apl_statements.specs.Sound.{IsFlow, IsPause};
 ghost use Rattle.apl_machine.specs.Machine.{IsIdle, IsOpenStage, MayRun, idle_on, lost, machine_before, silent, still_to_come};
-ghost use Rattle.apl_machine.specs.Moves.{Comes, ComesToPause};
-ghost use Rattle.apl_machine.specs.Runs.{IsTreeOf, Stands, StandsOn, StopsAs};
-ghost use Rattle.apl_machine.specs.Sound.{IsFlow, IsPause};
+ghost use Rattle.apl_machine.specs.Runs.{Stands, StandsOn, StopsAs};
 ghost use Rattle.apl_machine.specs.Stops.{EndsAs, PausesAs};
 
-use crate::evaluation::Evaluation;
-use crate::flow::{Flow, Pause, Stop};
-use crate::interpreter::Interpreter;
-use crate::pending::Pending;
-use crate::reading::Reading;
+use crate::flow::Stop;
+use crate::stepping::run_from;
+use apl_answers::bring;
 use apl_arrays::{Fail, Line, LineList, WantOfMemory};
+use apl_calls::{begin_input, end_by};
 use apl_operators::Steps;
+use apl_statements::{Evaluation, Flow, Interpreter, Pause};
+use apl_values::{Pending, Reading};
 use apl_workspace::Workspace;
 use line_trees::Tree;
 use std::alloc::Global;
@@ -170,7 +172,7 @@ impl Machine {
         ensures lost { self.new.stage ≡ lost }
     {
         let flow = self.first_flow()?;
-        self.interpreter.run_from(flow, steps)
+        run_from(&mut self.interpreter, flow, steps)
     }
 
     // What is done first: the line is begun, or an act has its answer.
@@ -182,10 +184,14 @@ impl Machine {
         ensures lost { self.new.stage ≡ lost }
     {
         match mem::replace(&mut self.stage, Stage::Lost) {
-            Stage::Begins(reading) => self.interpreter.begin_input(reading),
+            Stage::Begins(reading) => begin_input(&mut self.interpreter, reading),
             Stage::Answered(answer, pending, evaluation) => {
-                self.interpreter
-                    .bring(answer, Box::into_inner(pending), evaluation)
+                bring(
+                    &mut self.interpreter,
+                    answer,
+                    Box::into_inner(pending),
+                    evaluation,
+                )
             }
             _ => Err(Fail::WantOfMemory),
         }
@@ -219,7 +225,7 @@ impl Machine {
     {
         match fail {
             Fail::Report(report) => {
-                self.interpreter.end_by(report)?;
+                end_by(&mut self.interpreter, report)?;
                 self.stage = Stage::Idle;
                 Ok(Stop::Failed(report))
             }

@@ -1,4 +1,4 @@
-use Rattle.apl_machine.proofs.Steps.{call_enters, line_begins}
+use Rattle.apl_statements.proofs.Steps.{call_enters, line_begins}
 use Rattle.apl_machine.proofs.laws.calls_and_lines_are_stacked.Goals as goal
 
 pub returns-clause-call : goal.returns-clause-call

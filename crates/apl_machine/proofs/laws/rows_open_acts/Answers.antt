@@ -1,4 +1,4 @@
-use Rattle.apl_machine.proofs.Opened.{rows_open, rows_tell_zeros}
+use Rattle.apl_statements.proofs.Opened.{rows_open, rows_tell_zeros}
 use Rattle.apl_machine.proofs.laws.rows_open_acts.Goals as goal
 
 pub returns-clause-act : goal.returns-clause-act

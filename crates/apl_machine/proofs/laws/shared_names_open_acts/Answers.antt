@@ -1,4 +1,4 @@
-use Rattle.apl_machine.proofs.Opened.{names_open, parties_open, reference_opens, set_opens, use_opens}
+use Rattle.apl_statements.proofs.Opened.{names_open, parties_open, reference_opens, set_opens, use_opens}
 use Rattle.apl_machine.proofs.laws.shared_names_open_acts.Goals as goal
 
 pub returns-clause-reference : goal.returns-clause-reference

@@ -1,4 +1,4 @@
-use Rattle.apl_machine.proofs.Steps.{branch_begins, execute_begins, whole_begins}
+use Rattle.apl_statements.proofs.Steps.{branch_begins, execute_begins, whole_begins}
 use Rattle.apl_machine.proofs.laws.statements_begin_at_their_first_node.Goals as goal
 
 pub returns-clause-branch : goal.returns-clause-branch

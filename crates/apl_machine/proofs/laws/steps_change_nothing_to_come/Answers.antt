@@ -1,4 +1,4 @@
-use Rattle.apl_machine.proofs.Steps.{lines_end, node_gives, node_steps}
+use Rattle.apl_statements.proofs.Steps.{lines_end, node_gives, node_steps}
 use Rattle.apl_machine.proofs.laws.steps_change_nothing_to_come.Goals as goal
 
 pub returns-clause-node : goal.returns-clause-node

@@ -3,14 +3,14 @@ use Rattle.line_trees.specs.Parsing.{PlainTree, plain_tree}
 use Rattle.line_trees.specs.Trees.{line_tree_of}
 use Rattle.apl_meaning.specs.Meaning.{most_statements}
 use Rattle.apl_meaning.specs.Reading.{classes_of}
+use Rattle.apl_values.specs.Parts.{reading_tree}
+use Rattle.apl_values.proofs.ReadLaw.{is_reading}
+use Rattle.apl_statements.specs.Interpreter.{PlainInterpreter}
 use Rattle.apl_machine.specs.declared.machine.Machine.TheInside.{Inside}
 use Rattle.apl_machine.specs.declared.machine.Stage.TheVariants as stage
-use Rattle.apl_machine.specs.Interpreter.{PlainInterpreter}
 use Rattle.apl_machine.specs.Machine.{PlainMachine, begins, machine_before}
-use Rattle.apl_machine.specs.Parts.{reading_tree}
 use Rattle.apl_machine.specs.Runs.{Stands}
 use Rattle.apl_machine.specs.Stages.{plain_machine}
-use Rattle.apl_machine.proofs.ReadLaw.{is_reading}
 use Rattle.apl_machine.proofs.Standing.{stands_at_its_beginning}
 use Rattle.apl_machine.proofs.machine.Machine.begin.Goals as goal
 

@@ -1,14 +1,14 @@
 use Rattle.std.proofs.Common.{◌≡◌, [], ◌∷◌, sym, ap, subst, ◌∙◌}
 use Rattle.sv_events.specs.Answer.{plain_answer}
+use Rattle.apl_values.specs.Pending.{plain_pending}
+use Rattle.apl_statements.specs.Evaluating.{caller_of}
+use Rattle.apl_statements.specs.Interpreter.{PlainInterpreter, here}
+use Rattle.apl_statements.specs.Stack.{PlainCaller}
 use Rattle.apl_machine.specs.declared.machine.Machine.TheInside.{Inside}
 use Rattle.apl_machine.specs.declared.machine.Stage.{Stage}
 use Rattle.apl_machine.specs.declared.machine.Stage.TheVariants as stage
-use Rattle.apl_machine.specs.Evaluating.{caller_of}
-use Rattle.apl_machine.specs.Interpreter.{PlainInterpreter, here}
 use Rattle.apl_machine.specs.Machine.{PlainMachine, plain_stage}
-use Rattle.apl_machine.specs.Pending.{plain_pending}
 use Rattle.apl_machine.specs.Runs.{StandsOn}
-use Rattle.apl_machine.specs.Stack.{PlainCaller}
 use Rattle.apl_machine.specs.Stages.{plain_machine}
 use Rattle.apl_machine.proofs.Standing.{stands_with_answer}
 use Rattle.apl_machine.proofs.machine.Machine.resume.Goals as goal

@@ -1,6 +1,6 @@
 use Rattle.std.proofs.Common.{ℕ, ◌-◌}
 use Rattle.std.proofs.lemmas.Result.{IfOk-weaker}
-use Rattle.apl_machine.specs.Interpreter.{PlainInterpreter}
+use Rattle.apl_statements.specs.Interpreter.{PlainInterpreter}
 use Rattle.apl_machine.specs.Machine.{PlainMachine}
 use Rattle.apl_machine.specs.Runs.{StopsAs}
 use Rattle.apl_machine.specs.Stops.{EndsAs, PausesAs}

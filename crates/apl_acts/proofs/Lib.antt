@@ -1,0 +1,6 @@
+pub mod AloneLaw
+pub mod Controlled
+pub mod HeardLaw
+pub mod Offered
+pub mod Queried
+pub mod Tested

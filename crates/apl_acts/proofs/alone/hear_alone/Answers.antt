@@ -1,0 +1,21 @@
+use Rattle.std.proofs.Common.{ℕ, List, ap, sym, ◌∙◌}
+use Rattle.apl_arrays.specs.Array.{PlainArray}
+use Rattle.sv_events.specs.Answer.{PlainAnswer, plain_answer}
+use Rattle.sv_events.specs.declared.event.Act.{Act}
+use Rattle.sv_events.specs.declared.event.Act.TheVariants as act
+use Rattle.sv_events.specs.declared.row.AnswerRow.{AnswerRow}
+use Rattle.apl_meaning.specs.Answers.{report_of_kind, with_copy}
+use Rattle.apl_acts.specs.Alone.{answer_outcome}
+use Rattle.apl_acts.proofs.HeardLaw.{led_as, told_on}
+use Rattle.apl_acts.proofs.alone.hear_alone.Goals as goal
+
+-- a set was granted
+pub returns-in_ok-copy-in-Set-clause-led : goal.returns-in_ok-copy-in-Set-clause-led
+returns-in_ok-copy-in-Set-clause-led c =
+    let before : List (List ℕ) = c.args.output.now.items in
+    let answer : PlainAnswer = plain_answer c.args.answer in
+    led_as c.renew.result c.args.workspace.now c.renew.new.workspace before before (answer_outcome c.args.act.now answer) (with_copy c.in-Set.name c.in_ok-copy-in-Set.field-0) (λ s at.
+    ap (λ (asked : Act). answer_outcome asked answer s) c.in-Set.is
+    ∙ told_on (act.Set c.in-Set.name c.in-Set.value) answer s (ap (λ (row : AnswerRow). report_of_kind row.kind) (sym c.row.ensures) ∙ sym c.report_of.ensures ∙ c.in_default.is)
+    ∙ ap (λ (value : PlainArray). with_copy c.in-Set.name value s) (sym c.in_ok-copy-in-Set.ensures.array))
+    (c.renew.ensures.led before)

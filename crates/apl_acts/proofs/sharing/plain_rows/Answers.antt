@@ -1,0 +1,49 @@
+use Rattle.std.proofs.Common.{◌≡◌, ◌*◌, ℕ, List, ap, length, refl, subst, sym, ◌∙◌}
+use Rattle.std.specs.Prelude.{None, All, map, not}
+use Rattle.std.proofs.lemmas.Bool.{or_parts}
+use Rattle.std.specs.List.{list_any}
+use Rattle.apl_arrays.specs.Array.{PlainArray, is_chars}
+use Rattle.apl_items.specs.Answers.{first_report}
+use Rattle.apl_meaning.specs.Deeds.{Deed}
+use Rattle.apl_meaning.specs.Naming.{Naming, naming_count, naming_faults, namings_of, rows_of}
+use Rattle.apl_meaning.specs.Sharing.{for_each_row, plain_rows}
+use Rattle.apl_values.specs.Rows.{PlainRow, RowMayBeDone, count_told, plain_deed, plain_row, row_zeros}
+use Rattle.apl_values.proofs.NamingSteps.{is_unnamed}
+use Rattle.apl_statements.specs.Interpreter.{PlainInterpreter}
+use Rattle.apl_acts.proofs.Tested.{alike, alike_may, done_there, named_count, nothing_wrong, room_for_each, told_for_each}
+use Rattle.apl_acts.proofs.sharing.plain_rows.Goals as goal
+
+-- the rows that are made of names where nothing is wrong
+all_named : (n : PlainArray) (each : List ℕ) → first_report (naming_faults n each) ≡ None → length (namings_of n) ≡ naming_count n
+all_named n each none = named_count n (or_parts (not (is_chars n.items)) (list_any is_unnamed (rows_of n)) (nothing_wrong (naming_faults n each) none).domain).1
+
+made_of : (n : PlainArray) (deed : Deed) (rows : List PlainRow) (names : List Naming) → rows ≡ map (λ names. (names, deed)) names → names ≡ namings_of n → rows ≡ map (λ names. (names, deed)) (namings_of n)
+made_of n deed rows names made are = made ∙ ap (map (λ (names : Naming). (names, deed))) are
+
+pub do_rows-requires-clause-may : goal.do_rows-requires-clause-may
+do_rows-requires-clause-may c =
+    let n : PlainArray = c.args.n.now in
+    let deed : Deed = plain_deed c.args.deed in
+    subst (All (RowMayBeDone c.args.interpreter.now.workspace)) (sym (made_of n deed _ _ c.in_ok-rows.ensures c.in_ok-namings.ensures)) (alike_may c.args.interpreter.now.workspace deed (namings_of n) c.requires.plain)
+
+pub do_rows-requires-clause-count : goal.do_rows-requires-clause-count
+do_rows-requires-clause-count c =
+    let n : PlainArray = c.args.n.now in
+    let deed : Deed = plain_deed c.args.deed in
+    let none : first_report (naming_faults n c.args.each.now) ≡ None = ap first_report (sym c.in_ok-naming_wrong.ensures) ∙ c.in_ok-refuse.ensures.ok in
+    let width : ℕ = length (row_zeros deed) in
+    room_for_each n c.args.each.now width c.requires.each
+    ∙ ap (λ (k : ℕ). k * width) (sym (all_named n c.args.each.now none))
+    ∙ sym (told_for_each (λ row. deed) width (namings_of n) (λ row. refl))
+    ∙ ap count_told (alike deed (namings_of n) (length (namings_of n)) refl ∙ sym (made_of n deed _ _ c.in_ok-rows.ensures c.in_ok-namings.ensures))
+
+pub returns-clause-comes : goal.returns-clause-comes
+returns-clause-comes c =
+    let m : PlainInterpreter = c.args.interpreter.now in
+    let n : PlainArray = c.args.n.now in
+    let each : List ℕ = c.args.each.now in
+    let deed : Deed = plain_deed c.args.deed in
+    let none : first_report (naming_faults n each) ≡ None = ap first_report (sym c.in_ok-naming_wrong.ensures) ∙ c.in_ok-refuse.ensures.ok in
+    let rows : List PlainRow = map plain_row c.in_ok-rows.rows.items in
+    done_there m c.args.e (plain_rows n each deed) (naming_faults n each) n each (for_each_row n deed) rows c.do_rows.result (λ asked count taken further. refl) none
+    (alike deed (namings_of n) (naming_count n) (all_named n each none) ∙ sym (made_of n deed _ _ c.in_ok-rows.ensures c.in_ok-namings.ensures)) c.do_rows.ensures.comes

@@ -1,0 +1,123 @@
+ghost use Rattle.std.specs.Cmp.Lexicographic.{pointwise};
+ghost use Rattle.std.specs.List.{list_any};
+ghost use Rattle.std.specs.Prelude.{◌≡◌, ◌<◌, ◌+◌, ◌==◌, ◌∷◌, [], IfOk, map, length, not};
+ghost use Rattle.apl_meaning.specs.Expressions.{valued};
+ghost use Rattle.apl_meaning.specs.Sharing.{are_controls, control_faults, controls};
+ghost use Rattle.apl_scalar.specs.Table.{is_truth};
+ghost use Rattle.apl_values.specs.Rows.{plain_naming, plain_row};
+ghost use Rattle.apl_statements.specs.Moves.{Comes, part_gives};
+ghost use Rattle.apl_statements.specs.Sound.{IsCaller, IsFlow};
+ghost use Rattle.apl_statements.specs.Work.{StaysWithin};
+ghost use Rattle.apl_acts.specs.Faults.{AreElements, control_in, element_in, plain_faults, settings_of};
+
+use crate::sharing::{Wrong, do_rows, naming_wrong, refuse};
+use apl_arrays::{Array, Fail, WantOfMemory};
+use apl_statements::{Evaluation, Flow, Interpreter};
+use apl_values::{Deed, Naming, Row, naming_count, namings_of};
+use std::alloc::Global;
+use sv_access::Control;
+
+/// C ⎕SVC N: each row's control is set, and the result is the one in force.
+pub fn control(interpreter: &Interpreter, e: Evaluation, c: &Array, n: &Array) -> Result<Flow, Fail>
+    requires sound { IsCaller interpreter.now.workspace e }
+    ensures comes { Comes interpreter.now (part_gives interpreter.now e (λ s. valued (controls c.now n.now s))) 0 interpreter.now result }
+    ensures sound { IfOk result (IsFlow interpreter.now) }
+    ensures within { IfOk result (StaysWithin interpreter.now e interpreter.now) }
+{
+    refuse(control_wrong(interpreter.alloc, c, n)?)?;
+    let namings = namings_of(interpreter.alloc, n)?;
+    let rows = settings(interpreter.alloc, c.items().numbers(), namings)?;
+    do_rows(interpreter, e, rows, n, &[4])
+}
+
+// What is wrong with controls and the names that get them.
+fn control_wrong(alloc: Global, c: &Array, n: &Array) -> Result<Wrong, WantOfMemory>
+    ensures { IfOk result (λ wrong. plain_faults wrong ≡ control_faults c.now n.now) }
+{
+    let wrong = naming_wrong(alloc, n, &[4])?;
+    let fit = are_controls(c, n);
+    Ok(Wrong {
+        rank: wrong.rank || (!fit && c.shape().len() > 2),
+        length: !fit,
+        domain: wrong.domain || c.is_chars() || some_untruth(c.numbers()),
+        ..wrong
+    })
+}
+
+// Whether a number is neither 0 nor 1.
+fn some_untruth(numbers: &[i64]) -> bool
+    ensures { result ≡ list_any (λ number. not (is_truth number)) numbers.now }
+{
+    numbers.iter().any(|number| !is_truth(*number))
+}
+
+// One element, four, or a matrix of four for each row.
+fn are_controls(c: &Array, n: &Array) -> bool
+    ensures { result ≡ are_controls c.now n.now }
+{
+    let count = c.items().len();
+    count == 1 || count == 4 || is_matrix_of_fours(c.shape(), naming_count(n))
+}
+
+// Whether a shape is that of a matrix with so many rows, of four elements each.
+fn is_matrix_of_fours(shape: &[u32], rows: usize) -> bool
+    ensures { result ≡ pointwise ◌==◌ shape.now (rows ∷ 4 ∷ []) }
+{
+    match shape {
+        [first, 4] => *first as usize == rows,
+        _ => false,
+    }
+}
+
+// Whether a number is 0 or 1.
+fn is_truth(number: i64) -> bool
+    ensures { result ≡ is_truth number }
+{
+    number == 0 || number == 1
+}
+
+// The control of each row is set.
+fn settings(alloc: Global, elements: &[i64], namings: Vec<Naming>) -> Result<Vec<Row>, WantOfMemory>
+    requires { AreElements elements.now (length namings.items) }
+    ensures { IfOk result (λ rows. map plain_row rows.items ≡ settings_of elements.now (map plain_naming namings.items)) }
+{
+    let mut rows = Vec::new(alloc);
+    let mut at = 0;
+    for names in namings {
+        rows.push(Row {
+            names,
+            deed: Deed::SetControl(control_at(elements, at)),
+        })?;
+        at += 1;
+    }
+    Ok(rows)
+}
+
+// The control of a row: of one element, of four for all rows, or of four for each.
+fn control_at(elements: &[i64], row: usize) -> Control
+    requires { AreElements elements.now (row + 1) }
+    ensures { result ≡ control_in elements.now row }
+{
+    Control([
+        element_at(elements, row, 0),
+        element_at(elements, row, 1),
+        element_at(elements, row, 2),
+        element_at(elements, row, 3),
+    ])
+}
+
+// An element of it.
+fn element_at(elements: &[i64], row: usize, element: usize) -> bool
+    requires few { element < 4 }
+    requires enough { AreElements elements.now (row + 1) }
+    ensures { result ≡ element_in elements.now row element }
+{
+    let at = if elements.len() == 1 {
+        0
+    } else if elements.len() == 4 {
+        element
+    } else {
+        row * 4 + element
+    };
+    elements[at] == 1
+}

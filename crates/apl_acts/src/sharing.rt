@@ -1,0 +1,295 @@
+ghost use Rattle.std.specs.Prelude.{◌≡◌, Some, None, false, [], All, IfErr, IfOk, IfSome, OnOk, length, map, option_map};
+ghost use Rattle.std.specs.List.{list_any};
+ghost use Rattle.apl_arrays.specs.Array.{FitsLimits, element_count};
+ghost use Rattle.apl_arrays.specs.declared.system.SystemName.TheVariants.{Svc, Svo};
+ghost use Rattle.apl_items.specs.Answers.{first_report};
+ghost use Rattle.apl_meaning.specs.Expressions.{valued};
+ghost use Rattle.apl_meaning.specs.Naming.{naming_faults, namings_of, result_shape};
+ghost use Rattle.apl_meaning.specs.Queries.{system_outcome};
+ghost use Rattle.apl_meaning.specs.Sharing.{cannot_be_offered, is_no_addressee, offer_faults, offers, plain_rows};
+ghost use Rattle.apl_values.specs.Rows.{RowMayBeDone, count_told, is_offer, plain_deed, plain_naming, plain_row, rest_of_rows, row_zeros};
+ghost use Rattle.apl_values.specs.Values.{IsHeld, held_value};
+ghost use Rattle.apl_statements.specs.Moves.{Comes, part_gives};
+ghost use Rattle.apl_statements.specs.Sound.{IsCaller, IsFlow};
+ghost use Rattle.apl_statements.specs.Holding.{parts_of};
+ghost use Rattle.apl_statements.specs.Work.{StaysWithin};
+ghost use Rattle.apl_acts.specs.Faults.{IsOneOrAsMany, offers_of, plain_faults};
+
+use crate::controls::control;
+use crate::queries::query;
+use apl_arrays::{
+    Array, FIRST_USER, Fail, LAST_USER, Report, SystemName, WantOfMemory, shape_fault,
+};
+use apl_statements::{Evaluation, Flow, Interpreter};
+use apl_values::{
+    Deed, Held, Naming, Row, Rows, names_all, naming_count, namings_of, result_shape,
+};
+use apl_workspace::{Seen, Workspace};
+use std::alloc::Global;
+
+/// What is wrong with the arguments of a shared variable function. The first report counts: RANK, LENGTH, DOMAIN, WS FULL.
+#[derive(Clone, Copy, Debug, PartialEq, Eq)]
+pub struct Wrong {
+    pub rank: bool,
+    pub length: bool,
+    pub domain: bool,
+    pub too_large: bool,
+}
+
+impl Wrong {
+    /// The first report, if anything is wrong. No memory.
+    pub fn report(self) -> Option<Report>
+        ensures { result ≡ first_report (plain_faults self) }
+    {
+        if self.rank {
+            Some(Report::Rank)
+        } else if self.length {
+            Some(Report::Length)
+        } else if self.domain {
+            Some(Report::Domain)
+        } else if self.too_large {
+            Some(Report::WsFull)
+        } else {
+            None
+        }
+    }
+}
+
+/// What is wrong with rows of names, where the result of a row has this shape. It takes memory for the shape of all.
+pub fn naming_wrong(alloc: Global, n: &Array, each: &[u32]) -> Result<Wrong, WantOfMemory>
+    ensures { IfOk result (λ wrong. plain_faults wrong ≡ naming_faults n.now each.now) }
+{
+    let shape = result_shape(alloc, n, each)?;
+    Ok(Wrong {
+        rank: n.shape().len() > 2,
+        length: false,
+        domain: !n.is_chars() || !names_all(n),
+        too_large: shape_fault(&shape).is_some(),
+    })
+}
+
+/// A system function of its arguments.
+pub fn system(
+    interpreter: &Interpreter,
+    e: Evaluation,
+    name: SystemName,
+    left: Option<Held>,
+    right: Held,
+) -> Result<Flow, Fail>
+    requires sound { IsCaller interpreter.now.workspace e }
+    requires left { IfSome left (IsHeld interpreter.now.workspace (parts_of e)) }
+    requires right { IsHeld interpreter.now.workspace (parts_of e) right }
+    ensures comes { Comes interpreter.now (part_gives interpreter.now e (λ s. valued (system_outcome name (option_map (held_value interpreter.now.workspace (parts_of e)) left) (held_value interpreter.now.workspace (parts_of e) right) s))) 0 interpreter.now result }
+    ensures sound { IfOk result (IsFlow interpreter.now) }
+    ensures within { IfOk result (StaysWithin interpreter.now e interpreter.now) }
+{
+    let right = interpreter.owned(&e, right)?;
+    match name {
+        SystemName::Svo => offer_or_ask(interpreter, e, left, &right),
+        SystemName::Svc => control_or_ask(interpreter, e, left, &right),
+        SystemName::Svr => plain_rows(interpreter, e, &right, &[], Deed::Retract),
+        SystemName::Svs => plain_rows(interpreter, e, &right, &[4], Deed::AskState),
+        SystemName::Svq => query(interpreter, e, &right),
+    }
+}
+
+// P ⎕SVO N, or ⎕SVO N where there is no P.
+fn offer_or_ask(
+    interpreter: &Interpreter,
+    e: Evaluation,
+    left: Option<Held>,
+    n: &Array,
+) -> Result<Flow, Fail>
+    requires sound { IsCaller interpreter.now.workspace e }
+    requires left { IfSome left (IsHeld interpreter.now.workspace (parts_of e)) }
+    ensures comes { Comes interpreter.now (part_gives interpreter.now e (λ s. valued (system_outcome Svo (option_map (held_value interpreter.now.workspace (parts_of e)) left) n.now s))) 0 interpreter.now result }
+    ensures sound { IfOk result (IsFlow interpreter.now) }
+    ensures within { IfOk result (StaysWithin interpreter.now e interpreter.now) }
+{
+    match left {
+        None => plain_rows(interpreter, e, n, &[], Deed::AskDegree),
+        Some(held) => {
+            let parties = interpreter.owned(&e, held)?;
+            offer(interpreter, e, &parties, n)
+        }
+    }
+}
+
+// C ⎕SVC N, or ⎕SVC N where there is no C.
+fn control_or_ask(
+    interpreter: &Interpreter,
+    e: Evaluation,
+    left: Option<Held>,
+    n: &Array,
+) -> Result<Flow, Fail>
+    requires sound { IsCaller interpreter.now.workspace e }
+    requires left { IfSome left (IsHeld interpreter.now.workspace (parts_of e)) }
+    ensures comes { Comes interpreter.now (part_gives interpreter.now e (λ s. valued (system_outcome Svc (option_map (held_value interpreter.now.workspace (parts_of e)) left) n.now s))) 0 interpreter.now result }
+    ensures sound { IfOk result (IsFlow interpreter.now) }
+    ensures within { IfOk result (StaysWithin interpreter.now e interpreter.now) }
+{
+    match left {
+        None => plain_rows(interpreter, e, n, &[4], Deed::AskControl),
+        Some(held) => {
+            let controls = interpreter.owned(&e, held)?;
+            control(interpreter, e, &controls, n)
+        }
+    }
+}
+
+// The same is done for each row.
+fn plain_rows(
+    interpreter: &Interpreter,
+    e: Evaluation,
+    n: &Array,
+    each: &[u32],
+    deed: Deed,
+) -> Result<Flow, Fail>
+    requires sound { IsCaller interpreter.now.workspace e }
+    requires plain { is_offer (plain_deed deed) ≡ false }
+    requires each { element_count each.now ≡ length (row_zeros (plain_deed deed)) }
+    requires small { FitsLimits each.now }
+    ensures comes { Comes interpreter.now (part_gives interpreter.now e (λ s. valued (plain_rows n.now each.now (plain_deed deed) s))) 0 interpreter.now result }
+    ensures sound { IfOk result (IsFlow interpreter.now) }
+    ensures within { IfOk result (StaysWithin interpreter.now e interpreter.now) }
+{
+    refuse(naming_wrong(interpreter.alloc, n, each)?)?;
+    let namings = namings_of(interpreter.alloc, n)?;
+    let rows = same_rows(interpreter.alloc, namings, deed)?;
+    do_rows(interpreter, e, rows, n, each)
+}
+
+// P ⎕SVO N: each row's local name is offered to its party.
+fn offer(interpreter: &Interpreter, e: Evaluation, p: &Array, n: &Array) -> Result<Flow, Fail>
+    requires sound { IsCaller interpreter.now.workspace e }
+    ensures comes { Comes interpreter.now (part_gives interpreter.now e (λ s. valued (offers p.now n.now s))) 0 interpreter.now result }
+    ensures sound { IfOk result (IsFlow interpreter.now) }
+    ensures within { IfOk result (StaysWithin interpreter.now e interpreter.now) }
+{
+    let namings = namings_of(interpreter.alloc, n)?;
+    refuse(offer_wrong(interpreter.alloc, &interpreter.workspace, p, n, &namings)?)?;
+    let rows = offers(interpreter.alloc, p.numbers(), namings)?;
+    do_rows(interpreter, e, rows, n, &[])
+}
+
+/// The report of what is wrong. No memory.
+pub fn refuse(wrong: Wrong) -> Result<(), Report>
+    ensures ok { OnOk result (first_report (plain_faults wrong) ≡ None) }
+    ensures err { IfErr result (λ why. first_report (plain_faults wrong) ≡ Some why) }
+{
+    match wrong.report() {
+        Some(report) => Err(report),
+        None => Ok(()),
+    }
+}
+
+/// Rows are done, first to last.
+pub fn do_rows(
+    interpreter: &Interpreter,
+    e: Evaluation,
+    rows: Vec<Row>,
+    n: &Array,
+    each: &[u32],
+) -> Result<Flow, Fail>
+    requires sound { IsCaller interpreter.now.workspace e }
+    requires may { All (RowMayBeDone interpreter.now.workspace) (map plain_row rows.items) }
+    requires fits { FitsLimits (result_shape n.now each.now) }
+    requires count { element_count (result_shape n.now each.now) ≡ count_told (map plain_row rows.items) }
+    ensures comes { Comes interpreter.now (part_gives interpreter.now e (rest_of_rows [] (map plain_row rows.items) (result_shape n.now each.now))) 0 interpreter.now result }
+    ensures sound { IfOk result (IsFlow interpreter.now) }
+    ensures within { IfOk result (StaysWithin interpreter.now e interpreter.now) }
+{
+    let rows = Rows::new(interpreter.alloc, rows, n, each)?;
+    interpreter.next_row(e, rows)
+}
+
+// What is wrong with the parties and the names of an offer, where these are the names of its rows.
+fn offer_wrong(
+    alloc: Global,
+    workspace: &Workspace,
+    p: &Array,
+    n: &Array,
+    namings: &[Naming],
+) -> Result<Wrong, WantOfMemory>
+    requires { map plain_naming namings.now ≡ namings_of n.now }
+    ensures { IfOk result (λ wrong. plain_faults wrong ≡ offer_faults workspace.now p.now n.now) }
+{
+    let wrong = naming_wrong(alloc, n, &[])?;
+    let count = p.items().len();
+    Ok(Wrong {
+        rank: wrong.rank || p.shape().len() > 1,
+        length: count != 1 && count != naming_count(n),
+        domain: wrong.domain
+            || p.is_chars()
+            || some_no_addressee(p.numbers())
+            || some_not_offered(workspace, namings),
+        ..wrong
+    })
+}
+
+// Whether a number is no party that an offer may be made to.
+fn some_no_addressee(numbers: &[i64]) -> bool
+    ensures { result ≡ list_any is_no_addressee numbers.now }
+{
+    numbers.iter().any(|number| is_no_addressee(*number))
+}
+
+// Whether a local name cannot be offered.
+fn some_not_offered(workspace: &Workspace, namings: &[Naming]) -> bool
+    ensures { result ≡ list_any (cannot_be_offered workspace.now) (map plain_naming namings.now) }
+{
+    namings
+        .iter()
+        .any(|names| cannot_be_offered(workspace, names))
+}
+
+// The same is done for each of these names.
+fn same_rows(alloc: Global, namings: Vec<Naming>, deed: Deed) -> Result<Vec<Row>, WantOfMemory>
+    ensures { IfOk result (λ rows. map plain_row rows.items ≡ map (λ names. (names, plain_deed deed)) (map plain_naming namings.items)) }
+{
+    let mut rows = Vec::new(alloc);
+    for names in namings {
+        rows.push(Row { names, deed })?;
+    }
+    Ok(rows)
+}
+
+// Each name is offered to its party, of which there is one for all or one for each.
+fn offers(alloc: Global, parties: &[i64], namings: Vec<Naming>) -> Result<Vec<Row>, WantOfMemory>
+    requires addressees { All (λ number. is_no_addressee number ≡ false) parties.now }
+    requires enough { IsOneOrAsMany parties.now (length namings.items) }
+    ensures { IfOk result (λ rows. map plain_row rows.items ≡ offers_of parties.now (map plain_naming namings.items)) }
+{
+    let mut rows = Vec::new(alloc);
+    let mut at = 0;
+    for names in namings {
+        let party = if parties.len() == 1 {
+            parties[0]
+        } else {
+            parties[at]
+        };
+        rows.push(Row {
+            names,
+            deed: Deed::Offer(party.unsigned_abs() as u32),
+        })?;
+        at += 1;
+    }
+    Ok(rows)
+}
+
+/// Whether a number is no party that an offer may be made to: 0, 10, 20 or a user's. No memory.
+pub fn is_no_addressee(number: i64) -> bool
+    ensures { result ≡ is_no_addressee number }
+{
+    !(number == 0
+        || number == 10
+        || number == 20
+        || (number >= i64::from(FIRST_USER) && number <= i64::from(LAST_USER)))
+}
+
+// Whether a local name cannot be offered: a frame has it, or it is a function.
+fn cannot_be_offered(workspace: &Workspace, names: &Naming) -> bool
+    ensures { result ≡ cannot_be_offered workspace.now (plain_naming names.now) }
+{
+    workspace.is_local(&names.local) || matches!(workspace.global(&names.local), Seen::Function(_))
+}

@@ -1,0 +1,10 @@
+pub mod Answered
+pub mod Assigned
+pub mod Behind
+pub mod Brings
+pub mod Changed
+pub mod Granted
+pub mod KeptByValue
+pub mod Listing
+pub mod Replacing
+pub mod Shares

@@ -1,0 +1,33 @@
+use Rattle.std.proofs.Common.{List}
+use Rattle.std.specs.Prelude.{Option}
+use Rattle.apl_arrays.specs.Array.{PlainArray}
+use Rattle.apl_arrays.specs.declared.report.Report.TheVariants.{Value}
+use Rattle.sv_events.specs.Answer.{plain_answer}
+use Rattle.sv_events.specs.Row.{answer_row}
+use Rattle.apl_meaning.specs.Answers.{with_copy}
+use Rattle.apl_meaning.specs.State.{and_then}
+use Rattle.apl_values.specs.Pending.{brought, replaced, replaces}
+use Rattle.apl_values.proofs.Seen.{renewed, got_value}
+use Rattle.apl_statements.specs.Interpreter.{PlainInterpreter}
+use Rattle.apl_statements.specs.Moves.{part_gives}
+use Rattle.apl_statements.proofs.Renewing.{settled_sound}
+use Rattle.apl_statements.proofs.Same.{comes_as}
+use Rattle.apl_answers.proofs.Answered.{goes_far, items_got}
+use Rattle.apl_answers.proofs.answering.bring_items.Goals as goal
+
+pub replace_items-requires-clause-sound : goal.replace_items-requires-clause-sound
+replace_items-requires-clause-sound c = settled_sound c.args.interpreter.now.workspace c.renew.new.interpreter.workspace c.args.e c.renew.new.e c.requires.sound c.in_ok-renew.ensures.settled
+
+pub returns-clause-comes : goal.returns-clause-comes
+returns-clause-comes c =
+    let m : PlainInterpreter = c.args.interpreter.now in
+    let n : PlainInterpreter = c.renew.new.interpreter in
+    let o : PlainInterpreter = c.replace_items.new.interpreter in
+    let subs : List (Option PlainArray) = c.args.subs.items in
+    let value : PlainArray = c.in_ok-value_in.field-0 in
+    let found : Option PlainArray = (answer_row (plain_answer c.args.answer)).value in
+    comes_as m o (part_gives m c.args.e (brought (replaces c.args.name subs c.args.right) (plain_answer c.args.answer)))
+    (part_gives m c.args.e (λ s. and_then (with_copy c.args.name value s) (λ _ t. replaced c.args.name subs c.args.right value t))) 0 c.replace_items.result
+    (items_got m c.args.e c.args.name subs c.args.right value (plain_answer c.args.answer) (got_value found Value value c.in_ok-value_in.ensures))
+    (goes_far m n o (renewed c.args.name value m.workspace) c.args.e c.renew.new.e (with_copy c.args.name value) (λ s. replaced c.args.name subs c.args.right value s) c.replace_items.result
+    c.in_ok-renew.ensures.ok c.in_ok-renew.ensures.done c.in_ok-renew.ensures.settled (c.replace_items.ensures.comes value c.in_ok-renew.ensures.seen))

@@ -1,0 +1,133 @@
+ghost use Rattle.std.specs.Prelude.{◌≡◌, Some, true, IfOk, unwrap_or};
+ghost use Rattle.std.specs.Option.{option_copied};
+ghost use Rattle.apl_workspace.specs.Meaning.{is_shared_meaning, shared_copy};
+ghost use Rattle.apl_workspace.specs.Workspace.{look};
+ghost use Rattle.apl_workspace.specs.declared.meaning.Meaning.TheVariants as meaning;
+ghost use Rattle.apl_arrays.specs.Array.{PlainArray};
+ghost use Rattle.apl_meaning.specs.Nodes.{assign_step, items_step, popped};
+ghost use Rattle.apl_values.specs.Pending.{assigned_giving, replaced};
+ghost use Rattle.apl_statements.specs.Moves.{Comes, part_gives, part_takes};
+ghost use Rattle.apl_statements.specs.Sound.{IsCaller, IsFlow};
+ghost use Rattle.apl_statements.specs.Holding.{held_given};
+ghost use Rattle.apl_statements.specs.Work.{StaysWithin};
+
+use crate::changing::assign_value;
+use apl_arrays::{Array, Fail, Name, Report};
+use apl_selection::{Subs, index_assign};
+use apl_statements::{Evaluation, Flow, Interpreter};
+use apl_values::{Held, Pending};
+use apl_workspace::Seen;
+use line_trees::Places;
+
+/// An assignment of the newest value: a shared name is set; SYNTAX ERROR for a label or a function; else WS FULL where
+/// the workspace would weigh too much.
+pub fn assign(interpreter: &mut Interpreter, e: Evaluation, name: Name) -> Result<Flow, Fail>
+    requires sound { IsCaller interpreter.old.workspace e }
+    ensures comes { Comes interpreter.old (part_takes interpreter.old e (assign_step name)) 0 interpreter.new result }
+    ensures sound { IfOk result (IsFlow interpreter.new) }
+    ensures within { IfOk result (StaysWithin interpreter.old e interpreter.new) }
+{
+    let mut e = e;
+    let held = e.take()?;
+    let right = interpreter.owned(&e, held)?;
+    put(interpreter, e, name, right, None)
+}
+
+/// A name gets a value; what the assignment gives is another value where there is one.
+pub fn put(
+    interpreter: &mut Interpreter,
+    e: Evaluation,
+    name: Name,
+    value: Array,
+    gives: Option<Array>,
+) -> Result<Flow, Fail>
+    requires sound { IsCaller interpreter.old.workspace e }
+    ensures comes { Comes interpreter.old (part_gives interpreter.old e (assigned_giving name value (unwrap_or gives value))) 0 interpreter.new result }
+    ensures sound { IfOk result (IsFlow interpreter.new) }
+    ensures within { IfOk result (StaysWithin interpreter.old e interpreter.new) }
+{
+    let mut e = e;
+    if is_seen_shared(interpreter, &name) {
+        return interpreter.open(Pending::Sets { name, value, gives }, e);
+    }
+    assign_value(interpreter, &mut e, &name, value)?;
+    interpreter.give(e, given(name, gives))
+}
+
+/// Items of a name are replaced: its value with these items replaced is assigned to it. A shared name is used, and
+/// then set.
+pub fn assign_items(
+    interpreter: &mut Interpreter,
+    e: Evaluation,
+    name: Name,
+    places: &Places,
+) -> Result<Flow, Fail>
+    requires sound { IsCaller interpreter.old.workspace e }
+    ensures comes { Comes interpreter.old (part_takes interpreter.old e (λ values. items_step name (popped places.now.items values).subs (popped places.now.items values).values)) 0 interpreter.new result }
+    ensures sound { IfOk result (IsFlow interpreter.new) }
+    ensures within { IfOk result (StaysWithin interpreter.old e interpreter.new) }
+{
+    let mut e = e;
+    let subs = e.take_subs(interpreter.alloc, places.as_slice(), &interpreter.workspace)?;
+    let held = e.take()?;
+    let right = interpreter.owned(&e, held)?;
+    match interpreter.workspace.look(&name) {
+        Seen::Nothing => Err(Fail::Report(Report::Value)),
+        Seen::Value(old) => {
+            let new = index_assign(interpreter.alloc, old, &subs, &right)?;
+            put(interpreter, e, name, new, Some(right))
+        }
+        Seen::Function(_) | Seen::Label(_) => Err(Fail::Report(Report::Syntax)),
+        Seen::Shared(_) => interpreter.open(Pending::Replaces { name, subs, right }, e),
+    }
+}
+
+/// Items of a shared name are replaced behind its use, and the name is set.
+pub fn replace_items(
+    interpreter: &mut Interpreter,
+    e: Evaluation,
+    name: Name,
+    subs: Subs,
+    right: Array,
+) -> Result<Flow, Fail>
+    requires sound { IsCaller interpreter.old.workspace e }
+    requires seen { is_shared_meaning (look interpreter.old.workspace name) ≡ true }
+    ensures comes { (old : PlainArray) → look interpreter.old.workspace name ≡ meaning.Shared (Some old) → Comes interpreter.old (part_gives interpreter.old e (replaced name subs.items right old)) 0 interpreter.new result }
+    ensures sound { IfOk result (IsFlow interpreter.new) }
+    ensures within { IfOk result (StaysWithin interpreter.old e interpreter.new) }
+{
+    match own_copy(interpreter, &name) {
+        None => Err(Fail::Report(Report::Value)),
+        Some(old) => {
+            let new = index_assign(interpreter.alloc, old, &subs, &right)?;
+            put(interpreter, e, name, new, Some(right))
+        }
+    }
+}
+
+// The own copy of a name that is seen as shared.
+fn own_copy<'a>(interpreter: &'a Interpreter, name: &Name) -> Option<&'a Array>
+    ensures { option_copied result ≡ shared_copy (look interpreter.now.workspace name.now) }
+{
+    match interpreter.workspace.look(name) {
+        Seen::Shared(copy) => copy,
+        _ => None,
+    }
+}
+
+// Whether a name is seen as shared.
+fn is_seen_shared(interpreter: &Interpreter, name: &Name) -> bool
+    ensures { result ≡ is_shared_meaning (look interpreter.now.workspace name.now) }
+{
+    matches!(interpreter.workspace.look(name), Seen::Shared(_))
+}
+
+/// What an assignment to a name gives: another value, or the value that the name has now.
+pub fn given(name: Name, gives: Option<Array>) -> Held
+    ensures { result ≡ held_given name gives }
+{
+    match gives {
+        None => Held::Named(name),
+        Some(array) => Held::Made(array),
+    }
+}

@@ -1,0 +1,84 @@
+ghost use Rattle.std.specs.Prelude.{◌≡◌, Some, true, false, IfErr, OnErr, OnOk, map};
+ghost use Rattle.apl_arrays.specs.declared.report.Fail.TheVariants as fail;
+ghost use Rattle.apl_workspace.specs.Meaning.{is_function_meaning, is_shared_meaning};
+ghost use Rattle.apl_workspace.specs.Workspace.{assigned, global_in, is_addressee, is_shared, look, marked, unmarked, with_global};
+ghost use Rattle.apl_workspace.specs.declared.meaning.Meaning.TheVariants as meaning;
+ghost use Rattle.apl_meaning.specs.Answers.{with_copy};
+ghost use Rattle.apl_meaning.specs.Deeds.{value_of};
+ghost use Rattle.apl_meaning.specs.Variables.{assignment};
+ghost use Rattle.apl_values.specs.Values.{settled};
+ghost use Rattle.apl_statements.specs.Moves.{HasDone};
+ghost use Rattle.apl_statements.specs.Sound.{IsCaller};
+ghost use Rattle.apl_statements.specs.Holding.{IsWithValues};
+
+use apl_arrays::{Array, Fail, Name};
+use apl_statements::{Evaluation, Interpreter};
+use apl_values::{Naming, global_value};
+use sv_events::copy_value;
+
+/// A name that is not shared gets a value: SYNTAX ERROR for a label or a function, else WS FULL where the workspace
+/// would weigh too much. It takes memory for the name, and for the values that the statement holds of names.
+pub fn assign_value(
+    interpreter: &mut Interpreter,
+    e: &mut Evaluation,
+    name: &Name,
+    value: Array,
+) -> Result<(), Fail>
+    requires sound { IsCaller interpreter.old.workspace e.old }
+    requires unshared { is_shared_meaning (look interpreter.old.workspace name.now) ≡ false }
+    ensures done { HasDone interpreter.old (assignment name.now value) interpreter.new result }
+    ensures ok { OnOk result (interpreter.new ≡ record interpreter.old { workspace = assigned interpreter.old.workspace name.now value }) }
+    ensures err { OnErr result (interpreter.new ≡ interpreter.old) }
+    ensures settled { OnOk result (IsWithValues e.old (map (settled interpreter.old.workspace) e.old.values.items) e.new) }
+{
+    interpreter.rules();
+    e.settle(interpreter.alloc, &interpreter.workspace)?;
+    interpreter.workspace.assign(name, value)
+}
+
+/// The own copy of a shared name is this value; WS FULL where the workspace would weigh too much. It takes memory for
+/// the values that the statement holds of names.
+pub fn renew(
+    interpreter: &mut Interpreter,
+    e: &mut Evaluation,
+    name: &Name,
+    value: Array,
+) -> Result<(), Fail>
+    requires sound { IsCaller interpreter.old.workspace e.old }
+    requires seen { is_shared_meaning (look interpreter.old.workspace name.now) ≡ true }
+    ensures done { HasDone interpreter.old (with_copy name.now value) interpreter.new result }
+    ensures ok { OnOk result (interpreter.new ≡ record interpreter.old { workspace = with_global interpreter.old.workspace name.now (meaning.Shared (Some value)) }) }
+    ensures err { OnErr result (interpreter.new ≡ interpreter.old) }
+    ensures settled { OnOk result (IsWithValues e.old (map (settled interpreter.old.workspace) e.old.values.items) e.new) }
+    ensures seen { OnOk result (look interpreter.new.workspace name.now ≡ meaning.Shared (Some value)) }
+{
+    interpreter.rules();
+    e.settle(interpreter.alloc, &interpreter.workspace)?;
+    interpreter.workspace.renew(name, value)
+}
+
+/// A name that was offered is shared from now on, with the value that it has. It takes memory for the value.
+pub fn mark(interpreter: &mut Interpreter, names: Naming, to: u32) -> Result<(), Fail>
+    requires addressee { is_addressee to ≡ true }
+    requires no_function { is_function_meaning (global_in interpreter.old.workspace names.local) ≡ false }
+    ensures ok { OnOk result (interpreter.new ≡ record interpreter.old { workspace = marked interpreter.old.workspace (record { local = names.local; surrogate = names.surrogate; to = to }) (value_of (global_in interpreter.old.workspace names.local)) }) }
+    ensures err { IfErr result (λ why. why ≡ fail.WantOfMemory) }
+{
+    interpreter.rules();
+    let value = copy_value(
+        interpreter.alloc,
+        global_value(&interpreter.workspace, &names.local),
+    )?;
+    interpreter
+        .workspace
+        .mark(&names.local, value, names.surrogate, to)
+}
+
+/// A name is shared no more, and has this value. No memory.
+pub fn unmark(interpreter: &mut Interpreter, name: &Name, value: Option<Array>)
+    requires { is_shared interpreter.old.workspace name.now ≡ true }
+    ensures { interpreter.new ≡ record interpreter.old { workspace = unmarked interpreter.old.workspace name.now value } }
+{
+    interpreter.rules();
+    interpreter.workspace.unmark(name, value);
+}

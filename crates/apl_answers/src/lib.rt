@@ -1,0 +1,10 @@
+//! What changes a workspace: assignments, own copies of shared names, and what the answer to an open act brings.
+#![tactic(auto)]
+
+mod answering;
+mod assigning;
+mod changing;
+mod lists;
+
+pub use answering::bring;
+pub use assigning::{assign, assign_items};

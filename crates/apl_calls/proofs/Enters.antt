@@ -1,0 +1,90 @@
+-- A call enters a function: its frame stands before the others, and the statement that called it waits.
+use Rattle.std.proofs.Common.{◌≡◌, ℕ, ◌<◌, ◌≤◌, Bool, true, false, List, ◌∷◌, length, refl, sym, ap, ◌∙◌, leb}
+use Rattle.std.specs.Prelude.{is_some, map, if◌then◌else◌}
+use Rattle.std.proofs.lemmas.Bool.{and_parts, false≢true, le-leb}
+use Rattle.apl_arrays.specs.declared.report.Report.TheVariants.{WsFull}
+use Rattle.apl_workspace.specs.Frame.{AreArgumentsOf}
+use Rattle.apl_workspace.specs.Function.{PlainFunction}
+use Rattle.apl_workspace.specs.Header.{PlainHeader}
+use Rattle.apl_workspace.specs.Limits.{most_depth, most_weight}
+use Rattle.apl_workspace.specs.Workspace.{AreArgumentsFor, PlainWorkspace, empty_workspace, look, with_frame, workspace_weight}
+use Rattle.apl_workspace.specs.declared.args.Args.{Args}
+use Rattle.apl_workspace.specs.declared.meaning.Meaning.{Meaning}
+use Rattle.apl_workspace.specs.declared.meaning.Meaning.TheVariants as meaning
+use Rattle.apl_meaning.specs.State.{State, Outcome, gives, refuses, and_then}
+use Rattle.apl_meaning.specs.Tasks.{Next}
+use Rattle.apl_meaning.specs.Calls.{call, entering, takes}
+use Rattle.apl_meaning.specs.Verbs.{both_or_neither}
+use Rattle.apl_meaning.specs.Meaning.{ran}
+use Rattle.apl_values.specs.Values.{settled}
+use Rattle.apl_statements.specs.declared.evaluation.Evaluation.{Evaluation}
+use Rattle.apl_statements.specs.Evaluating.{caller_of, function_by, takes_by}
+use Rattle.apl_statements.specs.Interpreter.{PlainInterpreter, here, state_at}
+use Rattle.apl_statements.specs.Moves.{Does, Moves, part_gives}
+use Rattle.apl_statements.specs.Stack.{PlainCaller, PlainWaiting, at_line, from_line, onward_lines}
+use Rattle.apl_statements.specs.Holding.{IsWithValues}
+use Rattle.apl_statements.proofs.Renewing.{above, settled_caller}
+use Rattle.apl_statements.proofs.Same.{SameAt, behind_done, moves_as, moves_then}
+use Rattle.apl_statements.proofs.Steps.{call_enters}
+
+-- one that is
+pub takes_function : (m : Meaning) (args : Args) → takes_by m args ≡ true → (m ≡ meaning.Function (function_by m)) × (takes (function_by m).header args ≡ true)
+takes_function meaning.Nothing args is = absurd (false≢true is)
+takes_function (meaning.Value value) args is = absurd (false≢true is)
+takes_function (meaning.Function function) args is = (refl, is)
+takes_function (meaning.Label line) args is = absurd (false≢true is)
+takes_function (meaning.Shared copy) args is = absurd (false≢true is)
+
+alike : (a b : Bool) → both_or_neither a b ≡ true → a ≡ b
+alike true true is = refl
+alike true false is = absurd (false≢true is)
+alike false true is = absurd (false≢true is)
+alike false false is = refl
+
+arguments_of : (header : PlainHeader) (args : Args) → takes header args ≡ true → AreArgumentsOf header args
+arguments_of header args is =
+    let parts = and_parts (both_or_neither (is_some header.left) (is_some args.left)) (both_or_neither (is_some header.right) (is_some args.right)) is in
+    record { left = sym (alike (is_some header.left) (is_some args.left) parts.0); right = sym (alike (is_some header.right) (is_some args.right) parts.1) }
+
+pub arguments_for : (m : Meaning) (args : Args) → takes_by m args ≡ true → AreArgumentsFor m args
+arguments_for meaning.Nothing args is = absurd (false≢true is)
+arguments_for (meaning.Value value) args is = absurd (false≢true is)
+arguments_for (meaning.Function function) args is = arguments_of function.header args is
+arguments_for (meaning.Label line) args is = absurd (false≢true is)
+arguments_for (meaning.Shared copy) args is = absurd (false≢true is)
+
+-- an interpreter in which a function was entered
+abbrev pub entered_by : PlainInterpreter → List ℕ → Args → PlainFunction → PlainCaller → PlainInterpreter
+entered_by m name args function caller = record m { workspace = with_frame m.workspace name args; stack = at_line function 0 caller ∷ m.stack }
+
+pub enters : (m : PlainInterpreter) (name : List ℕ) (args : Args) (function : PlainFunction) (caller : PlainCaller) → caller.here ≡ here m → length m.workspace.frames < most_depth → workspace_weight (with_frame m.workspace name args) ≤ most_weight
+    → Does m (λ s. entering name args s) (entered_by m name args function caller)
+enters m name args function caller stood few fits = record {
+  same = λ asked count taken further.
+      let s : State = state_at m asked count taken further in
+      let v : PlainWorkspace = with_frame m.workspace name args in
+      ap (λ (b : Bool). if b then refuses WsFull s else (if leb (workspace_weight v) most_weight then gives tt (record s { workspace = v }) else refuses WsFull s)) (above most_depth (length m.workspace.frames) few)
+      ∙ ap (λ (b : Bool). if b then gives tt (record s { workspace = v }) else refuses WsFull s) (le-leb (workspace_weight v) most_weight fits)
+      ∙ ap (λ (shown : List ℕ). gives tt (record s { workspace = v; here = shown })) (sym refl);
+}
+
+-- what is to come of a call of a function: it is entered, and then its first line
+pub call_is_to_enter : (m : PlainInterpreter) (e : Evaluation) (name : List ℕ) (args : Args) (function : PlainFunction) → look m.workspace name ≡ meaning.Function function → takes function.header args ≡ true
+    → SameAt m (part_gives m e (λ s. call ran name args s)) (λ s. and_then (entering name args s) (λ _ t. onward_lines function 1 (caller_of m.workspace (here m) e) m.stack t))
+call_is_to_enter m e name args function is fits asked count taken further = call_enters (caller_of m.workspace (here m) e) m.stack function name args (state_at m asked count taken further) is fits refl
+
+-- where it was entered, its first line is next
+pub enters_at_line : (m n : PlainInterpreter) (e : Evaluation) (name : List ℕ) (args : Args) (function : PlainFunction) (caller : PlainCaller) → look m.workspace name ≡ meaning.Function function → takes function.header args ≡ true
+    → Does m (λ s. entering name args s) n → n.stack ≡ at_line function 0 caller ∷ m.stack → caller ≡ caller_of m.workspace (here m) e → Moves m (part_gives m e (λ s. call ran name args s)) 0 n (from_line n.stack 1)
+enters_at_line m n e name args function caller is fits done stacked waits =
+    let rest : State → Outcome Next = λ t. onward_lines function 1 (caller_of m.workspace (here m) e) m.stack t in
+    moves_as m n (part_gives m e (λ s. call ran name args s)) (λ s. and_then (entering name args s) (λ _ t. rest t)) (from_line n.stack 1) 0 (call_is_to_enter m e name args function is fits)
+    (moves_then m n (λ s. and_then (entering name args s) (λ _ t. rest t)) rest (from_line n.stack 1) 0 (λ t.
+    ap (λ (c : PlainCaller). onward_lines function 1 c m.stack t) (sym waits) ∙ ap (λ (ws : List PlainWaiting). from_line ws 1 t) (sym stacked)) (behind_done m n (λ s. entering name args s) rest done))
+
+-- the same where its caller is settled
+pub settled_enters : (m n : PlainInterpreter) (before e : Evaluation) (name : List ℕ) (args : Args) → takes_by (look m.workspace name) args ≡ true → IsWithValues before (map (settled m.workspace) before.values.items) e → Does m (λ s. entering name args s) n
+    → n.stack ≡ at_line (function_by (look m.workspace name)) 0 (caller_of empty_workspace (here m) e) ∷ m.stack → Moves m (part_gives m before (λ s. call ran name args s)) 0 n (from_line n.stack 1)
+settled_enters m n before e name args takes with done stacked =
+    let is = takes_function (look m.workspace name) args takes in
+    enters_at_line m n before name args (function_by (look m.workspace name)) (caller_of empty_workspace (here m) e) is.0 is.1 done stacked (settled_caller m.workspace empty_workspace (here m) before e with)

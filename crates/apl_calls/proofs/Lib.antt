@@ -1,0 +1,10 @@
+pub mod Begins
+pub mod Entered
+pub mod Enters
+pub mod Falling
+pub mod HereLaw
+pub mod Innermost
+pub mod Keeping
+pub mod Leaving
+pub mod Left
+pub mod Lines

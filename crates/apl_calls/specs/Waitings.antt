@@ -1,0 +1,21 @@
+-- Functions that wait, where the innermost goes to another line, or keeps what was read of one.
+use Rattle.std.specs.Prelude.{◌≡◌, ◌++◌, ◌⊎◌, ℕ, List, [], ◌∷◌, Option, Some, slice_get}
+use Rattle.apl_values.specs.declared.reading.Reading.{Reading}
+use Rattle.apl_statements.specs.declared.waiting.Waiting.{Waiting}
+use Rattle.apl_statements.specs.Stack.{PlainWaiting, at_line}
+
+-- the innermost function is at this line
+abbrev pub standing_on : ℕ → List PlainWaiting → List PlainWaiting
+standing_on number [] = []
+standing_on number (w ∷ ws) = at_line w.function number w.caller ∷ ws
+
+-- the last of these functions is at this line, and the others are as they were
+pub record IsStandingAt (number : ℕ) (before after : List Waiting) : Type 0 where
+  pub others : List Waiting
+  pub waiting : Waiting
+  pub was : before ≡ others ++ waiting ∷ []
+  pub is : after ≡ others ++ record waiting { number = number } ∷ []
+
+-- what is kept of lines was kept before, or is this reading at its place
+abbrev pub IsKept : {A : Type 0} → (A → Reading) → ℕ → Reading → List (Option A) → List (Option A) → Type 0
+IsKept {A = A} read at reading before after = (k : ℕ) (kept : A) → slice_get after k ≡ Some (Some kept) → (slice_get before k ≡ Some (Some kept)) ⊎ ((k ≡ at) × (read kept ≡ reading))

@@ -1,9 +1,0 @@
-use Rattle.apl_machine.proofs.HeardLaw.{copy_led}
-use Rattle.apl_machine.proofs.Marks.{seen_shared}
-use Rattle.apl_machine.proofs.alone.renew.Goals as goal
-
-pub renew-requires : goal.renew-requires
-renew-requires c = seen_shared c.args.workspace.now c.args.name.now c.weight-weight.ensures.rules c.requires
-
-pub returns-clause-led : goal.returns-clause-led
-returns-clause-led c = λ before. copy_led c.renew.result c.args.workspace.now c.renew.new.self before c.args.name.now c.args.value c.renew.ensures.ok c.renew.ensures.err c.renew.ensures.fits c.renew.ensures.full

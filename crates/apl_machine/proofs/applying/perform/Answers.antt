@@ -1,0 +1,135 @@
+use Rattle.std.proofs.Common.{◌≡◌, ◌-◌, sym, ap, ◌∙◌, arith}
+use Rattle.std.specs.Prelude.{Bool, All, IfSome, Option, option_map}
+use Rattle.std.proofs.lemmas.Result.{err_from_is_err_and}
+use Rattle.apl_arrays.specs.Array.{PlainArray}
+use Rattle.apl_arrays.specs.declared.report.Fail.TheVariants as fail
+use Rattle.apl_arrays.specs.declared.report.Report.{Report}
+use Rattle.apl_arrays.specs.declared.report.Report.TheVariants.{Value}
+use Rattle.apl_workspace.specs.declared.args.Args.{Args}
+use Rattle.line_trees.specs.declared.tree.Fun.{Fun}
+use Rattle.line_trees.specs.declared.tree.Fun.TheVariants as fun
+use Rattle.apl_meaning.specs.Calls.{call}
+use Rattle.apl_meaning.specs.Expressions.{performed}
+use Rattle.apl_meaning.specs.Meaning.{ran}
+use Rattle.apl_meaning.specs.Nodes.{apply_step}
+use Rattle.apl_meaning.specs.State.{refuses}
+use Rattle.apl_values.specs.declared.values.Held.{Held}
+use Rattle.apl_values.specs.Values.{IsHeld, held_value}
+use Rattle.apl_statements.specs.declared.evaluation.Evaluation.{Evaluation}
+use Rattle.apl_statements.specs.Interpreter.{PlainInterpreter, state_at}
+use Rattle.apl_statements.specs.Moves.{Coming, if_there, part_gives, part_takes}
+use Rattle.apl_statements.specs.Operands.{operand_list}
+use Rattle.apl_statements.specs.Sound.{IsCaller}
+use Rattle.apl_statements.specs.Holding.{parts_of}
+use Rattle.apl_statements.proofs.Moving.{none_counted}
+use Rattle.apl_statements.proofs.Same.{SameAt, at_once, comes_as, comes_exit}
+use Rattle.apl_statements.proofs.Taken.{taken_held, taken_sound}
+use Rattle.apl_machine.proofs.Performs.{axis_held, left_held, no_axis_as, performs_as, performs_none, right_held}
+use Rattle.apl_machine.proofs.applying.perform.Given.{Over}
+use Rattle.apl_machine.proofs.applying.perform.Goals as goal
+use Rattle.apl_machine.proofs.applying.perform.Goals.{In_ok-left, In_ok-number}
+
+-- what is still to come of a function of these arguments
+abbrev taking : PlainInterpreter → Evaluation → Fun → Bool → Bool → Coming
+taking m e f has_left has_axis = part_takes m e (apply_step ran f (if_there has_left) (if_there has_axis))
+
+-- the statement is a caller still, and the arguments are arrays
+sound : (g : Over) (c : In_ok-left g) → IsCaller c.args.interpreter.now.workspace c.take_operands.new.self
+sound g c = taken_sound c.args.interpreter.now.workspace c.args.e c.take_operands.new.self (operand_list c.in_ok-left.field-0) c.take_operands.ensures.same c.in_ok-left.ensures.taken c.requires.sound
+
+arrays : (g : Over) (c : In_ok-left g) → All (IsHeld c.args.interpreter.now.workspace (parts_of c.take_operands.new.self)) (operand_list c.in_ok-left.field-0)
+arrays g c = taken_held c.args.interpreter.now.workspace c.args.e c.take_operands.new.self (operand_list c.in_ok-left.field-0) c.take_operands.ensures.same c.in_ok-left.ensures.taken c.requires.sound
+
+right : (g : Over) (c : In_ok-left g) → IsHeld c.args.interpreter.now.workspace (parts_of c.take_operands.new.self) c.in_ok-left.field-0.right
+right g c = right_held (IsHeld c.args.interpreter.now.workspace (parts_of c.take_operands.new.self)) c.in_ok-left.field-0 (arrays g c)
+
+left : (g : Over) (c : In_ok-left g) → IfSome c.in_ok-left.field-0.left (IsHeld c.args.interpreter.now.workspace (parts_of c.take_operands.new.self))
+left g c = left_held (IsHeld c.args.interpreter.now.workspace (parts_of c.take_operands.new.self)) c.in_ok-left.field-0 (arrays g c)
+
+-- the arguments as arrays
+abbrev arrays_of : PlainInterpreter → Evaluation → Option Held → Option PlainArray
+arrays_of m e h = option_map (held_value m.workspace (parts_of e)) h
+
+-- the function is performed with its arguments, where it is this one
+performs_it : (g : Over) (c : In_ok-number g) (f : Fun) → c.args.function ≡ f
+    → SameAt c.args.interpreter.now (taking c.args.interpreter.now c.args.e c.args.function c.args.has_left c.args.has_axis)
+    (part_gives c.args.interpreter.now c.take_operands.new.self (performed ran f (arrays_of c.args.interpreter.now c.take_operands.new.self c.in_ok-left.field-0.left) (held_value c.args.interpreter.now.workspace (parts_of c.take_operands.new.self) c.in_ok-left.field-0.right) c.in_ok-number.number))
+performs_it g c f is asked count taken further =
+    let m : PlainInterpreter = c.args.interpreter.now in
+    let after : Evaluation = c.take_operands.new.self in
+    performs_as m c.args.e after c.args.function c.args.has_left c.args.has_axis c.in_ok-left.field-0 c.in_ok-number.number c.take_operands.ensures.same c.in_ok-left.ensures.taken c.in_ok-left.ensures.left c.in_ok-left.ensures.axis c.in_ok-number.ensures.ok
+    asked count taken further
+    ∙ ap (λ (one : Fun). part_gives m after (performed ran one (arrays_of m after c.in_ok-left.field-0.left) (held_value m.workspace (parts_of after) c.in_ok-left.field-0.right) c.in_ok-number.number) (state_at m asked count taken further)) is
+
+pub returns-in_err-left-clause-comes : goal.returns-in_err-left-clause-comes
+returns-in_err-left-clause-comes g c =
+    let m : PlainInterpreter = c.args.interpreter.now in
+    let coming : Coming = taking m c.args.e c.args.function c.args.has_left c.args.has_axis in
+    let exit = err_from_is_err_and c.from_residual.result c.from_residual.ensures.1 in
+    let first : exit.0 ≡ fail.Report c.in_err-left.field-0.0 = cc exit.2 in
+    none_counted m m coming (c.args.steps.now - c.args.steps.now) c.from_residual.result (omega arith)
+    (comes_exit m m coming 0 c.from_residual.result exit.0 (fail.Report Value) exit.1 (first ∙ ap (λ (r : Report). fail.Report r) c.in_err-left.ensures.none.0)
+    (at_once m coming (λ s. refuses Value s) (λ asked count taken further.
+    performs_none m c.args.e c.args.function c.args.has_left c.args.has_axis (state_at m asked count taken further) c.in_err-left.ensures.none.1)))
+
+pub axis_of-requires : goal.axis_of-requires
+axis_of-requires g c = axis_held (IsHeld c.args.interpreter.now.workspace (parts_of c.take_operands.new.self)) c.in_ok-left.field-0 (arrays g (goal.at.axis_of-requires g c).In_ok-left)
+
+pub returns-in_err-number-clause-comes : goal.returns-in_err-number-clause-comes
+returns-in_err-number-clause-comes g c =
+    let m : PlainInterpreter = c.args.interpreter.now in
+    let coming : Coming = taking m c.args.e c.args.function c.args.has_left c.args.has_axis in
+    let exit = err_from_is_err_and c.from_residual-in_err-number.result c.from_residual-in_err-number.ensures.1 in
+    let why : exit.0 ≡ c.in_err-number.field-0.0 = cc exit.2 in
+    none_counted m m coming (c.args.steps.now - c.args.steps.now) c.from_residual-in_err-number.result (omega arith)
+    (comes_exit m m coming 0 c.from_residual-in_err-number.result exit.0 c.in_err-number.field-0.0 exit.1 why
+    (no_axis_as m c.args.e c.take_operands.new.self c.args.function c.args.has_left c.args.has_axis c.in_ok-left.field-0 c.in_err-number.field-0.0 c.take_operands.ensures.same c.in_ok-left.ensures.taken c.in_ok-left.ensures.left c.in_ok-left.ensures.axis
+    c.in_err-number.ensures.refused))
+
+pub apply_verb-requires-clause-sound : goal.apply_verb-requires-clause-sound
+apply_verb-requires-clause-sound g c = sound g (goal.at.apply_verb-requires-clause-sound g c).In_ok-left
+
+pub apply_verb-requires-clause-left : goal.apply_verb-requires-clause-left
+apply_verb-requires-clause-left g c = left g (goal.at.apply_verb-requires-clause-left g c).In_ok-left
+
+pub apply_verb-requires-clause-right : goal.apply_verb-requires-clause-right
+apply_verb-requires-clause-right g c = right g (goal.at.apply_verb-requires-clause-right g c).In_ok-left
+
+pub args_of-requires-clause-left : goal.args_of-requires-clause-left
+args_of-requires-clause-left g c = left g (goal.at.args_of-requires-clause-left g c).In_ok-left
+
+pub args_of-requires-clause-right : goal.args_of-requires-clause-right
+args_of-requires-clause-right g c = right g (goal.at.args_of-requires-clause-right g c).In_ok-left
+
+pub system-requires-clause-sound : goal.system-requires-clause-sound
+system-requires-clause-sound g c = sound g (goal.at.system-requires-clause-sound g c).In_ok-left
+
+pub system-requires-clause-left : goal.system-requires-clause-left
+system-requires-clause-left g c = left g (goal.at.system-requires-clause-left g c).In_ok-left
+
+pub system-requires-clause-right : goal.system-requires-clause-right
+system-requires-clause-right g c = right g (goal.at.system-requires-clause-right g c).In_ok-left
+
+pub call-requires : goal.call-requires
+call-requires g c = record { sound = sound g (goal.at.call-requires g c).In_ok-left }
+
+pub returns-in-Verb-clause-comes : goal.returns-in-Verb-clause-comes
+returns-in-Verb-clause-comes g c =
+    comes_as c.args.interpreter.now c.args.interpreter.now (taking c.args.interpreter.now c.args.e c.args.function c.args.has_left c.args.has_axis) _ (c.apply_verb.new.steps - c.args.steps.now) c.apply_verb.result
+    (performs_it g (goal.at.returns-in-Verb-clause-comes g c).In_ok-number (fun.Verb c.in-Verb.verb) c.in-Verb.is) c.apply_verb.ensures.comes
+
+pub returns-in_ok-args-in-Defined-clause-comes : goal.returns-in_ok-args-in-Defined-clause-comes
+returns-in_ok-args-in-Defined-clause-comes g c =
+    let m : PlainInterpreter = c.args.interpreter.now in
+    let coming : Coming = taking m c.args.e c.args.function c.args.has_left c.args.has_axis in
+    none_counted m c.call.new.interpreter coming (c.args.steps.now - c.args.steps.now) c.call.result (omega arith)
+    (comes_as m c.call.new.interpreter coming (part_gives m c.take_operands.new.self (λ s. call ran c.in-Defined.name c.in_ok-args-in-Defined.args s)) 0 c.call.result (λ asked count taken further.
+    performs_it g (goal.at.returns-in_ok-args-in-Defined-clause-comes g c).In_ok-number (fun.Defined c.in-Defined.name) c.in-Defined.is asked count taken further
+    ∙ ap (λ (args : Args). part_gives m c.take_operands.new.self (λ s. call ran c.in-Defined.name args s) (state_at m asked count taken further)) (sym c.in_ok-args-in-Defined.ensures.ok)) c.call.ensures.comes)
+
+pub returns-in-System-clause-comes : goal.returns-in-System-clause-comes
+returns-in-System-clause-comes g c =
+    let m : PlainInterpreter = c.args.interpreter.now in
+    let coming : Coming = taking m c.args.e c.args.function c.args.has_left c.args.has_axis in
+    none_counted m m coming (c.args.steps.now - c.args.steps.now) c.system.result (omega arith)
+    (comes_as m m coming _ 0 c.system.result (performs_it g (goal.at.returns-in-System-clause-comes g c).In_ok-number (fun.System c.in-System.name) c.in-System.is) c.system.ensures.comes)

@@ -1,0 +1,19 @@
+use Rattle.std.proofs.Common.{◌≡◌, ◌≤◌, ◌-◌}
+use Rattle.apl_statements.specs.Evaluating.{evaluation_of}
+use Rattle.apl_statements.specs.Moves.{Moves}
+use Rattle.apl_statements.specs.Sound.{IsEvaluation}
+use Rattle.apl_statements.specs.Stack.{onward}
+use Rattle.apl_statements.specs.Work.{machine_work, parts_left}
+use Rattle.apl_machine.proofs.stepping.evaluate.Given as goal
+
+-- the statement so far: nothing of what is to come has changed
+abbrev pub invariant-parts : goal.invariant-parts
+invariant-parts g l = record {
+  sound : IsEvaluation l.interpreter.workspace l.e;
+  rises : l.initial.steps ≤ l.steps;
+  work : machine_work l.interpreter ≡ machine_work l.initial.interpreter;
+  moves : Moves l.initial.interpreter (λ s. onward (evaluation_of l.initial.interpreter.workspace l.initial.e) l.initial.interpreter.stack s) (l.steps - l.initial.steps) l.interpreter (λ s. onward (evaluation_of l.interpreter.workspace l.e) l.interpreter.stack s);
+}
+
+abbrev pub decreases-parts : goal.decreases-parts
+decreases-parts g l = parts_left l.e

@@ -1,0 +1,15 @@
+pub mod Gives
+pub mod Held
+pub mod Kept
+pub mod Marks
+pub mod Moving
+pub mod Nobody
+pub mod Opened
+pub mod Parts
+pub mod Printed
+pub mod Renewing
+pub mod RowsGo
+pub mod Same
+pub mod Steps
+pub mod Subs
+pub mod Taken

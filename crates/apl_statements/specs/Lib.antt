@@ -1,0 +1,9 @@
+pub mod Evaluating
+pub mod Holding
+pub mod Interpreter
+pub mod Led
+pub mod Moves
+pub mod Operands
+pub mod Sound
+pub mod Stack
+pub mod Work

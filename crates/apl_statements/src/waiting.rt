@@ -1,0 +1,14 @@
+use crate::evaluation::Evaluation;
+use apl_arrays::Name;
+use apl_values::Reading;
+use std::sync::Arc;
+
+/// A function under way: its name, the number of its line under evaluation, its lines that were read since it was
+/// entered, and the statement that called it.
+#[derive(Debug, Drop)]
+pub struct Waiting {
+    pub name: Name,
+    pub number: usize,
+    pub readings: Vec<Option<Arc<Reading>>>,
+    pub caller: Evaluation,
+}

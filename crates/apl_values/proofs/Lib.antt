@@ -1,0 +1,10 @@
+pub mod Constants
+pub mod EnoughClasses
+pub mod Found
+pub mod Locals
+pub mod MadeRows
+pub mod NamingSteps
+pub mod ReadLaw
+pub mod RowSteps
+pub mod Seen
+pub mod SilentLaw

@@ -1,0 +1,23 @@
+//! What a machine holds: lines that were read as parts, values that no part has taken yet, rows of names, open acts, and what
+//! an answer tells the line that asked.
+#![tactic(auto)]
+
+mod answers;
+mod classing;
+mod naming;
+mod part;
+mod pending;
+mod place;
+mod reading;
+mod rows;
+mod values;
+
+pub use answers::{report_of, value_in};
+pub use classing::classes_for;
+pub use naming::{Naming, names_all, naming_count, namings_of};
+pub use part::{Part, constant};
+pub use pending::{Pending, boxed, global_value};
+pub use place::Place;
+pub use reading::{Reading, read, scanned, tree_of_tokens};
+pub use rows::{Deed, Row, Rows, result_shape};
+pub use values::{Held, array_of, owned, settle};
