@@ -1,0 +1,9 @@
+pub mod Fields
+pub mod Functions
+pub mod Kept
+pub mod Objects
+pub mod Offers
+pub mod Reading
+pub mod Saved
+pub mod SavedText
+pub mod Values
