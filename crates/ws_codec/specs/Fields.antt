@@ -1,5 +1,6 @@
 -- The fields of saved bytes: single bytes, numbers, codes and names.
 use Rattle.std.specs.Prelude.{◌&&◌, ◌-◌, ◌==◌, ◌∷◌, [], ℕ, ℤ, Bool, not, List, Option, Some, None, Ok, Err, length, nat_le, take, drop, if◌then◌else◌}
+use Rattle.std.specs.Cmp.Lexicographic.{pointwise}
 use Rattle.std.specs.Int.{w64, cast_signed}
 use Rattle.std.specs.List.{list_all, prefix_len}
 use Rattle.byteorder.specs.Endian.{big_number}
@@ -21,6 +22,12 @@ byte_at (byte ∷ rest) = Ok (byte, rest)
 -- so many bytes
 unfoldable pub bytes_at : ℕ → Reader (List ℕ)
 bytes_at count rest = if nat_le count (length rest) then Ok (take count rest, drop count rest) else Err cut
+
+-- whether the bytes in front are these
+unfoldable pub same_at : List ℕ → Reader Bool
+same_at front rest = do
+  field ← bytes_at (length front) rest
+  Ok (pointwise ◌==◌ field.0 front, field.1)
 
 -- a number of so many bytes, the highest first
 unfoldable pub number_at : ℕ → Reader ℕ

@@ -1,10 +1,9 @@
 -- Saved bytes as a whole: what they are read as, and which field breaks a rule first.
 use Rattle.std.specs.Prelude.{◌≡◌, ◌-◌, ◌==◌, ◌||◌, ◌∷◌, [], ℕ, Bool, List, Option, Some, None, Result, Ok, Err, length, if◌then◌else◌}
-use Rattle.std.specs.Cmp.Lexicographic.{pointwise}
 use Rattle.apl_workspace.specs.Meaning.{NameTable}
 use Rattle.apl_workspace.specs.Workspace.{PlainWorkspace}
 use Rattle.apl_workspace.specs.declared.remake.Remake.{Remake}
-use Rattle.ws_codec.specs.Fields.{byte_at, bytes_at}
+use Rattle.ws_codec.specs.Fields.{byte_at, same_at}
 use Rattle.ws_codec.specs.Kept.{workspace_of}
 use Rattle.ws_codec.specs.Objects.{objects_at}
 use Rattle.ws_codec.specs.Offers.{offers_at}
@@ -33,8 +32,8 @@ saved_of table offers = record { workspace = workspace_of table; remakes = offer
 -- the bytes in front, and the version
 unfoldable pub version_at : Reader ℕ
 version_at rest = do
-  front ← bytes_at 4 rest
-  right ← keeps (pointwise ◌==◌ front.0 magic) Magic (length rest)
+  front ← same_at magic rest
+  right ← keeps front.0 Magic (length rest)
   version ← byte_at front.1
   known ← keeps (version.0 == 1 || version.0 == 2) Version (length front.1)
   Ok version

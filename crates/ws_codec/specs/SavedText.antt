@@ -10,7 +10,7 @@ use Rattle.apl_workspace.specs.Workspace.{PlainWorkspace}
 use Rattle.apl_workspace.specs.declared.meaning.Meaning.{Meaning}
 use Rattle.apl_workspace.specs.declared.meaning.Meaning.TheVariants.{Nothing, Value, Function, Label, Shared}
 use Rattle.apl_workspace.specs.declared.remake.Remake.{Remake}
-use Rattle.ws_codec.specs.Kept.{kept_globals}
+use Rattle.ws_codec.specs.Kept.{kept, kept_globals}
 
 -- a name: its length in one byte, and its codes
 abbrev pub name_bytes : List ℕ → List ℕ
@@ -45,6 +45,10 @@ object_bytes name (Value value) = kind_byte value.items ∷ (name_bytes name ++ 
 object_bytes name (Function function) = 3 ∷ (name_bytes name ++ function_bytes function)
 object_bytes name (Label line) = []
 object_bytes name (Shared copy) = []
+
+-- what is kept of a name, as bytes
+abbrev pub kept_bytes : List ℕ → Meaning → List ℕ
+kept_bytes name meaning = flat_map (λ entry. object_bytes entry.0 entry.1) (kept name meaning)
 
 -- how many objects in four bytes, and the objects
 abbrev pub objects_bytes : NameTable → List ℕ

@@ -13,10 +13,13 @@ pub enum Kind {
 pub fn kind_of(byte: u8) -> Option<Kind>
     ensures { result ≡ kind_of byte }
 {
-    match byte {
-        1 => Some(Kind::Numbers),
-        2 => Some(Kind::Chars),
-        3 => Some(Kind::Defined),
-        _ => None,
+    if byte == 1 {
+        Some(Kind::Numbers)
+    } else if byte == 2 {
+        Some(Kind::Chars)
+    } else if byte == 3 {
+        Some(Kind::Defined)
+    } else {
+        None
     }
 }

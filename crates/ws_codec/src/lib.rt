@@ -6,12 +6,15 @@ mod cursor;
 mod fields;
 mod functions;
 mod kind;
+mod numbers;
 mod objects;
 mod offers;
 mod reading;
 mod saved;
 mod unread;
 mod values;
+mod written_objects;
+mod written_values;
 mod writing;
 
 pub use reading::read;

@@ -1,7 +1,4 @@
 ghost use Rattle.std.specs.Prelude.{◌≡◌, ◌==◌, ◌||◌};
-ghost use Rattle.std.specs.Cmp.Lexicographic.{pointwise};
-ghost use Rattle.apl_workspace.specs.Workspace.{empty_workspace};
-ghost use Rattle.ws_codec.specs.Kept.{workspace_of};
 ghost use Rattle.ws_codec.specs.Reading.{Gives};
 ghost use Rattle.ws_codec.specs.Saved.{ReadsSaved, offers_of_version, place_of, plain_saved, saved_at, version_at};
 
