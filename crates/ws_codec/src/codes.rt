@@ -29,6 +29,7 @@ pub fn code_count(bytes: &[u8]) -> usize
 }
 
 /// The line that codes of glyphs spell. It takes memory for the line.
+#[tactic(auto, using(crate::proofs::Codes::coded_at))]
 pub fn line_of(alloc: Global, codes: &[u8]) -> Result<Line, WantOfMemory>
     requires { list_all is_code codes.now ≡ true }
     ensures { IfOk result (λ line. line.items ≡ codes.now) }

@@ -129,6 +129,7 @@ fn read_lines(alloc: Global, weight: usize, cursor: &mut Cursor<'_>) -> Result<L
 }
 
 /// Reads so many lines, behind what weighs so much without them.
+#[tactic(auto, using(crate::proofs::Lines::lines_weigh))]
 fn read_counted_lines(
     alloc: Global,
     weight: usize,
@@ -150,6 +151,7 @@ fn read_counted_lines(
 }
 
 /// Reads a line behind others, where all before its glyphs weighs so much, and tells what weighs all with them.
+#[tactic(auto, using(crate::proofs::Lines::glyphs_push))]
 fn add_line(
     alloc: Global,
     weight: usize,

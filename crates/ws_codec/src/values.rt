@@ -69,7 +69,7 @@ fn read_shape(alloc: Global, weight: usize, cursor: &mut Cursor<'_>) -> Result<L
 }
 
 /// How many elements an array of this shape has.
-#[tactic(auto, using(crate::proofs::Shapes::no_fault_is_none, apl_arrays::proofs::Shapes::no_fault_fits))]
+#[tactic(auto, using(crate::proofs::Shapes::whole_shape))]
 fn count_in(shape: &[u32]) -> usize
     requires { is_none (shape_fault shape.now) ≡ true }
     ensures value { result ≡ element_count shape.now }

@@ -14,7 +14,7 @@ use apl_workspace::{Function, Meaning, Seen, Workspace};
 
 /// Adds the objects of a workspace, behind how many they are. It takes memory for them, and for the names; where that
 /// runs out, a part of them may stand there.
-#[tactic(auto, using(crate::proofs::ByNames::bytes_by_names))]
+#[tactic(auto, using(crate::proofs::ByNames::are_by_names))]
 pub fn add_objects(bytes: &mut Vec<u8>, ws: &Workspace) -> Result<(), WantOfMemory>
     ensures { OnOk result (bytes.new.items ≡ bytes.old.items ++ objects_bytes (kept_globals ws.now.globals)) }
 {

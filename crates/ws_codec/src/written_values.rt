@@ -67,6 +67,7 @@ pub fn add_function(bytes: &mut Vec<u8>, function: &Function) -> Result<(), Want
 }
 
 /// Adds lines.
+#[tactic(auto, using(crate::proofs::Lines::short_at))]
 fn add_lines(bytes: &mut Vec<u8>, lines: &[Line]) -> Result<(), WantOfMemory>
     requires { All (λ line. length line ≤ most_line_glyphs) (map glyphs_in lines.now) }
     ensures { OnOk result (bytes.new.items ≡ bytes.old.items ++ flat_map line_bytes (map glyphs_in lines.now)) }

@@ -1,0 +1,84 @@
+-- What is kept of a workspace, by its names.
+use Rattle.std.proofs.Common.{◌≡◌, ℕ, ◌+◌, ◌<◌, ◌≤◌, Bool, true, false, List, [], ◌∷◌, ◌++◌, Option, Some, None, length, refl, sym, ap, ◌∙◌, length-append, arith}
+use Rattle.std.specs.Prelude.{unwrap_or}
+use Rattle.std.specs.List.{AllByRecursion, flat_map}
+use Rattle.std.specs.List.Sorted.{IsStrictlySortedBy}
+use Rattle.std.specs.Map.{keys_of, lookup, values_of}
+use Rattle.std.specs.Ordering.{is_eq, ordering_reverse}
+use Rattle.std.specs.declared.cmp.Ordering.TheVariants.{Less}
+use Rattle.std.proofs.lemmas.Cmp.{nat_list_cmp_total}
+use Rattle.std.proofs.lemmas.List.Concat.{flat_map-append}
+use Rattle.std.proofs.lemmas.List.Sums.{sum_by-cons}
+use Rattle.std.proofs.lemmas.Map.Entries.{lookup_head, lookup_tail}
+use Rattle.std.proofs.lemmas.Map.Keys.{sorted_head, sorted_tail}
+use Rattle.apl_arrays.specs.Name.{name_order, same_name}
+use Rattle.apl_workspace.specs.Limits.{most_weight}
+use Rattle.apl_workspace.specs.Meaning.{NameTable, meaning_in, meaning_weight, table_weight}
+use Rattle.apl_workspace.specs.Workspace.{IsWorkspace, PlainWorkspace, global_in, workspace_weight}
+use Rattle.apl_workspace.specs.declared.meaning.Meaning.{Meaning}
+use Rattle.apl_workspace.specs.declared.meaning.Meaning.TheVariants.{Nothing, Value, Function, Label, Shared}
+use Rattle.apl_workspace.proofs.NameLaw.{by_order, own_name}
+use Rattle.ws_codec.specs.Kept.{kept, kept_globals}
+use Rattle.ws_codec.specs.SavedText.{kept_bytes, object_bytes}
+
+-- what stands by a name of a table
+abbrev pub told : NameTable → List ℕ → Meaning
+told table name = unwrap_or (meaning_in table name) Nothing
+
+-- a look-up tells what each name of a table stands for
+pub Tells : (List ℕ → Meaning) → NameTable → Type 0
+Tells look [] = Unit {0}
+Tells look (e ∷ es) = (look e.0 ≡ e.1) × Tells look es
+
+passed : (e : List ℕ × Meaning) (all some : NameTable) → AllByRecursion (λ other. name_order e.0 other ≡ Less) (keys_of some) → Tells (told all) some → Tells (told (e ∷ all)) some
+unfolding Tells
+passed e all [] below tells = tt
+passed e all (f ∷ fs) below tells =
+    let apart : same_name f.0 e.0 ≡ false = by_order f.0 e.0 ∙ ap is_eq (nat_list_cmp_total.antisymm f.0 e.0 ∙ ap ordering_reverse below.0) in
+    (ap (λ (o : Option Meaning). unwrap_or o Nothing) (lookup_tail (same_name f.0) e all apart) ∙ tells.0, passed e all fs below.1 tells.1)
+
+-- a table tells its own names
+pub tells_own : (table : NameTable) → IsStrictlySortedBy name_order (keys_of table) → Tells (told table) table
+unfolding Tells
+tells_own [] s = tt
+tells_own (e ∷ es) s =
+    (ap (λ (o : Option Meaning). unwrap_or o Nothing) (lookup_head (same_name e.0) e es (own_name e.0)), passed e es es (sorted_head name_order e.0 (keys_of es) s) (tells_own es (sorted_tail name_order e.0 (keys_of es) s)))
+
+pub by_names : {B : Type 0} (f : List ℕ → Meaning → List B) (look : List ℕ → Meaning) (table : NameTable) → Tells look table → flat_map (λ name. f name (look name)) (keys_of table) ≡ flat_map (λ (e : List ℕ × Meaning). f e.0 e.1) table
+unfolding Tells
+by_names f look [] tells = refl
+by_names f look (e ∷ es) tells = ap (λ m. f e.0 m ++ flat_map (λ name. f name (look name)) (keys_of es)) tells.0 ∙ ap (λ t. f e.0 e.1 ++ t) (by_names f look es tells.1)
+
+-- the bytes of what is kept, name by name
+bytes_kept : (table : NameTable) → flat_map (λ (e : List ℕ × Meaning). object_bytes e.0 e.1) (kept_globals table) ≡ flat_map (λ (e : List ℕ × Meaning). kept_bytes e.0 e.1) table
+bytes_kept [] = refl
+bytes_kept (e ∷ es) = flat_map-append (λ (f : List ℕ × Meaning). object_bytes f.0 f.1) (kept e.0 e.1) (kept_globals es) ∙ ap (λ t. kept_bytes e.0 e.1 ++ t) (bytes_kept es)
+
+-- what is kept weighs at least one each
+kept_weighs : (name : List ℕ) (meaning : Meaning) → length (kept name meaning) ≤ meaning_weight meaning
+kept_weighs name Nothing = omega arith
+kept_weighs name (Value value) = omega arith
+kept_weighs name (Function function) = omega arith
+kept_weighs name (Label line) = omega arith
+kept_weighs name (Shared None) = omega arith
+kept_weighs name (Shared (Some copy)) = omega arith
+
+pub few_kept : (table : NameTable) → length (kept_globals table) ≤ table_weight table
+few_kept [] = omega arith
+few_kept (e ∷ es) =
+    omega (arith, few_kept es, kept_weighs e.0 e.1, length-append (kept e.0 e.1) (kept_globals es), sum_by-cons meaning_weight e.1 (values_of es))
+
+-- the objects of a workspace by its names
+pub record AreByNames (w : PlainWorkspace) (names : List (List ℕ)) : Type 0 where
+  pub count : length (flat_map (λ name. kept name (global_in w name)) names) ≡ length (kept_globals w.globals)
+  pub few : length (kept_globals w.globals) ≤ most_weight
+  pub bytes : flat_map (λ name. kept_bytes name (global_in w name)) names ≡ flat_map (λ (e : List ℕ × Meaning). object_bytes e.0 e.1) (kept_globals w.globals)
+
+pub are_by_names : (w : PlainWorkspace) (names : List (List ℕ)) → IsWorkspace w → names ≡ keys_of w.globals → AreByNames w names
+are_by_names w names h is =
+    let tells = tells_own w.globals h.ascending in
+    record {
+      count = ap length (ap (flat_map (λ name. kept name (global_in w name))) is ∙ by_names kept (told w.globals) w.globals tells);
+      few = omega (arith, few_kept w.globals, h.weight);
+      bytes = ap (flat_map (λ name. kept_bytes name (global_in w name))) is ∙ by_names kept_bytes (told w.globals) w.globals tells ∙ sym (bytes_kept w.globals);
+    }
