@@ -1,6 +1,15 @@
 pub mod ByNames
 pub mod Codes
 pub mod Ends
+pub mod Fields
+pub mod FunctionParts
 pub mod Lines
 pub mod Loops
+pub mod Numbers
+pub mod ObjectParts
+pub mod OfferParts
+pub mod Repeats
+pub mod SavedParts
 pub mod Shapes
+pub mod Told
+pub mod ValueParts

@@ -6,4 +6,6 @@ pub mod Offers
 pub mod Reading
 pub mod Saved
 pub mod SavedText
+pub mod Sound
 pub mod Values
+pub mod Worked

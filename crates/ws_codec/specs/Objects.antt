@@ -42,12 +42,16 @@ meaning_at Chars name weight rest = char_array_at weight rest >>= λ found. Ok (
 meaning_at Defined name weight rest = function_at name weight rest >>= λ found. Ok ((name, Function found.0), found.1)
 
 -- an object behind others: its kind, its name and what it is
-unfoldable pub next_object : NameTable → Reader NameTable
-next_object table rest = do
+unfoldable pub object_behind : NameTable → Reader (List ℕ × Meaning)
+object_behind table rest = do
   kind ← kind_at rest
   name ← name_at kind.1
   above ← keeps (is_above (last_name table) name.0) Order (length kind.1)
-  added table (meaning_at kind.0 name.0 (table_weight table) name.1)
+  meaning_at kind.0 name.0 (table_weight table) name.1
+
+-- the objects with one more
+abbrev pub next_object : NameTable → Reader NameTable
+next_object table rest = added table (object_behind table rest)
 
 -- how many objects, and the objects
 unfoldable pub objects_at : Reader NameTable

@@ -1,5 +1,5 @@
 -- Saved offers, in their order.
-use Rattle.std.specs.Prelude.{◌&&◌, ◌==◌, ◌++◌, ◌∷◌, [], ℕ, Bool, not, List, Ok, length, nat_le, unwrap_or}
+use Rattle.std.specs.Prelude.{◌&&◌, [], ℕ, Bool, not, List, Ok, length, nat_le, unwrap_or}
 use Rattle.std.specs.List.{list_any}
 use Rattle.apl_arrays.specs.Limits.{most_offers}
 use Rattle.apl_arrays.specs.Name.{same_name}
@@ -8,7 +8,7 @@ use Rattle.apl_workspace.specs.Workspace.{is_addressee}
 use Rattle.apl_workspace.specs.declared.meaning.Meaning.TheVariants.{Nothing}
 use Rattle.apl_workspace.specs.declared.remake.Remake.{Remake}
 use Rattle.ws_codec.specs.Fields.{byte_at, name_at, number_at}
-use Rattle.ws_codec.specs.Reading.{Reader, ◌>>=◌, keeps, repeated}
+use Rattle.ws_codec.specs.Reading.{Reader, ◌>>=◌, added, keeps, repeated}
 use Rattle.ws_codec.specs.declared.saved.SavedRule.TheVariants.{Limit, Offer}
 
 -- one of the offers is of this name
@@ -24,14 +24,18 @@ abbrev pub is_free : NameTable → List Remake → List ℕ → Bool
 is_free table offers name = not (is_offered offers name) && not (is_function_in table name)
 
 -- an offer behind others: its name here, its name for others, and for whom it is
-unfoldable pub next_offer : NameTable → List Remake → Reader (List Remake)
-next_offer table offers rest = do
+unfoldable pub offer_behind : NameTable → List Remake → Reader Remake
+offer_behind table offers rest = do
   local ← name_at rest
   free ← keeps (is_free table offers local.0) Offer (length rest)
   surrogate ← name_at local.1
   to ← number_at 4 surrogate.1
   addressed ← keeps (is_addressee to.0) Offer (length surrogate.1)
-  Ok (offers ++ record { local = local.0; surrogate = surrogate.0; to = to.0 } ∷ [], to.1)
+  Ok (record { local = local.0; surrogate = surrogate.0; to = to.0 }, to.1)
+
+-- the offers with one more
+abbrev pub next_offer : NameTable → List Remake → Reader (List Remake)
+next_offer table offers rest = added offers (offer_behind table offers rest)
 
 -- how many offers, and the offers
 unfoldable pub offers_at : NameTable → Reader (List Remake)

@@ -42,7 +42,7 @@ fn read_counted(alloc: Global, count: u32, cursor: &mut Cursor<'_>) -> Result<Wo
 }
 
 /// Reads an object behind others, of which the last has this name, and hands out its name.
-#[tactic(auto, unfolding(crate::specs::Objects::next_object))]
+#[tactic(auto, unfolding(crate::specs::Objects::object_behind))]
 fn add_object(
     alloc: Global,
     ws: &mut Workspace,

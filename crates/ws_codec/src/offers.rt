@@ -43,7 +43,7 @@ fn read_counted(
 }
 
 /// Reads an offer behind others.
-#[tactic(auto, unfolding(crate::specs::Offers::next_offer))]
+#[tactic(auto, unfolding(crate::specs::Offers::offer_behind))]
 fn add_offer(
     alloc: Global,
     ws: &Workspace,

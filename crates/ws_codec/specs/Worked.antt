@@ -1,0 +1,41 @@
+-- Worked bytes.
+use Rattle.std.specs.Prelude.{◌++◌, ◌∷◌, [], ℕ, List, Option, Some, pos, codes, slice_set}
+use Rattle.apl_arrays.specs.Array.{scalar}
+use Rattle.apl_workspace.specs.Meaning.{NameTable}
+use Rattle.apl_workspace.specs.Workspace.{PlainWorkspace}
+use Rattle.apl_workspace.specs.declared.meaning.Meaning.TheVariants.{Value, Shared}
+use Rattle.apl_workspace.specs.declared.remake.Remake.{Remake}
+
+-- X is 3
+abbrev pub three : NameTable
+three = (codes "X", Value (scalar (pos 3))) ∷ []
+
+-- X is offered to 1002
+abbrev pub offer_to : ℕ → Remake
+offer_to party = record { local = codes "X"; surrogate = codes "X"; to = party }
+
+-- X is 3 alone
+abbrev pub three_alone : PlainWorkspace
+three_alone = record { globals = three; frames = []; offers = []; printed = 0 }
+
+-- X is 3 and offered to 1002
+abbrev pub three_offered : PlainWorkspace
+three_offered = record { globals = (codes "X", Shared (Some (scalar (pos 3)))) ∷ []; frames = []; offers = offer_to 1002 ∷ []; printed = 0 }
+
+-- version 1 of X is 3
+abbrev pub first_bytes : List ℕ
+first_bytes =
+    0x41 ∷ 0x50 ∷ 0x4C ∷ 0x53 ∷ 0x01 ∷ 0x00 ∷ 0x00 ∷ 0x00 ∷ 0x01 ∷ 0x01 ∷ 0x01 ∷ 0x58
+    ∷ 0x00 ∷ 0x00 ∷ 0x00 ∷ 0x00 ∷ 0x00 ∷ 0x00 ∷ 0x00 ∷ 0x00 ∷ 0x03 ∷ []
+
+-- version 2 of it, up to the count of offers
+abbrev pub second_objects : List ℕ
+second_objects = slice_set first_bytes 4 0x02
+
+-- an offer of X as X, without its party
+abbrev pub offer_front : List ℕ
+offer_front = 0x01 ∷ 0x01 ∷ 0x58 ∷ 0x01 ∷ 0x58 ∷ 0x00 ∷ 0x00 ∷ []
+
+-- version 2 of X is 3, offered to 1002
+abbrev pub offered_bytes : List ℕ
+offered_bytes = second_objects ++ (offer_front ++ (0x03 ∷ 0xEA ∷ []))
