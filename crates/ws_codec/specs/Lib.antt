@@ -4,6 +4,7 @@ pub mod Kept
 pub mod Objects
 pub mod Offers
 pub mod Reading
+pub mod Rules
 pub mod Saved
 pub mod SavedText
 pub mod Sound

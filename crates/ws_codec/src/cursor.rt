@@ -49,8 +49,9 @@ impl<'a> Cursor<'a> {
         match self.rest {
             [] => Err(cut()),
             [byte, rest @ ..] => {
+                let byte = *byte;
                 self.rest = rest;
-                Ok(*byte)
+                Ok(byte)
             }
         }
     }
@@ -120,6 +121,7 @@ impl<'a> Cursor<'a> {
         let (field, rest) = bytes_at(count as usize, self.rest)?;
         let found = name_of_codes(alloc, field)?;
         self.rest = rest;
-        known(found, SavedRule::Name, left)
+        let name = known(found, SavedRule::Name, left)?;
+        Ok(name)
     }
 }

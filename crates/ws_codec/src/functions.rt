@@ -28,8 +28,8 @@ pub fn read_function(
     ensures light { IfOk result (λ function. weight + function_weight function ≤ most_weight) }
 {
     let (text, header) = read_header(alloc, name, weight + 1, cursor)?;
-    let weight = weight + 1 + text.as_slice().len();
-    let lines = read_lines(alloc, weight, cursor)?;
+    let before = weight + 1 + text.as_slice().len();
+    let lines = read_lines(alloc, before, cursor)?;
     Ok(Function::from_parts(alloc, text, header, lines)?)
 }
 

@@ -20,7 +20,7 @@ pub fn add_bytes(bytes: &mut Vec<u8>, field: &[u8]) -> Result<(), WantOfMemory>
 pub fn add_number16(bytes: &mut Vec<u8>, number: u16) -> Result<(), WantOfMemory>
     ensures { OnOk result (bytes.new.items ≡ bytes.old.items ++ big_bytes 2 number) }
 {
-    let mut field = [0; 2];
+    let mut field = [0u8; 2];
     BigEndian::write_u16(&mut field, number);
     add_bytes(bytes, &field)
 }
@@ -29,7 +29,7 @@ pub fn add_number16(bytes: &mut Vec<u8>, number: u16) -> Result<(), WantOfMemory
 pub fn add_number32(bytes: &mut Vec<u8>, number: u32) -> Result<(), WantOfMemory>
     ensures { OnOk result (bytes.new.items ≡ bytes.old.items ++ big_bytes 4 number) }
 {
-    let mut field = [0; 4];
+    let mut field = [0u8; 4];
     BigEndian::write_u32(&mut field, number);
     add_bytes(bytes, &field)
 }
@@ -38,7 +38,7 @@ pub fn add_number32(bytes: &mut Vec<u8>, number: u32) -> Result<(), WantOfMemory
 pub fn add_integer(bytes: &mut Vec<u8>, number: i64) -> Result<(), WantOfMemory>
     ensures { OnOk result (bytes.new.items ≡ bytes.old.items ++ big_bytes 8 (cast_unsigned w64 number)) }
 {
-    let mut field = [0; 8];
+    let mut field = [0u8; 8];
     BigEndian::write_i64(&mut field, number);
     add_bytes(bytes, &field)
 }

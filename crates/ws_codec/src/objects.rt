@@ -129,12 +129,12 @@ fn weight_of(ws: &Workspace) -> usize
 }
 
 /// Puts a variable behind all names, where its name is above the last.
-#[tactic(auto, using(crate::proofs::Ends::end_of_names))]
 fn put_value(ws: &mut Workspace, name: Name, value: Array) -> Result<(), WantOfMemory>
     requires plain { ws.old ≡ workspace_of ws.old.globals }
     requires above { is_above (last_name ws.old.globals) name ≡ true }
     requires light { table_weight ws.old.globals + value_weight value ≤ most_weight }
-    ensures value { OnOk result (ws.new ≡ workspace_of (ws.old.globals ++ (name, Meaning.Value value) ∷ [])) }
+    ensures globals { OnOk result (ws.new.globals ≡ ws.old.globals ++ (name, Meaning.Value value) ∷ []) }
+    ensures plain { OnOk result (ws.new ≡ workspace_of ws.new.globals) }
     ensures last { OnOk result (Some name ≡ last_name ws.new.globals) }
 {
     let _ = ws.weight();
@@ -146,14 +146,14 @@ fn put_value(ws: &mut Workspace, name: Name, value: Array) -> Result<(), WantOfM
 }
 
 /// Puts a function behind all names, where its name is above the last.
-#[tactic(auto, using(crate::proofs::Ends::end_of_names))]
 fn put_function(ws: &mut Workspace, name: Name, function: Function) -> Result<(), WantOfMemory>
     requires plain { ws.old ≡ workspace_of ws.old.globals }
     requires above { is_above (last_name ws.old.globals) name ≡ true }
     requires whole { IsFunction function }
     requires name { function.header.name ≡ name }
     requires light { table_weight ws.old.globals + function_weight function ≤ most_weight }
-    ensures value { OnOk result (ws.new ≡ workspace_of (ws.old.globals ++ (name, Meaning.Function function) ∷ [])) }
+    ensures globals { OnOk result (ws.new.globals ≡ ws.old.globals ++ (name, Meaning.Function function) ∷ []) }
+    ensures plain { OnOk result (ws.new ≡ workspace_of ws.new.globals) }
     ensures last { OnOk result (Some name ≡ last_name ws.new.globals) }
 {
     let _ = ws.weight();

@@ -1,3 +1,6 @@
+ghost use Rattle.std.specs.Prelude.{◌≡◌};
+ghost use Rattle.ws_codec.specs.Rules.{rule_text};
+
 use apl_workspace::{RemakeList, Workspace};
 use std::error::Error;
 use std::fmt;
@@ -39,6 +42,34 @@ pub enum SavedRule {
     Offer,
 }
 
+impl SavedRule {
+    /// The name of the rule. No memory.
+    pub fn text(self) -> &'static str
+        ensures { result.now ≡ rule_text self }
+    {
+        match self {
+            SavedRule::Magic => "magic",
+            SavedRule::Version => "version",
+            SavedRule::Kind => "kind",
+            SavedRule::Name => "name",
+            SavedRule::Order => "order",
+            SavedRule::Size => "size",
+            SavedRule::Glyph => "glyph",
+            SavedRule::Header => "header",
+            SavedRule::Limit => "limit",
+            SavedRule::Short => "short",
+            SavedRule::Rest => "rest",
+            SavedRule::Offer => "offer",
+        }
+    }
+}
+
+impl fmt::Display for SavedRule {
+    fn fmt<W: fmt::Write>(&self, f: &mut fmt::Formatter<W>) -> fmt::Result {
+        f.write_str(self.text())
+    }
+}
+
 /// Why bytes are not read as a saved workspace.
 #[derive(Clone, Copy, Debug, PartialEq, Eq)]
 pub enum CodecRefused {
@@ -52,7 +83,7 @@ impl fmt::Display for CodecRefused {
     fn fmt<W: fmt::Write>(&self, f: &mut fmt::Formatter<W>) -> fmt::Result {
         match self {
             CodecRefused::BadBytes { offset, rule } => {
-                write!(f, "byte {offset} of a saved workspace: {rule:?}")
+                write!(f, "{rule} at byte {offset}")
             }
             CodecRefused::WantOfMemory => f.write_str("out of memory"),
         }
