@@ -1,6 +1,6 @@
 -- What is kept of a workspace, by its names.
-use Rattle.std.proofs.Common.{◌≡◌, ℕ, ◌+◌, ◌<◌, ◌≤◌, Bool, true, false, List, [], ◌∷◌, ◌++◌, Option, Some, None, length, refl, sym, ap, ◌∙◌, length-append, arith}
-use Rattle.std.specs.Prelude.{unwrap_or}
+use Rattle.std.proofs.Common.{◌≡◌, ℕ, ◌+◌, ◌<◌, ◌≤◌, Bool, true, false, List, [], ◌∷◌, ◌++◌, Option, Some, None, length, refl, sym, ap, ◌∙◌, subst, length-append, arith}
+use Rattle.std.specs.Prelude.{IfSome, unwrap_or}
 use Rattle.std.specs.List.{AllByRecursion, flat_map}
 use Rattle.std.specs.List.Sorted.{IsStrictlySortedBy}
 use Rattle.std.specs.Map.{keys_of, lookup, values_of}
@@ -21,33 +21,36 @@ use Rattle.apl_workspace.proofs.NameLaw.{by_order, own_name}
 use Rattle.ws_codec.specs.Kept.{kept, kept_globals}
 use Rattle.ws_codec.specs.SavedText.{kept_bytes, object_bytes}
 
--- what stands by a name of a table
-abbrev pub told : NameTable → List ℕ → Meaning
-told table name = unwrap_or (meaning_in table name) Nothing
-
 -- a look-up tells what each name of a table stands for
-pub Tells : (List ℕ → Meaning) → NameTable → Type 0
+pub Tells : (List ℕ → Option Meaning) → NameTable → Type 0
 Tells look [] = Unit {0}
-Tells look (e ∷ es) = (look e.0 ≡ e.1) × Tells look es
+Tells look (e ∷ es) = (look e.0 ≡ Some e.1) × Tells look es
 
-passed : (e : List ℕ × Meaning) (all some : NameTable) → AllByRecursion (λ other. name_order e.0 other ≡ Less) (keys_of some) → Tells (told all) some → Tells (told (e ∷ all)) some
+passed : (e : List ℕ × Meaning) (all some : NameTable) → AllByRecursion (λ other. name_order e.0 other ≡ Less) (keys_of some) → Tells (meaning_in all) some → Tells (meaning_in (e ∷ all)) some
 unfolding Tells
 passed e all [] below tells = tt
 passed e all (f ∷ fs) below tells =
     let apart : same_name f.0 e.0 ≡ false = by_order f.0 e.0 ∙ ap is_eq (nat_list_cmp_total.antisymm f.0 e.0 ∙ ap ordering_reverse below.0) in
-    (ap (λ (o : Option Meaning). unwrap_or o Nothing) (lookup_tail (same_name f.0) e all apart) ∙ tells.0, passed e all fs below.1 tells.1)
+    (lookup_tail (same_name f.0) e all apart ∙ tells.0, passed e all fs below.1 tells.1)
 
 -- a table tells its own names
-pub tells_own : (table : NameTable) → IsStrictlySortedBy name_order (keys_of table) → Tells (told table) table
+pub tells_own : (table : NameTable) → IsStrictlySortedBy name_order (keys_of table) → Tells (meaning_in table) table
 unfolding Tells
 tells_own [] s = tt
 tells_own (e ∷ es) s =
-    (ap (λ (o : Option Meaning). unwrap_or o Nothing) (lookup_head (same_name e.0) e es (own_name e.0)), passed e es es (sorted_head name_order e.0 (keys_of es) s) (tells_own es (sorted_tail name_order e.0 (keys_of es) s)))
+    (lookup_head (same_name e.0) e es (own_name e.0), passed e es es (sorted_head name_order e.0 (keys_of es) s) (tells_own es (sorted_tail name_order e.0 (keys_of es) s)))
 
-pub by_names : {B : Type 0} (f : List ℕ → Meaning → List B) (look : List ℕ → Meaning) (table : NameTable) → Tells look table → flat_map (λ name. f name (look name)) (keys_of table) ≡ flat_map (λ (e : List ℕ × Meaning). f e.0 e.1) table
+-- what holds of all that is found holds of all entries
+pub each_holds : (P : List ℕ → Meaning → Type 0) (look : List ℕ → Option Meaning) (table : NameTable) → Tells look table → ((name : List ℕ) → IfSome (look name) (P name)) → AllByRecursion (λ (e : List ℕ × Meaning). P e.0 e.1) table
+unfolding Tells
+each_holds P look [] tells all = tt
+each_holds P look (e ∷ es) tells all = (subst (λ (o : Option Meaning). IfSome o (P e.0)) tells.0 (all e.0), each_holds P look es tells.1 all)
+
+pub by_names : {B : Type 0} (f : List ℕ → Meaning → List B) (look : List ℕ → Option Meaning) (table : NameTable) → Tells look table → flat_map (λ name. f name (unwrap_or (look name) Nothing)) (keys_of table) ≡ flat_map (λ (e : List ℕ × Meaning). f e.0 e.1) table
 unfolding Tells
 by_names f look [] tells = refl
-by_names f look (e ∷ es) tells = ap (λ m. f e.0 m ++ flat_map (λ name. f name (look name)) (keys_of es)) tells.0 ∙ ap (λ t. f e.0 e.1 ++ t) (by_names f look es tells.1)
+by_names f look (e ∷ es) tells =
+    ap (λ (o : Option Meaning). f e.0 (unwrap_or o Nothing) ++ flat_map (λ name. f name (unwrap_or (look name) Nothing)) (keys_of es)) tells.0 ∙ ap (λ t. f e.0 e.1 ++ t) (by_names f look es tells.1)
 
 -- the bytes of what is kept, name by name
 bytes_kept : (table : NameTable) → flat_map (λ (e : List ℕ × Meaning). object_bytes e.0 e.1) (kept_globals table) ≡ flat_map (λ (e : List ℕ × Meaning). kept_bytes e.0 e.1) table
@@ -78,7 +81,7 @@ pub are_by_names : (w : PlainWorkspace) (names : List (List ℕ)) → IsWorkspac
 are_by_names w names h is =
     let tells = tells_own w.globals h.ascending in
     record {
-      count = ap length (ap (flat_map (λ name. kept name (global_in w name))) is ∙ by_names kept (told w.globals) w.globals tells);
+      count = ap length (ap (flat_map (λ name. kept name (global_in w name))) is ∙ by_names kept (meaning_in w.globals) w.globals tells);
       few = omega (arith, few_kept w.globals, h.weight);
-      bytes = ap (flat_map (λ name. kept_bytes name (global_in w name))) is ∙ by_names kept_bytes (told w.globals) w.globals tells ∙ sym (bytes_kept w.globals);
+      bytes = ap (flat_map (λ name. kept_bytes name (global_in w name))) is ∙ by_names kept_bytes (meaning_in w.globals) w.globals tells ∙ sym (bytes_kept w.globals);
     }

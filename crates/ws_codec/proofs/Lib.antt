@@ -11,5 +11,7 @@ pub mod OfferParts
 pub mod Repeats
 pub mod SavedParts
 pub mod Shapes
+pub mod StorableNames
+pub mod StorableValues
 pub mod Told
 pub mod ValueParts

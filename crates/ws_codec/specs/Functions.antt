@@ -34,7 +34,7 @@ header_at name weight rest = do
 
 -- how many glyphs lines have
 abbrev pub glyph_count : List (List ℕ) → ℕ
-glyph_count lines = sum_by length lines
+glyph_count lines = sum_by (λ line. length line) lines
 
 -- a line behind others, and behind what weighs so much without their glyphs
 abbrev pub next_line : ℕ → List (List ℕ) → Reader (List (List ℕ))

@@ -8,5 +8,6 @@ pub mod Rules
 pub mod Saved
 pub mod SavedText
 pub mod Sound
+pub mod Storable
 pub mod Values
 pub mod Worked

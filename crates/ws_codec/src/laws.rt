@@ -2,9 +2,12 @@
 
 ghost use Rattle.std.specs.Prelude.{◌≡◌, ◌⊎◌, [], ℕ, Ok, List as ListOf};
 ghost use Rattle.apl_workspace.specs.Meaning.{NameTable};
+ghost use Rattle.apl_workspace.specs.Workspace.{IsWorkspace, PlainWorkspace};
+ghost use Rattle.ws_codec.specs.Kept.{kept_globals};
 ghost use Rattle.ws_codec.specs.Saved.{reading_of, saved_of};
-ghost use Rattle.ws_codec.specs.SavedText.{first_version, second_version};
+ghost use Rattle.ws_codec.specs.SavedText.{first_version, saved, second_version};
 ghost use Rattle.ws_codec.specs.Sound.{AreBytes, IsSound};
+ghost use Rattle.ws_codec.specs.Storable.{IsStorable};
 
 use apl_workspace::Remake;
 
@@ -19,4 +22,11 @@ pub fn what_is_saved_is_read()
 pub fn what_is_read_was_saved()
     ensures sound { (bytes : ListOf ℕ) (table : NameTable) (offers : ListOf Remake) → AreBytes bytes → reading_of bytes ≡ Ok (saved_of table offers) → IsSound table offers }
     ensures bytes { (bytes : ListOf ℕ) (table : NameTable) (offers : ListOf Remake) → AreBytes bytes → reading_of bytes ≡ Ok (saved_of table offers) → (bytes ≡ second_version table offers) ⊎ ((bytes ≡ first_version table) × (offers ≡ [])) }
+{}
+
+/// Each workspace whose values, texts and names are of the types of the program may be saved, and is read from its bytes
+/// as what is kept of it, with its offers. No memory.
+pub fn workspaces_may_be_saved()
+    ensures sound { (w : PlainWorkspace) → IsWorkspace w → IsStorable w → IsSound (kept_globals w.globals) w.offers }
+    ensures read { (w : PlainWorkspace) → IsWorkspace w → IsStorable w → reading_of (saved w) ≡ Ok (saved_of (kept_globals w.globals) w.offers) }
 {}
