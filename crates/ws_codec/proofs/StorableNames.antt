@@ -82,23 +82,27 @@ light_first front e es h = omega (arith, h.light, sum_by-cons meaning_weight e.1
 object_sound : (front : NameTable) (name : List ℕ) (meaning kept_as : Meaning) (es : NameTable) → MayFollow front ((name, meaning) ∷ es) → IsMeaning name (table_weight front) kept_as → IsObject front (name, kept_as)
 object_sound front name meaning kept_as es h is = record { name = h.entries.0.name; above = h.above.0; meaning = is }
 
+-- what holds of the entries behind, whatever stands before them
+abbrev Going : NameTable → Type 0
+Going es = (front : NameTable) → MayFollow front es → Follow IsObject front (kept_globals es)
+
+object_first : (front : NameTable) (name : List ℕ) (meaning : Meaning) (es : NameTable) → Going es → MayFollow front ((name, meaning) ∷ es) → Follow IsObject front (kept_globals ((name, meaning) ∷ es))
+object_first front name Nothing es go h = absurd h.globals.0
+object_first front name (Value value) es go h =
+    (object_sound front name (Value value) (Value value) es h (variable_sound (table_weight front) value h.entries.0.meaning (light_first front (name, Value value) es h)),
+    go (front ++ (name, Value value) ∷ []) (put_follows front (name, Value value) (Value value) es (omega arith) h))
+object_first front name (Function function) es go h =
+    (object_sound front name (Function function) (Function function) es h (function_sound name (table_weight front) function h.globals.0.0 h.globals.0.1 h.entries.0.meaning (light_first front (name, Function function) es h)),
+    go (front ++ (name, Function function) ∷ []) (put_follows front (name, Function function) (Function function) es (omega arith) h))
+object_first front name (Label line) es go h = absurd h.globals.0
+object_first front name (Shared None) es go h = go front (others_follow front (name, Shared None) es h)
+object_first front name (Shared (Some copy)) es go h =
+    (object_sound front name (Shared (Some copy)) (Value copy) es h (variable_sound (table_weight front) copy h.entries.0.meaning (light_first front (name, Shared (Some copy)) es h)),
+    go (front ++ (name, Value copy) ∷ []) (put_follows front (name, Shared (Some copy)) (Value copy) es (omega arith) h))
+
 objects_sound : (front table : NameTable) → MayFollow front table → Follow IsObject front (kept_globals table)
 objects_sound front [] h = tt
-objects_sound front (e ∷ es) h = by e.0 e.1 h
-  where
-    by : (name : List ℕ) (meaning : Meaning) → MayFollow front ((name, meaning) ∷ es) → Follow IsObject front (kept_globals ((name, meaning) ∷ es))
-    by name Nothing k = absurd k.globals.0
-    by name (Value value) k =
-        (object_sound front name (Value value) (Value value) es k (variable_sound (table_weight front) value k.entries.0.meaning (light_first front (name, Value value) es k)),
-        objects_sound (front ++ (name, Value value) ∷ []) es (put_follows front (name, Value value) (Value value) es (omega arith) k))
-    by name (Function function) k =
-        (object_sound front name (Function function) (Function function) es k (function_sound name (table_weight front) function k.globals.0.0 k.globals.0.1 k.entries.0.meaning (light_first front (name, Function function) es k)),
-        objects_sound (front ++ (name, Function function) ∷ []) es (put_follows front (name, Function function) (Function function) es (omega arith) k))
-    by name (Label line) k = absurd k.globals.0
-    by name (Shared None) k = objects_sound front es (others_follow front (name, Shared None) es k)
-    by name (Shared (Some copy)) k =
-        (object_sound front name (Shared (Some copy)) (Value copy) es k (variable_sound (table_weight front) copy k.entries.0.meaning (light_first front (name, Shared (Some copy)) es k)),
-        objects_sound (front ++ (name, Value copy) ∷ []) es (put_follows front (name, Shared (Some copy)) (Value copy) es (omega arith) k))
+objects_sound front (e ∷ es) h = object_first front e.0 e.1 es (λ before k. objects_sound before es k) h
 
 -- ---- names of functions
 
@@ -126,18 +130,19 @@ shared_kept name (Label line) rest shared none = absurd (false≢true shared)
 shared_kept name (Shared None) rest shared none = ap (λ (o : Option Meaning). is_function_meaning (unwrap_or o Nothing)) none
 shared_kept name (Shared (Some copy)) rest shared none = ap (λ (o : Option Meaning). is_function_meaning (unwrap_or o Nothing)) (lookup_head (same_name name) (name, Value copy) rest (own_name name))
 
+function_by : (e : List ℕ × Meaning) (es : NameTable) (name : List ℕ) (b : Bool) → same_name name e.0 ≡ b → Ascend (e ∷ es) → is_shared_in (e ∷ es) name ≡ true → (is_shared_in es name ≡ true → is_function_in (kept_globals es) name ≡ false) → is_function_in (kept_globals (e ∷ es)) name ≡ false
+function_by e es name true p s shared later =
+    let found : is_shared_meaning e.1 ≡ true = ap (λ (o : Option Meaning). is_shared_meaning (unwrap_or o Nothing)) (sym (lookup_head (same_name name) e es p)) ∙ shared in
+    let none = none_kept es e.0 (sorted_head name_order e.0 (keys_of es) s) in
+    ap (is_function_in (kept_globals (e ∷ es))) (equal_names name e.0 p) ∙ shared_kept e.0 e.1 (kept_globals es) found none
+function_by e es name false p s shared later =
+    let there : is_shared_in es name ≡ true = ap (λ (o : Option Meaning). is_shared_meaning (unwrap_or o Nothing)) (sym (lookup_tail (same_name name) e es p)) ∙ shared in
+    ap (λ (o : Option Meaning). is_function_meaning (unwrap_or o Nothing)) (kept_apart e.0 name e.1 (kept_globals es) p) ∙ later there
+
 pub no_function : (table : NameTable) (name : List ℕ) → Ascend table → is_shared_in table name ≡ true → is_function_in (kept_globals table) name ≡ false
 no_function [] name s shared = absurd (false≢true shared)
-no_function (e ∷ es) name s shared = by (same_name name e.0) refl
-  where
-    by : (b : Bool) → same_name name e.0 ≡ b → is_function_in (kept_globals (e ∷ es)) name ≡ false
-    by true p =
-        let found : is_shared_meaning e.1 ≡ true = ap (λ (o : Option Meaning). is_shared_meaning (unwrap_or o Nothing)) (sym (lookup_head (same_name name) e es p)) ∙ shared in
-        let none = none_kept es e.0 (sorted_head name_order e.0 (keys_of es) s) in
-        ap (is_function_in (kept_globals (e ∷ es))) (equal_names name e.0 p) ∙ shared_kept e.0 e.1 (kept_globals es) found none
-    by false p =
-        let later : is_shared_in es name ≡ true = ap (λ (o : Option Meaning). is_shared_meaning (unwrap_or o Nothing)) (sym (lookup_tail (same_name name) e es p)) ∙ shared in
-        ap (λ (o : Option Meaning). is_function_meaning (unwrap_or o Nothing)) (kept_apart e.0 name e.1 (kept_globals es) p) ∙ no_function es name (sorted_tail name_order e.0 (keys_of es) s) later
+no_function (e ∷ es) name s shared =
+    function_by e es name (same_name name e.0) refl s shared (λ there. no_function es name (sorted_tail name_order e.0 (keys_of es) s) there)
 
 -- ---- offers
 
