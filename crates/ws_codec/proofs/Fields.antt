@@ -43,9 +43,10 @@ bytes_there count xs rest len =
 bytes_by : (count : ℕ) (bytes xs rest : List ℕ) (b : Bool) → nat_le count (length bytes) ≡ b → (if b then tell (take count bytes) (drop count bytes) else Err cut) ≡ tell xs rest → (length xs ≡ count) × (bytes ≡ xs ++ rest)
 bytes_by count bytes xs rest true fits e =
     let front = same_first (take count bytes) (drop count bytes) xs rest e in
-    let behind = same_behind (take count bytes) (drop count bytes) xs rest e in
-    (ap length (sym front) ∙ length-take-le count bytes (leb-true count (length bytes) fits),
-    sym (take-append-drop count bytes) ∙ ap (λ (t : List ℕ). t ++ drop count bytes) front ∙ ap (λ (t : List ℕ). xs ++ t) behind)
+    let behind = same_behind (take count bytes) (drop count bytes) xs rest e in (
+      ap length (sym front) ∙ length-take-le count bytes (leb-true count (length bytes) fits),
+      sym (take-append-drop count bytes) ∙ ap (λ (t : List ℕ). t ++ drop count bytes) front ∙ ap (λ (t : List ℕ). xs ++ t) behind,
+    )
 bytes_by count bytes xs rest false fits e = absurd (let none : ⊥ = cc in none)
 
 pub bytes_back : (count : ℕ) (bytes xs rest : List ℕ) → bytes_at count bytes ≡ Ok (xs, rest) → (length xs ≡ count) × (bytes ≡ xs ++ rest)
@@ -73,9 +74,10 @@ number_back count bytes number rest are e =
     let field = bytes_back count bytes first.0.0 first.0.1 first.1 in
     let told = told_number count first.0.0 field.0 (front_bytes first.0.0 first.0.1 (subst AreBytes field.1 are)) in
     let same = same_first (big_number count first.0.0) first.0.1 number rest first.2 in
-    let behind = same_behind (big_number count first.0.0) first.0.1 number rest first.2 in
-    (subst (λ (n : ℕ). n < 256 ^ count) same told.0,
-    field.1 ∙ ap (λ (t : List ℕ). t ++ first.0.1) (sym told.1 ∙ ap (big_bytes count) same) ∙ ap (λ (t : List ℕ). big_bytes count number ++ t) behind)
+    let behind = same_behind (big_number count first.0.0) first.0.1 number rest first.2 in (
+      subst (λ (n : ℕ). n < 256 ^ count) same told.0,
+      field.1 ∙ ap (λ (t : List ℕ). t ++ first.0.1) (sym told.1 ∙ ap (big_bytes count) same) ∙ ap (λ (t : List ℕ). big_bytes count number ++ t) behind,
+    )
 
 -- numbers with a sign
 
@@ -100,9 +102,10 @@ integer_back bytes number rest are e =
     let fits : Fits w64 (big_number 8 first.0.0) = record { fits = told.0 } in
     let same = same_first (cast_signed w64 (big_number 8 first.0.0)) first.0.1 number rest first.2 in
     let behind = same_behind (cast_signed w64 (big_number 8 first.0.0)) first.0.1 number rest first.2 in
-    let again : big_number 8 first.0.0 ≡ cast_unsigned w64 number = sym (of_z-to_z w64 (big_number 8 first.0.0) fits) ∙ ap (cast_unsigned w64) same in
-    (subst (FitsSigned w64) same (to_z-Fits w64 (big_number 8 first.0.0) fits),
-    field.1 ∙ ap (λ (t : List ℕ). t ++ first.0.1) (sym told.1 ∙ ap (big_bytes 8) again) ∙ ap (λ (t : List ℕ). big_bytes 8 (cast_unsigned w64 number) ++ t) behind)
+    let again : big_number 8 first.0.0 ≡ cast_unsigned w64 number = sym (of_z-to_z w64 (big_number 8 first.0.0) fits) ∙ ap (cast_unsigned w64) same in (
+      subst (FitsSigned w64) same (to_z-Fits w64 (big_number 8 first.0.0) fits),
+      field.1 ∙ ap (λ (t : List ℕ). t ++ first.0.1) (sym told.1 ∙ ap (big_bytes 8) again) ∙ ap (λ (t : List ℕ). big_bytes 8 (cast_unsigned w64 number) ++ t) behind,
+    )
 
 -- codes of glyphs
 

@@ -42,12 +42,13 @@ line_back weight bytes line rest are e =
     let first = bind_ok (number_at 2 bytes) (λ count. keeps (is_within most_line_glyphs weight count.0) Limit (length bytes) >>= λ few. glyphs_at count.0 count.1) (line, rest) e in
     let count = number_back 2 bytes first.0.0 first.0.1 are first.1 in
     let few = after_keeps (is_within most_line_glyphs weight first.0.0) Limit (length bytes) (λ few. glyphs_at first.0.0 first.0.1) (line, rest) first.2 in
-    let glyphs = glyphs_back first.0.0 first.0.1 line rest few.1 in
-    (record {
-      within = ap (is_within most_line_glyphs weight) glyphs.0 ∙ few.0;
-      coded = glyphs.1;
-    },
-    count.1 ∙ ap (λ (t : List ℕ). big_bytes 2 first.0.0 ++ t) glyphs.2 ∙ ap (λ (n : ℕ). big_bytes 2 n ++ (line ++ rest)) (sym glyphs.0) ∙ sym (append_assoc (big_bytes 2 (length line)) line rest))
+    let glyphs = glyphs_back first.0.0 first.0.1 line rest few.1 in (
+      record {
+        within = ap (is_within most_line_glyphs weight) glyphs.0 ∙ few.0;
+        coded = glyphs.1;
+      },
+      count.1 ∙ ap (λ (t : List ℕ). big_bytes 2 first.0.0 ++ t) glyphs.2 ∙ ap (λ (n : ℕ). big_bytes 2 n ++ (line ++ rest)) (sym glyphs.0) ∙ sym (append_assoc (big_bytes 2 (length line)) line rest),
+    )
 
 -- headers
 
@@ -142,9 +143,11 @@ regrouped text lines rest =
 pub function_there : (name : List ℕ) (weight : ℕ) (function : PlainFunction) (rest : List ℕ) → IsDefined name weight function → function_at name weight (function_bytes function ++ rest) ≡ Ok (function, rest)
 unfolding function_at
 function_there name weight function rest h =
-    rw (regrouped function.text function.lines rest,
+    rw (
+      regrouped function.text function.lines rest,
       header_there name (weight + 1) function.text function.header (big_bytes 2 (length function.lines) ++ (flat_map line_bytes function.lines ++ rest)) h.text h.header h.named,
-      lines_there (weight + 1 + length function.text) function.lines rest h.count h.lines) refl
+      lines_there (weight + 1 + length function.text) function.lines rest h.count h.lines,
+    ) refl
 
 pub function_back : (name : List ℕ) (weight : ℕ) (bytes : List ℕ) (function : PlainFunction) (rest : List ℕ) → AreBytes bytes → function_at name weight bytes ≡ Ok (function, rest) → IsDefined name weight function × (bytes ≡ function_bytes function ++ rest)
 unfolding function_at

@@ -1,5 +1,5 @@
 -- Bytes of numbers are told by the numbers.
-use Rattle.std.proofs.Common.{◌≡◌, ℕ, zero, suc, ◌+◌, ◌*◌, ◌/◌, ◌%◌, ◌^◌, ◌<◌, ◌≤◌, List, [], ◌∷◌, ◌++◌, length, get_or, refl, sym, ap, ◌∙◌, append-nil, add-mul, mod-lt, mul-le-mul_right, inl, inr, arith}
+use Rattle.std.proofs.Common.{◌≡◌, ℕ, zero, suc, ◌+◌, ◌*◌, ◌/◌, ◌%◌, ◌^◌, ◌<◌, ◌≤◌, List, [], ◌∷◌, ◌++◌, length, get_or, refl, sym, ap, ◌∙◌, append-nil, add-mul, mod-lt, mul-le-mul_right, ◌⊎◌, inl, inr, arith}
 use Rattle.std.specs.Prelude.{slice_index}
 use Rattle.std.specs.Int.{byte_at, bytes_high_first}
 use Rattle.std.specs.List.{AllByRecursion}
@@ -36,15 +36,15 @@ above_not a b p m n lt below e =
     let more : (a + 1) * p ≤ b * p = mul-le-mul_right p (omega arith) in
     omega (arith, more, add-mul a 1 p, e, below)
 
+digits_by : (a b p m n : ℕ) → (a ≡ b) ⊎ ((a < b) ⊎ (b < a)) → m < p → n < p → a * p + m ≡ b * p + n → (a ≡ b) × (m ≡ n)
+digits_by a b p m n (inl same) below under e =
+    let product : a * p ≡ b * p = ap (λ (x : ℕ). x * p) same in
+    (same, omega (arith, product, e))
+digits_by a b p m n (inr (inl lt)) below under e = absurd (above_not a b p m n lt below e)
+digits_by a b p m n (inr (inr lt)) below under e = absurd (above_not b a p n m lt under (sym e))
+
 digits_same : (a b p m n : ℕ) → m < p → n < p → a * p + m ≡ b * p + n → (a ≡ b) × (m ≡ n)
-digits_same a b p m n below under e =
-    elim (cases_order a b) [
-      | inl same ↦
-          let product : a * p ≡ b * p = ap (λ (x : ℕ). x * p) same in
-          (same, omega (arith, product, e))
-      | inr (inl lt) ↦ absurd (above_not a b p m n lt below e)
-      | inr (inr lt) ↦ absurd (above_not b a p n m lt under (sym e))
-    ]
+digits_same a b p m n below under e = digits_by a b p m n (cases_order a b) below under e
 
 -- as many bytes of one number are the same
 big_same : (xs ys : List ℕ) → AreBytes xs → AreBytes ys → length xs ≡ length ys → big_from 0 (length xs) xs ≡ big_from 0 (length xs) ys → xs ≡ ys

@@ -33,23 +33,29 @@ bytes_of_object object = object_bytes object.0 object.1
 value_there : (front : NameTable) (name shape : List ℕ) (items : PlainItems) (rest : List ℕ) → IsObject front (name, Value (record { shape = shape; items = items })) → object_behind front (object_bytes name (Value (record { shape = shape; items = items })) ++ rest) ≡ Ok ((name, Value (record { shape = shape; items = items })), rest)
 unfolding object_behind kind_at byte_at known keeps meaning_at
 value_there front name shape (numbers list) rest h =
-    rw (append_assoc (name_bytes name) (array_bytes (record { shape = shape; items = numbers list })) rest,
+    rw (
+      append_assoc (name_bytes name) (array_bytes (record { shape = shape; items = numbers list })) rest,
       name_there name (array_bytes (record { shape = shape; items = numbers list }) ++ rest) h.name,
       h.above,
-      number_array_there (table_weight front) shape list rest h.meaning) refl
+      number_array_there (table_weight front) shape list rest h.meaning,
+    ) refl
 value_there front name shape (chars list) rest h =
-    rw (append_assoc (name_bytes name) (array_bytes (record { shape = shape; items = chars list })) rest,
+    rw (
+      append_assoc (name_bytes name) (array_bytes (record { shape = shape; items = chars list })) rest,
       name_there name (array_bytes (record { shape = shape; items = chars list }) ++ rest) h.name,
       h.above,
-      char_array_there (table_weight front) shape list rest h.meaning) refl
+      char_array_there (table_weight front) shape list rest h.meaning,
+    ) refl
 
 defined_there : (front : NameTable) (name : List ℕ) (function : PlainFunction) (rest : List ℕ) → IsObject front (name, Function function) → object_behind front (object_bytes name (Function function) ++ rest) ≡ Ok ((name, Function function), rest)
 unfolding object_behind kind_at byte_at known keeps meaning_at
 defined_there front name function rest h =
-    rw (append_assoc (name_bytes name) (function_bytes function) rest,
+    rw (
+      append_assoc (name_bytes name) (function_bytes function) rest,
       name_there name (function_bytes function ++ rest) h.name,
       h.above,
-      function_there name (table_weight front) function rest h.meaning) refl
+      function_there name (table_weight front) function rest h.meaning,
+    ) refl
 
 object_there : (front : NameTable) (name : List ℕ) (meaning : Meaning) (rest : List ℕ) → IsObject front (name, meaning) → object_behind front (object_bytes name meaning ++ rest) ≡ Ok ((name, meaning), rest)
 object_there front name Nothing rest h = absurd h.meaning
@@ -139,21 +145,24 @@ objects_back_one front bytes object rest are e =
     let byte = kind_back bytes kind.0.0 kind.0.1 kind.1 in
     let known_as = name_back kind.0.1 name.0.0 name.0.1 name.1 in
     let left = rest_bytes (name_bytes name.0.0) name.0.1 (subst AreBytes known_as.1 ((subst AreBytes byte are).1)) in
-    let meaning = meaning_back kind.0.0 name.0.0 (table_weight front) name.0.1 object rest left above.1 in
-    (record {
-      name = subst (λ (n : List ℕ). is_name n ≡ true) (sym meaning.named) known_as.0;
-      above = subst (λ (n : List ℕ). is_above (last_name front) n ≡ true) (sym meaning.named) above.0;
-      meaning = subst (λ (n : List ℕ). IsMeaning n (table_weight front) object.1) (sym meaning.named) meaning.meaning;
-    },
-    byte ∙ ap (λ (t : List ℕ). byte_of_kind kind.0.0 ∷ t) known_as.1 ∙ meaning.spelled ∙ ap (λ (n : List ℕ). object_bytes n object.1 ++ rest) (sym meaning.named))
+    let meaning = meaning_back kind.0.0 name.0.0 (table_weight front) name.0.1 object rest left above.1 in (
+      record {
+        name = subst (λ (n : List ℕ). is_name n ≡ true) (sym meaning.named) known_as.0;
+        above = subst (λ (n : List ℕ). is_above (last_name front) n ≡ true) (sym meaning.named) above.0;
+        meaning = subst (λ (n : List ℕ). IsMeaning n (table_weight front) object.1) (sym meaning.named) meaning.meaning;
+      },
+      byte ∙ ap (λ (t : List ℕ). byte_of_kind kind.0.0 ∷ t) known_as.1 ∙ meaning.spelled ∙ ap (λ (n : List ℕ). object_bytes n object.1 ++ rest) (sym meaning.named),
+    )
 
 -- all objects
 
 pub objects_there : (table : NameTable) (rest : List ℕ) → length table < 4294967296 → Follow IsObject [] table → objects_at (objects_bytes table ++ rest) ≡ Ok (table, rest)
 unfolding objects_at
 objects_there table rest count follow =
-    rw (append_assoc (big_bytes 4 (length table)) (flat_map bytes_of_object table) rest,
-      number_there 4 (length table) (flat_map bytes_of_object table ++ rest) count) (all_there object_behind bytes_of_object IsObject objects_there_one [] table rest follow)
+    rw (
+      append_assoc (big_bytes 4 (length table)) (flat_map bytes_of_object table) rest,
+      number_there 4 (length table) (flat_map bytes_of_object table ++ rest) count,
+    ) (all_there object_behind bytes_of_object IsObject objects_there_one [] table rest follow)
 
 pub record AreObjectsOf (bytes : List ℕ) (table : NameTable) (rest : List ℕ) : Type 0 where
   pub count : length table < 4294967296
@@ -173,5 +182,5 @@ objects_back bytes table rest are e =
       count = subst (λ (n : ℕ). n < 4294967296) many count.0;
       follow = subst (Follow IsObject []) same read.follow;
       spelled = count.1 ∙ ap (λ (n : ℕ). big_bytes 4 n ++ first.0.1) many ∙ ap (λ (t : List ℕ). big_bytes 4 (length table) ++ t) (read.spelled ∙ ap (λ (t : NameTable). flat_map bytes_of_object t ++ rest) same)
-        ∙ sym (append_assoc (big_bytes 4 (length table)) (flat_map bytes_of_object table) rest);
+          ∙ sym (append_assoc (big_bytes 4 (length table)) (flat_map bytes_of_object table) rest);
     }

@@ -35,12 +35,14 @@ module _ (table : NameTable) where
   one_there : IsThere (offer_behind table) offer_bytes (IsOffer table)
   unfolding offer_behind keeps
   one_there front offer rest h =
-      rw (regrouped offer rest,
+      rw (
+        regrouped offer rest,
         name_there offer.local (name_bytes offer.surrogate ++ (big_bytes 4 offer.to ++ rest)) h.local,
         h.free,
         name_there offer.surrogate (big_bytes 4 offer.to ++ rest) h.surrogate,
         number_there 4 offer.to rest (addressee_fits offer.to h.to),
-        h.to) refl
+        h.to,
+      ) refl
 
   one_back : IsBack (offer_behind table) offer_bytes (IsOffer table)
   unfolding offer_behind

@@ -66,16 +66,19 @@ version_back bytes version rest e =
 pub second_there : (table : NameTable) (offers : List Remake) → IsSound table offers → saved_at (second_version table offers) ≡ Ok (saved_of table offers)
 unfolding saved_at offers_of_version keeps
 second_there table offers h =
+    let front : version_at (second_version table offers) ≡ Ok (2, objects_bytes table ++ offers_bytes offers) = version_there 2 (objects_bytes table ++ offers_bytes offers) refl in
+    let objects : objects_at (objects_bytes table ++ offers_bytes offers) ≡ Ok (table, offers_bytes offers) = objects_there table (offers_bytes offers) h.count h.objects in
     let end : offers_bytes offers ≡ offers_bytes offers ++ [] = sym (append-nil (offers_bytes offers)) in
-    rw (version_there 2 (objects_bytes table ++ offers_bytes offers) refl,
-      objects_there table (offers_bytes offers) h.count h.objects,
-      ap (offers_at table) end ∙ offers_there table offers [] h.few h.offers) refl
+    let last : offers_at table (offers_bytes offers) ≡ Ok (offers, []) = ap (offers_at table) end ∙ offers_there table offers [] h.few h.offers in
+    rw (front, objects, last) refl
 
 pub first_there : (table : NameTable) → IsSound table [] → saved_at (first_version table) ≡ Ok (saved_of table [])
 unfolding saved_at offers_of_version keeps
 first_there table h =
+    let front : version_at (first_version table) ≡ Ok (1, objects_bytes table) = version_there 1 (objects_bytes table) refl in
     let end : objects_bytes table ≡ objects_bytes table ++ [] = sym (append-nil (objects_bytes table)) in
-    rw (version_there 1 (objects_bytes table) refl, ap objects_at end ∙ objects_there table [] h.count h.objects) refl
+    let objects : objects_at (objects_bytes table) ≡ Ok (table, []) = ap objects_at end ∙ objects_there table [] h.count h.objects in
+    rw (front, objects) refl
 
 -- what was read of the offers of a version
 pub record AreVersionOffers (version : ℕ) (table : NameTable) (bytes : List ℕ) (offers : List Remake) (rest : List ℕ) : Type 0 where

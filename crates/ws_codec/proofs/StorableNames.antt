@@ -88,17 +88,20 @@ Going es = (front : NameTable) → MayFollow front es → Follow IsObject front 
 
 object_first : (front : NameTable) (name : List ℕ) (meaning : Meaning) (es : NameTable) → Going es → MayFollow front ((name, meaning) ∷ es) → Follow IsObject front (kept_globals ((name, meaning) ∷ es))
 object_first front name Nothing es go h = absurd h.globals.0
-object_first front name (Value value) es go h =
-    (object_sound front name (Value value) (Value value) es h (variable_sound (table_weight front) value h.entries.0.meaning (light_first front (name, Value value) es h)),
-    go (front ++ (name, Value value) ∷ []) (put_follows front (name, Value value) (Value value) es (omega arith) h))
-object_first front name (Function function) es go h =
-    (object_sound front name (Function function) (Function function) es h (function_sound name (table_weight front) function h.globals.0.0 h.globals.0.1 h.entries.0.meaning (light_first front (name, Function function) es h)),
-    go (front ++ (name, Function function) ∷ []) (put_follows front (name, Function function) (Function function) es (omega arith) h))
+object_first front name (Value value) es go h = (
+  object_sound front name (Value value) (Value value) es h (variable_sound (table_weight front) value h.entries.0.meaning (light_first front (name, Value value) es h)),
+  go (front ++ (name, Value value) ∷ []) (put_follows front (name, Value value) (Value value) es (omega arith) h),
+)
+object_first front name (Function function) es go h = (
+  object_sound front name (Function function) (Function function) es h (function_sound name (table_weight front) function h.globals.0.0 h.globals.0.1 h.entries.0.meaning (light_first front (name, Function function) es h)),
+  go (front ++ (name, Function function) ∷ []) (put_follows front (name, Function function) (Function function) es (omega arith) h),
+)
 object_first front name (Label line) es go h = absurd h.globals.0
 object_first front name (Shared None) es go h = go front (others_follow front (name, Shared None) es h)
-object_first front name (Shared (Some copy)) es go h =
-    (object_sound front name (Shared (Some copy)) (Value copy) es h (variable_sound (table_weight front) copy h.entries.0.meaning (light_first front (name, Shared (Some copy)) es h)),
-    go (front ++ (name, Value copy) ∷ []) (put_follows front (name, Shared (Some copy)) (Value copy) es (omega arith) h))
+object_first front name (Shared (Some copy)) es go h = (
+  object_sound front name (Shared (Some copy)) (Value copy) es h (variable_sound (table_weight front) copy h.entries.0.meaning (light_first front (name, Shared (Some copy)) es h)),
+  go (front ++ (name, Value copy) ∷ []) (put_follows front (name, Shared (Some copy)) (Value copy) es (omega arith) h),
+)
 
 objects_sound : (front table : NameTable) → MayFollow front table → Follow IsObject front (kept_globals table)
 objects_sound front [] h = tt
@@ -171,14 +174,15 @@ module _ (globals : NameTable) (s : Ascend globals) where
   offers_sound front [] new differ names shared to = tt
   offers_sound front (o ∷ list) new differ names shared to =
       let parts = and_parts (not (list_any (same_name o.local) (names_offered list))) (all_differ (names_offered list)) differ in
-      let apart = not-true (list_any (same_name o.local) (names_offered list)) parts.0 in
-      (record {
-        local = names.0.local;
-        free = free_from (kept_globals globals) front o.local new.0 (no_function globals o.local s shared.0);
-        surrogate = names.0.surrogate;
-        to = to.0;
-      },
-      offers_sound (front ++ o ∷ []) list (new_put front list o new.1 apart) parts.1 names.1 shared.1 to.1)
+      let apart = not-true (list_any (same_name o.local) (names_offered list)) parts.0 in (
+        record {
+          local = names.0.local;
+          free = free_from (kept_globals globals) front o.local new.0 (no_function globals o.local s shared.0);
+          surrogate = names.0.surrogate;
+          to = to.0;
+        },
+        offers_sound (front ++ o ∷ []) list (new_put front list o new.1 apart) parts.1 names.1 shared.1 to.1,
+      )
 
 all_new : (list : List Remake) → AreNew [] list
 all_new [] = tt
@@ -196,17 +200,17 @@ workspace_sound w h stored =
     record {
       count = omega (arith, few, h.weight);
       objects =
-        objects_sound [] w.globals
-        (record {
-          ascend = h.ascending;
-          above = all_above w.globals;
-          entries = recursion_from_All IsEntry w.globals stored.globals;
-          globals = each_holds IsGlobal (meaning_in w.globals) w.globals (tells_own w.globals h.ascending) h.globals;
-          light = omega (arith, h.weight);
-        });
+          objects_sound [] w.globals
+          (record {
+            ascend = h.ascending;
+            above = all_above w.globals;
+            entries = recursion_from_All IsEntry w.globals stored.globals;
+            globals = each_holds IsGlobal (meaning_in w.globals) w.globals (tells_own w.globals h.ascending) h.globals;
+            light = omega (arith, h.weight);
+          });
       few = le-leb (length w.offers) 64 h.offers.count;
       offers =
-        offers_sound w.globals h.ascending [] w.offers (all_new w.offers) h.offers.differ (recursion_from_All HasNames w.offers stored.offers)
-        (recursion_from_All (λ (o : Remake). is_shared_in w.globals o.local ≡ true) w.offers h.offers.shared)
-        (recursion_from_All (λ (o : Remake). is_addressee o.to ≡ true) w.offers h.offers.addressees);
+          offers_sound w.globals h.ascending [] w.offers (all_new w.offers) h.offers.differ (recursion_from_All HasNames w.offers stored.offers)
+          (recursion_from_All (λ (o : Remake). is_shared_in w.globals o.local ≡ true) w.offers h.offers.shared)
+          (recursion_from_All (λ (o : Remake). is_addressee o.to ≡ true) w.offers h.offers.addressees);
     }

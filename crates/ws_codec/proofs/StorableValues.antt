@@ -50,9 +50,10 @@ lines_sound : (base : ℕ) (front list : List (List ℕ)) → AllByRecursion (λ
 lines_sound base front [] short coded light = tt
 lines_sound base front (line ∷ list) short coded light =
     let sum = sum_by-cons (λ (l : List ℕ). length l) line list in
-    let push = glyphs_push front line in
-    (record { within = within most_line_glyphs (base + glyph_count front) (length line) short.0 (omega (arith, sum, light)); coded = coded.0 },
-    lines_sound base (front ++ line ∷ []) list short.1 coded.1 (omega (arith, sum, push, light)))
+    let push = glyphs_push front line in (
+      record { within = within most_line_glyphs (base + glyph_count front) (length line) short.0 (omega (arith, sum, light)); coded = coded.0 },
+      lines_sound base (front ++ line ∷ []) list short.1 coded.1 (omega (arith, sum, push, light)),
+    )
 
 -- a function
 pub function_sound : (name : List ℕ) (weight : ℕ) (function : PlainFunction) → IsFunction function → function.header.name ≡ name → IsSpelled function → weight + function_weight function ≤ most_weight → IsDefined name weight function
@@ -65,6 +66,6 @@ function_sound name weight function is named spelled light =
       named = named;
       count = within most_function_lines (weight + 1 + length function.text) (length function.lines) is.count (omega (arith, sum, light));
       lines =
-        lines_sound (weight + 1 + length function.text + length function.lines) [] function.lines (recursion_from_All (λ (line : List ℕ). length line ≤ 1000) function.lines is.lines)
-        (recursion_from_All IsCoded function.lines spelled.lines) (omega (arith, sum, light));
+          lines_sound (weight + 1 + length function.text + length function.lines) [] function.lines (recursion_from_All (λ (line : List ℕ). length line ≤ 1000) function.lines is.lines)
+          (recursion_from_All IsCoded function.lines spelled.lines) (omega (arith, sum, light));
     }

@@ -70,14 +70,15 @@ shape_back weight bytes shape rest are e =
     let axes = all_back (λ front. axis_at) (big_bytes 4) SmallAxis axis_back first.0.0 [] first.0.1 read.0.0 read.0.1 ((subst AreBytes one are).1) read.1 in
     let list : axes.list ≡ shape = sym axes.whole ∙ same in
     let rank : first.0.0 ≡ length shape = sym axes.many ∙ ap length list in
-    let spelled : first.0.1 ≡ flat_map (big_bytes 4) shape ++ rest = axes.spelled ∙ ap (λ (t : List ℕ). flat_map (big_bytes 4) t ++ read.0.1) list ∙ ap (λ (t : List ℕ). flat_map (big_bytes 4) shape ++ t) behind in
-    (record {
-      rank = ap (λ (n : ℕ). nat_le n 8) (sym rank) ∙ few.0;
-      axes = subst (Follow SmallAxis []) list axes.follow;
-      whole = ap (λ (t : List ℕ). is_none (shape_fault t)) (sym same) ∙ small.0;
-      light = ap (λ (t : List ℕ). nat_le (weight + (1 + element_count t)) most_weight) (sym same) ∙ light.0;
-    },
-    one ∙ (λ i. rank i ∷ spelled i))
+    let spelled : first.0.1 ≡ flat_map (big_bytes 4) shape ++ rest = axes.spelled ∙ ap (λ (t : List ℕ). flat_map (big_bytes 4) t ++ read.0.1) list ∙ ap (λ (t : List ℕ). flat_map (big_bytes 4) shape ++ t) behind in (
+      record {
+        rank = ap (λ (n : ℕ). nat_le n 8) (sym rank) ∙ few.0;
+        axes = subst (Follow SmallAxis []) list axes.follow;
+        whole = ap (λ (t : List ℕ). is_none (shape_fault t)) (sym same) ∙ small.0;
+        light = ap (λ (t : List ℕ). nat_le (weight + (1 + element_count t)) most_weight) (sym same) ∙ light.0;
+      },
+      one ∙ (λ i. rank i ∷ spelled i),
+    )
 
 -- numbers
 

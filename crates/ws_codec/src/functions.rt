@@ -56,11 +56,7 @@ fn read_header(
 }
 
 /// The header that a line is, where it is one of this name.
-fn header_named(
-    alloc: Global,
-    name: &Name,
-    text: &Line,
-) -> Result<Option<Header>, WantOfMemory>
+fn header_named(alloc: Global, name: &Name, text: &Line) -> Result<Option<Header>, WantOfMemory>
     ensures value { IfOk result (λ header. header ≡ header_named name.now (header_of text.now.items)) }
     ensures header { IfOk result (λ found. IfSome found (λ header. header_of text.now.items ≡ Some header)) }
     ensures name { IfOk result (λ found. IfSome found (λ header. header.name ≡ name.now)) }

@@ -15,9 +15,9 @@ mod saved;
 mod unread;
 mod values;
 pub mod worked;
+mod writing;
 mod written_objects;
 mod written_values;
-mod writing;
 
 pub use reading::read;
 pub use saved::{CodecRefused, Saved, SavedRule};

@@ -82,9 +82,7 @@ pub enum CodecRefused {
 impl fmt::Display for CodecRefused {
     fn fmt<W: fmt::Write>(&self, f: &mut fmt::Formatter<W>) -> fmt::Result {
         match self {
-            CodecRefused::BadBytes { offset, rule } => {
-                write!(f, "{rule} at byte {offset}")
-            }
+            CodecRefused::BadBytes { offset, rule } => { write!(f, "{rule} at byte {offset}") }
             CodecRefused::WantOfMemory => f.write_str("out of memory"),
         }
     }

@@ -62,7 +62,11 @@ fn read_shape(alloc: Global, weight: usize, cursor: &mut Cursor<'_>) -> Result<L
     keeps(rank as usize <= RANK_LIMIT, SavedRule::Size, left)?;
     let axes = read_axes(alloc, cursor, rank)?;
     let last = at_last_axis(axes.as_slice(), cursor.left());
-    keeps(shape_fault(axes.as_slice()).is_none(), SavedRule::Size, last)?;
+    keeps(
+        shape_fault(axes.as_slice()).is_none(),
+        SavedRule::Size,
+        last,
+    )?;
     let count = count_in(axes.as_slice());
     keeps(weight + (1 + count) <= WEIGHT_LIMIT, SavedRule::Limit, last)?;
     Ok(axes)
@@ -124,11 +128,7 @@ fn read_axis(cursor: &mut Cursor<'_>) -> Result<u32, Unread>
 
 /// Reads so many numbers, which are one field: where they are cut no memory is taken for them.
 #[tactic(auto, unfolding(crate::specs::Values::numbers_at))]
-fn read_numbers(
-    alloc: Global,
-    cursor: &mut Cursor<'_>,
-    count: usize,
-) -> Result<List<i64>, Unread>
+fn read_numbers(alloc: Global, cursor: &mut Cursor<'_>, count: usize) -> Result<List<i64>, Unread>
     requires { count ≤ most_elements }
     ensures value { Gives (λ numbers. (numbers.items, cursor.new)) result (numbers_at count cursor.old) }
     ensures count { IfOk result (λ numbers. length numbers.items ≡ count) }
@@ -139,11 +139,7 @@ fn read_numbers(
 }
 
 /// Reads so many numbers, one behind another.
-fn read_integers(
-    alloc: Global,
-    cursor: &mut Cursor<'_>,
-    count: usize,
-) -> Result<List<i64>, Unread>
+fn read_integers(alloc: Global, cursor: &mut Cursor<'_>, count: usize) -> Result<List<i64>, Unread>
     ensures value { Gives (λ numbers. (numbers.items, cursor.new)) result (repeated next_integer count [] cursor.old) }
     ensures count { IfOk result (λ numbers. length numbers.items ≡ count) }
 {

@@ -1,5 +1,4 @@
 use Rattle.std.proofs.Common.{◌≡◌, ◌++◌, take}
-
 use Rattle.ws_codec.proofs.codes.add_codes.Given as goal
 
 abbrev pub invariant-loop-glyph : goal.invariant-loop-glyph
