@@ -141,7 +141,8 @@ fn read_counted_lines(
     let mut lines = LineList::new(alloc);
     let mut total = weight + count as usize;
     for _ in 0..count {
-        total = add_line(alloc, total, &mut lines, cursor)?;
+        let after = add_line(alloc, total, &mut lines, cursor)?;
+        total = after;
     }
     Ok(lines)
 }
