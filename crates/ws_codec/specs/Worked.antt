@@ -1,5 +1,5 @@
 -- Worked bytes.
-use Rattle.std.specs.Prelude.{◌++◌, ◌∷◌, [], ℕ, List, Option, Some, pos, codes, slice_set}
+use Rattle.std.specs.Prelude.{◌++◌, ◌∷◌, [], ℕ, List, Option, Some, pos, codes, slice_set, take}
 use Rattle.apl_arrays.specs.Array.{scalar}
 use Rattle.apl_workspace.specs.Meaning.{NameTable}
 use Rattle.apl_workspace.specs.Workspace.{PlainWorkspace}
@@ -31,6 +31,22 @@ first_bytes =
 -- version 2 of it, up to the count of offers
 abbrev pub second_objects : List ℕ
 second_objects = slice_set first_bytes 4 0x02
+
+-- version 1 of a variable X of numbers, up to its rank
+abbrev pub up_to_rank : List ℕ
+up_to_rank = take 12 first_bytes
+
+-- version 1 of a character X, up to the character
+abbrev pub up_to_character : List ℕ
+up_to_character = slice_set (take 13 first_bytes) 9 0x02
+
+-- version 1 of two objects X, of which the second ends behind its name
+abbrev pub twice : List ℕ
+twice = slice_set first_bytes 8 0x02 ++ (0x01 ∷ 0x01 ∷ 0x58 ∷ [])
+
+-- an axis of 200
+abbrev pub two_hundred : List ℕ
+two_hundred = 0x00 ∷ 0x00 ∷ 0x00 ∷ 0xC8 ∷ []
 
 -- an offer of X as X, without its party
 abbrev pub offer_front : List ℕ

@@ -1,9 +1,9 @@
 //! Worked bytes, right ones and wrong ones. The calls do nothing.
 
-ghost use Rattle.std.specs.Prelude.{◌≡◌, ◌++◌, ◌∷◌, [], Ok, Some, slice_set, take};
+ghost use Rattle.std.specs.Prelude.{◌≡◌, ◌++◌, ◌∷◌, [], None, Ok, Some, slice_set, take};
 ghost use Rattle.ws_codec.specs.Saved.{reading_of, saved_of, spoils};
 ghost use Rattle.ws_codec.specs.SavedText.{saved, saved1};
-ghost use Rattle.ws_codec.specs.Worked.{first_bytes, offer_front, offer_to, offered_bytes, second_objects, three, three_alone, three_offered};
+ghost use Rattle.ws_codec.specs.Worked.{first_bytes, offer_front, offer_to, offered_bytes, second_objects, three, three_alone, three_offered, twice, two_hundred, up_to_character, up_to_rank};
 
 use crate::SavedRule;
 
@@ -32,5 +32,10 @@ pub fn worked_mistakes()
     ensures rest { spoils (first_bytes ++ 0 ∷ []) ≡ Some (21, SavedRule.Rest) }
     ensures offers { spoils (second_objects ++ 65 ∷ []) ≡ Some (21, SavedRule.Limit) }
     ensures party { spoils (second_objects ++ (offer_front ++ (0x03 ∷ 0x01 ∷ []))) ≡ Some (26, SavedRule.Offer) }
+    ensures order { spoils twice ≡ Some (22, SavedRule.Order) }
+    ensures glyph { spoils (up_to_character ++ 0x7F ∷ []) ≡ Some (13, SavedRule.Glyph) }
+    ensures axis { spoils (up_to_rank ++ 1 ∷ 0 ∷ 0 ∷ 0x40 ∷ 1 ∷ []) ≡ Some (13, SavedRule.Size) }
+    ensures product { spoils (up_to_rank ++ 2 ∷ two_hundred ++ two_hundred) ≡ Some (17, SavedRule.Size) }
+    ensures no_mistake { spoils (up_to_rank ++ 3 ∷ two_hundred ++ two_hundred ++ 0 ∷ 0 ∷ 0 ∷ 0 ∷ []) ≡ None }
     ensures no_offers { spoils second_objects ≡ Some (21, SavedRule.Short) }
 {}

@@ -9,4 +9,4 @@ use Rattle.ws_codec.proofs.worked.worked_mistakes.Goals as goal
 
 pub returns : goal.returns
 unfolding byte_at bytes_at same_at number_at integer_at glyphs_at name_at keeps known repeated axis_at shape_at numbers_at number_array_at char_array_at kind_at meaning_at object_behind objects_at offer_behind offers_at version_at offers_of_version saved_at
-returns c = record { magic = refl; version = refl; kind = refl; name = refl; size = refl; cut = refl; rest = refl; offers = refl; party = refl; no_offers = refl }
+returns c = record { magic = refl; version = refl; kind = refl; name = refl; size = refl; cut = refl; rest = refl; offers = refl; party = refl; order = refl; glyph = refl; axis = refl; product = refl; no_mistake = refl; no_offers = refl }
