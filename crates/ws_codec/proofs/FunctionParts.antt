@@ -16,8 +16,8 @@ use Rattle.ws_codec.specs.Reading.{Reader, Reading, ◌>>=◌, keeps, known, rep
 use Rattle.ws_codec.specs.SavedText.{function_bytes, line_bytes}
 use Rattle.ws_codec.specs.Sound.{AreBytes, Follow, IsDefined, IsLine}
 use Rattle.ws_codec.specs.declared.saved.SavedRule.TheVariants.{Header, Limit}
-use Rattle.ws_codec.proofs.Fields.{glyphs_back, glyphs_there, number_back, number_there}
-use Rattle.ws_codec.proofs.Numbers.{rest_bytes}
+use Rattle.ws_codec.proofs.FieldParts.{glyphs_back, glyphs_there, number_back, number_there}
+use Rattle.ws_codec.proofs.NumberParts.{rest_bytes}
 use Rattle.ws_codec.proofs.Repeats.{AreBehind, IsBack, IsThere, all_back, all_there}
 use Rattle.ws_codec.proofs.Told.{after_keeps, after_known, bind_ok, same_behind, same_first, tell}
 

@@ -1,11 +1,11 @@
 pub mod ByNames
-pub mod Codes
+pub mod CodeLemmas
 pub mod Ends
-pub mod Fields
+pub mod FieldParts
 pub mod FunctionParts
 pub mod Lines
 pub mod Loops
-pub mod Numbers
+pub mod NumberParts
 pub mod ObjectParts
 pub mod OfferParts
 pub mod Repeats

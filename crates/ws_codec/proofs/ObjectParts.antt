@@ -19,9 +19,9 @@ use Rattle.ws_codec.specs.Values.{char_array_at, number_array_at}
 use Rattle.ws_codec.specs.declared.kind.Kind.{Kind}
 use Rattle.ws_codec.specs.declared.kind.Kind.TheVariants.{Numbers, Chars, Defined}
 use Rattle.ws_codec.specs.declared.saved.SavedRule.TheVariants.{Kind as KindRule, Order}
-use Rattle.ws_codec.proofs.Fields.{byte_back, name_back, name_there, number_back, number_there}
+use Rattle.ws_codec.proofs.FieldParts.{byte_back, name_back, name_there, number_back, number_there}
 use Rattle.ws_codec.proofs.FunctionParts.{function_back, function_there}
-use Rattle.ws_codec.proofs.Numbers.{rest_bytes}
+use Rattle.ws_codec.proofs.NumberParts.{rest_bytes}
 use Rattle.ws_codec.proofs.Repeats.{AreBehind, IsBack, IsThere, all_back, all_there}
 use Rattle.ws_codec.proofs.Told.{after_keeps, after_known, bind_ok, same_behind, same_first, tell}
 use Rattle.ws_codec.proofs.ValueParts.{IsVariableOf, char_array_back, char_array_there, number_array_back, number_array_there}
@@ -69,7 +69,7 @@ objects_there_one front object rest h = object_there front object.0 object.1 res
 
 -- kinds
 
-byte_of_kind : Kind → ℕ
+pub byte_of_kind : Kind → ℕ
 byte_of_kind Numbers = 1
 byte_of_kind Chars = 2
 byte_of_kind Defined = 3

@@ -15,8 +15,8 @@ use Rattle.ws_codec.specs.Reading.{Reader, Reading, ◌>>=◌, keeps, repeated}
 use Rattle.ws_codec.specs.SavedText.{name_bytes, offer_bytes, offers_bytes}
 use Rattle.ws_codec.specs.Sound.{AreBytes, Follow, IsOffer}
 use Rattle.ws_codec.specs.declared.saved.SavedRule.TheVariants.{Limit, Offer}
-use Rattle.ws_codec.proofs.Fields.{byte_back, name_back, name_there, number_back, number_there}
-use Rattle.ws_codec.proofs.Numbers.{rest_bytes}
+use Rattle.ws_codec.proofs.FieldParts.{byte_back, name_back, name_there, number_back, number_there}
+use Rattle.ws_codec.proofs.NumberParts.{rest_bytes}
 use Rattle.ws_codec.proofs.Repeats.{AreBehind, IsBack, IsThere, all_back, all_there}
 use Rattle.ws_codec.proofs.Told.{after_keeps, bind_ok, same_behind, same_first, tell}
 

@@ -3,7 +3,7 @@ use Rattle.std.proofs.Common.{◌≡◌, ℕ, zero, suc, ◌+◌, List, [], ◌�
 use Rattle.std.specs.List.{flat_map}
 use Rattle.ws_codec.specs.Reading.{Reader, Reading, ◌>>=◌, added, repeated}
 use Rattle.ws_codec.specs.Sound.{AreBytes, Follow}
-use Rattle.ws_codec.proofs.Numbers.{rest_bytes}
+use Rattle.ws_codec.proofs.NumberParts.{rest_bytes}
 use Rattle.ws_codec.proofs.Told.{bind_ok, same_behind, same_first, tell}
 
 -- a thing behind others is read of its bytes

@@ -17,8 +17,8 @@ use Rattle.ws_codec.specs.Sound.{AreBytes, Follow, IsOffer, IsSound}
 use Rattle.ws_codec.specs.declared.saved.SavedRule.{SavedRule}
 use Rattle.ws_codec.specs.declared.saved.SavedRule.TheVariants.{Magic, Rest, Version}
 use Rattle.ws_codec.specs.declared.unread.Flaw.{Flaw}
-use Rattle.ws_codec.proofs.Fields.{byte_back, bytes_back, bytes_there}
-use Rattle.ws_codec.proofs.Numbers.{rest_bytes}
+use Rattle.ws_codec.proofs.FieldParts.{byte_back, bytes_back, bytes_there}
+use Rattle.ws_codec.proofs.NumberParts.{rest_bytes}
 use Rattle.ws_codec.proofs.ObjectParts.{objects_back, objects_there}
 use Rattle.ws_codec.proofs.OfferParts.{AreOffersOf, offers_back, offers_there}
 use Rattle.ws_codec.proofs.Told.{after_keeps, bind_ok, same_behind, same_first, tell}

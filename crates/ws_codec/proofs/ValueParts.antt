@@ -14,8 +14,8 @@ use Rattle.ws_codec.specs.SavedText.{array_bytes, items_bytes, kind_byte}
 use Rattle.ws_codec.specs.Sound.{AreBytes, AreItems, Follow, IsVariable}
 use Rattle.ws_codec.specs.Values.{at_last_axis, axis_at, char_array_at, next_axis, next_integer, number_array_at, numbers_at, shape_at}
 use Rattle.ws_codec.specs.declared.saved.SavedRule.TheVariants.{Limit, Short, Size}
-use Rattle.ws_codec.proofs.Fields.{byte_back, byte_there, glyphs_back, glyphs_there, integer_back, integer_there, number_back, number_there}
-use Rattle.ws_codec.proofs.Numbers.{rest_bytes}
+use Rattle.ws_codec.proofs.FieldParts.{byte_back, byte_there, glyphs_back, glyphs_there, integer_back, integer_there, number_back, number_there}
+use Rattle.ws_codec.proofs.NumberParts.{rest_bytes}
 use Rattle.ws_codec.proofs.Repeats.{AreBehind, IsBack, IsThere, all_back, all_there}
 use Rattle.ws_codec.proofs.Told.{after_keeps, bind_ok, same_behind, same_first, tell}
 

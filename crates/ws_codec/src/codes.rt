@@ -20,7 +20,7 @@ pub fn are_codes(bytes: &[u8]) -> bool
 }
 
 /// How many bytes at the front are codes of glyphs. No memory.
-#[tactic(auto, using(crate::proofs::Codes::run_fits))]
+#[tactic(auto, using(crate::proofs::CodeLemmas::run_fits))]
 pub fn code_count(bytes: &[u8]) -> usize
     ensures value { result ≡ prefix_len is_code bytes.now }
     ensures within { result ≤ length bytes.now }
@@ -29,7 +29,7 @@ pub fn code_count(bytes: &[u8]) -> usize
 }
 
 /// The line that codes of glyphs spell. It takes memory for the line.
-#[tactic(auto, using(crate::proofs::Codes::coded_at))]
+#[tactic(auto, using(crate::proofs::CodeLemmas::coded_at))]
 pub fn line_of(alloc: Global, codes: &[u8]) -> Result<Line, WantOfMemory>
     requires { list_all is_code codes.now ≡ true }
     ensures { IfOk result (λ line. line.items ≡ codes.now) }
@@ -43,7 +43,7 @@ pub fn line_of(alloc: Global, codes: &[u8]) -> Result<Line, WantOfMemory>
 }
 
 /// The name that bytes are the codes of, or `None` where they are no name. It takes memory for a line of them.
-#[tactic(auto, using(crate::proofs::Codes::no_name))]
+#[tactic(auto, using(crate::proofs::CodeLemmas::no_name))]
 pub fn name_of_codes(alloc: Global, bytes: &[u8]) -> Result<Option<Name>, WantOfMemory>
     ensures { IfOk result (λ name. name ≡ name_of_codes bytes.now) }
 {

@@ -45,7 +45,7 @@ pub fn add_integer(bytes: &mut Vec<u8>, number: i64) -> Result<(), WantOfMemory>
 
 /// Adds a name: its length in one byte, and its codes. It takes memory for them; where that runs out, a part of them may
 /// stand there.
-#[tactic(auto, using(crate::proofs::Codes::names_are_short))]
+#[tactic(auto, using(crate::proofs::CodeLemmas::names_are_short))]
 pub fn add_name(bytes: &mut Vec<u8>, name: &Name) -> Result<(), WantOfMemory>
     ensures { OnOk result (bytes.new.items ≡ bytes.old.items ++ name_bytes name.now) }
 {

@@ -15,7 +15,7 @@ use Rattle.ws_codec.specs.Reading.{Reading, ◌>>=◌, keeps, known}
 use Rattle.ws_codec.specs.SavedText.{name_bytes}
 use Rattle.ws_codec.specs.Sound.{AreBytes}
 use Rattle.ws_codec.specs.declared.saved.SavedRule.TheVariants.{Glyph, Name}
-use Rattle.ws_codec.proofs.Numbers.{byte_below, bytes_again, front_bytes}
+use Rattle.ws_codec.proofs.NumberParts.{byte_below, bytes_again, front_bytes}
 use Rattle.ws_codec.proofs.Told.{after_keeps, after_known, bind_ok, same_behind, same_first, tell}
 
 -- a byte
