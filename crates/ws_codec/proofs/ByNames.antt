@@ -1,5 +1,5 @@
 -- What is kept of a workspace, by its names.
-use Rattle.std.proofs.Common.{◌≡◌, ℕ, ◌+◌, ◌<◌, ◌≤◌, Bool, true, false, List, [], ◌∷◌, ◌++◌, Option, Some, None, length, refl, sym, ap, ◌∙◌, subst, length-append, arith}
+use Rattle.std.proofs.Common.{◌≡◌, ℕ, ◌+◌, ◌<◌, ◌≤◌, Bool, true, false, List, [], ◌∷◌, ◌++◌, Option, Some, None, length, refl, sym, ap, ◌∙◌, subst, append_assoc, length-append, arith}
 use Rattle.std.specs.Prelude.{IfSome, unwrap_or}
 use Rattle.std.specs.List.{AllByRecursion, flat_map}
 use Rattle.std.specs.List.Sorted.{IsStrictlySortedBy}
@@ -11,6 +11,7 @@ use Rattle.std.proofs.lemmas.List.Concat.{flat_map-append}
 use Rattle.std.proofs.lemmas.List.Sums.{sum_by-cons}
 use Rattle.std.proofs.lemmas.Map.Entries.{lookup_head, lookup_tail}
 use Rattle.std.proofs.lemmas.Map.Keys.{sorted_head, sorted_tail}
+use Rattle.byteorder.specs.Endian.{big_bytes}
 use Rattle.apl_arrays.specs.Name.{name_order, same_name}
 use Rattle.apl_workspace.specs.Limits.{most_weight}
 use Rattle.apl_workspace.specs.Meaning.{NameTable, meaning_in, meaning_weight, table_weight}
@@ -19,7 +20,7 @@ use Rattle.apl_workspace.specs.declared.meaning.Meaning.{Meaning}
 use Rattle.apl_workspace.specs.declared.meaning.Meaning.TheVariants.{Nothing, Value, Function, Label, Shared}
 use Rattle.apl_workspace.proofs.NameLaw.{by_order, own_name}
 use Rattle.ws_codec.specs.Kept.{kept, kept_globals}
-use Rattle.ws_codec.specs.SavedText.{kept_bytes, object_bytes}
+use Rattle.ws_codec.specs.SavedText.{kept_bytes, object_bytes, objects_bytes}
 
 -- a look-up tells what each name of a table stands for
 pub Tells : (List ℕ → Option Meaning) → NameTable → Type 0
@@ -85,3 +86,10 @@ are_by_names w names h is =
       few = omega (arith, few_kept w.globals, h.weight);
       bytes = ap (flat_map (λ name. kept_bytes name (global_in w name))) is ∙ by_names kept_bytes (meaning_in w.globals) w.globals tells ∙ sym (bytes_kept w.globals);
     }
+
+-- the objects behind other bytes, as they are written: how many they are, and then each
+pub objects_put : (w : PlainWorkspace) (names : List (List ℕ)) → AreByNames w names → (count : ℕ) → count ≡ length (flat_map (λ name. kept name (global_in w name)) names) → (front number new : List ℕ) → number ≡ front ++ big_bytes 4 count
+    → new ≡ number ++ flat_map (λ name. kept_bytes name (global_in w name)) names → new ≡ front ++ objects_bytes (kept_globals w.globals)
+objects_put w names h count counted front number new first second =
+    second ∙ ap (λ (t : List ℕ). number ++ t) h.bytes ∙ ap (λ (t : List ℕ). t ++ flat_map (λ (e : List ℕ × Meaning). object_bytes e.0 e.1) (kept_globals w.globals)) (first ∙ ap (λ (n : ℕ). front ++ big_bytes 4 n) (counted ∙ h.count))
+    ∙ append_assoc front (big_bytes 4 (length (kept_globals w.globals))) (flat_map (λ (e : List ℕ × Meaning). object_bytes e.0 e.1) (kept_globals w.globals))

@@ -14,13 +14,13 @@ use apl_workspace::{Function, Meaning, Seen, Workspace};
 
 /// Adds the objects of a workspace, behind how many they are. It takes memory for them, and for the names; where that
 /// runs out, a part of them may stand there.
-#[tactic(auto, using(crate::proofs::ByNames::are_by_names))]
 pub fn add_objects(bytes: &mut Vec<u8>, ws: &Workspace) -> Result<(), WantOfMemory>
     ensures { OnOk result (bytes.new.items ≡ bytes.old.items ++ objects_bytes (kept_globals ws.now.globals)) }
 {
     let names = ws.all_names()?;
-    add_number32(bytes, kept_count(ws, names.as_slice()) as u32)?;
-    add_each(bytes, ws, names.as_slice())
+    let names = names.as_slice();
+    add_number32(bytes, kept_count(ws, names) as u32)?;
+    add_each(bytes, ws, names)
 }
 
 /// How many of these names are kept.
