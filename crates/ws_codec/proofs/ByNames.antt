@@ -1,9 +1,9 @@
 -- What is kept of a workspace, by its names.
-use Rattle.std.proofs.Common.{◌≡◌, ℕ, ◌+◌, ◌<◌, ◌≤◌, Bool, true, false, List, [], ◌∷◌, ◌++◌, Option, Some, None, length, refl, sym, ap, ◌∙◌, subst, append_assoc, length-append, arith}
+use Rattle.std.proofs.Common.{◌≡◌, ℕ, ◌≤◌, false, List, [], ◌∷◌, ◌++◌, Option, Some, None, length, refl, sym, ap, ◌∙◌, subst, append_assoc, length-append, arith}
 use Rattle.std.specs.Prelude.{IfSome, unwrap_or}
 use Rattle.std.specs.List.{AllByRecursion, flat_map}
 use Rattle.std.specs.List.Sorted.{IsStrictlySortedBy}
-use Rattle.std.specs.Map.{keys_of, lookup, values_of}
+use Rattle.std.specs.Map.{keys_of, values_of}
 use Rattle.std.specs.Ordering.{is_eq, ordering_reverse}
 use Rattle.std.specs.declared.cmp.Ordering.TheVariants.{Less}
 use Rattle.std.proofs.lemmas.Cmp.{nat_list_cmp_total}
@@ -15,7 +15,7 @@ use Rattle.byteorder.specs.Endian.{big_bytes}
 use Rattle.apl_arrays.specs.Name.{name_order, same_name}
 use Rattle.apl_workspace.specs.Limits.{most_weight}
 use Rattle.apl_workspace.specs.Meaning.{NameTable, meaning_in, meaning_weight, table_weight}
-use Rattle.apl_workspace.specs.Workspace.{IsWorkspace, PlainWorkspace, global_in, workspace_weight}
+use Rattle.apl_workspace.specs.Workspace.{IsWorkspace, PlainWorkspace, global_in}
 use Rattle.apl_workspace.specs.declared.meaning.Meaning.{Meaning}
 use Rattle.apl_workspace.specs.declared.meaning.Meaning.TheVariants.{Nothing, Value, Function, Label, Shared}
 use Rattle.apl_workspace.proofs.NameLaw.{by_order, own_name}

@@ -1,11 +1,11 @@
 -- A name above the last one of a table goes to the end.
-use Rattle.std.proofs.Common.{◌≡◌, ℕ, ◌+◌, ◌<◌, ◌≤◌, Bool, true, false, List, [], ◌∷◌, ◌++◌, Option, Some, None, Ordering, refl, sym, ap, ◌∙◌, subst, arith}
+use Rattle.std.proofs.Common.{◌≡◌, ℕ, ◌+◌, ◌<◌, ◌≤◌, Bool, true, List, [], ◌∷◌, ◌++◌, Option, Some, None, Ordering, refl, ap, ◌∙◌, subst, arith}
 use Rattle.std.specs.Prelude.{unwrap_or}
 use Rattle.std.specs.Bool.{MatchBool}
 use Rattle.std.specs.BTreeMap.{insert_entry}
 use Rattle.std.specs.List.{AllByRecursion}
 use Rattle.std.specs.List.Sorted.{IsStrictlySortedBy}
-use Rattle.std.specs.Map.{keys_of, lookup}
+use Rattle.std.specs.Map.{keys_of}
 use Rattle.std.specs.Ordering.{is_eq, is_lt, match_ordering, ordering_reverse}
 use Rattle.std.specs.declared.cmp.Ordering.TheVariants.{Less, Equal, Greater}
 use Rattle.std.proofs.lemmas.Bool.{false≢true}
@@ -19,7 +19,7 @@ use Rattle.apl_arrays.specs.declared.report.Report.{Report}
 use Rattle.apl_arrays.specs.declared.report.Report.TheVariants.{Syntax, WsFull}
 use Rattle.apl_workspace.specs.Function.{PlainFunction, function_weight}
 use Rattle.apl_workspace.specs.Limits.{most_weight}
-use Rattle.apl_workspace.specs.Meaning.{NameTable, is_shared_meaning, is_variable_meaning, meaning_in, meaning_weight, table_weight, value_weight, with_meaning}
+use Rattle.apl_workspace.specs.Meaning.{NameTable, meaning_in, meaning_weight, table_weight, value_weight, with_meaning}
 use Rattle.apl_workspace.specs.Workspace.{IsFull, IsNotAssigned, IsWorkspace, PlainWorkspace, assigned, global_in, is_assignable, is_there, look, seen_by, with_global, workspace_weight}
 use Rattle.apl_workspace.specs.declared.meaning.Meaning.{Meaning}
 use Rattle.apl_workspace.specs.declared.meaning.Meaning.TheVariants.{Nothing, Value, Function}

@@ -1,10 +1,9 @@
 -- What single fields are read as, and of what bytes.
-use Rattle.std.proofs.Common.{◌≡◌, ℕ, ℤ, ◌+◌, ◌-◌, ◌^◌, ◌<◌, ◌≤◌, Bool, true, false, cond, List, [], ◌∷◌, ◌++◌, Option, Some, None, Result, Ok, Err, length, take, drop, refl, sym, ap, ◌∙◌, subst, append-nil, append_assoc, take-append-drop, length-take-le, length-append, leb-true, le-leb, w64, FitsSigned, arith}
+use Rattle.std.proofs.Common.{◌≡◌, ℕ, ℤ, ◌-◌, ◌^◌, ◌<◌, Bool, true, false, List, [], ◌∷◌, ◌++◌, Some, None, Ok, Err, length, take, drop, refl, sym, ap, ◌∙◌, subst, append-nil, take-append-drop, length-take-le, length-append, leb-true, le-leb, w64, FitsSigned, arith}
 use Rattle.std.specs.Prelude.{nat_le, if◌then◌else◌}
 use Rattle.std.specs.Int.{cast_signed, cast_unsigned}
 use Rattle.std.specs.List.{list_all, prefix_len}
 use Rattle.std.proofs.Math.Seq.{take-append_seam, drop-append_seam}
-use Rattle.std.proofs.lemmas.Bool.{false≢true}
 use mir.Val.{Fits}
 use mir.ValLaws.{of_z_fits, to_z-Fits, of_z-to_z, to_z-of_z}
 use Rattle.byteorder.specs.Endian.{big_bytes, big_from, big_number}

@@ -1,7 +1,7 @@
 -- Functions are read of their bytes, and of no others.
-use Rattle.std.proofs.Common.{◌≡◌, ℕ, ◌+◌, ◌^◌, ◌<◌, ◌≤◌, Bool, true, false, ◌&&◌, List, [], ◌∷◌, ◌++◌, Option, Some, None, Ok, length, refl, sym, ap, ◌∙◌, subst, append_assoc, leb-true, arith}
+use Rattle.std.proofs.Common.{◌≡◌, ℕ, ◌+◌, ◌^◌, ◌<◌, ◌≤◌, Bool, true, false, List, [], ◌++◌, Option, Some, None, Ok, length, refl, sym, ap, ◌∙◌, subst, append_assoc, leb-true, arith}
 use Rattle.std.specs.Prelude.{nat_le, if◌then◌else◌}
-use Rattle.std.specs.List.{flat_map, list_all}
+use Rattle.std.specs.List.{flat_map}
 use Rattle.std.proofs.lemmas.Bool.{and_parts}
 use Rattle.byteorder.specs.Endian.{big_bytes}
 use Rattle.apl_arrays.specs.Limits.{most_line_glyphs}
@@ -10,15 +10,15 @@ use Rattle.apl_workspace.specs.Function.{PlainFunction, function_with}
 use Rattle.apl_workspace.specs.Header.{PlainHeader, header_of}
 use Rattle.apl_workspace.specs.Limits.{most_function_lines, most_weight}
 use Rattle.apl_workspace.proofs.NameLaw.{equal_names, own_name}
-use Rattle.ws_codec.specs.Fields.{glyphs_at, is_code, number_at}
+use Rattle.ws_codec.specs.Fields.{glyphs_at, number_at}
 use Rattle.ws_codec.specs.Functions.{function_at, glyph_count, header_at, header_named, is_within, line_at, lines_at, next_line}
-use Rattle.ws_codec.specs.Reading.{Reader, Reading, ◌>>=◌, keeps, known, repeated}
+use Rattle.ws_codec.specs.Reading.{Reader, ◌>>=◌, keeps, known, repeated}
 use Rattle.ws_codec.specs.SavedText.{function_bytes, line_bytes}
 use Rattle.ws_codec.specs.Sound.{AreBytes, Follow, IsDefined, IsLine}
 use Rattle.ws_codec.specs.declared.saved.SavedRule.TheVariants.{Header, Limit}
 use Rattle.ws_codec.proofs.FieldParts.{glyphs_back, glyphs_there, number_back, number_there}
 use Rattle.ws_codec.proofs.NumberParts.{rest_bytes}
-use Rattle.ws_codec.proofs.Repeats.{AreBehind, IsBack, IsThere, all_back, all_there}
+use Rattle.ws_codec.proofs.Repeats.{IsBack, IsThere, all_back, all_there}
 use Rattle.ws_codec.proofs.Told.{after_keeps, after_known, bind_ok, same_behind, same_first, tell}
 
 -- so few fit two bytes

@@ -1,8 +1,8 @@
 -- Steps that are repeated, as a loop makes them.
-use Rattle.std.proofs.Common.{◌≡◌, ℕ, zero, suc, ◌-◌, ◌+◌, ◌≤◌, ◌<◌, List, Result, Ok, Err, refl, sym, ◌∙◌, arith}
+use Rattle.std.proofs.Common.{◌≡◌, ℕ, suc, ◌-◌, ◌+◌, ◌≤◌, ◌<◌, List, Ok, Err, refl, sym, ◌∙◌, arith}
 use Rattle.ws_codec.specs.declared.unread.Unread.{Unread}
 use Rattle.ws_codec.specs.declared.unread.Unread.TheVariants.{Flawed, WantOfMemory}
-use Rattle.ws_codec.specs.Reading.{Reader, Reading, ◌>>=◌, Stops, repeated}
+use Rattle.ws_codec.specs.Reading.{Reader, Reading, Stops, repeated}
 
 -- one step more
 pub one_more : {S : Type 0} (step : S → Reader S) (count i : ℕ) (made next : S) (rest after : List ℕ) (total : Reading S) → i < count → step made rest ≡ Ok (next, after) → repeated step (count - i) made rest ≡ total → repeated step (count - (i + 1)) next after ≡ total

@@ -1,11 +1,10 @@
 -- Bytes of numbers are told by the numbers.
-use Rattle.std.proofs.Common.{◌≡◌, ℕ, zero, suc, ◌+◌, ◌*◌, ◌/◌, ◌%◌, ◌^◌, ◌<◌, ◌≤◌, List, [], ◌∷◌, ◌++◌, length, get_or, refl, sym, ap, ◌∙◌, append-nil, add-mul, mod-lt, mul-le-mul_right, ◌⊎◌, inl, inr, arith}
+use Rattle.std.proofs.Common.{◌≡◌, ℕ, zero, suc, ◌+◌, ◌*◌, ◌/◌, ◌^◌, ◌<◌, ◌≤◌, List, [], ◌∷◌, ◌++◌, length, refl, sym, ap, ◌∙◌, append-nil, add-mul, mod-lt, mul-le-mul_right, ◌⊎◌, inl, inr, arith}
 use Rattle.std.specs.Prelude.{slice_index}
 use Rattle.std.specs.Int.{byte_at, bytes_high_first}
-use Rattle.std.specs.List.{AllByRecursion}
 use Rattle.std.proofs.lemmas.Bool.{cases_order}
 use Rattle.byteorder.specs.Endian.{big_from}
-use Rattle.byteorder.specs.Numbers.{big_from-bytes, big_from-cons, big_from-lt, big_number-reads_back, length-bytes_high_first}
+use Rattle.byteorder.specs.Numbers.{big_from-cons, big_from-lt, big_number-reads_back, length-bytes_high_first}
 use Rattle.ws_codec.specs.Sound.{AreBytes}
 
 -- each byte

@@ -1,5 +1,5 @@
 -- Objects are read of their bytes, and of no others.
-use Rattle.std.proofs.Common.{◌≡◌, ℕ, ◌<◌, Bool, true, false, eqb, List, [], ◌∷◌, ◌++◌, Option, Some, None, Ok, length, refl, sym, ap, ◌∙◌, subst, append_assoc, eqb-true, arith}
+use Rattle.std.proofs.Common.{◌≡◌, ℕ, ◌<◌, Bool, true, false, eqb, List, [], ◌∷◌, ◌++◌, Some, None, Ok, length, refl, sym, ap, ◌∙◌, subst, append_assoc, eqb-true}
 use Rattle.std.specs.Prelude.{if◌then◌else◌}
 use Rattle.std.specs.List.{flat_map}
 use Rattle.byteorder.specs.Endian.{big_bytes}
@@ -12,8 +12,8 @@ use Rattle.apl_workspace.specs.declared.meaning.Meaning.TheVariants.{Nothing, Va
 use Rattle.ws_codec.specs.Fields.{byte_at, name_at, number_at}
 use Rattle.ws_codec.specs.Functions.{function_at}
 use Rattle.ws_codec.specs.Objects.{is_above, kind_at, kind_of, last_name, meaning_at, next_object, object_behind, objects_at}
-use Rattle.ws_codec.specs.Reading.{Reader, Reading, ◌>>=◌, keeps, known, repeated}
-use Rattle.ws_codec.specs.SavedText.{array_bytes, function_bytes, kind_byte, name_bytes, object_bytes, objects_bytes}
+use Rattle.ws_codec.specs.Reading.{◌>>=◌, keeps, known, repeated}
+use Rattle.ws_codec.specs.SavedText.{array_bytes, function_bytes, name_bytes, object_bytes, objects_bytes}
 use Rattle.ws_codec.specs.Sound.{AreBytes, Follow, IsMeaning, IsObject}
 use Rattle.ws_codec.specs.Values.{char_array_at, number_array_at}
 use Rattle.ws_codec.specs.declared.kind.Kind.{Kind}
@@ -22,7 +22,7 @@ use Rattle.ws_codec.specs.declared.saved.SavedRule.TheVariants.{Kind as KindRule
 use Rattle.ws_codec.proofs.FieldParts.{byte_back, name_back, name_there, number_back, number_there}
 use Rattle.ws_codec.proofs.FunctionParts.{function_back, function_there}
 use Rattle.ws_codec.proofs.NumberParts.{rest_bytes}
-use Rattle.ws_codec.proofs.Repeats.{AreBehind, IsBack, IsThere, all_back, all_there}
+use Rattle.ws_codec.proofs.Repeats.{IsBack, IsThere, all_back, all_there}
 use Rattle.ws_codec.proofs.Told.{after_keeps, after_known, bind_ok, same_behind, same_first, tell}
 use Rattle.ws_codec.proofs.ValueParts.{IsVariableOf, char_array_back, char_array_there, number_array_back, number_array_there}
 

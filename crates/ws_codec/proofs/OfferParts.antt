@@ -1,23 +1,21 @@
 -- Offers are read of their bytes, and of no others.
-use Rattle.std.proofs.Common.{◌≡◌, ℕ, ◌<◌, ◌≤◌, ◌==◌, ◌||◌, ◌&&◌, Bool, true, false, List, [], ◌∷◌, ◌++◌, Ok, length, refl, sym, ap, ◌∙◌, subst, append_assoc, leb-true, eqb-true, inl, inr, arith}
+use Rattle.std.proofs.Common.{◌≡◌, ℕ, ◌<◌, true, List, [], ◌∷◌, ◌++◌, Ok, length, refl, sym, ap, ◌∙◌, subst, append_assoc, arith}
 use Rattle.std.specs.Prelude.{nat_le}
 use Rattle.std.specs.List.{flat_map}
-use Rattle.std.proofs.lemmas.Bool.{and_parts, or_cases}
 use Rattle.std.proofs.lemmas.Bool.Decides.{nat_tests}
 use Rattle.byteorder.specs.Endian.{big_bytes}
-use Rattle.apl_arrays.specs.Name.{is_name}
 use Rattle.apl_workspace.specs.Meaning.{NameTable}
 use Rattle.apl_workspace.specs.Workspace.{is_addressee}
 use Rattle.apl_workspace.specs.declared.remake.Remake.{Remake}
 use Rattle.ws_codec.specs.Fields.{byte_at, name_at, number_at}
 use Rattle.ws_codec.specs.Offers.{is_free, next_offer, offer_behind, offers_at}
-use Rattle.ws_codec.specs.Reading.{Reader, Reading, ◌>>=◌, keeps, repeated}
+use Rattle.ws_codec.specs.Reading.{◌>>=◌, keeps, repeated}
 use Rattle.ws_codec.specs.SavedText.{name_bytes, offer_bytes, offers_bytes}
 use Rattle.ws_codec.specs.Sound.{AreBytes, Follow, IsOffer}
 use Rattle.ws_codec.specs.declared.saved.SavedRule.TheVariants.{Limit, Offer}
 use Rattle.ws_codec.proofs.FieldParts.{byte_back, name_back, name_there, number_back, number_there}
 use Rattle.ws_codec.proofs.NumberParts.{rest_bytes}
-use Rattle.ws_codec.proofs.Repeats.{AreBehind, IsBack, IsThere, all_back, all_there}
+use Rattle.ws_codec.proofs.Repeats.{IsBack, IsThere, all_back, all_there}
 use Rattle.ws_codec.proofs.Told.{after_keeps, bind_ok, same_behind, same_first, tell}
 
 -- an addressee fits four bytes

@@ -1,5 +1,5 @@
 -- Lists of things, each of which is read behind those before it.
-use Rattle.std.proofs.Common.{◌≡◌, ℕ, zero, suc, ◌+◌, List, [], ◌∷◌, ◌++◌, Result, Ok, Err, length, refl, sym, ap, ◌∙◌, subst, append-nil, append_assoc}
+use Rattle.std.proofs.Common.{◌≡◌, ℕ, zero, suc, List, [], ◌∷◌, ◌++◌, Ok, length, refl, sym, ap, ◌∙◌, subst, append-nil, append_assoc}
 use Rattle.std.specs.List.{flat_map}
 use Rattle.ws_codec.specs.Reading.{Reader, Reading, ◌>>=◌, added, repeated}
 use Rattle.ws_codec.specs.Sound.{AreBytes, Follow}

@@ -1,5 +1,5 @@
 -- Saved bytes are read of what they are the bytes of, and of nothing else.
-use Rattle.std.proofs.Common.{◌≡◌, ℕ, ◌-◌, ◌==◌, ◌||◌, ◌⊎◌, Bool, true, false, eqb, List, [], ◌∷◌, ◌++◌, Result, Ok, Err, length, inl, inr, ⊎_elim, refl, sym, ap, ◌∙◌, subst, append-nil, append_assoc, eqb-true, arith}
+use Rattle.std.proofs.Common.{◌≡◌, ℕ, ◌==◌, ◌||◌, ◌⊎◌, Bool, true, false, eqb, List, [], ◌∷◌, ◌++◌, Result, Ok, Err, length, inl, inr, ⊎_elim, refl, sym, ap, ◌∙◌, subst, append-nil, eqb-true, arith}
 use Rattle.std.specs.Prelude.{if◌then◌else◌, nat_le}
 use Rattle.std.specs.Cmp.Lexicographic.{pointwise}
 use Rattle.std.proofs.lemmas.Bool.{or_cases}
@@ -10,17 +10,16 @@ use Rattle.apl_workspace.proofs.NameLaw.{equal_names}
 use Rattle.ws_codec.specs.Fields.{byte_at, bytes_at, same_at}
 use Rattle.ws_codec.specs.Objects.{objects_at}
 use Rattle.ws_codec.specs.Offers.{offers_at}
-use Rattle.ws_codec.specs.Reading.{Reading, ◌>>=◌, keeps}
+use Rattle.ws_codec.specs.Reading.{◌>>=◌, keeps}
 use Rattle.ws_codec.specs.Saved.{PlainSaved, offers_of_version, placed, reading_of, saved_at, saved_of, version_at}
 use Rattle.ws_codec.specs.SavedText.{first_version, magic, objects_bytes, offers_bytes, second_version}
 use Rattle.ws_codec.specs.Sound.{AreBytes, Follow, IsOffer, IsSound}
-use Rattle.ws_codec.specs.declared.saved.SavedRule.{SavedRule}
 use Rattle.ws_codec.specs.declared.saved.SavedRule.TheVariants.{Magic, Rest, Version}
 use Rattle.ws_codec.specs.declared.unread.Flaw.{Flaw}
 use Rattle.ws_codec.proofs.FieldParts.{byte_back, bytes_back, bytes_there}
 use Rattle.ws_codec.proofs.NumberParts.{rest_bytes}
 use Rattle.ws_codec.proofs.ObjectParts.{objects_back, objects_there}
-use Rattle.ws_codec.proofs.OfferParts.{AreOffersOf, offers_back, offers_there}
+use Rattle.ws_codec.proofs.OfferParts.{offers_back, offers_there}
 use Rattle.ws_codec.proofs.Told.{after_keeps, bind_ok, same_behind, same_first, tell}
 
 -- what was read

@@ -1,13 +1,12 @@
 -- Workspaces of the program may be saved.
-use Rattle.std.proofs.Common.{◌≡◌, ℕ, ◌+◌, ◌<◌, ◌≤◌, Bool, true, false, cond, not, ◌&&◌, ◌||◌, All, List, [], ◌∷◌, ◌++◌, Option, Some, None, length, refl, sym, ap, ◌∙◌, subst, le-leb, arith}
-use Rattle.std.specs.Prelude.{nat_le, unwrap_or}
+use Rattle.std.proofs.Common.{◌≡◌, ℕ, ◌+◌, ◌≤◌, Bool, true, false, not, ◌&&◌, ◌||◌, List, [], ◌∷◌, ◌++◌, Option, Some, None, length, refl, sym, ap, ◌∙◌, le-leb, arith}
+use Rattle.std.specs.Prelude.{unwrap_or}
 use Rattle.std.specs.List.{AllByRecursion, list_any}
 use Rattle.std.specs.List.Sorted.{IsStrictlySortedBy}
 use Rattle.std.specs.Map.{keys_of, values_of}
-use Rattle.std.specs.Ordering.{is_eq, is_lt, ordering_reverse}
+use Rattle.std.specs.Ordering.{is_eq, is_lt}
 use Rattle.std.specs.declared.cmp.Ordering.TheVariants.{Less}
 use Rattle.std.proofs.lemmas.Bool.{and_parts, false≢true, not-true, or_parts}
-use Rattle.std.proofs.lemmas.Cmp.{nat_list_cmp_total}
 use Rattle.std.proofs.lemmas.List.Elements.{recursion_from_All}
 use Rattle.std.proofs.lemmas.List.Sums.{sum_by-cons}
 use Rattle.std.proofs.lemmas.Map.Entries.{lookup_head, lookup_tail}
@@ -16,7 +15,7 @@ use Rattle.apl_arrays.specs.Name.{name_order, same_name}
 use Rattle.apl_workspace.specs.Limits.{most_weight}
 use Rattle.apl_workspace.specs.Meaning.{IsGlobal, NameTable, is_function_meaning, is_shared_in, is_shared_meaning, meaning_in, meaning_weight, table_weight}
 use Rattle.apl_workspace.specs.Names.{all_differ}
-use Rattle.apl_workspace.specs.Workspace.{AreOffers, IsWorkspace, PlainWorkspace, is_addressee, names_offered, workspace_weight}
+use Rattle.apl_workspace.specs.Workspace.{IsWorkspace, PlainWorkspace, is_addressee, names_offered}
 use Rattle.apl_workspace.specs.declared.meaning.Meaning.{Meaning}
 use Rattle.apl_workspace.specs.declared.meaning.Meaning.TheVariants.{Nothing, Value, Function, Label, Shared}
 use Rattle.apl_workspace.specs.declared.remake.Remake.{Remake}
@@ -25,7 +24,7 @@ use Rattle.ws_codec.specs.Kept.{kept, kept_globals}
 use Rattle.ws_codec.specs.Objects.{is_above, last_name}
 use Rattle.ws_codec.specs.Offers.{is_free, is_function_in, is_offered}
 use Rattle.ws_codec.specs.Sound.{Follow, IsMeaning, IsObject, IsOffer, IsSound}
-use Rattle.ws_codec.specs.Storable.{HasNames, IsEntry, IsStorable, IsStorableMeaning}
+use Rattle.ws_codec.specs.Storable.{HasNames, IsEntry, IsStorable}
 use Rattle.ws_codec.proofs.ByNames.{each_holds, few_kept, tells_own}
 use Rattle.ws_codec.proofs.Ends.{last_put}
 use Rattle.ws_codec.proofs.StorableValues.{function_sound, variable_sound}

@@ -1,18 +1,17 @@
 -- Values and functions of the program may be saved.
-use Rattle.std.proofs.Common.{◌≡◌, ℕ, ℤ, ◌+◌, ◌<◌, ◌≤◌, Bool, true, false, ◌&&◌, All, List, [], ◌∷◌, ◌++◌, Some, None, length, refl, sym, ap, ◌∙◌, subst, le-leb, is_none, arith}
+use Rattle.std.proofs.Common.{◌≡◌, ℕ, ◌+◌, ◌≤◌, true, List, [], ◌∷◌, ◌++◌, length, ap, le-leb, is_none, arith}
 use Rattle.std.specs.Prelude.{nat_le}
-use Rattle.std.specs.List.{AllByRecursion, list_all}
+use Rattle.std.specs.List.{AllByRecursion}
 use Rattle.std.proofs.lemmas.Bool.{and_from}
 use Rattle.std.proofs.lemmas.List.Elements.{recursion_from_All}
 use Rattle.std.proofs.lemmas.List.Sums.{sum_by-cons}
-use Rattle.apl_arrays.specs.Array.{FitsLimits, IsArray, PlainArray, element_count}
-use Rattle.apl_arrays.specs.Shape.{is_small, shape_fault}
+use Rattle.apl_arrays.specs.Array.{FitsLimits, PlainArray, element_count}
+use Rattle.apl_arrays.specs.Shape.{is_small}
 use Rattle.apl_arrays.proofs.Shapes.{what_fits_has_no_fault}
 use Rattle.apl_workspace.specs.Function.{IsFunction, PlainFunction, function_weight}
 use Rattle.apl_workspace.specs.Limits.{most_function_lines, most_weight}
 use Rattle.apl_workspace.specs.Meaning.{value_weight}
 use Rattle.apl_arrays.specs.Limits.{most_line_glyphs}
-use Rattle.ws_codec.specs.Fields.{is_code}
 use Rattle.ws_codec.specs.Functions.{glyph_count, is_within}
 use Rattle.ws_codec.specs.Sound.{Follow, IsDefined, IsLine, IsVariable}
 use Rattle.ws_codec.specs.Storable.{IsCoded, IsSpelled, IsStored}

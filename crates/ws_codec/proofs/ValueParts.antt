@@ -1,22 +1,22 @@
 -- Variables are read of their bytes, and of no others.
-use Rattle.std.proofs.Common.{◌≡◌, ℕ, ℤ, ◌+◌, ◌*◌, ◌^◌, ◌<◌, ◌≤◌, Bool, true, false, List, [], ◌∷◌, ◌++◌, Ok, length, refl, sym, ap, ◌∙◌, subst, append_assoc, leb-true, le-leb, length-append, is_none, w64, FitsSigned, arith}
+use Rattle.std.proofs.Common.{◌≡◌, ℕ, ℤ, ◌+◌, ◌*◌, ◌^◌, ◌<◌, ◌≤◌, true, List, [], ◌∷◌, ◌++◌, Ok, length, refl, sym, ap, ◌∙◌, subst, append_assoc, leb-true, le-leb, length-append, is_none, w64, FitsSigned, arith}
 use Rattle.std.specs.Prelude.{nat_le}
 use Rattle.std.specs.Int.{cast_unsigned}
-use Rattle.std.specs.List.{flat_map, list_all}
+use Rattle.std.specs.List.{flat_map}
 use Rattle.byteorder.specs.Endian.{big_bytes}
 use Rattle.byteorder.specs.Numbers.{length-bytes_high_first}
 use Rattle.apl_arrays.specs.Array.{PlainArray, PlainItems, numbers, chars, char_array, element_count, item_count, number_array}
 use Rattle.apl_arrays.specs.Shape.{is_small, shape_fault}
 use Rattle.apl_workspace.specs.Limits.{most_weight}
-use Rattle.ws_codec.specs.Fields.{byte_at, glyphs_at, integer_at, is_code, number_at}
-use Rattle.ws_codec.specs.Reading.{Reader, Reading, ◌>>=◌, keeps, repeated}
+use Rattle.ws_codec.specs.Fields.{byte_at, glyphs_at, integer_at, number_at}
+use Rattle.ws_codec.specs.Reading.{◌>>=◌, keeps, repeated}
 use Rattle.ws_codec.specs.SavedText.{array_bytes, items_bytes, kind_byte}
 use Rattle.ws_codec.specs.Sound.{AreBytes, AreItems, Follow, IsVariable}
 use Rattle.ws_codec.specs.Values.{at_last_axis, axis_at, char_array_at, next_axis, next_integer, number_array_at, numbers_at, shape_at}
 use Rattle.ws_codec.specs.declared.saved.SavedRule.TheVariants.{Limit, Short, Size}
-use Rattle.ws_codec.proofs.FieldParts.{byte_back, byte_there, glyphs_back, glyphs_there, integer_back, integer_there, number_back, number_there}
+use Rattle.ws_codec.proofs.FieldParts.{byte_back, glyphs_back, glyphs_there, integer_back, integer_there, number_back, number_there}
 use Rattle.ws_codec.proofs.NumberParts.{rest_bytes}
-use Rattle.ws_codec.proofs.Repeats.{AreBehind, IsBack, IsThere, all_back, all_there}
+use Rattle.ws_codec.proofs.Repeats.{IsBack, IsThere, all_back, all_there}
 use Rattle.ws_codec.proofs.Told.{after_keeps, bind_ok, same_behind, same_first, tell}
 
 -- axes

@@ -1,5 +1,5 @@
 -- What is kept of a workspace that is saved.
-use Rattle.std.specs.Prelude.{◌∷◌, [], ℕ, List, Option, Some, None}
+use Rattle.std.specs.Prelude.{◌∷◌, [], ℕ, List, Some, None}
 use Rattle.std.specs.List.{flat_map}
 use Rattle.apl_workspace.specs.Meaning.{NameTable}
 use Rattle.apl_workspace.specs.Workspace.{PlainWorkspace}

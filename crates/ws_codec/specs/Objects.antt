@@ -1,5 +1,5 @@
 -- Saved objects: names in their order, with what they stand for.
-use Rattle.std.specs.Prelude.{◌==◌, ◌++◌, ◌∷◌, [], ℕ, Bool, true, List, Option, Some, None, Ok, length, if◌then◌else◌}
+use Rattle.std.specs.Prelude.{◌==◌, ◌∷◌, [], ℕ, Bool, true, List, Option, Some, None, Ok, length, if◌then◌else◌}
 use Rattle.std.specs.Ordering.{is_lt}
 use Rattle.apl_arrays.specs.Name.{name_order}
 use Rattle.apl_workspace.specs.Meaning.{NameTable, table_weight}

@@ -1,5 +1,5 @@
 -- Saved bytes as a whole: what they are read as, and which field breaks a rule first.
-use Rattle.std.specs.Prelude.{◌≡◌, ◌-◌, ◌==◌, ◌||◌, ◌∷◌, [], ℕ, Bool, List, Option, Some, None, Result, Ok, Err, length, if◌then◌else◌}
+use Rattle.std.specs.Prelude.{◌≡◌, ◌-◌, ◌==◌, ◌||◌, [], ℕ, List, Option, Some, None, Result, Ok, Err, length, if◌then◌else◌}
 use Rattle.apl_workspace.specs.Meaning.{NameTable}
 use Rattle.apl_workspace.specs.Workspace.{PlainWorkspace}
 use Rattle.apl_workspace.specs.declared.remake.Remake.{Remake}

@@ -1,5 +1,5 @@
 -- What saved bytes can hold: objects and offers, each of which may stand behind those before it.
-use Rattle.std.specs.Prelude.{◌≡◌, ◌+◌, ◌<◌, ◌≤◌, ◌++◌, ◌∷◌, [], ℕ, ℤ, Bool, true, List, Option, Some, None, FitsSigned, is_none, length, nat_le}
+use Rattle.std.specs.Prelude.{◌≡◌, ◌+◌, ◌<◌, ◌++◌, ◌∷◌, [], ℕ, true, List, Some, FitsSigned, is_none, length, nat_le}
 use Rattle.std.specs.Int.{w64}
 use Rattle.std.specs.List.{AllByRecursion, list_all}
 use Rattle.apl_arrays.specs.Array.{PlainArray, PlainItems, numbers, chars, element_count, item_count}

@@ -1,5 +1,5 @@
 -- What the types of the program say of a workspace.
-use Rattle.std.specs.Prelude.{◌≡◌, ℕ, true, List, Option, Some, None, All}
+use Rattle.std.specs.Prelude.{◌≡◌, ℕ, true, List, Some, None, All}
 use Rattle.std.specs.List.{list_all}
 use Rattle.apl_arrays.specs.Array.{IsArray, PlainArray}
 use Rattle.apl_arrays.specs.Name.{is_name}

@@ -1,5 +1,5 @@
 -- Worked bytes.
-use Rattle.std.specs.Prelude.{◌++◌, ◌∷◌, [], ℕ, List, Option, Some, pos, codes, slice_set, take}
+use Rattle.std.specs.Prelude.{◌++◌, ◌∷◌, [], ℕ, List, Some, pos, codes, slice_set, take}
 use Rattle.apl_arrays.specs.Array.{scalar}
 use Rattle.apl_workspace.specs.Meaning.{NameTable}
 use Rattle.apl_workspace.specs.Workspace.{PlainWorkspace}

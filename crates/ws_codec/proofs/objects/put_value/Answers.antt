@@ -1,4 +1,4 @@
-use Rattle.std.proofs.Common.{◌≡◌, ◌∙◌, ap, subst, sym}
+use Rattle.std.proofs.Common.{◌∙◌, ap, subst, sym}
 use Rattle.apl_arrays.specs.declared.report.Fail.{Fail}
 use Rattle.apl_workspace.specs.Meaning.{is_shared_meaning}
 use Rattle.apl_workspace.specs.Workspace.{IsNotAssigned, PlainWorkspace, assigned, is_assignable, is_there, look}
