@@ -1,0 +1,9 @@
+pub mod Changes
+pub mod Copies
+pub mod Fresh
+pub mod Loads
+pub mod Mentions
+pub mod Objects
+pub mod Outcomes
+pub mod Shares
+pub mod Words
