@@ -1,6 +1,6 @@
 -- What holds of all that a line may lead to.
 use Rattle.std.proofs.Common.{◌≡◌, ◌≤◌, ℕ, Bool, true, false, cond, not, ◌&&◌, List, [], ◌∷◌, Option, Some, None, Result, Ok, Err, refl, sym, ap, ◌∙◌, subst, arith, codes, option_copied}
-use Rattle.std.specs.Prelude.{IfSome, IsErrOf, nat_le}
+use Rattle.std.specs.Prelude.{IfOk, IfSome, IsErrOf, nat_le}
 use Rattle.std.specs.Option.{option_or}
 use Rattle.std.proofs.lemmas.Bool.{false≢true}
 use Rattle.apl_arrays.specs.Name.{same_name}
@@ -15,7 +15,7 @@ use Rattle.ws_codec.specs.Saved.{PlainSaved, reading_of}
 use Rattle.ws_codec.specs.declared.saved.SavedRule.{SavedRule}
 use Rattle.ws_commands.specs.Command.{PlainCommand}
 use Rattle.ws_commands.specs.Finish.{MayComeIn, brought}
-use Rattle.ws_commands.specs.Library.{asked_for, copied, copied_by, copy_lines, dropped, loaded, loaded_by, saving}
+use Rattle.ws_commands.specs.Library.{asked_for, copied, copied_by, copy_lines, copying, dropped, dropping, loaded, loaded_by, loading, saving}
 use Rattle.ws_commands.specs.Names.{id_line, identifying}
 use Rattle.ws_commands.specs.Reading.{step_by}
 use Rattle.ws_commands.specs.Row.{row_of}
@@ -34,6 +34,10 @@ AllHave P (writes name bytes todo) = P todo
 AllHave P (removes name next) = (there : Bool) → P (next there)
 AllHave P (lists next) = (names : List (List ℕ)) → P (next names)
 
+pub if_ok : {T E : Type 0} (P Q : T → Type 0) (result : Result T E) → ((found : T) → P found → Q found) → IfOk result P → IfOk result Q
+if_ok P Q (Ok found) h is = h found is
+if_ok P Q (Err why) h is = tt
+
 followed : {T : Type 0} (P : PlainTodo → Type 0) (next : T → PlainTodo) (answer : Result T StoreError) (todo : PlainTodo) → ((found : T) → P (next found)) → (IsErrOf answer Failed → P faulted) → Follows next answer todo → P todo
 followed P next (Ok found) todo all fault is = subst P (sym is) (all found)
 followed P next (Err Failed) todo all fault is = subst P (sym is) (fault refl)
@@ -48,7 +52,7 @@ module _ {K : Type 0} (told : K → Option (Told (ℕ × List ℕ))) (faults : K
   pub taken : (P : PlainTodo → Type 0) (user : ℕ) (step : Step) (old : K) (todo : PlainTodo) (new : K) → AllHave P step → (Rose (faults old) (faults new) → P faulted) → Takes told faults user step old todo new → P todo
   taken P user (does wanted) old todo new all fault h = subst P (sym h.0) all
   taken P user (reads name next) old todo new all fault h = called P _ next old todo new all fault h
-  taken P user (writes name bytes wanted) old todo new all fault h = called P _ (λ _. wanted) old todo new (λ _. all) fault h
+  taken P user (writes name bytes wanted) old todo new all fault h = called {T = Unit {0}} P _ (λ _. wanted) old todo new (λ _. all) fault h
   taken P user (removes name next) old todo new all fault h = called P _ next old todo new all fault h
   taken P user (lists next) old todo new all fault h = called P _ next old todo new all fault h
 
@@ -100,9 +104,9 @@ id_comes w (Some name) id = tt
 row_comes : (w : PlainWorkspace) (command : PlainCommand) (id : Option (List ℕ)) (which : Word) → w.frames ≡ [] → AllHave (Comes w) ((row_of which).step command w id)
 row_comes w command id word.Clear none = tt
 row_comes w command id word.Save none = saved_comes w (option_or command.workspace id)
-row_comes w command id word.Load none = named_comes w command.workspace _ (λ name found. loaded_comes w name found)
-row_comes w command id word.CopyFrom none = named_comes w command.workspace _ (λ name found. copied_comes w name command.objects found none)
-row_comes w command id word.Remove none = named_comes w command.workspace _ (λ name there. dropped_comes w name there)
+row_comes w command id word.Load none = named_comes w command.workspace (λ name. loading name w) (λ name found. loaded_comes w name found)
+row_comes w command id word.CopyFrom none = named_comes w command.workspace (λ name. copying name command.objects w) (λ name found. copied_comes w name command.objects found none)
+row_comes w command id word.Remove none = named_comes w command.workspace dropping (λ name there. dropped_comes w name there)
 row_comes w command id word.Lib none = λ names. tt
 row_comes w command id word.Fns none = tt
 row_comes w command id word.Vars none = tt
@@ -176,9 +180,9 @@ id_is_none w (Some name) id = refl
 row_is_none : (w : PlainWorkspace) (command : PlainCommand) (id : Option (List ℕ)) (which : Word) → AllHave IsNoFault ((row_of which).step command w id)
 row_is_none w command id word.Clear = refl
 row_is_none w command id word.Save = saved_is_none w (option_or command.workspace id)
-row_is_none w command id word.Load = named_is_none command.workspace _ (λ name found. loaded_is_none w name found)
-row_is_none w command id word.CopyFrom = named_is_none command.workspace _ (λ name found. copied_is_none w name command.objects found)
-row_is_none w command id word.Remove = named_is_none command.workspace _ (λ name there. dropped_is_none name there)
+row_is_none w command id word.Load = named_is_none command.workspace (λ name. loading name w) (λ name found. loaded_is_none w name found)
+row_is_none w command id word.CopyFrom = named_is_none command.workspace (λ name. copying name command.objects w) (λ name found. copied_is_none w name command.objects found)
+row_is_none w command id word.Remove = named_is_none command.workspace dropping (λ name there. dropped_is_none name there)
 row_is_none w command id word.Lib = λ names. refl
 row_is_none w command id word.Fns = refl
 row_is_none w command id word.Vars = refl

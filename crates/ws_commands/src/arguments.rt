@@ -20,10 +20,11 @@ fn has_delta(glyphs: &[Glyph]) -> bool
 fn workspace_name(word: &[Glyph]) -> Option<Name>
     ensures { result ≡ workspace_name word.now }
 {
+    let name = Name::of(word)?;
     if has_delta(word) {
         return None;
     }
-    Name::of(word)
+    Some(name)
 }
 
 // The name of a workspace, and what stands behind it, where the word in front is one.

@@ -157,7 +157,10 @@ fn add_mentioned(
     ensures { OnOk result (lines.new.items ≡ lines.old.items ++ flat_map (left_out ws.now from.now) (mentions_of (mentioned from.now objects.now.items))) }
 {
     match objects.as_slice() {
-        [] => add_all(alloc, lines, from.all_names()?.as_slice(), ws, from),
+        [] => {
+            let names = from.all_names()?;
+            add_all(alloc, lines, names.as_slice(), ws, from)
+        }
         [_, ..] => add_all(alloc, lines, objects.as_slice(), ws, from),
     }
 }

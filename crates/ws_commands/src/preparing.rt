@@ -1,9 +1,9 @@
 ghost use Rattle.std.specs.Prelude.{◌≡◌, ◌≤◌, [], IfOk, IfSome, OnErr, false};
-ghost use Rattle.std.specs.Option.{option_copied, option_or};
+ghost use Rattle.std.specs.Option.{option_copied, option_map, option_or};
 ghost use Rattle.apl_io.specs.Faults.{Rose};
 ghost use Rattle.ws_commands.specs.Command.{plain_command};
 ghost use Rattle.ws_commands.specs.Finish.{MayComeIn, brought};
-ghost use Rattle.ws_commands.specs.Library.{copying, dropping, loading};
+ghost use Rattle.ws_commands.specs.Library.{copying, dropping, listing_library, loading};
 ghost use Rattle.ws_commands.specs.Names.{clearing};
 ghost use Rattle.ws_commands.specs.Reading.{step_by, step_of};
 ghost use Rattle.ws_commands.specs.Row.{row_of};
@@ -46,13 +46,29 @@ pub fn prepare<K: Shelf>(
     ensures kept { OnErr result (KeepsEntries (K.told shelf.old) (K.told shelf.new)) }
     ensures counted { K.faults shelf.old ≤ K.faults shelf.new }
 {
-    match command_of(alloc, line.as_slice())? {
+    let command = command_of(alloc, line.as_slice())?;
+    let todo = perform_known(alloc, &command, ws, wsid, user, shelf);
+    drop(command);
+    todo
+}
+
+// What is to be done for a command, where there is one.
+fn perform_known<K: Shelf>(
+    alloc: Global,
+    command: &Option<Command>,
+    ws: &Workspace,
+    wsid: Option<&Name>,
+    user: u32,
+    shelf: &mut K,
+) -> Result<Todo, WantOfMemory>
+    requires frames { ws.now.frames ≡ [] }
+    ensures ok { IfOk result (λ todo. Takes K.told K.faults user (step_by (option_map plain_command command.now) ws.now (option_copied wsid.entry)) shelf.old (plain_todo todo) shelf.new) }
+    ensures kept { OnErr result (KeepsEntries (K.told shelf.old) (K.told shelf.new)) }
+    ensures counted { K.faults shelf.old ≤ K.faults shelf.new }
+{
+    match command {
         None => incorrect(alloc),
-        Some(command) => {
-            let todo = perform(alloc, &command, ws, wsid, user, shelf);
-            drop(command);
-            todo
-        }
+        Some(command) => perform(alloc, command, ws, wsid, user, shelf),
     }
 }
 
@@ -76,7 +92,7 @@ fn perform<K: Shelf>(
         Word::Load => load(alloc, command, ws, user, shelf),
         Word::CopyFrom => copy(alloc, command, ws, user, shelf),
         Word::Remove => remove(alloc, command, user, shelf),
-        Word::Lib => library_listed(alloc, shelf.names(user)),
+        Word::Lib => list_library(alloc, user, shelf),
         Word::Fns => list_names(alloc, What::Functions, ws),
         Word::Vars => list_names(alloc, What::Variables, ws),
         Word::Erase => erase(alloc, &command.objects, ws),
@@ -163,4 +179,17 @@ fn remove<K: Shelf>(
         None => incorrect(alloc),
         Some(name) => drop_saved(alloc, name, user, shelf),
     }
+}
+
+// `)LIB`: the shelf is asked for its names.
+fn list_library<K: Shelf>(
+    alloc: Global,
+    user: u32,
+    shelf: &mut K,
+) -> Result<Todo, WantOfMemory>
+    ensures ok { IfOk result (λ todo. Takes K.told K.faults user listing_library shelf.old (plain_todo todo) shelf.new) }
+    ensures kept { OnErr result (KeepsEntries (K.told shelf.old) (K.told shelf.new)) }
+    ensures counted { K.faults shelf.old ≤ K.faults shelf.new }
+{
+    library_listed(alloc, shelf.names(user))
 }
