@@ -34,10 +34,6 @@ AllHave P (writes name bytes todo) = P todo
 AllHave P (removes name next) = (there : Bool) → P (next there)
 AllHave P (lists next) = (names : List (List ℕ)) → P (next names)
 
-pub if_ok : {T E : Type 0} (P Q : T → Type 0) (result : Result T E) → ((found : T) → P found → Q found) → IfOk result P → IfOk result Q
-if_ok P Q (Ok found) h is = h found is
-if_ok P Q (Err why) h is = tt
-
 followed : {T : Type 0} (P : PlainTodo → Type 0) (next : T → PlainTodo) (answer : Result T StoreError) (todo : PlainTodo) → ((found : T) → P (next found)) → (IsErrOf answer Failed → P faulted) → Follows next answer todo → P todo
 followed P next (Ok found) todo all fault is = subst P (sym is) (all found)
 followed P next (Err Failed) todo all fault is = subst P (sym is) (fault refl)
@@ -49,12 +45,18 @@ module _ {K : Type 0} (told : K → Option (Told (ℕ × List ℕ))) (faults : K
   called P Tells next old todo new all fault h = followed P next h.answer todo all (λ failed. fault (h.fault.cause failed)) h.after
 
   -- what is to be done has the property, where a call that failed leads to nothing else
-  pub taken : (P : PlainTodo → Type 0) (user : ℕ) (step : Step) (old : K) (todo : PlainTodo) (new : K) → AllHave P step → (Rose (faults old) (faults new) → P faulted) → Takes told faults user step old todo new → P todo
+  taken : (P : PlainTodo → Type 0) (user : ℕ) (step : Step) (old : K) (todo : PlainTodo) (new : K) → AllHave P step → (Rose (faults old) (faults new) → P faulted) → Takes told faults user step old todo new → P todo
   taken P user (does wanted) old todo new all fault h = subst P (sym h.0) all
   taken P user (reads name next) old todo new all fault h = called P _ next old todo new all fault h
   taken P user (writes name bytes wanted) old todo new all fault h = called {T = Unit {0}} P _ (λ _. wanted) old todo new (λ _. all) fault h
   taken P user (removes name next) old todo new all fault h = called P _ next old todo new all fault h
   taken P user (lists next) old todo new all fault h = called P _ next old todo new all fault h
+
+  -- the same of a result
+  pub taken_result : {T E : Type 0} (P : PlainTodo → Type 0) (view : T → PlainTodo) (user : ℕ) (step : Step) (old new : K) (result : Result T E) → AllHave P step → (Rose (faults old) (faults new) → P faulted) → IfOk result (λ todo. Takes told faults user step old (view todo) new)
+      → IfOk result (λ todo. P (view todo))
+  taken_result P view user step old new (Ok todo) all fault h = taken P user step old (view todo) new all fault h
+  taken_result P view user step old new (Err why) all fault h = tt
 
 -- ---- the workspace that comes in
 

@@ -1,11 +1,11 @@
-use Rattle.std.proofs.Common.{◌≡◌, ap, subst, Option, option_copied}
+use Rattle.std.proofs.Common.{◌≡◌, subst, Option, option_copied, option_map}
 use Rattle.std.specs.Prelude.{IfOk}
 use Rattle.apl_io.specs.Faults.{Rose}
-use Rattle.ws_commands.specs.Command.{PlainCommand}
+use Rattle.ws_commands.specs.Command.{PlainCommand, plain_command}
 use Rattle.ws_commands.specs.Reading.{step_by}
 use Rattle.ws_commands.specs.Shelf.{Takes}
 use Rattle.ws_commands.specs.Todo.{PlainTodo, faulted, plain_todo}
-use Rattle.ws_commands.proofs.Outcomes.{Comes, all_caused, all_come, if_ok, taken}
+use Rattle.ws_commands.proofs.Outcomes.{Comes, all_caused, all_come, taken_result}
 use Rattle.ws_commands.proofs.preparing.prepare.Goals as goal
 
 pub returns-clause-todo : goal.returns-clause-todo
@@ -16,16 +16,14 @@ returns-clause-todo g c =
 
 pub returns-clause-fault : goal.returns-clause-fault
 returns-clause-fault g c =
-    if_ok _ _ c.perform_known-todo.result
-    (λ todo h.
-    taken g.K.Shelf.told g.K.Shelf.faults (λ (t : PlainTodo). t ≡ faulted → Rose (g.K.Shelf.faults c.args.shelf.now) (g.K.Shelf.faults c.perform_known-todo.new.shelf)) c.args.user _ c.args.shelf.now (plain_todo todo) c.perform_known-todo.new.shelf
-    (all_caused _ c.args.ws.now _ (option_copied c.args.wsid)) (λ cause is. cause) h)
-    c.perform_known-todo.ensures.ok
+    let command : Option PlainCommand = option_map plain_command c.in_ok-command.command in
+    let id = option_copied c.args.wsid in
+    taken_result g.K.Shelf.told g.K.Shelf.faults (λ (todo : PlainTodo). todo ≡ faulted → Rose (g.K.Shelf.faults c.args.shelf.now) (g.K.Shelf.faults c.perform_known-todo.new.shelf)) plain_todo c.args.user (step_by command c.args.ws.now id) c.args.shelf.now c.perform_known-todo.new.shelf
+    c.perform_known-todo.result (all_caused (Rose (g.K.Shelf.faults c.args.shelf.now) (g.K.Shelf.faults c.perform_known-todo.new.shelf)) c.args.ws.now command id) (λ cause is. cause) c.perform_known-todo.ensures.ok
 
 pub returns-clause-comes : goal.returns-clause-comes
 returns-clause-comes g c =
-    if_ok _ _ c.perform_known-todo.result
-    (λ todo h.
-    taken g.K.Shelf.told g.K.Shelf.faults (Comes c.args.ws.now) c.args.user _ c.args.shelf.now (plain_todo todo) c.perform_known-todo.new.shelf
-    (all_come c.args.ws.now _ (option_copied c.args.wsid) c.requires.frames) (λ cause. tt) h)
+    let command : Option PlainCommand = option_map plain_command c.in_ok-command.command in
+    let id = option_copied c.args.wsid in
+    taken_result g.K.Shelf.told g.K.Shelf.faults (Comes c.args.ws.now) plain_todo c.args.user (step_by command c.args.ws.now id) c.args.shelf.now c.perform_known-todo.new.shelf c.perform_known-todo.result (all_come c.args.ws.now command id c.requires.frames) (λ cause. tt)
     c.perform_known-todo.ensures.ok
