@@ -99,7 +99,7 @@ named_comes : (w : PlainWorkspace) (name : Option (List ℕ)) (next : List ℕ �
 named_comes w None next all = tt
 named_comes w (Some name) next all = all name
 
-id_comes : (w : PlainWorkspace) (given id : Option (List ℕ)) → Comes w (identifying given id w)
+id_comes : (w : PlainWorkspace) (given id : Option (List ℕ)) → Comes w (identifying given id)
 id_comes w None id = tt
 id_comes w (Some name) id = tt
 
@@ -174,10 +174,10 @@ named_is_none : (name : Option (List ℕ)) (next : List ℕ → Step) → ((give
 named_is_none None next all = refl
 named_is_none (Some name) next all = all name
 
-id_is_none : (w : PlainWorkspace) (given id : Option (List ℕ)) → IsNoFault (identifying given id w)
-id_is_none w None None = refl
-id_is_none w None (Some name) = refl
-id_is_none w (Some name) id = refl
+id_is_none : (given id : Option (List ℕ)) → IsNoFault (identifying given id)
+id_is_none None None = refl
+id_is_none None (Some name) = refl
+id_is_none (Some name) id = refl
 
 row_is_none : (w : PlainWorkspace) (command : PlainCommand) (id : Option (List ℕ)) (which : Word) → AllHave IsNoFault ((row_of which).step command w id)
 row_is_none w command id word.Clear = refl
@@ -189,7 +189,7 @@ row_is_none w command id word.Lib = λ names. refl
 row_is_none w command id word.Fns = refl
 row_is_none w command id word.Vars = refl
 row_is_none w command id word.Erase = refl
-row_is_none w command id word.Wsid = id_is_none w command.workspace id
+row_is_none w command id word.Wsid = id_is_none command.workspace id
 row_is_none w command id word.Off = refl
 
 all_are_none : (w : PlainWorkspace) (command : Option PlainCommand) (id : Option (List ℕ)) → AllHave IsNoFault (step_by command w id)

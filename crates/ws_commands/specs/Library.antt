@@ -10,13 +10,13 @@ use Rattle.ws_codec.specs.SavedText.{saved}
 use Rattle.ws_codec.specs.declared.saved.SavedRule.{SavedRule}
 use Rattle.ws_commands.specs.Mention.{mentions_of}
 use Rattle.ws_commands.specs.Step.{Step, does, reads, writes, removes, lists}
-use Rattle.ws_commands.specs.Todo.{PlainTodo, counting, damaged, doing, replace, saying, set_id, swap, unknown}
+use Rattle.ws_commands.specs.Todo.{PlainTodo, counting, damaged, doing, naming, replace, saying, swap, unknown}
 use Rattle.ws_commands.specs.declared.mention.Mention.{Mention}
 
 -- )SAVE, under the name that is given or the id, where there is one
 abbrev pub saving : Option (List ℕ) → PlainWorkspace → Step
 saving None w = does (saying (codes "WS NOT NAMED" ∷ []))
-saving (Some name) w = writes name (saved w) (doing w (set_id name) ((codes "SAVED " ++ name) ∷ []))
+saving (Some name) w = writes name (saved w) (naming name ((codes "SAVED " ++ name) ∷ []))
 
 -- a saved workspace comes in place of the active one, and its offers are to be made again
 abbrev pub loaded_by : List ℕ → PlainWorkspace → Result PlainSaved (ℕ × SavedRule) → PlainTodo

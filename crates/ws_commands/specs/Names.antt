@@ -5,7 +5,7 @@ use Rattle.apl_workspace.specs.Workspace.{PlainWorkspace, global_in}
 use Rattle.apl_workspace.specs.declared.meaning.Meaning.{Meaning}
 use Rattle.apl_workspace.specs.declared.meaning.Meaning.TheVariants.{Nothing, Value, Function, Label, Shared}
 use Rattle.ws_commands.specs.Mention.{mentions_of}
-use Rattle.ws_commands.specs.Todo.{PlainTodo, clear, counting, doing, erase, off, saying, set_id}
+use Rattle.ws_commands.specs.Todo.{PlainTodo, clear, counting, doing, erase, naming, off, saying}
 use Rattle.ws_commands.specs.declared.mention.Mention.{Mention}
 
 -- )CLEAR
@@ -13,8 +13,8 @@ abbrev pub clearing : PlainWorkspace → PlainTodo
 clearing w = doing w clear (codes "CLEAR WS" ∷ [])
 
 -- )OFF
-abbrev pub leaving : PlainWorkspace → PlainTodo
-leaving w = doing w off []
+abbrev pub leaving : PlainTodo
+leaving = record { retract = []; lines = []; counted = false; change = off; remakes = [] }
 
 -- a name behind two blanks
 abbrev pub behind_blanks : List ℕ → List ℕ
@@ -56,6 +56,6 @@ old_id_line None = codes "WAS CLEAR WS"
 old_id_line (Some name) = codes "WAS " ++ name
 
 -- )WSID, without a name or with one
-abbrev pub identifying : Option (List ℕ) → Option (List ℕ) → PlainWorkspace → PlainTodo
-identifying None id w = saying (id_line id ∷ [])
-identifying (Some name) id w = doing w (set_id name) (old_id_line id ∷ [])
+abbrev pub identifying : Option (List ℕ) → Option (List ℕ) → PlainTodo
+identifying None id = saying (id_line id ∷ [])
+identifying (Some name) id = naming name (old_id_line id ∷ [])

@@ -35,5 +35,5 @@ row_of word.Lib = record { text = codes ")LIB"; workspace = No; objects = No; st
 row_of word.Fns = record { text = codes ")FNS"; workspace = No; objects = No; step = λ command w id. does (listing (names_asked Functions w)) }
 row_of word.Vars = record { text = codes ")VARS"; workspace = No; objects = No; step = λ command w id. does (listing (names_asked Variables w)) }
 row_of word.Erase = record { text = codes ")ERASE"; workspace = No; objects = Must; step = λ command w id. does (erasing command.objects w) }
-row_of word.Wsid = record { text = codes ")WSID"; workspace = May; objects = No; step = λ command w id. does (identifying command.workspace id w) }
-row_of word.Off = record { text = codes ")OFF"; workspace = No; objects = No; step = λ command w id. does (leaving w) }
+row_of word.Wsid = record { text = codes ")WSID"; workspace = May; objects = No; step = λ command w id. does (identifying command.workspace id) }
+row_of word.Off = record { text = codes ")OFF"; workspace = No; objects = No; step = λ command w id. does leaving }

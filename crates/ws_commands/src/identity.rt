@@ -1,12 +1,11 @@
-ghost use Rattle.std.specs.Prelude.{◌≡◌, ◌∷◌, [], Some, None, IfOk};
+ghost use Rattle.std.specs.Prelude.{◌≡◌, ◌∷◌, [], IfOk};
 ghost use Rattle.std.specs.Option.{option_copied};
 ghost use Rattle.ws_commands.specs.Names.{id_line, identifying, old_id_line};
-ghost use Rattle.ws_commands.specs.Todo.{doing, plain_todo, saying, set_id};
+ghost use Rattle.ws_commands.specs.Todo.{plain_todo};
 
 use crate::lines::{one_line, text_line};
-use crate::todo::{Change, Todo};
+use crate::todo::Todo;
 use apl_arrays::{LineList, Name, WantOfMemory};
-use apl_workspace::Workspace;
 use std::alloc::Global;
 
 /// `)WSID`: without a name the id is told; else this name is the id, and what it was is told. It takes memory for the line.
@@ -14,15 +13,14 @@ pub(crate) fn identify(
     alloc: Global,
     given: Option<Name>,
     wsid: Option<&Name>,
-    ws: &Workspace,
 ) -> Result<Todo, WantOfMemory>
-    ensures { IfOk result (λ todo. plain_todo todo ≡ identifying given (option_copied wsid.entry) ws.now) }
+    ensures { IfOk result (λ todo. plain_todo todo ≡ identifying given (option_copied wsid.entry)) }
 {
     match given {
         None => Ok(Todo::saying(alloc, id_line(alloc, wsid)?)),
         Some(name) => {
             let lines = old_id_line(alloc, wsid)?;
-            Ok(Todo::changing(alloc, Change::SetId(name), lines))
+            Ok(Todo::naming(alloc, name, lines))
         }
     }
 }

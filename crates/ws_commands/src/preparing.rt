@@ -1,15 +1,15 @@
-ghost use Rattle.std.specs.Prelude.{◌≡◌, ◌≤◌, [], IfOk, IfSome, OnErr, false};
+ghost use Rattle.std.specs.Prelude.{◌≡◌, ◌≤◌, [], IfOk, IfSome, OnErr};
 ghost use Rattle.std.specs.Option.{option_copied, option_map, option_or};
 ghost use Rattle.apl_io.specs.Faults.{Rose};
 ghost use Rattle.ws_commands.specs.Command.{plain_command};
 ghost use Rattle.ws_commands.specs.Finish.{MayComeIn, brought};
 ghost use Rattle.ws_commands.specs.Library.{copying, dropping, listing_library, loading};
-ghost use Rattle.ws_commands.specs.Names.{clearing};
+ghost use Rattle.ws_commands.specs.Names.{clearing, leaving};
 ghost use Rattle.ws_commands.specs.Reading.{step_by, step_of};
 ghost use Rattle.ws_commands.specs.Row.{row_of};
 ghost use Rattle.ws_commands.specs.Shelf.{KeepsEntries, Takes};
 ghost use Rattle.ws_commands.specs.Step.{named};
-ghost use Rattle.ws_commands.specs.Todo.{faulted, off, plain_change, plain_todo};
+ghost use Rattle.ws_commands.specs.Todo.{faulted, plain_change, plain_todo};
 
 use crate::command::{Command, command_of};
 use crate::copying::copied;
@@ -96,7 +96,7 @@ fn perform<K: Shelf>(
         Word::Fns => list_names(alloc, What::Functions, ws),
         Word::Vars => list_names(alloc, What::Variables, ws),
         Word::Erase => erase(alloc, &command.objects, ws),
-        Word::Wsid => identify(alloc, command.workspace, wsid, ws),
+        Word::Wsid => identify(alloc, command.workspace, wsid),
         Word::Off => Ok(leave(alloc)),
     }
 }
@@ -122,7 +122,7 @@ fn clear(alloc: Global, ws: &Workspace) -> Result<Todo, WantOfMemory>
 
 // `)OFF`.
 fn leave(alloc: Global) -> Todo
-    ensures { plain_todo result ≡ record { retract = []; lines = []; counted = false; change = off; remakes = [] } }
+    ensures { plain_todo result ≡ leaving }
 {
     Todo::changing(alloc, Change::Off, LineList::new(alloc))
 }

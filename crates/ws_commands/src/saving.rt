@@ -4,7 +4,7 @@ ghost use Rattle.ws_commands.specs.Shelf.{KeepsEntries, Takes};
 ghost use Rattle.ws_commands.specs.Todo.{plain_todo, saying};
 
 use crate::lines::{one_line, text_line};
-use crate::todo::{Change, Todo};
+use crate::todo::Todo;
 use apl_arrays::{LineList, Name, WantOfMemory};
 use apl_io::{Shelf, StoreError};
 use apl_workspace::Workspace;
@@ -48,7 +48,7 @@ fn save_as<K: Shelf>(
     let done = one_line(alloc, "SAVED ", name.glyphs())?;
     let fault = text_line(alloc, "LIBRARY FAULT")?;
     match shelf.write(user, &name, bytes.as_slice()) {
-        Ok(()) => Ok(Todo::changing(alloc, Change::SetId(name), done)),
+        Ok(()) => Ok(Todo::naming(alloc, name, done)),
         Err(StoreError::Failed) => Ok(Todo::saying(alloc, fault)),
         Err(StoreError::WantOfMemory) => Err(WantOfMemory),
     }

@@ -1,5 +1,5 @@
-ghost use Rattle.std.specs.Prelude.{◌≡◌, [], false, true, IfOk};
-ghost use Rattle.ws_commands.specs.Todo.{counting, damaged, faulted, incorrect, plain_change, plain_todo, saying, unknown};
+ghost use Rattle.std.specs.Prelude.{◌≡◌, [], false, IfOk};
+ghost use Rattle.ws_commands.specs.Todo.{counting, damaged, faulted, incorrect, naming, plain_change, plain_todo, saying, unknown};
 
 use crate::lines::text_line;
 use apl_arrays::{LineList, List, Name, NameList, WantOfMemory};
@@ -55,6 +55,13 @@ impl Todo {
             change: Change::Keep,
             remakes: List::new(alloc),
         }
+    }
+
+    /// An id and lines, and nothing else. No memory.
+    pub(crate) fn naming(alloc: Global, name: Name, lines: LineList) -> Todo
+        ensures { plain_todo result ≡ naming name lines.items }
+    {
+        Todo::changing(alloc, Change::SetId(name), lines)
     }
 
     /// A change for which no name is retracted, and lines. No memory.

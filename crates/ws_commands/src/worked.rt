@@ -34,7 +34,7 @@ pub fn commands_as_written()
     ensures id { (w : PlainWorkspace) → step_of (codes ")WSID") w (Some (codes "W")) ≡ does (saying (codes "IS W" ∷ [])) }
     ensures first_id { (w : PlainWorkspace) → step_of (codes ")WSID V") w None ≡ does (record { retract = []; lines = codes "WAS CLEAR WS" ∷ []; counted = false; change = set_id (codes "V"); remakes = [] }) }
     ensures next_id { (w : PlainWorkspace) → step_of (codes ")WSID V") w (Some (codes "W")) ≡ does (record { retract = []; lines = codes "WAS W" ∷ []; counted = false; change = set_id (codes "V"); remakes = [] }) }
-    ensures off { (w : PlainWorkspace) (id : Option (List ℕ)) → step_of (codes ")OFF") w id ≡ does (leaving w) }
+    ensures off { (w : PlainWorkspace) (id : Option (List ℕ)) → step_of (codes ")OFF") w id ≡ does leaving }
 {}
 
 /// Lines that are no commands: another word, too few or too many words behind it, and words that are no names. The call does
@@ -66,7 +66,7 @@ pub fn names_as_worked()
     ensures shared { erasing (codes "Y" ∷ codes "X" ∷ []) (of_a_share None)
         ≡ record { retract = codes "X" ∷ []; lines = []; counted = false; change = erase (codes "Y" ∷ codes "X" ∷ []); remakes = [] } }
     ensures cleared { clearing (of_a_share (Some (scalar (pos 3)))) ≡ record { retract = codes "X" ∷ []; lines = codes "CLEAR WS" ∷ []; counted = false; change = clear; remakes = [] } }
-    ensures left { leaving (of_a_share None) ≡ record { retract = []; lines = []; counted = false; change = off; remakes = [] } }
+    ensures left { leaving ≡ record { retract = []; lines = []; counted = false; change = off; remakes = [] } }
 {}
 
 /// What a load leads to: nothing is under the name, or the bytes are no workspace, and all stays; else all shares are
