@@ -24,8 +24,5 @@ pub type RemakeList = List<Remake>;
 pub fn is_addressee(to: u32) -> bool
     ensures { result ≡ is_addressee to }
 {
-    to == 0
-        || to == CLOCK_PARTY
-        || to == TEXT_PARTY
-        || (to >= FIRST_USER && to <= LAST_USER)
+    to == 0 || to == CLOCK_PARTY || to == TEXT_PARTY || (to >= FIRST_USER && to <= LAST_USER)
 }

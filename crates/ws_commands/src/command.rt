@@ -50,11 +50,7 @@ fn with_arguments(
 }
 
 // The command of this word, with these objects, where they are ones.
-fn with_objects(
-    word: Word,
-    workspace: Option<Name>,
-    objects: Option<NameList>,
-) -> Option<Command>
+fn with_objects(word: Word, workspace: Option<Name>, objects: Option<NameList>) -> Option<Command>
     ensures { option_map plain_command result ≡ with_objects word workspace (option_map (λ list. list.items) objects) }
 {
     match objects {

@@ -14,30 +14,17 @@ use std::alloc::Global;
 
 /// `)ERASE`: names are erased, the shared ones of them are retracted first, and each that is not there gets a line. It takes
 /// memory for the names and the lines.
-pub(crate) fn erase(
-    alloc: Global,
-    names: &NameList,
-    ws: &Workspace,
-) -> Result<Todo, WantOfMemory>
+pub(crate) fn erase(alloc: Global, names: &NameList, ws: &Workspace) -> Result<Todo, WantOfMemory>
     ensures { IfOk result (λ todo. plain_todo todo ≡ erasing names.now.items ws.now) }
 {
     let lines = unfound_lines(alloc, names.as_slice(), ws)?;
     let retract = shared_among(alloc, names.as_slice(), ws)?;
     let names = names.copy(alloc)?;
-    Ok(Todo::retracting(
-        alloc,
-        retract,
-        Change::Erase(names),
-        lines,
-    ))
+    Ok(Todo::retracting(alloc, retract, Change::Erase(names), lines))
 }
 
 // The lines of names that are not there, or are mentioned again.
-fn unfound_lines(
-    alloc: Global,
-    names: &[Name],
-    ws: &Workspace,
-) -> Result<LineList, WantOfMemory>
+fn unfound_lines(alloc: Global, names: &[Name], ws: &Workspace) -> Result<LineList, WantOfMemory>
     ensures { IfOk result (λ lines. lines.items ≡ flat_map (unfound ws.now) (mentions_of names.now)) }
 {
     let mentions = mentions_of(alloc, names)?;
@@ -74,11 +61,7 @@ fn is_nothing(seen: Seen<'_>) -> bool
 }
 
 // The shared names of a workspace that are among these, ascending.
-fn shared_among(
-    alloc: Global,
-    names: &[Name],
-    ws: &Workspace,
-) -> Result<NameList, WantOfMemory>
+fn shared_among(alloc: Global, names: &[Name], ws: &Workspace) -> Result<NameList, WantOfMemory>
     ensures { IfOk result (λ list. list.items ≡ filter (is_among names.now) (names_asked What.Shares ws.now)) }
 {
     let shares = ws.names(What::Shares)?;

@@ -19,11 +19,7 @@ pub(crate) fn line_of(alloc: Global, text: &str, rest: &[Glyph]) -> Result<Line,
 }
 
 /// One line, of a text and of glyphs behind it. It takes memory for both.
-pub(crate) fn one_line(
-    alloc: Global,
-    text: &str,
-    rest: &[Glyph],
-) -> Result<LineList, WantOfMemory>
+pub(crate) fn one_line(alloc: Global, text: &str, rest: &[Glyph]) -> Result<LineList, WantOfMemory>
     requires { IsTrue (list_all is_plain text.now) }
     ensures { IfOk result (λ lines. lines.items ≡ (text.now ++ rest.now) ∷ []) }
 {

@@ -14,11 +14,7 @@ use line_text::{add_blanks, add_glyphs};
 use std::alloc::Global;
 
 /// `)FNS` and `)VARS`: the names that are asked for, on one line. It takes memory for them and for the line.
-pub(crate) fn list_names(
-    alloc: Global,
-    what: What,
-    ws: &Workspace,
-) -> Result<Todo, WantOfMemory>
+pub(crate) fn list_names(alloc: Global, what: What, ws: &Workspace) -> Result<Todo, WantOfMemory>
     ensures { IfOk result (λ todo. plain_todo todo ≡ listing (names_asked what ws.now)) }
 {
     let names = ws.names(what)?;

@@ -182,11 +182,7 @@ fn remove<K: Shelf>(
 }
 
 // `)LIB`: the shelf is asked for its names.
-fn list_library<K: Shelf>(
-    alloc: Global,
-    user: u32,
-    shelf: &mut K,
-) -> Result<Todo, WantOfMemory>
+fn list_library<K: Shelf>(alloc: Global, user: u32, shelf: &mut K) -> Result<Todo, WantOfMemory>
     ensures ok { IfOk result (λ todo. Takes K.told K.faults user listing_library shelf.old (plain_todo todo) shelf.new) }
     ensures kept { OnErr result (KeepsEntries (K.told shelf.old) (K.told shelf.new)) }
     ensures counted { K.faults shelf.old ≤ K.faults shelf.new }

@@ -126,8 +126,5 @@ fn is_text(text: &[u8], glyphs: &[Glyph]) -> bool
 pub(crate) fn word_of(text: &[Glyph]) -> Option<Word>
     ensures { result ≡ word_of text.now }
 {
-    Word::ALL
-        .iter()
-        .find(|word| word.is_written(text))
-        .copied()
+    Word::ALL.iter().find(|word| word.is_written(text)).copied()
 }
