@@ -1,9 +1,11 @@
 -- What changes give up, once a name is shared no more.
-use Rattle.std.proofs.Common.{◌≡◌, ℕ, Bool, true, false, cond, not, ◌&&◌, List, [], ◌∷◌, Option, Some, None, refl, sym, ap, ◌∙◌}
+use Rattle.std.proofs.Common.{◌≡◌, ℕ, Bool, true, false, cond, not, ◌&&◌, ◌||◌, List, [], ◌∷◌, Option, Some, None, refl, sym, ap, ◌∙◌, subst}
 use Rattle.std.specs.Prelude.{filter, nat_le, unwrap_or}
-use Rattle.std.specs.List.{AllByRecursion}
+use Rattle.std.specs.List.{AllByRecursion, list_any}
 use Rattle.std.specs.Map.{keys_of}
+use Rattle.std.specs.Ordering.{is_eq}
 use Rattle.std.specs.declared.cmp.Ordering.TheVariants.{Less}
+use Rattle.std.proofs.lemmas.Bool.{and_parts, false≢true}
 use Rattle.std.proofs.lemmas.Map.Keys.{sorted_head, sorted_tail}
 use Rattle.std.proofs.lemmas.Map.Views.{any-filter_same}
 use Rattle.apl_arrays.specs.Array.{PlainArray}
@@ -11,13 +13,13 @@ use Rattle.apl_arrays.specs.Name.{name_order, same_name}
 use Rattle.apl_workspace.specs.Limits.{most_weight}
 use Rattle.apl_workspace.specs.Listing.{names_among, names_asked}
 use Rattle.apl_workspace.specs.Meaning.{NameTable, is_shared_in, is_shared_meaning, meaning_in, own_copy_in, with_value_or_none}
-use Rattle.apl_workspace.specs.Workspace.{IsWorkspace, PlainWorkspace, unmarked, unmarked_with_copy, unshared, workspace_weight}
+use Rattle.apl_workspace.specs.Workspace.{IsWorkspace, PlainWorkspace, is_shared, unmarked, unmarked_with_copy, unshared, workspace_weight}
 use Rattle.apl_workspace.specs.declared.meaning.Meaning.{Meaning}
 use Rattle.apl_workspace.specs.declared.meaning.Meaning.TheVariants.{Nothing, Value}
 use Rattle.apl_workspace.specs.declared.what.What.TheVariants.{Shares}
-use Rattle.apl_workspace.proofs.Ascending.{Ascend, ascend_cons, found_with, found_without, with_ascends, without_ascends}
+use Rattle.apl_workspace.proofs.Ascending.{Ascend, ascend_cons, none_ascend, found_with, found_without, with_ascends, without_ascends}
 use Rattle.apl_workspace.proofs.Listed.{ascend_taken, told_by_members}
-use Rattle.apl_workspace.proofs.NameLaw.{equal_names}
+use Rattle.apl_workspace.proofs.NameLaw.{by_order, equal_names, own_name}
 use Rattle.ws_commands.specs.Todo.{PlainChange, clear, erase, given_up, is_among, is_another, keep, off, replace, set_id, swap}
 use Rattle.ws_commands.proofs.Shares.{among_shares}
 
@@ -102,3 +104,52 @@ given_unmarked change w name value h = by (nat_le (workspace_weight (unshared w 
 
 pub given_with_copy : (change : PlainChange) (w : PlainWorkspace) (name : List ℕ) → IsWorkspace w → given_up change (unmarked_with_copy w name) ≡ filter (is_another name) (given_up change w)
 given_with_copy change w name h = given_unshared change w name (own_copy_in w.globals name) h
+
+-- ---- names that are retracted in their order
+
+others_stay : (name : List ℕ) (rest : List (List ℕ)) → AllByRecursion (λ other. name_order name other ≡ Less) rest → filter (is_another name) rest ≡ rest
+others_stay name [] all = refl
+others_stay name (other ∷ rest) all =
+    let apart : same_name name other ≡ false = by_order name other ∙ ap is_eq all.0 in
+    ap (λ (b : Bool). cond (not b) (other ∷ filter (is_another name) rest) (filter (is_another name) rest)) apart ∙ ap (λ (l : List (List ℕ)). other ∷ l) (others_stay name rest all.1)
+
+first_goes : (name : List ℕ) (rest : List (List ℕ)) → Ascend (name ∷ rest) → filter (is_another name) (name ∷ rest) ≡ rest
+first_goes name rest s =
+    ap (λ (b : Bool). cond (not b) (name ∷ filter (is_another name) rest) (filter (is_another name) rest)) (own_name name) ∙ others_stay name rest (sorted_head name_order name rest s)
+
+shares_ascend : (w : PlainWorkspace) → IsWorkspace w → Ascend (names_asked Shares w)
+shares_ascend w h = ascend_taken is_shared_meaning w.globals h.ascending
+
+given_ascends : (change : PlainChange) (w : PlainWorkspace) → IsWorkspace w → Ascend (given_up change w)
+given_ascends keep w h = none_ascend
+given_ascends clear w h = shares_ascend w h
+given_ascends (replace workspace id) w h = shares_ascend w h
+given_ascends (swap workspace) w h = none_ascend
+given_ascends (erase names) w h = filter_ascends (is_among names) (names_asked Shares w) (shares_ascend w h)
+given_ascends (set_id id) w h = none_ascend
+given_ascends off w h = none_ascend
+
+-- once the first of the names is retracted the others are left
+pub next_unmarked : (change : PlainChange) (w : PlainWorkspace) (name : List ℕ) (rest : List (List ℕ)) (value : Option PlainArray) → IsWorkspace w → given_up change w ≡ name ∷ rest → given_up change (unmarked w name value) ≡ rest
+next_unmarked change w name rest value h e =
+    given_unmarked change w name value h ∙ ap (λ (l : List (List ℕ)). filter (is_another name) l) e ∙ first_goes name rest (subst Ascend e (given_ascends change w h))
+
+pub next_with_copy : (change : PlainChange) (w : PlainWorkspace) (name : List ℕ) (rest : List (List ℕ)) → IsWorkspace w → given_up change w ≡ name ∷ rest → given_up change (unmarked_with_copy w name) ≡ rest
+next_with_copy change w name rest h e = given_with_copy change w name h ∙ ap (λ (l : List (List ℕ)). filter (is_another name) l) e ∙ first_goes name rest (subst Ascend e (given_ascends change w h))
+
+-- what is given up is shared
+given_is_shared : (change : PlainChange) (w : PlainWorkspace) (name : List ℕ) → IsWorkspace w → list_any (same_name name) (given_up change w) ≡ true → is_shared w name ≡ true
+given_is_shared keep w name h among = absurd (false≢true among)
+given_is_shared clear w name h among = sym (among_shares w.globals name h.ascending) ∙ among
+given_is_shared (replace workspace id) w name h among = sym (among_shares w.globals name h.ascending) ∙ among
+given_is_shared (swap workspace) w name h among = absurd (false≢true among)
+given_is_shared (erase names) w name h among =
+    let both : (is_among names name && list_any (same_name name) (names_asked Shares w)) ≡ true =
+    sym (any-filter_same (same_name name) (is_among names) (is_among names name) (λ (k : List ℕ) e. ap (is_among names) (sym (equal_names name k e))) (names_asked Shares w)) ∙ among in
+    sym (among_shares w.globals name h.ascending) ∙ (and_parts (is_among names name) (list_any (same_name name) (names_asked Shares w)) both).1
+given_is_shared (set_id id) w name h among = absurd (false≢true among)
+given_is_shared off w name h among = absurd (false≢true among)
+
+pub first_is_shared : (change : PlainChange) (w : PlainWorkspace) (name : List ℕ) (rest : List (List ℕ)) → IsWorkspace w → given_up change w ≡ name ∷ rest → is_shared w name ≡ true
+first_is_shared change w name rest h e =
+    given_is_shared change w name h (ap (list_any (same_name name)) e ∙ ap (λ (b : Bool). b || list_any (same_name name) rest) (own_name name))

@@ -1,6 +1,6 @@
 //! What holds behind changes, and before they are made.
 
-ghost use Rattle.std.specs.Prelude.{◌≡◌, ◌&&◌, ℕ, List, Option, Some, None, filter, if◌then◌else◌, not};
+ghost use Rattle.std.specs.Prelude.{◌≡◌, ◌&&◌, ◌∷◌, ℕ, List, Option, filter, if◌then◌else◌, true};
 ghost use Rattle.std.specs.List.{list_any};
 ghost use Rattle.apl_arrays.specs.Array.{PlainArray};
 ghost use Rattle.apl_arrays.specs.Name.{same_name};
@@ -29,4 +29,12 @@ pub fn copies_change_the_copied_names()
 pub fn retracted_names_are_given_up()
     ensures unmarked { (change : PlainChange) (w : PlainWorkspace) (name : List ℕ) (value : Option PlainArray) → IsWorkspace w → given_up change (unmarked w name value) ≡ filter (is_another name) (given_up change w) }
     ensures kept { (change : PlainChange) (w : PlainWorkspace) (name : List ℕ) → IsWorkspace w → given_up change (unmarked_with_copy w name) ≡ filter (is_another name) (given_up change w) }
+{}
+
+/// The names that a change gives up may be retracted in their order: the first of them is shared, and once it is retracted,
+/// with a value or with its own copy, the others are left. The call does nothing. No memory.
+pub fn retractions_follow_each_other()
+    ensures shared { (change : PlainChange) (w : PlainWorkspace) (name : List ℕ) (rest : List (List ℕ)) → IsWorkspace w → given_up change w ≡ name ∷ rest → is_shared w name ≡ true }
+    ensures unmarked { (change : PlainChange) (w : PlainWorkspace) (name : List ℕ) (rest : List (List ℕ)) (value : Option PlainArray) → IsWorkspace w → given_up change w ≡ name ∷ rest → given_up change (unmarked w name value) ≡ rest }
+    ensures kept { (change : PlainChange) (w : PlainWorkspace) (name : List ℕ) (rest : List (List ℕ)) → IsWorkspace w → given_up change w ≡ name ∷ rest → given_up change (unmarked_with_copy w name) ≡ rest }
 {}

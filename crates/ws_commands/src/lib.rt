@@ -21,7 +21,9 @@ mod word;
 mod words;
 mod worked;
 
-pub use change_laws::{copies_change_the_copied_names, retracted_names_are_given_up};
+pub use change_laws::{
+    copies_change_the_copied_names, retracted_names_are_given_up, retractions_follow_each_other,
+};
 pub use finishing::finish;
 pub use preparing::prepare;
 pub use reading_laws::lines_fall_into_words;
