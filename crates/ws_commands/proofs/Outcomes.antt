@@ -21,7 +21,7 @@ use Rattle.ws_commands.specs.Reading.{step_by}
 use Rattle.ws_commands.specs.Row.{row_of}
 use Rattle.ws_commands.specs.Shelf.{Follows, IsCall, Takes}
 use Rattle.ws_commands.specs.Step.{Step, does, reads, writes, removes, lists, named}
-use Rattle.ws_commands.specs.Todo.{PlainChange, PlainTodo, clear, doing, erase, faulted, keep, off, replace, saying, set_id, swap}
+use Rattle.ws_commands.specs.Todo.{PlainChange, PlainTodo, clear, doing, erase, faulted, given_up, keep, off, replace, saying, set_id, swap}
 use Rattle.ws_commands.specs.declared.word.Word.{Word}
 use Rattle.ws_commands.specs.declared.word.Word.TheVariants as word
 use Rattle.ws_commands.proofs.Fresh.{fresh}
@@ -33,6 +33,13 @@ AllHave P (reads name next) = (found : Option (List ℕ)) → P (next found)
 AllHave P (writes name bytes todo) = P todo
 AllHave P (removes name next) = (there : Bool) → P (next there)
 AllHave P (lists next) = (names : List (List ℕ)) → P (next names)
+
+weaker : (P Q : PlainTodo → Type 0) (step : Step) → ((todo : PlainTodo) → P todo → Q todo) → AllHave P step → AllHave Q step
+weaker P Q (does todo) h all = h todo all
+weaker P Q (reads name next) h all = λ found. h (next found) (all found)
+weaker P Q (writes name bytes todo) h all = h todo all
+weaker P Q (removes name next) h all = λ there. h (next there) (all there)
+weaker P Q (lists next) h all = λ names. h (next names) (all names)
 
 followed : {T : Type 0} (P : PlainTodo → Type 0) (next : T → PlainTodo) (answer : Result T StoreError) (todo : PlainTodo) → ((found : T) → P (next found)) → (IsErrOf answer Failed → P faulted) → Follows next answer todo → P todo
 followed P next (Ok found) todo all fault is = subst P (sym is) (all found)
@@ -58,68 +65,83 @@ module _ {K : Type 0} (told : K → Option (Told (ℕ × List ℕ))) (faults : K
   taken_result P view user step old new (Ok todo) all fault h = taken P user step old (view todo) new all fault h
   taken_result P view user step old new (Err why) all fault h = tt
 
--- ---- the workspace that comes in
+-- ---- the names that are retracted, and the workspace that comes in
 
+-- what is retracted is what the change gives up of shares
+abbrev pub Gives : PlainWorkspace → PlainTodo → Type 0
+Gives w todo = todo.retract ≡ given_up todo.change w
+
+-- the workspace that a change brings may come in
 abbrev pub Comes : PlainWorkspace → PlainTodo → Type 0
 Comes w todo = IfSome (brought todo.change) (MayComeIn w)
 
-loads_come : (w : PlainWorkspace) (name bytes : List ℕ) (read : Result PlainSaved (ℕ × SavedRule)) → reading_of bytes ≡ read → Comes w (loaded_by name w read)
-loads_come w name bytes (Err fault) e = tt
+abbrev IsReady : PlainWorkspace → PlainTodo → Type 0
+IsReady w todo = Gives w todo × Comes w todo
+
+loads_come : (w : PlainWorkspace) (name bytes : List ℕ) (read : Result PlainSaved (ℕ × SavedRule)) → reading_of bytes ≡ read → IsReady w (loaded_by name w read)
+loads_come w name bytes (Err fault) e = (refl, tt)
 loads_come w name bytes (Ok found) e =
     let new = fresh bytes found e in
     let none : found.workspace.printed ≡ 0 = ap (λ (x : PlainWorkspace). x.printed) new in
-    record { frames = ap (λ (x : PlainWorkspace). x.frames) new; printed = omega (arith, none) }
+    (refl, record { frames = ap (λ (x : PlainWorkspace). x.frames) new; printed = omega (arith, none) })
 
 copy_comes : (w from : PlainWorkspace) (name : List ℕ) (objects : List (List ℕ)) (b : Bool) → w.frames ≡ []
-    → Comes w (cond b (doing w (swap (merged w from (asked_for objects))) (copy_lines name objects w from)) (saying (codes "WS FULL" ∷ [])))
-copy_comes w from name objects true none = record { frames = none; printed = omega arith }
-copy_comes w from name objects false none = tt
+    → IsReady w (cond b (doing w (swap (merged w from (asked_for objects))) (copy_lines name objects w from)) (saying (codes "WS FULL" ∷ [])))
+copy_comes w from name objects true none = (refl, record { frames = none; printed = omega arith })
+copy_comes w from name objects false none = (refl, tt)
 
-copies_come : (w : PlainWorkspace) (name : List ℕ) (objects : List (List ℕ)) (read : Result PlainSaved (ℕ × SavedRule)) → w.frames ≡ [] → Comes w (copied_by name objects w read)
-copies_come w name objects (Err fault) none = tt
+copies_come : (w : PlainWorkspace) (name : List ℕ) (objects : List (List ℕ)) (read : Result PlainSaved (ℕ × SavedRule)) → w.frames ≡ [] → IsReady w (copied_by name objects w read)
+copies_come w name objects (Err fault) none = (refl, tt)
 copies_come w name objects (Ok found) none = copy_comes w found.workspace name objects (nat_le (workspace_weight (merged w found.workspace (asked_for objects))) most_weight) none
 
-loaded_comes : (w : PlainWorkspace) (name : List ℕ) (found : Option (List ℕ)) → Comes w (loaded name w found)
-loaded_comes w name None = tt
+loaded_comes : (w : PlainWorkspace) (name : List ℕ) (found : Option (List ℕ)) → IsReady w (loaded name w found)
+loaded_comes w name None = (refl, tt)
 loaded_comes w name (Some bytes) = loads_come w name bytes (reading_of bytes) refl
 
-copied_comes : (w : PlainWorkspace) (name : List ℕ) (objects : List (List ℕ)) (found : Option (List ℕ)) → w.frames ≡ [] → Comes w (copied name objects w found)
-copied_comes w name objects None none = tt
+copied_comes : (w : PlainWorkspace) (name : List ℕ) (objects : List (List ℕ)) (found : Option (List ℕ)) → w.frames ≡ [] → IsReady w (copied name objects w found)
+copied_comes w name objects None none = (refl, tt)
 copied_comes w name objects (Some bytes) none = copies_come w name objects (reading_of bytes) none
 
-dropped_comes : (w : PlainWorkspace) (name : List ℕ) (there : Bool) → Comes w (dropped name there)
-dropped_comes w name true = tt
-dropped_comes w name false = tt
+dropped_comes : (w : PlainWorkspace) (name : List ℕ) (there : Bool) → IsReady w (dropped name there)
+dropped_comes w name true = (refl, tt)
+dropped_comes w name false = (refl, tt)
 
-saved_comes : (w : PlainWorkspace) (name : Option (List ℕ)) → AllHave (Comes w) (saving name w)
-saved_comes w None = tt
-saved_comes w (Some name) = tt
+saved_comes : (w : PlainWorkspace) (name : Option (List ℕ)) → AllHave (IsReady w) (saving name w)
+saved_comes w None = (refl, tt)
+saved_comes w (Some name) = (refl, tt)
 
-named_comes : (w : PlainWorkspace) (name : Option (List ℕ)) (next : List ℕ → Step) → ((given : List ℕ) → AllHave (Comes w) (next given)) → AllHave (Comes w) (named name next)
-named_comes w None next all = tt
+named_comes : (w : PlainWorkspace) (name : Option (List ℕ)) (next : List ℕ → Step) → ((given : List ℕ) → AllHave (IsReady w) (next given)) → AllHave (IsReady w) (named name next)
+named_comes w None next all = (refl, tt)
 named_comes w (Some name) next all = all name
 
-id_comes : (w : PlainWorkspace) (given id : Option (List ℕ)) → Comes w (identifying given id)
-id_comes w None id = tt
-id_comes w (Some name) id = tt
+id_comes : (w : PlainWorkspace) (given id : Option (List ℕ)) → IsReady w (identifying given id)
+id_comes w None id = (refl, tt)
+id_comes w (Some name) id = (refl, tt)
 
-row_comes : (w : PlainWorkspace) (command : PlainCommand) (id : Option (List ℕ)) (which : Word) → w.frames ≡ [] → AllHave (Comes w) ((row_of which).step command w id)
-row_comes w command id word.Clear none = tt
+row_comes : (w : PlainWorkspace) (command : PlainCommand) (id : Option (List ℕ)) (which : Word) → w.frames ≡ [] → AllHave (IsReady w) ((row_of which).step command w id)
+row_comes w command id word.Clear none = (refl, tt)
 row_comes w command id word.Save none = saved_comes w (option_or command.workspace id)
 row_comes w command id word.Load none = named_comes w command.workspace (λ name. loading name w) (λ name found. loaded_comes w name found)
 row_comes w command id word.CopyFrom none = named_comes w command.workspace (λ name. copying name command.objects w) (λ name found. copied_comes w name command.objects found none)
 row_comes w command id word.Remove none = named_comes w command.workspace dropping (λ name there. dropped_comes w name there)
-row_comes w command id word.Lib none = λ names. tt
-row_comes w command id word.Fns none = tt
-row_comes w command id word.Vars none = tt
-row_comes w command id word.Erase none = tt
+row_comes w command id word.Lib none = λ names. (refl, tt)
+row_comes w command id word.Fns none = (refl, tt)
+row_comes w command id word.Vars none = (refl, tt)
+row_comes w command id word.Erase none = (refl, tt)
 row_comes w command id word.Wsid none = id_comes w command.workspace id
-row_comes w command id word.Off none = tt
+row_comes w command id word.Off none = (refl, tt)
+
+all_ready : (w : PlainWorkspace) (command : Option PlainCommand) (id : Option (List ℕ)) → w.frames ≡ [] → AllHave (IsReady w) (step_by command w id)
+all_ready w None id none = (refl, tt)
+all_ready w (Some command) id none = row_comes w command id command.word none
+
+-- what a line retracts is what its change gives up
+pub all_give : (w : PlainWorkspace) (command : Option PlainCommand) (id : Option (List ℕ)) → w.frames ≡ [] → AllHave (Gives w) (step_by command w id)
+all_give w command id none = weaker (IsReady w) (Gives w) (step_by command w id) (λ todo ready. ready.0) (all_ready w command id none)
 
 -- a workspace that a line brings may come in
 pub all_come : (w : PlainWorkspace) (command : Option PlainCommand) (id : Option (List ℕ)) → w.frames ≡ [] → AllHave (Comes w) (step_by command w id)
-all_come w None id none = tt
-all_come w (Some command) id none = row_comes w command id command.word none
+all_come w command id none = weaker (IsReady w) (Comes w) (step_by command w id) (λ todo ready. ready.1) (all_ready w command id none)
 
 -- ---- the cause of LIBRARY FAULT
 
@@ -195,13 +217,6 @@ row_is_none w command id word.Off = refl
 all_are_none : (w : PlainWorkspace) (command : Option PlainCommand) (id : Option (List ℕ)) → AllHave IsNoFault (step_by command w id)
 all_are_none w None id = refl
 all_are_none w (Some command) id = row_is_none w command id command.word
-
-weaker : (P Q : PlainTodo → Type 0) (step : Step) → ((todo : PlainTodo) → P todo → Q todo) → AllHave P step → AllHave Q step
-weaker P Q (does todo) h all = h todo all
-weaker P Q (reads name next) h all = λ found. h (next found) (all found)
-weaker P Q (writes name bytes todo) h all = h todo all
-weaker P Q (removes name next) h all = λ there. h (next there) (all there)
-weaker P Q (lists next) h all = λ names. h (next names) (all names)
 
 -- LIBRARY FAULT has a cause, where the call that failed has one
 pub all_caused : (Cause : Type 0) (w : PlainWorkspace) (command : Option PlainCommand) (id : Option (List ℕ)) → AllHave (λ todo. todo ≡ faulted → Cause) (step_by command w id)

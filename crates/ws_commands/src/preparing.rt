@@ -9,7 +9,7 @@ ghost use Rattle.ws_commands.specs.Reading.{step_by, step_of};
 ghost use Rattle.ws_commands.specs.Row.{row_of};
 ghost use Rattle.ws_commands.specs.Shelf.{KeepsEntries, Takes};
 ghost use Rattle.ws_commands.specs.Step.{named};
-ghost use Rattle.ws_commands.specs.Todo.{faulted, plain_change, plain_todo};
+ghost use Rattle.ws_commands.specs.Todo.{faulted, given_up, plain_change, plain_todo};
 
 use crate::command::{Command, command_of};
 use crate::copying::copied;
@@ -41,6 +41,7 @@ pub fn prepare<K: Shelf>(
 ) -> Result<Todo, WantOfMemory>
     requires frames { ws.now.frames ≡ [] }
     ensures todo { IfOk result (λ todo. Takes K.told K.faults user (step_of line.now.items ws.now (option_copied wsid.entry)) shelf.old (plain_todo todo) shelf.new) }
+    ensures retract { IfOk result (λ todo. todo.retract.items ≡ given_up (plain_change todo.change) ws.now) }
     ensures fault { IfOk result (λ todo. plain_todo todo ≡ faulted → Rose (K.faults shelf.old) (K.faults shelf.new)) }
     ensures comes { IfOk result (λ todo. IfSome (brought (plain_change todo.change)) (MayComeIn ws.now)) }
     ensures kept { OnErr result (KeepsEntries (K.told shelf.old) (K.told shelf.new)) }

@@ -1,11 +1,11 @@
-use Rattle.std.proofs.Common.{◌≡◌, subst, Option, option_copied, option_map}
+use Rattle.std.proofs.Common.{◌≡◌, refl, subst, Option, option_copied, option_map}
 use Rattle.std.specs.Prelude.{IfOk}
 use Rattle.apl_io.specs.Faults.{Rose}
 use Rattle.ws_commands.specs.Command.{PlainCommand, plain_command}
 use Rattle.ws_commands.specs.Reading.{step_by}
 use Rattle.ws_commands.specs.Shelf.{Takes}
 use Rattle.ws_commands.specs.Todo.{PlainTodo, faulted, plain_todo}
-use Rattle.ws_commands.proofs.Outcomes.{Comes, all_caused, all_come, taken_result}
+use Rattle.ws_commands.proofs.Outcomes.{Comes, Gives, all_caused, all_come, all_give, taken_result}
 use Rattle.ws_commands.proofs.preparing.prepare.Goals as goal
 
 pub returns-clause-todo : goal.returns-clause-todo
@@ -13,6 +13,13 @@ returns-clause-todo g c =
     subst
     (λ (command : Option PlainCommand). IfOk c.perform_known-todo.result (λ todo. Takes g.K.Shelf.told g.K.Shelf.faults c.args.user (step_by command c.args.ws.now (option_copied c.args.wsid)) c.args.shelf.now (plain_todo todo) c.perform_known-todo.new.shelf))
     c.in_ok-command.ensures c.perform_known-todo.ensures.ok
+
+pub returns-clause-retract : goal.returns-clause-retract
+returns-clause-retract g c =
+    let command : Option PlainCommand = option_map plain_command c.in_ok-command.command in
+    let id = option_copied c.args.wsid in
+    taken_result g.K.Shelf.told g.K.Shelf.faults (Gives c.args.ws.now) plain_todo c.args.user (step_by command c.args.ws.now id) c.args.shelf.now c.perform_known-todo.new.shelf c.perform_known-todo.result (all_give c.args.ws.now command id c.requires.frames) (λ cause. refl)
+    c.perform_known-todo.ensures.ok
 
 pub returns-clause-fault : goal.returns-clause-fault
 returns-clause-fault g c =
