@@ -1,7 +1,7 @@
-ghost use Rattle.std.specs.Prelude.{◌≡◌, false, All};
-ghost use Rattle.apl_workspace.specs.Workspace.{is_shared, without_globals};
+ghost use Rattle.std.specs.Prelude.{◌≡◌, []};
+ghost use Rattle.apl_workspace.specs.Workspace.{without_globals};
 ghost use Rattle.ws_commands.specs.Finish.{MayBeMade, MayComeIn, changed, changed_id, in_place_of, is_off};
-ghost use Rattle.ws_commands.specs.Todo.{plain_change};
+ghost use Rattle.ws_commands.specs.Todo.{erase, given_up, plain_change};
 
 use crate::Change;
 use apl_arrays::Name;
@@ -55,9 +55,9 @@ fn put_in_place(ws: &mut Workspace, workspace: Workspace)
     drop(mem::replace(ws, workspace));
 }
 
-// Global names are erased, none of which is shared. Some may not be there.
+// Global names are erased, none of which is a share. Some may not be there.
 fn erase_all(ws: &mut Workspace, names: &[Name])
-    requires { All (λ name. is_shared ws.old name ≡ false) names.now }
+    requires { given_up (erase names.now) ws.old ≡ [] }
     ensures { ws.new ≡ without_globals ws.old names.now }
 {
     let _ = ws.weight();
