@@ -7,4 +7,4 @@ pub mod Mentions
 pub mod Objects
 pub mod Outcomes
 pub mod Shares
-pub mod Words
+pub mod WordLaws

@@ -11,8 +11,8 @@ both true b e f = f
 both false b e f = absurd (false≢true e)
 
 passes_not : (b : Bool) → ¬ (b ≡ true) → b ≡ false
-passes_not true no = absurd (no refl)
-passes_not false no = refl
+passes_not true fails = absurd (fails refl)
+passes_not false fails = refl
 
 -- a name more
 pub one_name_more : (all rest behind names more : List (List ℕ)) (word name : List ℕ) → names ++ rest ≡ all → rest ≡ word ∷ behind → name ≡ word → more ≡ names ++ name ∷ [] → more ++ behind ≡ all
@@ -33,8 +33,8 @@ not_all (name ∷ names) behind word e = fails (is_name name) (list_all is_name 
 
 -- a word that is no name
 pub no_names : (all rest behind names : List (List ℕ)) (word : List ℕ) → names ++ rest ≡ all → rest ≡ word ∷ behind → ¬ IsName word → None ≡ names_in all
-no_names all rest behind names word so split no =
-    let fails : list_all is_name all ≡ false = ap (list_all is_name) (sym so ∙ ap (λ (r : List (List ℕ)). names ++ r) split) ∙ not_all names behind word (passes_not (is_name word) no) in
+no_names all rest behind names word so split never =
+    let fails : list_all is_name all ≡ false = ap (list_all is_name) (sym so ∙ ap (λ (r : List (List ℕ)). names ++ r) split) ∙ not_all names behind word (passes_not (is_name word) never) in
     sym (ap (λ (b : Bool). cond b (Some all) None) fails)
 
 -- no word is left

@@ -1,7 +1,9 @@
-ghost use Rattle.std.specs.Prelude.{◌≡◌, ◌++◌, IfOk, OnOk, filter};
+ghost use Rattle.std.specs.Prelude.{◌≡◌, ◌++◌, ◌||◌, IfOk, OnOk, filter};
 ghost use Rattle.std.specs.List.{flat_map};
 ghost use Rattle.apl_workspace.specs.Listing.{names_asked};
 ghost use Rattle.apl_workspace.specs.Seen.{plain_seen};
+ghost use Rattle.apl_workspace.specs.Workspace.{global_in};
+ghost use Rattle.ws_commands.specs.Mention.{mentions_of};
 ghost use Rattle.ws_commands.specs.Names.{erasing, is_nothing, unfound};
 ghost use Rattle.ws_commands.specs.Todo.{is_among, plain_todo};
 
@@ -44,10 +46,17 @@ fn add_unfound(
 ) -> Result<(), WantOfMemory>
     ensures { OnOk result (lines.new.items ≡ lines.old.items ++ unfound ws.now mention.now) }
 {
-    if mention.repeated || is_nothing(ws.global(&mention.name)) {
+    if is_unfound(mention, ws) {
         lines.push(line_of(alloc, "NOT FOUND: ", mention.name.glyphs())?)?;
     }
     Ok(())
+}
+
+// Whether a name gets a line.
+fn is_unfound(mention: &Mention, ws: &Workspace) -> bool
+    ensures { result ≡ (mention.now.repeated || is_nothing (global_in ws.now mention.now.name)) }
+{
+    mention.repeated || is_nothing(ws.global(&mention.name))
 }
 
 // Whether a name that stands for this is not there.

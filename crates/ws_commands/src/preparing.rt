@@ -21,7 +21,7 @@ use crate::loading::loaded;
 use crate::saving::{drop_saved, save};
 use crate::todo::{Change, Todo, incorrect};
 use crate::word::Word;
-use apl_arrays::{Line, LineList, Name, WantOfMemory};
+use apl_arrays::{Line, LineList, Name, NameList, WantOfMemory};
 use apl_io::Shelf;
 use apl_workspace::{What, Workspace};
 use std::alloc::Global;
@@ -128,7 +128,7 @@ fn leave(alloc: Global) -> Todo
     Todo::changing(alloc, Change::Off, LineList::new(alloc))
 }
 
-// `)LOAD`: the shelf is asked for the bytes under a name.
+// `)LOAD`, of the name that is given.
 fn load<K: Shelf>(
     alloc: Global,
     command: &Command,
@@ -142,11 +142,26 @@ fn load<K: Shelf>(
 {
     match &command.workspace {
         None => incorrect(alloc),
-        Some(name) => loaded(alloc, name, ws, shelf.read(user, name)),
+        Some(name) => load_named(alloc, name, ws, user, shelf),
     }
 }
 
-// `)COPY`: the shelf is asked for the bytes under a name.
+// The shelf is asked for the bytes under a name, for `)LOAD`.
+fn load_named<K: Shelf>(
+    alloc: Global,
+    name: &Name,
+    ws: &Workspace,
+    user: u32,
+    shelf: &mut K,
+) -> Result<Todo, WantOfMemory>
+    ensures ok { IfOk result (λ todo. Takes K.told K.faults user (loading name.now ws.now) shelf.old (plain_todo todo) shelf.new) }
+    ensures kept { OnErr result (KeepsEntries (K.told shelf.old) (K.told shelf.new)) }
+    ensures counted { K.faults shelf.old ≤ K.faults shelf.new }
+{
+    loaded(alloc, name, ws, shelf.read(user, name))
+}
+
+// `)COPY`, of the name that is given.
 fn copy<K: Shelf>(
     alloc: Global,
     command: &Command,
@@ -161,8 +176,25 @@ fn copy<K: Shelf>(
 {
     match &command.workspace {
         None => incorrect(alloc),
-        Some(name) => copied(alloc, name, &command.objects, ws, shelf.read(user, name)),
+        Some(name) => copy_named(alloc, name, &command.objects, ws, user, shelf),
     }
+}
+
+// The shelf is asked for the bytes under a name, for `)COPY`.
+fn copy_named<K: Shelf>(
+    alloc: Global,
+    name: &Name,
+    objects: &NameList,
+    ws: &Workspace,
+    user: u32,
+    shelf: &mut K,
+) -> Result<Todo, WantOfMemory>
+    requires frames { ws.now.frames ≡ [] }
+    ensures ok { IfOk result (λ todo. Takes K.told K.faults user (copying name.now objects.now.items ws.now) shelf.old (plain_todo todo) shelf.new) }
+    ensures kept { OnErr result (KeepsEntries (K.told shelf.old) (K.told shelf.new)) }
+    ensures counted { K.faults shelf.old ≤ K.faults shelf.new }
+{
+    copied(alloc, name, objects, ws, shelf.read(user, name))
 }
 
 // `)DROP`: the shelf is asked to take away what it has under a name.

@@ -74,17 +74,17 @@ impl Word {
         ensures objects { result.objects ≡ (row_of self).objects }
     {
         match self {
-            Word::Clear => row(")CLEAR", Need::No, Need::No),
-            Word::Save => row(")SAVE", Need::May, Need::No),
-            Word::Load => row(")LOAD", Need::Must, Need::No),
-            Word::CopyFrom => row(")COPY", Need::Must, Need::May),
-            Word::Remove => row(")DROP", Need::Must, Need::No),
-            Word::Lib => row(")LIB", Need::No, Need::No),
-            Word::Fns => row(")FNS", Need::No, Need::No),
-            Word::Vars => row(")VARS", Need::No, Need::No),
-            Word::Erase => row(")ERASE", Need::No, Need::Must),
-            Word::Wsid => row(")WSID", Need::May, Need::No),
-            Word::Off => row(")OFF", Need::No, Need::No),
+            Word::Clear => row_with(")CLEAR", Need::No, Need::No),
+            Word::Save => row_with(")SAVE", Need::May, Need::No),
+            Word::Load => row_with(")LOAD", Need::Must, Need::No),
+            Word::CopyFrom => row_with(")COPY", Need::Must, Need::May),
+            Word::Remove => row_with(")DROP", Need::Must, Need::No),
+            Word::Lib => row_with(")LIB", Need::No, Need::No),
+            Word::Fns => row_with(")FNS", Need::No, Need::No),
+            Word::Vars => row_with(")VARS", Need::No, Need::No),
+            Word::Erase => row_with(")ERASE", Need::No, Need::Must),
+            Word::Wsid => row_with(")WSID", Need::May, Need::No),
+            Word::Off => row_with(")OFF", Need::No, Need::No),
         }
     }
 
@@ -97,7 +97,7 @@ impl Word {
 }
 
 // A row of these parts.
-fn row(text: &'static str, workspace: Need, objects: Need) -> Row
+fn row_with(text: &'static str, workspace: Need, objects: Need) -> Row
     ensures text { result.text.now ≡ text.now }
     ensures workspace { result.workspace ≡ workspace }
     ensures objects { result.objects ≡ objects }

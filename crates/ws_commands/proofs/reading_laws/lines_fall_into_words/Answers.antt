@@ -1,4 +1,4 @@
-use Rattle.ws_commands.proofs.Words.{next_words, no_words}
+use Rattle.ws_commands.proofs.WordLaws.{next_words, no_words}
 use Rattle.ws_commands.proofs.reading_laws.lines_fall_into_words.Goals as goal
 
 pub returns-clause-word : goal.returns-clause-word

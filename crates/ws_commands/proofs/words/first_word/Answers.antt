@@ -1,4 +1,4 @@
-use Rattle.ws_commands.proofs.Words.{next_words, no_words, shorter}
+use Rattle.ws_commands.proofs.WordLaws.{next_words, no_words, shorter}
 use Rattle.ws_commands.proofs.words.first_word.Goals as goal
 
 pub returns-in-None-clause-words : goal.returns-in-None-clause-words
