@@ -1,7 +1,6 @@
 -- What saved bytes hold is a workspace of names alone.
 use Rattle.std.proofs.Common.{◌≡◌, ◌==◌, ℕ, List, Result, Ok, Err, length, sym, ap, ◌∙◌}
 use Rattle.apl_workspace.specs.Meaning.{NameTable}
-use Rattle.apl_workspace.specs.Workspace.{PlainWorkspace}
 use Rattle.apl_workspace.specs.declared.remake.Remake.{Remake}
 use Rattle.ws_codec.specs.Kept.{workspace_of}
 use Rattle.ws_codec.specs.Objects.{objects_at}

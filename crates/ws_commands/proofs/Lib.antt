@@ -2,7 +2,6 @@ pub mod Calls
 pub mod Changes
 pub mod Copies
 pub mod Fresh
-pub mod Loads
 pub mod Mentions
 pub mod Objects
 pub mod Outcomes

@@ -1,5 +1,5 @@
 -- What holds of all that a line may lead to.
-use Rattle.std.proofs.Common.{◌≡◌, ◌≤◌, ℕ, Bool, true, false, cond, not, ◌&&◌, List, [], ◌∷◌, Option, Some, None, Result, Ok, Err, refl, sym, ap, ◌∙◌, subst, arith, codes, option_copied}
+use Rattle.std.proofs.Common.{◌≡◌, ℕ, Bool, true, false, cond, not, ◌&&◌, List, [], ◌∷◌, Option, Some, None, Result, Ok, Err, refl, sym, ap, ◌∙◌, subst, arith, codes}
 use Rattle.std.specs.Prelude.{IfOk, IfSome, IsErrOf, nat_le}
 use Rattle.std.specs.Option.{option_or}
 use Rattle.std.proofs.lemmas.Bool.{false≢true}
@@ -16,7 +16,7 @@ use Rattle.ws_codec.specs.declared.saved.SavedRule.{SavedRule}
 use Rattle.ws_commands.specs.Command.{PlainCommand}
 use Rattle.ws_commands.specs.Finish.{MayComeIn, brought}
 use Rattle.ws_commands.specs.Library.{asked_for, copied, copied_by, copy_lines, copying, dropped, dropping, loaded, loaded_by, loading, saving}
-use Rattle.ws_commands.specs.Names.{id_line, identifying}
+use Rattle.ws_commands.specs.Names.{identifying}
 use Rattle.ws_commands.specs.Reading.{step_by}
 use Rattle.ws_commands.specs.Row.{row_of}
 use Rattle.ws_commands.specs.Shelf.{Follows, IsCall, Takes}

@@ -3,7 +3,7 @@ use Rattle.std.specs.Prelude.{ℕ, List, [], ◌∷◌, Option, Some, None, find
 use Rattle.apl_arrays.specs.Name.{same_name}
 use Rattle.apl_workspace.specs.Workspace.{PlainWorkspace}
 use Rattle.ws_commands.specs.Command.{PlainCommand, objects_in, workspace_in}
-use Rattle.ws_commands.specs.Row.{Row, all_words, row_of}
+use Rattle.ws_commands.specs.Row.{all_words, row_of}
 use Rattle.ws_commands.specs.Step.{Step, does}
 use Rattle.ws_commands.specs.Todo.{incorrect}
 use Rattle.ws_commands.specs.Words.{words_in}

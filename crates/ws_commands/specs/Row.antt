@@ -1,5 +1,5 @@
 -- The commands, each a row: its word, what may stand behind it, and what it leads to.
-use Rattle.std.specs.Prelude.{ℕ, List, [], ◌∷◌, Option, Some, None, codes}
+use Rattle.std.specs.Prelude.{ℕ, List, [], ◌∷◌, Option, codes}
 use Rattle.std.specs.Option.{option_or}
 use Rattle.apl_workspace.specs.Listing.{names_asked}
 use Rattle.apl_workspace.specs.Workspace.{PlainWorkspace}

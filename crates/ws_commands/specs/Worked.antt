@@ -1,5 +1,5 @@
 -- Workspaces on which commands are worked.
-use Rattle.std.specs.Prelude.{ℕ, pos, List, [], ◌∷◌, Option, codes}
+use Rattle.std.specs.Prelude.{ℕ, pos, [], ◌∷◌, Option, codes}
 use Rattle.apl_arrays.specs.Array.{PlainArray, scalar}
 use Rattle.apl_workspace.specs.Workspace.{PlainWorkspace}
 use Rattle.apl_workspace.specs.declared.meaning.Meaning.TheVariants.{Value, Shared}

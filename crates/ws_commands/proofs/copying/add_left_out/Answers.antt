@@ -1,4 +1,4 @@
-use Rattle.std.proofs.Common.{◌≡◌, ◌∙◌, ◌++◌, List, ℕ, Bool, ap, codes, false, not, sym, true}
+use Rattle.std.proofs.Common.{◌≡◌, ◌∙◌, ◌++◌, List, ℕ, ap, codes, not, sym}
 use Rattle.std.specs.Prelude.{is_some}
 use Rattle.apl_execute.specs.Merge.{copied_as, is_missing}
 use Rattle.apl_workspace.specs.declared.meaning.Meaning.{Meaning}
