@@ -1,12 +1,9 @@
 -- Names that are left out of a copy.
-use Rattle.std.proofs.Common.{◌≡◌, ◌≤◌, ◌<◌, ℕ, Bool, true, false, cond, List, [], ◌∷◌, ◌++◌, Option, Result, Ok, Err, sym, ap, ◌∙◌, subst, arith, codes}
-use Rattle.std.specs.Prelude.{OnOk, nat_le}
-use Rattle.std.proofs.lemmas.Bool.Decides.{nat_tests}
-use Rattle.apl_execute.specs.Merge.{is_missing, merged}
-use Rattle.apl_workspace.specs.Limits.{most_weight}
-use Rattle.apl_workspace.specs.Workspace.{PlainWorkspace, is_shared, workspace_weight}
-use Rattle.ws_commands.specs.Library.{asked_for, copied_from, copy_lines, left_out}
-use Rattle.ws_commands.specs.Todo.{PlainTodo, doing, saying, swap}
+use Rattle.std.proofs.Common.{◌≡◌, ℕ, Bool, true, false, cond, List, [], ◌∷◌, ◌++◌, Result, Ok, Err, sym, ap, ◌∙◌, codes}
+use Rattle.std.specs.Prelude.{OnOk}
+use Rattle.apl_execute.specs.Merge.{is_missing}
+use Rattle.apl_workspace.specs.Workspace.{PlainWorkspace, is_shared}
+use Rattle.ws_commands.specs.Library.{left_out}
 use Rattle.ws_commands.specs.declared.mention.Mention.{Mention}
 
 -- the line of a name that is missing
