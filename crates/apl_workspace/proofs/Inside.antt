@@ -92,6 +92,11 @@ pub unmarked_inside : (w : PlainWorkspace) (made : NameTable) (offers : List Rem
     → IsInside weight (record w { globals = made; offers = offers })
 unmarked_inside w made offers name value weight h light heavy fits left = unmarked_by w made offers name value weight (nat_le (table_weight (with_value_or_none w.globals name value)) (most_weight - weight)) refl h light heavy fits left
 
+-- a name is shared no more, and has its own copy
+pub kept_inside : (w : PlainWorkspace) (made : NameTable) (offers : List Remake) (name : List ℕ) (weight : ℕ) → IsInside weight w → made ≡ with_value_or_none w.globals name (own_copy_in w.globals name) → table_weight made ≤ table_weight w.globals
+    → offers ≡ filter (is_of_another name) w.offers → IsInside weight (record w { globals = made; offers = offers })
+kept_inside w made offers name weight h is lighter left = value_by w made offers name (own_copy_in w.globals name) weight h is (omega (arith, lighter, h.counted, h.rules.weight)) left
+
 -- a value was put into a frame
 pub given_inside : (w : PlainWorkspace) (frames : List NameTable) (name : List ℕ) (value : PlainArray) (weight : ℕ) → IsInside weight w → (made : ℕ) → frames ≡ in_innermost w.frames name (Value value) → made ≡ sum_by table_weight (in_innermost w.frames name (Value value)) → made ≤ most_weight - table_weight w.globals
     → IsInside made (record w { frames = frames })

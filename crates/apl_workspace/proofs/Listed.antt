@@ -34,7 +34,7 @@ module _ (holds : List ℕ → Type 0) (test : Meaning → Bool) where
       by true later = (all.0, later)
       by false later = later
 
-ascend_taken : (test : Meaning → Bool) (entries : Entries) → Ascend (keys_of entries) → Ascend (keys_of (taking test entries))
+pub ascend_taken : (test : Meaning → Bool) (entries : Entries) → Ascend (keys_of entries) → Ascend (keys_of (taking test entries))
 ascend_taken test [] s = s
 ascend_taken test (e ∷ es) s = by (test e.1) (ascend_taken test es (sorted_tail name_order e.0 (keys_of es) s))
   where
@@ -83,7 +83,7 @@ found_alone (first ∷ names) name = by (same_name name first) (list_any (same_n
     by true d later = refl
     by false d later = later
 
-told_by_members : (first second : List (List ℕ)) → Ascend first → Ascend second → ((name : List ℕ) → list_any (same_name name) first ≡ list_any (same_name name) second) → first ≡ second
+pub told_by_members : (first second : List (List ℕ)) → Ascend first → Ascend second → ((name : List ℕ) → list_any (same_name name) first ≡ list_any (same_name name) second) → first ≡ second
 told_by_members first second s t same =
     sym (alone_keys first)
     ∙ ap keys_of
@@ -93,7 +93,7 @@ told_by_members first second s t same =
 
 -- ---- the names that were gathered
 
-among : (test : Meaning → Bool) (entries : Entries) (name : List ℕ) → IsDistinct same_name (keys_of entries) → list_any (same_name name) (keys_of (taking test entries)) ≡ is_some (option_filter test (found entries name))
+pub among : (test : Meaning → Bool) (entries : Entries) (name : List ℕ) → IsDistinct same_name (keys_of entries) → list_any (same_name name) (keys_of (taking test entries)) ≡ is_some (option_filter test (found entries name))
 among test entries name d = sym (is_some-lookup (same_name name) (taking test entries)) ∙ ap is_some (lookup-filter-values nat_list_eq_equiv test name entries d)
 
 pub gathered : (test : Meaning → Bool) (entries : Entries) (names result : List (List ℕ)) → IsDistinct same_name (keys_of entries) → names ≡ keys_of (taking test entries) → IsPermutation names result → IsSorted name_order result

@@ -94,7 +94,7 @@ look_assigned w name other value = assigned_by w name other value (is_local w na
 
 -- ---- names that are shared no more
 
-look_unshared : (w : PlainWorkspace) (name other : List ℕ) (value : Option PlainArray) → IsWorkspace w → look (unshared w name value) other ≡ cond (is_unhidden w name other) (meaning_of value) (look w other)
+pub look_unshared : (w : PlainWorkspace) (name other : List ℕ) (value : Option PlainArray) → IsWorkspace w → look (unshared w name value) other ≡ cond (is_unhidden w name other) (meaning_of value) (look w other)
 look_unshared w name other None h = look_without w name other h
 look_unshared w name other (Some value) h = look_with w name other (Value value)
 

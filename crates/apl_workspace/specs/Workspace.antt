@@ -96,6 +96,10 @@ unmarked w name value =
     if nat_le (workspace_weight (unshared w name value)) most_weight then unshared w name value
     else unshared w name (own_copy_in w.globals name)
 
+-- a name is shared no more, and has its own copy of the value
+abbrev pub unmarked_with_copy : PlainWorkspace → List ℕ → PlainWorkspace
+unmarked_with_copy w name = unshared w name (own_copy_in w.globals name)
+
 -- the frames with this value of a name in the innermost of them that has it
 abbrev pub in_innermost : List NameTable → List ℕ → Meaning → List NameTable
 in_innermost [] name meaning = []

@@ -8,7 +8,7 @@ ghost use Rattle.apl_workspace.specs.Header.{PlainHeader};
 ghost use Rattle.apl_workspace.specs.Limits.{most_weight};
 ghost use Rattle.apl_workspace.specs.Meaning.{meaning_in, meaning_of, own_copy_in};
 ghost use Rattle.apl_arrays.specs.Name.{same_name};
-ghost use Rattle.apl_workspace.specs.Workspace.{IsWorkspace, PlainWorkspace, assigned, global_in, is_unhidden, look, marked, takes_offer, unmarked, unshared, with_frame, with_global, without_frame, without_global, workspace_weight};
+ghost use Rattle.apl_workspace.specs.Workspace.{IsWorkspace, PlainWorkspace, assigned, global_in, is_unhidden, look, marked, takes_offer, unmarked, unmarked_with_copy, unshared, with_frame, with_global, without_frame, without_global, workspace_weight};
 
 use crate::{Args, Meaning, Remake};
 
@@ -38,6 +38,12 @@ pub fn unmarking_leaves_a_variable()
     ensures light { (w : PlainWorkspace) (name other : ListOf ℕ) (value : Option PlainArray) → IsWorkspace w → workspace_weight (unshared w name value) ≤ most_weight → look (unmarked w name value) other ≡ (if is_unhidden w name other then meaning_of value else look w other) }
     ensures heavy { (w : PlainWorkspace) (name other : ListOf ℕ) (value : Option PlainArray) → IsWorkspace w → most_weight < workspace_weight (unshared w name value) → look (unmarked w name value) other ≡ (if is_unhidden w name other then meaning_of (own_copy_in w.globals name) else look w other) }
     ensures offers { (w : PlainWorkspace) (offer : Remake) (copy value : Option PlainArray) → IsWorkspace w → takes_offer w offer.local ≡ true → (unmarked (marked w offer copy) offer.local value).offers ≡ w.offers }
+{}
+
+/// A variable that is shared no more and keeps its own copy has that as its value, or stands for nothing where it has none,
+/// and all other names are as they were. The call does nothing. No memory.
+pub fn kept_copies_are_values()
+    ensures { (w : PlainWorkspace) (name other : ListOf ℕ) → IsWorkspace w → look (unmarked_with_copy w name) other ≡ (if is_unhidden w name other then meaning_of (own_copy_in w.globals name) else look w other) }
 {}
 
 /// While a function runs, the names of its frame hide all others, and when it is left all is as it was before. The call

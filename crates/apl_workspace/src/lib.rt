@@ -30,7 +30,7 @@ pub use limits::{
     DEPTH_LIMIT, FUNCTION_LINE_LIMIT, PRINTED_LIMIT, WEIGHT_LIMIT, limits_are_as_defined,
 };
 pub use meaning::Meaning;
-pub use remake::{Remake, RemakeList};
+pub use remake::{Remake, RemakeList, is_addressee};
 pub use seen::Seen;
 pub use what::What;
 pub use workspace::Workspace;

@@ -1,4 +1,13 @@
-use apl_arrays::{List, Name};
+ghost use Rattle.std.specs.Prelude.{◌≡◌};
+ghost use Rattle.apl_workspace.specs.Workspace.{is_addressee};
+
+use apl_arrays::{FIRST_USER, LAST_USER, List, Name};
+
+/// The party that answers with readings of the clock.
+const CLOCK_PARTY: u32 = 10;
+
+/// The party that reads and writes text files.
+const TEXT_PARTY: u32 = 20;
 
 /// An offer to be made again: its name here, its name for others, and for whom it is (0: for any).
 #[derive(Clone, Copy, Debug, PartialEq, Eq, Hash)]
@@ -10,3 +19,10 @@ pub struct Remake {
 
 /// Offers, the oldest first.
 pub type RemakeList = List<Remake>;
+
+/// Whether an offer may be made to this number: to any, which is 0, to an auxiliary, or to a user. No memory.
+pub fn is_addressee(to: u32) -> bool
+    ensures { result ≡ is_addressee to }
+{
+    to == 0 || to == CLOCK_PARTY || to == TEXT_PARTY || (to >= FIRST_USER && to <= LAST_USER)
+}

@@ -187,7 +187,7 @@ impl Table {
     }
 
     /// A shared name has its own copy as its value, or is not there where it has none. No memory.
-    fn keep_copy(&mut self, name: &Name)
+    pub fn keep_copy(&mut self, name: &Name)
         requires { is_shared_in self.old name.now ≡ true }
         ensures value { self.new ≡ with_value_or_none self.old name.now (own_copy_in self.old name.now) }
         ensures weight { table_weight self.new ≤ table_weight self.old }

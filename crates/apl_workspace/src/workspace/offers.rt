@@ -1,7 +1,7 @@
 ghost use Rattle.std.specs.Prelude.{◌≡◌, ◌≤◌, true, false, Some, IsOk, IsSome, OnOk, OnErr, IfErr, filter, vec_len};
 ghost use Rattle.apl_workspace.specs.Limits.{most_weight};
 ghost use Rattle.apl_workspace.specs.Meaning.{is_function_meaning, meaning_in};
-ghost use Rattle.apl_workspace.specs.Workspace.{IsFull, IsTooHeavy, global_in, is_addressee, is_of_another, is_shared, marked, takes_offer, unmarked, with_global, workspace_weight};
+ghost use Rattle.apl_workspace.specs.Workspace.{IsFull, IsTooHeavy, global_in, is_addressee, is_of_another, is_shared, marked, takes_offer, unmarked, unmarked_with_copy, with_global, workspace_weight};
 
 use crate::limits::WEIGHT_LIMIT;
 use crate::room::reserve_one;
@@ -59,6 +59,16 @@ impl Workspace {
     {
         let most = WEIGHT_LIMIT - self.frames_weight;
         self.globals.unshare(name, value, most);
+        unlist(&mut self.offers, name);
+    }
+
+    /// Takes the mark of a shared name away, and its offer out of the list. The name then has its own copy as its value, or
+    /// is not there where it has none. No memory.
+    pub fn unmark_with_copy(&mut self, name: &Name)
+        requires { is_shared self.old name.now ≡ true }
+        ensures { self.new ≡ unmarked_with_copy self.old name.now }
+    {
+        self.globals.keep_copy(name);
         unlist(&mut self.offers, name);
     }
 

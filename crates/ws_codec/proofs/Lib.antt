@@ -1,0 +1,17 @@
+pub mod ByNames
+pub mod CodeLemmas
+pub mod Ends
+pub mod FieldParts
+pub mod FunctionParts
+pub mod Lines
+pub mod Loops
+pub mod NumberParts
+pub mod ObjectParts
+pub mod OfferParts
+pub mod Repeats
+pub mod SavedParts
+pub mod Shapes
+pub mod StorableNames
+pub mod StorableValues
+pub mod Told
+pub mod ValueParts

@@ -1,0 +1,13 @@
+pub mod Fields
+pub mod Functions
+pub mod Kept
+pub mod Objects
+pub mod Offers
+pub mod Reading
+pub mod Rules
+pub mod Saved
+pub mod SavedText
+pub mod Sound
+pub mod Storable
+pub mod Values
+pub mod Worked

@@ -1,0 +1,9 @@
+pub mod Calls
+pub mod Changes
+pub mod Copies
+pub mod Fresh
+pub mod Mentions
+pub mod Objects
+pub mod Outcomes
+pub mod Shares
+pub mod WordLaws

@@ -1,0 +1,12 @@
+pub mod Command
+pub mod Finish
+pub mod Library
+pub mod Mention
+pub mod Names
+pub mod Reading
+pub mod Row
+pub mod Shelf
+pub mod Step
+pub mod Todo
+pub mod Words
+pub mod Worked
