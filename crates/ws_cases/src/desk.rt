@@ -69,6 +69,7 @@ impl Desk {
     }
 
     // Takes names back, and makes the change. Where it ends the session, this is told too.
+    #[tactic(auto, using(crate::proofs::ComeLemmas::still_comes))]
     fn change(&mut self, todo: Todo, told: String) -> Result<String>
         requires retract { todo.retract.items ≡ given_up (plain_change todo.change) self.old.ws }
         requires comes { IfSome (brought (plain_change todo.change)) (MayComeIn self.old.ws) }
