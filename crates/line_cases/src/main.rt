@@ -3,7 +3,6 @@
 #![tactic(auto)]
 
 mod calls;
-mod conditions;
 mod nodes;
 mod system_names;
 mod tokens;

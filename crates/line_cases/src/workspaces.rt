@@ -1,17 +1,13 @@
 mod definitions;
 mod executing;
-mod functions;
-mod holding;
-mod questions;
-mod scripts;
-mod steps;
+mod headers;
 
 use self::definitions::definition_text;
 use self::executing::{executed_text, merging};
-use self::functions::header_text;
-use self::scripts::script_text;
+use self::headers::header_text;
 use anyhow::{Result, bail};
 use case_tables::{Tally, Trial, run_tables};
+use case_workspaces::script_text;
 use std::alloc::Global;
 
 // What a table tries: the top of the table says what its fields are.

@@ -1,10 +1,10 @@
 use crate::calls::counts::counts_at_last;
-use crate::conditions::is_variable;
 use anyhow::{Result, bail};
 use apl_arrays::{Fail, Line, LineList, Name, WantOfMemory};
 use apl_workspace::{Seen, Workspace};
 use case_fields::line_of;
 use case_tables::{Calls, Looks};
+use case_workspaces::is_variable;
 use fn_editor::{Editor, Opened};
 use std::alloc::Global;
 

@@ -4,11 +4,11 @@ ghost use Rattle.apl_workspace.specs.Function.{IsFunction};
 use crate::calls::accounts::{Account, account_at_last, tells};
 use crate::calls::granting::is_granted;
 use crate::calls::letters::letter;
-use crate::conditions::{is_function, is_variable, takes};
 use anyhow::Result;
 use apl_arrays::{Array, LineList};
 use apl_workspace::{Args, Function, PRINTED_LIMIT, Seen, Workspace};
 use case_fields::line_of;
+use case_workspaces::{is_function, is_variable, takes};
 use std::alloc::Global;
 use std::mem;
 

@@ -1,13 +1,11 @@
 ghost use Rattle.std.specs.Prelude.{◌≡◌, true};
 
-use crate::conditions::is_variable;
-use crate::workspaces::functions::{LINE_END, function_text};
-use crate::workspaces::holding::kept;
-use crate::workspaces::questions::answers;
-use crate::workspaces::scripts::{STEP_END, workspace_of};
 use anyhow::{Result, bail, ensure};
 use apl_workspace::{Seen, Workspace};
 use case_fields::{glyphs_text, line_of, push_lines, report_text, unescaped};
+use case_workspaces::{
+    LINE_END, STEP_END, answers, function_text, is_variable, kept, workspace_of,
+};
 use fn_editor::{Editor, Fed, Opened};
 use std::alloc::Global;
 use std::mem;
@@ -179,7 +177,7 @@ impl Desk {
             }
             self.take(line)?;
         }
-        let after = answers(self.alloc, &self.ws, "-", asked, STEP_END)?;
+        let after = answers(self.alloc, &self.ws, ("refused", "-"), asked, STEP_END)?;
         write!(self.told, " ¦ {after}")?;
         Ok(())
     }

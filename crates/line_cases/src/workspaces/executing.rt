@@ -1,11 +1,9 @@
-use crate::workspaces::holding::{both, lent};
-use crate::workspaces::questions::answers;
-use crate::workspaces::scripts::{STEP_END, workspace_of};
 use anyhow::{Result, ensure};
 use apl_arrays::{Fail, NameList};
 use apl_execute::{Merged, merge, text_of};
 use apl_workspace::Workspace;
 use case_fields::{array_of, names_of, push_names, push_quoted, report_text};
+use case_workspaces::{STEP_END, answers, both, lent, workspace_of};
 use std::alloc::Global;
 
 /// The text of a value that is executed, in quotes, or its report.
@@ -27,7 +25,7 @@ fn merged_text(alloc: Global, merged: &Merged, asked: &str) -> Result<String> {
     push_names(alloc, &mut text, merged.missing.as_slice())?;
     text.push_str(", shared")?;
     push_names(alloc, &mut text, merged.shared.as_slice())?;
-    let told = answers(alloc, &merged.workspace, "-", asked, STEP_END)?;
+    let told = answers(alloc, &merged.workspace, ("refused", "-"), asked, STEP_END)?;
     write!(text, " ¦ {told}")?;
     Ok(text)
 }
@@ -35,7 +33,7 @@ fn merged_text(alloc: Global, merged: &Merged, asked: &str) -> Result<String> {
 // The report of a refusal, and what the workspace tells then.
 fn refused_text(alloc: Global, fail: Fail, ws: &Workspace, asked: &str) -> Result<String> {
     let report = report_text(fail)?;
-    let told = answers(alloc, ws, "-", asked, STEP_END)?;
+    let told = answers(alloc, ws, ("refused", "-"), asked, STEP_END)?;
     Ok(format!(in alloc; "{report} ¦ {told}")?)
 }
 

@@ -1,6 +1,6 @@
-use crate::workspaces::holding::kept;
-use crate::workspaces::questions::answers;
-use crate::workspaces::steps::step;
+use crate::holding::kept;
+use crate::questions::answers;
+use crate::steps::step;
 use anyhow::{Result, bail};
 use apl_workspace::Workspace;
 use case_fields::{report_text, unescaped};
@@ -23,7 +23,7 @@ fn run(alloc: Global, ws: &mut Workspace, script: &str) -> Result<Result<String,
             let report = report_text(fail)?;
             refused = format!(in alloc; "{report} at {number}")?;
         }
-        let told = answers(alloc, ws, refused.as_str(), asked, QUESTION)?;
+        let told = answers(alloc, ws, ("refused", refused.as_str()), asked, QUESTION)?;
         if told.as_str() != asked {
             return Ok(Err(format!(in alloc; "after step {number}: {told}")?));
         }
@@ -51,7 +51,7 @@ pub fn workspace_of(alloc: Global, steps: &str) -> Result<Workspace> {
 // What is told after steps on a workspace, or after the one where it tells otherwise.
 fn told_after(alloc: Global, ws: &mut Workspace, steps: &str, asked: &str) -> Result<String> {
     match run(alloc, ws, steps)? {
-        Ok(refused) => answers(alloc, ws, refused.as_str(), asked, STEP_END),
+        Ok(refused) => answers(alloc, ws, ("refused", refused.as_str()), asked, STEP_END),
         Err(told) => Ok(told),
     }
 }

@@ -1,11 +1,10 @@
 ghost use Rattle.std.specs.Prelude.{IfOk};
 ghost use Rattle.apl_workspace.specs.Function.{IsFunction};
 
-use crate::workspaces::holding::lent;
 use anyhow::{Context, Result};
 use apl_arrays::LineList;
-use apl_workspace::{Function, Header};
-use case_fields::{glyphs_text, line_of, names_text, push_glyphs};
+use apl_workspace::Function;
+use case_fields::{glyphs_text, line_of, push_glyphs};
 use std::alloc::Global;
 
 /// What stands behind a line that is shown, and before each line of a function.
@@ -31,32 +30,5 @@ pub fn function_text(alloc: Global, function: &Function) -> Result<String> {
         text.push_str(LINE_END)?;
         push_glyphs(alloc, &mut text, line.as_slice())?;
     }
-    Ok(text)
-}
-
-/// The header that a line is: its result, left argument, name and right argument, with `-` where there is none, and its
-/// local names; or `none`.
-pub fn header_text(alloc: Global, line: &str) -> Result<String> {
-    let line = line_of(alloc, line)?;
-    let header = Header::read(alloc, &line)?;
-    drop(line);
-    match header {
-        None => Ok(String::from_str(alloc, "none")?),
-        Some(header) => lent(Ok(header), |header| names_of_header(alloc, header)),
-    }
-}
-
-// The names of a header.
-fn names_of_header(alloc: Global, header: &Header) -> Result<String> {
-    let mut text = String::new(alloc);
-    for name in [header.result, header.left, Some(header.name), header.right] {
-        match name {
-            None => text.push('-')?,
-            Some(name) => push_glyphs(alloc, &mut text, name.glyphs())?,
-        }
-        text.push(' ')?;
-    }
-    let locals = names_text(alloc, header.locals.as_slice())?;
-    write!(text, ": {locals}")?;
     Ok(text)
 }

@@ -1,12 +1,9 @@
-ghost use Rattle.std.specs.Prelude.{◌≡◌};
-ghost use Rattle.apl_workspace.specs.Workspace.{is_addressee};
-
 use crate::conditions::{is_function, is_variable, takes};
-use crate::workspaces::functions::function_of;
-use crate::workspaces::holding::both;
+use crate::functions::function_of;
+use crate::holding::both;
 use anyhow::{Context, Result, bail, ensure};
 use apl_arrays::{Array, ELEMENT_LIMIT, Fail, Name};
-use apl_workspace::{Args, PRINTED_LIMIT, Seen, Workspace};
+use apl_workspace::{Args, PRINTED_LIMIT, Seen, Workspace, is_addressee};
 use case_fields::{array_of, name_of, optional_of, zeros};
 use std::alloc::Global;
 use std::mem;
@@ -55,20 +52,13 @@ fn erase(ws: &mut Workspace, name: &Name, is_there: bool) -> Result<Outcome> {
     Ok(Ok(()))
 }
 
-// Whether an offer may be made to a number: to anybody, to an auxiliary, or to a user.
-fn may_be_asked(party: u32) -> bool
-    ensures { result ≡ is_addressee party }
-{
-    party == 0 || party == 10 || party == 20 || (party >= 1001 && party <= 1999)
-}
-
 // Marks a name with a value, a surrogate and an addressee.
 fn mark(alloc: Global, ws: &mut Workspace, name: &Name, text: &str) -> Result<Outcome> {
     let (front, to) = text.rsplit_once(" ").context("no addressee")?;
     let (value, surrogate) = front.rsplit_once(" ").context("no surrogate")?;
     let surrogate = name_of(alloc, surrogate)?;
     let to: u32 = to.parse().context("no party")?;
-    ensure!(may_be_asked(to), "no party that an offer is made to");
+    ensure!(is_addressee(to), "no party that an offer is made to");
     ensure!(!is_function(ws, name), "a function is not shared");
     Ok(ws.mark(name, optional_of(alloc, value)?, surrogate, to))
 }

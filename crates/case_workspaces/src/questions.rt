@@ -1,10 +1,11 @@
-use crate::workspaces::functions::function_text;
+use crate::functions::function_text;
 use anyhow::{Context, Result, bail};
-use apl_workspace::{Seen, What, Workspace};
+use apl_workspace::{Remake, Seen, What, Workspace};
 use case_fields::{array_text, name_of, names_text};
 use std::alloc::Global;
 
-fn seen_text(alloc: Global, seen: Seen<'_>) -> Result<String> {
+/// What a name stands for: nothing, or a word and what it is.
+pub fn seen_text(alloc: Global, seen: Seen<'_>) -> Result<String> {
     let (word, text) = match seen {
         Seen::Nothing => return Ok(String::from_str(alloc, "nothing")?),
         Seen::Value(value) => ("value", array_text(alloc, value)?),
@@ -16,13 +17,14 @@ fn seen_text(alloc: Global, seen: Seen<'_>) -> Result<String> {
     Ok(format!(in alloc; "{word} {text}")?)
 }
 
-fn offers_text(alloc: Global, ws: &Workspace) -> Result<String> {
-    let mut offers = Vec::new(alloc);
-    for offer in ws.remakes()?.as_slice() {
+/// The text of offers, each with its two names and for whom it is.
+pub fn offers_text(alloc: Global, offers: &[Remake]) -> Result<String> {
+    let mut texts = Vec::new(alloc);
+    for offer in offers {
         let names = names_text(alloc, &[offer.local, offer.surrogate])?;
-        offers.push(format!(in alloc; "{names} {}", offer.to)?)?;
+        texts.push(format!(in alloc; "{names} {}", offer.to)?)?;
     }
-    Ok(offers.join(alloc, ", ")?)
+    Ok(texts.join(alloc, ", ")?)
 }
 
 // What the workspace answers to a question about a name.
@@ -38,15 +40,14 @@ fn answer_of_name(alloc: Global, ws: &Workspace, question: &str) -> Result<Strin
     }
 }
 
-// What the workspace answers to a question, where this is the last refusal.
-fn answer(alloc: Global, ws: &Workspace, refused: &str, question: &str) -> Result<String> {
+// What the workspace answers to a question.
+fn answer(alloc: Global, ws: &Workspace, question: &str) -> Result<String> {
     match question {
         "functions" => names_text(alloc, ws.names(What::Functions)?.as_slice()),
         "variables" => names_text(alloc, ws.names(What::Variables)?.as_slice()),
         "shares" => names_text(alloc, ws.names(What::Shares)?.as_slice()),
         "names" => names_text(alloc, ws.all_names()?.as_slice()),
-        "offers" => offers_text(alloc, ws),
-        "refused" => Ok(String::from_str(alloc, refused)?),
+        "offers" => offers_text(alloc, ws.remakes()?.as_slice()),
         "weight" => Ok(ws.weight().to_string(alloc)?),
         "depth" => Ok(ws.depth().to_string(alloc)?),
         "printed" => Ok(ws.printed().to_string(alloc)?),
@@ -55,11 +56,12 @@ fn answer(alloc: Global, ws: &Workspace, refused: &str, question: &str) -> Resul
 }
 
 /// The answers to the questions that are asked, each behind its question, with a separator between, or `-` where none is.
-/// What is asked has its answers too, which are not looked at.
+/// What is asked has its answers too, which are not looked at. A question to which this is the answer, as it is handed in, is
+/// none to the workspace.
 pub fn answers(
     alloc: Global,
     ws: &Workspace,
-    refused: &str,
+    known: (&str, &str),
     asked: &str,
     separator: &str,
 ) -> Result<String> {
@@ -69,7 +71,11 @@ pub fn answers(
     let mut told = Vec::new(alloc);
     for line in asked.split(separator) {
         let question = line.split_once(" = ").map_or(line, |parts| parts.0);
-        let answer = answer(alloc, ws, refused, question)?;
+        let answer = if question == known.0 {
+            String::from_str(alloc, known.1)?
+        } else {
+            answer(alloc, ws, question)?
+        };
         told.push(format!(in alloc; "{question} = {answer}")?)?;
     }
     Ok(told.join(alloc, separator)?)
