@@ -5,7 +5,7 @@ use Rattle.apl_arrays.specs.Array.{PlainArray}
 use Rattle.apl_arrays.specs.declared.report.Fail.{Fail}
 use Rattle.apl_arrays.specs.declared.report.Report.TheVariants.{Syntax}
 use Rattle.apl_arrays.specs.declared.verb.Verb.{Verb}
-use Rattle.apl_operators.specs.Apply.{applied, is_dyadic, takes_axis}
+use Rattle.operator_rules.specs.Apply.{applied, is_dyadic, takes_axis}
 use Rattle.apl_meaning.specs.Expressions.{valued}
 use Rattle.apl_meaning.specs.Meaning.{closed}
 use Rattle.apl_meaning.specs.State.{State, gives, refuses, outcome_of}

@@ -5,7 +5,7 @@ ghost use Rattle.apl_meaning.specs.Expressions.{valued};
 ghost use Rattle.apl_meaning.specs.Meaning.{ran};
 ghost use Rattle.apl_meaning.specs.Nodes.{apply_step};
 ghost use Rattle.apl_meaning.specs.Verbs.{application, both_or_neither, named_axis};
-ghost use Rattle.apl_operators.specs.Apply.{is_dyadic, takes_axis};
+ghost use Rattle.operator_rules.specs.Apply.{is_dyadic, takes_axis};
 ghost use Rattle.apl_values.specs.Values.{IsHeld, held_value};
 ghost use Rattle.apl_statements.specs.Moves.{Comes, if_there, part_gives, part_takes};
 ghost use Rattle.apl_statements.specs.Sound.{IsCaller, IsFlow};

@@ -22,7 +22,7 @@ use Rattle.sv_events.specs.declared.event.Act.TheVariants as act
 use Rattle.apl_meaning.specs.State.{State, Outcome, outcome_of}
 use Rattle.apl_meaning.specs.Answers.{got, set_of, use_of, with_copy}
 use Rattle.apl_meaning.specs.Variables.{assignment, assignment_by, items_assignment, reference, reference_by, target_by}
-use Rattle.apl_operators.specs.Apply.{applied}
+use Rattle.operator_rules.specs.Apply.{applied}
 use Rattle.apl_meaning.specs.Verbs.{application, may_be_applied}
 use Rattle.apl_meaning.specs.Naming.{Naming, naming_faults, naming_count}
 use Rattle.apl_meaning.specs.Deeds.{Deed, offer, ask_degree, set_control, ask_control, ask_state, retract, degree_in, vector_in, question, offering, retraction, where_shared, if_shared, done_for, done_for_all}

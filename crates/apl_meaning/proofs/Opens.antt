@@ -31,7 +31,7 @@ use Rattle.sv_events.specs.declared.event.Act.{Act}
 use Rattle.sv_events.specs.declared.event.Act.TheVariants as act
 use Rattle.apl_meaning.specs.State.{State, Outcome, gives, refuses, asks, and_then, state_of, outcome_of, with_workspace}
 use Rattle.apl_meaning.specs.Variables.{assignment, assignment_by, items_assignment, reference, reference_by, target_by}
-use Rattle.apl_operators.specs.Apply.{applied}
+use Rattle.operator_rules.specs.Apply.{applied}
 use Rattle.apl_meaning.specs.Verbs.{application, may_be_applied, named_axis}
 use Rattle.apl_meaning.specs.Naming.{Naming, naming_count, naming_faults}
 use Rattle.apl_meaning.specs.Deeds.{Deed, offer, ask_degree, set_control, ask_control, ask_state, retract, degree_in, vector_in, value_of, zeros, question, retraction, where_shared, if_shared, done_for, done_for_all}

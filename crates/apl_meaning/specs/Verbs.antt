@@ -5,7 +5,7 @@ use Rattle.apl_arrays.specs.declared.report.Report.{Report}
 use Rattle.apl_arrays.specs.declared.report.Report.TheVariants.{Domain, Length, Syntax}
 use Rattle.apl_arrays.specs.declared.verb.Verb.{Verb}
 use Rattle.apl_items.specs.Extension.{is_single}
-use Rattle.apl_operators.specs.Apply.{applied, is_dyadic, takes_axis}
+use Rattle.operator_rules.specs.Apply.{applied, is_dyadic, takes_axis}
 use Rattle.apl_meaning.specs.State.{State, Outcome, outcome_of, refuses}
 
 -- both are there, or neither

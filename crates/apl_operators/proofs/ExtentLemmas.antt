@@ -9,7 +9,7 @@ use Rattle.std.proofs.lemmas.List.Elements.{All-append, All-get_or, All-take, Al
 use Rattle.apl_arrays.specs.Array.{FitsLimits, IsArray, PlainArray, element_count, item_count}
 use Rattle.apl_items.specs.Extension.{Reaches, is_single, place_in}
 use Rattle.apl_items.proofs.ShapeLemmas.{element_count-append, element_count-cons, split_count_lem}
-use Rattle.apl_operators.specs.Inner.{ends_differ, first_length, front, last_length, paired}
+use Rattle.operator_rules.specs.Inner.{ends_differ, first_length, front, last_length, paired}
 
 -- an array has as many elements as rows of its last axis, and as columns of its first
 front_count : (shape : List ℕ) → element_count (front shape) * last_length shape ≡ element_count shape

@@ -9,7 +9,7 @@ use Rattle.std.proofs.lemmas.Option.{none-some}
 use Rattle.apl_arrays.specs.declared.verb.Dyad.TheVariants.{And, Maximum, Minimum, Or}
 use Rattle.apl_arrays.specs.Number.{fits}
 use Rattle.apl_scalar.specs.Table.{are_truths, dyadic_item, is_truth, item_where, logical}
-use Rattle.apl_operators.specs.Reduction.{joined, reduction}
+use Rattle.operator_rules.specs.Reduction.{joined, reduction}
 
 -- ---- functions that may be joined in any grouping
 

@@ -7,7 +7,7 @@ use Rattle.apl_arrays.specs.Array.{chars, element_count, numbers}
 use Rattle.apl_arrays.specs.Shape.{shape_fault}
 use Rattle.apl_items.specs.Places.{IsByPlace, LacksItem}
 use Rattle.apl_items.proofs.PlaceLemmas.{made, nothing_lacks, something_lacks}
-use Rattle.apl_operators.specs.Gathering.{char_in, gathered, number_in}
+use Rattle.operator_rules.specs.Gathering.{char_in, gathered, number_in}
 
 -- characters at all places, and there is a place
 pub gathered_chars : (shape : List ℕ) (count : ℕ) (rule : ℕ → Option Item) (list : List ℕ) → shape_fault shape ≡ None → count ≡ element_count shape → 0 < count

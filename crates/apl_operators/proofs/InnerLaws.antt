@@ -10,10 +10,10 @@ use Rattle.apl_items.specs.Answers.{answer_of}
 use Rattle.apl_items.specs.Extension.{number_at}
 use Rattle.apl_items.specs.Places.{number_faults, numbers_by}
 use Rattle.apl_scalar.specs.Table.{dyadic_item, row_of_dyad}
-use Rattle.apl_operators.specs.Gathering.{numbers_answer}
-use Rattle.apl_operators.specs.Inner.{ends_differ, inner_at, inner_product_of, pair_at, paired}
-use Rattle.apl_operators.specs.Reduce.{reduce_of, reduced_line}
-use Rattle.apl_operators.specs.Reduction.{number_on, reduction_of}
+use Rattle.operator_rules.specs.Gathering.{numbers_answer}
+use Rattle.operator_rules.specs.Inner.{ends_differ, inner_at, inner_product_of, pair_at, paired}
+use Rattle.operator_rules.specs.Reduce.{reduce_of, reduced_line}
+use Rattle.operator_rules.specs.Reduction.{number_on, reduction_of}
 use Rattle.apl_operators.proofs.LineLemmas.{reduced_numbers}
 use Rattle.apl_operators.proofs.NumberLemmas.{gathered_as_numbers}
 use Rattle.apl_operators.proofs.RunLemmas.{lone, reduction_alike}

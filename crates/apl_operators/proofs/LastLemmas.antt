@@ -8,7 +8,7 @@ use Rattle.apl_items.specs.Shapes.{along_of, inner_of, outer_of, place_along, sp
 use Rattle.apl_items.proofs.AlongLemmas.{positive, regrouped}
 use Rattle.apl_items.proofs.RowLemmas.{place_below}
 use Rattle.apl_items.proofs.ShapeLemmas.{place_along_below, place_along_parts}
-use Rattle.apl_operators.specs.Reduction.{front_of_line, joined}
+use Rattle.operator_rules.specs.Reduction.{front_of_line, joined}
 use Rattle.apl_operators.specs.Running.{Runs, front_at, row_length}
 use Rattle.apl_operators.proofs.RunLemmas.{front_on, one_before}
 

@@ -18,9 +18,9 @@ use Rattle.apl_items.specs.Shapes.{place_along, split_at, split_count}
 use Rattle.apl_items.proofs.ShapeLemmas.{element_count-append, split_count_lem}
 use Rattle.apl_scalar.specs.Table.{dyadic_item, pair_item, row_of_dyad}
 use Rattle.apl_items.specs.Axis.{axis_of, lacks_axis, without}
-use Rattle.apl_operators.specs.Gathering.{gathered, number_in, numbers_answer}
-use Rattle.apl_operators.specs.Reduce.{item_on_line, reduce_of, reduced, reduced_line}
-use Rattle.apl_operators.specs.Reduction.{front_of_line, identity_item, joined, joined_by, number_on, reduction, reduction_of}
+use Rattle.operator_rules.specs.Gathering.{gathered, number_in, numbers_answer}
+use Rattle.operator_rules.specs.Reduce.{item_on_line, reduce_of, reduced, reduced_line}
+use Rattle.operator_rules.specs.Reduction.{front_of_line, identity_item, joined, joined_by, number_on, reduction, reduction_of}
 use Rattle.apl_operators.proofs.GatherLemmas.{gathered_chars, gathered_none}
 use Rattle.apl_operators.proofs.NumberLemmas.{gathered_as_numbers}
 

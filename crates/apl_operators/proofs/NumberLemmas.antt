@@ -18,7 +18,7 @@ use Rattle.apl_items.specs.Answers.{Answer, AnswersFirst, answer_of, faults_of_f
 use Rattle.apl_items.specs.Places.{Follows, GivesEach, HasItems, IsByPlace, LacksItem, OnDomain, OnWantOfMemory, items_by, lacks_item, numbers_by, places}
 use Rattle.apl_items.proofs.PlaceLemmas.{made, nothing_lacks, nothing_lacks_at, something_lacks}
 use Rattle.apl_scalar.proofs.MemoryLemmas.{has_as_told}
-use Rattle.apl_operators.specs.Gathering.{char_in, gathered, lacks_char, lacks_number, number_in, numbers_answer}
+use Rattle.operator_rules.specs.Gathering.{char_in, gathered, lacks_char, lacks_number, number_in, numbers_answer}
 
 pub none_is : {T : Type 0} (o : Option T) → is_some o ≡ false → o ≡ None
 none_is None e = refl

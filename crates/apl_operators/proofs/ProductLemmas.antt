@@ -7,10 +7,10 @@ use Rattle.apl_arrays.specs.Array.{PlainArray, PlainItems, chars, numbers}
 use Rattle.apl_items.specs.Answers.{AnswersFirst}
 use Rattle.apl_scalar.specs.Table.{item_of_chars}
 use Rattle.apl_operators.specs.declared.products.Extent.{Extent}
-use Rattle.apl_operators.specs.Gathering.{numbers_answer}
-use Rattle.apl_operators.specs.Inner.{inner_at}
+use Rattle.operator_rules.specs.Gathering.{numbers_answer}
+use Rattle.operator_rules.specs.Inner.{inner_at}
 use Rattle.apl_operators.specs.Products.{IsExtent, products_at}
-use Rattle.apl_operators.specs.Reduction.{reduction, reduction_of}
+use Rattle.operator_rules.specs.Reduction.{reduction, reduction_of}
 use Rattle.apl_items.proofs.RowLemmas.{place_below}
 
 -- the reduction of some items

@@ -1,7 +1,7 @@
 -- A reduction from the right, one item more.
 use Rattle.std.proofs.Common.{◌≡◌, ℕ, zero, suc, ◌+◌, ◌-◌, ◌<◌, ◌≤◌, Option, Some, None, sym, ap, ◌∙◌, arith, add-one}
 use Rattle.apl_items.specs.Places.{Follows}
-use Rattle.apl_operators.specs.Reduction.{Joins, joined, reduction}
+use Rattle.operator_rules.specs.Reduction.{Joins, joined, reduction}
 
 -- whatever a definition gives where calls follow it, so far from the right
 abbrev pub Reduces : {T : Type 0} → (ℕ → Option T → Type 0) → (T → T → Option T → Type 0) → ℕ → ℕ → ℕ → Option T → Type 0

@@ -13,7 +13,7 @@ use Rattle.apl_items.specs.Shapes.{along_of, inner_of, place_along, split_count}
 use Rattle.apl_items.proofs.AlongLemmas.{positive, regrouped}
 use Rattle.apl_items.proofs.RowLemmas.{each_more, place_below}
 use Rattle.apl_items.proofs.ShapeLemmas.{along_of_place, inner_of_place, outer_of_place, place_along_below}
-use Rattle.apl_operators.specs.Reduction.{Joins, front_of_line, joined, number_on, reduction}
+use Rattle.operator_rules.specs.Reduction.{Joins, front_of_line, joined, number_on, reduction}
 use Rattle.apl_scalar.specs.Reading.{AllFit}
 use Rattle.apl_arrays.specs.Number.{fits}
 use Rattle.apl_operators.specs.Running.{Runs, RunsTo, front_at, row_length}

@@ -19,12 +19,12 @@ use Rattle.apl_items.specs.Places.{items_by, lacks_item, numbers_by}
 use Rattle.apl_items.specs.Shapes.{place_along, split_at, split_count}
 use Rattle.apl_items.proofs.ShapeLemmas.{element_count-cons, place_along_below, split_count_lem}
 use Rattle.apl_scalar.specs.Table.{dyadic_item}
-use Rattle.apl_operators.specs.Gathering.{gathered, numbers_answer}
+use Rattle.operator_rules.specs.Gathering.{gathered, numbers_answer}
 use Rattle.apl_operators.specs.Lines.{front_numbers}
-use Rattle.apl_operators.specs.Reduce.{reduce_of, reduced_line}
-use Rattle.apl_operators.specs.Reduction.{front_of_line, number_on}
+use Rattle.operator_rules.specs.Reduce.{reduce_of, reduced_line}
+use Rattle.operator_rules.specs.Reduction.{front_of_line, number_on}
 use Rattle.apl_operators.specs.Running.{front_at}
-use Rattle.apl_operators.specs.Scan.{scan_of, scanned_at}
+use Rattle.operator_rules.specs.Scan.{scan_of, scanned_at}
 use Rattle.apl_operators.proofs.LineLemmas.{not_zero, number_line_is}
 use Rattle.apl_operators.proofs.NumberLemmas.{gathered_as_numbers, numbers_made}
 use Rattle.apl_operators.proofs.RunLemmas.{front_on, lone, reduction_alike}

@@ -23,10 +23,10 @@ use Rattle.apl_items.specs.Shapes.{along_of, inner_of, outer_of, place_along, sp
 use Rattle.apl_items.proofs.ShapeLemmas.{along_of_place, place_along_below, place_along_parts, split_count_lem}
 use Rattle.apl_items.proofs.PlaceLemmas.{something_lacks}
 use Rattle.apl_scalar.specs.Table.{dyadic_item, pair_item}
-use Rattle.apl_operators.specs.Gathering.{char_in, gathered, lacks_char, lacks_number, number_in, numbers_answer}
-use Rattle.apl_operators.specs.Reduction.{item_in, joined_by, number_on, reduction}
+use Rattle.operator_rules.specs.Gathering.{char_in, gathered, lacks_char, lacks_number, number_in, numbers_answer}
+use Rattle.operator_rules.specs.Reduction.{item_in, joined_by, number_on, reduction}
 use Rattle.apl_operators.specs.Running.{front_at}
-use Rattle.apl_operators.specs.Scan.{item_beside, scan_of, scanned, scanned_at}
+use Rattle.operator_rules.specs.Scan.{item_beside, scan_of, scanned, scanned_at}
 use Rattle.apl_operators.proofs.GatherLemmas.{gathered_chars}
 use Rattle.apl_operators.proofs.LineLemmas.{not_zero, reduced_numbers}
 use Rattle.apl_operators.proofs.NumberLemmas.{gathered_as_numbers, numbers_lack, numbers_made, numbers_there}

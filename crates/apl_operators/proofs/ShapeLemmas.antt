@@ -6,8 +6,8 @@ use Rattle.apl_arrays.specs.Array.{IsArray, PlainArray, PlainItems, chars, eleme
 use Rattle.apl_items.specs.Answers.{AnswersFirst}
 use Rattle.apl_items.proofs.ShapeLemmas.{element_count-append}
 use Rattle.apl_scalar.specs.Table.{item_of_chars}
-use Rattle.apl_operators.specs.Gathering.{numbers_answer}
-use Rattle.apl_operators.specs.Outer.{outer_at}
+use Rattle.operator_rules.specs.Gathering.{numbers_answer}
+use Rattle.operator_rules.specs.Outer.{outer_at}
 
 -- all pairs are as many as an array of both shapes has elements
 pub pair_count : (a b : PlainArray) (shape : List ℕ) → IsArray a → IsArray b → shape ≡ a.shape ++ b.shape → item_count a.items * item_count b.items ≡ element_count shape

@@ -13,7 +13,7 @@ use Rattle.apl_items.specs.Places.{HasItems}
 use Rattle.apl_items.specs.Shapes.{along_of, inner_of, outer_of, place_along, split_count}
 use Rattle.apl_items.proofs.ShapeLemmas.{place_along_below}
 use Rattle.apl_scalar.specs.Table.{dyadic_item, item_where}
-use Rattle.apl_operators.specs.Reduction.{joined}
+use Rattle.operator_rules.specs.Reduction.{joined}
 use Rattle.apl_operators.specs.Running.{AreSmall, Runs, front_at, row_length, wrapped_sum}
 use Rattle.apl_operators.proofs.FrontLemmas.{where_is}
 use Rattle.apl_operators.proofs.LastLemmas.{parts_within}

@@ -18,9 +18,9 @@ use Rattle.apl_scalar.specs.Reading.{AllFit}
 use Rattle.apl_arrays.specs.Number.{fits}
 use Rattle.apl_scalar.specs.Table.{dyadic_item, item_of_chars, item_where, pair_item, row_of_dyad, takes_chars, truth}
 use Rattle.apl_scalar.proofs.Quotients.{residue_above, residue_below, residue_from_0, residue_to_0}
-use Rattle.apl_operators.specs.Inner.{inner_at, pair_at}
-use Rattle.apl_operators.specs.Outer.{outer_at}
-use Rattle.apl_operators.specs.Reduction.{item_in, joined, reduction, reduction_of}
+use Rattle.operator_rules.specs.Inner.{inner_at, pair_at}
+use Rattle.operator_rules.specs.Outer.{outer_at}
+use Rattle.operator_rules.specs.Reduction.{item_in, joined, reduction, reduction_of}
 use Rattle.apl_operators.specs.Rows.{TakesAll, is_small, refuses_none, takes_all}
 use Rattle.apl_operators.proofs.FrontLemmas.{Fits, greater_fits, lesser_fits, where_fits}
 

@@ -16,7 +16,7 @@ use Rattle.apl_items.specs.declared.shapes.Split.{Split}
 use Rattle.apl_items.specs.Places.{lacks_item}
 use Rattle.apl_items.specs.Shapes.{place_along, split_count}
 use Rattle.apl_items.proofs.PlaceLemmas.{something_lacks}
-use Rattle.apl_operators.specs.Reduction.{front_of_line, joined, number_on, reduction}
+use Rattle.operator_rules.specs.Reduction.{front_of_line, joined, number_on, reduction}
 use Rattle.apl_operators.specs.Running.{Runs, factor_weight, front_at, is_grouped, term_weight, weight_on}
 use Rattle.apl_operators.proofs.RunLemmas.{StepsOn, runs_by_steps, steps_by_groups}
 use Rattle.apl_operators.proofs.FrontLemmas.{Fits, Groups, and_groups, maximum_groups, minimum_groups, or_groups, where_fits, where_is}

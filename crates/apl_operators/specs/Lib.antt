@@ -1,12 +1,5 @@
-pub mod Gathering
-pub mod Inner
 pub mod Lines
-pub mod Outer
 pub mod Parts
-pub mod Reduction
-pub mod Reduce
-pub mod Scan
 pub mod Rows
 pub mod Products
 pub mod Running
-pub mod Apply

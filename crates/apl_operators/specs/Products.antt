@@ -2,7 +2,7 @@ use Rattle.std.specs.Prelude.{◌≡◌, ◌+◌, ◌*◌, ◌/◌, ◌%◌, ◌
 use Rattle.apl_operators.specs.declared.products.Extent.{Extent}
 use Rattle.apl_arrays.specs.declared.verb.Dyad.{Dyad}
 use Rattle.apl_scalar.specs.Table.{dyadic_item, row_of_dyad}
-use Rattle.apl_operators.specs.Reduction.{reduction_of}
+use Rattle.operator_rules.specs.Reduction.{reduction_of}
 
 -- there are pairs, and no side is longer than an array may be
 pub record IsExtent (extent : Extent) : Type 0 where

@@ -4,7 +4,7 @@ use Rattle.apl_arrays.specs.declared.verb.Dyad.TheVariants.{Maximum, Minimum, Re
 use Rattle.apl_arrays.specs.Array.{PlainItems, numbers, chars}
 use Rattle.apl_arrays.specs.Number.{fits}
 use Rattle.apl_scalar.specs.Table.{pair_item, takes_chars}
-use Rattle.apl_operators.specs.Reduction.{item_in}
+use Rattle.operator_rules.specs.Reduction.{item_in}
 
 -- the function has a value of 64 bits at all pairs of numbers of 64 bits
 abbrev pub refuses_none : Dyad → Bool

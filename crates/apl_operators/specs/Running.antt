@@ -6,7 +6,7 @@ use Rattle.apl_items.specs.declared.shapes.Split.{Split}
 use Rattle.apl_items.specs.Places.{LacksItem}
 use Rattle.apl_items.specs.Shapes.{along_of, inner_of, outer_of, place_along}
 use Rattle.apl_scalar.specs.Table.{item_where}
-use Rattle.apl_operators.specs.Reduction.{Joins, front_of_line, joined, reduction}
+use Rattle.operator_rules.specs.Reduction.{Joins, front_of_line, joined, reduction}
 
 -- the reduction of the front of a line of numbers, up to a place
 abbrev pub front_at : (ℤ → ℤ → Option ℤ) → List ℤ → Split → ℕ → Option ℤ

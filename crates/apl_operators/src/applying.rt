@@ -1,6 +1,6 @@
 ghost use Rattle.std.specs.Prelude.{◌≡◌, ◌+◌, true, is_some, option_copied};
 ghost use Rattle.apl_items.specs.Answers.{Answers};
-ghost use Rattle.apl_operators.specs.Apply.{applied, is_dyadic, mixed_dyadic_of, mixed_monadic_of, takes_axis};
+ghost use Rattle.operator_rules.specs.Apply.{applied, is_dyadic, mixed_dyadic_of, mixed_monadic_of, takes_axis};
 
 use crate::inner_product::inner;
 use crate::outer_product::outer;

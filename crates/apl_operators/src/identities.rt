@@ -2,7 +2,7 @@ ghost use Rattle.std.specs.Prelude.{◌≡◌, ◌≤◌, All, length, option_ma
 ghost use Rattle.apl_arrays.specs.Limits.{most_axes, most_elements};
 ghost use Rattle.apl_items.specs.Answers.{AnswersFirst};
 ghost use Rattle.apl_scalar.specs.Table.{row_of_dyad};
-ghost use Rattle.apl_operators.specs.Gathering.{numbers_answer};
+ghost use Rattle.operator_rules.specs.Gathering.{numbers_answer};
 
 use apl_arrays::{Array, Dyad, Fail, Items, NumberList, Report, count_of_elements, shape_fault};
 use apl_items::by_place;

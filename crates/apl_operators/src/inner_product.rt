@@ -4,10 +4,10 @@ ghost use Rattle.apl_arrays.specs.Limits.{most_axes};
 ghost use Rattle.apl_items.specs.Answers.{AnswersFirst};
 ghost use Rattle.apl_items.specs.Extension.{Reaches, char_at, number_at, place_in};
 ghost use Rattle.apl_scalar.specs.Table.{dyadic_item, item_of_chars};
-ghost use Rattle.apl_operators.specs.Gathering.{numbers_answer};
-ghost use Rattle.apl_operators.specs.Inner.{ends_differ, first_length, front, inner_at, inner_product_of, last_length, paired};
+ghost use Rattle.operator_rules.specs.Gathering.{numbers_answer};
+ghost use Rattle.operator_rules.specs.Inner.{ends_differ, first_length, front, inner_at, inner_product_of, last_length, paired};
 ghost use Rattle.apl_operators.specs.Products.{IsExtent, products_at};
-ghost use Rattle.apl_operators.specs.Reduction.{Joins, Tells};
+ghost use Rattle.operator_rules.specs.Reduction.{Joins, Tells};
 
 use crate::identities::identities;
 use crate::items::{refuses_none, takes_all};

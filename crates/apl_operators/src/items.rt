@@ -1,8 +1,8 @@
 ghost use Rattle.std.specs.Prelude.{◌≡◌, true};
 ghost use Rattle.apl_arrays.specs.Array.{seen_items};
 ghost use Rattle.apl_scalar.specs.Table.{dyadic_item, item_of_chars, pair_item};
-ghost use Rattle.apl_operators.specs.Gathering.{number_in};
-ghost use Rattle.apl_operators.specs.Reduction.{Joins, Tells, joined_by};
+ghost use Rattle.operator_rules.specs.Gathering.{number_in};
+ghost use Rattle.operator_rules.specs.Reduction.{Joins, Tells, joined_by};
 ghost use Rattle.apl_operators.specs.Rows.{TakesAll, refuses_none, takes_all};
 
 use apl_arrays::{Dyad, Item, ItemsRef};

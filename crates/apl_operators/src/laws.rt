@@ -5,11 +5,11 @@ ghost use Rattle.apl_arrays.specs.Array.{PlainArray, chars, number_array, number
 ghost use Rattle.apl_items.specs.Axis.{axis_of};
 ghost use Rattle.apl_items.specs.Shapes.{place_along, split_at};
 ghost use Rattle.apl_scalar.specs.Table.{dyadic_item};
-ghost use Rattle.apl_operators.specs.Inner.{inner_product_of};
+ghost use Rattle.operator_rules.specs.Inner.{inner_product_of};
 ghost use Rattle.apl_operators.specs.Lines.{front_numbers};
-ghost use Rattle.apl_operators.specs.Outer.{outer_product_of};
-ghost use Rattle.apl_operators.specs.Reduce.{reduce_of};
-ghost use Rattle.apl_operators.specs.Scan.{scan_of};
+ghost use Rattle.operator_rules.specs.Outer.{outer_product_of};
+ghost use Rattle.operator_rules.specs.Reduce.{reduce_of};
+ghost use Rattle.operator_rules.specs.Scan.{scan_of};
 
 use apl_arrays::{Dyad, Report, Way};
 use apl_items::Split;

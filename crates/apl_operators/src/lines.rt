@@ -1,7 +1,7 @@
 ghost use Rattle.std.specs.Prelude.{◌≡◌, ◌-◌, ◌<◌, length};
 ghost use Rattle.apl_items.specs.Shapes.{split_count};
 ghost use Rattle.apl_scalar.specs.Table.{dyadic_item};
-ghost use Rattle.apl_operators.specs.Reduction.{Joins, front_of_line, number_on};
+ghost use Rattle.operator_rules.specs.Reduction.{Joins, front_of_line, number_on};
 
 use crate::reduction::reduced;
 use apl_arrays::Dyad;

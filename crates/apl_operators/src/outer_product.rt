@@ -3,9 +3,9 @@ ghost use Rattle.apl_arrays.specs.Array.{seen_items, chars, element_count, item_
 ghost use Rattle.apl_arrays.specs.Limits.{most_axes};
 ghost use Rattle.apl_items.specs.Answers.{AnswersFirst};
 ghost use Rattle.apl_scalar.specs.Table.{dyadic_item, item_of_chars};
-ghost use Rattle.apl_operators.specs.Gathering.{numbers_answer};
-ghost use Rattle.apl_operators.specs.Outer.{outer_at, outer_product_of};
-ghost use Rattle.apl_operators.specs.Reduction.{Joins, Tells};
+ghost use Rattle.operator_rules.specs.Gathering.{numbers_answer};
+ghost use Rattle.operator_rules.specs.Outer.{outer_at, outer_product_of};
+ghost use Rattle.operator_rules.specs.Reduction.{Joins, Tells};
 
 use crate::items::takes_all;
 use crate::rows::numbers_by_rows;

@@ -3,9 +3,9 @@ ghost use Rattle.apl_arrays.specs.Array.{element_count};
 ghost use Rattle.apl_arrays.specs.Limits.{most_axes};
 ghost use Rattle.apl_items.specs.Answers.{AnswersFirst};
 ghost use Rattle.apl_scalar.specs.Table.{dyadic_item};
-ghost use Rattle.apl_operators.specs.Gathering.{numbers_answer};
+ghost use Rattle.operator_rules.specs.Gathering.{numbers_answer};
 ghost use Rattle.apl_operators.specs.Products.{FollowsPairs, IsExtent, product_of, products_at};
-ghost use Rattle.apl_operators.specs.Reduction.{Joins};
+ghost use Rattle.operator_rules.specs.Reduction.{Joins};
 
 use crate::reduction::reduced;
 use crate::rows::numbers_by_rows;

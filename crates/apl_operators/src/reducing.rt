@@ -4,9 +4,9 @@ ghost use Rattle.apl_items.specs.Answers.{AnswersFirst};
 ghost use Rattle.apl_items.specs.Shapes.{place_along, split_count};
 ghost use Rattle.apl_scalar.specs.Table.{dyadic_item, item_of_chars};
 ghost use Rattle.apl_items.specs.Axis.{without};
-ghost use Rattle.apl_operators.specs.Gathering.{gathered, number_in};
-ghost use Rattle.apl_operators.specs.Reduce.{reduce_of, reduced, reduced_line};
-ghost use Rattle.apl_operators.specs.Reduction.{Joins, Tells, front_of_line, item_in, joined_by, reduction};
+ghost use Rattle.operator_rules.specs.Gathering.{gathered, number_in};
+ghost use Rattle.operator_rules.specs.Reduce.{reduce_of, reduced, reduced_line};
+ghost use Rattle.operator_rules.specs.Reduction.{Joins, Tells, front_of_line, item_in, joined_by, reduction};
 
 use crate::identities::identities;
 use crate::items::{joined_by, number_in};

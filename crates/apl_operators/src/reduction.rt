@@ -1,6 +1,6 @@
 ghost use Rattle.std.specs.Prelude.{◌≡◌, ◌+◌, ◌<◌, ℕ, Option};
 ghost use Rattle.apl_items.specs.Places.{Follows};
-ghost use Rattle.apl_operators.specs.Reduction.{Joins, reduction};
+ghost use Rattle.operator_rules.specs.Reduction.{Joins, reduction};
 
 /// The reduction of an item and of so many after it, from the right, or `None` where an item is lacking or two items
 /// have no value. No memory.

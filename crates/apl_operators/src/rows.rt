@@ -3,7 +3,7 @@ ghost use Rattle.apl_arrays.specs.Array.{element_count};
 ghost use Rattle.apl_arrays.specs.Limits.{most_axes};
 ghost use Rattle.apl_items.specs.Answers.{AnswersFirst};
 ghost use Rattle.apl_items.specs.Places.{AtPlace, Follows};
-ghost use Rattle.apl_operators.specs.Gathering.{numbers_answer};
+ghost use Rattle.operator_rules.specs.Gathering.{numbers_answer};
 
 use apl_arrays::{Array, Fail, Items, NumberList, Report, shape_fault};
 use apl_items::{by_rows, lacks_by_rows};

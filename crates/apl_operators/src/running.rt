@@ -2,7 +2,7 @@ ghost use Rattle.std.specs.Prelude.{◌≡◌, ◌+◌, ◌*◌, ◌/◌, ◌%�
 ghost use Rattle.apl_items.specs.Places.{IsByPlace, lacks_item};
 ghost use Rattle.apl_items.specs.Shapes.{place_along, split_count};
 ghost use Rattle.apl_scalar.specs.Table.{dyadic_item};
-ghost use Rattle.apl_operators.specs.Reduction.{Joins, joined};
+ghost use Rattle.operator_rules.specs.Reduction.{Joins, joined};
 ghost use Rattle.apl_operators.specs.Running.{BreaksOff, Runs, RunsTo, Weighs, factor_weight, front_at, is_grouped, row_length, term_weight, weight_on};
 
 use crate::reduction::reduced;

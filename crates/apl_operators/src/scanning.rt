@@ -4,9 +4,9 @@ ghost use Rattle.apl_items.specs.Answers.{AnswersFirst};
 ghost use Rattle.apl_items.specs.Places.{HasItems, LacksItem, MakesItems, OnWantOfMemory};
 ghost use Rattle.apl_items.specs.Shapes.{split_count};
 ghost use Rattle.apl_scalar.specs.Table.{dyadic_item};
-ghost use Rattle.apl_operators.specs.Reduction.{Joins, front_of_line};
+ghost use Rattle.operator_rules.specs.Reduction.{Joins, front_of_line};
 ghost use Rattle.apl_operators.specs.Running.{Runs, front_at};
-ghost use Rattle.apl_operators.specs.Scan.{scan_of, scanned};
+ghost use Rattle.operator_rules.specs.Scan.{scan_of, scanned};
 
 use crate::lines::{LineAt, front_of_line, last_front};
 use crate::parts::by_parts;

@@ -2,7 +2,7 @@ use Rattle.std.proofs.Common.{◌≡◌, ◌-◌, true, List, sym, ap, ◌∙◌
 use Rattle.std.specs.Prelude.{Ok, Option, is_some, option_map}
 use Rattle.std.specs.Option.{option_copied}
 use Rattle.apl_arrays.specs.Array.{PlainArray}
-use Rattle.apl_operators.specs.Apply.{applied}
+use Rattle.operator_rules.specs.Apply.{applied}
 use Rattle.apl_meaning.specs.Verbs.{may_be_applied}
 use Rattle.apl_values.specs.declared.part.Part.{Part}
 use Rattle.apl_values.specs.declared.values.Held.{Held}

@@ -2,7 +2,7 @@ use Rattle.std.proofs.Common.{option_copied, rules, sym, subst}
 use Rattle.apl_arrays.specs.declared.verb.Verb.{Verb}
 use Rattle.apl_items.specs.Answers.{Answers}
 use Rattle.apl_items.proofs.AnswerLemmas.{answers_at_all}
-use Rattle.apl_operators.specs.Apply.{applied}
+use Rattle.operator_rules.specs.Apply.{applied}
 use Rattle.apl_operators.proofs.applying.apply.Goals as goal
 
 pub returns-in-Reduce-clause-value : goal.returns-in-Reduce-clause-value

@@ -3,7 +3,7 @@ use Rattle.std.proofs.lemmas.Result.{err_from_is_err_and}
 use Rattle.apl_arrays.specs.declared.report.Fail.TheVariants as fail
 use Rattle.apl_arrays.specs.Array.{number_array}
 use Rattle.apl_scalar.specs.Table.{row_of_dyad}
-use Rattle.apl_operators.specs.Gathering.{numbers_answer}
+use Rattle.operator_rules.specs.Gathering.{numbers_answer}
 use Rattle.apl_operators.proofs.NumberLemmas.{answers_through, given_there, identities_made, identities_refused, none_is, out_of_memory, refused_by_place}
 use Rattle.apl_operators.proofs.identities.identities.Goals as goal
 

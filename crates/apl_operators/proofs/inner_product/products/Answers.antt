@@ -1,7 +1,7 @@
 use Rattle.std.proofs.Common.{◌≡◌, ◌*◌, ◌<◌, ◌∙◌, List, ℕ, drop, sym, ap, subst, arith}
 use Rattle.apl_arrays.specs.Array.{FitsLimits, element_count, item_count, seen_items}
 use Rattle.apl_items.specs.Extension.{place_in}
-use Rattle.apl_operators.specs.Inner.{front, paired}
+use Rattle.operator_rules.specs.Inner.{front, paired}
 use Rattle.apl_operators.proofs.ExtentLemmas.{axes_small, fit_arrays, front_fits, paired_small, product_count, reaches_columns, reaches_rows, rest_fits}
 use Rattle.apl_operators.proofs.inner_product.products.Goals as goal
 

@@ -1,6 +1,6 @@
 use Rattle.std.proofs.Common.{◌∙◌, is_some, refl, sym, ap}
 use Rattle.apl_arrays.specs.Array.{seen_items}
-use Rattle.apl_operators.specs.Outer.{outer_at}
+use Rattle.operator_rules.specs.Outer.{outer_at}
 use Rattle.apl_operators.proofs.NumberLemmas.{none_lacks_of_many}
 use Rattle.apl_operators.proofs.ShapeLemmas.{unlike_chars, unlike_numbers}
 use Rattle.apl_operators.proofs.TakesAllLemmas.{all_there}

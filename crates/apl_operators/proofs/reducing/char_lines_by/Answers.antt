@@ -1,7 +1,7 @@
 use Rattle.std.proofs.Common.{◌∙◌}
 use Rattle.apl_arrays.specs.Array.{chars}
-use Rattle.apl_operators.specs.Gathering.{number_in}
-use Rattle.apl_operators.specs.Reduce.{reduced_line}
+use Rattle.operator_rules.specs.Gathering.{number_in}
+use Rattle.operator_rules.specs.Reduce.{reduced_line}
 use Rattle.apl_operators.proofs.LineLemmas.{char_line_is, long_lines_answer}
 use Rattle.apl_operators.proofs.reducing.char_lines_by.Goals as goal
 

@@ -1,6 +1,6 @@
 use Rattle.std.proofs.Common.{◌-◌, ◌/◌, ◌%◌}
 use Rattle.apl_scalar.specs.Table.{dyadic_item}
-use Rattle.apl_operators.specs.Reduction.{front_of_line}
+use Rattle.operator_rules.specs.Reduction.{front_of_line}
 use Rattle.apl_operators.proofs.LineLemmas.{number_lines_answer}
 use Rattle.apl_operators.proofs.reducing.lines_by.Goals as goal
 

@@ -3,8 +3,8 @@ use Rattle.std.proofs.lemmas.Result.{err_from_is_err_and}
 use Rattle.apl_arrays.specs.declared.report.Fail.TheVariants as fail
 use Rattle.apl_arrays.specs.Array.{PlainItems, seen_items}
 use Rattle.apl_items.specs.Answers.{AnswersFirst}
-use Rattle.apl_operators.specs.Gathering.{gathered}
-use Rattle.apl_operators.specs.Reduce.{reduced_line}
+use Rattle.operator_rules.specs.Gathering.{gathered}
+use Rattle.operator_rules.specs.Reduce.{reduced_line}
 use Rattle.apl_operators.proofs.LineLemmas.{lone_chars, lone_chars_there}
 use Rattle.apl_operators.proofs.NumberLemmas.{out_of_memory}
 use Rattle.apl_operators.proofs.reducing.lines_of_items.Goals as goal

@@ -6,7 +6,7 @@ use Rattle.apl_items.specs.declared.shapes.Split.{Split}
 use Rattle.apl_items.specs.Shapes.{split_at, split_count}
 use Rattle.apl_items.proofs.ShapeLemmas.{split_count_lem}
 use Rattle.apl_operators.proofs.LineLemmas.{lines_made, lines_without, no_lines, no_lines_made, no_lines_there}
-use Rattle.apl_operators.specs.Reduce.{reduced}
+use Rattle.operator_rules.specs.Reduce.{reduced}
 use Rattle.apl_operators.proofs.NumberLemmas.{out_of_memory}
 use Rattle.apl_operators.proofs.reducing.reduced_lines.Goals as goal
 

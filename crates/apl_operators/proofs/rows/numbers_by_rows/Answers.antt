@@ -6,7 +6,7 @@ use Rattle.apl_items.specs.Answers.{Answer}
 use Rattle.apl_items.specs.Places.{AtPlace}
 use Rattle.apl_items.proofs.PlaceLemmas.{nothing_lacks_at, something_lacks}
 use Rattle.apl_scalar.proofs.MemoryLemmas.{has_as_told}
-use Rattle.apl_operators.specs.Gathering.{numbers_answer}
+use Rattle.operator_rules.specs.Gathering.{numbers_answer}
 use Rattle.apl_operators.proofs.NumberLemmas.{answers_through, given_there, lacking_of_many, none_is, none_lacking_of_many, numbers_made, out_of_memory, refused_by_place}
 use Rattle.apl_operators.proofs.RowLemmas.{lacks_as_told}
 use Rattle.apl_operators.proofs.rows.numbers_by_rows.Goals as goal

@@ -1,5 +1,5 @@
 use Rattle.std.proofs.Common.{◌≡◌, ◌*◌, ◌/◌, ◌%◌, ℕ, ℤ, Option, not, ap}
-use Rattle.apl_operators.specs.Reduction.{Joins}
+use Rattle.operator_rules.specs.Reduction.{Joins}
 use Rattle.apl_operators.specs.Running.{Weighs, weight_on}
 use Rattle.apl_operators.proofs.RowLemmas.{told_lacking}
 use Rattle.apl_operators.proofs.running.weighs_little.Goals as goal

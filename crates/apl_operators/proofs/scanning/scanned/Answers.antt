@@ -3,7 +3,7 @@ use Rattle.std.proofs.lemmas.Result.{err_from_is_err_and}
 use Rattle.apl_arrays.specs.Array.{PlainArray, PlainItems, chars, item_count, numbers, seen_items}
 use Rattle.apl_items.specs.Shapes.{split_at, split_count}
 use Rattle.apl_items.proofs.ShapeLemmas.{split_count_lem}
-use Rattle.apl_operators.specs.Scan.{scanned}
+use Rattle.operator_rules.specs.Scan.{scanned}
 use Rattle.apl_arrays.specs.declared.report.Fail.TheVariants as fail
 use Rattle.apl_operators.proofs.NumberLemmas.{answers_through, out_of_memory}
 use Rattle.apl_operators.proofs.ScanLemmas.{chars_refused, lone_chars_stay, lone_chars_there, scan_made, scan_refused, scan_there}

@@ -3,8 +3,8 @@ use Rattle.apl_arrays.specs.declared.verb.Dyad.{Dyad}
 use Rattle.apl_arrays.specs.Array.{PlainArray, PlainItems, item_count}
 use Rattle.apl_items.specs.Answers.{Answer}
 use Rattle.apl_scalar.specs.Table.{pair_item}
-use Rattle.apl_operators.specs.Gathering.{numbers_answer}
-use Rattle.apl_operators.specs.Reduction.{item_in}
+use Rattle.operator_rules.specs.Gathering.{numbers_answer}
+use Rattle.operator_rules.specs.Reduction.{item_in}
 
 -- the item at a place of all pairs: those of the first item of A come first
 abbrev pub outer_at : Dyad → PlainItems → PlainItems → ℕ → Option ℤ

@@ -5,7 +5,7 @@ use Rattle.apl_items.specs.Answers.{Answer, answer_of}
 use Rattle.apl_items.specs.Extension.{are_whole, is_single, item_at}
 use Rattle.apl_items.specs.Places.{number_faults, numbers_by}
 use Rattle.apl_scalar.specs.Table.{dyadic_item, pair_item, row_of_dyad}
-use Rattle.apl_operators.specs.Reduction.{reduction_of}
+use Rattle.operator_rules.specs.Reduction.{reduction_of}
 
 -- a shape without its last axis
 abbrev pub front : List ℕ → List ℕ

@@ -8,8 +8,8 @@ use Rattle.apl_items.specs.declared.shapes.Split.{Split}
 use Rattle.apl_items.specs.Answers.{Answer}
 use Rattle.apl_items.specs.Shapes.{along_of, inner_of, outer_of, place_along, split_at}
 use Rattle.apl_items.specs.Axis.{axis_of, lacks_axis}
-use Rattle.apl_operators.specs.Gathering.{gathered}
-use Rattle.apl_operators.specs.Reduction.{item_in, joined_by, reduction}
+use Rattle.operator_rules.specs.Gathering.{gathered}
+use Rattle.operator_rules.specs.Reduction.{item_in, joined_by, reduction}
 
 -- the item somewhere along the axis, on the line of a place
 abbrev pub item_beside : PlainItems → Split → ℕ → ℕ → Option Item

@@ -8,8 +8,8 @@ use Rattle.apl_items.specs.declared.shapes.Split.{Split}
 use Rattle.apl_items.specs.Answers.{Answer}
 use Rattle.apl_items.specs.Shapes.{place_along, split_at}
 use Rattle.apl_items.specs.Axis.{axis_of, lacks_axis, without}
-use Rattle.apl_operators.specs.Gathering.{gathered}
-use Rattle.apl_operators.specs.Reduction.{identity_item, item_in, joined_by, reduction_of}
+use Rattle.operator_rules.specs.Gathering.{gathered}
+use Rattle.operator_rules.specs.Reduction.{identity_item, item_in, joined_by, reduction_of}
 
 -- the item on a line along an axis, by the line's place in a shape without the axis
 abbrev pub item_on_line : PlainItems → Split → ℕ → ℕ → Option Item

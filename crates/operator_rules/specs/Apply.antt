@@ -9,10 +9,10 @@ use Rattle.apl_arrays.specs.declared.verb.Verb.TheVariants.{One, Two, Mixed1, Mi
 use Rattle.apl_arrays.specs.Array.{PlainArray}
 use Rattle.apl_items.specs.Answers.{Answer}
 use Rattle.apl_display.specs.Format.{format_of}
-use Rattle.apl_operators.specs.Inner.{inner_product_of}
-use Rattle.apl_operators.specs.Outer.{outer_product_of}
-use Rattle.apl_operators.specs.Reduce.{reduce_of}
-use Rattle.apl_operators.specs.Scan.{scan_of}
+use Rattle.operator_rules.specs.Inner.{inner_product_of}
+use Rattle.operator_rules.specs.Outer.{outer_product_of}
+use Rattle.operator_rules.specs.Reduce.{reduce_of}
+use Rattle.operator_rules.specs.Scan.{scan_of}
 use Rattle.apl_scalar.specs.Scalar.{dyadic_of, monadic_of}
 use Rattle.apl_search.specs.Decode.{decode_of}
 use Rattle.apl_search.specs.Encode.{encode_of}
