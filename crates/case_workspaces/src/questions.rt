@@ -55,6 +55,20 @@ fn answer(alloc: Global, ws: &Workspace, question: &str) -> Result<String> {
     }
 }
 
+// The answer to a question, which is known or told by the workspace.
+fn answer_with(
+    alloc: Global,
+    ws: &Workspace,
+    known: (&str, &str),
+    question: &str,
+) -> Result<String> {
+    if question == known.0 {
+        Ok(String::from_str(alloc, known.1)?)
+    } else {
+        answer(alloc, ws, question)
+    }
+}
+
 /// The answers to the questions that are asked, each behind its question, with a separator between, or `-` where none is.
 /// What is asked has its answers too, which are not looked at. A question to which this is the answer, as it is handed in, is
 /// none to the workspace.
@@ -71,11 +85,7 @@ pub fn answers(
     let mut told = Vec::new(alloc);
     for line in asked.split(separator) {
         let question = line.split_once(" = ").map_or(line, |parts| parts.0);
-        let answer = if question == known.0 {
-            String::from_str(alloc, known.1)?
-        } else {
-            answer(alloc, ws, question)?
-        };
+        let answer = answer_with(alloc, ws, known, question)?;
         told.push(format!(in alloc; "{question} = {answer}")?)?;
     }
     Ok(told.join(alloc, separator)?)

@@ -12,6 +12,17 @@ pub const STEP_END: &str = " · ";
 // What stands before each question that is asked right after a step.
 const QUESTION: &str = " ? ";
 
+// Does a step of this number: the report with which it is refused, and the number, or nothing where it is not.
+fn refusal(alloc: Global, ws: &mut Workspace, text: &str, number: usize) -> Result<Option<String>> {
+    match step(alloc, ws, text)? {
+        Ok(()) => Ok(None),
+        Err(fail) => {
+            let report = report_text(fail)?;
+            Ok(Some(format!(in alloc; "{report} at {number}")?))
+        }
+    }
+}
+
 // Does the steps of a script: the last refusal and its step, counted from 1, or `-` where none was. Where the workspace
 // tells otherwise after a step, the script ends with an error, which is the step's number and what it tells.
 fn run(alloc: Global, ws: &mut Workspace, script: &str) -> Result<Result<String, String>> {
@@ -19,9 +30,8 @@ fn run(alloc: Global, ws: &mut Workspace, script: &str) -> Result<Result<String,
     for (at, part) in unescaped(alloc, script)?.split(STEP_END).enumerate() {
         let number = at.saturating_add(1);
         let (text, asked) = part.split_once(QUESTION).unwrap_or((part, "-"));
-        if let Err(fail) = step(alloc, ws, text)? {
-            let report = report_text(fail)?;
-            refused = format!(in alloc; "{report} at {number}")?;
+        if let Some(report) = refusal(alloc, ws, text, number)? {
+            refused = report;
         }
         let told = answers(alloc, ws, ("refused", refused.as_str()), asked, QUESTION)?;
         if told.as_str() != asked {

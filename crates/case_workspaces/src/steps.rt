@@ -1,15 +1,32 @@
 use crate::conditions::{is_function, is_variable, takes};
 use crate::functions::function_of;
 use crate::holding::both;
+use crate::numbers::natural_of;
 use anyhow::{Context, Result, bail, ensure};
 use apl_arrays::{Array, ELEMENT_LIMIT, Fail, Name};
 use apl_workspace::{Args, PRINTED_LIMIT, Seen, Workspace, is_addressee};
-use case_fields::{array_of, name_of, optional_of, zeros};
+use case_fields::{array_of, name_of, zeros};
 use std::alloc::Global;
 use std::mem;
 
 /// What comes of a step: it may be refused.
 pub type Outcome = Result<(), Fail>;
+
+// The array that a step says. The escapes of a script are read before its steps are told apart, so a backslash that is left
+// stands for itself.
+fn value_of(alloc: Global, text: &str) -> Result<Array> {
+    let field = text.replace(alloc, "\\", "\\x5C")?;
+    array_of(alloc, field.as_str())
+}
+
+// The array that a step says, or none where it says `-`.
+fn optional_of(alloc: Global, text: &str) -> Result<Option<Array>> {
+    if text == "-" {
+        Ok(None)
+    } else {
+        Ok(Some(value_of(alloc, text)?))
+    }
+}
 
 fn assign(ws: &mut Workspace, name: &Name, value: Array) -> Result<Outcome> {
     if matches!(ws.look(name), Seen::Shared(_)) {
@@ -19,6 +36,13 @@ fn assign(ws: &mut Workspace, name: &Name, value: Array) -> Result<Outcome> {
     Ok(ws.assign(name, value))
 }
 
+// Assigns as many zeros to the name W and a number as are left to weigh, or as an array holds.
+fn fill_one(alloc: Global, ws: &mut Workspace, number: u32, left: usize) -> Result<Outcome> {
+    let count = left.saturating_sub(1).min(ELEMENT_LIMIT);
+    let name = name_of(alloc, format!(in alloc; "W{number}")?.as_str())?;
+    assign(ws, &name, zeros(alloc, u32::try_from(count)?)?)
+}
+
 // Assigns zeros to names W0, W1 and so on until the workspace weighs so much. A value weighs 1 and its items.
 fn fill(alloc: Global, ws: &mut Workspace, weight: usize) -> Result<Outcome> {
     for number in 0..300_u32 {
@@ -26,9 +50,7 @@ fn fill(alloc: Global, ws: &mut Workspace, weight: usize) -> Result<Outcome> {
         if left == 0 {
             return Ok(Ok(()));
         }
-        let count = left.saturating_sub(1).min(ELEMENT_LIMIT);
-        let name = name_of(alloc, format!(in alloc; "W{number}")?.as_str())?;
-        let outcome = assign(ws, &name, zeros(alloc, u32::try_from(count)?)?)?;
+        let outcome = fill_one(alloc, ws, number, left)?;
         if outcome.is_err() {
             return Ok(outcome);
         }
@@ -57,7 +79,7 @@ fn mark(alloc: Global, ws: &mut Workspace, name: &Name, text: &str) -> Result<Ou
     let (front, to) = text.rsplit_once(" ").context("no addressee")?;
     let (value, surrogate) = front.rsplit_once(" ").context("no surrogate")?;
     let surrogate = name_of(alloc, surrogate)?;
-    let to: u32 = to.parse().context("no party")?;
+    let to = natural_of(to)?;
     ensure!(is_addressee(to), "no party that an offer is made to");
     ensure!(!is_function(ws, name), "a function is not shared");
     Ok(ws.mark(name, optional_of(alloc, value)?, surrogate, to))
@@ -71,7 +93,7 @@ fn unmark(alloc: Global, ws: &mut Workspace, name: &Name, text: &str) -> Result<
 
 fn renew(alloc: Global, ws: &mut Workspace, name: &Name, text: &str) -> Result<Outcome> {
     ensure!(ws.is_shared(name), "the name is not shared");
-    Ok(ws.renew(name, array_of(alloc, text)?))
+    Ok(ws.renew(name, value_of(alloc, text)?))
 }
 
 // Enters a function with a left and a right argument, or with none.
@@ -128,14 +150,14 @@ fn step_of_name(alloc: Global, ws: &mut Workspace, word: &str, rest: &str) -> Re
     let (name, rest) = rest.split_once(" ").unwrap_or((rest, ""));
     let name = name_of(alloc, name)?;
     match word {
-        "assign" => assign(ws, &name, array_of(alloc, rest)?),
+        "assign" => assign(ws, &name, value_of(alloc, rest)?),
         "erase" => erase(ws, &name, true),
         "miss" => erase(ws, &name, false),
         "mark" => mark(alloc, ws, &name, rest),
         "unmark" => unmark(alloc, ws, &name, rest),
         "renew" => renew(alloc, ws, &name, rest),
         "enter" => enter(alloc, ws, &name, rest),
-        "deepen" => deepen(alloc, ws, &name, rest.parse().context("no count")?),
+        "deepen" => deepen(alloc, ws, &name, natural_of(rest)?),
         _ => bail!("no step: {word}"),
     }
 }
@@ -145,9 +167,9 @@ pub fn step(alloc: Global, ws: &mut Workspace, text: &str) -> Result<Outcome> {
     let (word, rest) = text.split_once(" ").unwrap_or((text, ""));
     match word {
         "define" => define(alloc, ws, rest),
-        "fill" => fill(alloc, ws, rest.parse().context("no weight")?),
+        "fill" => fill(alloc, ws, natural_of(rest)? as usize),
         "leave" => leave(ws),
-        "count" => count(ws, rest.parse().context("no count")?),
+        "count" => count(ws, u64::from(natural_of(rest)?)),
         "copy" => copy(ws),
         _ => step_of_name(alloc, ws, word, rest),
     }

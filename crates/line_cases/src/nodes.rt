@@ -5,8 +5,8 @@ use case_fields::{array_text, push_glyphs};
 use line_trees::{Fun, Node};
 use std::alloc::{AllocError, Global};
 
-// One item is a scalar, any other count a vector.
-fn push_constant(alloc: Global, text: &mut String, items: &Items) -> Result<()> {
+// The array of items: one is a scalar, any other count a vector.
+fn array_of_items(alloc: Global, items: &Items) -> Result<Array> {
     let count = u32::try_from(items.len())?;
     let vector = [count];
     let shape = if count == 1 {
@@ -14,8 +14,14 @@ fn push_constant(alloc: Global, text: &mut String, items: &Items) -> Result<()> 
     } else {
         vector.as_slice()
     };
-    let array = Array::try_new(alloc, shape, items.copy(alloc)?)?;
-    text.push_str(array_text(alloc, &array)?.as_str())?;
+    Ok(Array::try_new(alloc, shape, items.copy(alloc)?)?)
+}
+
+fn push_constant(alloc: Global, text: &mut String, items: &Items) -> Result<()> {
+    let array = array_of_items(alloc, items)?;
+    let shown = array_text(alloc, &array);
+    drop(array);
+    text.push_str(shown?.as_str())?;
     Ok(())
 }
 

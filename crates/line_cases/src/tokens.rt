@@ -61,7 +61,11 @@ impl Trial for Tokens {
         let field = *fields.first().context("a line is wanted")?;
         let line = line_of(alloc, unescaped(alloc, field)?.as_str())?;
         match scan(alloc, &line) {
-            Ok(tokens) => tokens_text(alloc, &tokens),
+            Ok(tokens) => {
+                let text = tokens_text(alloc, &tokens);
+                drop(tokens);
+                text
+            }
             Err(ScanRefused::CharacterError(at)) => Ok(format!(in alloc; "character {at}")?),
             Err(ScanRefused::SyntaxError(at)) => Ok(format!(in alloc; "syntax {at}")?),
             Err(ScanRefused::WantOfMemory) => bail!("out of memory"),

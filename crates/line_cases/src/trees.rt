@@ -74,7 +74,10 @@ fn last_text(alloc: Global, tree: &Tree) -> Result<String> {
 fn parsed(alloc: Global, classes: &Classes, field: &str) -> Result<Result<Tree, u64>> {
     let line = line_of(alloc, unescaped(alloc, field)?.as_str())?;
     let tokens = scan(alloc, &line)?;
-    match parse(alloc, &tokens, classes) {
+    drop(line);
+    let tree = parse(alloc, &tokens, classes);
+    drop(tokens);
+    match tree {
         Ok(tree) => Ok(Ok(tree)),
         Err(ParseRefused::SyntaxError(at)) => Ok(Err(at)),
         Err(ParseRefused::WantOfMemory) => bail!("out of memory"),
@@ -99,8 +102,15 @@ impl Trial for Trees {
         let [classes, line, ..] = fields else {
             bail!("classes and a line are wanted");
         };
-        match parsed(alloc, &classes_of(alloc, *classes)?, *line)? {
-            Ok(tree) => self.text(alloc, &tree),
+        let classes = classes_of(alloc, *classes)?;
+        let tree = parsed(alloc, &classes, *line);
+        drop(classes);
+        match tree? {
+            Ok(tree) => {
+                let text = self.text(alloc, &tree);
+                drop(tree);
+                text
+            }
             Err(at) => Ok(format!(in alloc; "syntax {at}")?),
         }
     }

@@ -1,1 +1,2 @@
-pub mod ComeLemmas
+pub mod CallLemmas
+pub mod TakingLemmas

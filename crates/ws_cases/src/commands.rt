@@ -1,24 +1,11 @@
 use crate::desk::Desk;
-use crate::shelf::{calls_of, shelf_step};
+use crate::failing::calls_of;
+use crate::shelf::shelf_step;
 use anyhow::Result;
 use apl_io::MemoryShelf;
 use case_fields::{names_text, report_text, unescaped};
-use case_workspaces::{STEP_END, answers, step};
+use case_workspaces::{STEP_END, answers, natural_of, step};
 use std::alloc::Global;
-
-// What a step gives that is no command: one on the shelf what it tells, and one on the workspace its report where it is
-// refused. `user N` has that user give commands from there.
-fn other_step(desk: &mut Desk, text: &str) -> Result<Option<String>> {
-    let (word, rest) = text.split_once(" ").unwrap_or((text, ""));
-    if word == "user" {
-        desk.user = rest.parse()?;
-        return Ok(None);
-    }
-    match shelf_step(desk.alloc, &mut desk.shelf, word, rest)? {
-        Some(told) => Ok(Some(told)),
-        None => change(desk, text),
-    }
-}
 
 // The report of a step on the workspace, where it is refused.
 fn change(desk: &mut Desk, text: &str) -> Result<Option<String>> {
@@ -28,13 +15,38 @@ fn change(desk: &mut Desk, text: &str) -> Result<Option<String>> {
     }
 }
 
+// What a step gives that is no command: one on the shelf what it tells, and one on the workspace its report where it is
+// refused. `user N` has that user give commands from there.
+fn other_step(desk: &mut Desk, text: &str) -> Result<Option<String>> {
+    let (word, rest) = text.split_once(" ").unwrap_or((text, ""));
+    if word == "user" {
+        desk.user = natural_of(rest)?;
+        return Ok(None);
+    }
+    match shelf_step(desk.alloc, &mut desk.shelf, word, rest)? {
+        Some(told) => Ok(Some(told)),
+        None => change(desk, text),
+    }
+}
+
 // What a step gives, where it gives something.
 fn take(desk: &mut Desk, text: &str) -> Result<Option<String>> {
     if text.trim_start().starts_with(')') {
-        desk.command(text).map(Some)
+        Ok(Some(desk.command(text)?))
     } else {
         other_step(desk, text)
     }
+}
+
+// What steps give that give something.
+fn take_all(desk: &mut Desk, steps: &str) -> Result<String> {
+    let mut texts = Vec::new(desk.alloc);
+    for text in unescaped(desk.alloc, steps)?.split(STEP_END) {
+        if let Some(told) = take(desk, text)? {
+            texts.push(told)?;
+        }
+    }
+    Ok(texts.join(desk.alloc, STEP_END)?)
 }
 
 // What the workspace tells, and its id.
@@ -47,17 +59,11 @@ fn desk_text(desk: &Desk, asked: &str) -> Result<String> {
 }
 
 // What steps give, and what the workspace tells after them.
-fn take_all(desk: &mut Desk, steps: &str, asked: &str) -> Result<String> {
-    let alloc = desk.alloc;
-    let mut texts = Vec::new(alloc);
-    for text in unescaped(alloc, steps)?.split(STEP_END) {
-        if let Some(told) = take(desk, text)? {
-            texts.push(told)?;
-        }
-    }
-    let told = texts.join(alloc, STEP_END)?;
-    let after = desk_text(desk, asked)?;
-    Ok(format!(in alloc; "{told} ¦ {after}")?)
+fn told_by(desk: &mut Desk, steps: &str, asked: &str) -> Result<String> {
+    let mut text = take_all(desk, steps)?;
+    text.push_str(" ¦ ")?;
+    text.push_str(desk_text(desk, asked)?.as_str())?;
+    Ok(text)
 }
 
 /// What steps on an empty workspace give that give something, over a shelf whose calls of these numbers fail, and what the
@@ -65,7 +71,7 @@ fn take_all(desk: &mut Desk, steps: &str, asked: &str) -> Result<String> {
 pub fn commands_text(alloc: Global, fails: &str, steps: &str, asked: &str) -> Result<String> {
     let shelf = MemoryShelf::new(alloc, calls_of(alloc, fails)?);
     let mut desk = Desk::new(alloc, shelf);
-    let told = take_all(&mut desk, steps, asked);
+    let told = told_by(&mut desk, steps, asked);
     drop(desk);
     told
 }

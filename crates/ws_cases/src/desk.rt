@@ -5,7 +5,7 @@ ghost use Rattle.ws_commands.specs.Todo.{given_up, plain_change};
 use anyhow::{Result, ensure};
 use apl_arrays::{LineList, Name};
 use apl_io::MemoryShelf;
-use apl_workspace::Workspace;
+use apl_workspace::{Remake, Workspace};
 use case_fields::{glyphs_text, line_of, push_names};
 use case_workspaces::offers_text;
 use std::alloc::Global;
@@ -60,7 +60,7 @@ impl Desk {
         requires comes { IfSome (brought (plain_change todo.change)) (MayComeIn self.old.ws) }
     {
         match told_at_last(self.alloc, &todo) {
-            Ok(text) => self.change(todo, text),
+            Ok(text) => self.make(todo, text),
             Err(error) => {
                 drop(todo);
                 Err(error)
@@ -68,24 +68,32 @@ impl Desk {
         }
     }
 
-    // Takes names back, and makes the change. Where it ends the session, this is told too.
-    #[tactic(auto, using(crate::proofs::ComeLemmas::still_comes))]
-    fn change(&mut self, todo: Todo, told: String) -> Result<String>
+    // Makes what is to be done, of which this is told. Where it ends the session, that is told too.
+    fn make(&mut self, todo: Todo, told: String) -> Result<String>
         requires retract { todo.retract.items ≡ given_up (plain_change todo.change) self.old.ws }
         requires comes { IfSome (brought (plain_change todo.change)) (MayComeIn self.old.ws) }
     {
         let Todo {
             retract,
+            lines,
             change,
+            remakes,
             ..
         } = todo;
-        take_back(&change, &mut self.ws, retract.as_slice());
+        drop(lines);
+        drop(remakes);
+        let is_off = self.change(retract.as_slice(), change);
         drop(retract);
-        let mut text = told;
-        if finish(self.alloc, change, &mut self.ws, &mut self.id) {
-            text.push_str(" ; off")?;
-        }
-        Ok(text)
+        ended_text(told, is_off)
+    }
+
+    // Takes names back, and makes the change. Whether it ends the session.
+    fn change(&mut self, names: &[Name], change: Change) -> bool
+        requires retract { names.now ≡ given_up (plain_change change) self.old.ws }
+        requires comes { IfSome (brought (plain_change change)) (MayComeIn self.old.ws) }
+    {
+        take_back(&change, &mut self.ws, names);
+        finish(self.alloc, change, &mut self.ws, &mut self.id)
     }
 }
 
@@ -95,45 +103,62 @@ fn take_back(change: &Change, ws: &mut Workspace, names: &[Name])
     ensures retracted { given_up (plain_change change.now) ws.new ≡ [] }
     ensures printed { ws.new.printed ≡ ws.old.printed }
 {
-    let _ = ws.weight();
     retractions_follow_each_other();
-    match names {
-        [] => {}
-        [name, rest @ ..] => {
-            ws.unmark_with_copy(name);
-            take_back(change, ws, rest);
-        }
+    for name in names {
+        let _ = ws.weight();
+        ws.unmark_with_copy(name);
     }
+}
+
+// What was told, and that the session ends where it does.
+fn ended_text(told: String, is_off: bool) -> Result<String> {
+    let mut text = told;
+    if is_off {
+        text.push_str(" ; off")?;
+    }
+    Ok(text)
 }
 
 // The lines that are printed, or `-` where there are none.
 fn lines_text(alloc: Global, lines: &LineList) -> Result<String> {
+    let lines = lines.as_slice();
+    if lines.is_empty() {
+        return Ok(String::from_str(alloc, "-")?);
+    }
     let mut texts = Vec::new(alloc);
-    for line in lines.as_slice() {
+    for line in lines {
         texts.push(glyphs_text(alloc, line.as_slice())?)?;
     }
-    if texts.is_empty() {
-        texts.push(String::from_str(alloc, "-")?)?;
-    }
     Ok(texts.join(alloc, " / ")?)
+}
+
+// Adds the names that are taken back, where there are any.
+fn push_retracted(alloc: Global, text: &mut String, names: &[Name]) -> Result<()> {
+    if !names.is_empty() {
+        text.push_str(" ; retract")?;
+        push_names(alloc, text, names)?;
+    }
+    Ok(())
+}
+
+// Adds the offers that are to be made again, where there are any.
+fn push_remakes(alloc: Global, text: &mut String, offers: &[Remake]) -> Result<()> {
+    if !offers.is_empty() {
+        text.push_str(" ; remakes ")?;
+        text.push_str(offers_text(alloc, offers)?.as_str())?;
+    }
+    Ok(())
 }
 
 // The lines that are printed, and behind ` ; ` the names that are taken back, whether lines are counted, and the offers that
 // are to be made again.
 fn todo_text(alloc: Global, todo: &Todo) -> Result<String> {
     let mut text = lines_text(alloc, &todo.lines)?;
-    let retract = todo.retract.as_slice();
-    if !retract.is_empty() {
-        text.push_str(" ; retract")?;
-        push_names(alloc, &mut text, retract)?;
-    }
+    push_retracted(alloc, &mut text, todo.retract.as_slice())?;
     if todo.counted {
         text.push_str(" ; counted")?;
     }
-    let remakes = offers_text(alloc, todo.remakes.as_slice())?;
-    if !remakes.is_empty() {
-        write!(text, " ; remakes {remakes}")?;
-    }
+    push_remakes(alloc, &mut text, todo.remakes.as_slice())?;
     Ok(text)
 }
 

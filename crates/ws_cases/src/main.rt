@@ -6,6 +6,7 @@ mod bytes;
 mod calls;
 mod commands;
 mod desk;
+mod failing;
 mod saved;
 mod shelf;
 

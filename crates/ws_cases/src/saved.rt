@@ -1,43 +1,63 @@
-use crate::bytes::{bytes_of, bytes_text};
+use crate::bytes::bytes_of;
 use anyhow::{Result, bail, ensure};
-use apl_arrays::Bytes;
+use apl_arrays::{Bytes, Name};
 use apl_workspace::Workspace;
 use case_fields::glyphs_text;
 use case_workspaces::{STEP_END, offers_text, seen_text, workspace_of};
 use std::alloc::Global;
 use ws_codec::{CodecRefused, Saved, read};
 
-/// Of more names than these it is only said how many there are.
+// Of more names than these it is only said how many there are.
 const NAMES_SHOWN: usize = 20;
+
+// What stands between the fields of what is wanted.
+const FIELD_END: &str = " ¦ ";
+
+// A name of a workspace, and what it stands for.
+fn name_text(alloc: Global, ws: &Workspace, name: &Name) -> Result<String> {
+    let mut text = glyphs_text(alloc, name.glyphs())?;
+    text.push(' ')?;
+    text.push_str(seen_text(alloc, ws.global(name))?.as_str())?;
+    Ok(text)
+}
+
+// Names of a workspace, and what each stands for.
+fn each_text(alloc: Global, ws: &Workspace, names: &[Name]) -> Result<String> {
+    let mut texts = Vec::new(alloc);
+    for name in names {
+        texts.push(name_text(alloc, ws, name)?)?;
+    }
+    Ok(texts.join(alloc, STEP_END)?)
+}
 
 // The names of a workspace and what each stands for, or how many there are and what they weigh.
 fn names_text(alloc: Global, ws: &Workspace) -> Result<String> {
     let names = ws.all_names()?;
     let names = names.as_slice();
-    if names.len() > NAMES_SHOWN {
-        let weight = ws.weight();
-        return Ok(format!(in alloc; "{} names, weight {weight}", names.len())?);
+    let (count, weight) = (names.len(), ws.weight());
+    if count > NAMES_SHOWN {
+        Ok(format!(in alloc; "{count} names, weight {weight}")?)
+    } else {
+        each_text(alloc, ws, names)
     }
-    let mut texts = Vec::new(alloc);
-    for name in names {
-        let glyphs = glyphs_text(alloc, name.glyphs())?;
-        let seen = seen_text(alloc, ws.global(name))?;
-        texts.push(format!(in alloc; "{glyphs} {seen}")?)?;
-    }
-    Ok(texts.join(alloc, STEP_END)?)
 }
 
-// A text, or `-` where it is empty.
-fn or_none(text: &str) -> &str {
-    if text.is_empty() { "-" } else { text }
+// Adds a field, which is `-` where the text is empty.
+fn push_field(text: &mut String, field: &str) -> Result<()> {
+    text.push_str(FIELD_END)?;
+    text.push_str(if field.is_empty() { "-" } else { field })?;
+    Ok(())
 }
 
 // The names and the offers of what bytes hold.
 fn held_text(alloc: Global, saved: &Saved) -> Result<String> {
-    let names = names_text(alloc, &saved.workspace)?;
-    let offers = offers_text(alloc, saved.remakes.as_slice())?;
-    let (names, offers) = (or_none(names.as_str()), or_none(offers.as_str()));
-    Ok(format!(in alloc; "ok ¦ {names} ¦ {offers}")?)
+    let mut text = String::from_str(alloc, "ok")?;
+    push_field(&mut text, names_text(alloc, &saved.workspace)?.as_str())?;
+    push_field(
+        &mut text,
+        offers_text(alloc, saved.remakes.as_slice())?.as_str(),
+    )?;
+    Ok(text)
 }
 
 // Where bytes break a rule, and which.
@@ -79,6 +99,6 @@ pub fn saved_text(alloc: Global, steps: &str, wanted: &str) -> Result<String> {
     if bytes.as_slice() == wanted.as_slice() {
         Ok(String::from_str(alloc, "saved")?)
     } else {
-        bytes_text(alloc, bytes.as_slice())
+        Ok(hex::encode_upper(alloc, bytes.as_slice())?)
     }
 }

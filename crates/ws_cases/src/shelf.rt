@@ -1,38 +1,10 @@
-use crate::bytes::{bytes_of, bytes_text};
+use crate::bytes::bytes_of;
 use anyhow::{Context, Result, bail};
 use apl_arrays::{Bytes, Name};
-use apl_io::{CallNumbers, MemoryShelf, Shelf, StoreError};
+use apl_io::{MemoryShelf, Shelf, StoreError};
 use case_fields::{name_of, names_text};
+use case_workspaces::natural_of;
 use std::alloc::Global;
-
-// The numbers of calls, which are three at most, and ascend.
-fn ascending(alloc: Global, numbers: &[u64]) -> Result<CallNumbers> {
-    let mut calls = CallNumbers::new(alloc);
-    match numbers {
-        [] => {}
-        [first] => calls.push(*first)?,
-        [first, second] if first < second => {
-            calls.push(*first)?;
-            calls.push(*second)?;
-        }
-        [first, second, third] if first < second && second < third => {
-            calls.push(*first)?;
-            calls.push(*second)?;
-            calls.push(*third)?;
-        }
-        _ => bail!("at most three numbers are wanted that ascend"),
-    }
-    Ok(calls)
-}
-
-/// The numbers of calls that a field says: three at most, which ascend.
-pub fn calls_of(alloc: Global, field: &str) -> Result<CallNumbers> {
-    let mut numbers = Vec::new(alloc);
-    for word in field.split_whitespace() {
-        numbers.push(word.parse::<u64>()?)?;
-    }
-    ascending(alloc, &numbers)
-}
 
 // That a call failed.
 fn failure_text(alloc: Global, error: StoreError) -> Result<String> {
@@ -46,37 +18,52 @@ fn failure_text(alloc: Global, error: StoreError) -> Result<String> {
 fn kept_text(alloc: Global, bytes: Option<&Bytes>) -> Result<String> {
     match bytes {
         None => Ok(String::from_str(alloc, "none")?),
-        Some(bytes) => bytes_text(alloc, bytes.as_slice()),
+        Some(bytes) => Ok(hex::encode_upper(alloc, bytes.as_slice())?),
     }
 }
 
-// A user and a name.
-fn entry_of(alloc: Global, text: &str) -> Result<(u32, Name)> {
-    let (user, name) = text.split_once(" ").context("no name")?;
-    Ok((user.parse()?, name_of(alloc, name)?))
-}
-
-fn read(alloc: Global, shelf: &mut MemoryShelf, rest: &str) -> Result<String> {
-    let (user, name) = entry_of(alloc, rest)?;
-    match shelf.read(user, &name) {
-        Ok(bytes) => kept_text(alloc, bytes.as_ref()),
+// What a call gave that reads bytes.
+fn read_text(alloc: Global, outcome: Result<Option<Bytes>, StoreError>) -> Result<String> {
+    match outcome {
+        Ok(bytes) => {
+            let text = kept_text(alloc, bytes.as_ref());
+            drop(bytes);
+            text
+        }
         Err(error) => failure_text(alloc, error),
     }
 }
 
-fn write(alloc: Global, shelf: &mut MemoryShelf, rest: &str) -> Result<String> {
-    let (user, rest) = rest.split_once(" ").context("no name")?;
-    let (name, pieces) = rest.split_once(" ").context("no bytes")?;
-    let name = name_of(alloc, name)?;
-    let bytes = bytes_of(alloc, pieces)?;
-    match shelf.write(user.parse()?, &name, &bytes) {
+// What a call gave that tells nothing more.
+fn done_text(alloc: Global, outcome: Result<(), StoreError>) -> Result<String> {
+    match outcome {
         Ok(()) => Ok(String::from_str(alloc, "ok")?),
         Err(error) => failure_text(alloc, error),
     }
 }
 
+// A user and a name.
+fn entry_of(alloc: Global, user: &str, name: &str) -> Result<(u32, Name)> {
+    Ok((natural_of(user)?, name_of(alloc, name)?))
+}
+
+fn read(alloc: Global, shelf: &mut MemoryShelf, rest: &str) -> Result<String> {
+    let (user, name) = rest.split_once(" ").context("no name")?;
+    let (user, name) = entry_of(alloc, user, name)?;
+    read_text(alloc, shelf.read(user, &name))
+}
+
+fn write(alloc: Global, shelf: &mut MemoryShelf, rest: &str) -> Result<String> {
+    let (user, rest) = rest.split_once(" ").context("no name")?;
+    let (name, pieces) = rest.split_once(" ").context("no bytes")?;
+    let (user, name) = entry_of(alloc, user, name)?;
+    let bytes = bytes_of(alloc, pieces)?;
+    done_text(alloc, shelf.write(user, &name, &bytes))
+}
+
 fn remove(alloc: Global, shelf: &mut MemoryShelf, rest: &str) -> Result<String> {
-    let (user, name) = entry_of(alloc, rest)?;
+    let (user, name) = rest.split_once(" ").context("no name")?;
+    let (user, name) = entry_of(alloc, user, name)?;
     match shelf.remove(user, &name) {
         Ok(removed) => Ok(removed.to_string(alloc)?),
         Err(error) => failure_text(alloc, error),
@@ -84,7 +71,7 @@ fn remove(alloc: Global, shelf: &mut MemoryShelf, rest: &str) -> Result<String> 
 }
 
 fn names(alloc: Global, shelf: &mut MemoryShelf, rest: &str) -> Result<String> {
-    match shelf.names(rest.parse()?) {
+    match shelf.names(natural_of(rest)?) {
         Ok(names) => names_text(alloc, names.as_slice()),
         Err(error) => failure_text(alloc, error),
     }
@@ -98,12 +85,13 @@ pub fn shelf_step(
     word: &str,
     rest: &str,
 ) -> Result<Option<String>> {
-    match word {
-        "read" => read(alloc, shelf, rest).map(Some),
-        "write" => write(alloc, shelf, rest).map(Some),
-        "remove" => remove(alloc, shelf, rest).map(Some),
-        "names" => names(alloc, shelf, rest).map(Some),
-        "faults" => Ok(Some(shelf.faults().to_string(alloc)?)),
-        _ => Ok(None),
-    }
+    let told = match word {
+        "read" => read(alloc, shelf, rest)?,
+        "write" => write(alloc, shelf, rest)?,
+        "remove" => remove(alloc, shelf, rest)?,
+        "names" => names(alloc, shelf, rest)?,
+        "faults" => shelf.faults().to_string(alloc)?,
+        _ => return Ok(None),
+    };
+    Ok(Some(told))
 }

@@ -4,7 +4,7 @@ use anyhow::{Result, bail, ensure};
 use apl_workspace::{Seen, Workspace};
 use case_fields::{glyphs_text, line_of, push_lines, report_text, unescaped};
 use case_workspaces::{
-    LINE_END, STEP_END, answers, function_text, is_variable, kept, workspace_of,
+    LINE_END, STEP_END, answers, function_text, is_variable, kept, natural_of, workspace_of,
 };
 use fn_editor::{Editor, Fed, Opened};
 use std::alloc::Global;
@@ -135,7 +135,7 @@ impl Desk {
     fn edit(&mut self, editor: &mut Editor, line: &str) -> Result<bool> {
         let before = view(self.alloc, editor)?;
         let is_done = match line.strip_prefix("»") {
-            Some(number) => go_on(self.alloc, &mut self.told, editor, number.parse()?)?,
+            Some(number) => go_on(self.alloc, &mut self.told, editor, natural_of(number)?)?,
             None => feed(self.alloc, &mut self.told, editor, line)?,
         };
         if !is_done {

@@ -1,4 +1,5 @@
 use crate::bytes::bytes_of;
+use crate::calls::look_at;
 use anyhow::Result;
 use apl_arrays::Bytes;
 use apl_workspace::{What, Workspace};
@@ -33,10 +34,10 @@ pub struct Codec;
 
 impl Calls for Codec {
     fn make(&self, alloc: Global, looks: &mut Looks) -> Result<()> {
-        let ws = workspace_of(alloc, STEPS)?;
-        let bytes = saved_at_last(alloc, &ws);
-        drop(ws);
-        look_at_bytes(alloc, bytes, looks)?;
+        let wanted = bytes_of(alloc, BYTES)?;
+        look_at_bytes(alloc, &wanted, looks)?;
+        look_at_read(alloc, &wanted, looks)?;
+        drop(wanted);
         look_at_wrong(alloc, looks)?;
         name_refusals(alloc, looks)
     }
@@ -61,11 +62,18 @@ fn read_at_last(alloc: Global, bytes: &[u8]) -> Result<Saved, CodecRefused> {
     }
 }
 
-// The bytes that a workspace is saved as, and what they hold.
-fn look_at_bytes(alloc: Global, bytes: Option<Bytes>, looks: &mut Looks) -> Result<()> {
-    let wanted = bytes_of(alloc, BYTES)?;
-    looks.holds(bytes.is_some_and(|bytes| bytes.as_slice() == wanted.as_slice()));
-    match read_at_last(alloc, &wanted) {
+// The bytes that a workspace is saved as.
+fn look_at_bytes(alloc: Global, wanted: &[u8], looks: &mut Looks) -> Result<()> {
+    let ws = workspace_of(alloc, STEPS)?;
+    let bytes = saved_at_last(alloc, &ws);
+    drop(ws);
+    looks.holds(bytes.is_some_and(|bytes| bytes.as_slice() == wanted));
+    Ok(())
+}
+
+// What bytes hold.
+fn look_at_read(alloc: Global, bytes: &[u8], looks: &mut Looks) -> Result<()> {
+    match read_at_last(alloc, bytes) {
         Ok(saved) => {
             let looked = look_at_saved(alloc, &saved, looks);
             drop(saved);
@@ -81,12 +89,16 @@ fn look_at_bytes(alloc: Global, bytes: Option<Bytes>, looks: &mut Looks) -> Resu
 // A workspace without shares, of which nothing is printed, and its offers.
 fn look_at_saved(alloc: Global, saved: &Saved, looks: &mut Looks) -> Result<()> {
     let ws = &saved.workspace;
-    looks.holds(ws.weight() == 11 && ws.depth() == 0 && ws.printed() == 0);
-    looks.holds(ws.all_names()?.as_slice().len() == 3);
-    looks.holds(ws.names(What::Shares)?.as_slice().is_empty());
-    looks.holds(ws.remakes()?.as_slice().is_empty());
+    let names = ws.all_names()?.as_slice().len();
+    let shares = ws.names(What::Shares)?.as_slice().len();
+    let listed = ws.remakes()?.as_slice().len();
     let offers = offers_text(alloc, saved.remakes.as_slice())?;
-    looks.holds(offers.as_str() == "Y S 10, Z Z 0");
+    let is_plain = ws.weight() == 11 && ws.depth() == 0 && ws.printed() == 0;
+    let is_told = offers.as_str() == "Y S 10, Z Z 0";
+    look_at(
+        looks,
+        &[is_plain, names == 3, shares == 0, listed == 0, is_told],
+    );
     Ok(())
 }
 

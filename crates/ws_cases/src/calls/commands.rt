@@ -1,7 +1,7 @@
 use crate::calls::no_shelf::NoShelf;
 use crate::desk::Desk;
 use anyhow::Result;
-use apl_arrays::{Line, WantOfMemory};
+use apl_arrays::Line;
 use apl_io::{CallNumbers, MemoryShelf};
 use apl_workspace::Workspace;
 use case_fields::line_of;
@@ -66,13 +66,11 @@ impl Calls for Commands {
 
 // Whether a command gives this, at the second time where memory was refused at the first.
 fn gives(desk: &mut Desk, command: &str, wanted: &str) -> bool {
-    match desk.command(command) {
-        Ok(text) => text.as_str() == wanted,
-        Err(_) => match desk.command(command) {
-            Ok(text) => text.as_str() == wanted,
-            Err(_) => false,
-        },
-    }
+    let text = match desk.command(command) {
+        Ok(text) => Ok(text),
+        Err(_) => desk.command(command),
+    };
+    text.is_ok_and(|text| text.as_str() == wanted)
 }
 
 fn give_all(desk: &mut Desk, looks: &mut Looks) -> Result<()> {
@@ -85,29 +83,37 @@ fn give_all(desk: &mut Desk, looks: &mut Looks) -> Result<()> {
     Ok(())
 }
 
-// How a command ended over a shelf for which memory runs out, and whether it called it.
-fn end_of(alloc: Global, line: &Line, ws: &Workspace) -> (Result<(), WantOfMemory>, bool) {
-    let mut shelf = NoShelf { calls: 0 };
+// How a command ended over a shelf for which memory runs out: it was done, or memory was refused before it called the shelf
+// or by the shelf.
+#[derive(Clone, Copy)]
+enum End {
+    Done,
+    Before,
+    ByShelf,
+}
+
+fn end_of(alloc: Global, line: &Line, ws: &Workspace) -> End {
     if ws.depth() > 0 {
-        return (Ok(()), false);
+        return End::Done;
     }
+    let mut shelf = NoShelf { calls: 0 };
     let todo = prepare(alloc, line, ws, None, 1001, &mut shelf);
-    let is_called = shelf.calls == 1;
-    match todo {
-        Ok(todo) => {
-            drop(todo);
-            (Ok(()), is_called)
-        }
-        Err(refused) => (Err(refused), is_called),
+    let is_refused = todo.is_err();
+    drop(todo);
+    match shelf.calls {
+        0 if is_refused => End::Before,
+        1 if is_refused => End::ByShelf,
+        _ => End::Done,
     }
 }
 
-// Whether a command calls the shelf and is refused, or does neither, at the second time where memory was refused at the
-// first before the call.
+// Whether a command calls the shelf and is refused memory by it, at the second time where it was refused before the call at
+// the first.
 fn is_refused(alloc: Global, line: &Line, ws: &Workspace) -> bool {
     match end_of(alloc, line, ws) {
-        (Err(_), false) => end_of(alloc, line, ws) == (Err(WantOfMemory), true),
-        (end, is_called) => end.is_err() && is_called,
+        End::Done => false,
+        End::Before => matches!(end_of(alloc, line, ws), End::ByShelf),
+        End::ByShelf => true,
     }
 }
 
