@@ -13,5 +13,7 @@ pub mod SavedParts
 pub mod Shapes
 pub mod StorableNames
 pub mod StorableValues
+pub mod Texts
 pub mod Told
 pub mod ValueParts
+pub mod Weighing

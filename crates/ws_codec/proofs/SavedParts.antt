@@ -32,7 +32,7 @@ same_there : (rest : List ℕ) → same_at magic (magic ++ rest) ≡ Ok (true, r
 unfolding same_at
 same_there rest = rw (bytes_there 4 magic rest refl) refl
 
-version_there : (version : ℕ) (rest : List ℕ) → (version == 1 || version == 2) ≡ true → version_at (magic ++ version ∷ rest) ≡ Ok (version, rest)
+pub version_there : (version : ℕ) (rest : List ℕ) → (version == 1 || version == 2) ≡ true → version_at (magic ++ version ∷ rest) ≡ Ok (version, rest)
 unfolding version_at byte_at keeps
 version_there version rest is = rw (same_there (version ∷ rest), is) refl
 

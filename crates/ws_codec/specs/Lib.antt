@@ -9,5 +9,6 @@ pub mod Saved
 pub mod SavedText
 pub mod Sound
 pub mod Storable
+pub mod Text
 pub mod Values
 pub mod Worked

@@ -1,13 +1,14 @@
 //! What holds of saved bytes. The calls do nothing.
 
-ghost use Rattle.std.specs.Prelude.{◌≡◌, ◌⊎◌, [], ℕ, Ok, List as ListOf};
-ghost use Rattle.apl_workspace.specs.Meaning.{NameTable};
+ghost use Rattle.std.specs.Prelude.{◌≡◌, ◌≤◌, ◌+◌, ◌⊎◌, [], ℕ, None, Ok, length, List as ListOf};
+ghost use Rattle.apl_workspace.specs.Meaning.{NameTable, table_weight};
 ghost use Rattle.apl_workspace.specs.Workspace.{IsWorkspace, PlainWorkspace};
 ghost use Rattle.ws_codec.specs.Kept.{kept_globals};
-ghost use Rattle.ws_codec.specs.Saved.{reading_of, saved_of};
+ghost use Rattle.ws_codec.specs.Saved.{reading_of, saved_of, spoils};
 ghost use Rattle.ws_codec.specs.SavedText.{first_version, saved, second_version};
 ghost use Rattle.ws_codec.specs.Sound.{AreBytes, IsSound};
 ghost use Rattle.ws_codec.specs.Storable.{IsStorable};
+ghost use Rattle.ws_codec.specs.Text.{IsText};
 
 use apl_workspace::Remake;
 
@@ -29,4 +30,25 @@ pub fn what_is_read_was_saved()
 pub fn workspaces_may_be_saved()
     ensures sound { (w : PlainWorkspace) → IsWorkspace w → IsStorable w → IsSound (kept_globals w.globals) w.offers }
     ensures read { (w : PlainWorkspace) → IsWorkspace w → IsStorable w → reading_of (saved w) ≡ Ok (saved_of (kept_globals w.globals) w.offers) }
+{}
+
+/// Each text is of one workspace: where two texts are the same bytes, so are their objects and their offers; and no bytes are
+/// a text of both versions. No memory.
+pub fn texts_are_of_one_workspace()
+    ensures second { (table other : NameTable) (offers others : ListOf Remake) → IsSound table offers → IsSound other others → second_version table offers ≡ second_version other others → (table ≡ other) × (offers ≡ others) }
+    ensures first { (table other : NameTable) → IsSound table [] → IsSound other [] → first_version table ≡ first_version other → table ≡ other }
+    ensures apart { (table other : NameTable) (offers : ListOf Remake) → first_version table ≡ second_version other offers → ⊥ }
+{}
+
+/// Bytes are a text, or a field of them breaks a rule at one place: where none does they are a text, and in a text none
+/// does. No memory.
+pub fn bytes_are_texts_or_break_a_rule()
+    ensures text { (bytes : ListOf ℕ) → AreBytes bytes → spoils bytes ≡ None → IsText bytes }
+    ensures unspoiled { (bytes : ListOf ℕ) → IsText bytes → spoils bytes ≡ None }
+{}
+
+/// What is read weighs no more than its bytes are many, its offers counted in: nothing is read that the bytes do not hold.
+/// No memory.
+pub fn what_is_read_weighs_no_more_than_its_bytes()
+    ensures { (bytes : ListOf ℕ) (table : NameTable) (offers : ListOf Remake) → AreBytes bytes → reading_of bytes ≡ Ok (saved_of table offers) → table_weight table + length offers ≤ length bytes }
 {}

@@ -1,13 +1,12 @@
 ghost use Rattle.std.specs.Prelude.{◌≡◌, [], OnOk};
-ghost use Rattle.apl_workspace.specs.Workspace.{is_addressee};
 ghost use Rattle.ws_codec.specs.Offers.{is_free, is_function_in, is_offered, next_offer, offers_at};
 ghost use Rattle.ws_codec.specs.Reading.{Gives, repeated};
 
 use crate::cursor::Cursor;
 use crate::saved::SavedRule;
 use crate::unread::{Unread, keeps};
-use apl_arrays::{FIRST_USER, LAST_USER, List, Name, OFFER_LIMIT};
-use apl_workspace::{Remake, RemakeList, Seen, Workspace};
+use apl_arrays::{List, Name, OFFER_LIMIT};
+use apl_workspace::{Remake, RemakeList, Seen, Workspace, is_addressee};
 use std::alloc::Global;
 
 /// Reads how many offers there are, and the offers. It takes memory for them.
@@ -75,21 +74,16 @@ fn is_free(ws: &Workspace, offers: &RemakeList, name: &Name) -> bool
     !is_offered(offers.as_slice(), name) && !is_function(ws, name)
 }
 
+/// Whether one of the offers is of this name.
 fn is_offered(offers: &[Remake], name: &Name) -> bool
     ensures { result ≡ is_offered offers.now name.now }
 {
     offers.iter().any(|offer| offer.local == *name)
 }
 
+/// Whether the name is a function of the workspace.
 fn is_function(ws: &Workspace, name: &Name) -> bool
     ensures { result ≡ is_function_in ws.now.globals name.now }
 {
     matches!(ws.global(name), Seen::Function(_))
-}
-
-/// Whether one may offer to a party: to any, to an auxiliary, or to a user.
-fn is_addressee(to: u32) -> bool
-    ensures { result ≡ is_addressee to }
-{
-    to == 0 || to == 10 || to == 20 || (to >= FIRST_USER && to <= LAST_USER)
 }

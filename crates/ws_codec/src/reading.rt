@@ -62,6 +62,7 @@ fn read_version(cursor: &mut Cursor<'_>) -> Result<u8, Unread>
     Ok(version)
 }
 
+/// Whether there is such a version.
 fn is_version(version: u8) -> bool
     ensures { result ≡ (version == 1 || version == 2) }
 {

@@ -1,5 +1,5 @@
 -- What changes give up, once a name is shared no more.
-use Rattle.std.proofs.Common.{◌≡◌, ℕ, Bool, true, false, cond, not, ◌&&◌, ◌||◌, List, [], ◌∷◌, Option, Some, None, refl, sym, ap, ◌∙◌, subst}
+use Rattle.std.proofs.Common.{◌≡◌, ◌≤◌, ◌+◌, ℕ, Bool, true, false, cond, not, ◌&&◌, ◌||◌, List, [], ◌∷◌, Option, Some, None, refl, sym, ap, ◌∙◌, subst, arith}
 use Rattle.std.specs.Prelude.{filter, nat_le, unwrap_or}
 use Rattle.std.specs.List.{AllByRecursion, list_any}
 use Rattle.std.specs.Map.{keys_of}
@@ -20,6 +20,7 @@ use Rattle.apl_workspace.specs.declared.what.What.TheVariants.{Shares}
 use Rattle.apl_workspace.proofs.Ascending.{Ascend, ascend_cons, none_ascend, found_with, found_without, with_ascends, without_ascends}
 use Rattle.apl_workspace.proofs.Listed.{ascend_taken, told_by_members}
 use Rattle.apl_workspace.proofs.NameLaw.{by_order, equal_names, own_name}
+use Rattle.ws_commands.specs.Finish.{MayComeIn}
 use Rattle.ws_commands.specs.Todo.{PlainChange, clear, erase, given_up, is_among, is_another, keep, off, replace, set_id, swap}
 use Rattle.ws_commands.proofs.Shares.{among_shares}
 
@@ -153,3 +154,22 @@ given_is_shared off w name h among = absurd (false≢true among)
 pub first_is_shared : (change : PlainChange) (w : PlainWorkspace) (name : List ℕ) (rest : List (List ℕ)) → IsWorkspace w → given_up change w ≡ name ∷ rest → is_shared w name ≡ true
 first_is_shared change w name rest h e =
     given_is_shared change w name h (ap (list_any (same_name name)) e ∙ ap (λ (b : Bool). b || list_any (same_name name) rest) (own_name name))
+
+-- ---- a workspace that comes in place of another
+
+-- names may be retracted there before
+pub comes_unmarked : (w new : PlainWorkspace) (name : List ℕ) (value : Option PlainArray) → MayComeIn w new → MayComeIn (unmarked w name value) new
+comes_unmarked w new name value h = by (nat_le (workspace_weight (unshared w name value)) most_weight)
+  where
+    by : (b : Bool) → MayComeIn (cond b (unshared w name value) (unshared w name (own_copy_in w.globals name))) new
+    by true = record { frames = h.frames; printed = h.printed }
+    by false = record { frames = h.frames; printed = h.printed }
+
+pub comes_with_copy : (w new : PlainWorkspace) (name : List ℕ) → MayComeIn w new → MayComeIn (unmarked_with_copy w name) new
+comes_with_copy w new name h = record { frames = h.frames; printed = h.printed }
+
+-- more may be printed there before
+pub comes_printed : (w new : PlainWorkspace) (glyphs : ℕ) → MayComeIn w new → MayComeIn (with_printed w glyphs) new
+comes_printed w new glyphs h =
+    let more : new.printed ≤ w.printed + glyphs = omega (arith, h.printed) in
+    record { frames = h.frames; printed = more }

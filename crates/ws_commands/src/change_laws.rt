@@ -6,8 +6,8 @@ ghost use Rattle.apl_arrays.specs.Array.{PlainArray};
 ghost use Rattle.apl_arrays.specs.Name.{same_name};
 ghost use Rattle.apl_execute.specs.Merge.{asked, copy_in, is_copied, merged};
 ghost use Rattle.apl_workspace.specs.Meaning.{is_shared_in, meaning_in};
-ghost use Rattle.apl_workspace.specs.Workspace.{IsWorkspace, PlainWorkspace, is_shared, unmarked, unmarked_with_copy};
-ghost use Rattle.ws_commands.specs.Finish.{changed, changed_id};
+ghost use Rattle.apl_workspace.specs.Workspace.{IsWorkspace, PlainWorkspace, is_shared, unmarked, unmarked_with_copy, with_printed};
+ghost use Rattle.ws_commands.specs.Finish.{MayComeIn, changed, changed_id};
 ghost use Rattle.ws_commands.specs.Todo.{PlainChange, given_up, is_another, swap};
 
 use apl_execute::laws::merging_changes_the_copied_names;
@@ -37,4 +37,12 @@ pub fn retractions_follow_each_other()
     ensures shared { (change : PlainChange) (w : PlainWorkspace) (name : List ℕ) (rest : List (List ℕ)) → IsWorkspace w → given_up change w ≡ name ∷ rest → is_shared w name ≡ true }
     ensures unmarked { (change : PlainChange) (w : PlainWorkspace) (name : List ℕ) (rest : List (List ℕ)) (value : Option PlainArray) → IsWorkspace w → given_up change w ≡ name ∷ rest → given_up change (unmarked w name value) ≡ rest }
     ensures kept { (change : PlainChange) (w : PlainWorkspace) (name : List ℕ) (rest : List (List ℕ)) → IsWorkspace w → given_up change w ≡ name ∷ rest → given_up change (unmarked_with_copy w name) ≡ rest }
+{}
+
+/// A workspace that may come in place of another may do so too once names are retracted there, with values or with their own
+/// copies, and once more is printed. The call does nothing. No memory.
+pub fn workspaces_may_still_come_in()
+    ensures unmarked { (w new : PlainWorkspace) (name : List ℕ) (value : Option PlainArray) → MayComeIn w new → MayComeIn (unmarked w name value) new }
+    ensures kept { (w new : PlainWorkspace) (name : List ℕ) → MayComeIn w new → MayComeIn (unmarked_with_copy w name) new }
+    ensures printed { (w new : PlainWorkspace) (glyphs : ℕ) → MayComeIn w new → MayComeIn (with_printed w glyphs) new }
 {}

@@ -23,6 +23,7 @@ mod worked;
 
 pub use change_laws::{
     copies_change_the_copied_names, retracted_names_are_given_up, retractions_follow_each_other,
+    workspaces_may_still_come_in,
 };
 pub use finishing::finish;
 pub use preparing::prepare;
