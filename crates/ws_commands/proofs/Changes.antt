@@ -13,7 +13,7 @@ use Rattle.apl_arrays.specs.Name.{name_order, same_name}
 use Rattle.apl_workspace.specs.Limits.{most_weight}
 use Rattle.apl_workspace.specs.Listing.{names_among, names_asked}
 use Rattle.apl_workspace.specs.Meaning.{NameTable, is_shared_in, is_shared_meaning, meaning_in, own_copy_in, with_value_or_none}
-use Rattle.apl_workspace.specs.Workspace.{IsWorkspace, PlainWorkspace, is_shared, unmarked, unmarked_with_copy, unshared, workspace_weight}
+use Rattle.apl_workspace.specs.Workspace.{IsWorkspace, PlainWorkspace, is_shared, unmarked, unmarked_with_copy, unshared, with_printed, workspace_weight}
 use Rattle.apl_workspace.specs.declared.meaning.Meaning.{Meaning}
 use Rattle.apl_workspace.specs.declared.meaning.Meaning.TheVariants.{Nothing, Value}
 use Rattle.apl_workspace.specs.declared.what.What.TheVariants.{Shares}
