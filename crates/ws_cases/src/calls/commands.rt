@@ -4,7 +4,7 @@ use anyhow::Result;
 use apl_arrays::Line;
 use apl_io::{CallNumbers, MemoryShelf};
 use apl_workspace::Workspace;
-use case_fields::line_of;
+use case_fields::{line_of, report_text};
 use case_tables::{Calls, Looks};
 use case_workspaces::{step, workspace_of};
 use std::alloc::Global;
@@ -73,9 +73,20 @@ fn gives(desk: &mut Desk, command: &str, wanted: &str) -> bool {
     text.is_ok_and(|text| text.as_str() == wanted)
 }
 
+// Whether a step is done, and not refused with a report. An error says that memory was refused.
+fn is_done(desk: &mut Desk, text: &str) -> Result<bool> {
+    match step(desk.alloc, &mut desk.ws, text)? {
+        Ok(()) => Ok(true),
+        Err(fail) => {
+            report_text(fail)?;
+            Ok(false)
+        }
+    }
+}
+
 fn give_all(desk: &mut Desk, looks: &mut Looks) -> Result<()> {
     for text in STEPS {
-        looks.holds(step(desk.alloc, &mut desk.ws, text)?.is_ok());
+        looks.holds(is_done(desk, text)?);
     }
     for (command, wanted) in COMMANDS {
         looks.holds(gives(desk, command, wanted));
