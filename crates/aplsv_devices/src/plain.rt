@@ -1,0 +1,49 @@
+use crate::fault::other_kind;
+use crate::kind::{FileId, PathKind, kind_at, kind_of};
+use crate::replacing::sync_folder;
+use apl_io::Bytes;
+use std::alloc::Global;
+use std::fs::{self, File, OpenFile};
+use std::io::{self, Read};
+use std::rt::Files;
+
+/// The bytes of the plain file under a path, or `None` where nothing stands there. An error where something else does, as a
+/// folder or a link. It takes memory for the bytes.
+pub fn read_file<R: Files + AllocGlobal>(rt: &R, path: &str) -> io::Result<Option<Bytes>> {
+    match kind_at(rt, path)? {
+        PathKind::Missing => Ok(None),
+        PathKind::Plain(id) => Ok(Some(read_plain(rt, path, id)?)),
+        PathKind::Folder | PathKind::Other => Err(other_kind()),
+    }
+}
+
+// The bytes of the file that was seen under a path. An error where another one is opened there.
+fn read_plain<R: Files + AllocGlobal>(rt: &R, path: &str, id: FileId) -> io::Result<Bytes> {
+    let mut file = File::open(rt, path)?;
+    let opened = kind_of(&file.metadata()?);
+    if opened != PathKind::Plain(id) {
+        return Err(other_kind());
+    }
+    rest_of(rt.alloc(), &mut file)
+}
+
+// The bytes that a reader has left.
+fn rest_of<F: Read>(alloc: Global, file: &mut F) -> io::Result<Bytes> {
+    let mut bytes = Vec::new(alloc);
+    file.read_to_end(&mut bytes)?;
+    Ok(Bytes::from(bytes))
+}
+
+/// Takes the plain file under a path of a folder away, for good, and says whether there was one. An error where something
+/// else stands there. No memory.
+pub fn remove_file(files: &impl Files, folder: &str, path: &str) -> io::Result<bool> {
+    match kind_at(files, path)? {
+        PathKind::Missing => Ok(false),
+        PathKind::Plain(_) => {
+            fs::remove_file(files, path)?;
+            sync_folder(files, folder)?;
+            Ok(true)
+        }
+        PathKind::Folder | PathKind::Other => Err(other_kind()),
+    }
+}
