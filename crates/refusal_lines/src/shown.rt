@@ -8,6 +8,9 @@ use std::alloc::AllocError;
 const FRONT: usize = 96;
 const BEHIND: usize = 48;
 
+/// The most bytes of a character behind its first.
+const GLYPH_REST: usize = 3;
+
 // Whether a byte goes on with a character that began before it.
 fn goes_on(byte: u8) -> bool {
     byte & 0xC0 == 0x80
@@ -20,8 +23,10 @@ fn begin_of(line: &[u8], at: usize) -> usize
     ensures few { at ≤ result + 96 }
 {
     let mut begin = at.saturating_sub(FRONT);
-    while begin < at && goes_on(line[begin]) {
-        begin += 1;
+    for _ in 0..GLYPH_REST {
+        if begin < at && goes_on(line[begin]) {
+            begin += 1;
+        }
     }
     begin
 }
@@ -37,8 +42,10 @@ fn end_of(line: &[u8], at: usize) -> usize
         return line.len();
     }
     let mut end = at + BEHIND;
-    while end > at && goes_on(line[end]) {
-        end -= 1;
+    for _ in 0..GLYPH_REST {
+        if end > at && goes_on(line[end]) {
+            end -= 1;
+        }
     }
     end
 }
