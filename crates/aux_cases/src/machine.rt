@@ -111,9 +111,9 @@ fn source_keeps(alloc: Global, looks: &mut Looks) -> Result<(), WantOfMemory> {
     let mut source = StdSource::new(alloc, Endless);
     let mut buffer = Vec::new(alloc);
     buffer.resize(KEPT_LIMIT, 0)?;
-    looks.holds(source.read(&mut buffer) == Ok(KEPT_LIMIT));
+    looks.holds(source.read(buffer.as_mut_slice()) == Ok(KEPT_LIMIT));
     looks.holds(kept_these(source.kept(), &buffer)?);
-    looks.holds(source.read(&mut buffer[..1]) == Ok(1));
+    looks.holds(source.read(&mut buffer.as_mut_slice()[..1]) == Ok(1));
     looks.holds(source.kept().is_none());
     looks.holds(source.faults() == 0);
     Ok(())
