@@ -66,15 +66,6 @@ same() {
     fi
 }
 
-# The same, where one of two things is wanted.
-either() {
-    if [ "$4" = "$3" ]; then
-        same "$1" "$3" "$4"
-    else
-        same "$1" "$2" "$4"
-    fi
-}
-
 left_out() {
     echo "left out: $1"
 }

@@ -1,7 +1,6 @@
 ghost use Rattle.std.specs.Prelude.{◌≡◌};
 
 use apl_io::{Clock, Failed};
-
 use std::time::{self, SystemTime, UNIX_EPOCH};
 
 /// The clock of the machine. A reading is the whole seconds since 1970. One that the system refuses counts as a fault.

@@ -14,10 +14,7 @@ use std::rt::Files;
 
 /// The names of the plain files of a folder, ascending. What has no name of the language is left out, and so is what is no
 /// plain file. It takes memory for the names.
-pub fn names_in<R: Files + AllocGlobal + Clone + Drop>(
-    rt: &R,
-    folder: &str,
-) -> io::Result<NameList>
+pub fn names_in<R: Files + AllocGlobal + Clone + Drop>(rt: &R, folder: &str) -> io::Result<NameList>
     ensures { IfOk result (λ names. IsStrictlySortedBy name_order names.items) }
 {
     let mut names = BTreeSet::new(rt.alloc());

@@ -7,30 +7,40 @@ use std::fs::{self, File, OpenFile};
 use std::io::{self, Read};
 use std::rt::Files;
 
-/// The bytes of the plain file under a path, or `None` where nothing stands there. An error where something else does, as a
-/// folder or a link. It takes memory for the bytes.
-pub fn read_file<R: Files + AllocGlobal>(rt: &R, path: &str) -> io::Result<Option<Bytes>> {
+/// The bytes of the plain file under a path, so many of them at most, or `None` where nothing stands there. An error where
+/// something else does, as a folder or a link. It takes memory for the bytes.
+pub fn read_file<R: Files + AllocGlobal>(
+    rt: &R,
+    path: &str,
+    most: u64,
+) -> io::Result<Option<Bytes>> {
     match kind_at(rt, path)? {
         PathKind::Missing => Ok(None),
-        PathKind::Plain(id) => Ok(Some(read_plain(rt, path, id)?)),
+        PathKind::Plain(id) => Ok(Some(read_plain(rt, path, id, most)?)),
         PathKind::Folder | PathKind::Other => Err(other_kind()),
     }
 }
 
 // The bytes of the file that was seen under a path. An error where another one is opened there.
-fn read_plain<R: Files + AllocGlobal>(rt: &R, path: &str, id: FileId) -> io::Result<Bytes> {
-    let mut file = File::open(rt, path)?;
+fn read_plain<R: Files + AllocGlobal>(
+    rt: &R,
+    path: &str,
+    id: FileId,
+    most: u64,
+) -> io::Result<Bytes> {
+    let file = File::open(rt, path)?;
     let opened = kind_of(&file.metadata()?);
     if opened != PathKind::Plain(id) {
         return Err(other_kind());
     }
-    rest_of(rt.alloc(), &mut file)
+    front_of(rt.alloc(), file, most)
 }
 
-// The bytes that a reader has left.
-fn rest_of<F: Read>(alloc: Global, file: &mut F) -> io::Result<Bytes> {
+// The bytes that a reader gives, so many of them at most.
+fn front_of<F: Read + Drop>(alloc: Global, file: F, most: u64) -> io::Result<Bytes> {
     let mut bytes = Vec::new(alloc);
-    file.read_to_end(&mut bytes)?;
+    let mut front = file.take(most);
+    front.read_to_end(&mut bytes)?;
     Ok(Bytes::from(bytes))
 }
 

@@ -13,6 +13,10 @@ use apl_io::{Bytes, Shelf, StoreError, WantOfMemory};
 use std::io;
 use std::rt::Files;
 
+/// As many bytes as no saved workspace has: an object takes 67 of them at most for the 1 that it weighs by itself, and 8 at
+/// most for each item, and all weigh 4,194,304 at most. Of a longer file no more is read.
+const SAVED_LIMIT: u64 = 300_000_000;
+
 /// A shelf in a folder, its place: what a user saved under a name is the file of that name in the user's folder there, which
 /// is the user's number. A user's folder is made at the first write. Only plain files count; a folder or a link in the
 /// place of one is left alone and not followed, and a call that comes upon it fails.
@@ -98,7 +102,7 @@ fn read_saved<R: Files + AllocGlobal>(
     }
     let name = name_text(rt.alloc(), name)?;
     let path = path_in(rt.alloc(), folder.as_str(), name.as_str())?;
-    read_file(rt, path.as_str())
+    read_file(rt, path.as_str(), SAVED_LIMIT)
 }
 
 fn write_saved<R: Files + AllocGlobal>(

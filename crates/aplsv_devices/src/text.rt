@@ -9,6 +9,9 @@ use apl_io::{Bytes, StoreError, TextStore, WantOfMemory};
 use std::io;
 use std::rt::Files;
 
+/// One byte more than a text file may have. Of a longer file no more is read.
+const TEXT_LIMIT: u64 = 4_194_305;
+
 /// A text store in a folder, its place: a file is the plain file of its name there. A folder or a link in the place of one is
 /// left alone and not followed, and a call that comes upon it fails, as does one for a name that is that of no file.
 #[derive(Drop)]
@@ -68,13 +71,9 @@ impl<R: Files + AllocGlobal> TextStore for DirText<R> {
 }
 
 // The bytes of a file. Where there is none, the place has to be there all the same.
-fn read_text<R: Files + AllocGlobal>(
-    rt: &R,
-    place: &str,
-    name: &str,
-) -> io::Result<Option<Bytes>> {
+fn read_text<R: Files + AllocGlobal>(rt: &R, place: &str, name: &str) -> io::Result<Option<Bytes>> {
     let path = text_path(rt.alloc(), place, name)?;
-    match read_file(rt, path.as_str())? {
+    match read_file(rt, path.as_str(), TEXT_LIMIT)? {
         Some(bytes) => Ok(Some(bytes)),
         None => {
             want_place(rt, place)?;

@@ -5,17 +5,29 @@ use crate::heading::{LineSort, first_word, sort_of};
 use crate::number::{Numbers, numbers_finding, user_finding};
 use apl_arrays::FILE_NAME_LIMIT;
 
-const EMPTY: &str = "an empty line is no line of a bundle: one of input is written as a bar, |, and nothing";
+const EMPTY: &str =
+    "an empty line is no line of a bundle: one of input is written as a bar, |, and nothing";
+
 const BLANKS: &str = "blanks are no line of a bundle: a line of input has a bar, |, in front";
-const BLANK_IN_FRONT: &str = "no blank stands in front of a heading, nor in front of the bar of a line of input";
+
+const BLANK_IN_FRONT: &str =
+    "no blank stands in front of a heading, nor in front of the bar of a line of input";
+
 const SMALL_LETTERS: &str = "the words of headings have small letters alone";
+
 const NO_WORD: &str =
     "a heading begins with user, order, file, clock or end, and a line of input with a bar, |";
+
 const BEHIND_END: &str = "nothing stands behind the word end";
+
 const NO_NAME: &str = "a blank and the name of a file are wanted behind this word";
+
 const DOT: &str = "the name of a file has no dot in front";
+
 const NAME_GLYPH: &str = "the name of a file has letters and digits of ASCII, _, . and - alone";
+
 const LONG_NAME: &str = "the name of a file has 32 characters at most";
+
 const OTHER: &str = "this line is neither a heading nor a line of input";
 
 // How many bytes stand in front of the name in the heading of a file.

@@ -95,7 +95,10 @@ pub fn add_reason(text: &mut String, reason: GlyphReason) -> Result<(), AllocErr
         GlyphReason::Like(character, glyph) => {
             let code = u32::from(character);
             let wanted = u32::from(glyph);
-            write!(text, "U+{code:04X} looks like {glyph}: U+{wanted:04X} is wanted")
+            write!(
+                text,
+                "U+{code:04X} looks like {glyph}: U+{wanted:04X} is wanted"
+            )
         }
         GlyphReason::Stranger(character) => {
             let code = u32::from(character);

@@ -68,7 +68,12 @@ fn narrow(character: char) -> Option<char> {
 pub fn looks_blank(character: char) -> bool {
     matches!(
         character,
-        '\u{A0}' | '\u{AD}' | '\u{2000}'..='\u{200F}' | '\u{202F}' | '\u{205F}' | '\u{2060}' | '\u{3000}' | '\u{FEFF}'
+        '\u{A0}' | '\u{AD}' | '\u{2000}'..='\u{200F}'
+            | '\u{202F}'
+            | '\u{205F}'
+            | '\u{2060}'
+            | '\u{3000}'
+            | '\u{FEFF}'
     )
 }
 

@@ -5,11 +5,17 @@ use crate::heading::{LineSort, sort_of};
 use apl_arrays::{LINE_GLYPH_LIMIT, glyph_at};
 
 const LONG_LINE: &str = "a line has 1,000 glyphs at most, and this one is past them";
+
 const LINES: &str = "a user has 10,000 lines at most";
+
 const USERS: &str = "a bundle has 32 users at most";
+
 const TURNS: &str = "an order has 100,000 turns at most, with those of the orders above";
+
 const FILES: &str = "a bundle has 100 files at most";
+
 const READINGS: &str = "a clock has 10,000 readings at most, with those of the clocks above";
+
 const OTHER: &str = "with this line a limit is passed";
 
 // The place of the glyph behind so many, if there is one.

@@ -4,13 +4,21 @@ use crate::finding::Finding;
 use crate::heading::{cut_word, first_word};
 
 const NOTHING: &str = "a blank and a number are wanted behind this word";
+
 const TWO_BLANKS: &str = "one blank alone stands in front of each number";
+
 const LAST_BLANK: &str = "no blank stands at the end of a heading";
+
 const NO_NUMBER: &str = "a number is wanted here, of the digits 0 to 9 alone";
+
 const FIRST_ZERO: &str = "a number has no 0 in front of other digits";
+
 const LARGE_READING: &str = "a reading of the clock is 9223372036854775807 at most";
+
 const ONE_NUMBER: &str = "one number alone stands behind the word user";
+
 const USER_RANGE: &str = "the number of a user is one from 1001 to 1999";
+
 const OTHER: &str = "this heading is none that a bundle may have";
 
 /// The greatest reading of a clock.

@@ -3,15 +3,26 @@ ghost use Rattle.std.specs.Prelude.{◌≡◌, ◌≤◌, length};
 use crate::finding::Finding;
 use crate::heading::{LineSort, sort_of};
 
-const INPUT_IN_FRONT: &str = "a line of input stands below the heading of a user or of a file, and no heading stands above";
-const INPUT_BEHIND: &str = "a line of input stands below the heading of a user or of a file, which the one above is not";
+const INPUT_IN_FRONT: &str =
+    "a line of input stands below the heading of a user or of a file, and no heading stands above";
+
+const INPUT_BEHIND: &str =
+    "a line of input stands below the heading of a user or of a file, which the one above is not";
+
 const BEHIND_END: &str = "nothing stands behind the line end";
+
 const USER_BELOW: &str =
     "the numbers of users ascend, and this one is not above that of the user before";
+
 const USER_LATE: &str = "users stand in front of orders, files and clocks";
+
 const ORDER_LATE: &str = "an order stands behind the users and in front of files and clocks";
-const FILE_BELOW: &str = "the names of files ascend by ASCII, and this one is not above that of the file before";
+
+const FILE_BELOW: &str =
+    "the names of files ascend by ASCII, and this one is not above that of the file before";
+
 const FILE_LATE: &str = "files stand in front of clocks";
+
 const OTHER: &str = "this line may not stand here";
 
 // How many bytes stand in front of the number or name of a heading of a user or a file.

@@ -6,6 +6,7 @@ use std::alloc::AllocError;
 
 /// The most bytes of a line that are shown in front of its mark, and behind it.
 const FRONT: usize = 96;
+
 const BEHIND: usize = 48;
 
 /// The most bytes of a character behind its first.
@@ -99,12 +100,7 @@ fn add_blanks(text: &mut String, count: usize) -> Result<(), AllocError> {
 
 /// Adds two lines: a number and a line of a bundle, of which no more is shown than what stands near the place, and a mark
 /// below that place. It takes memory for the text.
-pub fn add_marked(
-    text: &mut String,
-    number: u64,
-    line: &[u8],
-    at: usize,
-) -> Result<(), AllocError>
+pub fn add_marked(text: &mut String, number: u64, line: &[u8], at: usize) -> Result<(), AllocError>
     requires { at ≤ length line.now }
 {
     let begin = begin_of(line, at);

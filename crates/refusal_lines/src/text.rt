@@ -14,9 +14,12 @@ use bundle_text::BundleRule;
 use std::alloc::{AllocError, Global};
 
 const NO_GLYPH: &str = "a glyph is wanted here";
-const NO_FEED: &str = "the text ends with this line: a line feed is wanted behind it, and then the line end";
-const LIKE_END: &str =
-    "the last line is the word end, in small letters and with nothing beside it";
+
+const NO_FEED: &str =
+    "the text ends with this line: a line feed is wanted behind it, and then the line end";
+
+const LIKE_END: &str = "the last line is the word end, in small letters and with nothing beside it";
+
 const NO_END: &str = "the text ends here, and its last line is to be end";
 
 // Whether a line is the end but for capitals and blanks.
