@@ -1,17 +1,22 @@
-// Runs the tables of the folder that it is started in against the auxiliaries, and against the devices in memory under
-// them, and prints how each came out.
+// Runs the tables of the folder that it is started in against the auxiliaries, and against the devices under them, in memory
+// and of the machine, and prints how each came out.
 #![tactic(auto)]
 
 mod clock;
 mod devices;
+mod folders;
+mod machine;
+mod room;
 mod sessions;
 mod shelf;
 mod store;
 mod text;
 
 use anyhow::Result;
-use case_tables::{conclude, run_table};
+use case_tables::{conclude, run_calls, run_table};
 use clock::ClockSessions;
+use folders::{FolderShelves, FolderStores};
+use machine::Machine;
 use shelf::Shelves;
 use std::process::ExitCode;
 use store::Stores;
@@ -24,5 +29,8 @@ fn main(rt: HostRuntime) -> Result<ExitCode> {
     tally.add(run_table(&rt, "clock.txt", &ClockSessions)?);
     tally.add(run_table(&rt, "shelves.txt", &Shelves)?);
     tally.add(run_table(&rt, "stores.txt", &Stores)?);
+    tally.add(run_table(&rt, "folders.txt", &FolderShelves { rt })?);
+    tally.add(run_table(&rt, "files_in_folders.txt", &FolderStores { rt })?);
+    tally.add(run_calls(&rt, "streams and clocks", &Machine { rt })?);
     conclude(&rt, tally)
 }

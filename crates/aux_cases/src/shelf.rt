@@ -17,19 +17,19 @@ fn entry_of(alloc: Global, text: &str) -> Result<(u32, Name)> {
     Ok((user.parse()?, name_of(alloc, name)?))
 }
 
-fn read(alloc: Global, shelf: &mut MemoryShelf, rest: &str) -> Result<String> {
+fn read<K: Shelf>(alloc: Global, shelf: &mut K, rest: &str) -> Result<String> {
     let (user, name) = entry_of(alloc, rest)?;
     read_text(alloc, shelf.read(user, &name))
 }
 
-fn write(alloc: Global, shelf: &mut MemoryShelf, rest: &str) -> Result<String> {
+fn write<K: Shelf>(alloc: Global, shelf: &mut K, rest: &str) -> Result<String> {
     let (entry, text) = rest.rsplit_once(" ").context("no bytes")?;
     let (user, name) = entry_of(alloc, entry)?;
     let bytes = bytes_of(alloc, text)?;
     done_text(alloc, shelf.write(user, &name, &bytes))
 }
 
-fn remove(alloc: Global, shelf: &mut MemoryShelf, rest: &str) -> Result<String> {
+fn remove<K: Shelf>(alloc: Global, shelf: &mut K, rest: &str) -> Result<String> {
     let (user, name) = entry_of(alloc, rest)?;
     match shelf.remove(user, &name) {
         Ok(removed) => Ok(removed.to_string(alloc)?),
@@ -37,16 +37,16 @@ fn remove(alloc: Global, shelf: &mut MemoryShelf, rest: &str) -> Result<String> 
     }
 }
 
-fn names(alloc: Global, shelf: &mut MemoryShelf, rest: &str) -> Result<String> {
+fn names<K: Shelf>(alloc: Global, shelf: &mut K, rest: &str) -> Result<String> {
     match shelf.names(rest.parse()?) {
         Ok(names) => names_text(alloc, names.as_slice()),
         Err(error) => failure_text(alloc, error),
     }
 }
 
-// What a step gives: `place PLACE`, `read USER NAME`, `write USER NAME BYTES`, `remove USER NAME`, `names USER`, or
-// `faults`.
-fn step(alloc: Global, shelf: &mut MemoryShelf, text: &str) -> Result<String> {
+/// What a step of a shelf gives: `place PLACE`, `read USER NAME`, `write USER NAME BYTES`, `remove USER NAME`, `names USER`,
+/// or `faults`.
+pub fn shelf_step<K: Shelf>(alloc: Global, shelf: &mut K, text: &str) -> Result<String> {
     let (word, rest) = text.split_once(" ").unwrap_or((text, ""));
     match word {
         "place" => {
@@ -69,7 +69,7 @@ fn steps_text(alloc: Global, shelf: &mut MemoryShelf, steps: &str) -> Result<Str
         if at > 0 {
             text.push_str(BETWEEN)?;
         }
-        text.push_str(step(alloc, shelf, part)?.as_str())?;
+        text.push_str(shelf_step(alloc, shelf, part)?.as_str())?;
     }
     Ok(text)
 }

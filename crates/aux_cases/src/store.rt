@@ -9,14 +9,14 @@ use std::alloc::Global;
 #[derive(Clone, Copy, Debug)]
 pub struct Stores;
 
-fn replace(alloc: Global, store: &mut MemoryText, rest: &str) -> Result<String> {
+fn replace<T: TextStore>(alloc: Global, store: &mut T, rest: &str) -> Result<String> {
     let (name, text) = rest.split_once(" ").context("no bytes")?;
     let bytes = bytes_of(alloc, text)?;
     done_text(alloc, store.replace(name, &bytes))
 }
 
-// What a step gives: `place PLACE`, `read NAME`, `replace NAME BYTES`, or `faults`.
-fn step(alloc: Global, store: &mut MemoryText, text: &str) -> Result<String> {
+/// What a step of a text store gives: `place PLACE`, `read NAME`, `replace NAME BYTES`, or `faults`.
+pub fn store_step<T: TextStore>(alloc: Global, store: &mut T, text: &str) -> Result<String> {
     let (word, rest) = text.split_once(" ").unwrap_or((text, ""));
     match word {
         "place" => {
@@ -37,7 +37,7 @@ fn steps_text(alloc: Global, store: &mut MemoryText, steps: &str) -> Result<Stri
         if at > 0 {
             text.push_str(BETWEEN)?;
         }
-        text.push_str(step(alloc, store, part)?.as_str())?;
+        text.push_str(store_step(alloc, store, part)?.as_str())?;
     }
     Ok(text)
 }

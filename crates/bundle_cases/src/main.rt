@@ -1,7 +1,8 @@
-// Runs the tables of the folder that it is started in against the reader of bundles, and each front of a bundle, and
-// prints how each came out.
+// Runs the tables of the folder that it is started in against the reader of bundles and the lines that say why it refuses
+// one, and each front of a bundle, and prints how each came out.
 #![tactic(auto)]
 
+mod lines;
 mod prefixes;
 mod shown;
 mod sizes;
@@ -9,6 +10,7 @@ mod texts;
 
 use anyhow::Result;
 use case_tables::{conclude, run_table};
+use lines::Lines;
 use prefixes::each_prefix;
 use sizes::Sizes;
 use std::process::ExitCode;
@@ -20,6 +22,7 @@ fn main(rt: HostRuntime) -> Result<ExitCode> {
     tally.add(run_table(&rt, "limits.txt", &Texts)?);
     tally.add(run_table(&rt, "bundles.txt", &Texts)?);
     tally.add(run_table(&rt, "sizes.txt", &Sizes)?);
+    tally.add(run_table(&rt, "lines.txt", &Lines)?);
     tally.add(each_prefix(&rt, "whole.bundle", "whole.txt")?);
     conclude(&rt, tally)
 }

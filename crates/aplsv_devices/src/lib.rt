@@ -1,0 +1,25 @@
+//! The devices of the machine that the program runs on: the standard streams, folders of files, and the clock. Each counts
+//! its faults. A folder and the clock tell nothing of what they hold.
+#![tactic(auto)]
+
+mod clock;
+mod fault;
+mod kept;
+mod kind;
+mod laws;
+mod listing;
+mod paths;
+mod plain;
+mod replacing;
+mod shelf;
+mod sink;
+mod source;
+mod text;
+
+pub use clock::SystemClock;
+pub use kept::KEPT_LIMIT;
+pub use laws::names_stay_in_their_folder;
+pub use shelf::DirShelf;
+pub use sink::StdSink;
+pub use source::StdSource;
+pub use text::DirText;
