@@ -3,7 +3,9 @@
 #![tactic(auto)]
 
 mod clock;
+mod components;
 mod devices;
+mod relay;
 mod sessions;
 mod shelf;
 mod store;
@@ -12,6 +14,8 @@ mod text;
 use anyhow::Result;
 use case_tables::{conclude, run_table};
 use clock::ClockSessions;
+use components::{ComponentCommands, ComponentSessions};
+use relay::RelaySequences;
 use shelf::Shelves;
 use std::process::ExitCode;
 use store::Stores;
@@ -24,5 +28,9 @@ fn main(rt: HostRuntime) -> Result<ExitCode> {
     tally.add(run_table(&rt, "clock.txt", &ClockSessions)?);
     tally.add(run_table(&rt, "shelves.txt", &Shelves)?);
     tally.add(run_table(&rt, "stores.txt", &Stores)?);
+    tally.add(run_table(&rt, "components.txt", &ComponentSessions)?);
+    tally.add(run_table(&rt, "component_files.txt", &ComponentSessions)?);
+    tally.add(run_table(&rt, "component_commands.txt", &ComponentCommands)?);
+    tally.add(run_table(&rt, "relay.txt", &RelaySequences)?);
     conclude(&rt, tally)
 }
