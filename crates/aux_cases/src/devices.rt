@@ -1,6 +1,6 @@
 use anyhow::{Context, Result, bail};
 use apl_arrays::{Bytes, File, FileList, FileName};
-use apl_io::{CallNumbers, MemoryText, StoreError};
+use apl_io::{CallNumbers, MemoryText, StoreError, TextStore};
 use case_tables::bytes_of;
 use std::alloc::Global;
 use std::str;
@@ -51,6 +51,20 @@ pub fn store_of(alloc: Global, file: &str, fails: &str) -> Result<MemoryText> {
         files.push(file_of(alloc, file)?)?;
     }
     Ok(MemoryText::new(alloc, files, fails))
+}
+
+/// The file that the store has under the name which a field has before its colon: the name, a colon and its bytes.
+pub fn file_text(alloc: Global, store: &mut MemoryText, field: &str) -> Result<String> {
+    let (name, _) = field.split_once(":").context("no name of a file")?;
+    match store.read(name) {
+        Ok(Some(bytes)) => {
+            let text = str::from_utf8(bytes.as_slice())?;
+            Ok(format!(in alloc; "{name}:{text}")?)
+        }
+        Ok(None) => Ok(format!(in alloc; "no file {name}")?),
+        Err(StoreError::Failed) => bail!("the store failed"),
+        Err(StoreError::WantOfMemory) => bail!("out of memory"),
+    }
 }
 
 // Bytes as a text in quotes, or that there are none.

@@ -3,9 +3,11 @@
 #![tactic(auto)]
 
 mod clock;
+mod components;
 mod devices;
 mod folders;
 mod machine;
+mod relay;
 mod room;
 mod sessions;
 mod shelf;
@@ -15,8 +17,10 @@ mod text;
 use anyhow::Result;
 use case_tables::{conclude, run_calls, run_table};
 use clock::ClockSessions;
+use components::{ComponentCommands, ComponentSessions};
 use folders::{FolderShelves, FolderStores};
 use machine::Machine;
+use relay::RelaySequences;
 use shelf::Shelves;
 use std::process::ExitCode;
 use store::Stores;
@@ -32,5 +36,9 @@ fn main(rt: HostRuntime) -> Result<ExitCode> {
     tally.add(run_table(&rt, "folders.txt", &FolderShelves { rt })?);
     tally.add(run_table(&rt, "files_in_folders.txt", &FolderStores { rt })?);
     tally.add(run_calls(&rt, "streams and clocks", &Machine { rt })?);
+    tally.add(run_table(&rt, "components.txt", &ComponentSessions)?);
+    tally.add(run_table(&rt, "component_files.txt", &ComponentSessions)?);
+    tally.add(run_table(&rt, "component_commands.txt", &ComponentCommands)?);
+    tally.add(run_table(&rt, "relay.txt", &RelaySequences)?);
     conclude(&rt, tally)
 }

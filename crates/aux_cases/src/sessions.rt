@@ -1,4 +1,4 @@
-use anyhow::Result;
+use anyhow::{Context, Result};
 use apl_arrays::{Array, WantOfMemory};
 use auxiliaries::Replier;
 use case_fields::{value_of, value_text};
@@ -18,16 +18,17 @@ fn times_of(part: &str) -> Result<(usize, &str)> {
     }
 }
 
-// The last answer to a value that is given so many times.
+// The last answer to a value that a party gives so many times.
 fn last_answer<R: Replier>(
     replier: &mut R,
+    party: u32,
     times: usize,
     value: &Array,
 ) -> Result<Array, WantOfMemory> {
     for _ in 1..times {
-        drop(replier.reply(USER, value)?);
+        drop(replier.reply(party, value)?);
     }
-    replier.reply(USER, value)
+    replier.reply(party, value)
 }
 
 // The text of an answer.
@@ -37,11 +38,11 @@ fn answer_text(alloc: Global, answer: Array) -> Result<String> {
     text
 }
 
-// The answer to a value. Of a value that is given more than once the last answer counts.
-fn answer<R: Replier>(alloc: Global, replier: &mut R, part: &str) -> Result<String> {
+// The answer to a party's value. Of a value that is given more than once the last answer counts.
+fn answer<R: Replier>(alloc: Global, replier: &mut R, party: u32, part: &str) -> Result<String> {
     let (times, value) = times_of(part)?;
     let value = value_of(alloc, value)?;
-    let answer = last_answer(replier, times, &value);
+    let answer = last_answer(replier, party, times, &value);
     drop(value);
     answer_text(alloc, answer?)
 }
@@ -53,7 +54,24 @@ pub fn answers<R: Replier>(alloc: Global, replier: &mut R, values: &str) -> Resu
         if at > 0 {
             text.push_str(BETWEEN)?;
         }
-        text.push_str(answer(alloc, replier, part)?.as_str())?;
+        text.push_str(answer(alloc, replier, USER, part)?.as_str())?;
+    }
+    Ok(text)
+}
+
+/// The answers to the values that a field says, each behind the party that gives it.
+pub fn answers_to_parties<R: Replier>(
+    alloc: Global,
+    replier: &mut R,
+    steps: &str,
+) -> Result<String> {
+    let mut text = String::new(alloc);
+    for (at, step) in steps.split(BETWEEN).enumerate() {
+        if at > 0 {
+            text.push_str(BETWEEN)?;
+        }
+        let (party, part) = step.split_once(" ").context("a party is wanted")?;
+        text.push_str(answer(alloc, replier, party.parse()?, part)?.as_str())?;
     }
     Ok(text)
 }

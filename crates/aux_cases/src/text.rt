@@ -1,29 +1,15 @@
-use crate::devices::store_of;
+use crate::devices::{file_text, store_of};
 use crate::sessions::{BETWEEN, answers};
-use anyhow::{Context, Result, bail};
-use apl_io::{MemoryText, StoreError, TextStore};
+use anyhow::{Result, bail};
+use apl_io::MemoryText;
 use auxiliaries::TextAux;
 use case_tables::Trial;
 use std::alloc::Global;
-use std::str;
 
 /// Sessions with the text auxiliary: a file that its store has, the calls of the store that are to fail, and the values
 /// given to the auxiliary; its answers, and where there is a fifth field a file that the store has afterwards.
 #[derive(Clone, Copy, Debug)]
 pub struct TextSessions;
-
-// The file of this name that the store has: the name, a colon and its bytes.
-fn file_text(alloc: Global, store: &mut MemoryText, name: &str) -> Result<String> {
-    match store.read(name) {
-        Ok(Some(bytes)) => {
-            let text = str::from_utf8(bytes.as_slice())?;
-            Ok(format!(in alloc; "{name}:{text}")?)
-        }
-        Ok(None) => Ok(format!(in alloc; "no file {name}")?),
-        Err(StoreError::Failed) => bail!("the store failed"),
-        Err(StoreError::WantOfMemory) => bail!("out of memory"),
-    }
-}
 
 // The answers of a session, and the file of this name that the store has afterwards.
 fn answers_and_file(
@@ -34,16 +20,10 @@ fn answers_and_file(
 ) -> Result<String> {
     let told = answers(alloc, &mut aux, values);
     let mut store = aux.into_store();
-    let kept = kept_text(alloc, &mut store, file);
+    let kept = file_text(alloc, &mut store, file);
     drop(store);
     let (told, kept) = (told?, kept?);
     Ok(format!(in alloc; "{told} ¦ {kept}")?)
-}
-
-// The file that the store has under the name which a field has before its colon.
-fn kept_text(alloc: Global, store: &mut MemoryText, file: &str) -> Result<String> {
-    let (name, _) = file.split_once(":").context("no name of a file")?;
-    file_text(alloc, store, name)
 }
 
 // The answers of a session.

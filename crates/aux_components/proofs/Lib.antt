@@ -1,0 +1,3 @@
+mod CommandLemmas
+mod FileLemmas
+mod KeptLemmas

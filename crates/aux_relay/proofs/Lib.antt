@@ -1,0 +1,4 @@
+mod CommandLemmas
+mod HistoryLemmas
+mod QueueLemmas
+mod SenderLemmas
