@@ -1,0 +1,9 @@
+pub mod Getters
+pub mod Lexing
+pub mod Parses
+pub mod Readings
+pub mod Settings
+pub mod Texts
+pub mod Turns
+pub mod Walks
+pub mod Worked

@@ -1,0 +1,19 @@
+-- What holds of the meaning of words.
+use Rattle.std.specs.Prelude.{◌≡◌, true, false, List, None, Some, codes}
+use Rattle.aplsv_words.specs.Meaning.{Asked, Means, Text}
+
+-- words have one meaning and no other
+abbrev pub WordsHaveOneMeaning : Type 0
+WordsHaveOneMeaning = (words : List Text) (asked other : Asked) → Means words asked → Means words other → asked ≡ other
+
+-- words without a meaning
+abbrev pub MeanNothing : List Text → Type 0
+MeanNothing words = (asked : Asked) → ¬ Means words asked
+
+-- nothing is asked for
+abbrev pub nothing : Asked
+nothing = record { replay = false; library = None; text = None; clock = false }
+
+-- a replay alone
+abbrev pub replay_alone : Asked
+replay_alone = record nothing { replay = true }

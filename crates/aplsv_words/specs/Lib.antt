@@ -1,0 +1,5 @@
+pub mod Table
+pub mod Meaning
+pub mod Stray
+pub mod CommandLine
+pub mod Laws

@@ -1,0 +1,109 @@
+-- What the words of a command line mean.
+use Rattle.std.specs.Prelude.{◌≡◌, ◌⊎◌, ◌==◌, ◌++◌, Bool, true, false, not, ℕ, List, [], ◌∷◌, Option, Some, None, find, length, nat_lt, codes, option_map}
+use Rattle.std.specs.List.{list_all, list_any}
+use Rattle.std.specs.Option.{option_and_then, option_map_or}
+use Rattle.std.specs.Str.{bytes_eq}
+use Rattle.aplsv_words.specs.Table.{Word, table}
+use Rattle.aplsv_words.specs.declared.words.Words.{Words}
+
+-- a text, by its bytes
+abbrev pub Text : Type 0
+Text = List ℕ
+
+-- a name that was written, with its value if it has one
+pub record Setting : Type 0 where
+  pub name : Text
+  pub value : Option Text
+
+-- the text begins with a hyphen
+abbrev pub begins_with_hyphen : Text → Bool
+begins_with_hyphen [] = false
+begins_with_hyphen (byte ∷ text) = byte == 45
+
+-- a name behind two hyphens
+abbrev pub hyphened : Text → Text
+hyphened name = 45 ∷ 45 ∷ name
+
+-- a name and its value in one word, with `=` between them
+abbrev pub joined : Text → Text → Text
+joined name value = hyphened name ++ 61 ∷ value
+
+-- the words begin with a name and its value, and these are left: a name alone stands behind its hyphens; a value follows it in the same word, or is the next word, which then does not begin with a hyphen
+abbrev pub BeginsWith : Text → Option Text → List Text → List Text → Type 0
+BeginsWith name None words left = words ≡ hyphened name ∷ left
+BeginsWith name (Some value) words left =
+    (words ≡ joined name value ∷ left) ⊎ ((begins_with_hyphen value ≡ false) × (words ≡ hyphened name ∷ value ∷ left))
+
+-- the words are these settings, one after another
+abbrev pub Spell : List Setting → List Text → Type 0
+Spell [] words = words ≡ []
+Spell (setting ∷ settings) words = (left : List Text) × BeginsWith setting.name setting.value words left × Spell settings left
+
+-- the setting has this name
+abbrev pub is_named : Text → Setting → Bool
+is_named name setting = bytes_eq setting.name name
+
+-- one of the settings has this name
+abbrev pub is_set : Text → List Setting → Bool
+is_set name settings = list_any (is_named name) settings
+
+-- each name stands once
+abbrev pub AreOnce : List Setting → Type 0
+AreOnce [] = Unit {0}
+AreOnce (setting ∷ settings) = (is_set setting.name settings ≡ false) × AreOnce settings
+
+-- a word takes a value that is not empty exactly where it takes one
+abbrev pub takes : Bool → Option Text → Bool
+takes true (Some value) = nat_lt 0 (length value)
+takes true None = false
+takes false (Some value) = false
+takes false None = true
+
+-- the word of a name among some words
+abbrev pub word_of : List Word → Text → Option Word
+word_of words name = find (λ word. bytes_eq word.name name) words
+
+-- the setting is one of these words with what it takes
+abbrev pub is_known : List Word → Setting → Bool
+is_known words setting = option_map_or (λ word. takes word.takes_value setting.value) (word_of words setting.name) false
+
+-- the settings are of these words, and each name stands once
+pub record AreFine (words : List Word) (settings : List Setting) : Type 0 where
+  pub known : list_all (is_known words) settings ≡ true
+  pub once : AreOnce settings
+
+-- the value that was written for a name
+abbrev pub value_of : Text → List Setting → Option Text
+value_of name settings = option_and_then (λ setting. setting.value) (find (is_named name) settings)
+
+-- what words ask for: a field for each word of the table
+pub record Asked : Type 0 where
+  pub replay : Bool
+  pub library : Option Text
+  pub text : Option Text
+  pub clock : Bool
+
+-- what was read
+abbrev pub asked_by : Words → Asked
+asked_by words = record {
+  replay = words.replay;
+  library = option_map (λ place. place.now) words.library;
+  text = option_map (λ place. place.now) words.text;
+  clock = words.clock;
+}
+
+-- what settings ask for
+abbrev pub said_by : List Setting → Asked
+said_by settings = record {
+  replay = is_set (codes "replay") settings;
+  library = value_of (codes "library") settings;
+  text = value_of (codes "text") settings;
+  clock = is_set (codes "clock") settings;
+}
+
+-- the words mean this: they are settings of the table, in any order and each once, that ask for it
+pub record Means (words : List Text) (asked : Asked) : Type 0 where
+  pub settings : List Setting
+  pub spelled : Spell settings words
+  pub fine : AreFine table settings
+  pub said : said_by settings ≡ asked

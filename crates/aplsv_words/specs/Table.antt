@@ -1,0 +1,19 @@
+-- The words that there are, each a row of a table.
+use Rattle.std.specs.Prelude.{Bool, true, false, ℕ, List, [], ◌∷◌, codes}
+
+-- a word of the table: its name, which stands behind two hyphens, and whether it takes a value
+pub record Word : Type 0 where
+  pub name : List ℕ
+  pub takes_value : Bool
+
+-- a word without a value
+abbrev pub flag : List ℕ → Word
+flag name = record { name = name; takes_value = false }
+
+-- a word with a value
+abbrev pub valued : List ℕ → Word
+valued name = record { name = name; takes_value = true }
+
+-- the table: --replay, --library DIR, --text DIR, --clock
+abbrev pub table : List Word
+table = flag (codes "replay") ∷ valued (codes "library") ∷ valued (codes "text") ∷ flag (codes "clock") ∷ []

@@ -1,0 +1,108 @@
+ghost use Rattle.std.specs.Prelude.{◌≡◌, false, codes, IfOk, IsErrOf, MatchResult, map, option_map, string_bytes};
+ghost use Rattle.std.specs.List.{list_any};
+ghost use Rattle.clap.specs.Words.{app_of, first_value, found_of, kind_of, one_text, rule_of};
+ghost use Rattle.aplsv_words.specs.CommandLine.{IsFlagOf, command_of, flag_rule, refusal_of, value_rule};
+ghost use Rattle.aplsv_words.specs.Meaning.{Asked, Means, asked_by};
+ghost use Rattle.aplsv_words.specs.Stray.{is_stray};
+ghost use Rattle.aplsv_words.specs.Table.{table};
+
+use crate::stray::has_stray;
+use crate::words::{Words, WordsRefused};
+use clap::builder::ValueParser;
+use clap::error::ErrorKind;
+use clap::{Arg, ArgAction, ArgMatches, Command, Error};
+use std::alloc::{AllocError, Global};
+
+/// What the words behind the program's name ask for. `Usage` exactly where they have no meaning: where a word is none of
+/// the table, stands twice, or has a value that it does not take, lacks one, or has one that is empty or that begins with a
+/// hyphen in a word of its own. The values are those in the words. It takes memory to read them.
+pub fn words_of<'a>(alloc: Global, args: &'a [String]) -> Result<Words<'a>, WordsRefused>
+    ensures means { IfOk result (λ words. Means (map string_bytes args.entry.now) (asked_by words)) }
+    ensures usage { IsErrOf result WordsRefused.Usage → (asked : Asked) → ¬ Means (map string_bytes args.entry.now) asked }
+    ensures only { (asked : Asked) → Means (map string_bytes args.entry.now) asked →
+        MatchResult result (λ words. asked_by words ≡ asked) (λ why. why ≡ WordsRefused.WantOfMemory) }
+{
+    if has_stray(args) {
+        Err(WordsRefused::Usage)
+    } else {
+        parsed(alloc, args)
+    }
+}
+
+// The same, where each word that begins with a hyphen goes on as a name behind two.
+fn parsed<'a>(alloc: Global, args: &'a [String]) -> Result<Words<'a>, WordsRefused>
+    requires { list_any (λ arg. is_stray (string_bytes arg)) args.now ≡ false }
+    ensures means { IfOk result (λ words. Means (map string_bytes args.entry.now) (asked_by words)) }
+    ensures usage { IsErrOf result WordsRefused.Usage → (asked : Asked) → ¬ Means (map string_bytes args.entry.now) asked }
+    ensures only { (asked : Asked) → Means (map string_bytes args.entry.now) asked →
+        MatchResult result (λ words. asked_by words ≡ asked) (λ why. why ≡ WordsRefused.WantOfMemory) }
+{
+    let command = command_line(alloc)?;
+    match command.try_get_matches_from(args) {
+        Ok(matches) => Ok(words_in(matches)),
+        Err(error) => Err(refusal(error)),
+    }
+}
+
+// A command with a row for each word of the table, and no other: none for help.
+fn command_line<'a>(alloc: Global) -> Result<Command<'a>, AllocError>
+    ensures { IfOk result (λ command. app_of command ≡ command_of table) }
+{
+    let bare = Command::new(alloc, "aplsv")
+        .no_binary_name(true)
+        .disable_help_flag(true);
+    let with_replay = bare.arg(flag(alloc, "replay"))?;
+    let with_library = with_replay.arg(valued(alloc, "library"))?;
+    let with_text = with_library.arg(valued(alloc, "text"))?;
+    let whole = with_text.arg(flag(alloc, "clock"))?;
+    Ok(whole)
+}
+
+// A word without a value.
+fn flag<'a>(alloc: Global, name: &'a str) -> Arg<'a>
+    ensures rule { rule_of result ≡ flag_rule name.entry.now }
+    ensures local { result.global ≡ false }
+{
+    Arg::new(alloc, name).long(name).action(ArgAction::SetTrue)
+}
+
+// A word with a value, which is not empty.
+fn valued<'a>(alloc: Global, name: &'a str) -> Arg<'a>
+    ensures rule { rule_of result ≡ value_rule name.entry.now }
+    ensures local { result.global ≡ false }
+{
+    Arg::new(alloc, name)
+        .long(name)
+        .value_parser(ValueParser::NonEmptyString)
+}
+
+// What a parse found.
+fn words_in<'a>(matches: ArgMatches<'a>) -> Words<'a>
+    ensures replay { IsFlagOf (one_text (found_of matches.entry) (codes "replay")) result.replay }
+    ensures library { option_map (λ place. place.now) result.library ≡ first_value (found_of matches.entry) (codes "library") }
+    ensures text { option_map (λ place. place.now) result.text ≡ first_value (found_of matches.entry) (codes "text") }
+    ensures clock { IsFlagOf (one_text (found_of matches.entry) (codes "clock")) result.clock }
+{
+    Words {
+        replay: flag_in(&matches, "replay"),
+        library: matches.get_str("library"),
+        text: matches.get_str("text"),
+        clock: flag_in(&matches, "clock"),
+    }
+}
+
+fn flag_in<'a>(matches: &ArgMatches<'a>, name: &str) -> bool
+    ensures { IsFlagOf (one_text (found_of matches.now) name.now) result }
+{
+    matches.get_flag(name)
+}
+
+// Why a parse failed: memory, or the words.
+fn refusal(error: Error) -> WordsRefused
+    ensures { result ≡ refusal_of (kind_of error) }
+{
+    match error.kind() {
+        ErrorKind::OutOfMemory => WordsRefused::WantOfMemory,
+        _ => WordsRefused::Usage,
+    }
+}

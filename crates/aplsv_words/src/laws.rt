@@ -1,0 +1,37 @@
+ghost use Rattle.std.specs.Prelude.{[], ◌∷◌, Some, true, codes};
+ghost use Rattle.aplsv_words.specs.Laws.{MeanNothing, WordsHaveOneMeaning, nothing, replay_alone};
+ghost use Rattle.aplsv_words.specs.Meaning.{Means};
+
+/// Words have one meaning and no other. The call does nothing. No memory.
+pub fn words_have_one_meaning()
+    ensures { WordsHaveOneMeaning }
+{}
+
+/// Words at work: none; one; all, in another order and with values in both ways; a value that begins with a hyphen behind
+/// its `=`, and one that has another `=`. And words that mean nothing: with a value that begins with a hyphen, is empty, or
+/// is not there; with one that is not taken; twice; short, cut, bare, or none of the table. The call does nothing. No
+/// memory.
+pub fn worked_words()
+    ensures none { Means [] nothing }
+    ensures replay { Means (codes "--replay" ∷ []) replay_alone }
+    ensures all { Means (codes "--clock" ∷ codes "--text=NOTES" ∷ codes "--replay" ∷ codes "--library" ∷ codes "SAVED" ∷ [])
+        (record replay_alone { library = Some (codes "SAVED"); text = Some (codes "NOTES"); clock = true }) }
+    ensures hyphen { Means (codes "--library=-x" ∷ []) (record nothing { library = Some (codes "-x") }) }
+    ensures equals { Means (codes "--text=a=b" ∷ []) (record nothing { text = Some (codes "a=b") }) }
+    ensures hyphen_apart { MeanNothing (codes "--library" ∷ codes "-x" ∷ []) }
+    ensures name_apart { MeanNothing (codes "--text" ∷ codes "--clock" ∷ []) }
+    ensures empty { MeanNothing (codes "--text=" ∷ []) }
+    ensures empty_apart { MeanNothing (codes "--text" ∷ [] ∷ []) }
+    ensures missing { MeanNothing (codes "--replay" ∷ codes "--library" ∷ []) }
+    ensures untaken { MeanNothing (codes "--replay=yes" ∷ []) }
+    ensures untaken_apart { MeanNothing (codes "--clock" ∷ codes "now" ∷ []) }
+    ensures twice { MeanNothing (codes "--replay" ∷ codes "--replay" ∷ []) }
+    ensures value_twice { MeanNothing (codes "--text=A" ∷ codes "--text" ∷ codes "B" ∷ []) }
+    ensures short { MeanNothing (codes "-r" ∷ []) }
+    ensures cut { MeanNothing (codes "--rep" ∷ []) }
+    ensures bare { MeanNothing (codes "--replay" ∷ codes "--" ∷ []) }
+    ensures one_hyphen { MeanNothing (codes "-" ∷ []) }
+    ensures help { MeanNothing (codes "--help" ∷ []) }
+    ensures workers { MeanNothing (codes "--workers" ∷ codes "2" ∷ []) }
+    ensures load { MeanNothing (codes "--load" ∷ codes "5" ∷ []) }
+{}
