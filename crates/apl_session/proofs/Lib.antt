@@ -1,4 +1,5 @@
 pub mod Around
+pub mod Commanding
 pub mod Going
 pub mod Inside
 pub mod Lone

@@ -19,10 +19,11 @@ use Rattle.sv_events.specs.Row.{answer_row}
 use Rattle.sv_events.specs.declared.event.Act.{Act}
 use Rattle.sv_events.specs.declared.event.Act.TheVariants as act
 use Rattle.apl_terminal.specs.Terminal.{PlainTerminal, reporting}
-use Rattle.session_rules.specs.Course.{Course, behind}
+use Rattle.session_rules.specs.Course.{Course, behind, course_at}
 use Rattle.session_rules.specs.Session.{lines_done, session_of, statement_done}
+use Rattle.session_rules.specs.Shelf.{Exchange, Reply, replies_in}
 use Rattle.session_rules.proofs.MoreAnswers.{waits_on}
-use Rattle.apl_session.specs.Standing.{EndsBy, IsAt, IsBetween, IsLastRead, IsWaitingAlone, MayHear, course_at}
+use Rattle.apl_session.specs.Standing.{EndsBy, IsAt, IsBetween, IsLastRead, IsWaitingAlone, IsWaitingFor, MayHear}
 
 -- where a line begins, one statement of which is begun
 abbrev begun_state : List ℕ → PlainWorkspace → List PlainAnswer → State
@@ -50,21 +51,22 @@ asks_alone (act.AskNames party) w s shared none = absurd shared
 asks_alone act.Leave w s shared none = absurd shared
 
 -- what comes of the lines where such a line waits
-alone_course : (lines : List (List ℕ)) (answers : List PlainAnswer) (read : ℕ) (t : PlainTerminal) (asked : Act) → (h : IsWaitingAlone lines answers read t asked)
-    → session_of lines answers ≡ behind (course_at t h.at.acts []) (asks asked (begun_state h.line t.workspace []))
-alone_course lines answers read t asked h =
-    let c : Course = course_at t h.at.acts [] in
+alone_course : (lines : List (List ℕ)) (answers : List PlainAnswer) (exchanges : List Exchange) (read : ℕ) (t : PlainTerminal) (asked : Act) → (h : IsWaitingAlone lines answers exchanges read t asked) → (more : List Reply)
+    → session_of lines answers (replies_in exchanges ++ more) ≡ behind (course_at t h.at.acts exchanges [] more) (asks asked (begun_state h.line t.workspace []))
+alone_course lines answers exchanges read t asked h more =
+    let c : Course = course_at t h.at.acts exchanges [] more in
     let s : State = begun_state h.line t.workspace [] in
-    ap (session_of lines) (sym (append-nil answers))
-    ∙ h.at.same []
+    ap (λ given. session_of lines given (replies_in exchanges ++ more)) (sym (append-nil answers))
+    ∙ h.at.same [] more
     ∙ ap (λ (end : Effect). lines_done most_statements (drop read lines) (behind c end)) (alone_means t.workspace h.line asked [] h.alone ∙ ap (λ (o : Effect). closed (and_then o (λ _ u. gives goes_on u))) (asks_alone asked t.workspace s h.alone.shared refl))
     ∙ waits_on most_statements (drop read lines) (behind c (asks asked s)) asked refl
 
-pub alone_waits : (lines : List (List ℕ)) (answers : List PlainAnswer) (read : ℕ) (t : PlainTerminal) (asked : Act) → IsWaitingAlone lines answers read t asked → (session_of lines answers).waits ≡ Some asked
-alone_waits lines answers read t asked h = ap (λ (c : Course). c.waits) (alone_course lines answers read t asked h)
-
-pub alone_printed : (lines : List (List ℕ)) (answers : List PlainAnswer) (read : ℕ) (t : PlainTerminal) (asked : Act) → IsWaitingAlone lines answers read t asked → (session_of lines answers).terminal.transcript ≡ t.transcript
-alone_printed lines answers read t asked h = ap (λ (c : Course). c.terminal.transcript) (alone_course lines answers read t asked h) ∙ append-nil t.transcript
+pub alone_waiting : (lines : List (List ℕ)) (answers : List PlainAnswer) (exchanges : List Exchange) (read : ℕ) (t : PlainTerminal) (asked : Act) → IsWaitingAlone lines answers exchanges read t asked → IsWaitingFor lines answers exchanges t.transcript asked
+alone_waiting lines answers exchanges read t asked h = record {
+  waits = λ more. ap (λ (c : Course). c.waits) (alone_course lines answers exchanges read t asked h more);
+  printed = λ more. ap (λ (c : Course). c.terminal.transcript) (alone_course lines answers exchanges read t asked h more) ∙ append-nil t.transcript;
+  calls = λ more. ap (λ (c : Course). c.exchanges) (alone_course lines answers exchanges read t asked h more);
+}
 
 -- ---- its answer
 
@@ -99,44 +101,44 @@ answered_means w line asked answer further alone =
     ∙ ap (λ (o : Effect). closed (and_then o (λ _ t. gives goes_on t))) (act_answered asked w answer further (begun_state line w (answer ∷ further)) alone.shared refl)
 
 -- the lines with this answer stand behind the line, where this comes of it
-goes_behind : (lines : List (List ℕ)) (answers : List PlainAnswer) (read : ℕ) (t now : PlainTerminal) (line : List ℕ) (asked : Act) (answer : PlainAnswer) → (at : IsAt lines answers read (statement_done most_statements line) t) → IsAlone t.workspace line asked
-    → ((further : List PlainAnswer) → behind (course_at t at.acts (answer ∷ further)) (closed (and_then (answer_outcome asked answer (told_state line t.workspace asked further)) (λ _ t. gives goes_on t))) ≡ course_at now (at.acts ++ asked ∷ []) further)
-    → IsBetween lines (answers ++ answer ∷ []) read now
-goes_behind lines answers read t now line asked answer at alone comes = record {
+goes_behind : (lines : List (List ℕ)) (answers : List PlainAnswer) (exchanges : List Exchange) (read : ℕ) (t now : PlainTerminal) (line : List ℕ) (asked : Act) (answer : PlainAnswer) → (at : IsAt lines answers exchanges read (statement_done most_statements line) t) → IsAlone t.workspace line asked
+    → ((further : List PlainAnswer) (more : List Reply) → behind (course_at t at.acts exchanges (answer ∷ further) more) (closed (and_then (answer_outcome asked answer (told_state line t.workspace asked further)) (λ _ t. gives goes_on t))) ≡ course_at now (at.acts ++ asked ∷ []) exchanges further more)
+    → IsBetween lines (answers ++ answer ∷ []) exchanges read now
+goes_behind lines answers exchanges read t now line asked answer at alone comes = record {
   acts = at.acts ++ asked ∷ [];
-  same = λ further.
-      ap (session_of lines) (append_assoc answers (answer ∷ []) further)
-      ∙ at.same (answer ∷ further)
-      ∙ ap (λ (end : Effect). lines_done most_statements (drop read lines) (behind (course_at t at.acts (answer ∷ further)) end)) (answered_means t.workspace line asked answer further alone)
-      ∙ ap (lines_done most_statements (drop read lines)) (comes further);
+  same = λ further more.
+      ap (λ given. session_of lines given (replies_in exchanges ++ more)) (append_assoc answers (answer ∷ []) further)
+      ∙ at.same (answer ∷ further) more
+      ∙ ap (λ (end : Effect). lines_done most_statements (drop read lines) (behind (course_at t at.acts exchanges (answer ∷ further) more) end)) (answered_means t.workspace line asked answer further alone)
+      ∙ ap (lines_done most_statements (drop read lines)) (comes further more);
 }
 
 -- the answer did not end the line
-pub heard_done : (lines : List (List ℕ)) (answers : List PlainAnswer) (read : ℕ) (t : PlainTerminal) (line : List ℕ) (asked : Act) (answer : PlainAnswer) (v : PlainWorkspace) (out : List (List ℕ)) → t.definition ≡ None → Leads t.workspace [] (answer_outcome asked answer) v out
-    → IsAt lines answers read (statement_done most_statements line) t → IsAlone t.workspace line asked → IsBetween lines (answers ++ answer ∷ []) read (record t { workspace = v; transcript = t.transcript ++ out })
-heard_done lines answers read t line asked answer v out free led at alone =
-    goes_behind lines answers read t (record t { workspace = v; transcript = t.transcript ++ out }) line asked answer at alone (λ further.
-    ap (λ (o : Effect). behind (course_at t at.acts (answer ∷ further)) (closed (and_then o (λ _ t. gives goes_on t)))) (led.same (told_state line t.workspace asked further) [] refl refl)
-    ∙ ap (λ definition. course_at (record t { workspace = v; definition = definition; transcript = t.transcript ++ out }) (at.acts ++ asked ∷ []) further) (sym free))
+pub heard_done : (lines : List (List ℕ)) (answers : List PlainAnswer) (exchanges : List Exchange) (read : ℕ) (t : PlainTerminal) (line : List ℕ) (asked : Act) (answer : PlainAnswer) (v : PlainWorkspace) (out : List (List ℕ)) → t.definition ≡ None → Leads t.workspace [] (answer_outcome asked answer) v out
+    → IsAt lines answers exchanges read (statement_done most_statements line) t → IsAlone t.workspace line asked → IsBetween lines (answers ++ answer ∷ []) exchanges read (record t { workspace = v; transcript = t.transcript ++ out })
+heard_done lines answers exchanges read t line asked answer v out free led at alone =
+    goes_behind lines answers exchanges read t (record t { workspace = v; transcript = t.transcript ++ out }) line asked answer at alone (λ further more.
+    ap (λ (o : Effect). behind (course_at t at.acts exchanges (answer ∷ further) more) (closed (and_then o (λ _ t. gives goes_on t)))) (led.same (told_state line t.workspace asked further) [] refl refl)
+    ∙ ap (λ definition. course_at (record t { workspace = v; definition = definition; transcript = t.transcript ++ out }) (at.acts ++ asked ∷ []) exchanges further more) (sym free))
 
 -- it ended the line by a report
-heard_report : (lines : List (List ℕ)) (answers : List PlainAnswer) (read : ℕ) (t : PlainTerminal) (line : List ℕ) (asked : Act) (answer : PlainAnswer) (v : PlainWorkspace) (out : List (List ℕ)) (report : Report) → t.definition ≡ None
-    → EndsThere t.workspace [] (answer_outcome asked answer) report v out → v.frames ≡ [] → IsAt lines answers read (statement_done most_statements line) t → IsAlone t.workspace line asked
-    → IsBetween lines (answers ++ answer ∷ []) read (reporting report line (record t { workspace = v; transcript = t.transcript ++ out }))
-heard_report lines answers read t line asked answer v out report free led frames at alone =
+heard_report : (lines : List (List ℕ)) (answers : List PlainAnswer) (exchanges : List Exchange) (read : ℕ) (t : PlainTerminal) (line : List ℕ) (asked : Act) (answer : PlainAnswer) (v : PlainWorkspace) (out : List (List ℕ)) (report : Report) → t.definition ≡ None
+    → EndsThere t.workspace [] (answer_outcome asked answer) report v out → v.frames ≡ [] → IsAt lines answers exchanges read (statement_done most_statements line) t → IsAlone t.workspace line asked
+    → IsBetween lines (answers ++ answer ∷ []) exchanges read (reporting report line (record t { workspace = v; transcript = t.transcript ++ out }))
+heard_report lines answers exchanges read t line asked answer v out report free led frames at alone =
     let told : List (List ℕ) = report_lines report (input_shown line) in
-    goes_behind lines answers read t (reporting report line (record t { workspace = v; transcript = t.transcript ++ out })) line asked answer at alone (λ further.
-    ap (λ (o : Effect). behind (course_at t at.acts (answer ∷ further)) (closed (and_then o (λ _ t. gives goes_on t)))) (led.same (told_state line t.workspace asked further) [] refl refl)
-    ∙ ap (λ none. course_at (record { workspace = record v { frames = none }; definition = None; transcript = t.transcript ++ (out ++ told) }) (at.acts ++ asked ∷ []) further) (sym frames)
-    ∙ ap (λ definition. course_at (record { workspace = v; definition = definition; transcript = t.transcript ++ (out ++ told) }) (at.acts ++ asked ∷ []) further) (sym free)
-    ∙ ap (λ (printed : List (List ℕ)). course_at (record t { workspace = v; transcript = printed }) (at.acts ++ asked ∷ []) further) (sym (append_assoc t.transcript out told)))
+    goes_behind lines answers exchanges read t (reporting report line (record t { workspace = v; transcript = t.transcript ++ out })) line asked answer at alone (λ further more.
+    ap (λ (o : Effect). behind (course_at t at.acts exchanges (answer ∷ further) more) (closed (and_then o (λ _ t. gives goes_on t)))) (led.same (told_state line t.workspace asked further) [] refl refl)
+    ∙ ap (λ none. course_at (record t { workspace = record v { frames = none }; definition = None; transcript = t.transcript ++ (out ++ told) }) (at.acts ++ asked ∷ []) exchanges further more) (sym frames)
+    ∙ ap (λ definition. course_at (record t { workspace = v; definition = definition; transcript = t.transcript ++ (out ++ told) }) (at.acts ++ asked ∷ []) exchanges further more) (sym free)
+    ∙ ap (λ (printed : List (List ℕ)). course_at (record t { workspace = v; transcript = printed }) (at.acts ++ asked ∷ []) exchanges further more) (sym (append_assoc t.transcript out told)))
 
-pub heard_fail : (lines : List (List ℕ)) (answers : List PlainAnswer) (read : ℕ) (t now : PlainTerminal) (line : List ℕ) (asked : Act) (answer : PlainAnswer) (v : PlainWorkspace) (out : List (List ℕ)) (why : Fail) → t.definition ≡ None
-    → HasLed {T = Unit {0}} t.workspace [] (answer_outcome asked answer) v out (Err why) → v.frames ≡ [] → EndsBy why line (record t { workspace = v; transcript = t.transcript ++ out }) now → IsAt lines answers read (statement_done most_statements line) t → IsAlone t.workspace line asked
-    → IsBetween lines (answers ++ answer ∷ []) read now
-heard_fail lines answers read t now line asked answer v out (fail.Report report) free led frames ends at alone =
-    subst (λ (s : PlainTerminal). IsBetween lines (answers ++ answer ∷ []) read s) (sym ends) (heard_report lines answers read t line asked answer v out report free led frames at alone)
-heard_fail lines answers read t now line asked answer v out fail.WantOfMemory free led frames ends at alone = absurd ends
+pub heard_fail : (lines : List (List ℕ)) (answers : List PlainAnswer) (exchanges : List Exchange) (read : ℕ) (t now : PlainTerminal) (line : List ℕ) (asked : Act) (answer : PlainAnswer) (v : PlainWorkspace) (out : List (List ℕ)) (why : Fail) → t.definition ≡ None
+    → HasLed {T = Unit {0}} t.workspace [] (answer_outcome asked answer) v out (Err why) → v.frames ≡ [] → EndsBy why line (record t { workspace = v; transcript = t.transcript ++ out }) now → IsAt lines answers exchanges read (statement_done most_statements line) t → IsAlone t.workspace line asked
+    → IsBetween lines (answers ++ answer ∷ []) exchanges read now
+heard_fail lines answers exchanges read t now line asked answer v out (fail.Report report) free led frames ends at alone =
+    subst (λ (s : PlainTerminal). IsBetween lines (answers ++ answer ∷ []) exchanges read s) (sym ends) (heard_report lines answers exchanges read t line asked answer v out report free led frames at alone)
+heard_fail lines answers exchanges read t now line asked answer v out fail.WantOfMemory free led frames ends at alone = absurd ends
 
 -- ---- the line that was read last
 
@@ -146,5 +148,5 @@ last_is_within lines read line last =
     let within : last.before < length lines = lt_of_not-le (λ beyond. let no : [] ≡ line ∷ last.rest = sym (drop_all last.before lines beyond) ∙ last.here in cc) in
     (omega (arith, last.read_is), omega (arith, within, last.read_is))
 
-pub may_hear : (lines : List (List ℕ)) (answers : List PlainAnswer) (read : ℕ) (t : PlainTerminal) (asked : Act) → IsWaitingAlone lines answers read t asked → MayHear (length lines) read t asked
-may_hear lines answers read t asked h = let place = last_is_within lines read h.line h.last in record { free = h.free; shared = h.alone.shared; some = place.0; within = place.1 }
+pub may_hear : (lines : List (List ℕ)) (answers : List PlainAnswer) (exchanges : List Exchange) (read : ℕ) (t : PlainTerminal) (asked : Act) → IsWaitingAlone lines answers exchanges read t asked → MayHear (length lines) read t asked
+may_hear lines answers exchanges read t asked h = let place = last_is_within lines read h.line h.last in record { free = h.free; shared = h.alone.shared; some = place.0; within = place.1 }

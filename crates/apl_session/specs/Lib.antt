@@ -1,4 +1,5 @@
 pub mod Ended
+pub mod Errands
 pub mod PlainSession
 pub mod Receipts
 pub mod Standing

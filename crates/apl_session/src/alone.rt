@@ -3,6 +3,7 @@ ghost use Rattle.apl_machine.specs.Alone.{IsAlone, IsOnShared};
 ghost use Rattle.apl_meaning.specs.Meaning.{most_statements};
 ghost use Rattle.sv_events.specs.Answer.{PlainAnswer, plain_answer};
 ghost use Rattle.session_rules.specs.Session.{statement_done};
+ghost use Rattle.session_rules.specs.Shelf.{Exchange};
 ghost use Rattle.apl_session.specs.Standing.{IsAt, IsBetween};
 
 use crate::progress::Progress;
@@ -21,9 +22,9 @@ impl Progress {
     ) -> Result<(), WantOfMemory>
         requires free { self.old.terminal.definition ≡ None }
         requires shared { IsOnShared self.old.terminal.workspace act.now }
-        ensures heard { OnOk result ((lines : List (List ℕ)) (answers : List PlainAnswer)
-            → IsAt lines answers self.old.read (statement_done most_statements line.now.items) self.old.terminal → IsAlone self.old.terminal.workspace line.now.items act.now
-            → IsBetween lines (answers ++ plain_answer answer ∷ []) self.old.read self.new.terminal) }
+        ensures heard { OnOk result ((lines : List (List ℕ)) (answers : List PlainAnswer) (exchanges : List Exchange)
+            → IsAt lines answers exchanges self.old.read (statement_done most_statements line.now.items) self.old.terminal → IsAlone self.old.terminal.workspace line.now.items act.now
+            → IsBetween lines (answers ++ plain_answer answer ∷ []) exchanges self.old.read self.new.terminal) }
         ensures rest { self.new ≡ record self.old { terminal = self.new.terminal } }
     {
         let mut workspace = self.terminal.lend();

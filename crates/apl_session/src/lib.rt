@@ -2,6 +2,8 @@
 #![tactic(auto)]
 
 mod alone;
+mod commands;
+mod errand;
 mod lines;
 mod outcome;
 mod progress;

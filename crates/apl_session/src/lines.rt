@@ -1,4 +1,4 @@
-ghost use Rattle.std.specs.Prelude.{◌≡◌, ◌+◌, ◌<◌, ◌^◌, ℕ, List, [], ◌∷◌, None, OnOk, drop};
+ghost use Rattle.std.specs.Prelude.{◌≡◌, ◌+◌, ◌<◌, ◌^◌, ℕ, List, [], ◌∷◌, None, OnOk, drop, false};
 ghost use Rattle.apl_machine.specs.Machine.{IsIdle, MayRun, silent};
 ghost use Rattle.apl_machine.specs.Runs.{IsTreeOf, StandsOn};
 ghost use Rattle.line_trees.specs.Parsing.{plain_tree};
@@ -7,32 +7,38 @@ ghost use Rattle.apl_meaning.specs.Meaning.{most_statements};
 ghost use Rattle.sv_events.specs.Answer.{PlainAnswer};
 ghost use Rattle.session_rules.specs.Course.{with_terminal};
 ghost use Rattle.session_rules.specs.Session.{free_line, statement_done};
+ghost use Rattle.session_rules.specs.Shelf.{Exchange};
 ghost use Rattle.apl_terminal.specs.Terminal.{echoing, free_prompt, printing};
-ghost use Rattle.apl_session.specs.Standing.{EndsBy, IsAt, IsIdleAt, IsLastRead, IsPaused, IsUnderWay, PausesAt, StandsIn, with_output_of, with_workspace_of};
+ghost use Rattle.apl_session.specs.Standing.{EndsBy, IsAt, IsIdleAt, IsLastRead, IsPaused, IsUnderWay, PausesAt, StandsIn, WithCalls, with_output_of, with_workspace_of};
 ghost use Rattle.apl_session.specs.declared.under_way.UnderWay.TheVariants as under_way;
 
 use crate::progress::Progress;
 use crate::under_way::UnderWay;
 use apl_arrays::{Fail, Line, LineList, WantOfMemory};
+use apl_io::Shelf;
 use apl_machine::{LineRead, Machine, Stop, read_line};
 use apl_operators::Steps;
-use apl_terminal::is_opening;
+use apl_terminal::{is_command, is_opening};
 use line_trees::Tree;
 use std::mem;
 use std::sync::ledger::Ledger;
 use sv_events::Act;
 
 impl Progress {
-    /// Reads a line, and does it up to its first act, or to its end. It takes the memory of what is evaluated and printed;
-    /// where that runs out, some of it may be done.
-    pub(crate) fn take_line<L: Ledger>(
+    /// Reads a line of a user, and does it up to its first act, or to its end; a command calls the user's shelf once, or not at
+    /// all. It takes the memory of what is evaluated and printed; where that runs out, some of it may be done.
+    pub(crate) fn take_line<L: Ledger, K: Shelf>(
         &mut self,
         line: &Line,
+        user: u32,
+        shelf: &mut K,
         steps: &mut Steps<L>,
     ) -> Result<(), WantOfMemory>
         requires none { self.old.under_way ≡ under_way.Nothing }
+        requires goes { self.old.terminal.ended ≡ false }
         requires count { self.old.read + 1 < 2 ^ 64 }
-        ensures stands { OnOk result ((lines rest : List (List ℕ)) (answers : List PlainAnswer) → StandsIn lines answers self.old → drop self.old.read lines ≡ line.now.items ∷ rest → StandsIn lines answers self.new) }
+        ensures stands { OnOk result ((lines rest : List (List ℕ)) (answers : List PlainAnswer) (exchanges : List Exchange) → StandsIn lines answers exchanges self.old → drop self.old.read lines ≡ line.now.items ∷ rest
+            → WithCalls K.told K.faults user shelf.old shelf.new exchanges (λ all. StandsIn lines answers all self.new)) }
         ensures paused { OnOk result (IsPaused self.new.under_way) }
         ensures read { self.new.read ≡ self.old.read + 1 }
     {
@@ -42,21 +48,23 @@ impl Progress {
                 self.terminal.feed(editor, line)?;
                 Ok(())
             }
-            None => self.begin_line(line, steps),
+            None => self.begin_line(line, user, shelf, steps),
         }
     }
 
-    // Begins a line that is read while no definition is open: it is echoed, and opens one, or is evaluated.
-    fn begin_line<L: Ledger>(
+    // Begins a line that is read while no definition is open: it is echoed, and opens one, or is a command, or is evaluated.
+    fn begin_line<L: Ledger, K: Shelf>(
         &mut self,
         line: &Line,
+        user: u32,
+        shelf: &mut K,
         steps: &mut Steps<L>,
     ) -> Result<(), WantOfMemory>
         requires none { self.old.under_way ≡ under_way.Nothing }
         requires free { self.old.terminal.definition ≡ None }
-        ensures stands { OnOk result ((lines : List (List ℕ)) (answers : List PlainAnswer)
-            → IsAt lines answers self.old.read (λ c. free_line most_statements line.now.items (with_terminal (echoing free_prompt line.now.items c.terminal) c)) self.old.terminal
-            → IsLastRead lines self.old.read line.now.items → StandsIn lines answers self.new) }
+        ensures stands { OnOk result ((lines : List (List ℕ)) (answers : List PlainAnswer) (exchanges : List Exchange)
+            → IsAt lines answers exchanges self.old.read (λ c. free_line most_statements line.now.items (with_terminal (echoing free_prompt line.now.items c.terminal) c)) self.old.terminal
+            → IsLastRead lines self.old.read line.now.items → WithCalls K.told K.faults user shelf.old shelf.new exchanges (λ all. StandsIn lines answers all self.new)) }
         ensures paused { OnOk result (IsPaused self.new.under_way) }
         ensures read { self.new.read ≡ self.old.read }
     {
@@ -64,6 +72,8 @@ impl Progress {
         if is_opening(line.as_slice()) {
             self.terminal.open(line)?;
             Ok(())
+        } else if is_command(line.as_slice()) {
+            self.command(line, user, shelf)
         } else {
             self.evaluate(line, steps)
         }
@@ -73,8 +83,8 @@ impl Progress {
     fn evaluate<L: Ledger>(&mut self, line: &Line, steps: &mut Steps<L>) -> Result<(), WantOfMemory>
         requires none { self.old.under_way ≡ under_way.Nothing }
         requires free { self.old.terminal.definition ≡ None }
-        ensures stands { OnOk result ((lines : List (List ℕ)) (answers : List PlainAnswer)
-            → IsAt lines answers self.old.read (statement_done most_statements line.now.items) self.old.terminal → IsLastRead lines self.old.read line.now.items → StandsIn lines answers self.new) }
+        ensures stands { OnOk result ((lines : List (List ℕ)) (answers : List PlainAnswer) (exchanges : List Exchange)
+            → IsAt lines answers exchanges self.old.read (statement_done most_statements line.now.items) self.old.terminal → IsLastRead lines self.old.read line.now.items → StandsIn lines answers exchanges self.new) }
         ensures paused { OnOk result (IsPaused self.new.under_way) }
         ensures read { self.new.read ≡ self.old.read }
     {
@@ -109,8 +119,8 @@ impl Progress {
         requires none { self.old.under_way ≡ under_way.Nothing }
         requires free { self.old.terminal.definition ≡ None }
         requires tree { IsTreeOf self.old.terminal.workspace line.now.items (plain_tree tree) }
-        ensures stands { OnOk result ((lines : List (List ℕ)) (answers : List PlainAnswer)
-            → IsAt lines answers self.old.read (statement_done most_statements line.now.items) self.old.terminal → StandsIn lines answers self.new) }
+        ensures stands { OnOk result ((lines : List (List ℕ)) (answers : List PlainAnswer) (exchanges : List Exchange)
+            → IsAt lines answers exchanges self.old.read (statement_done most_statements line.now.items) self.old.terminal → StandsIn lines answers exchanges self.new) }
         ensures paused { OnOk result (IsPaused self.new.under_way) }
         ensures read { self.new.read ≡ self.old.read }
     {
@@ -134,8 +144,8 @@ impl Progress {
         requires may { MayRun machine.value.stage }
         requires none { self.old.under_way ≡ under_way.Nothing }
         requires free { self.old.terminal.definition ≡ None }
-        ensures stands { OnOk result ((lines : List (List ℕ)) (answers : List PlainAnswer)
-            → IsUnderWay lines answers self.old.read self.old.terminal.transcript machine.value → StandsIn lines answers self.new) }
+        ensures stands { OnOk result ((lines : List (List ℕ)) (answers : List PlainAnswer) (exchanges : List Exchange)
+            → IsUnderWay lines answers exchanges self.old.read self.old.terminal machine.value → StandsIn lines answers exchanges self.new) }
         ensures paused { OnOk result (IsPaused self.new.under_way) }
         ensures read { self.new.read ≡ self.old.read }
     {

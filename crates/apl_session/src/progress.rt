@@ -1,13 +1,15 @@
-ghost use Rattle.std.specs.Prelude.{◌≡◌, ℕ, List, IfOk, IsOk, OnOk, length, map};
+ghost use Rattle.std.specs.Prelude.{◌≡◌, ◌||◌, ℕ, List, IfOk, IsOk, OnOk, length, map};
 ghost use Rattle.apl_arrays.specs.List.{glyphs_in};
 ghost use Rattle.sv_events.specs.Answer.{PlainAnswer, plain_answer};
 ghost use Rattle.apl_terminal.specs.Terminal.{new_terminal};
 ghost use Rattle.apl_machine.specs.Machine.{IsOpenStage};
-ghost use Rattle.apl_session.specs.Standing.{ComesTo, IsAnswered, IsHanded, IsOpenLine, IsPaused, MayAdvance, StandsIn, has_open_act, open_act};
+ghost use Rattle.session_rules.specs.Shelf.{Exchange};
+ghost use Rattle.apl_session.specs.Standing.{ComesTo, IsAnswered, IsHanded, IsOpenLine, IsPaused, MayAdvance, StandsIn, WithCalls, has_open_act, open_act};
 
 use crate::spare::Spare;
 use crate::under_way::UnderWay;
 use apl_arrays::{Line, LineList, WantOfMemory};
+use apl_io::Shelf;
 use apl_machine::Machine;
 use apl_operators::Steps;
 use apl_terminal::Terminal;
@@ -42,43 +44,59 @@ impl Progress {
         }
     }
 
-    /// Goes on with these lines, of which the first were read, up to the next act, or to the end. It takes the memory of
-    /// what is evaluated and printed; where that runs out, some of it may be done.
-    pub fn advance<L: Ledger>(
+    /// Goes on with these lines of a user, of which the first were read, up to the next act, or to the end. Commands call the
+    /// user's shelf. It takes the memory of what is evaluated and printed; where that runs out, some of it may be done.
+    pub fn advance<L: Ledger, K: Shelf>(
         &mut self,
         lines: &[Line],
+        user: u32,
+        shelf: &mut K,
         steps: &mut Steps<L>,
     ) -> Result<(), WantOfMemory>
         requires { MayAdvance self.old.terminal self.old.under_way }
-        ensures { OnOk result ((answers : List PlainAnswer) → StandsIn (map glyphs_in lines.now) answers self.old → ComesTo (map glyphs_in lines.now) answers self.new) }
+        ensures { OnOk result ((answers : List PlainAnswer) (exchanges : List Exchange) → StandsIn (map glyphs_in lines.now) answers exchanges self.old
+            → WithCalls K.told K.faults user shelf.old shelf.new exchanges (λ all. ComesTo (map glyphs_in lines.now) answers all self.new)) }
     {
         self.go_on(steps)?;
-        self.take_lines(lines, steps)
+        self.take_lines(lines, user, shelf, steps)
     }
 
     // Reads the lines that are left, up to the first act.
-    fn take_lines<L: Ledger>(
+    fn take_lines<L: Ledger, K: Shelf>(
         &mut self,
         lines: &[Line],
+        user: u32,
+        shelf: &mut K,
         steps: &mut Steps<L>,
     ) -> Result<(), WantOfMemory>
         requires { IsPaused self.old.under_way }
-        ensures { OnOk result ((answers : List PlainAnswer) → StandsIn (map glyphs_in lines.now) answers self.old → ComesTo (map glyphs_in lines.now) answers self.new) }
+        ensures { OnOk result ((answers : List PlainAnswer) (exchanges : List Exchange) → StandsIn (map glyphs_in lines.now) answers exchanges self.old
+            → WithCalls K.told K.faults user shelf.old shelf.new exchanges (λ all. ComesTo (map glyphs_in lines.now) answers all self.new)) }
     {
         while self.read < lines.len() {
-            if self.has_open_act() {
+            if self.rests() {
                 return Ok(());
             }
-            self.take_line(&lines[self.read], steps)?;
+            self.take_line(&lines[self.read], user, shelf, steps)?;
         }
         Ok(())
+    }
+
+    // Whether no line is to be read now: an act waits for its answer, or the user has ended the session. No memory.
+    fn rests(&self) -> bool
+        ensures { result ≡ (has_open_act self.now.under_way || self.now.terminal.ended) }
+    {
+        self.has_open_act() || self.terminal.has_ended()
     }
 
     // Whether an act waits for its answer. No memory.
     fn has_open_act(&self) -> bool
         ensures { result ≡ has_open_act self.now.under_way }
     {
-        matches!(self.under_way, UnderWay::Asking(..) | UnderWay::Alone(_))
+        matches!(
+            self.under_way,
+            UnderWay::Asking(..) | UnderWay::Alone(_) | UnderWay::Commanding(..)
+        )
     }
 
     /// The act that waits for its answer, if one does. It takes memory for its value.
@@ -88,15 +106,17 @@ impl Progress {
         match &self.under_way {
             UnderWay::Asking(_, act) => Ok(Some(act.copy(self.alloc)?)),
             UnderWay::Alone(act) => Ok(Some(act.copy(self.alloc)?)),
+            UnderWay::Commanding(_, act) => Ok(Some(act.copy(self.alloc)?)),
             _ => Ok(None),
         }
     }
 
     /// Gives the answer to the act that waits, in one of these lines, and gives back the act. A line that is this act alone
-    /// is done then, which takes memory for what it prints; any other is handed the answer, and nothing is evaluated.
+    /// is done then, and what the answer does for a command, which takes memory for what they print; any other line is handed
+    /// the answer, and nothing is evaluated.
     pub fn take_answer(&mut self, lines: &[Line], answer: Answer) -> Result<Act, WantOfMemory>
         requires { IsOpenLine (length lines.now) self.old.read self.old.terminal self.old.under_way }
-        ensures { IfOk result (λ act. (answers : List PlainAnswer) → StandsIn (map glyphs_in lines.now) answers self.old → IsAnswered (map glyphs_in lines.now) answers act (plain_answer answer) self.new) }
+        ensures { IfOk result (λ act. (answers : List PlainAnswer) (exchanges : List Exchange) → StandsIn (map glyphs_in lines.now) answers exchanges self.old → IsAnswered (map glyphs_in lines.now) answers exchanges act (plain_answer answer) self.new) }
     {
         match mem::replace(&mut self.under_way, UnderWay::Nothing) {
             UnderWay::Alone(act) => match self.hear(&lines[self.read - 1], &act, answer) {
@@ -113,6 +133,15 @@ impl Progress {
                     Err(WantOfMemory)
                 }
             },
+            UnderWay::Commanding(errand, act) => {
+                match self.hear_command(Box::into_inner(errand), &act, answer) {
+                    Ok(()) => Ok(act),
+                    Err(WantOfMemory) => {
+                        drop(act);
+                        Err(WantOfMemory)
+                    }
+                }
+            }
             other => {
                 drop(other);
                 drop(answer);
@@ -165,13 +194,14 @@ impl Progress {
     // Goes on with the line whose act was answered, if there is one.
     fn go_on<L: Ledger>(&mut self, steps: &mut Steps<L>) -> Result<(), WantOfMemory>
         requires { MayAdvance self.old.terminal self.old.under_way }
-        ensures stands { OnOk result ((lines : List (List ℕ)) (answers : List PlainAnswer) → StandsIn lines answers self.old → StandsIn lines answers self.new) }
+        ensures stands { OnOk result ((lines : List (List ℕ)) (answers : List PlainAnswer) (exchanges : List Exchange) → StandsIn lines answers exchanges self.old → StandsIn lines answers exchanges self.new) }
         ensures paused { OnOk result (IsPaused self.new.under_way) }
         ensures read { self.new.read ≡ self.old.read }
     {
         match mem::replace(&mut self.under_way, UnderWay::Nothing) {
             UnderWay::Nothing => Ok(()),
             UnderWay::Answered(machine) => self.run(machine, steps),
+            UnderWay::Commanded(errand) => self.go_through(Box::into_inner(errand)),
             other => {
                 drop(other);
                 Err(WantOfMemory)

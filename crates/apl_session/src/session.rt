@@ -1,14 +1,17 @@
-ghost use Rattle.std.specs.Prelude.{◌≡◌, ◌≢◌, ◌<◌, ◌∷◌, [], ◌++◌, List, IfOk, IsErr, OnErr, OnOk, map};
+ghost use Rattle.std.specs.Prelude.{◌≡◌, ◌<◌, ◌∷◌, [], ◌++◌, List, IfOk, IsErr, OnErr, OnOk, map};
 ghost use Rattle.apl_arrays.specs.List.{glyphs_in};
 ghost use Rattle.sv_events.specs.Answer.{PlainAnswer, plain_answer};
-ghost use Rattle.apl_session.specs.Receipts.{acts_in, answers_in, plain_receipt};
 ghost use Rattle.session_rules.specs.Session.{session_of};
-ghost use Rattle.apl_session.specs.Standing.{ComesTo, MayAdvance, StandsIn};
+ghost use Rattle.session_rules.specs.Shelf.{Exchange, Reply, replies_in};
+ghost use Rattle.apl_session.specs.PlainSession.{GoesTo, HasCome};
+ghost use Rattle.apl_session.specs.Receipts.{acts_in, answers_in, plain_receipt};
+ghost use Rattle.apl_session.specs.Standing.{ComesTo, MayAdvance, StandsIn, WithCalls};
 ghost use Rattle.apl_session.specs.Wants.{HasHeardAll, IsOfPresent, MayGoOn, stage_by, wanted};
 
 use crate::progress::Progress;
 use crate::receipts::{Receipt, Receipts};
 use apl_arrays::{Line, LineList, WantOfMemory};
+use apl_io::Shelf;
 use apl_operators::Steps;
 use std::alloc::Global;
 use std::marker::{Brand, Model};
@@ -44,8 +47,8 @@ pub struct Parts<K> {
     pub shelf: K,
 }
 
-/// One user's lines in their order, done as far as the answers to their acts are there. It is seen as the user, the lines,
-/// the answers so far, how far it is, and its shelf.
+/// One user's lines in their order, done as far as the answers to their acts are there, over the user's shelf. It is seen as the
+/// user, the lines, the acts and the answers so far, how far it is, its shelf, and its inside, which `HasCome` explains.
 #[derive(Drop)]
 pub struct Session<K> {
     alloc: Global,
@@ -60,21 +63,22 @@ pub struct Session<K> {
 impl<K> Model for Session<K> {
     ghost use Rattle.std.specs.Prelude.{◌≢◌};
     ghost use Rattle.apl_session.specs.PlainSession.{PlainSession};
-    ghost use Rattle.apl_session.specs.Receipts.{answers_in};
-    ghost use Rattle.apl_session.specs.Standing.{IsSession};
+    ghost use Rattle.apl_session.specs.Receipts.{acts_in, answers_in};
+    ghost use Rattle.apl_session.specs.Standing.{IsAlive};
     ghost use Rattle.apl_session.specs.declared.session.Stage.TheVariants.{Failed};
 
     ghost Value = { PlainSession K };
 
-    ghost view = { λ s. record { user = s.user; lines = s.lines.items; answers = answers_in s.receipts.items; stage = s.stage; shelf = s.shelf } };
+    ghost view = { λ s. record { user = s.user; lines = s.lines.items; acts = acts_in s.receipts.items; answers = answers_in s.receipts.items; stage = s.stage; shelf = s.shelf; inside = s.progress } };
 
-    ghost invariant = { λ s. s.stage ≢ Failed → IsSession s.lines.items s.receipts.items s.progress s.stage };
+    ghost invariant = { λ s. s.stage ≢ Failed → IsAlive s.lines.items s.receipts.items s.progress s.stage };
 }
 
-impl<K> Session<K> {
-    /// The session of a user with these lines, of which none is done. No memory.
+impl<K: Shelf> Session<K> {
+    /// The session of a user with these lines, of which none is done, over the user's shelf. No memory.
     pub fn new(alloc: Global, user: u32, lines: LineList, shelf: K) -> Session<K>
-        ensures { result ≡ record { user = user; lines = lines.items; answers = []; stage = Stage.Ready; shelf = shelf } }
+        ensures begins { result ≡ record { user = user; lines = lines.items; acts = []; answers = []; stage = Stage.Ready; shelf = shelf; inside = result.inside } }
+        ensures come { HasCome K.told K.faults shelf [] result }
     {
         Session {
             alloc,
@@ -101,21 +105,29 @@ impl<K> Session<K> {
         self.stage
     }
 
-    /// Goes on to the next act, or to the end of the lines; a definition that is open there is dropped. It takes the memory
-    /// of what is evaluated and printed. After `WantOfMemory` the session has failed, and answers it for good.
+    /// Goes on to the next act, or to the end of the lines; a definition that is open there is dropped. Commands call the shelf
+    /// with the number of the user. It takes the memory of what is evaluated and printed. After `WantOfMemory` the session has
+    /// failed, and answers it for good.
     pub fn next(&mut self) -> Result<Wants, WantOfMemory>
         requires { MayGoOn self.old.stage }
-        ensures asks { IfOk result (λ wants. wanted wants ≡ (session_of self.old.lines self.old.answers).waits) }
-        ensures stage { IfOk result (λ wants. self.new ≡ record self.old { stage = stage_by (wanted wants) }) }
+        ensures goes { IfOk result (λ wants. (lent : K) (exchanges : List Exchange) → HasCome K.told K.faults lent exchanges self.old → GoesTo K.told K.faults lent exchanges wants self.new) }
+        ensures same { self.new ≡ record self.old { stage = self.new.stage; shelf = self.new.shelf; inside = self.new.inside } }
+        ensures stage { IfOk result (λ wants. self.new.stage ≡ stage_by (wanted wants)) }
         ensures present { IfOk result IsOfPresent }
-        ensures err { OnErr result (self.new ≡ record self.old { stage = Stage.Failed }) }
+        ensures err { OnErr result (self.new.stage ≡ Stage.Failed) }
         ensures for_good { self.old.stage ≡ Stage.Failed → IsErr result }
     {
         if self.stage == Stage::Failed {
             return Err(WantOfMemory);
         }
         self.stage = Stage::Failed;
-        advance::<Brand>(&mut self.progress, self.lines.as_slice(), Blank::new(1))?;
+        advance::<Brand, K>(
+            &mut self.progress,
+            self.lines.as_slice(),
+            self.user,
+            &mut self.shelf,
+            Blank::new(1),
+        )?;
         match self.progress.open_act()? {
             Some(act) => {
                 self.stage = Stage::Waiting;
@@ -128,12 +140,14 @@ impl<K> Session<K> {
         }
     }
 
-    /// Gives the answer to the act that waits. A line that is this act alone is done then; nothing else is evaluated. It
-    /// takes memory for the receipt, and for what such a line prints. After `WantOfMemory` the session has failed.
+    /// Gives the answer to the act that waits. A line that is this act alone is done then, and so is what the answer does for a
+    /// command; nothing else is evaluated. It takes memory for the receipt, and for what such lines print. After `WantOfMemory`
+    /// the session has failed.
     pub fn answer(&mut self, answer: Answer) -> Result<(), WantOfMemory>
         requires { self.old.stage ≡ Stage.Waiting }
-        ensures ok { OnOk result (self.new ≡ record self.old { answers = self.old.answers ++ plain_answer answer ∷ []; stage = Stage.Ready }) }
-        ensures err { OnErr result (self.new ≡ record self.old { stage = Stage.Failed }) }
+        ensures come { OnOk result ((lent : K) (exchanges : List Exchange) → HasCome K.told K.faults lent exchanges self.old → HasCome K.told K.faults lent exchanges self.new) }
+        ensures ok { OnOk result (self.new ≡ record self.old { acts = self.new.acts; answers = self.old.answers ++ plain_answer answer ∷ []; stage = Stage.Ready; inside = self.new.inside }) }
+        ensures err { OnErr result (self.new ≡ record self.old { stage = Stage.Failed; inside = self.new.inside }) }
     {
         self.stage = Stage::Failed;
         let told = answer.copy(self.alloc)?;
@@ -145,7 +159,8 @@ impl<K> Session<K> {
 
     /// The lines that were echoed and printed so far. No memory.
     pub fn transcript(&self) -> &[Line]
-        ensures { HasHeardAll self.now.stage → map glyphs_in result.now ≡ (session_of self.now.lines self.now.answers).terminal.transcript }
+        ensures { HasHeardAll self.now.stage → (lent : K) (exchanges : List Exchange) → HasCome K.told K.faults lent exchanges self.now
+            → (more : List Reply) → map glyphs_in result.now ≡ (session_of self.now.lines self.now.answers (replies_in exchanges ++ more)).terminal.transcript }
     {
         self.progress.transcript()
     }
@@ -153,14 +168,15 @@ impl<K> Session<K> {
     /// The acts that were answered so far, with their answers. No memory.
     pub fn receipts(&self) -> &[Receipt]
         ensures answers { answers_in (map plain_receipt result.now) ≡ self.now.answers }
-        ensures acts { self.now.stage ≢ Stage.Failed → acts_in (map plain_receipt result.now) ≡ (session_of self.now.lines self.now.answers).acts }
+        ensures acts { acts_in (map plain_receipt result.now) ≡ self.now.acts }
     {
         self.receipts.as_slice()
     }
 
     /// The lines that were echoed and printed, and the shelf. No memory.
     pub fn into_parts(self) -> Parts<K>
-        ensures transcript { HasHeardAll self.stage → result.transcript.items ≡ (session_of self.lines self.answers).terminal.transcript }
+        ensures transcript { HasHeardAll self.stage → (lent : K) (exchanges : List Exchange) → HasCome K.told K.faults lent exchanges self
+            → (more : List Reply) → result.transcript.items ≡ (session_of self.lines self.answers (replies_in exchanges ++ more)).terminal.transcript }
         ensures shelf { result.shelf ≡ self.shelf }
     {
         Parts {
@@ -171,17 +187,20 @@ impl<K> Session<K> {
 }
 
 // Goes on, and counts the applications for nobody.
-fn advance<L: Ledger>(
+fn advance<L: Ledger, K: Shelf>(
     progress: &mut Progress,
     lines: &[Line],
+    user: u32,
+    shelf: &mut K,
     blank: Blank,
 ) -> Result<(), WantOfMemory>
     requires may { MayAdvance progress.old.terminal progress.old.under_way }
     requires name { blank.name ≡ L.name }
     requires parts { blank.parts ≡ L.parts }
     requires some { 0 < blank.parts }
-    ensures { OnOk result ((answers : List PlainAnswer) → StandsIn (map glyphs_in lines.now) answers progress.old → ComesTo (map glyphs_in lines.now) answers progress.new) }
+    ensures { OnOk result ((answers : List PlainAnswer) (exchanges : List Exchange) → StandsIn (map glyphs_in lines.now) answers exchanges progress.old
+        → WithCalls K.told K.faults user shelf.old shelf.new exchanges (λ all. ComesTo (map glyphs_in lines.now) answers all progress.new)) }
 {
     let mut steps = Steps::<L>::new(blank);
-    progress.advance(lines, &mut steps)
+    progress.advance(lines, user, shelf, &mut steps)
 }

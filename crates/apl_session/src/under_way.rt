@@ -1,11 +1,12 @@
 ghost use Rattle.std.specs.Prelude.{◌≡◌, IfOk};
 
+use crate::errand::Errand;
 use apl_arrays::WantOfMemory;
 use apl_machine::Machine;
 use std::alloc::Global;
 use sv_events::Act;
 
-/// The line that is under way, if one is: its machine stays in one place until the line is over.
+/// The line that is under way, if one is: its machine, or what is left of a command, stays in one place until the line is over.
 #[derive(Drop)]
 pub enum UnderWay {
     /// No line is.
@@ -16,6 +17,10 @@ pub enum UnderWay {
     Asking(Box<Machine>, Act),
     /// A line asked an act, which was answered.
     Answered(Box<Machine>),
+    /// A command asked this act, which has no answer yet.
+    Commanding(Box<Errand>, Act),
+    /// A command asked an act, which was answered.
+    Commanded(Box<Errand>),
 }
 
 /// A machine in a place of its own. It takes memory for it.
@@ -23,4 +28,11 @@ pub fn boxed(alloc: Global, machine: Machine) -> Result<Box<Machine>, WantOfMemo
     ensures { IfOk result (λ boxed. boxed.value ≡ machine) }
 {
     Ok(Box::new(alloc, machine)?)
+}
+
+/// What is left of a command in a place of its own. It takes memory for it.
+pub fn boxed_errand(alloc: Global, errand: Errand) -> Result<Box<Errand>, WantOfMemory>
+    ensures { IfOk result (λ boxed. boxed.value ≡ errand) }
+{
+    Ok(Box::new(alloc, errand)?)
 }

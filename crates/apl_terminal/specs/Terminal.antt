@@ -11,11 +11,13 @@ use Rattle.apl_workspace.specs.declared.meaning.Meaning.TheVariants.{Function}
 use Rattle.fn_editor.specs.Editing.{Edited}
 use Rattle.fn_editor.specs.Editor.{PlainEditor, defined_function}
 
--- a user's workspace, the definition that is open, if one is, and the lines that were echoed and printed
+-- a user's workspace and its id, if it has one; the definition that is open, if one is; the lines that were echoed and printed; and whether the user has ended the session
 pub record PlainTerminal : Type 0 where
   pub workspace : PlainWorkspace
+  pub id : Option (List ℕ)
   pub definition : Option PlainEditor
   pub transcript : List (List ℕ)
+  pub ended : Bool
 
 -- the name of a definition that is open is no variable's, and no line closed it
 pub record IsDefinable (w : PlainWorkspace) (editor : PlainEditor) : Type 0 where
@@ -27,9 +29,9 @@ pub record IsTerminal (t : PlainTerminal) : Type 0 where
   pub frames : t.workspace.frames ≡ []
   pub definition : IfSome t.definition (IsDefinable t.workspace)
 
--- an empty workspace, and nothing printed
+-- an empty workspace without an id, and nothing printed
 abbrev pub new_terminal : PlainTerminal
-new_terminal = record { workspace = empty_workspace; definition = None; transcript = [] }
+new_terminal = record { workspace = empty_workspace; id = None; definition = None; transcript = []; ended = false }
 
 -- lines are printed
 abbrev pub printing : List (List ℕ) → PlainTerminal → PlainTerminal

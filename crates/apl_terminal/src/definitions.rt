@@ -68,8 +68,9 @@ impl Terminal {
         }
     }
 
-    // Prints lines whose glyphs are counted; INTERRUPT in place of all of them where they would pass the limit.
-    fn show(&mut self, shown: LineList, line: &Line) -> Result<(), WantOfMemory>
+    /// Prints lines whose glyphs are counted; INTERRUPT in place of all of them where they would pass the limit. It takes memory
+    /// for them; where that runs out, some may be printed.
+    pub(crate) fn show(&mut self, shown: LineList, line: &Line) -> Result<(), WantOfMemory>
         ensures { OnOk result (self.new ≡ showing line.now.items shown.items self.old) }
     {
         let glyphs = glyph_count(shown.as_slice());

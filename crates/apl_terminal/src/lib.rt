@@ -1,6 +1,7 @@
-//! What a user works on, what is echoed and printed there, and the lines that the editor takes.
+//! What a user works on, what is echoed and printed there, the lines that the editor takes, and what commands leave.
 #![tactic(auto)]
 
+mod commands;
 mod definitions;
 mod line_kind;
 mod terminal;

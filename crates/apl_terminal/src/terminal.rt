@@ -1,9 +1,9 @@
 ghost use Rattle.std.specs.Prelude.{◌≡◌, [], None, IfSome, OnOk, map};
 ghost use Rattle.apl_arrays.specs.List.{glyphs_in};
-ghost use Rattle.apl_workspace.specs.Workspace.{empty_workspace};
+ghost use Rattle.apl_workspace.specs.Workspace.{IsWorkspace, empty_workspace};
 ghost use Rattle.apl_terminal.specs.Terminal.{IsDefinable, echoing, free_prompt, new_terminal, printing, reporting};
 
-use apl_arrays::{Glyph, Line, LineList, List, Report, WantOfMemory};
+use apl_arrays::{Glyph, Line, LineList, List, Name, Report, WantOfMemory};
 use apl_meaning::{input_shown, report_line};
 use apl_workspace::Workspace;
 use fn_editor::Editor;
@@ -12,14 +12,16 @@ use std::alloc::Global;
 use std::marker::Model;
 use std::mem;
 
-/// What a user works on, and what was printed there: the workspace, the definition that is open, if one is, and the lines
-/// that were echoed and printed. It is seen as plain data.
+/// What a user works on, and what was printed there: the workspace and its id, if it has one, the definition that is open,
+/// if one is, the lines that were echoed and printed, and whether the user has ended the session. It is seen as plain data.
 #[derive(Drop)]
 pub struct Terminal {
     pub(crate) alloc: Global,
     pub(crate) workspace: Workspace,
+    pub(crate) id: Option<Name>,
     pub(crate) editor: Option<Editor>,
     pub(crate) transcript: LineList,
+    pub(crate) ended: bool,
 }
 
 impl Model for Terminal {
@@ -27,21 +29,23 @@ impl Model for Terminal {
 
     ghost Value = { PlainTerminal };
 
-    ghost view = { λ t. record { workspace = t.workspace; definition = t.editor; transcript = t.transcript.items } };
+    ghost view = { λ t. record { workspace = t.workspace; id = t.id; definition = t.editor; transcript = t.transcript.items; ended = t.ended } };
 
-    ghost invariant = { λ t. IsTerminal (record { workspace = t.workspace; definition = t.editor; transcript = t.transcript.items }) };
+    ghost invariant = { λ t. IsTerminal (record { workspace = t.workspace; id = t.id; definition = t.editor; transcript = t.transcript.items; ended = t.ended }) };
 }
 
 impl Terminal {
-    /// An empty workspace, and nothing printed. No memory.
+    /// An empty workspace without an id, and nothing printed. No memory.
     pub fn new(alloc: Global) -> Terminal
         ensures { result ≡ new_terminal }
     {
         Terminal {
             alloc,
             workspace: Workspace::new(alloc),
+            id: None,
             editor: None,
             transcript: LineList::new(alloc),
+            ended: false,
         }
     }
 
@@ -96,12 +100,26 @@ impl Terminal {
             .push(input_shown(self.alloc, line.as_slice())?)
     }
 
+    /// Whether the user has ended the session. No memory.
+    pub fn has_ended(&self) -> bool
+        ensures { result ≡ self.now.ended }
+    {
+        self.ended
+    }
+
     /// The workspace. No memory.
     pub fn workspace(&self) -> &Workspace
         ensures value { result.now ≡ self.now.workspace }
         ensures frames { result.now.frames ≡ [] }
     {
         &self.workspace
+    }
+
+    /// What holds of every workspace holds of this one. No memory.
+    pub fn rules(&self)
+        ensures { IsWorkspace self.now.workspace }
+    {
+        let _ = self.workspace.weight();
     }
 
     /// The definition that is open, if one is, which is to be handed back. No memory.

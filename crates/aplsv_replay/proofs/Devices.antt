@@ -9,27 +9,26 @@ use Rattle.auxiliaries.specs.Clock.{RepliesByReading}
 use Rattle.auxiliaries.specs.Protocol.{idle}
 use Rattle.auxiliaries.specs.Served.{Replies, Served, forgotten}
 use Rattle.bundle_text.specs.Rules.{PlainBundle}
-use Rattle.session_rules.specs.Run.{IsRun}
 use Rattle.sv_journal.specs.Output.{PlainTranscript}
 use Rattle.sv_rules.specs.Entries.{Entries}
-use Rattle.aplsv_replay.specs.Replayed.{IsDeviceRun}
+use Rattle.aplsv_replay.specs.Replayed.{IsDeviceRun, IsRunInTurns}
 use Rattle.aplsv_replay.proofs.Ends.{whole_more}
 
-module _ {C T : Type 0} (ticks : C → Option Ticks) (clock_faults : C → ℕ) (told : T → Option (Told (List ℕ))) (text_faults : T → ℕ) (bundle : PlainBundle) where
+module _ {C T K : Type 0} (ticks : C → Option Ticks) (clock_faults : C → ℕ) (text_told : T → Option (Told (List ℕ))) (text_faults : T → ℕ) (told : K → Option (Told (ℕ × List ℕ))) (faults : K → ℕ) (bundle : PlainBundle) (shelves shelves_then : List K) where
   -- a run with the repliers of the clock and the text files
   abbrev IsRunOver : List PlainTranscript → Entries → C → C → Served T → Served T → Type 0
   IsRunOver transcripts journal ten ten_then twenty twenty_then =
-      IsRun (λ old party new. new ≡ old) (λ old party value answer new. RepliesByReading ticks clock_faults old value answer new) (λ old party new. new ≡ forgotten old)
-      (λ old party value answer new. Replies told text_faults old value answer new) bundle journal transcripts ten ten_then twenty twenty_then
+      IsRunInTurns (λ old party new. new ≡ old) (λ old party value answer new. RepliesByReading ticks clock_faults old value answer new) (λ old party new. new ≡ forgotten old)
+      (λ old party value answer new. Replies text_told text_faults old value answer new) told faults bundle journal transcripts ten ten_then twenty twenty_then shelves shelves_then
 
   -- is a run over the devices
   pub device_runs : (ended : Ended) (clock clock_then ten ten_then : C) (text text_then : T) (twenty twenty_then : Served T) → ten ≡ clock → clock_then ≡ ten_then
       → (twenty ≡ (let s : Served T = record { store = text; state = idle } in s)) → text_then ≡ twenty_then.store
       → IfWhole ended (λ transcripts journal. IsRunOver transcripts journal ten ten_then twenty twenty_then)
-      → IfWhole ended (λ transcripts journal. IsDeviceRun ticks clock_faults told text_faults bundle journal transcripts clock clock_then text text_then)
+      → IfWhole ended (λ transcripts journal. IsDeviceRun ticks clock_faults text_told text_faults told faults bundle journal transcripts clock clock_then text text_then shelves shelves_then)
   device_runs ended clock clock_then ten ten_then text text_then twenty twenty_then begins ends begins_text ends_text whole =
       whole_more ended (λ transcripts journal. IsRunOver transcripts journal ten ten_then twenty twenty_then)
-      (λ transcripts journal. IsDeviceRun ticks clock_faults told text_faults bundle journal transcripts clock clock_then text text_then)
+      (λ transcripts journal. IsDeviceRun ticks clock_faults text_told text_faults told faults bundle journal transcripts clock clock_then text text_then shelves shelves_then)
       (λ transcripts journal run. record {
         state = twenty_then.state;
         run = subst (λ (a : C). IsRunOver transcripts journal a clock_then (record { store = text; state = idle }) (record { store = text_then; state = twenty_then.state })) begins

@@ -1,13 +1,16 @@
 -- A replay from its beginning to its end.
-use Rattle.std.proofs.Common.{◌≡◌, ℕ, ◌≤◌, ◌&&◌, Bool, true, false, not, eqb, List, [], ◌∷◌, ◌++◌, length, map, reverse, IsTrue, refl, sym, ap, ap₂, subst, ◌∙◌, arith}
+use Rattle.std.proofs.Common.{◌≡◌, ℕ, ◌<◌, ◌≤◌, ◌&&◌, Bool, true, false, not, eqb, List, [], ◌∷◌, ◌++◌, length, map, reverse, IsTrue, refl, sym, ap, ap₂, subst, subst₂, ◌∙◌, arith}
 use Rattle.std.specs.List.{All, AllByRecursion}
-use Rattle.std.specs.Prelude.{IfSome, Option, Some, None}
-use Rattle.std.proofs.lemmas.Bool.{and_parts, ne_eqb, not-true, or_from, or_parts}
+use Rattle.std.specs.Prelude.{IfSome, Option, Some, None, if◌then◌else◌}
+use Rattle.std.proofs.lemmas.Bool.{and_parts, eq-eqb, ne_eqb, not-true, or_from, or_parts}
 use Rattle.std.proofs.lemmas.List.{length-map}
+use Rattle.std.proofs.lemmas.Simd.{map-map}
 use Rattle.std.proofs.lemmas.List.Elements.{All-cons, All-head, All-nil, All-tail, All-from_recursion, recursion_from_All}
 use Rattle.apl_arrays.specs.Array.{PlainArray, chars}
+use Rattle.apl_arrays.specs.Ascending.{AscendBy}
 use Rattle.apl_arrays.specs.List.{Listed}
 use Rattle.apl_arrays.specs.Parties.{clock_party, text_party, first_user}
+use Rattle.apl_io.specs.Content.{Told}
 use Rattle.bundle_text.specs.Rules.{IsBundle, IsUser, PlainBundle}
 use Rattle.bundle_text.specs.User.{PlainUser, plain_user}
 use Rattle.bundle_text.specs.declared.user.BundleUser.{BundleUser}
@@ -18,7 +21,8 @@ use Rattle.sv_rules.specs.Entries.{Entries, has_left}
 use Rattle.sv_rules.specs.Legal.{IsLegal}
 use Rattle.sv_rules.specs.Work.{is_auxiliary}
 use Rattle.session_rules.specs.Auxiliaries.{IsAuxiliaryPart, acts_among, events_of, some_stay}
-use Rattle.session_rules.specs.Run.{AreUserParts, IsRun, user_numbers}
+use Rattle.session_rules.specs.Run.{AreUserParts, Dealings, IsRun, ServeUsers, user_numbers}
+use Rattle.session_rules.specs.Shelf.{Exchange, IsShelfRun}
 use Rattle.session_rules.specs.UserPart.{IsUserPart}
 use Rattle.apl_session.specs.Ended.{IfWhole}
 use Rattle.apl_session.specs.Wants.{HasHeardAll}
@@ -28,16 +32,19 @@ use Rattle.apl_session.specs.declared.session.Stage.{Stage}
 use Rattle.auxiliaries.specs.Run.{IsReplierRun}
 use Rattle.aplsv_replay.specs.Endings.{ComesOf, IsEnded}
 use Rattle.aplsv_replay.specs.Participants.{users_of}
-use Rattle.aplsv_replay.specs.Rounds.{IsReplay}
-use Rattle.aplsv_replay.specs.SeatTurns.{IsWholeUnlessLost, none_lost}
-use Rattle.aplsv_replay.specs.Seats.{end_by, transcript_of}
-use Rattle.aplsv_replay.specs.SoFar.{IsSeated, printed_by, user_of}
-use Rattle.aplsv_replay.specs.Together.{AreTogether, StayTogether, TakesRounds, TakesTurns, TookTurns, none_is_lost}
+use Rattle.aplsv_replay.specs.Rounds.{IsReplay, most_rounds}
+use Rattle.aplsv_replay.specs.SeatTurns.{AreSeated, none_lost, seat_numbers}
+use Rattle.aplsv_replay.specs.Seats.{HasPrinted, end_by, transcript_of}
+use Rattle.aplsv_replay.specs.Sittings.{EndsIn, Sitting, lent_to, seats_in}
+use Rattle.aplsv_replay.specs.SoFar.{HasPart, IsSeated, IsWholeUnlessLost, printed_by, user_of}
+use Rattle.aplsv_replay.specs.Together.{AreTogether, TakesRounds, TakesTurns, TookTurns, none_is_lost}
 use Rattle.aplsv_replay.specs.declared.auxiliary.Auxiliary.{Auxiliary}
 use Rattle.aplsv_replay.specs.declared.parties.Parties.{Parties}
 use Rattle.aplsv_replay.specs.declared.seat.Seat.{Seat}
 use Rattle.replay_rules.specs.Turns.{HasReplies, Participant, Replay, beginning, newcomer, ordered, rounds}
+use Rattle.aplsv_replay.proofs.AllTogether.{seats_ascend}
 use Rattle.aplsv_replay.proofs.Bound.{few_rounds}
+use Rattle.aplsv_replay.proofs.Growth.{first_below, others_ascend}
 use Rattle.aplsv_replay.proofs.Taking.{takes_both}
 
 -- ---- the beginning
@@ -53,26 +60,29 @@ users_are_people (user ∷ users) each =
     All-cons (λ (number : ℕ). is_auxiliary number ≡ false) user.number (map (λ (one : PlainUser). one.number) users)
     (person user.number (All-head IsUser user users each).number.0) (users_are_people users (All-tail IsUser user users each))
 
--- nobody has left an empty journal
-none_has_left : {K : Type 0} (seats : List (Seat K)) → AllByRecursion (IsWholeUnlessLost []) seats
-none_has_left [] = tt
-none_has_left (seat ∷ seats) = ((λ here left. absurd (let no : false ≡ true = left in cc)), none_has_left seats)
+module _ {K : Type 0} (told : K → Option (Told (ℕ × List ℕ))) (faults : K → ℕ) where
+  -- nobody has left an empty journal
+  none_has_left : (sittings : List (Sitting K)) → AllByRecursion (IsWholeUnlessLost told faults []) sittings
+  none_has_left [] = tt
+  none_has_left (sitting ∷ sittings) = ((λ here left. absurd (let no : false ≡ true = left in cc)), none_has_left sittings)
 
 module _ {X Y K : Type 0} (forgets_ten : X → ℕ → X → Type 0) (replies_ten : X → ℕ → PlainArray → PlainArray → X → Type 0)
-    (forgets_twenty : Y → ℕ → Y → Type 0) (replies_twenty : Y → ℕ → PlainArray → PlainArray → Y → Type 0) where
+    (forgets_twenty : Y → ℕ → Y → Type 0) (replies_twenty : Y → ℕ → PlainArray → PlainArray → Y → Type 0)
+    (told : K → Option (Told (ℕ × List ℕ))) (faults : K → ℕ) where
   -- the parties before the first turn
   pub begins_together : (bundle : PlainBundle) (ten : X) (twenty : Y) (p : Parties X Y K) → IsBundle bundle → p.core ≡ record { users = user_numbers bundle; journal = [] }
       → p.ten ≡ record { party = clock_party; replier = ten; is_lost = false } → p.twenty ≡ record { party = text_party; replier = twenty; is_lost = false }
-      → map (λ seat. user_of seat.session) p.seats.items ≡ bundle.users → All (IsSeated []) p.seats.items
-      → AreTogether forgets_ten replies_ten forgets_twenty replies_twenty bundle ten twenty (map (λ seat. seat.session.shelf) p.seats.items) p
+      → map (λ seat. user_of seat.session) p.seats.items ≡ bundle.users → (seated : AreSeated told faults [] p.seats.items)
+      → AreTogether forgets_ten replies_ten forgets_twenty replies_twenty told faults bundle ten twenty (lent_to seated.sittings) p seated.sittings
   begins_together bundle ten twenty p is core at_ten at_twenty users seated = record {
+    here = seated.here;
     people = subst (λ (c : PlainCore). ArePeople c.users) (sym core) (users_are_people bundle.users is.each);
     numbers = ap (λ (c : PlainCore). c.users) core;
     ascending = is.ascending;
     users = users;
     shelves = refl;
-    seated = subst (λ (c : PlainCore). All (IsSeated c.journal) p.seats.items) (sym core) seated;
-    whole = λ here there. subst (λ (c : PlainCore). All (IsWholeUnlessLost c.journal) p.seats.items) (sym core) (All-from_recursion _ p.seats.items (none_has_left p.seats.items));
+    seated = subst (λ (c : PlainCore). All (IsSeated told faults c.journal) seated.sittings) (sym core) seated.seated;
+    whole = λ here there. subst (λ (c : PlainCore). All (IsWholeUnlessLost told faults c.journal) seated.sittings) (sym core) (All-from_recursion _ seated.sittings (none_has_left told faults seated.sittings));
     clock = ap (λ (aux : Auxiliary X). aux.party) at_ten;
     text = ap (λ (aux : Auxiliary Y). aux.party) at_twenty;
     ten_answered = λ here.
@@ -82,6 +92,36 @@ module _ {X Y K : Type 0} (forgets_ten : X → ℕ → X → Type 0) (replies_te
     ten_among = ap (λ (c : PlainCore). acts_among (user_numbers bundle) clock_party c.journal) core;
     twenty_among = ap (λ (c : PlainCore). acts_among (user_numbers bundle) text_party c.journal) core;
   }
+
+-- ---- the dealings of a run
+
+-- what the shelf of a user was asked, by the user's number
+abbrev dealings_of : {K : Type 0} → List (Sitting K) → Dealings
+dealings_of [] number = []
+dealings_of (sitting ∷ sittings) number = if eqb sitting.seat.session.user number then sitting.exchanges else dealings_of sittings number
+
+-- those of one user are no other's
+others_deal : {K : Type 0} (sitting : Sitting K) (all rest : List (Sitting K)) → AllByRecursion (λ other. sitting.seat.session.user < other) (seat_numbers (seats_in rest)) → AllByRecursion (λ (s : Sitting K). dealings_of all s.seat.session.user ≡ s.exchanges) rest
+    → AllByRecursion (λ (s : Sitting K). dealings_of (sitting ∷ all) s.seat.session.user ≡ s.exchanges) rest
+others_deal sitting all [] below h = tt
+others_deal {K = K} sitting all (s ∷ rest) below h =
+    let less : sitting.seat.session.user < s.seat.session.user = below.0 in (
+      ap (λ (same : Bool). if same then sitting.exchanges else dealings_of all s.seat.session.user) (ne_eqb sitting.seat.session.user s.seat.session.user (λ is. omega (arith, less, is))) ∙ h.0,
+      others_deal sitting all rest below.1 h.1,
+    )
+
+each_deals : {K : Type 0} (sittings : List (Sitting K)) → AscendBy (λ s. s.session.user) (seats_in sittings) → AllByRecursion (λ (s : Sitting K). dealings_of sittings s.seat.session.user ≡ s.exchanges) sittings
+each_deals [] ascend = tt
+each_deals (sitting ∷ sittings) ascend =
+    let number : ℕ = sitting.seat.session.user in (
+      ap (λ (same : Bool). if same then sitting.exchanges else dealings_of sittings number) (eq-eqb number number refl),
+      others_deal sitting sittings sittings (first_below number (seat_numbers (seats_in sittings)) ascend) (each_deals sittings (others_ascend number (seat_numbers (seats_in sittings)) ascend)),
+    )
+
+-- so these are all in the end
+each_ends : {K : Type 0} (final : Dealings) (sittings : List (Sitting K)) → AllByRecursion (λ (s : Sitting K). final s.seat.session.user ≡ s.exchanges) sittings → AllByRecursion (EndsIn final) sittings
+each_ends final [] h = tt
+each_ends final (sitting ∷ sittings) h = (record { more = []; is = h.0 }, each_ends final sittings h.1)
 
 -- ---- the end
 
@@ -96,42 +136,67 @@ all_left (user ∷ users) journal over =
     left_by true e = refl
     left_by false e = absurd (let no : true ≡ false = e in cc)
 
--- each user has its part then, where memory ran out for none
-parts_of : {K : Type 0} (seats : List (Seat K)) (users : List PlainUser) (journal : Entries) → map (λ seat. user_of seat.session) seats ≡ users → IsTrue (none_lost seats) → AllByRecursion (IsWholeUnlessLost journal) seats
-    → AllByRecursion (λ (user : PlainUser). IsTrue (has_left journal user.number)) users → AreUserParts journal users (map transcript_of seats)
-parts_of [] [] journal same here whole left = tt
-parts_of [] (user ∷ users) journal same here whole left = absurd (let no : [] ≡ user ∷ users = same in cc)
-parts_of (seat ∷ seats) [] journal same here whole left = absurd (let no : user_of seat.session ∷ map (λ (s : Seat _). user_of s.session) seats ≡ [] = same in cc)
-parts_of (seat ∷ seats) (user ∷ users) journal same here whole left =
-    let both : user_of seat.session ∷ map (λ (s : Seat _). user_of s.session) seats ≡ user ∷ users = same in
-    let first : user_of seat.session ≡ user = cc in
-    let others : map (λ (s : Seat _). user_of s.session) seats ≡ users = cc in
-    let mine = and_parts (not seat.is_lost) (none_lost seats) here in
-    let number : seat.session.user ≡ user.number = ap (λ (u : PlainUser). u.number) first in (
-      number,
-      subst (λ (u : PlainUser). IsUserPart journal u (printed_by seat.session)) first (whole.0 (not-true seat.is_lost mine.0) (ap (λ (n : ℕ). has_left journal n) number ∙ left.0)).part,
-      parts_of seats users journal others mine.1 whole.1 left.1,
-    )
+module _ {K : Type 0} (told : K → Option (Told (ℕ × List ℕ))) (faults : K → ℕ) (dealings : Dealings) (journal : Entries) where
+  -- a user that has left, and for which memory did not run out, has its part
+  part_at : (sitting : Sitting K) (others : List (Seat K)) (user : PlainUser) → user_of sitting.seat.session ≡ user → IsTrue (none_lost (sitting.seat ∷ others)) → IsWholeUnlessLost told faults journal sitting → IsTrue (has_left journal user.number) → HasPart told faults journal sitting
+  part_at sitting others user first here whole left =
+      let mine = and_parts (not sitting.seat.is_lost) (none_lost others) here in
+      whole (not-true sitting.seat.is_lost mine.0) (ap (λ (n : ℕ). has_left journal n) (ap (λ (u : PlainUser). u.number) first) ∙ left)
 
--- and all were heard
-all_heard : {K : Type 0} (seats : List (Seat K)) (users : List PlainUser) (journal : Entries) → map (λ seat. user_of seat.session) seats ≡ users → IsTrue (none_lost seats) → AllByRecursion (IsWholeUnlessLost journal) seats
-    → AllByRecursion (λ (user : PlainUser). IsTrue (has_left journal user.number)) users → AllByRecursion (λ (seat : Seat K). HasHeardAll seat.session.stage) seats
-all_heard [] users journal same here whole left = tt
-all_heard (seat ∷ seats) [] journal same here whole left = absurd (let no : user_of seat.session ∷ map (λ (s : Seat _). user_of s.session) seats ≡ [] = same in cc)
-all_heard (seat ∷ seats) (user ∷ users) journal same here whole left =
-    let both : user_of seat.session ∷ map (λ (s : Seat _). user_of s.session) seats ≡ user ∷ users = same in
-    let first : user_of seat.session ≡ user = cc in
-    let others : map (λ (s : Seat _). user_of s.session) seats ≡ users = cc in
-    let mine = and_parts (not seat.is_lost) (none_lost seats) here in
-    let number : seat.session.user ≡ user.number = ap (λ (u : PlainUser). u.number) first in (
-      subst (λ (at : Stage). HasHeardAll at) (sym (whole.0 (not-true seat.is_lost mine.0) (ap (λ (n : ℕ). has_left journal n) number ∙ left.0)).finished) tt,
-      all_heard seats users journal others mine.1 whole.1 left.1,
-    )
+  -- each user has its part then, where memory ran out for none
+  parts_of : (sittings : List (Sitting K)) (users : List PlainUser) → map (λ s. user_of s.seat.session) sittings ≡ users → IsTrue (none_lost (seats_in sittings)) → AllByRecursion (IsWholeUnlessLost told faults journal) sittings
+      → AllByRecursion (λ (user : PlainUser). IsTrue (has_left journal user.number)) users → AllByRecursion (λ (s : Sitting K). dealings s.seat.session.user ≡ s.exchanges) sittings → AreUserParts dealings journal users (map transcript_of sittings)
+  parts_of [] [] same here whole left deals = tt
+  parts_of [] (user ∷ users) same here whole left deals = absurd (let no : [] ≡ user ∷ users = same in cc)
+  parts_of (sitting ∷ sittings) [] same here whole left deals = absurd (let no : user_of sitting.seat.session ∷ map (λ (s : Sitting K). user_of s.seat.session) sittings ≡ [] = same in cc)
+  parts_of (sitting ∷ sittings) (user ∷ users) same here whole left deals =
+      let both : user_of sitting.seat.session ∷ map (λ (s : Sitting K). user_of s.seat.session) sittings ≡ user ∷ users = same in
+      let first : user_of sitting.seat.session ≡ user = cc in
+      let others : map (λ (s : Sitting K). user_of s.seat.session) sittings ≡ users = cc in
+      let number : sitting.seat.session.user ≡ user.number = ap (λ (u : PlainUser). u.number) first in
+      let h = part_at sitting (seats_in sittings) user first here whole.0 left.0 in (
+        number,
+        subst (λ (e : List Exchange). IsUserPart journal user e (printed_by sitting.exchanges sitting.seat.session)) (sym deals.0 ∙ ap dealings number)
+            (subst (λ (u : PlainUser). IsUserPart journal u sitting.exchanges (printed_by sitting.exchanges sitting.seat.session)) first h.part),
+        parts_of sittings users others (and_parts (not sitting.seat.is_lost) (none_lost (seats_in sittings)) here).1 whole.1 left.1 deals.1,
+      )
+
+  -- its shelf served it
+  serve_users : (sittings : List (Sitting K)) (users : List PlainUser) (rest : List K) → map (λ s. user_of s.seat.session) sittings ≡ users → IsTrue (none_lost (seats_in sittings)) → AllByRecursion (IsWholeUnlessLost told faults journal) sittings
+      → AllByRecursion (λ (user : PlainUser). IsTrue (has_left journal user.number)) users → AllByRecursion (λ (s : Sitting K). dealings s.seat.session.user ≡ s.exchanges) sittings
+      → ServeUsers told faults dealings users (lent_to sittings ++ rest) (map (λ seat. seat.session.shelf) (seats_in sittings) ++ rest)
+  serve_users [] [] rest same here whole left deals = refl
+  serve_users [] (user ∷ users) rest same here whole left deals = absurd (let no : [] ≡ user ∷ users = same in cc)
+  serve_users (sitting ∷ sittings) [] rest same here whole left deals = absurd (let no : user_of sitting.seat.session ∷ map (λ (s : Sitting K). user_of s.seat.session) sittings ≡ [] = same in cc)
+  serve_users (sitting ∷ sittings) (user ∷ users) rest same here whole left deals =
+      let both : user_of sitting.seat.session ∷ map (λ (s : Sitting K). user_of s.seat.session) sittings ≡ user ∷ users = same in
+      let first : user_of sitting.seat.session ≡ user = cc in
+      let others : map (λ (s : Sitting K). user_of s.seat.session) sittings ≡ users = cc in
+      let number : sitting.seat.session.user ≡ user.number = ap (λ (u : PlainUser). u.number) first in
+      let h = part_at sitting (seats_in sittings) user first here whole.0 left.0 in (
+        subst (λ (e : List Exchange). IsShelfRun told faults user.number sitting.lent e sitting.seat.session.shelf) (sym deals.0 ∙ ap dealings number)
+            (subst (λ (n : ℕ). IsShelfRun told faults n sitting.lent sitting.exchanges sitting.seat.session.shelf) number h.come.served),
+        serve_users sittings users rest others (and_parts (not sitting.seat.is_lost) (none_lost (seats_in sittings)) here).1 whole.1 left.1 deals.1,
+      )
+
+  -- and all were heard
+  all_printed : (sittings : List (Sitting K)) (users : List PlainUser) → map (λ s. user_of s.seat.session) sittings ≡ users → IsTrue (none_lost (seats_in sittings)) → AllByRecursion (IsWholeUnlessLost told faults journal) sittings
+      → AllByRecursion (λ (user : PlainUser). IsTrue (has_left journal user.number)) users → AllByRecursion (HasPrinted told faults) sittings
+  all_printed [] users same here whole left = tt
+  all_printed (sitting ∷ sittings) [] same here whole left = absurd (let no : user_of sitting.seat.session ∷ map (λ (s : Sitting K). user_of s.seat.session) sittings ≡ [] = same in cc)
+  all_printed (sitting ∷ sittings) (user ∷ users) same here whole left =
+      let both : user_of sitting.seat.session ∷ map (λ (s : Sitting K). user_of s.seat.session) sittings ≡ user ∷ users = same in
+      let first : user_of sitting.seat.session ≡ user = cc in
+      let others : map (λ (s : Sitting K). user_of s.seat.session) sittings ≡ users = cc in
+      let h = part_at sitting (seats_in sittings) user first here whole.0 left.0 in (
+        record { heard = subst (λ (at : Stage). HasHeardAll at) (sym h.finished) tt; come = h.come },
+        all_printed sittings users others (and_parts (not sitting.seat.is_lost) (none_lost (seats_in sittings)) here).1 whole.1 left.1,
+      )
 
 module _ {X Y K : Type 0} (forgets_ten : X → ℕ → X → Type 0) (replies_ten : X → ℕ → PlainArray → PlainArray → X → Type 0)
-    (forgets_twenty : Y → ℕ → Y → Type 0) (replies_twenty : Y → ℕ → PlainArray → PlainArray → Y → Type 0)
-    (bundle : PlainBundle) (ten : X) (twenty : Y) (shelves : List K) (p : Parties X Y K) (h : AreTogether forgets_ten replies_ten forgets_twenty replies_twenty bundle ten twenty shelves p)
-    (transcripts : List PlainTranscript) (journal : Entries) (over : some_stay p.core.users p.core.journal ≡ false) (ended : IsEnded p transcripts journal) where
+    (forgets_twenty : Y → ℕ → Y → Type 0) (replies_twenty : Y → ℕ → PlainArray → PlainArray → Y → Type 0) (told : K → Option (Told (ℕ × List ℕ))) (faults : K → ℕ)
+    (bundle : PlainBundle) (ten : X) (twenty : Y) (shelves : List K) (p : Parties X Y K) (sittings : List (Sitting K)) (h : AreTogether forgets_ten replies_ten forgets_twenty replies_twenty told faults bundle ten twenty shelves p sittings)
+    (transcripts : List PlainTranscript) (journal : Entries) (over : some_stay p.core.users p.core.journal ≡ false) (ended : IsEnded told faults p transcripts journal) where
   left : AllByRecursion (λ (user : PlainUser). IsTrue (has_left p.core.journal user.number)) bundle.users
   left = all_left bundle.users p.core.journal (ap (λ (users : List ℕ). some_stay users p.core.journal) (sym h.numbers) ∙ over)
 
@@ -141,18 +206,34 @@ module _ {X Y K : Type 0} (forgets_ten : X → ℕ → X → Type 0) (replies_te
       let more = and_parts (not p.ten.is_lost) (not p.twenty.is_lost) both.0 in
       (not-true p.ten.is_lost more.0, not-true p.twenty.is_lost more.1, both.1)
 
-  whole : AllByRecursion (IsWholeUnlessLost p.core.journal) p.seats.items
-  whole = recursion_from_All _ p.seats.items (h.whole nobody.0 nobody.1)
+  whole : AllByRecursion (IsWholeUnlessLost told faults p.core.journal) sittings
+  whole = recursion_from_All _ sittings (h.whole nobody.0 nobody.1)
 
-  printed : transcripts ≡ map transcript_of p.seats.items
-  printed = ended.printed (All-from_recursion _ p.seats.items (all_heard p.seats.items bundle.users p.core.journal h.users nobody.2 whole left))
+  none_out : IsTrue (none_lost (seats_in sittings))
+  none_out = ap (λ (seats : List (Seat K)). none_lost seats) h.here ∙ nobody.2
+
+  users_there : map (λ (s : Sitting K). user_of s.seat.session) sittings ≡ bundle.users
+  users_there = sym (map-map (λ (s : Seat K). user_of s.session) (λ (s : Sitting K). s.seat) sittings) ∙ ap (λ (seats : List (Seat K)). map (λ (s : Seat K). user_of s.session) seats) h.here ∙ h.users
+
+  abbrev pub dealings : Dealings
+  dealings = dealings_of sittings
+
+  deals : AllByRecursion (λ (s : Sitting K). dealings s.seat.session.user ≡ s.exchanges) sittings
+  deals = each_deals sittings
+      (subst (λ (seats : List (Seat K)). AscendBy (λ s. s.session.user) seats) (sym h.here) (seats_ascend forgets_ten replies_ten forgets_twenty replies_twenty told faults bundle ten twenty shelves p sittings h))
+
+  printed : transcripts ≡ map transcript_of sittings
+  printed = ended.printed sittings h.here (All-from_recursion _ sittings (all_printed told faults dealings p.core.journal sittings bundle.users users_there none_out whole left))
 
   -- what came of the parties is a run
-  pub is_run : IsRun forgets_ten replies_ten forgets_twenty replies_twenty bundle journal transcripts ten p.ten.replier twenty p.twenty.replier
-  is_run = record {
+  pub is_run : (rest : List K)
+      → IsRun forgets_ten replies_ten forgets_twenty replies_twenty told faults bundle dealings journal transcripts ten p.ten.replier twenty p.twenty.replier (shelves ++ rest) (map (λ seat. seat.session.shelf) p.seats.items ++ rest)
+  is_run rest = record {
     legal = subst (λ (users : List ℕ). IsLegal users journal) h.numbers ended.legal;
-    users = subst (λ (list : List PlainTranscript). AreUserParts journal bundle.users list) (sym printed)
-        (subst (λ (j : Entries). AreUserParts j bundle.users (map transcript_of p.seats.items)) (sym ended.same) (parts_of p.seats.items bundle.users p.core.journal h.users nobody.2 whole left));
+    users = subst (λ (list : List PlainTranscript). AreUserParts dealings journal bundle.users list) (sym printed)
+        (subst (λ (j : Entries). AreUserParts dealings j bundle.users (map transcript_of sittings)) (sym ended.same) (parts_of told faults dealings p.core.journal sittings bundle.users users_there none_out whole left deals));
+    shelves_served = subst₂ (λ (lent : List K) (seats : List (Seat K)). ServeUsers told faults dealings bundle.users (lent ++ rest) (map (λ seat. seat.session.shelf) seats ++ rest)) h.shelves h.here
+        (serve_users told faults dealings p.core.journal sittings bundle.users rest users_there none_out whole left deals);
     ten_part = subst (λ (j : Entries). IsAuxiliaryPart forgets_ten replies_ten (user_numbers bundle) clock_party j ten p.ten.replier) (sym ended.same)
         (record { answers = subst (λ (party : ℕ). IsReplierRun forgets_ten replies_ten ten (events_of p.core.journal party) p.ten.replier) h.clock (h.ten_answered nobody.0); among = h.ten_among });
     twenty_part = subst (λ (j : Entries). IsAuxiliaryPart forgets_twenty replies_twenty (user_numbers bundle) text_party j twenty p.twenty.replier) (sym ended.same)
@@ -163,35 +244,32 @@ module _ {X Y K : Type 0} (forgets_ten : X → ℕ → X → Type 0) (replies_te
   spare : PlainArray
   spare = record { shape = []; items = chars [] }
 
-  -- and its journal is that of the turns
-  module _ (start middle : Parties X Y K) (none : start.core.journal ≡ []) (users : users_of start.seats.items ≡ map newcomer bundle.users) (order : List ℕ) (same : order ≡ bundle.order)
-      (first : TakesTurns (ordered order) start middle) (still : map (λ seat. user_of seat.session) middle.seats.items ≡ bundle.users) (rest : TakesRounds middle p) where
-    all_turns : TookTurns (λ replay. rounds rest.count (ordered order replay)) start p
-    all_turns = (takes_both (ordered order) (rounds rest.count) start middle p first rest.turns).took ended.here
-
+  -- and its journal is that of the turns, which led from where the users sat at the start
+  module _ (start middle : Parties X Y K) (none : start.core.journal ≡ []) (users : users_of dealings start.seats.items ≡ map (newcomer dealings) bundle.users) (order : List ℕ) (same : order ≡ bundle.order) (count : ℕ)
+      (all_turns : TookTurns (λ replay. rounds count (ordered order replay)) start p sittings) (few : count ≤ most_rounds bundle) where
     abbrev replies_ten_given : List PlainArray
     replies_ten_given = all_turns.ten ++ spare ∷ []
 
     abbrev replies_twenty_given : List PlainArray
     replies_twenty_given = all_turns.twenty ++ spare ∷ []
 
-    came_to : rounds rest.count (ordered bundle.order (beginning bundle replies_ten_given replies_twenty_given)) ≡ record { journal = p.core.journal; ten = spare ∷ []; twenty = spare ∷ []; users = users_of p.seats.items }
+    came_to : rounds count (ordered bundle.order (beginning bundle dealings replies_ten_given replies_twenty_given)) ≡ record { journal = p.core.journal; ten = spare ∷ []; twenty = spare ∷ []; users = users_of dealings p.seats.items }
     came_to =
-        ap (λ (parties : List ℕ). rounds rest.count (ordered parties (beginning bundle replies_ten_given replies_twenty_given))) (sym same)
-        ∙ ap₂ (λ (j : Entries) (list : List Participant). rounds rest.count (ordered order (record { journal = j; ten = replies_ten_given; twenty = replies_twenty_given; users = list }))) (sym none) (sym users)
-        ∙ all_turns.same (spare ∷ []) (spare ∷ [])
+        ap (λ (parties : List ℕ). rounds count (ordered parties (beginning bundle dealings replies_ten_given replies_twenty_given))) (sym same)
+        ∙ ap₂ (λ (j : Entries) (list : List Participant). rounds count (ordered order (record { journal = j; ten = replies_ten_given; twenty = replies_twenty_given; users = list }))) (sym none) (sym users)
+        ∙ all_turns.same dealings (All-from_recursion _ sittings (each_ends dealings sittings deals)) (spare ∷ []) (spare ∷ [])
 
-    pub is_replay : IsReplay bundle journal
+    pub is_replay : IsReplay bundle dealings journal
     is_replay = record {
       turns = record {
         ten = replies_ten_given;
         twenty = replies_twenty_given;
-        count = rest.count;
+        count = count;
         last = ap (λ (r : Replay). r.journal) came_to ∙ sym ended.same;
         enough = subst (λ (r : Replay). HasReplies r) (sym came_to) (record { ten = λ e. cc; twenty = λ e. cc });
         left = All-from_recursion _ bundle.users (subst (λ (j : Entries). AllByRecursion (λ (user : PlainUser). IsTrue (has_left j user.number)) bundle.users) (sym ended.same) left);
       };
-      few = few_rounds bundle middle p still rest;
+      few = few;
     }
 
 -- ---- the answer
@@ -208,45 +286,59 @@ pub whole_more : (ended : Ended) (P Q : List PlainTranscript → Entries → Typ
 whole_more (Whole transcripts journal) P Q more h = more transcripts.items (reverse journal.items) h
 whole_more WantOfMemory P Q more h = tt
 
--- the end of a run whose parties are these
-pub ends_as : {X Y K : Type 0} (p : Parties X Y K) (transcripts : Option (Listed PlainTranscript)) (journal : Listed PlainEntry) (is_whole : Bool) (result : Ended) → result ≡ end_by transcripts journal is_whole → is_whole ≡ none_is_lost p
-    → IfSome transcripts (λ list. All (λ seat. HasHeardAll seat.session.stage) p.seats.items → list.items ≡ map transcript_of p.seats.items) → reverse journal.items ≡ p.core.journal → IsLegal p.core.users p.core.journal
-    → IfWhole result (λ texts entries. IsEnded p texts entries)
-ends_as p transcripts journal is_whole result is here printed same legal =
-    subst (λ (e : Ended). IfWhole e (λ texts entries. IsEnded p texts entries)) (sym is)
-    (if_whole transcripts journal is_whole (λ texts entries. IsEnded p texts entries)
-    (λ list some true_now. record {
-      here = sym here ∙ true_now;
-      same = same;
-      legal = subst (λ (j : Entries). IsLegal p.core.users j) (sym same) legal;
-      printed = subst (λ (o : Option (Listed PlainTranscript)). IfSome o (λ texts. All (λ seat. HasHeardAll seat.session.stage) p.seats.items → texts.items ≡ map transcript_of p.seats.items)) some printed;
-    }))
+module _ {X Y K : Type 0} (told : K → Option (Told (ℕ × List ℕ))) (faults : K → ℕ) (p : Parties X Y K) where
+  -- what is known of the transcripts where there are some
+  abbrev pub ArePrinted : List PlainTranscript → Type 0
+  ArePrinted texts = (sittings : List (Sitting K)) → seats_in sittings ≡ p.seats.items → All (HasPrinted told faults) sittings → texts ≡ map transcript_of sittings
+
+  -- the end of a run whose parties are these
+  pub ends_as : (transcripts : Option (Listed PlainTranscript)) (journal : Listed PlainEntry) (is_whole : Bool) (result : Ended) → result ≡ end_by transcripts journal is_whole → is_whole ≡ none_is_lost p
+      → IfSome transcripts (λ list. ArePrinted list.items) → reverse journal.items ≡ p.core.journal → IsLegal p.core.users p.core.journal
+      → IfWhole result (λ texts entries. IsEnded told faults p texts entries)
+  ends_as transcripts journal is_whole result is here printed same legal =
+      subst (λ (e : Ended). IfWhole e (λ texts entries. IsEnded told faults p texts entries)) (sym is)
+      (if_whole transcripts journal is_whole (λ texts entries. IsEnded told faults p texts entries)
+      (λ list some true_now. record {
+        here = sym here ∙ true_now;
+        same = same;
+        legal = subst (λ (j : Entries). IsLegal p.core.users j) (sym same) legal;
+        printed = subst (λ (o : Option (Listed PlainTranscript)). IfSome o (λ texts. ArePrinted texts.items)) some printed;
+      }))
 
 module _ {X Y K : Type 0} (forgets_ten : X → ℕ → X → Type 0) (replies_ten : X → ℕ → PlainArray → PlainArray → X → Type 0)
-    (forgets_twenty : Y → ℕ → Y → Type 0) (replies_twenty : Y → ℕ → PlainArray → PlainArray → Y → Type 0) where
+    (forgets_twenty : Y → ℕ → Y → Type 0) (replies_twenty : Y → ℕ → PlainArray → PlainArray → Y → Type 0) (told : K → Option (Told (ℕ × List ℕ))) (faults : K → ℕ) where
   -- what came of parties and an order
-  pub comes_of : (order : List ℕ) (start middle p : Parties X Y K) (result : Ended) (ten_then : X) (twenty_then : Y)
-      → StayTogether forgets_ten replies_ten forgets_twenty replies_twenty start middle → StayTogether forgets_ten replies_ten forgets_twenty replies_twenty middle p
-      → TakesTurns (ordered order) start middle → TakesRounds middle p → some_stay p.core.users p.core.journal ≡ false → IfWhole result (λ texts entries. IsEnded p texts entries)
-      → ten_then ≡ p.ten.replier → twenty_then ≡ p.twenty.replier
-      → IfWhole result (λ texts entries. ComesOf forgets_ten replies_ten forgets_twenty replies_twenty order start texts entries ten_then twenty_then)
-  comes_of order start middle p result ten_then twenty_then one two first rest over whole ten_is twenty_is =
-      whole_more result (λ texts entries. IsEnded p texts entries) (λ texts entries. ComesOf forgets_ten replies_ten forgets_twenty replies_twenty order start texts entries ten_then twenty_then)
-      (λ texts entries ended. record {
-        run = λ bundle ten twenty lent h.
-            subst (λ (x : X). IsRun forgets_ten replies_ten forgets_twenty replies_twenty bundle entries texts ten x twenty twenty_then) (sym ten_is)
-            (subst (λ (y : Y). IsRun forgets_ten replies_ten forgets_twenty replies_twenty bundle entries texts ten p.ten.replier twenty y) (sym twenty_is)
-            (is_run forgets_ten replies_ten forgets_twenty replies_twenty bundle ten twenty lent p (two bundle ten twenty lent (one bundle ten twenty lent h)) texts entries over ended));
-        turns = λ bundle ten twenty lent h none users same.
-            is_replay forgets_ten replies_ten forgets_twenty replies_twenty bundle ten twenty lent p (two bundle ten twenty lent (one bundle ten twenty lent h)) texts entries over ended
-            start middle none users order same first (one bundle ten twenty lent h).users rest;
-      }) whole
+  came_of : (order : List ℕ) (start middle p : Parties X Y K) (rest : List K) (texts : List PlainTranscript) (entries : Entries) → TakesTurns forgets_ten replies_ten forgets_twenty replies_twenty told faults (ordered order) start middle
+      → TakesRounds forgets_ten replies_ten forgets_twenty replies_twenty told faults middle p → some_stay p.core.users p.core.journal ≡ false → IsEnded told faults p texts entries
+      → ComesOf forgets_ten replies_ten forgets_twenty replies_twenty told faults order start rest texts entries p.ten.replier p.twenty.replier (map (λ seat. seat.session.shelf) p.seats.items ++ rest)
+  came_of order start middle p rest texts entries first more over ended bundle ten twenty lent sittings h =
+      let k = first bundle ten twenty lent sittings h in
+      let l = takes_both forgets_ten replies_ten forgets_twenty replies_twenty told faults (ordered order) (rounds more.count) start middle p first more.turns bundle ten twenty lent sittings h in
+      record {
+        dealings = dealings forgets_ten replies_ten forgets_twenty replies_twenty told faults bundle ten twenty lent p l.nows l.together texts entries over ended;
+        run = is_run forgets_ten replies_ten forgets_twenty replies_twenty told faults bundle ten twenty lent p l.nows l.together texts entries over ended rest;
+        turns = λ none users same.
+            is_replay forgets_ten replies_ten forgets_twenty replies_twenty told faults bundle ten twenty lent p l.nows l.together texts entries over ended start middle none
+            (users (dealings forgets_ten replies_ten forgets_twenty replies_twenty told faults bundle ten twenty lent p l.nows l.together texts entries over ended)) order same more.count (l.took ended.here)
+            (few_rounds forgets_ten replies_ten forgets_twenty replies_twenty told faults bundle middle p k.together.users more);
+      }
+
+  pub comes_of : (order : List ℕ) (start middle p : Parties X Y K) (rest shelves_then : List K) (result : Ended) (ten_then : X) (twenty_then : Y)
+      → TakesTurns forgets_ten replies_ten forgets_twenty replies_twenty told faults (ordered order) start middle → TakesRounds forgets_ten replies_ten forgets_twenty replies_twenty told faults middle p → some_stay p.core.users p.core.journal ≡ false
+      → IfWhole result (λ texts entries. IsEnded told faults p texts entries) → ten_then ≡ p.ten.replier → twenty_then ≡ p.twenty.replier → shelves_then ≡ map (λ seat. seat.session.shelf) p.seats.items ++ rest
+      → IfWhole result (λ texts entries. ComesOf forgets_ten replies_ten forgets_twenty replies_twenty told faults order start rest texts entries ten_then twenty_then shelves_then)
+  comes_of order start middle p rest shelves_then result ten_then twenty_then first more over whole ten_is twenty_is shelves_are =
+      whole_more result (λ texts entries. IsEnded told faults p texts entries) (λ texts entries. ComesOf forgets_ten replies_ten forgets_twenty replies_twenty told faults order start rest texts entries ten_then twenty_then shelves_then)
+      (λ texts entries ended.
+      subst (λ (x : X). ComesOf forgets_ten replies_ten forgets_twenty replies_twenty told faults order start rest texts entries x twenty_then shelves_then) (sym ten_is)
+      (subst₂ (λ (y : Y) (k : List K). ComesOf forgets_ten replies_ten forgets_twenty replies_twenty told faults order start rest texts entries p.ten.replier y k) (sym twenty_is) (sym shelves_are)
+      (came_of order start middle p rest texts entries first more over ended))) whole
 
   -- as many seats as there were
-  pub same_seats : (bundle : PlainBundle) (ten : X) (twenty : Y) (lent : List K) (p q : Parties X Y K) → AreTogether forgets_ten replies_ten forgets_twenty replies_twenty bundle ten twenty lent p
-      → AreTogether forgets_ten replies_ten forgets_twenty replies_twenty bundle ten twenty lent q → length q.seats.items ≡ length p.seats.items
-  same_seats bundle ten twenty lent p q h also =
-      sym (length-map q.seats.items (λ seat. seat.session.shelf)) ∙ ap (λ (list : List K). length list) (also.shelves ∙ sym h.shelves) ∙ length-map p.seats.items (λ seat. seat.session.shelf)
+  pub same_seats : (bundle : PlainBundle) (ten : X) (twenty : Y) (lent : List K) (p q : Parties X Y K) (sittings nows : List (Sitting K)) → AreTogether forgets_ten replies_ten forgets_twenty replies_twenty told faults bundle ten twenty lent p sittings
+      → AreTogether forgets_ten replies_ten forgets_twenty replies_twenty told faults bundle ten twenty lent q nows → length q.seats.items ≡ length p.seats.items
+  same_seats bundle ten twenty lent p q sittings nows h also =
+      sym (length-map q.seats.items (λ seat. user_of seat.session)) ∙ ap (λ (list : List PlainUser). length list) (also.users ∙ sym h.users) ∙ length-map p.seats.items (λ seat. user_of seat.session)
 
 -- the numbers of users as they are kept
 pub plain_numbers : (kept : List BundleUser) (users : List PlainUser) → map plain_user kept ≡ users → map (λ user. user.number) kept ≡ map (λ user. user.number) users

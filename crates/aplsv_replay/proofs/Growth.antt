@@ -11,6 +11,7 @@ use Rattle.sv_rules.specs.Entries.{Entries, counted_entries, has_left, is_leave}
 use Rattle.sv_rules.specs.Legal.{is_user}
 use Rattle.sv_rules.specs.Work.{is_auxiliary}
 use Rattle.session_rules.specs.Auxiliaries.{acts_among, events_of, some_stay}
+use Rattle.session_rules.specs.Shelf.{Exchange}
 use Rattle.session_rules.specs.UserPart.{IsUserPart}
 use Rattle.session_rules.proofs.Parties.{other_changes_no_user_part, other_is_among, other_is_no_event, other_leaves}
 use Rattle.replay_rules.specs.SoFar.{IsSoFar}
@@ -38,10 +39,10 @@ pub so_far_stays : (entries journal : Entries) (user : Participant) (waiting : B
 so_far_stays [] journal user waiting h is = is
 so_far_stays (e ∷ entries) journal user waiting h is = others_keep (entries ++ journal) user waiting e h.0 (so_far_stays entries journal user waiting h.1 is)
 
-pub part_stays : (entries journal : Entries) (user : PlainUser) (transcript : List (List ℕ)) → AreOthers user.number entries → IsUserPart journal user transcript → IsUserPart (entries ++ journal) user transcript
-part_stays [] journal user transcript h is = is
-part_stays (e ∷ entries) journal user transcript h is =
-    other_changes_no_user_part (entries ++ journal) user transcript e (part_stays entries journal user transcript h.1 is) h.0
+pub part_stays : (entries journal : Entries) (user : PlainUser) (exchanges : List Exchange) (transcript : List (List ℕ)) → AreOthers user.number entries → IsUserPart journal user exchanges transcript → IsUserPart (entries ++ journal) user exchanges transcript
+part_stays [] journal user exchanges transcript h is = is
+part_stays (e ∷ entries) journal user exchanges transcript h is =
+    other_changes_no_user_part (entries ++ journal) user exchanges transcript e (part_stays entries journal user exchanges transcript h.1 is) h.0
 
 -- ---- entries that are counted
 

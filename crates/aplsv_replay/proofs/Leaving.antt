@@ -1,10 +1,10 @@
 -- A user that leaves, and one that has left.
-use Rattle.std.proofs.Common.{◌≡◌, ℕ, ◌+◌, ◌-◌, ◌≤◌, inl, Bool, true, false, not, cond, [], ◌∷◌, ◌++◌, length, Option, None, if◌then◌else◌, refl, sym, ap, ◌∙◌, arith}
+use Rattle.std.proofs.Common.{◌≡◌, ℕ, ◌+◌, ◌-◌, ◌≤◌, inl, Bool, true, false, not, cond, List, [], ◌∷◌, ◌++◌, length, Option, None, if◌then◌else◌, refl, sym, ap, ◌∙◌, arith}
 use Rattle.std.proofs.lemmas.Bool.{both_ways}
 use Rattle.std.proofs.lemmas.List.Elements.{All-cons, All-nil}
 use Rattle.std.proofs.lemmas.List.Sums.{sum_by-append}
 use Rattle.std.specs.Prelude.{count_by}
-use Rattle.apl_meaning.specs.Laws.{is_reported}
+use Rattle.apl_io.specs.Content.{Told}
 use Rattle.sv_events.specs.Entry.{PlainEntry}
 use Rattle.sv_events.specs.declared.event.Act.{Act}
 use Rattle.sv_events.specs.declared.event.Act.TheVariants.{Leave}
@@ -12,14 +12,15 @@ use Rattle.sv_rules.specs.Entries.{Entries, counted_entries, has_left, is_leave}
 use Rattle.sv_rules.specs.Legal.{entry_for}
 use Rattle.sv_core.specs.Core.{PlainCore, core_after}
 use Rattle.session_rules.specs.Session.{session_of}
-use Rattle.replay_rules.specs.Turns.{Turn, turn_by}
+use Rattle.session_rules.specs.SessionLaws.{tells_full}
+use Rattle.session_rules.specs.Shelf.{Reply}
+use Rattle.replay_rules.specs.Turns.{Participant, Turn, turn_by}
 use Rattle.replay_rules.proofs.SoFar.{own_leave_leaves}
 use Rattle.apl_session.specs.PlainSession.{PlainSession}
-use Rattle.apl_session.specs.declared.session.Stage.TheVariants as stage
-use Rattle.aplsv_replay.specs.Participants.{participant_of}
-use Rattle.aplsv_replay.specs.SoFar.{GoesOn, GrowsBy, IsSameUser, IsSeated, IsTurn, work_with}
-use Rattle.aplsv_replay.specs.declared.seat.Seat.{Seat}
-use Rattle.aplsv_replay.proofs.Hearing.{work_of_one}
+use Rattle.aplsv_replay.specs.Participants.{participant_with}
+use Rattle.aplsv_replay.specs.Sittings.{Sitting}
+use Rattle.aplsv_replay.specs.SoFar.{GoesOn, GrowsBy, IsSameUser, IsSeated, work_with}
+use Rattle.aplsv_replay.proofs.Hearing.{IsTurnAt, work_of_one}
 
 -- the user of a session that is the same user's
 pub user_is : {K : Type 0} (s now : PlainSession K) → IsSameUser s now → now.user ≡ s.user
@@ -51,7 +52,7 @@ more_entries party before after grows =
 
 -- nothing is left to do for a user that has left
 no_work : {K : Type 0} (journal : Entries) (s : PlainSession K) → has_left journal s.user ≡ true → work_with journal s ≡ (200000 - counted_entries journal) + 0
-no_work journal s left = ap (λ (l : Bool). (200000 - counted_entries journal) + (if l then 0 else 1 + (length s.lines - count_by is_reported s.answers))) left
+no_work journal s left = ap (λ (l : Bool). (200000 - counted_entries journal) + (if l then 0 else 1 + (length s.lines - count_by tells_full s.answers))) left
 
 -- so a user that leaves goes on
 pub leaving_goes_on : {K : Type 0} (before after : PlainCore) (s now : PlainSession K) → IsSameUser s now → GrowsBy s.user before after → has_left after.journal s.user ≡ true → GoesOn before s after now
@@ -61,24 +62,24 @@ leaving_goes_on before after s now same grows left stays =
     inl (omega (arith, no_work after.journal now there, work_of_one before.journal s stays, few))
 
 -- the turn of a user whose lines are done
-pub leaving_turn : {K : Type 0} (before after : PlainCore) (s now : PlainSession K) → has_left before.journal s.user ≡ false → (session_of s.lines s.answers).waits ≡ None → after ≡ core_after before s.user Leave
-    → now ≡ (let t : PlainSession K = record s { stage = stage.Finished } in t) → IsTurn before s after now
-leaving_turn {K = K} before after s now present over became hears =
-    ap (λ (left : Bool). turn_by left (session_of s.lines s.answers).waits before.users before.journal (participant_of s)) present
-    ∙ ap (λ (next : Option Act). turn_by false next before.users before.journal (participant_of s)) over
-    ∙ ap (λ (c : PlainCore). let t : Turn = record { journal = c.journal; user = participant_of s } in t) (sym became)
-    ∙ ap (λ (t : PlainSession K). let u : Turn = record { journal = after.journal; user = participant_of t } in u) (sym hears)
+pub leaving_turn : {K : Type 0} (replies : List Reply) (before after : PlainCore) (s now : PlainSession K) → has_left before.journal s.user ≡ false → (session_of s.lines s.answers replies).waits ≡ None → after ≡ core_after before s.user Leave
+    → participant_with replies now ≡ participant_with replies s → IsTurnAt replies before s after now
+leaving_turn {K = K} replies before after s now present over became same =
+    ap (λ (left : Bool). turn_by left (session_of s.lines s.answers replies).waits before.users before.journal (participant_with replies s)) present
+    ∙ ap (λ (next : Option Act). turn_by false next before.users before.journal (participant_with replies s)) over
+    ∙ ap (λ (c : PlainCore). let t : Turn = record { journal = c.journal; user = participant_with replies s } in t) (sym became)
+    ∙ ap (λ (u : Participant). let t : Turn = record { journal = after.journal; user = u } in t) (sym same)
 
 -- ---- a user that has left
 
-pub gone_turn : {K : Type 0} (core : PlainCore) (s : PlainSession K) → has_left core.journal s.user ≡ true → IsTurn core s core s
-gone_turn core s left = ap (λ (l : Bool). turn_by l (session_of s.lines s.answers).waits core.users core.journal (participant_of s)) left
+pub gone_turn : {K : Type 0} (replies : List Reply) (core : PlainCore) (s : PlainSession K) → has_left core.journal s.user ≡ true → IsTurnAt replies core s core s
+gone_turn replies core s left = ap (λ (l : Bool). turn_by l (session_of s.lines s.answers replies).waits core.users core.journal (participant_with replies s)) left
 
 -- ---- a user that stays
 
 -- a user that has left is not looked at any more
-pub left_seated : {K : Type 0} (journal : Entries) (s : PlainSession K) (seat : Seat K) → IsSameUser s seat.session → has_left journal s.user ≡ true → IsSeated journal seat
-left_seated journal s seat same left stays = absurd (both_ways (has_left journal s.user) (ap (λ (u : ℕ). has_left journal u) (sym (user_is s seat.session same)) ∙ stays) left)
+pub left_seated : {K : Type 0} (told : K → Option (Told (ℕ × List ℕ))) (faults : K → ℕ) (journal : Entries) (s : PlainSession K) (sitting : Sitting K) → IsSameUser s sitting.seat.session → has_left journal s.user ≡ true → IsSeated told faults journal sitting
+left_seated told faults journal s sitting same left stays = absurd (both_ways (has_left journal s.user) (ap (λ (u : ℕ). has_left journal u) (sym (user_is s sitting.seat.session same)) ∙ stays) left)
 
 -- ---- what the code's leave says, for a party that is the user
 

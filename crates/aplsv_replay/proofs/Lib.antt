@@ -15,5 +15,8 @@ pub mod Rows
 pub mod SeatSteps
 pub mod SeatTurns
 pub mod Serving
+pub mod Sits
 pub mod Staging
 pub mod Taking
+pub mod Turning
+pub mod TwoTurns

@@ -1,24 +1,29 @@
 -- Each round leaves less to do.
-use Rattle.std.proofs.Common.{◌≡◌, ℕ, ◌<◌, ◌≤◌, ◌&&◌, ◌||◌, Bool, true, false, not, List, [], ◌∷◌, inl, inr, IsTrue, refl, sym, ap, ap₂, ◌∙◌, arith}
+use Rattle.std.proofs.Common.{◌≡◌, ℕ, ◌+◌, ◌-◌, ◌<◌, ◌≤◌, ◌&&◌, ◌||◌, Bool, true, false, not, List, [], ◌∷◌, map, Option, inl, inr, IsTrue, refl, sym, ap, ap₂, subst, ◌∙◌, arith}
 use Rattle.std.specs.List.{All, AllByRecursion, list_all}
-use Rattle.std.specs.Prelude.{None, is_some}
+use Rattle.std.specs.Prelude.{None, is_some, sum_by}
 use Rattle.std.proofs.lemmas.Bool.{and_from, and_parts, not-true, or_left, or_parts, or_right}
+use Rattle.std.proofs.lemmas.Simd.{map-map}
 use Rattle.std.proofs.lemmas.List.Elements.{recursion_from_All}
+use Rattle.apl_arrays.specs.Limits.{most_entries}
 use Rattle.apl_arrays.specs.Parties.{clock_party, text_party}
 use Rattle.sv_core.specs.Core.{PlainCore}
 use Rattle.sv_events.specs.declared.work.Work.TheVariants.{Idle}
-use Rattle.sv_rules.specs.Entries.{Entries, has_left, is_full}
+use Rattle.sv_rules.specs.Entries.{Entries, counted_entries, has_left, is_full}
 use Rattle.sv_rules.specs.Legal.{is_still_held}
 use Rattle.sv_rules.specs.Refused.{still_refused}
 use Rattle.sv_rules.specs.Work.{is_halted, is_idle, is_stuck, work_of}
 use Rattle.session_rules.specs.Auxiliaries.{some_stay}
-use Rattle.aplsv_replay.specs.Participants.{users_of}
+use Rattle.apl_io.specs.Content.{Told}
+use Rattle.apl_session.specs.PlainSession.{PlainSession}
 use Rattle.aplsv_replay.specs.SeatTurns.{AreSeatTurns, IsHeld, is_due, seat_numbers, work_left}
+use Rattle.aplsv_replay.specs.Sittings.{Sitting, seats_in}
+use Rattle.aplsv_replay.specs.SoFar.{user_work}
 use Rattle.aplsv_replay.specs.Together.{LeavesLess, left_to_do}
 use Rattle.aplsv_replay.specs.declared.auxiliary.Auxiliary.{Auxiliary}
 use Rattle.aplsv_replay.specs.declared.parties.Parties.{Parties}
 use Rattle.aplsv_replay.specs.declared.seat.Seat.{Seat}
-use Rattle.replay_rules.specs.Turns.{Participant}
+use Rattle.aplsv_replay.proofs.Sits.{sum_of_seen}
 
 -- some user is still held, in a run that does not close
 record SomeHeld (closes : Bool) (core : PlainCore) : Type 0 where
@@ -61,6 +66,18 @@ all_stuck closes core seats numbers stay held ten twenty =
     (and_from (some_stay core.users core.journal && list_all (is_halted core.journal) core.users) (is_idle (work_of core.journal clock_party))
     (and_from (some_stay core.users core.journal) (list_all (is_halted core.journal) core.users) stay halted) (ap is_idle ten)) (ap is_idle twenty)
 
+-- users that sit are held where their seats are
+held_seats : {K : Type 0} (closes : Bool) (core : PlainCore) (sittings : List (Sitting K)) → AllByRecursion (λ (s : Sitting K). IsHeld true closes core s.seat) sittings → AllByRecursion (IsHeld true closes core) (seats_in sittings)
+held_seats closes core [] h = tt
+held_seats closes core (s ∷ sittings) h = (h.0, held_seats closes core sittings h.1)
+
+-- the same sessions have as much left to do
+same_left : {K : Type 0} (journal : Entries) (nows seats : List (Seat K)) (sittings : List (Sitting K)) → map (λ s. s.session) nows ≡ map (λ s. s.seat.session) sittings → seats_in sittings ≡ seats → work_left journal nows ≡ work_left journal seats
+same_left {K = K} journal nows seats sittings sessions here =
+    let sums : (list : List (Seat K)) → sum_by (λ (s : Seat K). user_work journal s.session) list ≡ sum_by (user_work journal) (map (λ (s : Seat K). s.session) list) = λ list. sym (sum_of_seen (user_work journal) (λ (s : Seat K). s.session) list) in
+    ap (λ (n : ℕ). (most_entries - counted_entries journal) + n)
+    (sums nows ∙ ap (λ (list : List (PlainSession K)). sum_by (user_work journal) list) (sessions ∙ sym (map-map (λ (s : Seat K). s.session) (λ (s : Sitting K). s.seat) sittings) ∙ ap (λ (list : List (Seat K)). map (λ (s : Seat K). s.session) list) here) ∙ sym (sums seats))
+
 less_through : (a b c d : ℕ) → a < b → b ≤ c → c ≤ d → a < d
 less_through a b c d one two three = omega arith
 
@@ -72,22 +89,23 @@ same_less a b c d one two three = omega arith
 
 module _ {X Y K : Type 0} (p q r s : Parties X Y K) (ten : LeavesLess clock_party q.ten.is_lost p q) (twenty : LeavesLess text_party r.twenty.is_lost q r) (same_ten : r.ten ≡ q.ten)
     (numbers : seat_numbers r.seats.items ≡ r.core.users) (stay : IsTrue (some_stay r.core.users r.core.journal))
-    (turns : AreSeatTurns (is_due None) (r.ten.is_lost || r.twenty.is_lost) r.core r.seats.items s.core s.seats.items) where
+    (told : K → Option (Told (ℕ × List ℕ))) (faults : K → ℕ) (sittings : List (Sitting K)) (here : seats_in sittings ≡ r.seats.items) (turns : AreSeatTurns told faults (is_due None) (r.ten.is_lost || r.twenty.is_lost) r.core sittings s.core s.seats.items) where
   -- where users only waited
-  waited_less : (s.core ≡ r.core) × (users_of s.seats.items ≡ users_of r.seats.items) × All (λ seat. IsHeld true (r.ten.is_lost || r.twenty.is_lost) r.core seat) r.seats.items → left_to_do s < left_to_do p
+  waited_less : (s.core ≡ r.core) × (map (λ seat. seat.session) s.seats.items ≡ map (λ sitting. sitting.seat.session) sittings) × All (λ sitting. IsHeld true (r.ten.is_lost || r.twenty.is_lost) r.core sitting.seat) sittings → left_to_do s < left_to_do p
   waited_less still =
-      let held : AllByRecursion (IsHeld true (r.ten.is_lost || r.twenty.is_lost) r.core) r.seats.items = recursion_from_All _ r.seats.items still.2 in
+      let held : AllByRecursion (IsHeld true (r.ten.is_lost || r.twenty.is_lost) r.core) r.seats.items =
+      subst (λ (seats : List (Seat K)). AllByRecursion (IsHeld true (r.ten.is_lost || r.twenty.is_lost) r.core) seats) here (held_seats (r.ten.is_lost || r.twenty.is_lost) r.core sittings (recursion_from_All _ sittings still.2)) in
       let some : SomeHeld (r.ten.is_lost || r.twenty.is_lost) r.core = staying_is_held (r.ten.is_lost || r.twenty.is_lost) r.core r.seats.items (ap (λ (users : List ℕ). some_stay users r.core.journal) numbers ∙ stay) held in
-      let here = or_parts r.ten.is_lost r.twenty.is_lost some.unclosed in
-      let as_was : left_to_do s ≡ left_to_do r = ap₂ (λ (core : PlainCore) (users : List Participant). work_left core.journal users) still.0 still.1 in
+      let not_lost = or_parts r.ten.is_lost r.twenty.is_lost some.unclosed in
+      let as_was : left_to_do s ≡ left_to_do r = ap (λ (core : PlainCore). work_left core.journal s.seats.items) still.0 ∙ same_left r.core.journal s.seats.items r.seats.items sittings still.1 here in
       elim ten.rests [
         | inl less ↦ through_less _ _ _ _ as_was twenty.most less
         | inr other ↦ elim other [
-          | inl lost ↦ absurd (let no : false ≡ true = sym here.0 ∙ ap (λ (a : Auxiliary X). a.is_lost) same_ten ∙ lost in cc)
+          | inl lost ↦ absurd (let no : false ≡ true = sym not_lost.0 ∙ ap (λ (a : Auxiliary X). a.is_lost) same_ten ∙ lost in cc)
           | inr idle_ten ↦ elim twenty.rests [
             | inl less ↦ same_less _ _ _ _ as_was less ten.most
             | inr another ↦ elim another [
-              | inl lost ↦ absurd (let no : false ≡ true = sym here.1 ∙ lost in cc)
+              | inl lost ↦ absurd (let no : false ≡ true = sym not_lost.1 ∙ lost in cc)
               | inr idle_twenty ↦ absurd (
                   let ten_idle : work_of r.core.journal clock_party ≡ Idle = ap (λ (core : PlainCore). work_of core.journal clock_party) (idle_twenty.0 ∙ idle_ten.0) ∙ idle_ten.1 in
                   let twenty_idle : work_of r.core.journal text_party ≡ Idle = ap (λ (core : PlainCore). work_of core.journal text_party) idle_twenty.0 ∙ idle_twenty.1 in
@@ -100,6 +118,6 @@ module _ {X Y K : Type 0} (p q r s : Parties X Y K) (ten : LeavesLess clock_part
 
   pub round_leaves_less : left_to_do s < left_to_do p
   round_leaves_less = elim turns.less [
-    | inl less ↦ less_through _ _ _ _ less twenty.most ten.most
+    | inl less ↦ less_through _ _ _ _ (subst (λ (seats : List (Seat K)). left_to_do s < work_left r.core.journal seats) here less) twenty.most ten.most
     | inr still ↦ waited_less still
   ]

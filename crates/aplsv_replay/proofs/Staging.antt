@@ -19,3 +19,8 @@ may_go_on stage.Ready free = tt
 may_go_on stage.Waiting free = absurd (free refl)
 may_go_on stage.Finished free = tt
 may_go_on stage.Failed free = tt
+
+-- what holds of what two clauses say
+pub on_ok_two : {T E A B P : Type 0} (r : Result T E) → (A → B → P) → OnOk r A → OnOk r B → OnOk r P
+on_ok_two (Ok x) leads a b = leads a b
+on_ok_two (Err e) leads a b = tt

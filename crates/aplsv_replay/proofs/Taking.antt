@@ -1,113 +1,150 @@
 -- Turns of all parties, one after another.
-use Rattle.std.proofs.Common.{◌≡◌, ℕ, suc, Bool, true, false, eqb, List, [], ◌∷◌, ◌++◌, refl, ap, ap₂, ◌∙◌, append_assoc}
+use Rattle.std.proofs.Common.{◌≡◌, ℕ, suc, Bool, true, false, eqb, List, [], ◌∷◌, ◌++◌, Option, refl, ap, ap₂, ◌∙◌, append_assoc}
+use Rattle.std.specs.List.{All}
 use Rattle.std.specs.Prelude.{if◌then◌else◌}
 use Rattle.apl_arrays.specs.Array.{PlainArray}
 use Rattle.apl_arrays.specs.Parties.{clock_party, text_party}
+use Rattle.apl_io.specs.Content.{Told}
+use Rattle.bundle_text.specs.Rules.{PlainBundle}
 use Rattle.session_rules.specs.Auxiliaries.{some_stay}
+use Rattle.session_rules.specs.Run.{Dealings}
 use Rattle.aplsv_replay.specs.Participants.{users_of}
-use Rattle.aplsv_replay.specs.Together.{TakesTurns, TookTurns}
+use Rattle.aplsv_replay.specs.SeatTurns.{seat_numbers}
+use Rattle.aplsv_replay.specs.Sittings.{EndsIn, Sitting}
+use Rattle.aplsv_replay.specs.Together.{AreTogether, StayTogether, TakesTurns, TookTurns}
 use Rattle.aplsv_replay.specs.declared.parties.Parties.{Parties}
+use Rattle.aplsv_replay.specs.declared.seat.Seat.{Seat}
 use Rattle.replay_rules.specs.Turns.{Replay, goes_on, numbers_of, ordered, party_turn, round, rounds, turn_of_ten, turn_of_twenty, user_turns}
 
 -- turns that are taken while some user stays
 abbrev unless_over : (Replay → Replay) → Replay → Replay
 unless_over turns replay = if goes_on replay then turns replay else replay
 
+-- the numbers of users, in whatever dealings they end
+pub numbers_by_participants : {K : Type 0} (final : Dealings) (seats : List (Seat K)) → numbers_of (users_of final seats) ≡ seat_numbers seats
+numbers_by_participants final [] = refl
+numbers_by_participants final (seat ∷ seats) = ap (λ (others : List ℕ). seat.session.user ∷ others) (numbers_by_participants final seats)
+
 module _ {X Y K : Type 0} where
   -- the replay where the parties are, with these replies to come
-  abbrev pub replay_at : Parties X Y K → List PlainArray → List PlainArray → Replay
-  replay_at p ten twenty = record { journal = p.core.journal; ten = ten; twenty = twenty; users = users_of p.seats.items }
+  abbrev pub replay_at : Dealings → Parties X Y K → List PlainArray → List PlainArray → Replay
+  replay_at final p ten twenty = record { journal = p.core.journal; ten = ten; twenty = twenty; users = users_of final p.seats.items }
 
   -- some user stays
   abbrev pub stays_at : Parties X Y K → Bool
-  stays_at p = some_stay (numbers_of (users_of p.seats.items)) p.core.journal
+  stays_at p = some_stay (seat_numbers p.seats.items) p.core.journal
 
-  -- no turn
-  pub takes_none : (turns : Replay → Replay) (p : Parties X Y K) → ((r : Replay) → turns r ≡ r) → TakesTurns turns p p
-  takes_none turns p none = record {
-    lost = λ here. here;
-    took = λ here. record { ten = []; twenty = []; same = λ more_ten more_twenty. none (replay_at p more_ten more_twenty) };
-  }
-
-  -- turns that are said otherwise
-  pub takes_same : (turns others : Replay → Replay) (p q : Parties X Y K) → ((r : Replay) → others r ≡ turns r) → TakesTurns turns p q → TakesTurns others p q
-  takes_same turns others p q same h = record {
-    lost = h.lost;
-    took = λ here. let took = h.took here in record {
-      ten = took.ten;
-      twenty = took.twenty;
-      same = λ more_ten more_twenty. same (replay_at p (took.ten ++ more_ten) (took.twenty ++ more_twenty)) ∙ took.same more_ten more_twenty;
-    };
-  }
+  -- so the replay goes on
+  goes_at : (final : Dealings) (p : Parties X Y K) (ten twenty : List PlainArray) → goes_on (replay_at final p ten twenty) ≡ stays_at p
+  goes_at final p ten twenty = ap (λ (numbers : List ℕ). some_stay numbers p.core.journal) (numbers_by_participants final p.seats.items)
 
   -- some turns and then others
-  took_both : (one two : Replay → Replay) (p q r : Parties X Y K) → TookTurns one p q → TookTurns two q r → TookTurns (λ replay. two (one replay)) p r
-  took_both one two p q r a b = record {
+  took_both : (one two : Replay → Replay) (p q r : Parties X Y K) (between nows : List (Sitting K)) → ((final : Dealings) → All (EndsIn final) nows → All (EndsIn final) between) → TookTurns one p q between → TookTurns two q r nows → TookTurns (λ replay. two (one replay)) p r nows
+  took_both one two p q r between nows began a b = record {
     ten = a.ten ++ b.ten;
     twenty = a.twenty ++ b.twenty;
-    same = λ more_ten more_twenty.
+    same = λ final ends more_ten more_twenty.
         ap two
-        (ap₂ (λ (ten twenty : List PlainArray). one (replay_at p ten twenty)) (append_assoc a.ten b.ten more_ten) (append_assoc a.twenty b.twenty more_twenty)
-        ∙ a.same (b.ten ++ more_ten) (b.twenty ++ more_twenty))
-        ∙ b.same more_ten more_twenty;
+        (ap₂ (λ (ten twenty : List PlainArray). one (replay_at final p ten twenty)) (append_assoc a.ten b.ten more_ten) (append_assoc a.twenty b.twenty more_twenty)
+        ∙ a.same final (began final ends) (b.ten ++ more_ten) (b.twenty ++ more_twenty))
+        ∙ b.same final ends more_ten more_twenty;
   }
 
-  pub takes_both : (one two : Replay → Replay) (p q r : Parties X Y K) → TakesTurns one p q → TakesTurns two q r → TakesTurns (λ replay. two (one replay)) p r
-  takes_both one two p q r a b = record {
-    lost = λ here. a.lost (b.lost here);
-    took = λ here. took_both one two p q r (a.took (b.lost here)) (b.took here);
+module _ {X Y K : Type 0} (forgets_ten : X → ℕ → X → Type 0) (replies_ten : X → ℕ → PlainArray → PlainArray → X → Type 0)
+    (forgets_twenty : Y → ℕ → Y → Type 0) (replies_twenty : Y → ℕ → PlainArray → PlainArray → Y → Type 0)
+    (told : K → Option (Told (ℕ × List ℕ))) (faults : K → ℕ) where
+  abbrev Take : (Replay → Replay) → Parties X Y K → Parties X Y K → Type 0
+  Take turns p q = TakesTurns forgets_ten replies_ten forgets_twenty replies_twenty told faults turns p q
+
+  abbrev Stay : (Replay → Replay) → PlainBundle → X → Y → List K → Parties X Y K → List (Sitting K) → Parties X Y K → Type 0
+  Stay turns bundle ten twenty shelves p sittings q = StayTogether forgets_ten replies_ten forgets_twenty replies_twenty told faults turns bundle ten twenty shelves p sittings q
+
+  abbrev Together : PlainBundle → X → Y → List K → Parties X Y K → List (Sitting K) → Type 0
+  Together bundle ten twenty shelves p sittings = AreTogether forgets_ten replies_ten forgets_twenty replies_twenty told faults bundle ten twenty shelves p sittings
+
+  -- no turn
+  stay_still : (turns : Replay → Replay) (bundle : PlainBundle) (ten : X) (twenty : Y) (shelves : List K) (p : Parties X Y K) (sittings : List (Sitting K)) → Together bundle ten twenty shelves p sittings
+      → ((final : Dealings) (ten twenty : List PlainArray) → turns (replay_at final p ten twenty) ≡ replay_at final p ten twenty) → Stay turns bundle ten twenty shelves p sittings p
+  stay_still turns bundle ten twenty shelves p sittings h none = record {
+    nows = sittings;
+    together = h;
+    began = λ final h. h;
+    lost = λ here. here;
+    took = λ here. record { ten = []; twenty = []; same = λ final ends more_ten more_twenty. none final more_ten more_twenty };
   }
 
-  pub takes_while : (turns : Replay → Replay) (p q : Parties X Y K) → stays_at p ≡ true → TakesTurns turns p q → TakesTurns (unless_over turns) p q
-  takes_while turns p q stay h = record {
+  pub takes_none : (turns : Replay → Replay) (p : Parties X Y K) → ((r : Replay) → turns r ≡ r) → Take turns p p
+  takes_none turns p none bundle ten twenty shelves sittings h = stay_still turns bundle ten twenty shelves p sittings h (λ final more_ten more_twenty. none (replay_at final p more_ten more_twenty))
+
+  -- turns that are said otherwise, where the parties are
+  stay_same : (turns others : Replay → Replay) (bundle : PlainBundle) (ten : X) (twenty : Y) (shelves : List K) (p q : Parties X Y K) (sittings : List (Sitting K)) → ((final : Dealings) (ten twenty : List PlainArray) → others (replay_at final p ten twenty) ≡ turns (replay_at final p ten twenty)) → Stay turns bundle ten twenty shelves p sittings q
+      → Stay others bundle ten twenty shelves p sittings q
+  stay_same turns others bundle ten twenty shelves p q sittings same h = record {
+    nows = h.nows;
+    together = h.together;
+    began = h.began;
     lost = h.lost;
     took = λ here. let took = h.took here in record {
       ten = took.ten;
       twenty = took.twenty;
-      same = λ more_ten more_twenty.
-          let start : Replay = replay_at p (took.ten ++ more_ten) (took.twenty ++ more_twenty) in
-          ap (λ (goes : Bool). if goes then turns start else start) stay ∙ took.same more_ten more_twenty;
+      same = λ final ends more_ten more_twenty. same final (took.ten ++ more_ten) (took.twenty ++ more_twenty) ∙ took.same final ends more_ten more_twenty;
     };
   }
 
-  pub takes_no_more : (turns : Replay → Replay) (p : Parties X Y K) → stays_at p ≡ false → TakesTurns (unless_over turns) p p
-  takes_no_more turns p over = record {
-    lost = λ here. here;
-    took = λ here. record {
-      ten = [];
-      twenty = [];
-      same = λ more_ten more_twenty. let start : Replay = replay_at p more_ten more_twenty in ap (λ (goes : Bool). if goes then turns start else start) over;
-    };
-  }
+  pub takes_same : (turns others : Replay → Replay) (p q : Parties X Y K) → ((r : Replay) → others r ≡ turns r) → Take turns p q → Take others p q
+  takes_same turns others p q same h bundle ten twenty shelves sittings k = stay_same turns others bundle ten twenty shelves p q sittings (λ final more_ten more_twenty. same (replay_at final p more_ten more_twenty)) (h bundle ten twenty shelves sittings k)
 
--- ---- orders
+  -- some turns and then others
+  pub takes_both : (one two : Replay → Replay) (p q r : Parties X Y K) → Take one p q → Take two q r → Take (λ replay. two (one replay)) p r
+  takes_both one two p q r a b bundle ten twenty shelves sittings h =
+      let k = a bundle ten twenty shelves sittings h in
+      let l = b bundle ten twenty shelves k.nows k.together in
+      record {
+        nows = l.nows;
+        together = l.together;
+        began = λ final ends. k.began final (l.began final ends);
+        lost = λ here. k.lost (l.lost here);
+        took = λ here. took_both one two p q r k.nows l.nows l.began (k.took (l.lost here)) (l.took here);
+      }
 
-ordered_more : (order : List ℕ) (party : ℕ) (replay : Replay) → ordered (order ++ party ∷ []) replay ≡ ordered (party ∷ []) (ordered order replay)
-ordered_more [] party replay = refl
-ordered_more (first ∷ order) party replay = ordered_more order party (if goes_on replay then party_turn first replay else replay)
+  pub takes_while : (turns : Replay → Replay) (p q : Parties X Y K) → stays_at p ≡ true → Take turns p q → Take (unless_over turns) p q
+  takes_while turns p q stay h bundle ten twenty shelves sittings k =
+      stay_same turns (unless_over turns) bundle ten twenty shelves p q sittings
+      (λ final more_ten more_twenty. let start : Replay = replay_at final p more_ten more_twenty in ap (λ (goes : Bool). if goes then turns start else start) (goes_at final p more_ten more_twenty ∙ stay))
+      (h bundle ten twenty shelves sittings k)
 
-module _ {X Y K : Type 0} where
+  pub takes_no_more : (turns : Replay → Replay) (p : Parties X Y K) → stays_at p ≡ false → Take (unless_over turns) p p
+  takes_no_more turns p over bundle ten twenty shelves sittings h =
+      stay_still (unless_over turns) bundle ten twenty shelves p sittings h
+      (λ final more_ten more_twenty. let start : Replay = replay_at final p more_ten more_twenty in ap (λ (goes : Bool). if goes then turns start else start) (goes_at final p more_ten more_twenty ∙ over))
+
+  -- ---- orders
+
+  ordered_more : (order : List ℕ) (party : ℕ) (replay : Replay) → ordered (order ++ party ∷ []) replay ≡ ordered (party ∷ []) (ordered order replay)
+  ordered_more [] party replay = refl
+  ordered_more (first ∷ order) party replay = ordered_more order party (if goes_on replay then party_turn first replay else replay)
+
   -- one turn more behind those of an order
-  pub takes_next : (order : List ℕ) (party : ℕ) (p q r : Parties X Y K) → TakesTurns (ordered order) p q → TakesTurns (ordered (party ∷ [])) q r → TakesTurns (ordered (order ++ party ∷ [])) p r
+  pub takes_next : (order : List ℕ) (party : ℕ) (p q r : Parties X Y K) → Take (ordered order) p q → Take (ordered (party ∷ [])) q r → Take (ordered (order ++ party ∷ [])) p r
   takes_next order party p q r so_far next =
       takes_same (λ replay. ordered (party ∷ []) (ordered order replay)) (ordered (order ++ party ∷ [])) p r (ordered_more order party) (takes_both (ordered order) (ordered (party ∷ [])) p q r so_far next)
 
   -- one round more behind so many
-  pub takes_round : (count : ℕ) (p q r : Parties X Y K) → TakesTurns (rounds count) p q → stays_at q ≡ true → TakesTurns round q r → TakesTurns (rounds (suc count)) p r
+  pub takes_round : (count : ℕ) (p q r : Parties X Y K) → Take (rounds count) p q → stays_at q ≡ true → Take round q r → Take (rounds (suc count)) p r
   takes_round count p q r so_far stay next = takes_both (rounds count) (unless_over round) p q r so_far (takes_while round q r stay next)
 
   -- the turn of a party by its number
-  pub ten_is_party : (party : ℕ) (p q : Parties X Y K) → eqb party clock_party ≡ true → TakesTurns turn_of_ten p q → TakesTurns (party_turn party) p q
+  pub ten_is_party : (party : ℕ) (p q : Parties X Y K) → eqb party clock_party ≡ true → Take turn_of_ten p q → Take (party_turn party) p q
   ten_is_party party p q is h =
       takes_same turn_of_ten (party_turn party) p q
       (λ replay. ap (λ (same : Bool). if same then turn_of_ten replay else if eqb party text_party then turn_of_twenty replay else user_turns (λ user. eqb user.number party) replay) is) h
 
-  pub twenty_is_party : (party : ℕ) (p q : Parties X Y K) → eqb party clock_party ≡ false → eqb party text_party ≡ true → TakesTurns turn_of_twenty p q → TakesTurns (party_turn party) p q
+  pub twenty_is_party : (party : ℕ) (p q : Parties X Y K) → eqb party clock_party ≡ false → eqb party text_party ≡ true → Take turn_of_twenty p q → Take (party_turn party) p q
   twenty_is_party party p q other is h =
       takes_same turn_of_twenty (party_turn party) p q
       (λ replay. ap₂ (λ (ten twenty : Bool). if ten then turn_of_ten replay else if twenty then turn_of_twenty replay else user_turns (λ user. eqb user.number party) replay) other is) h
 
-  pub user_is_party : (party : ℕ) (p q : Parties X Y K) → eqb party clock_party ≡ false → eqb party text_party ≡ false → TakesTurns (user_turns (λ user. eqb user.number party)) p q → TakesTurns (party_turn party) p q
+  pub user_is_party : (party : ℕ) (p q : Parties X Y K) → eqb party clock_party ≡ false → eqb party text_party ≡ false → Take (user_turns (λ user. eqb user.number party)) p q → Take (party_turn party) p q
   user_is_party party p q other another h =
       takes_same (user_turns (λ user. eqb user.number party)) (party_turn party) p q
       (λ replay. ap₂ (λ (ten twenty : Bool). if ten then turn_of_ten replay else if twenty then turn_of_twenty replay else user_turns (λ user. eqb user.number party) replay) other another) h

@@ -5,5 +5,6 @@ pub mod Rounds
 pub mod SeatTurns
 pub mod Seats
 pub mod Serving
+pub mod Sittings
 pub mod SoFar
 pub mod Together

@@ -1,5 +1,6 @@
--- What a replay over a clock and a text store promises.
+-- What a replay promises, and one over a clock and a text store.
 use Rattle.std.specs.Prelude.{◌≡◌, ℕ, List, Option}
+use Rattle.apl_arrays.specs.Array.{PlainArray}
 use Rattle.apl_io.specs.Clock.{Ticks}
 use Rattle.apl_io.specs.Content.{Told}
 use Rattle.auxiliaries.specs.Clock.{RepliesByReading}
@@ -8,12 +9,22 @@ use Rattle.auxiliaries.specs.Served.{Replies, forgotten}
 use Rattle.bundle_text.specs.Rules.{PlainBundle}
 use Rattle.sv_journal.specs.Output.{PlainTranscript}
 use Rattle.sv_rules.specs.Entries.{Entries}
-use Rattle.session_rules.specs.Run.{IsRun}
+use Rattle.session_rules.specs.Run.{Dealings, IsRun}
+use Rattle.aplsv_replay.specs.Rounds.{IsReplay}
+
+module _ {X Y K : Type 0} (forgets_ten : X → ℕ → X → Type 0) (replies_ten : X → ℕ → PlainArray → PlainArray → X → Type 0)
+    (forgets_twenty : Y → ℕ → Y → Type 0) (replies_twenty : Y → ℕ → PlainArray → PlainArray → Y → Type 0)
+    (told : K → Option (Told (ℕ × List ℕ))) (faults : K → ℕ) where
+  -- a run of a bundle in the order of a replay: with the same dealings it is a run, and its journal is that of the replay
+  pub record IsRunInTurns (bundle : PlainBundle) (journal : Entries) (transcripts : List PlainTranscript) (ten ten_then : X) (twenty twenty_then : Y) (shelves shelves_then : List K) : Type 0 where
+    pub dealings : Dealings
+    pub run : IsRun forgets_ten replies_ten forgets_twenty replies_twenty told faults bundle dealings journal transcripts ten ten_then twenty twenty_then shelves shelves_then
+    pub turns : IsReplay bundle dealings journal
 
 -- a run whose auxiliaries are the clock and the text files: the protocol of text files begins between files, and stands somewhere at the end
-pub record IsDeviceRun {C T : Type 0} (ticks : C → Option Ticks) (clock_faults : C → ℕ) (told : T → Option (Told (List ℕ))) (text_faults : T → ℕ)
-    (bundle : PlainBundle) (journal : Entries) (transcripts : List PlainTranscript) (clock clock_then : C) (text text_then : T) : Type 0 where
+pub record IsDeviceRun {C T K : Type 0} (ticks : C → Option Ticks) (clock_faults : C → ℕ) (text_told : T → Option (Told (List ℕ))) (text_faults : T → ℕ) (told : K → Option (Told (ℕ × List ℕ))) (faults : K → ℕ)
+    (bundle : PlainBundle) (journal : Entries) (transcripts : List PlainTranscript) (clock clock_then : C) (text text_then : T) (shelves shelves_then : List K) : Type 0 where
   pub state : TextState
-  pub run : IsRun (λ old party new. new ≡ old) (λ old party value answer new. RepliesByReading ticks clock_faults old value answer new)
-      (λ old party new. new ≡ forgotten old) (λ old party value answer new. Replies told text_faults old value answer new)
-      bundle journal transcripts clock clock_then (record { store = text; state = idle }) (record { store = text_then; state = state })
+  pub run : IsRunInTurns (λ old party new. new ≡ old) (λ old party value answer new. RepliesByReading ticks clock_faults old value answer new)
+      (λ old party new. new ≡ forgotten old) (λ old party value answer new. Replies text_told text_faults old value answer new) told faults
+      bundle journal transcripts clock clock_then (record { store = text; state = idle }) (record { store = text_then; state = state }) shelves shelves_then

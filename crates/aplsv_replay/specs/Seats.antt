@@ -1,16 +1,24 @@
 -- The seats of a replay at its beginning and at its end.
-use Rattle.std.specs.Prelude.{Bool, true, false, Option, Some, None}
+use Rattle.std.specs.Prelude.{ℕ, Bool, true, false, List, Option, Some, None}
 use Rattle.apl_arrays.specs.List.{Listed}
+use Rattle.apl_io.specs.Content.{Told}
 use Rattle.sv_events.specs.Entry.{PlainEntry}
 use Rattle.sv_journal.specs.Output.{PlainTranscript}
+use Rattle.apl_session.specs.PlainSession.{HasCome}
+use Rattle.apl_session.specs.Wants.{HasHeardAll}
 use Rattle.apl_session.specs.declared.outcome.Ended.{Ended}
 use Rattle.apl_session.specs.declared.outcome.Ended.TheVariants as ended
+use Rattle.aplsv_replay.specs.Sittings.{Sitting}
 use Rattle.aplsv_replay.specs.SoFar.{printed_by}
-use Rattle.aplsv_replay.specs.declared.seat.Seat.{Seat}
 
 -- what a user saw
-abbrev pub transcript_of : {K : Type 0} → Seat K → PlainTranscript
-transcript_of seat = record { user = seat.session.user; lines = printed_by seat.session }
+abbrev pub transcript_of : {K : Type 0} → Sitting K → PlainTranscript
+transcript_of sitting = record { user = sitting.seat.session.user; lines = printed_by sitting.exchanges sitting.seat.session }
+
+-- a user has heard all answers, and its shelf was asked these
+pub record HasPrinted {K : Type 0} (told : K → Option (Told (ℕ × List ℕ))) (faults : K → ℕ) (sitting : Sitting K) : Type 0 where
+  pub heard : HasHeardAll sitting.seat.session.stage
+  pub come : HasCome told faults sitting.lent sitting.exchanges sitting.seat.session
 
 -- how a run ends where these transcripts are there, and where memory ran out for nobody or for some party
 abbrev pub end_by : Option (Listed PlainTranscript) → Listed PlainEntry → Bool → Ended

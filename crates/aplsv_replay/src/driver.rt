@@ -1,10 +1,8 @@
 ghost use Rattle.std.specs.Prelude.{◌≡◌, ◌+◌, ◌≤◌, ◌++◌, length, map, vec_capacity, vec_len};
 ghost use Rattle.apl_arrays.specs.Ascending.{AscendBy};
-ghost use Rattle.session_rules.specs.Run.{IsRun};
 ghost use Rattle.apl_session.specs.Ended.{IfWhole};
-ghost use Rattle.aplsv_replay.specs.Replayed.{IsDeviceRun};
+ghost use Rattle.aplsv_replay.specs.Replayed.{IsDeviceRun, IsRunInTurns};
 ghost use Rattle.aplsv_replay.specs.Endings.{ComesOf, IsEnded};
-ghost use Rattle.aplsv_replay.specs.Rounds.{IsReplay};
 ghost use Rattle.aplsv_replay.specs.Together.{AreOfSomeBundle};
 
 use crate::auxiliary::Auxiliary;
@@ -20,7 +18,8 @@ use sv_rules::{CLOCK_PARTY, TEXT_PARTY};
 
 /// Runs a bundle on one thread over a text store, a clock, and a shelf for each user: first the turns of the order, then
 /// rounds over 10, 20 and the users, ascending, until all users have left. The k-th user takes the k-th shelf, and all come
-/// back in their order. No more rounds are taken than the journal may have entries and the users have lines and leaves. It
+/// back in their order. A command calls its user's shelf with that user's number; what the shelves were asked and answered are
+/// the dealings of the run. No more rounds are taken than the journal may have entries and the users have lines and leaves. It
 /// takes the memory of the run; where that runs out for a party, the run ends as `WantOfMemory` when all users have left.
 pub fn replay<T: TextStore, C: Clock, K: Shelf>(
     alloc: Global,
@@ -28,9 +27,8 @@ pub fn replay<T: TextStore, C: Clock, K: Shelf>(
     devices: Devices<T, C, K>,
 ) -> Outcome<T, C, K>
     requires shelves { length bundle.users ≤ vec_len devices.shelves }
-    ensures run { IfWhole result.ended (λ transcripts journal. IsDeviceRun C.told C.faults T.told T.faults bundle journal transcripts devices.clock result.devices.clock devices.text result.devices.text) }
-    ensures turns { IfWhole result.ended (λ transcripts journal. IsReplay bundle journal) }
-    ensures shelves { result.devices.shelves.items ≡ devices.shelves.items }
+    ensures { IfWhole result.ended (λ transcripts journal. IsDeviceRun C.told C.faults T.told T.faults K.told K.faults bundle journal transcripts devices.clock result.devices.clock devices.text result.devices.text
+        devices.shelves.items result.devices.shelves.items) }
 {
     let Devices {
         text,
@@ -68,9 +66,7 @@ pub fn replay_with<X: Replier, Y: Replier, K: Shelf>(
     shelves: Vec<K>,
 ) -> RunOf<X, Y, K>
     requires shelves { length bundle.users ≤ vec_len shelves }
-    ensures run { IfWhole result.ended (λ transcripts journal. IsRun X.forgets X.replies Y.forgets Y.replies bundle journal transcripts ten result.ten twenty result.twenty) }
-    ensures turns { IfWhole result.ended (λ transcripts journal. IsReplay bundle journal) }
-    ensures shelves { result.shelves.items ≡ shelves.items }
+    ensures { IfWhole result.ended (λ transcripts journal. IsRunInTurns X.forgets X.replies Y.forgets Y.replies K.told K.faults bundle journal transcripts ten result.ten twenty result.twenty shelves.items result.shelves.items) }
 {
     let Ok(core) = core_of(alloc, bundle.users()) else {
         return not_begun(ten, twenty, shelves);
@@ -96,16 +92,15 @@ pub fn replay_with<X: Replier, Y: Replier, K: Shelf>(
 }
 
 // Takes the turns of an order, and then rounds until all users have left.
-fn go_through<X: Replier, Y: Replier, K>(
+fn go_through<X: Replier, Y: Replier, K: Shelf>(
     alloc: Global,
     parties: Parties<X, Y, K>,
     order: &[u32],
     shelves: Vec<K>,
 ) -> RunOf<X, Y, K>
-    requires together { AreOfSomeBundle X.forgets X.replies Y.forgets Y.replies parties }
+    requires together { AreOfSomeBundle X.forgets X.replies Y.forgets Y.replies K.told K.faults parties }
     requires room { vec_len parties.seats + vec_len shelves ≤ vec_capacity shelves }
-    ensures whole { IfWhole result.ended (λ transcripts journal. ComesOf X.forgets X.replies Y.forgets Y.replies order.now parties transcripts journal result.ten result.twenty) }
-    ensures shelves { result.shelves.items ≡ map (λ seat. seat.session.shelf) parties.seats.items ++ shelves.items }
+    ensures { IfWhole result.ended (λ transcripts journal. ComesOf X.forgets X.replies Y.forgets Y.replies K.told K.faults order.now parties shelves.items transcripts journal result.ten result.twenty result.shelves.items) }
 {
     let mut parties = parties;
     parties.take_turns(order);
@@ -126,14 +121,14 @@ fn not_begun<X, Y, K>(ten: X, twenty: Y, shelves: Vec<K>) -> RunOf<X, Y, K>
 }
 
 // Ends a run in which all users have left.
-fn close<X: Replier, Y: Replier, K>(
+fn close<X: Replier, Y: Replier, K: Shelf>(
     alloc: Global,
     parties: Parties<X, Y, K>,
     shelves: Vec<K>,
 ) -> RunOf<X, Y, K>
     requires ascending { AscendBy (λ seat. seat.session.user) parties.seats.items }
     requires room { vec_len parties.seats + vec_len shelves ≤ vec_capacity shelves }
-    ensures whole { IfWhole result.ended (λ transcripts journal. IsEnded parties transcripts journal) }
+    ensures whole { IfWhole result.ended (λ transcripts journal. IsEnded K.told K.faults parties transcripts journal) }
     ensures ten { result.ten ≡ parties.ten.replier }
     ensures twenty { result.twenty ≡ parties.twenty.replier }
     ensures shelves { result.shelves.items ≡ map (λ seat. seat.session.shelf) parties.seats.items ++ shelves.items }

@@ -1,10 +1,11 @@
-ghost use Rattle.std.specs.Prelude.{◌≡◌, ◌+◌, ◌≤◌, ◌++◌, All, IfSome, map, not, vec_capacity, vec_len};
+ghost use Rattle.std.specs.Prelude.{◌≡◌, ◌+◌, ◌≤◌, ◌++◌, List, All, IfSome, map, not, vec_capacity, vec_len};
 ghost use Rattle.std.specs.List.{list_all};
 ghost use Rattle.apl_arrays.specs.Ascending.{AscendBy};
-ghost use Rattle.apl_session.specs.Wants.{HasHeardAll};
-ghost use Rattle.aplsv_replay.specs.Seats.{end_by, transcript_of};
+ghost use Rattle.aplsv_replay.specs.Seats.{HasPrinted, end_by, transcript_of};
+ghost use Rattle.aplsv_replay.specs.Sittings.{Sitting, seats_in};
 
 use crate::seat::Seat;
+use apl_io::Shelf;
 use apl_session::{Ended, Parts, Transcript, Transcripts};
 use std::alloc::Global;
 use sv_events::Journal;
@@ -35,14 +36,14 @@ pub fn none_is_lost<K>(seats: &[Seat<K>]) -> bool
 
 /// The users' transcripts, and their shelves back at the front of those that were left. The list of shelves has room for
 /// them. It takes memory for the list of transcripts; none where that runs out.
-pub fn take_apart<K>(
+pub fn take_apart<K: Shelf>(
     alloc: Global,
     seats: Vec<Seat<K>>,
     shelves: &mut Vec<K>,
 ) -> Option<Transcripts>
     requires ascending { AscendBy (λ seat. seat.session.user) seats.items }
     requires room { vec_len seats + vec_len shelves.old ≤ vec_capacity shelves.old }
-    ensures transcripts { IfSome result (λ transcripts. All (λ seat. HasHeardAll seat.session.stage) seats.items → transcripts.items ≡ map transcript_of seats.items) }
+    ensures transcripts { IfSome result (λ transcripts. (sittings : List (Sitting K)) → seats_in sittings ≡ seats.items → All (HasPrinted K.told K.faults) sittings → transcripts.items ≡ map transcript_of sittings) }
     ensures shelves { shelves.new.items ≡ map (λ seat. seat.session.shelf) seats.items ++ shelves.old.items }
 {
     let left = shelves.len();

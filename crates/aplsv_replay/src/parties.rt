@@ -1,18 +1,19 @@
-ghost use Rattle.std.specs.Prelude.{◌≡◌, ◌==◌, ◌<◌, ◌||◌, ◌∷◌, [], All, IsTrue, false, not, true};
+ghost use Rattle.std.specs.Prelude.{◌≡◌, ◌==◌, ◌<◌, ◌||◌, ◌∷◌, [], List, All, IsTrue, false, not, true};
 ghost use Rattle.apl_arrays.specs.Ascending.{AscendBy};
 ghost use Rattle.apl_arrays.specs.Parties.{clock_party, text_party};
 ghost use Rattle.sv_core.specs.Core.{ArePeople};
 ghost use Rattle.sv_rules.specs.Legal.{is_user};
 ghost use Rattle.session_rules.specs.Auxiliaries.{some_stay};
-ghost use Rattle.aplsv_replay.specs.Participants.{users_of};
-ghost use Rattle.aplsv_replay.specs.SeatTurns.{AreSeatTurns, IsSeatTurn, is_due};
+ghost use Rattle.aplsv_replay.specs.SeatTurns.{AreSeatTurns, AreSeated, IsOneSeated, IsSeatTurn, is_due, seat_numbers};
+ghost use Rattle.aplsv_replay.specs.Sittings.{Sitting, seats_in};
 ghost use Rattle.aplsv_replay.specs.SoFar.{IsSeated};
-ghost use Rattle.aplsv_replay.specs.Together.{AreOfSomeBundle, LeavesLess, StayTogether, TakesRounds, TakesTurns, left_to_do, none_is_lost};
-ghost use Rattle.replay_rules.specs.Turns.{numbers_of, ordered, party_turn, round, turn_of_ten, turn_of_twenty};
+ghost use Rattle.aplsv_replay.specs.Together.{AreOfSomeBundle, LeavesLess, TakesRounds, TakesTurns, left_to_do, none_is_lost};
+ghost use Rattle.replay_rules.specs.Turns.{ordered, party_turn, round, turn_of_ten, turn_of_twenty};
 
 use crate::auxiliary::Auxiliary;
 use crate::ending::none_is_lost;
 use crate::seat::Seat;
+use apl_io::Shelf;
 use auxiliaries::Replier;
 use sv_core::Core;
 use sv_rules::{CLOCK_PARTY, TEXT_PARTY};
@@ -26,13 +27,12 @@ pub struct Parties<X, Y, K> {
     pub seats: Vec<Seat<K>>,
 }
 
-impl<X: Replier, Y: Replier, K> Parties<X, Y, K> {
+impl<X: Replier, Y: Replier, K: Shelf> Parties<X, Y, K> {
     /// A turn for each of these parties, in their order; behind the last leave nothing is done. It takes the memory of
     /// what the parties do; where that runs out for a party, the run is not whole.
     pub fn take_turns(&mut self, order: &[u32])
-        requires together { AreOfSomeBundle X.forgets X.replies Y.forgets Y.replies self.old }
-        ensures together { StayTogether X.forgets X.replies Y.forgets Y.replies self.old self.new }
-        ensures turns { TakesTurns (ordered order.now) self.old self.new }
+        requires together { AreOfSomeBundle X.forgets X.replies Y.forgets Y.replies K.told K.faults self.old }
+        ensures { TakesTurns X.forgets X.replies Y.forgets Y.replies K.told K.faults (ordered order.now) self.old self.new }
     {
         for party in order {
             self.take_next_turn(*party);
@@ -41,9 +41,8 @@ impl<X: Replier, Y: Replier, K> Parties<X, Y, K> {
 
     /// Rounds over 10, 20 and the users, ascending, until all users have left. It takes memory as `take_turns` does.
     pub fn take_rounds(&mut self)
-        requires together { AreOfSomeBundle X.forgets X.replies Y.forgets Y.replies self.old }
-        ensures together { StayTogether X.forgets X.replies Y.forgets Y.replies self.old self.new }
-        ensures rounds { TakesRounds self.old self.new }
+        requires together { AreOfSomeBundle X.forgets X.replies Y.forgets Y.replies K.told K.faults self.old }
+        ensures rounds { TakesRounds X.forgets X.replies Y.forgets Y.replies K.told K.faults self.old self.new }
         ensures over { some_stay self.new.core.users self.new.core.journal ≡ false }
     {
         'rounds: while !self.all_have_left() {
@@ -60,10 +59,9 @@ impl<X: Replier, Y: Replier, K> Parties<X, Y, K> {
 
     // One round.
     fn take_round(&mut self)
-        requires together { AreOfSomeBundle X.forgets X.replies Y.forgets Y.replies self.old }
+        requires together { AreOfSomeBundle X.forgets X.replies Y.forgets Y.replies K.told K.faults self.old }
         requires stay { IsTrue (some_stay self.old.core.users self.old.core.journal) }
-        ensures together { StayTogether X.forgets X.replies Y.forgets Y.replies self.old self.new }
-        ensures turns { TakesTurns round self.old self.new }
+        ensures turns { TakesTurns X.forgets X.replies Y.forgets Y.replies K.told K.faults round self.old self.new }
         ensures less { left_to_do self.new < left_to_do self.old }
     {
         self.turn_of_ten();
@@ -73,9 +71,8 @@ impl<X: Replier, Y: Replier, K> Parties<X, Y, K> {
 
     // The turn of a party, unless all users have left.
     fn take_next_turn(&mut self, party: u32)
-        requires together { AreOfSomeBundle X.forgets X.replies Y.forgets Y.replies self.old }
-        ensures together { StayTogether X.forgets X.replies Y.forgets Y.replies self.old self.new }
-        ensures turn { TakesTurns (ordered (party ∷ [])) self.old self.new }
+        requires together { AreOfSomeBundle X.forgets X.replies Y.forgets Y.replies K.told K.faults self.old }
+        ensures { TakesTurns X.forgets X.replies Y.forgets Y.replies K.told K.faults (ordered (party ∷ [])) self.old self.new }
     {
         if self.all_have_left() {
             return;
@@ -85,10 +82,9 @@ impl<X: Replier, Y: Replier, K> Parties<X, Y, K> {
 
     // The turn of a party.
     fn take_turn(&mut self, party: u32)
-        requires together { AreOfSomeBundle X.forgets X.replies Y.forgets Y.replies self.old }
+        requires together { AreOfSomeBundle X.forgets X.replies Y.forgets Y.replies K.told K.faults self.old }
         requires stay { IsTrue (some_stay self.old.core.users self.old.core.journal) }
-        ensures together { StayTogether X.forgets X.replies Y.forgets Y.replies self.old self.new }
-        ensures turns { TakesTurns (party_turn party) self.old self.new }
+        ensures { TakesTurns X.forgets X.replies Y.forgets Y.replies K.told K.faults (party_turn party) self.old self.new }
     {
         if is_clock(party) {
             self.turn_of_ten();
@@ -103,11 +99,10 @@ impl<X: Replier, Y: Replier, K> Parties<X, Y, K> {
 
     // The turn of 10.
     fn turn_of_ten(&mut self)
-        requires together { AreOfSomeBundle X.forgets X.replies Y.forgets Y.replies self.old }
+        requires together { AreOfSomeBundle X.forgets X.replies Y.forgets Y.replies K.told K.faults self.old }
         requires stay { IsTrue (some_stay self.old.core.users self.old.core.journal) }
-        ensures together { StayTogether X.forgets X.replies Y.forgets Y.replies self.old self.new }
         ensures stay { IsTrue (some_stay self.new.core.users self.new.core.journal) }
-        ensures turn { TakesTurns turn_of_ten self.old self.new }
+        ensures turn { TakesTurns X.forgets X.replies Y.forgets Y.replies K.told K.faults turn_of_ten self.old self.new }
         ensures less { LeavesLess clock_party self.new.ten.is_lost self.old self.new }
     {
         self.ten.take_turn(&mut self.core);
@@ -115,11 +110,10 @@ impl<X: Replier, Y: Replier, K> Parties<X, Y, K> {
 
     // The turn of 20.
     fn turn_of_twenty(&mut self)
-        requires together { AreOfSomeBundle X.forgets X.replies Y.forgets Y.replies self.old }
+        requires together { AreOfSomeBundle X.forgets X.replies Y.forgets Y.replies K.told K.faults self.old }
         requires stay { IsTrue (some_stay self.old.core.users self.old.core.journal) }
-        ensures together { StayTogether X.forgets X.replies Y.forgets Y.replies self.old self.new }
         ensures stay { IsTrue (some_stay self.new.core.users self.new.core.journal) }
-        ensures turn { TakesTurns turn_of_twenty self.old self.new }
+        ensures turn { TakesTurns X.forgets X.replies Y.forgets Y.replies K.told K.faults turn_of_twenty self.old self.new }
         ensures same { self.new.ten ≡ self.old.ten }
         ensures less { LeavesLess text_party self.new.twenty.is_lost self.old self.new }
     {
@@ -129,8 +123,9 @@ impl<X: Replier, Y: Replier, K> Parties<X, Y, K> {
     // A turn for each user, in their order, or for the one with this number alone. Each user leaves at its turn where memory
     // ran out for an auxiliary.
     fn user_turns(&mut self, only: Option<u32>)
-        requires together { AreOfSomeBundle X.forgets X.replies Y.forgets Y.replies self.old }
-        ensures turns { AreSeatTurns (is_due only) (self.old.ten.is_lost || self.old.twenty.is_lost) self.old.core self.old.seats.items self.new.core self.new.seats.items }
+        requires together { AreOfSomeBundle X.forgets X.replies Y.forgets Y.replies K.told K.faults self.old }
+        ensures turns { (sittings : List (Sitting K)) → seats_in sittings ≡ self.old.seats.items → All (IsSeated K.told K.faults self.old.core.journal) sittings
+            → AreSeatTurns K.told K.faults (is_due only) (self.old.ten.is_lost || self.old.twenty.is_lost) self.old.core sittings self.new.core self.new.seats.items }
         ensures ten { self.new.ten ≡ self.old.ten }
         ensures twenty { self.new.twenty ≡ self.old.twenty }
     {
@@ -147,7 +142,7 @@ impl<X: Replier, Y: Replier, K> Parties<X, Y, K> {
 
     // Whether all users have left.
     fn all_have_left(&self) -> bool
-        ensures { result ≡ not (some_stay (numbers_of (users_of self.now.seats.items)) self.now.core.journal) }
+        ensures { result ≡ not (some_stay (seat_numbers self.now.seats.items) self.now.core.journal) }
     {
         self.seats
             .iter()
@@ -170,12 +165,13 @@ fn is_text(party: u32) -> bool
 }
 
 // The turns of those users that are due, in their order: of each, or of the one with this number.
-fn seat_turns<K>(core: &mut Core, seats: &mut [Seat<K>], only: Option<u32>, closes: bool)
+fn seat_turns<K: Shelf>(core: &mut Core, seats: &mut [Seat<K>], only: Option<u32>, closes: bool)
     requires users { All (λ seat. IsTrue (is_user core.old.users seat.session.user)) seats.old }
     requires people { ArePeople core.old.users }
     requires ascending { AscendBy (λ seat. seat.session.user) seats.old }
-    requires seated { All (IsSeated core.old.journal) seats.old }
-    ensures { AreSeatTurns (is_due only) closes core.old seats.old core.new seats.new }
+    requires seated { AreSeated K.told K.faults core.old.journal seats.old }
+    ensures { (sittings : List (Sitting K)) → seats_in sittings ≡ seats.old → All (IsSeated K.told K.faults core.old.journal) sittings
+        → AreSeatTurns K.told K.faults (is_due only) closes core.old sittings core.new seats.new }
 {
     match seats.split_first_mut() {
         None => {}
@@ -188,11 +184,11 @@ fn seat_turns<K>(core: &mut Core, seats: &mut [Seat<K>], only: Option<u32>, clos
 }
 
 // The turn of a user, where it is due.
-fn seat_turn<K>(core: &mut Core, seat: &mut Seat<K>, due: bool, closes: bool)
+fn seat_turn<K: Shelf>(core: &mut Core, seat: &mut Seat<K>, due: bool, closes: bool)
     requires user { IsTrue (is_user core.old.users seat.old.session.user) }
     requires people { ArePeople core.old.users }
-    requires seated { IsSeated core.old.journal seat.old }
-    ensures { IsSeatTurn due closes core.old seat.old core.new seat.new }
+    requires seated { IsOneSeated K.told K.faults core.old.journal seat.old }
+    ensures { (sitting : Sitting K) → sitting.seat ≡ seat.old → IsSeated K.told K.faults core.old.journal sitting → IsSeatTurn K.told K.faults due closes core.old sitting core.new seat.new }
 {
     if !due {
         return;

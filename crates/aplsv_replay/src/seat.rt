@@ -1,15 +1,16 @@
-ghost use Rattle.std.specs.Prelude.{◌≡◌, ◌<◌, false, true, IsSome, IsTrue, OnErr, OnOk, Some};
+ghost use Rattle.std.specs.Prelude.{◌≡◌, ◌<◌, false, true, List, IsTrue, OnErr, OnOk};
 ghost use Rattle.sv_core.specs.Core.{ArePeople};
 ghost use Rattle.sv_rules.specs.Entries.{has_left};
 ghost use Rattle.sv_rules.specs.Legal.{is_user};
 ghost use Rattle.sv_events.specs.Answer.{plain_answer};
 ghost use Rattle.sv_rules.specs.Refused.{waits};
-ghost use Rattle.session_rules.specs.Session.{session_of};
-ghost use Rattle.replay_rules.specs.SoFar.{IsSoFar};
-ghost use Rattle.aplsv_replay.specs.Participants.{participant_of};
-ghost use Rattle.aplsv_replay.specs.SoFar.{GoesOn, GrowsBy, IsSameUser, IsRetried, IsSeated, IsSessionSoFar, IsTurn, IsWhole, heard, work_with};
+ghost use Rattle.session_rules.specs.Shelf.{Exchange};
+ghost use Rattle.apl_session.specs.PlainSession.{HasCome};
+ghost use Rattle.aplsv_replay.specs.SeatTurns.{IsOneSeated};
+ghost use Rattle.aplsv_replay.specs.SoFar.{AsksNow, GoesOn, GrowsBy, HasHeard, IsSameUser, TakesTurn, TriesAgain, heard, work_with};
 
 use apl_arrays::WantOfMemory;
+use apl_io::Shelf;
 use apl_session::{Session, Stage, Wants};
 use sv_core::Core;
 use sv_events::{Act, Answer, Retry};
@@ -21,7 +22,7 @@ pub struct Seat<K> {
     pub is_lost: bool,
 }
 
-impl<K> Seat<K> {
+impl<K: Shelf> Seat<K> {
     /// A user of whose lines none is done. No memory.
     pub fn new(session: Session<K>) -> Self
         ensures { result ≡ record { session = session; is_lost = false } }
@@ -44,8 +45,7 @@ impl<K> Seat<K> {
     pub fn take_turn(&mut self, core: &mut Core, closes: bool)
         requires user { IsTrue (is_user core.old.users self.old.session.user) }
         requires people { ArePeople core.old.users }
-        requires seated { IsSeated core.old.journal self.old }
-        ensures seated { IsSeated core.new.journal self.new }
+        requires seated { IsOneSeated K.told K.faults core.old.journal self.old }
         ensures same { IsSameUser self.old.session self.new.session }
         ensures grows { GrowsBy self.old.session.user core.old core.new }
         ensures goes_on { GoesOn core.old self.old.session core.new self.new.session }
@@ -53,8 +53,7 @@ impl<K> Seat<K> {
         ensures closed { closes ≡ true → has_left core.new.journal self.old.session.user ≡ true }
         ensures lost { self.old.is_lost ≡ true → self.new.is_lost ≡ true }
         ensures leaves { self.old.is_lost ≡ false → self.new.is_lost ≡ true → has_left core.new.journal self.old.session.user ≡ true }
-        ensures whole { closes ≡ false → self.new.is_lost ≡ false → IsWhole core.old.journal self.old → IsWhole core.new.journal self.new }
-        ensures turn { closes ≡ false → self.new.is_lost ≡ false → IsTurn core.old self.old.session core.new self.new.session }
+        ensures turn { closes ≡ false → self.new.is_lost ≡ false → has_left core.old.journal self.old.session.user ≡ false → TakesTurn K.told K.faults core.old self.old core.new self.new }
     {
         if core.has_left(self.user()) {
             return;
@@ -75,15 +74,13 @@ impl<K> Seat<K> {
         requires user { IsTrue (is_user core.old.users self.old.session.user) }
         requires people { ArePeople core.old.users }
         requires stays { has_left core.old.journal self.old.session.user ≡ false }
-        requires so_far { IsSessionSoFar core.old.journal self.old.session }
+        requires seated { IsOneSeated K.told K.faults core.old.journal self.old }
         ensures same { IsSameUser self.old.session self.new.session }
         ensures lost { self.new.is_lost ≡ self.old.is_lost }
         ensures users { core.new.users ≡ core.old.users }
         ensures grows { GrowsBy self.old.session.user core.old core.new }
-        ensures seated { OnOk result (IsSeated core.new.journal self.new) }
-        ensures whole { OnOk result (IsWhole core.new.journal self.new) }
         ensures goes_on { OnOk result (GoesOn core.old self.old.session core.new self.new.session) }
-        ensures turn { OnOk result (IsTurn core.old self.old.session core.new self.new.session) }
+        ensures turn { OnOk result (TakesTurn K.told K.faults core.old self.old core.new self.new) }
         ensures stays { OnErr result (has_left core.new.journal self.old.session.user ≡ false) }
     {
         if self.session.stage() == Stage::Waiting {
@@ -104,14 +101,13 @@ impl<K> Seat<K> {
         requires people { ArePeople core.old.users }
         requires stays { has_left core.old.journal self.old.session.user ≡ false }
         requires waiting { self.old.session.stage ≡ Stage.Waiting }
-        requires act { (session_of self.old.session.lines self.old.session.answers).waits ≡ Some act }
-        requires so_far { IsSoFar core.old.journal (participant_of self.old.session) false }
+        requires asked { (exchanges : List Exchange) × AsksNow core.old.journal exchanges act self.old.session }
         ensures same { IsSameUser self.old.session self.new.session }
         ensures lost { self.new.is_lost ≡ self.old.is_lost }
         ensures grows { GrowsBy self.old.session.user core.old core.new }
-        ensures so_far { OnOk result (IsSessionSoFar core.new.journal self.new.session) }
+        ensures heard { OnOk result ((lent : K) (exchanges : List Exchange) → HasCome K.told K.faults lent exchanges self.old.session → AsksNow core.old.journal exchanges act self.old.session
+            → HasHeard K.told K.faults lent exchanges core.old self.old.session core.new self.new.session) }
         ensures less { OnOk result (work_with core.new.journal self.new.session < work_with core.old.journal self.old.session) }
-        ensures turn { OnOk result (IsTurn core.old self.old.session core.new self.new.session) }
         ensures stays { has_left core.new.journal self.old.session.user ≡ false }
     {
         if core.waits(self.user()) {
@@ -129,14 +125,13 @@ impl<K> Seat<K> {
         requires stays { has_left core.old.journal self.old.session.user ≡ false }
         requires waiting { self.old.session.stage ≡ Stage.Waiting }
         requires waits { IsTrue (waits core.old.journal self.old.session.user) }
-        requires asks { IsSome (session_of self.old.session.lines self.old.session.answers).waits }
-        requires so_far { IsRetried core.old.journal self.old.session }
+        requires again { (exchanges : List Exchange) × TriesAgain core.old.journal exchanges self.old.session }
         ensures same { IsSameUser self.old.session self.new.session }
         ensures lost { self.new.is_lost ≡ self.old.is_lost }
         ensures grows { GrowsBy self.old.session.user core.old core.new }
-        ensures so_far { OnOk result (IsSessionSoFar core.new.journal self.new.session) }
+        ensures heard { OnOk result ((lent : K) (exchanges : List Exchange) → HasCome K.told K.faults lent exchanges self.old.session → TriesAgain core.old.journal exchanges self.old.session
+            → HasHeard K.told K.faults lent exchanges core.old self.old.session core.new self.new.session) }
         ensures goes_on { OnOk result (GoesOn core.old self.old.session core.new self.new.session) }
-        ensures turn { OnOk result (IsTurn core.old self.old.session core.new self.new.session) }
         ensures stays { has_left core.new.journal self.old.session.user ≡ false }
     {
         match core.retry(self.user())? {
@@ -148,8 +143,9 @@ impl<K> Seat<K> {
     // Hands an answer to the session, which waits on where it is `Held`.
     fn hear(&mut self, answer: Answer) -> Result<(), WantOfMemory>
         requires { self.old.session.stage ≡ Stage.Waiting }
-        ensures ok { OnOk result (self.new ≡ record self.old { session = heard (plain_answer answer) self.old.session }) }
-        ensures err { OnErr result (self.new ≡ record self.old { session = record self.old.session { stage = Stage.Failed } }) }
+        ensures ok { OnOk result (self.new ≡ record self.old { session = heard (plain_answer answer) self.new.session self.old.session }) }
+        ensures come { OnOk result ((lent : K) (exchanges : List Exchange) → HasCome K.told K.faults lent exchanges self.old.session → HasCome K.told K.faults lent exchanges self.new.session) }
+        ensures err { OnErr result (self.new ≡ record self.old { session = record self.old.session { stage = Stage.Failed; inside = self.new.session.inside } }) }
     {
         match answer {
             Answer::Held(_) => Ok(()),

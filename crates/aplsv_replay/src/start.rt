@@ -2,11 +2,14 @@ ghost use Rattle.std.specs.Prelude.{◌≡◌, ◌+◌, ◌≤◌, ◌++◌, [],
 ghost use Rattle.bundle_text.specs.User.{plain_user};
 ghost use Rattle.sv_core.specs.Core.{ArePeople};
 ghost use Rattle.replay_rules.specs.Turns.{newcomer};
-ghost use Rattle.aplsv_replay.specs.SoFar.{IsSeated, user_of};
+ghost use Rattle.session_rules.specs.Run.{Dealings};
 ghost use Rattle.aplsv_replay.specs.Participants.{users_of};
+ghost use Rattle.aplsv_replay.specs.Sittings.{newly};
+ghost use Rattle.aplsv_replay.specs.SoFar.{IsSeated, user_of};
 
 use crate::seat::Seat;
 use apl_arrays::WantOfMemory;
+use apl_io::Shelf;
 use apl_session::Session;
 use bundle_text::BundleUser;
 use std::alloc::Global;
@@ -34,7 +37,7 @@ pub fn room_for<K>(alloc: Global, users: &[BundleUser]) -> Result<Vec<Seat<K>>, 
 
 /// A seat for each user, in their order, in a list that has room for them; the k-th user takes the k-th shelf, and the
 /// shelves behind these are left. No memory.
-pub fn fill<K>(
+pub fn fill<K: Shelf>(
     alloc: Global,
     users: Vec<BundleUser>,
     seats: Vec<Seat<K>>,
@@ -44,8 +47,8 @@ pub fn fill<K>(
     requires room { vec_len users ≤ vec_capacity seats }
     requires shelves { vec_len users ≤ vec_len shelves.old }
     ensures users { map (λ seat. user_of seat.session) result.items ≡ map plain_user users.items }
-    ensures newcomers { users_of result.items ≡ map newcomer (map plain_user users.items) }
-    ensures seated { All (IsSeated []) result.items }
+    ensures newcomers { (final : Dealings) → users_of final result.items ≡ map (newcomer final) (map plain_user users.items) }
+    ensures seated { All (λ seat. IsSeated K.told K.faults [] (newly seat)) result.items }
     ensures here { All (λ seat. seat.is_lost ≡ false) result.items }
     ensures shelves { map (λ seat. seat.session.shelf) result.items ++ shelves.new.items ≡ shelves.old.items }
     ensures room { vec_len result + vec_len shelves.new ≤ vec_capacity shelves.new }

@@ -5,26 +5,27 @@ use Rattle.std.specs.Io.KnownBytes.{Appends}
 use Rattle.apl_arrays.specs.Limits.{most_input_bytes}
 use Rattle.apl_io.specs.Faults.{Rose}
 use Rattle.apl_io.specs.Whole.{ReadsAll, TakesExactly, TakesAtMost, AppendsPrefix}
+use Rattle.bundle_text.specs.Breaks.{Breaks}
+use Rattle.bundle_text.specs.Bundle.{BundleText, IsNoBundle}
 use Rattle.bundle_text.specs.declared.refused.BundleRule.{BundleRule}
 use Rattle.aplsv_top.specs.Causes.{Device, HasCause}
 use Rattle.aplsv_top.specs.Headline.{IsOutputFor, WritesRun, WritesFront, FindsNoBundle}
-use Rattle.aplsv_top.specs.Runnable.{RunnableText, IsNotRunnable, IsRefusedAt}
 use Rattle.aplsv_top.specs.declared.status.Status.{Status}
 use Rattle.aplsv_top.specs.declared.status.Status.TheVariants as status
-use Rattle.aplsv_top.proofs.Commands.{refused_runs_not}
+use Rattle.bundle_text.proofs.Reading.{never}
 
--- where bytes can't be run, no run of them is written
-no_run : (left rest held now : Option (List ℕ)) → IsSomeAnd left IsNotRunnable → WritesRun left rest held now → ⊥
+-- where bytes are the text of no bundle, no run of them is written
+no_run : (left rest held now : Option (List ℕ)) → IsSomeAnd left IsNoBundle → WritesRun left rest held now → ⊥
 no_run None rest held now none run = absurd none
-no_run (Some bytes) rest held now none run = none run.run.bundle (subst (λ some. RunnableText some run.run.bundle) run.read.0 run.run.read)
+no_run (Some bytes) rest held now none run = none run.run.bundle (subst (λ some. BundleText some run.run.bundle) run.read.0 run.run.read)
 
 -- nor a front part of one
-no_front : (left rest held now : Option (List ℕ)) → IsSomeAnd left IsNotRunnable → WritesFront left rest held now → ⊥
+no_front : (left rest held now : Option (List ℕ)) → IsSomeAnd left IsNoBundle → WritesFront left rest held now → ⊥
 no_front None rest held now none run = absurd none
-no_front (Some bytes) rest held now none run = none run.run.bundle (subst (λ some. RunnableText some run.run.bundle) run.read.0 run.run.read)
+no_front (Some bytes) rest held now none run = none run.run.bundle (subst (λ some. BundleText some run.run.bundle) run.read.0 run.run.read)
 
 module _ (ending : Status) (source rest sink grown : Device) where
-  -- what stands behind a status, where no bytes that can't be run were run
+  -- what stands behind a status, where no bytes that are the text of no bundle were run
   pub caused : (ending ≡ status.Done → WritesRun source.bytes rest.bytes sink.bytes grown.bytes)
       → (ending ≡ status.WriteFault → WritesFront source.bytes rest.bytes sink.bytes grown.bytes)
       → (ending ≡ status.ReadFault → Rose source.faults rest.faults)
@@ -80,8 +81,8 @@ module _ (ending : Status) (bytes : List ℕ) (source rest sink grown : Device) 
 all_taken : (bytes : List ℕ) → length bytes ≤ most_input_bytes → TakesAtMost (Some bytes) (Some []) most_input_bytes
 all_taken bytes few = (length bytes, few, (omega arith, ap Some (sym (drop_all (length bytes) bytes (omega arith)))))
 
--- few bytes that can't be run are refused, and nothing is written
-pub bytes_refused : (bytes : List ℕ) (offset : ℕ) (rule : BundleRule) (sink : Device) → length bytes ≤ most_input_bytes → IsRefusedAt bytes offset rule → HasCause (status.Malformed offset rule) (given bytes) used_up sink sink
+-- few bytes that are the text of no bundle are refused, and nothing is written
+pub bytes_refused : (bytes : List ℕ) (offset : ℕ) (rule : BundleRule) (sink : Device) → length bytes ≤ most_input_bytes → Breaks bytes offset rule → HasCause (status.Malformed offset rule) (given bytes) used_up sink sink
 bytes_refused bytes offset rule sink few refused = caused (status.Malformed offset rule) (given bytes) used_up sink sink
     (λ is. absurd cc)
     (λ is. absurd cc)
@@ -92,7 +93,7 @@ bytes_refused bytes offset rule sink few refused = caused (status.Malformed offs
     (λ o r is.
     let at : offset ≡ o = cc in
     let named : rule ≡ r = cc in
-    record { bytes = bytes; read = (refl, refl); refused = subst₂ (λ (p : ℕ) (q : BundleRule). IsRefusedAt bytes p q) at named refused; none = refused_runs_not bytes offset rule refused })
+    record { bytes = bytes; read = (refl, refl); refused = subst₂ (λ (p : ℕ) (q : BundleRule). Breaks bytes p q) at named refused; none = λ bundle text. never bytes bundle offset rule text refused })
 
 module _ (bytes text slice : List ℕ) (sink grown : Device) (few : length bytes ≤ most_input_bytes) (run : IsOutputFor bytes text) (same : slice ≡ text) where
   of_slice : IsOutputFor bytes slice

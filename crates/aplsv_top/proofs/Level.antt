@@ -138,7 +138,7 @@ older_by false (Some made) numbers journal user = older_made (waits journal user
 
 older_turn : (takes : Bool) (numbers : List ℕ) (journal : Entries) (user : Participant)
     → IsOlder journal (let first : Turn = (if takes then turn numbers journal user else record { journal = journal; user = user }) in first.journal)
-older_turn true numbers journal user = older_by (has_left journal user.number) (session_of user.lines user.answers).waits numbers journal user
+older_turn true numbers journal user = older_by (has_left journal user.number) (session_of user.lines user.answers user.replies).waits numbers journal user
 older_turn false numbers journal user = unchanged journal
 
 older_turns : (test : Participant → Bool) (numbers : List ℕ) (journal : Entries) (users : List Participant) → IsOlder journal (turns_where test numbers journal users).journal
@@ -168,7 +168,7 @@ number_by false (Some made) numbers journal user = number_made (waits journal us
 
 number_turn : (takes : Bool) (numbers : List ℕ) (journal : Entries) (user : Participant)
     → (let first : Turn = (if takes then turn numbers journal user else record { journal = journal; user = user }) in first.user.number) ≡ user.number
-number_turn true numbers journal user = number_by (has_left journal user.number) (session_of user.lines user.answers).waits numbers journal user
+number_turn true numbers journal user = number_by (has_left journal user.number) (session_of user.lines user.answers user.replies).waits numbers journal user
 number_turn false numbers journal user = refl
 
 numbers_kept : (test : Participant → Bool) (numbers : List ℕ) (journal : Entries) (users : List Participant) → numbers_of (turns_where test numbers journal users).users ≡ numbers_of users

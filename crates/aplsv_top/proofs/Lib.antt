@@ -1,6 +1,5 @@
 pub mod Causes
 pub mod Clocks
-pub mod Commands
 pub mod Copies
 pub mod Determined
 pub mod Files

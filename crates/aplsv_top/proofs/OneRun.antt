@@ -9,24 +9,25 @@ use Rattle.bundle_text.specs.Rules.{PlainBundle}
 use Rattle.bundle_text.specs.User.{PlainUser}
 use Rattle.sv_rules.specs.Entries.{Entries, has_left}
 use Rattle.session_rules.specs.Auxiliaries.{some_stay}
+use Rattle.session_rules.specs.Run.{Dealings}
 use Rattle.replay_rules.proofs.Rounds.{stays}
 use Rattle.replay_rules.specs.Turns.{IsJournalOfTurns, Replay, beginning, goes_on, newcomer, numbers_of, ordered, rounds}
 use Rattle.aplsv_top.proofs.Determined.{Answers, IsDetermined}
 use Rattle.aplsv_top.proofs.Level.{AreTame, IsLevel, IsRepliedTo, tame_replay}
 
 -- where all users have left none stays
-none_stay : (journal : Entries) (users : List PlainUser) → All (λ (user : PlainUser). IsTrue (has_left journal user.number)) users → some_stay (numbers_of (map newcomer users)) journal ≡ false
-none_stay journal [] left = refl
-none_stay journal (user ∷ users) left =
-    ap (λ (gone : Bool). not gone || some_stay (numbers_of (map newcomer users)) journal) (All-head (λ (user : PlainUser). IsTrue (has_left journal user.number)) user users left)
-    ∙ none_stay journal users (All-tail (λ (user : PlainUser). IsTrue (has_left journal user.number)) user users left)
+none_stay : (dealings : Dealings) (journal : Entries) (users : List PlainUser) → All (λ (user : PlainUser). IsTrue (has_left journal user.number)) users → some_stay (numbers_of (map (newcomer dealings) users)) journal ≡ false
+none_stay dealings journal [] left = refl
+none_stay dealings journal (user ∷ users) left =
+    ap (λ (gone : Bool). not gone || some_stay (numbers_of (map (newcomer dealings) users)) journal) (All-head (λ (user : PlainUser). IsTrue (has_left journal user.number)) user users left)
+    ∙ none_stay dealings journal users (All-tail (λ (user : PlainUser). IsTrue (has_left journal user.number)) user users left)
 
 module _ {X Y : Type 0} (forgets_ten : X → ℕ → X → Type 0) (replies_ten : X → ℕ → PlainArray → PlainArray → X → Type 0) (AlikeTen : X → X → Type 0) (one_ten : IsDetermined forgets_ten replies_ten AlikeTen)
     (forgets_twenty : Y → ℕ → Y → Type 0) (replies_twenty : Y → ℕ → PlainArray → PlainArray → Y → Type 0) (AlikeTwenty : Y → Y → Type 0) (one_twenty : IsDetermined forgets_twenty replies_twenty AlikeTwenty)
     (ten : X) (alike_ten : AlikeTen ten ten) (twenty : Y) (alike_twenty : AlikeTwenty twenty twenty) (bundle : PlainBundle) where
-  -- a journal of the bundle's turns that both auxiliaries replied to
-  pub record IsRepliedJournal (journal : Entries) : Type 0 where
-    pub turns : IsJournalOfTurns bundle journal
+  -- a journal of the bundle's turns with these dealings that both auxiliaries replied to
+  pub record IsRepliedJournal (dealings : Dealings) (journal : Entries) : Type 0 where
+    pub turns : IsJournalOfTurns bundle dealings journal
     pub ten_answers : Answers forgets_ten replies_ten clock_party ten journal
     pub twenty_answers : Answers forgets_twenty replies_twenty text_party twenty journal
 
@@ -36,16 +37,16 @@ module _ {X Y : Type 0} (forgets_ten : X → ℕ → X → Type 0) (replies_ten 
   tame : (count : ℕ) → AreTame forgets_ten replies_ten AlikeTen one_ten forgets_twenty replies_twenty AlikeTwenty one_twenty ten alike_ten twenty alike_twenty (λ a. rounds count (ordered bundle.order a))
   tame count = tame_replay forgets_ten replies_ten AlikeTen one_ten forgets_twenty replies_twenty AlikeTwenty one_twenty ten alike_ten twenty alike_twenty bundle.order count
 
-  module _ (journal : Entries) (h : IsRepliedJournal journal) where
+  module _ (dealings : Dealings) (journal : Entries) (h : IsRepliedJournal dealings journal) where
     -- the replay of a journal, before its first turn and after so many rounds
     abbrev before : Replay
-    before = beginning bundle h.turns.ten h.turns.twenty
+    before = beginning bundle dealings h.turns.ten h.turns.twenty
 
     abbrev after : ℕ → Replay
     after count = rounds count (ordered bundle.order before)
 
     over : goes_on (after h.turns.count) ≡ false
-    over = ap₂ some_stay ((tame h.turns.count).numbers before) h.turns.last ∙ none_stay journal bundle.users h.turns.left
+    over = ap₂ some_stay ((tame h.turns.count).numbers before) h.turns.last ∙ none_stay dealings journal bundle.users h.turns.left
 
     last_replied : RepliedTo (after h.turns.count)
     last_replied = record {
@@ -64,14 +65,14 @@ module _ {X Y : Type 0} (forgets_ten : X → ℕ → X → Type 0) (replies_ten 
     journal_after : (count : ℕ) → h.turns.count ≤ count → (after count).journal ≡ journal
     journal_after count more = ap (λ (a : Replay). a.journal) (same_after count more) ∙ h.turns.last
 
-  module _ (journal other : Entries) (h : IsRepliedJournal journal) (k : IsRepliedJournal other) where
+  module _ (dealings others : Dealings) (journal other : Entries) (h : IsRepliedJournal dealings journal) (k : IsRepliedJournal others other) (same : map (newcomer dealings) bundle.users ≡ map (newcomer others) bundle.users) where
     by_count : (count : ℕ) → h.turns.count ≤ count → k.turns.count ≤ count → journal ≡ other
     by_count count more also =
-        let start : IsLevel (before journal h) (before other k) = record { journal = refl; users = refl } in
-        let end = (tame count).level (before journal h) (before other k) start (replied_after journal h count more) (replied_after other k count also) in
-        sym (journal_after journal h count more) ∙ (end.journal ∙ journal_after other k count also)
+        let start : IsLevel (before dealings journal h) (before others other k) = record { journal = refl; users = same } in
+        let end = (tame count).level (before dealings journal h) (before others other k) start (replied_after dealings journal h count more) (replied_after others other k count also) in
+        sym (journal_after dealings journal h count more) ∙ (end.journal ∙ journal_after others other k count also)
 
-    -- there is one
+    -- there is one, where the shelves of users give the same replies
     pub one_journal : journal ≡ other
     one_journal = by (leb h.turns.count k.turns.count) refl where
       by : (b : Bool) → leb h.turns.count k.turns.count ≡ b → journal ≡ other

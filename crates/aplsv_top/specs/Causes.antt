@@ -4,9 +4,9 @@ use Rattle.std.specs.declared.option.Option.{Option}
 use Rattle.apl_arrays.specs.Limits.{most_input_bytes}
 use Rattle.apl_io.specs.Faults.{Rose}
 use Rattle.apl_io.specs.Whole.{TakesExactly, TakesAtMost}
+use Rattle.bundle_text.specs.Bundle.{IsNoBundle}
 use Rattle.bundle_text.specs.declared.refused.BundleRule.{BundleRule}
 use Rattle.aplsv_top.specs.Headline.{WritesRun, WritesFront, FindsNoBundle}
-use Rattle.aplsv_top.specs.Runnable.{IsNotRunnable}
 use Rattle.aplsv_top.specs.declared.status.Status.{Status}
 use Rattle.aplsv_top.specs.declared.status.Status.TheVariants as status
 
@@ -26,4 +26,4 @@ pub record HasCause (ending : Status) (source rest sink grown : Device) : Type 0
   pub too_long : ending ≡ status.TooLong → TakesExactly source.bytes rest.bytes (most_input_bytes + 1)
   pub taken : ending ≢ status.TooLong → TakesAtMost source.bytes rest.bytes most_input_bytes
   pub malformed : (offset : ℕ) (rule : BundleRule) → ending ≡ status.Malformed offset rule → FindsNoBundle source.bytes rest.bytes offset rule
-  pub no_bundle : IsSomeAnd source.bytes IsNotRunnable → (ending ≢ status.Done) × (ending ≢ status.WriteFault)
+  pub no_bundle : IsSomeAnd source.bytes IsNoBundle → (ending ≢ status.Done) × (ending ≢ status.WriteFault)

@@ -7,11 +7,10 @@ use Rattle.apl_io.specs.Whole.{ReadsAll, AppendsPrefix}
 use Rattle.sv_rules.specs.Entries.{Entries}
 use Rattle.sv_journal.specs.Output.{PlainTranscript, output_text}
 use Rattle.sv_journal.specs.Printable.{ArePrintable}
-use Rattle.bundle_text.specs.Bundle.{PlainBundle}
+use Rattle.bundle_text.specs.Breaks.{Breaks}
+use Rattle.bundle_text.specs.Bundle.{BundleText, IsNoBundle, PlainBundle}
 use Rattle.bundle_text.specs.declared.refused.BundleRule.{BundleRule}
 use Rattle.aplsv_replay.specs.Replayed.{IsDeviceRun}
-use Rattle.aplsv_replay.specs.Rounds.{IsReplay}
-use Rattle.aplsv_top.specs.Runnable.{RunnableText, IsNotRunnable, IsRefusedAt}
 
 -- the text store of a run: the bundle's files, before the first call, none of which is to fail
 abbrev pub text_of : PlainBundle → Keeper (List ℕ)
@@ -21,21 +20,26 @@ text_of bundle = new_keeper (map file_entry bundle.files) []
 abbrev pub clock_of : PlainBundle → Timer
 clock_of bundle = record { told = record { left = bundle.clock; calls = 0; fails = [] }; faults = 0 }
 
--- the text is the output of a run of this bundle over its files and readings: its transcripts, and its journal with the oldest entry first, which is the journal of the bundle's replay. They are printable, and no others that are have this output
+-- the shelves of a run: each without an entry, before the first call, none of which is to fail
+abbrev pub shelves_of : PlainBundle → List (Keeper (ℕ × List ℕ))
+shelves_of bundle = map (λ user. new_keeper [] []) bundle.users
+
+-- the text is the output of a run of this bundle over its files, its readings and empty shelves: its transcripts, and its journal with the oldest entry first, which is the journal of the bundle's replay. They are printable, and no others that are have this output
 pub record IsOutputOf (bundle : PlainBundle) (text : List ℕ) : Type 0 where
   pub transcripts : List PlainTranscript
   pub journal : Entries
   pub clock : Timer
   pub files : Keeper (List ℕ)
-  pub run : IsDeviceRun (λ c. Some c.told) (λ c. c.faults) (λ t. Some t.told) (λ t. t.faults) bundle journal transcripts (clock_of bundle) clock (text_of bundle) files
-  pub replay : IsReplay bundle journal
+  pub shelves : List (Keeper (ℕ × List ℕ))
+  pub run : IsDeviceRun (λ c. Some c.told) (λ c. c.faults) (λ t. Some t.told) (λ t. t.faults) (λ k. Some k.told) (λ k. k.faults) bundle journal transcripts
+      (clock_of bundle) clock (text_of bundle) files (shelves_of bundle) shelves
   pub output : text ≡ output_text transcripts (reverse journal)
   pub printable : ArePrintable transcripts (reverse journal)
 
--- the bytes are the text of a bundle that can be run, and the text is the output of a run of it
+-- the bytes are the text of a bundle, and the text is the output of a run of it
 pub record IsOutputFor (bytes text : List ℕ) : Type 0 where
   pub bundle : PlainBundle
-  pub read : RunnableText bytes bundle
+  pub read : BundleText bytes bundle
   pub run : IsOutputOf bundle text
 
 -- all bytes were read, to their end, and the output of a run of their bundle was written
@@ -54,9 +58,9 @@ pub record WritesFront (left rest held now : Option (List ℕ)) : Type 0 where
   pub run : IsOutputFor bytes text
   pub written : AppendsPrefix held now text
 
--- all bytes were read, to their end, and they can't be run, since this rule is broken at this offset
+-- all bytes were read, to their end, and they are the text of no bundle, since this rule is broken at this offset
 pub record FindsNoBundle (left rest : Option (List ℕ)) (offset : ℕ) (rule : BundleRule) : Type 0 where
   pub bytes : List ℕ
   pub read : ReadsAll left rest bytes
-  pub refused : IsRefusedAt bytes offset rule
-  pub none : IsNotRunnable bytes
+  pub refused : Breaks bytes offset rule
+  pub none : IsNoBundle bytes

@@ -1,5 +1,4 @@
 pub mod Causes
 pub mod Headline
 pub mod OutputLaws
-pub mod Runnable
 pub mod Words

@@ -5,7 +5,6 @@ mod bytes;
 mod laws;
 mod memory;
 mod output;
-mod runnable;
 mod status;
 mod top;
 

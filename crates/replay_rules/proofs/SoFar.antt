@@ -9,7 +9,9 @@ use Rattle.sv_events.specs.Entry.{PlainEntry}
 use Rattle.sv_events.specs.declared.event.Act.{Act}
 use Rattle.sv_rules.specs.Entries.{Entries, counted_entries, entry_weight, has_left, held_elements, is_full, is_held, is_leave, kind_of}
 use Rattle.sv_rules.specs.Refused.{act_held, awaited, last_entry}
+use Rattle.session_rules.specs.Course.{Course}
 use Rattle.session_rules.specs.Session.{session_of}
+use Rattle.session_rules.specs.Shelf.{Exchange, replies_in}
 use Rattle.session_rules.specs.UserPart.{IsFinished, IsUserPart, acts_of, answered_entries, answers_of, before_leave}
 use Rattle.session_rules.proofs.Parties.{other_answers_none}
 use Rattle.session_rules.proofs.Taking.{next_is_taken}
@@ -107,11 +109,11 @@ answered_on journal user waiting e h room act free asks =
     let none : h.refused ≡ [] = none_refused h.refused journal room h.at_limit in
     let grown : e ∷ entries ≡ answered_entries (e ∷ journal) user.number = sym (own_answers e journal user.number act.own act.stays free) in
     let given : user.answers ≡ answers_of entries = h.answers ∙ ap (λ (refused : List Act). answers_of entries ++ map (λ act. full) refused) none ∙ append-nil (answers_of entries) in
-    let asked : (session_of user.lines user.answers).acts ≡ acts_of entries = h.acts ∙ ap (λ (refused : List Act). acts_of entries ++ refused) none ∙ append-nil (acts_of entries) in
+    let asked : (session_of user.lines user.answers user.replies).acts ≡ acts_of entries = h.acts ∙ ap (λ (refused : List Act). acts_of entries ++ refused) none ∙ append-nil (acts_of entries) in
     record {
       refused = [];
       answers = ap (λ answers. answers ++ e.answer ∷ []) given ∙ sym (last_answer e entries) ∙ ap answers_of grown ∙ sym (append-nil (answers_of (answered_entries (e ∷ journal) user.number)));
-      acts = next_is_taken user.lines user.answers e.answer e.act asks ∙ ap (λ acts. acts ++ e.act ∷ []) asked ∙ sym (last_act e entries) ∙ ap acts_of grown ∙ sym (append-nil (acts_of (answered_entries (e ∷ journal) user.number)));
+      acts = next_is_taken user.lines user.answers user.replies e.answer e.act asks ∙ ap (λ acts. acts ++ e.act ∷ []) asked ∙ sym (last_act e entries) ∙ ap acts_of grown ∙ sym (append-nil (acts_of (answered_entries (e ∷ journal) user.number)));
       at_limit = λ some. absurd (some refl);
       waited = subst (λ (act : Option Act). IfSome act (IsWaitedFor (with_answer user e.answer) false [])) (sym (own_awaits e journal user.number act.own ∙ ap (λ (held : Bool). if held then Some e.act else None) free)) tt;
       going = λ is. absurd cc;
@@ -139,20 +141,20 @@ some_is : (act other : Act) → Some act ≡ Some other → act ≡ other
 some_is act other e = cc e
 
 -- the first that was refused is the act that was waited for
-first_refused : (user after : Participant) (waiting : Bool) (refused : List Act) (act : Act) (awaits : Option Act) → (session_of user.lines user.answers).waits ≡ Some act → IfSome awaits (IsWaitedFor user waiting refused)
+first_refused : (user after : Participant) (waiting : Bool) (refused : List Act) (act : Act) (awaits : Option Act) → (session_of user.lines user.answers user.replies).waits ≡ Some act → IfSome awaits (IsWaitedFor user waiting refused)
     → IfSome awaits (IsWaitedFor after false (refused ++ act ∷ []))
 first_refused user after waiting refused act None asks h = tt
 first_refused user after waiting [] act (Some other) asks h = some_is act other (sym asks ∙ h.1)
 first_refused user after waiting (first ∷ refused) act (Some other) asks h = h
 
 -- an act is answered full
-pub refused_on : (journal : Entries) (user : Participant) (waiting : Bool) (act : Act) → IsSoFar journal user waiting → IsTrue (is_full journal) → (session_of user.lines user.answers).waits ≡ Some act → IsSoFar journal (with_answer user full) false
+pub refused_on : (journal : Entries) (user : Participant) (waiting : Bool) (act : Act) → IsSoFar journal user waiting → IsTrue (is_full journal) → (session_of user.lines user.answers user.replies).waits ≡ Some act → IsSoFar journal (with_answer user full) false
 refused_on journal user waiting act h limit asks =
     let entries : Entries = answered_entries journal user.number in
     record {
       refused = h.refused ++ act ∷ [];
       answers = ap (λ answers. answers ++ full ∷ []) h.answers ∙ append_assoc (answers_of entries) (map (λ act. full) h.refused) (full ∷ []) ∙ ap (λ fulls. answers_of entries ++ fulls) (sym (map_push (λ (a : Act). full) h.refused act));
-      acts = next_is_taken user.lines user.answers full act asks ∙ ap (λ acts. acts ++ act ∷ []) h.acts ∙ append_assoc (acts_of entries) h.refused (act ∷ []);
+      acts = next_is_taken user.lines user.answers user.replies full act asks ∙ ap (λ acts. acts ++ act ∷ []) h.acts ∙ append_assoc (acts_of entries) h.refused (act ∷ []);
       at_limit = λ some. limit;
       waited = first_refused user (with_answer user full) waiting h.refused act (awaited journal user.number) asks h.waited;
       going = λ is. absurd cc;
@@ -160,26 +162,30 @@ refused_on journal user waiting act h limit asks =
 
 -- ---- a leave
 
-head_refused : (user : Participant) (waiting : Bool) (refused : List Act) (awaits : Option Act) → (session_of user.lines user.answers).waits ≡ None → IfSome awaits (IsWaitedFor user waiting refused) → IfSome awaits (λ act. slice_get refused 0 ≡ Some act)
+head_refused : (user : Participant) (waiting : Bool) (refused : List Act) (awaits : Option Act) → (session_of user.lines user.answers user.replies).waits ≡ None → IfSome awaits (IsWaitedFor user waiting refused) → IfSome awaits (λ act. slice_get refused 0 ≡ Some act)
 head_refused user waiting refused None over h = tt
 head_refused user waiting [] (Some act) over h = absurd (let no : None ≡ Some act = sym over ∙ h.1 in cc)
 head_refused user waiting (first ∷ refused) (Some act) over h = ap (λ (a : Act). Some a) h
 
 -- a user that leaves at the end of its lines has its part
-pub left_on : (journal : Entries) (user : Participant) (waiting : Bool) (e : PlainEntry) → IsSoFar journal user waiting → e.party ≡ user.number → is_leave e.act ≡ true → (session_of user.lines user.answers).waits ≡ None
-    → IsUserPart (e ∷ journal) (record { number = user.number; lines = user.lines }) (session_of user.lines user.answers).terminal.transcript
-left_on journal user waiting e h own leaves over =
+pub left_on : (journal : Entries) (user : Participant) (waiting : Bool) (exchanges : List Exchange) (e : PlainEntry) → IsSoFar journal user waiting → e.party ≡ user.number → is_leave e.act ≡ true → (session_of user.lines user.answers user.replies).waits ≡ None
+    → user.replies ≡ replies_in exchanges → (session_of user.lines user.answers user.replies).exchanges ≡ exchanges
+    → IsUserPart (e ∷ journal) (record { number = user.number; lines = user.lines }) exchanges (session_of user.lines user.answers user.replies).terminal.transcript
+left_on journal user waiting exchanges e h own leaves over replies calls =
     let same : answered_entries journal user.number ≡ answered_entries (e ∷ journal) user.number = sym (own_leave e journal user.number own leaves) in
     let before : journal ≡ before_leave (e ∷ journal) user.number = sym (own_leave_is_after e journal user.number own leaves) in
-    let finished : IsFinished user.lines (answered_entries journal user.number) h.refused (session_of user.lines user.answers).terminal.transcript = record {
-      acts = ap (λ answers. (session_of user.lines answers).acts) (sym h.answers) ∙ h.acts;
-      waits = ap (λ answers. (session_of user.lines answers).waits) (sym h.answers) ∙ over;
-      printed = ap (λ answers. (session_of user.lines answers).terminal.transcript) (sym h.answers);
+    let given : session_of user.lines (answers_of (answered_entries journal user.number) ++ map (λ act. full) h.refused) (replies_in exchanges) ≡ session_of user.lines user.answers user.replies =
+    ap (λ answers. session_of user.lines answers (replies_in exchanges)) (sym h.answers) ∙ ap (λ list. session_of user.lines user.answers list) (sym replies) in
+    let finished : IsFinished user.lines (answered_entries journal user.number) h.refused exchanges (session_of user.lines user.answers user.replies).terminal.transcript = record {
+      acts = ap (λ (c : Course). c.acts) given ∙ h.acts;
+      waits = ap (λ (c : Course). c.waits) given ∙ over;
+      calls = ap (λ (c : Course). c.exchanges) given ∙ calls;
+      printed = ap (λ (c : Course). c.terminal.transcript) given;
     } in
     record {
       left = own_leave_leaves e journal user.number own leaves;
       refused = h.refused;
-      finished = subst (λ (es : Entries). IsFinished user.lines es h.refused (session_of user.lines user.answers).terminal.transcript) same finished;
+      finished = subst (λ (es : Entries). IsFinished user.lines es h.refused exchanges (session_of user.lines user.answers user.replies).terminal.transcript) same finished;
       at_limit = λ some. subst (λ (earlier : Entries). IsTrue (is_full earlier)) before (h.at_limit some);
       waited = subst (λ (earlier : Entries). IfSome (awaited earlier user.number) (λ act. slice_get h.refused 0 ≡ Some act)) before (head_refused user waiting h.refused (awaited journal user.number) over h.waited);
     }

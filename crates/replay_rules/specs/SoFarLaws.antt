@@ -1,10 +1,11 @@
 -- How a user goes on.
-use Rattle.std.specs.Prelude.{◌≡◌, ◌≢◌, ◌++◌, Bool, true, false, [], ◌∷◌, Some, None, IsTrue}
+use Rattle.std.specs.Prelude.{◌≡◌, ◌≢◌, ◌++◌, Bool, true, false, List, [], ◌∷◌, Some, None, IsTrue}
 use Rattle.sv_events.specs.Answer.{PlainAnswer, full}
 use Rattle.sv_events.specs.Entry.{PlainEntry}
 use Rattle.sv_events.specs.declared.event.Act.{Act}
 use Rattle.sv_rules.specs.Entries.{Entries, is_full, is_held, is_leave, kind_of}
 use Rattle.session_rules.specs.Session.{session_of}
+use Rattle.session_rules.specs.Shelf.{Exchange, replies_in}
 use Rattle.session_rules.specs.UserPart.{IsUserPart}
 use Rattle.replay_rules.specs.SoFar.{IsSoFar}
 use Rattle.replay_rules.specs.Turns.{Participant}
@@ -15,7 +16,7 @@ with_answer user answer = record user { answers = user.answers ++ answer ∷ [] 
 
 -- the session of a user asks this act
 abbrev pub Asks : Participant → Act → Type 0
-Asks user act = (session_of user.lines user.answers).waits ≡ Some act
+Asks user act = (session_of user.lines user.answers user.replies).waits ≡ Some act
 
 -- an entry is a user's, and no leave
 pub record IsActOf (user : Participant) (e : PlainEntry) : Type 0 where
@@ -42,8 +43,9 @@ HeldUsersWait =
 abbrev pub FullIsHeard : Type 0
 FullIsHeard = (journal : Entries) (user : Participant) (waiting : Bool) (act : Act) → IsSoFar journal user waiting → IsTrue (is_full journal) → Asks user act → IsSoFar journal (with_answer user full) false
 
--- a user that leaves at the end of its lines has its part
+-- a user that leaves at the end of its lines has its part, with the exchanges whose replies it took
 abbrev pub LeaversHaveTheirParts : Type 0
 LeaversHaveTheirParts =
-    (journal : Entries) (user : Participant) (waiting : Bool) (e : PlainEntry) → IsSoFar journal user waiting → e.party ≡ user.number → is_leave e.act ≡ true → (session_of user.lines user.answers).waits ≡ None
-    → IsUserPart (e ∷ journal) (record { number = user.number; lines = user.lines }) (session_of user.lines user.answers).terminal.transcript
+    (journal : Entries) (user : Participant) (waiting : Bool) (exchanges : List Exchange) (e : PlainEntry) → IsSoFar journal user waiting → e.party ≡ user.number → is_leave e.act ≡ true → (session_of user.lines user.answers user.replies).waits ≡ None
+    → user.replies ≡ replies_in exchanges → (session_of user.lines user.answers user.replies).exchanges ≡ exchanges
+    → IsUserPart (e ∷ journal) (record { number = user.number; lines = user.lines }) exchanges (session_of user.lines user.answers user.replies).terminal.transcript

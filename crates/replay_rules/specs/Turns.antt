@@ -17,12 +17,15 @@ use Rattle.sv_core.specs.Retry.{core_retried}
 use Rattle.bundle_text.specs.Rules.{PlainBundle}
 use Rattle.bundle_text.specs.User.{PlainUser}
 use Rattle.session_rules.specs.Auxiliaries.{some_stay}
+use Rattle.session_rules.specs.Run.{Dealings}
 use Rattle.session_rules.specs.Session.{session_of}
+use Rattle.session_rules.specs.Shelf.{Reply, replies_in}
 
--- a user in a replay: its number, its lines, and the answers that they were given
+-- a user in a replay: its number, its lines, all replies that its shelf will give, and the answers that the lines were given
 pub record Participant : Type 0 where
   pub number : ℕ
   pub lines : List (List ℕ)
+  pub replies : List Reply
   pub answers : List PlainAnswer
 
 -- a replay between two turns: the journal, the replies that 10 and 20 have still to give, and the users
@@ -88,7 +91,7 @@ turn_by false (Some act) numbers journal user = act_made (waits journal user.num
 
 -- the turn of a user
 abbrev pub turn : List ℕ → Entries → Participant → Turn
-turn numbers journal user = turn_by (has_left journal user.number) (session_of user.lines user.answers).waits numbers journal user
+turn numbers journal user = turn_by (has_left journal user.number) (session_of user.lines user.answers user.replies).waits numbers journal user
 
 -- the journal after the turns of users, and these
 pub record Turns : Type 0 where
@@ -139,23 +142,23 @@ rounds zero replay = replay
 rounds (suc count) replay = let before = rounds count replay in if goes_on before then round before else before
 
 -- a user whose lines were given no answer yet
-abbrev pub newcomer : PlainUser → Participant
-newcomer user = record { number = user.number; lines = user.lines; answers = [] }
+abbrev pub newcomer : Dealings → PlainUser → Participant
+newcomer dealings user = record { number = user.number; lines = user.lines; replies = replies_in (dealings user.number); answers = [] }
 
--- before the first turn, where 10 and 20 will give these replies
-abbrev pub beginning : PlainBundle → List PlainArray → List PlainArray → Replay
-beginning bundle ten twenty = record { journal = []; ten = ten; twenty = twenty; users = map newcomer bundle.users }
+-- before the first turn, where the shelves, 10 and 20 will give these replies
+abbrev pub beginning : PlainBundle → Dealings → List PlainArray → List PlainArray → Replay
+beginning bundle dealings ten twenty = record { journal = []; ten = ten; twenty = twenty; users = map (newcomer dealings) bundle.users }
 
 -- 10 and 20 have replies left to give
 pub record HasReplies (replay : Replay) : Type 0 where
   pub ten : replay.ten ≢ []
   pub twenty : replay.twenty ≢ []
 
--- the journal of a bundle's turns: with the replies that 10 and 20 gave in it, and some that they never gave, so that no turn wanted one, it is the one after the order and so many rounds that all users have left
-pub record IsJournalOfTurns (bundle : PlainBundle) (journal : Entries) : Type 0 where
+-- the journal of a bundle's turns with these dealings: with the replies that 10 and 20 gave in it, and some that they never gave, so that no turn wanted one, it is the one after the order and so many rounds that all users have left
+pub record IsJournalOfTurns (bundle : PlainBundle) (dealings : Dealings) (journal : Entries) : Type 0 where
   pub ten : List PlainArray
   pub twenty : List PlainArray
   pub count : ℕ
-  pub last : (rounds count (ordered bundle.order (beginning bundle ten twenty))).journal ≡ journal
-  pub enough : HasReplies (rounds count (ordered bundle.order (beginning bundle ten twenty)))
+  pub last : (rounds count (ordered bundle.order (beginning bundle dealings ten twenty))).journal ≡ journal
+  pub enough : HasReplies (rounds count (ordered bundle.order (beginning bundle dealings ten twenty)))
   pub left : All (λ user. IsTrue (has_left journal user.number)) bundle.users

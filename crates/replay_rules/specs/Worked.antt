@@ -5,6 +5,7 @@ use Rattle.apl_meaning.specs.Worked.{texts}
 use Rattle.bundle_text.specs.Rules.{PlainBundle}
 use Rattle.bundle_text.specs.User.{PlainUser}
 use Rattle.sv_rules.specs.Entries.{Entries}
+use Rattle.session_rules.specs.Run.{Dealings}
 use Rattle.replay_rules.specs.TurnLaws.{replayed}
 
 -- a user with these lines
@@ -15,6 +16,10 @@ user number lines = record { number = number; lines = texts lines }
 abbrev pub bundle_of : List PlainUser → List ℕ → PlainBundle
 bundle_of users order = record { users = users; order = order; files = []; clock = [] }
 
+-- no shelf is asked
+abbrev pub no_dealings : Dealings
+no_dealings user = []
+
 -- the journal after so many rounds, where the clock gives these replies
 abbrev pub journal_of : PlainBundle → List PlainArray → ℕ → Entries
-journal_of bundle ten count = (replayed bundle ten [] count).journal
+journal_of bundle ten count = (replayed bundle no_dealings ten [] count).journal

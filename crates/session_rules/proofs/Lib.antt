@@ -3,4 +3,7 @@ pub mod LastLeave
 pub mod MoreAnswers
 pub mod OneTranscript
 pub mod Parties
+pub mod Parts
+pub mod Shelves
 pub mod Taking
+pub mod Tame

@@ -7,9 +7,10 @@ use Rattle.sv_rules.specs.Entries.{Entries}
 use Rattle.bundle_text.specs.User.{PlainUser}
 use Rattle.sv_journal.specs.Output.{PlainTranscript}
 use Rattle.session_rules.specs.Course.{Course}
-use Rattle.session_rules.specs.Run.{AreUserParts}
+use Rattle.session_rules.specs.Run.{AreUserParts, Dealings}
 use Rattle.session_rules.specs.RunLaws.{PartsMakeOneTranscript}
 use Rattle.session_rules.specs.Session.{session_of}
+use Rattle.session_rules.specs.Shelf.{Exchange, Reply, replies_in}
 use Rattle.session_rules.specs.UserPart.{IsFinished, answered_entries, answers_of}
 use Rattle.session_rules.proofs.MoreAnswers.{more_comes_back}
 
@@ -37,34 +38,34 @@ fronts (act ∷ refused) (other ∷ others) = one_more (fronts refused others) w
   one_more (inr front) = inr (one_refusal_more (refusals others) (refusals refused) front)
 
 -- what lines printed that are finished is what they print with further refusals
-same_behind : (lines : List (List ℕ)) (answers front longer : List PlainAnswer) → (session_of lines (answers ++ front)).waits ≡ None → IsFront front longer →
-    (session_of lines (answers ++ longer)).terminal.transcript ≡ (session_of lines (answers ++ front)).terminal.transcript
-same_behind lines answers front longer finished begins =
-    ap (λ behind. (session_of lines (answers ++ behind)).terminal.transcript) begins.same
-    ∙ ap (λ given. (session_of lines given).terminal.transcript) (sym (append_assoc answers front begins.more))
-    ∙ ap (λ (c : Course). c.terminal.transcript) (more_comes_back lines (answers ++ front) begins.more finished)
+same_behind : (lines : List (List ℕ)) (replies : List Reply) (answers front longer : List PlainAnswer) → (session_of lines (answers ++ front) replies).waits ≡ None → IsFront front longer →
+    (session_of lines (answers ++ longer) replies).terminal.transcript ≡ (session_of lines (answers ++ front) replies).terminal.transcript
+same_behind lines replies answers front longer finished begins =
+    ap (λ behind. (session_of lines (answers ++ behind) replies).terminal.transcript) begins.same
+    ∙ ap (λ given. (session_of lines given replies).terminal.transcript) (sym (append_assoc answers front begins.more))
+    ∙ ap (λ (c : Course). c.terminal.transcript) (more_comes_back lines (answers ++ front) begins.more replies finished)
 
--- lines that are finished by the same entries print one transcript
-same_printed : (lines : List (List ℕ)) (entries : Entries) (refused others : List Act) (transcript other : List (List ℕ)) → IsFinished lines entries refused transcript → IsFinished lines entries others other
+-- lines that are finished by the same entries and exchanges print one transcript
+same_printed : (lines : List (List ℕ)) (entries : Entries) (refused others : List Act) (exchanges : List Exchange) (transcript other : List (List ℕ)) → IsFinished lines entries refused exchanges transcript → IsFinished lines entries others exchanges other
     → IsFront (refusals refused) (refusals others) ⊎ IsFront (refusals others) (refusals refused) → transcript ≡ other
-same_printed lines entries refused others transcript other one another (inl front) =
-    sym one.printed ∙ (sym (same_behind lines (answers_of entries) (refusals refused) (refusals others) one.waits front) ∙ another.printed)
-same_printed lines entries refused others transcript other one another (inr front) =
-    sym one.printed ∙ (same_behind lines (answers_of entries) (refusals others) (refusals refused) another.waits front ∙ another.printed)
+same_printed lines entries refused others exchanges transcript other one another (inl front) =
+    sym one.printed ∙ (sym (same_behind lines (replies_in exchanges) (answers_of entries) (refusals refused) (refusals others) one.waits front) ∙ another.printed)
+same_printed lines entries refused others exchanges transcript other one another (inr front) =
+    sym one.printed ∙ (same_behind lines (replies_in exchanges) (answers_of entries) (refusals others) (refusals refused) another.waits front ∙ another.printed)
 
 -- a user has one transcript, and so have all users
-same_transcripts : (journal : Entries) (users : List PlainUser) (transcripts others : List PlainTranscript) → AreUserParts journal users transcripts → AreUserParts journal users others → transcripts ≡ others
-same_transcripts journal [] [] [] parts other_parts = refl
-same_transcripts journal [] [] (other ∷ others) parts other_parts = absurd other_parts
-same_transcripts journal [] (transcript ∷ transcripts) others parts other_parts = absurd parts
-same_transcripts journal (user ∷ users) [] others parts other_parts = absurd parts
-same_transcripts journal (user ∷ users) (transcript ∷ transcripts) [] parts other_parts = absurd other_parts
-same_transcripts journal (user ∷ users) (transcript ∷ transcripts) (other ∷ others) (number, part, parts) (other_number, other_part, other_parts) =
+same_transcripts : (dealings : Dealings) (journal : Entries) (users : List PlainUser) (transcripts others : List PlainTranscript) → AreUserParts dealings journal users transcripts → AreUserParts dealings journal users others → transcripts ≡ others
+same_transcripts dealings journal [] [] [] parts other_parts = refl
+same_transcripts dealings journal [] [] (other ∷ others) parts other_parts = absurd other_parts
+same_transcripts dealings journal [] (transcript ∷ transcripts) others parts other_parts = absurd parts
+same_transcripts dealings journal (user ∷ users) [] others parts other_parts = absurd parts
+same_transcripts dealings journal (user ∷ users) (transcript ∷ transcripts) [] parts other_parts = absurd other_parts
+same_transcripts dealings journal (user ∷ users) (transcript ∷ transcripts) (other ∷ others) (number, part, parts) (other_number, other_part, other_parts) =
     let lines : transcript.lines ≡ other.lines =
-    same_printed user.lines (answered_entries journal user.number) part.refused other_part.refused transcript.lines other.lines part.finished other_part.finished (fronts part.refused other_part.refused) in
+    same_printed user.lines (answered_entries journal user.number) part.refused other_part.refused (dealings user.number) transcript.lines other.lines part.finished other_part.finished (fronts part.refused other_part.refused) in
     let first : transcript ≡ other = ap₂ (λ (n : ℕ) (l : List (List ℕ)). record { user = n; lines = l }) (number ∙ sym other_number) lines in
-    ap₂ (λ first others. first ∷ others) first (same_transcripts journal users transcripts others parts other_parts)
+    ap₂ (λ first others. first ∷ others) first (same_transcripts dealings journal users transcripts others parts other_parts)
 
--- a journal gives each user one transcript
+-- a journal gives each user one transcript, where the shelves give the same replies
 pub one_transcript : PartsMakeOneTranscript
-one_transcript bundle journal transcripts others = same_transcripts journal bundle.users transcripts others
+one_transcript bundle dealings journal transcripts others = same_transcripts dealings journal bundle.users transcripts others

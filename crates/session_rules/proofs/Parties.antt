@@ -9,6 +9,7 @@ use Rattle.sv_rules.specs.Entries.{Entries, has_left, is_full, is_held, is_leave
 use Rattle.sv_rules.specs.Refused.{awaited}
 use Rattle.bundle_text.specs.User.{PlainUser}
 use Rattle.session_rules.specs.Auxiliaries.{IsAuxiliaryPart, acts_among, event_of, events_of, some_stay}
+use Rattle.session_rules.specs.Shelf.{Exchange}
 use Rattle.session_rules.specs.UserPart.{IsFinished, IsUserPart, answered_entries, before_leave}
 
 module _ (e : PlainEntry) (journal : Entries) (party : ℕ) where
@@ -34,15 +35,15 @@ module _ (e : PlainEntry) (journal : Entries) (party : ℕ) where
   other_is_among users other = ap (λ (same : Bool). (not same || some_stay users journal) && acts_among users party journal) (ne_eqb e.party party other)
 
 -- a user's part stays true when an entry of another party follows
-pub other_changes_no_user_part : (journal : Entries) (user : PlainUser) (transcript : List (List ℕ)) (e : PlainEntry) →
-    IsUserPart journal user transcript → e.party ≢ user.number → IsUserPart (e ∷ journal) user transcript
-other_changes_no_user_part journal user transcript e h other =
+pub other_changes_no_user_part : (journal : Entries) (user : PlainUser) (exchanges : List Exchange) (transcript : List (List ℕ)) (e : PlainEntry) →
+    IsUserPart journal user exchanges transcript → e.party ≢ user.number → IsUserPart (e ∷ journal) user exchanges transcript
+other_changes_no_user_part journal user exchanges transcript e h other =
     let same : answered_entries journal user.number ≡ answered_entries (e ∷ journal) user.number = sym (other_answers_none e journal user.number other) in
     let before : before_leave journal user.number ≡ before_leave (e ∷ journal) user.number = sym (other_before_leave e journal user.number other) in
     record {
       left = other_leaves e journal user.number other ∙ h.left;
       refused = h.refused;
-      finished = subst (λ (entries : Entries). IsFinished user.lines entries h.refused transcript) same h.finished;
+      finished = subst (λ (entries : Entries). IsFinished user.lines entries h.refused exchanges transcript) same h.finished;
       at_limit = λ some. subst (λ (earlier : Entries). IsTrue (is_full earlier)) before (h.at_limit some);
       waited = subst (λ (earlier : Entries). IfSome (awaited earlier user.number) (λ act. slice_get h.refused 0 ≡ Some act)) before h.waited;
     }

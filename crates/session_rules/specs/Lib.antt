@@ -1,8 +1,10 @@
 pub mod Auxiliaries
+pub mod Commands
 pub mod Course
 pub mod Run
 pub mod RunLaws
 pub mod Session
 pub mod SessionLaws
+pub mod Shelf
 pub mod UserPart
 pub mod Worked

@@ -9,14 +9,15 @@ use Rattle.bundle_text.specs.Rules.{PlainBundle}
 use Rattle.bundle_text.specs.User.{PlainUser}
 use Rattle.sv_journal.specs.Output.{PlainTranscript}
 use Rattle.session_rules.specs.Auxiliaries.{IsAuxiliaryPart, acts_among, some_stay}
-use Rattle.session_rules.specs.Run.{AreUserParts}
+use Rattle.session_rules.specs.Run.{AreUserParts, Dealings}
+use Rattle.session_rules.specs.Shelf.{Exchange}
 use Rattle.session_rules.specs.UserPart.{IsUserPart}
 
 -- a user's part stays true when an entry of another party follows
 abbrev pub OthersChangeNoUserPart : Type 0
 OthersChangeNoUserPart =
-    (journal : Entries) (user : PlainUser) (transcript : List (List ℕ)) (e : PlainEntry) →
-    IsUserPart journal user transcript → e.party ≢ user.number → IsUserPart (e ∷ journal) user transcript
+    (journal : Entries) (user : PlainUser) (exchanges : List Exchange) (transcript : List (List ℕ)) (e : PlainEntry) →
+    IsUserPart journal user exchanges transcript → e.party ≢ user.number → IsUserPart (e ∷ journal) user exchanges transcript
 
 -- and so does an auxiliary's part
 abbrev pub OthersChangeNoAuxiliaryPart : {S : Type 0} → (S → ℕ → S → Type 0) → (S → ℕ → PlainArray → PlainArray → S → Type 0) → Type 0
@@ -24,11 +25,11 @@ OthersChangeNoAuxiliaryPart {S = S} forgets replies =
     (users : List ℕ) (party : ℕ) (journal : Entries) (start end : S) (e : PlainEntry) →
     IsAuxiliaryPart forgets replies users party journal start end → e.party ≢ party → IsAuxiliaryPart forgets replies users party (e ∷ journal) start end
 
--- a journal gives each user one transcript
+-- a journal gives each user one transcript, where the shelves give the same replies
 abbrev pub PartsMakeOneTranscript : Type 0
 PartsMakeOneTranscript =
-    (bundle : PlainBundle) (journal : Entries) (transcripts others : List PlainTranscript) →
-    AreUserParts journal bundle.users transcripts → AreUserParts journal bundle.users others → transcripts ≡ others
+    (bundle : PlainBundle) (dealings : Dealings) (journal : Entries) (transcripts others : List PlainTranscript) →
+    AreUserParts dealings journal bundle.users transcripts → AreUserParts dealings journal bundle.users others → transcripts ≡ others
 
 -- before each entry of a run some user has not left: so nothing follows the last leave, and without users there is no entry
 abbrev pub NothingFollowsTheLastLeave : Type 0

@@ -1,4 +1,4 @@
--- A user's part of a run: its lines evaluated alone, with the answers that the journal gives it.
+-- A user's part of a run: its lines evaluated alone, with the answers that the journal gives it and the replies of its shelf.
 use Rattle.std.specs.Prelude.{◌≡◌, ◌≢◌, ◌&&◌, ◌++◌, ◌==◌, ℕ, Bool, List, [], ◌∷◌, None, Some, IfSome, IsTrue, filter, map, not, reverse, slice_get, if◌then◌else◌}
 use Rattle.sv_events.specs.Answer.{PlainAnswer, full}
 use Rattle.sv_events.specs.Entry.{PlainEntry}
@@ -7,6 +7,7 @@ use Rattle.sv_rules.specs.Entries.{Entries, has_left, is_full, is_held, is_leave
 use Rattle.sv_rules.specs.Refused.{awaited}
 use Rattle.bundle_text.specs.User.{PlainUser}
 use Rattle.session_rules.specs.Session.{session_of}
+use Rattle.session_rules.specs.Shelf.{Exchange, replies_in}
 
 -- the entry is a party's, and answers an act of its lines: it is no leave, and the party does not wait behind it
 abbrev pub answers_line : ℕ → PlainEntry → Bool
@@ -29,16 +30,17 @@ abbrev pub before_leave : Entries → ℕ → Entries
 before_leave [] party = []
 before_leave (e ∷ journal) party = if e.party == party && is_leave e.act then journal else before_leave journal party
 
--- a user's lines, given the answers of these entries and then full for some acts, ask the acts of the entries and then those acts, wait for none, and print this transcript
-pub record IsFinished (lines : List (List ℕ)) (entries : Entries) (refused : List Act) (transcript : List (List ℕ)) : Type 0 where
-  pub acts : (session_of lines (answers_of entries ++ map (λ act. full) refused)).acts ≡ acts_of entries ++ refused
-  pub waits : (session_of lines (answers_of entries ++ map (λ act. full) refused)).waits ≡ None
-  pub printed : (session_of lines (answers_of entries ++ map (λ act. full) refused)).terminal.transcript ≡ transcript
+-- a user's lines, given the answers of these entries and then full for some acts, and the replies of these exchanges, ask the acts of the entries and then those acts, wait for none, make the calls of the exchanges, and print this transcript
+pub record IsFinished (lines : List (List ℕ)) (entries : Entries) (refused : List Act) (exchanges : List Exchange) (transcript : List (List ℕ)) : Type 0 where
+  pub acts : (session_of lines (answers_of entries ++ map (λ act. full) refused) (replies_in exchanges)).acts ≡ acts_of entries ++ refused
+  pub waits : (session_of lines (answers_of entries ++ map (λ act. full) refused) (replies_in exchanges)).waits ≡ None
+  pub calls : (session_of lines (answers_of entries ++ map (λ act. full) refused) (replies_in exchanges)).exchanges ≡ exchanges
+  pub printed : (session_of lines (answers_of entries ++ map (λ act. full) refused) (replies_in exchanges)).terminal.transcript ≡ transcript
 
--- a user's part. It has left. Its lines are finished by the answers of its entries, and by full for further acts. There are such acts only where the journal was full before the user left; and where the user waited when it left, the act that it waited for is the first of them
-pub record IsUserPart (journal : Entries) (user : PlainUser) (transcript : List (List ℕ)) : Type 0 where
+-- a user's part. It has left. Its lines are finished by the answers of its entries, and by full for further acts, with these exchanges with its shelf. There are such acts only where the journal was full before the user left; and where the user waited when it left, the act that it waited for is the first of them
+pub record IsUserPart (journal : Entries) (user : PlainUser) (exchanges : List Exchange) (transcript : List (List ℕ)) : Type 0 where
   pub left : IsTrue (has_left journal user.number)
   pub refused : List Act
-  pub finished : IsFinished user.lines (answered_entries journal user.number) refused transcript
+  pub finished : IsFinished user.lines (answered_entries journal user.number) refused exchanges transcript
   pub at_limit : refused ≢ [] → IsTrue (is_full (before_leave journal user.number))
   pub waited : IfSome (awaited (before_leave journal user.number) user.number) (λ act. slice_get refused 0 ≡ Some act)

@@ -10,6 +10,6 @@ pub use run_laws::{
     others_change_no_user_part,
 };
 pub use session_laws::{
-    answers_are_taken_one_by_one, more_answers_come_back, no_line_leaves, reports_end_their_lines,
+    answers_are_taken_one_by_one, full_ends_its_line, more_answers_come_back, no_line_leaves,
     the_next_answer_is_taken, transcripts_grow,
 };

@@ -1,4 +1,4 @@
-ghost use Rattle.session_rules.specs.SessionLaws.{AnswersAreTakenOneByOne, MoreAnswersComeBack, NoLineLeaves, ReportsEndTheirLines, TheNextAnswerIsTaken, TranscriptsGrow};
+ghost use Rattle.session_rules.specs.SessionLaws.{AnswersAreTakenOneByOne, FullEndsItsLine, MoreAnswersComeBack, NoLineLeaves, TheNextAnswerIsTaken, TranscriptsGrow};
 
 /// An act that waits takes the next answer, and no other act does. The call does nothing. No memory.
 pub fn the_next_answer_is_taken()
@@ -25,8 +25,8 @@ pub fn no_line_leaves()
     ensures { NoLineLeaves }
 {}
 
-/// While an act waits, fewer answers than lines were reported, since a report ends its line. The call does nothing. No
-/// memory.
-pub fn reports_end_their_lines()
-    ensures { ReportsEndTheirLines }
+/// While an act waits, fewer answers than lines told that the journal is full, since such an answer ends its line. The call
+/// does nothing. No memory.
+pub fn full_ends_its_line()
+    ensures { FullEndsItsLine }
 {}

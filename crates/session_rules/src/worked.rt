@@ -1,12 +1,14 @@
 //! Sessions at work: what users' lines echo, print and ask, with the answers that they are given.
 ghost use Rattle.std.specs.Prelude.{◌≡◌, [], ◌∷◌, None, Some, false, true, codes};
 ghost use Rattle.sv_access.specs.Control.{four_elements};
-ghost use Rattle.sv_events.specs.Answer.{abandoned, degree, full, granted, no_value, value, vector as vector_answer};
+ghost use Rattle.sv_events.specs.Answer.{abandoned, degree, full, granted, kept, no_value, not_shared, value, vector as vector_answer};
 ghost use Rattle.sv_access.specs.declared.verdict.Owners.TheVariants.{Mine};
 ghost use Rattle.sv_events.specs.declared.event.Act.TheVariants as act;
 ghost use Rattle.apl_meaning.specs.Worked.{number, texts};
+ghost use Rattle.ws_codec.specs.Worked.{offered_bytes};
 ghost use Rattle.apl_terminal.specs.LineKind.{is_command, is_opening};
-ghost use Rattle.session_rules.specs.Worked.{asked_by, shown_by, waits_in, worked};
+ghost use Rattle.session_rules.specs.Shelf.{browsed, failed, fetched, stored};
+ghost use Rattle.session_rules.specs.Worked.{asked_by, shown_by, shown_with, waits_in, worked, worked_with};
 
 /// Two users of one variable. The call does nothing. No memory.
 pub fn plain_path()
@@ -48,6 +50,38 @@ pub fn reports()
     ensures journal_full { shown_by (codes "1002 ⎕SVO 'X'" ∷ codes "X←3" ∷ codes "X" ∷ []) (full ∷ [])
         ≡ texts (codes "      1002 ⎕SVO 'X'" ∷ codes "SV FULL" ∷ codes "      1002 ⎕SVO 'X'" ∷ codes "      X←3" ∷ codes "      X" ∷ codes "3" ∷ []) }
     ensures spare { (worked (codes "2" ∷ []) (granted ∷ [])).answers ≡ granted ∷ [] }
+{}
+
+/// Commands: their output, what they ask before it, and what comes of the answers; a line of a definition that begins as they
+/// do; and the end of a session. The call does nothing. No memory.
+pub fn commands()
+    ensures incorrect { shown_by (codes ")FNS X" ∷ codes "  )WSID" ∷ []) [] ≡ texts (codes "      )FNS X" ∷ codes "INCORRECT COMMAND" ∷ codes "        )WSID" ∷ codes "CLEAR WS" ∷ []) }
+    ensures waits { waits_in (codes "1002 ⎕SVO 'X'" ∷ codes ")CLEAR" ∷ []) (degree 1 ∷ []) ≡ Some (act.Retract (codes "X")) }
+    ensures so_far { shown_by (codes "1002 ⎕SVO 'X'" ∷ codes ")CLEAR" ∷ []) (degree 1 ∷ []) ≡ texts (codes "      1002 ⎕SVO 'X'" ∷ codes "1" ∷ codes "      )CLEAR" ∷ []) }
+    ensures cleared { shown_by (codes "X←3" ∷ codes "1002 ⎕SVO 'X'" ∷ codes ")CLEAR" ∷ codes "X" ∷ []) (degree 1 ∷ kept 1 (Some (number 3)) ∷ [])
+        ≡ texts (codes "      X←3" ∷ codes "      1002 ⎕SVO 'X'" ∷ codes "1" ∷ codes "      )CLEAR" ∷ codes "CLEAR WS" ∷ codes "      X" ∷ codes "VALUE ERROR" ∷ codes "      X" ∷ []) }
+    ensures erased { shown_by (codes "X←3" ∷ codes "1002 ⎕SVO 'X'" ∷ codes ")ERASE X Z" ∷ codes ")VARS" ∷ []) (degree 1 ∷ not_shared ∷ [])
+        ≡ texts (codes "      X←3" ∷ codes "      1002 ⎕SVO 'X'" ∷ codes "1" ∷ codes "      )ERASE X Z" ∷ codes "NOT FOUND: Z" ∷ codes "      )VARS" ∷ []) }
+    ensures journal_full { shown_by (codes "X←3" ∷ codes "1002 ⎕SVO 'X'" ∷ codes ")CLEAR" ∷ codes "X" ∷ []) (degree 1 ∷ full ∷ value (number 3) ∷ [])
+        ≡ texts (codes "      X←3" ∷ codes "      1002 ⎕SVO 'X'" ∷ codes "1" ∷ codes "      )CLEAR" ∷ codes "SV FULL" ∷ codes "      X" ∷ codes "3" ∷ []) }
+    ensures off { shown_by (codes "1" ∷ codes ")OFF" ∷ codes "2" ∷ []) [] ≡ texts (codes "      1" ∷ codes "1" ∷ codes "      )OFF" ∷ []) }
+    ensures defined { shown_by (codes "∇F" ∷ codes ")OFF" ∷ codes "∇" ∷ codes ")FNS" ∷ []) [] ≡ texts (codes "      ∇F" ∷ codes "[1]   )OFF" ∷ codes "[2]   ∇" ∷ codes "      )FNS" ∷ codes "F" ∷ []) }
+{}
+
+/// Commands on a shelf, with its replies: a workspace is saved and loaded, names are listed, and calls fail. The call does
+/// nothing. No memory.
+pub fn commands_on_a_shelf()
+    ensures saved { shown_with (codes ")SAVE" ∷ codes ")SAVE W" ∷ codes ")WSID" ∷ []) [] (stored ∷ []) ≡ texts (codes "      )SAVE" ∷ codes "WS NOT NAMED" ∷ codes "      )SAVE W" ∷ codes "SAVED W" ∷ codes "      )WSID" ∷ codes "IS W" ∷ []) }
+    ensures listed { shown_with (codes ")LIB" ∷ []) [] (browsed (codes "V" ∷ codes "W" ∷ []) ∷ []) ≡ texts (codes "      )LIB" ∷ codes "V" ∷ codes "W" ∷ []) }
+    ensures fault { shown_with (codes ")LIB" ∷ codes ")LOAD W" ∷ []) [] (failed ∷ fetched None ∷ []) ≡ texts (codes "      )LIB" ∷ codes "LIBRARY FAULT" ∷ codes "      )LOAD W" ∷ codes "WS NOT FOUND" ∷ []) }
+    ensures taken { (worked_with (codes ")LIB" ∷ codes "2" ∷ []) [] (failed ∷ stored ∷ [])).replies ≡ stored ∷ [] }
+{}
+
+/// A load makes the saved offers again, each with the value that its name has. The call does nothing. No memory.
+pub fn loads_remake_offers()
+    ensures asked { (worked_with (codes ")LOAD W" ∷ codes "X" ∷ []) (degree 1 ∷ value (number 3) ∷ []) (fetched (Some offered_bytes) ∷ [])).acts ≡ act.Offer 1002 (codes "X") (codes "X") (Some (number 3)) ∷ act.Use (codes "X") ∷ [] }
+    ensures shown { shown_with (codes ")LOAD W" ∷ codes "X" ∷ []) (degree 1 ∷ value (number 3) ∷ []) (fetched (Some offered_bytes) ∷ []) ≡ texts (codes "      )LOAD W" ∷ codes "LOADED W" ∷ codes "      X" ∷ codes "3" ∷ []) }
+    ensures journal_full { shown_with (codes ")LOAD W" ∷ codes "X" ∷ codes ")WSID" ∷ []) (full ∷ []) (fetched (Some offered_bytes) ∷ []) ≡ texts (codes "      )LOAD W" ∷ codes "SV FULL" ∷ codes "      X" ∷ codes "3" ∷ codes "      )WSID" ∷ codes "IS W" ∷ []) }
 {}
 
 /// Lines by their first glyph other than a blank. The call does nothing. No memory.

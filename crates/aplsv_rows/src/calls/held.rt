@@ -7,6 +7,7 @@ ghost use Rattle.sv_rules.specs.Work.{is_auxiliary};
 
 use crate::calls::helping::session_of;
 use anyhow::Result;
+use apl_io::MemoryShelf;
 use apl_session::{Session, Stage, Wants};
 use case_tables::{Calls, Looks};
 use line_text::add_user_lines;
@@ -64,7 +65,7 @@ end
 const TRIES: usize = 50;
 
 // A session hears an answer, and waits on where it is held.
-fn hear(session: &mut Session<u8>, answer: Answer) -> Result<()>
+fn hear(session: &mut Session<MemoryShelf>, answer: Answer) -> Result<()>
     requires { session.old.stage ≡ Waiting }
 {
     if matches!(&answer, Answer::Held(_)) {
@@ -75,7 +76,7 @@ fn hear(session: &mut Session<u8>, answer: Answer) -> Result<()>
 }
 
 // A user makes the act that its session asks, unless another waits.
-fn act(core: &mut Core, session: &mut Session<u8>, user: u32, act: Act) -> Result<()>
+fn act(core: &mut Core, session: &mut Session<MemoryShelf>, user: u32, act: Act) -> Result<()>
     requires stage { session.old.stage ≡ Waiting }
     requires stays { IsTrue (not (is_leave act)) }
     requires member { IsTrue (is_user core.old.users user) }
@@ -103,7 +104,7 @@ fn retried(core: &mut Core, user: u32) -> Result<Option<Retry>>
 }
 
 // A user tries the act again that its session waits for.
-fn try_again(core: &mut Core, session: &mut Session<u8>, user: u32) -> Result<()>
+fn try_again(core: &mut Core, session: &mut Session<MemoryShelf>, user: u32) -> Result<()>
     requires { session.old.stage ≡ Waiting }
     ensures { core.new.users ≡ core.old.users }
 {
@@ -122,7 +123,7 @@ fn is_still_held(retry: Option<Retry>) -> bool {
 }
 
 // A user makes the next act of its session, or leaves where its lines are done.
-fn go_on(core: &mut Core, session: &mut Session<u8>, user: u32) -> Result<()>
+fn go_on(core: &mut Core, session: &mut Session<MemoryShelf>, user: u32) -> Result<()>
     requires stage { MayGoOn session.old.stage }
     requires member { IsTrue (is_user core.old.users user) }
     requires person { is_auxiliary user ≡ false }
@@ -151,7 +152,7 @@ fn may_go_on(stage: Stage) -> bool
 }
 
 // The turn of a user that has not left, and nothing where it has none: then the journal is not as it should be.
-fn turn(core: &mut Core, session: &mut Session<u8>) -> Result<()>
+fn turn(core: &mut Core, session: &mut Session<MemoryShelf>) -> Result<()>
     requires { core.old.users ≡ USERS }
     ensures { core.new.users ≡ core.old.users }
 {
@@ -195,7 +196,7 @@ fn adds(
     alloc: Global,
     looks: &mut Looks,
     core: &mut Core,
-    session: &mut Session<u8>,
+    session: &mut Session<MemoryShelf>,
     count: usize,
 ) -> Result<()>
     requires { core.old.users ≡ USERS }
@@ -222,8 +223,8 @@ fn take_turns(
     alloc: Global,
     looks: &mut Looks,
     core: &mut Core,
-    first: &mut Session<u8>,
-    second: &mut Session<u8>,
+    first: &mut Session<MemoryShelf>,
+    second: &mut Session<MemoryShelf>,
 ) -> Result<()>
     requires { core.old.users ≡ USERS }
 {
@@ -243,8 +244,8 @@ fn take_turns(
 fn printed(
     alloc: Global,
     core: &Core,
-    first: &Session<u8>,
-    second: &Session<u8>,
+    first: &Session<MemoryShelf>,
+    second: &Session<MemoryShelf>,
 ) -> Result<Vec<u8>> {
     let mut bytes = Vec::new(alloc);
     add_user_lines(alloc, &mut bytes, FIRST, first.transcript())?;
@@ -258,8 +259,8 @@ fn is_held(
     alloc: Global,
     looks: &mut Looks,
     core: &mut Core,
-    first: &mut Session<u8>,
-    second: &mut Session<u8>,
+    first: &mut Session<MemoryShelf>,
+    second: &mut Session<MemoryShelf>,
 ) -> Result<()>
     requires { core.old.users ≡ USERS }
 {
@@ -272,8 +273,8 @@ fn is_held(
 fn over_core(
     alloc: Global,
     looks: &mut Looks,
-    first: &mut Session<u8>,
-    second: &mut Session<u8>,
+    first: &mut Session<MemoryShelf>,
+    second: &mut Session<MemoryShelf>,
 ) -> Result<()> {
     let mut core = Core::new(alloc, &USERS)?;
     let made = is_held(alloc, looks, &mut core, first, second);
@@ -282,7 +283,7 @@ fn over_core(
 }
 
 // The same with a session of the second user.
-fn with_second(alloc: Global, looks: &mut Looks, first: &mut Session<u8>) -> Result<()> {
+fn with_second(alloc: Global, looks: &mut Looks, first: &mut Session<MemoryShelf>) -> Result<()> {
     let mut second = session_of(alloc, SECOND, &SECOND_LINES)?;
     let made = over_core(alloc, looks, first, &mut second);
     drop(second);

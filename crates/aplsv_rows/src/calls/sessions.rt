@@ -5,6 +5,7 @@ ghost use Rattle.apl_session.specs.Wants.{MayGoOn};
 use crate::calls::helping::session_of;
 use anyhow::Result;
 use apl_arrays::{Array, LineList};
+use apl_io::{MemoryShelf, Shelf};
 use apl_session::{Session, Transcript, Transcripts, Wants};
 use case_tables::{Calls, Looks};
 use line_text::add_line;
@@ -75,7 +76,7 @@ enum Told {
 }
 
 // Gives the answer to the next act, if there is one.
-fn give(session: &mut Session<u8>, answer: Answer) -> Result<()>
+fn give(session: &mut Session<MemoryShelf>, answer: Answer) -> Result<()>
     requires { MayGoOn session.old.stage }
     ensures { IfOk result (λ done. MayGoOn session.new.stage) }
 {
@@ -96,7 +97,7 @@ fn give(session: &mut Session<u8>, answer: Answer) -> Result<()>
 }
 
 // Answers Full to the set and to both uses.
-fn give_full(session: &mut Session<u8>) -> Result<()>
+fn give_full(session: &mut Session<MemoryShelf>) -> Result<()>
     requires { MayGoOn session.old.stage }
     ensures { IfOk result (λ done. MayGoOn session.new.stage) }
 {
@@ -106,7 +107,7 @@ fn give_full(session: &mut Session<u8>) -> Result<()>
 }
 
 // Gives these answers, one after another.
-fn give_all(alloc: Global, session: &mut Session<u8>, told: Told) -> Result<()>
+fn give_all(alloc: Global, session: &mut Session<MemoryShelf>, told: Told) -> Result<()>
     requires { MayGoOn session.old.stage }
     ensures { IfOk result (λ done. MayGoOn session.new.stage) }
 {
@@ -127,7 +128,7 @@ fn give_all(alloc: Global, session: &mut Session<u8>, told: Told) -> Result<()>
 }
 
 // What a session has printed that asks nothing more; nothing where it still asks.
-fn printed(alloc: Global, session: &mut Session<u8>) -> Result<Vec<u8>>
+fn printed(alloc: Global, session: &mut Session<MemoryShelf>) -> Result<Vec<u8>>
     requires { MayGoOn session.old.stage }
 {
     let mut bytes = Vec::new(alloc);
@@ -143,7 +144,7 @@ fn printed(alloc: Global, session: &mut Session<u8>) -> Result<Vec<u8>>
 }
 
 // What a session prints that is given these answers.
-fn walked(alloc: Global, session: &mut Session<u8>, told: Told) -> Result<Vec<u8>>
+fn walked(alloc: Global, session: &mut Session<MemoryShelf>, told: Told) -> Result<Vec<u8>>
     requires { MayGoOn session.old.stage }
 {
     give_all(alloc, session, told)?;
@@ -172,8 +173,9 @@ fn keeps_receipts(alloc: Global, looks: &mut Looks) -> Result<()> {
 
 // The shelf comes back.
 fn gives_shelf_back(alloc: Global, looks: &mut Looks) -> Result<()> {
-    let parts = session_of(alloc, 1001, &LINES)?.into_parts();
-    looks.holds(parts.shelf == 7);
+    let mut parts = session_of(alloc, 1001, &LINES)?.into_parts();
+    looks.holds(parts.shelf.names(1001).is_ok());
+    looks.holds(parts.shelf.names(1001).is_err());
     drop(parts);
     Ok(())
 }

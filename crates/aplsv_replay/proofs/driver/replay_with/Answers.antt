@@ -1,13 +1,15 @@
-use Rattle.std.proofs.Common.{◌≡◌, ◌∙◌, [], ℕ, List, ap, arith, length, map, rules, subst, sym, vec_len}
+use Rattle.std.proofs.Common.{◌≡◌, ◌∙◌, ◌++◌, [], ℕ, List, ap, arith, length, map, rules, subst, sym, vec_len}
 use Rattle.std.proofs.lemmas.List.{length-map}
 use Rattle.bundle_text.specs.Rules.{PlainBundle}
 use Rattle.bundle_text.specs.User.{PlainUser, plain_user}
 use Rattle.session_rules.specs.Run.{IsRun}
 use Rattle.sv_core.specs.Core.{ArePeople, PlainCore}
 use Rattle.aplsv_replay.specs.Endings.{ComesOf}
-use Rattle.aplsv_replay.specs.Rounds.{IsReplay}
+use Rattle.aplsv_replay.specs.Replayed.{IsRunInTurns}
+use Rattle.aplsv_replay.specs.Sittings.{lent_to}
 use Rattle.replay_rules.specs.Turns.{newcomer}
 use Rattle.aplsv_replay.proofs.Ends.{begins_together, plain_numbers, users_are_people, whole_more}
+use Rattle.aplsv_replay.proofs.Sits.{all_newly, lent_newly}
 use Rattle.aplsv_replay.proofs.driver.replay_with.Goals as goal
 
 pub core_of-requires : goal.core_of-requires
@@ -33,30 +35,28 @@ pub go_through-requires-clause-together : goal.go_through-requires-clause-togeth
 go_through-requires-clause-together g c =
     let kept : map plain_user c.into_vec.result.items ≡ c.args.bundle.users = c.into_vec.ensures.value ∙ ap (λ (b : PlainBundle). b.users) c.into_parts-users.ensures.value in
     let core = c.in-Ok.ensures ∙ ap (λ (list : List ℕ). record { users = list; journal = [] }) (plain_numbers c.users.result.now c.args.bundle.users c.users.ensures.value) in
-    let together = begins_together g.X.Replier.forgets g.X.Replier.replies g.Y.Replier.forgets g.Y.Replier.replies c.args.bundle c.args.ten c.args.twenty (record { core = c.in-Ok.core; ten = c.new.result; twenty = c.new-2.result; seats = c.fill-seats.result }) c.into_parts-users.ensures.bundle core c.new.ensures c.new-2.ensures (c.fill-seats.ensures.users ∙ kept) c.fill-seats.ensures.seated in
-    record { bundle = c.args.bundle; ten = c.args.ten; twenty = c.args.twenty; shelves = map (λ seat. seat.session.shelf) c.fill-seats.result.items; together = together }
+    let seated = all_newly g.K.Shelf.told g.K.Shelf.faults [] c.fill-seats.result.items c.fill-seats.ensures.seated in
+    let together = begins_together g.X.Replier.forgets g.X.Replier.replies g.Y.Replier.forgets g.Y.Replier.replies g.K.Shelf.told g.K.Shelf.faults c.args.bundle c.args.ten c.args.twenty (record { core = c.in-Ok.core; ten = c.new.result; twenty = c.new-2.result; seats = c.fill-seats.result }) c.into_parts-users.ensures.bundle core c.new.ensures c.new-2.ensures (c.fill-seats.ensures.users ∙ kept) seated in
+    record { bundle = c.args.bundle; ten = c.args.ten; twenty = c.args.twenty; shelves = lent_to seated.sittings; sittings = seated.sittings; together = together }
 
-pub returns-clause-run : goal.returns-clause-run
-returns-clause-run g c =
+pub returns : goal.returns
+returns g c =
     let kept : map plain_user c.into_vec.result.items ≡ c.args.bundle.users = c.into_vec.ensures.value ∙ ap (λ (b : PlainBundle). b.users) c.into_parts-users.ensures.value in
     let core = c.in-Ok.ensures ∙ ap (λ (list : List ℕ). record { users = list; journal = [] }) (plain_numbers c.users.result.now c.args.bundle.users c.users.ensures.value) in
-    let together = begins_together g.X.Replier.forgets g.X.Replier.replies g.Y.Replier.forgets g.Y.Replier.replies c.args.bundle c.args.ten c.args.twenty (record { core = c.in-Ok.core; ten = c.new.result; twenty = c.new-2.result; seats = c.fill-seats.result }) c.into_parts-users.ensures.bundle core c.new.ensures c.new-2.ensures (c.fill-seats.ensures.users ∙ kept) c.fill-seats.ensures.seated in
+    let seats = c.fill-seats.result.items in
+    let seated = all_newly g.K.Shelf.told g.K.Shelf.faults [] seats c.fill-seats.ensures.seated in
+    let together = begins_together g.X.Replier.forgets g.X.Replier.replies g.Y.Replier.forgets g.Y.Replier.replies g.K.Shelf.told g.K.Shelf.faults c.args.bundle c.args.ten c.args.twenty (record { core = c.in-Ok.core; ten = c.new.result; twenty = c.new-2.result; seats = c.fill-seats.result }) c.into_parts-users.ensures.bundle core c.new.ensures c.new-2.ensures (c.fill-seats.ensures.users ∙ kept) seated in
     let result = c.go_through.result in
-    whole_more result.ended (λ transcripts journal. ComesOf g.X.Replier.forgets g.X.Replier.replies g.Y.Replier.forgets g.Y.Replier.replies c.as_slice.result.now (record { core = c.in-Ok.core; ten = c.new.result; twenty = c.new-2.result; seats = c.fill-seats.result }) transcripts journal result.ten result.twenty)
-    (λ transcripts journal. IsRun g.X.Replier.forgets g.X.Replier.replies g.Y.Replier.forgets g.Y.Replier.replies c.args.bundle journal transcripts c.args.ten result.ten c.args.twenty result.twenty)
-    (λ transcripts journal comes. comes.run c.args.bundle c.args.ten c.args.twenty (map (λ seat. seat.session.shelf) c.fill-seats.result.items) together) c.go_through.ensures.whole
-
-pub returns-clause-turns : goal.returns-clause-turns
-returns-clause-turns g c =
-    let kept : map plain_user c.into_vec.result.items ≡ c.args.bundle.users = c.into_vec.ensures.value ∙ ap (λ (b : PlainBundle). b.users) c.into_parts-users.ensures.value in
-    let core = c.in-Ok.ensures ∙ ap (λ (list : List ℕ). record { users = list; journal = [] }) (plain_numbers c.users.result.now c.args.bundle.users c.users.ensures.value) in
-    let together = begins_together g.X.Replier.forgets g.X.Replier.replies g.Y.Replier.forgets g.Y.Replier.replies c.args.bundle c.args.ten c.args.twenty (record { core = c.in-Ok.core; ten = c.new.result; twenty = c.new-2.result; seats = c.fill-seats.result }) c.into_parts-users.ensures.bundle core c.new.ensures c.new-2.ensures (c.fill-seats.ensures.users ∙ kept) c.fill-seats.ensures.seated in
-    let result = c.go_through.result in
-    whole_more result.ended (λ transcripts journal. ComesOf g.X.Replier.forgets g.X.Replier.replies g.Y.Replier.forgets g.Y.Replier.replies c.as_slice.result.now (record { core = c.in-Ok.core; ten = c.new.result; twenty = c.new-2.result; seats = c.fill-seats.result }) transcripts journal result.ten result.twenty) (λ transcripts journal. IsReplay c.args.bundle journal)
+    let left = c.fill-seats.new.shelves.items in
+    let lent = ap (λ (list : List _). list ++ left) (lent_newly g.K.Shelf.told g.K.Shelf.faults [] seats c.fill-seats.ensures.seated) ∙ c.fill-seats.ensures.shelves in
+    whole_more result.ended (λ transcripts journal. ComesOf g.X.Replier.forgets g.X.Replier.replies g.Y.Replier.forgets g.Y.Replier.replies g.K.Shelf.told g.K.Shelf.faults c.as_slice.result.now (record { core = c.in-Ok.core; ten = c.new.result; twenty = c.new-2.result; seats = c.fill-seats.result }) left transcripts journal result.ten result.twenty result.shelves.items)
+    (λ transcripts journal. IsRunInTurns g.X.Replier.forgets g.X.Replier.replies g.Y.Replier.forgets g.Y.Replier.replies g.K.Shelf.told g.K.Shelf.faults c.args.bundle journal transcripts c.args.ten result.ten c.args.twenty result.twenty c.args.shelves.items result.shelves.items)
     (λ transcripts journal comes.
-    comes.turns c.args.bundle c.args.ten c.args.twenty (map (λ seat. seat.session.shelf) c.fill-seats.result.items) together (ap (λ (p : PlainCore). p.journal) c.in-Ok.ensures)
-    (c.fill-seats.ensures.newcomers ∙ ap (λ (list : List PlainUser). map newcomer list) kept) (c.as_slice.ensures ∙ ap (λ (b : PlainBundle). b.order) c.into_parts-users.ensures.value))
-    c.go_through.ensures.whole
-
-pub returns-clause-shelves : goal.returns-clause-shelves
-returns-clause-shelves g c = c.go_through.ensures.shelves ∙ c.fill-seats.ensures.shelves
+    let came = comes c.args.bundle c.args.ten c.args.twenty (lent_to seated.sittings) seated.sittings together in
+    record {
+      dealings = came.dealings;
+      run = subst (λ (list : List _). IsRun g.X.Replier.forgets g.X.Replier.replies g.Y.Replier.forgets g.Y.Replier.replies g.K.Shelf.told g.K.Shelf.faults c.args.bundle came.dealings journal transcripts c.args.ten result.ten c.args.twenty result.twenty list result.shelves.items) lent came.run;
+      turns = came.turns (ap (λ (p : PlainCore). p.journal) c.in-Ok.ensures) (λ final. c.fill-seats.ensures.newcomers final ∙ ap (λ (list : List PlainUser). map (newcomer final) list) kept)
+          (c.as_slice.ensures ∙ ap (λ (b : PlainBundle). b.order) c.into_parts-users.ensures.value);
+    })
+    c.go_through.ensures

@@ -5,7 +5,7 @@ use Rattle.aplsv_replay.proofs.ending.take_apart.Given as goal
 
 abbrev pub invariant-loop-seats : goal.invariant-loop-seats
 invariant-loop-seats g l = record {
-  apart : AreApart l.fn.seats.items l.fn.shelves.items l.seats.items l.shelves.items l.transcripts.items l.is_whole;
+  apart : AreApart g.K.Shelf.told g.K.Shelf.faults l.fn.seats.items l.fn.shelves.items l.seats.items l.shelves.items l.transcripts.items l.is_whole;
   room : vec_len l.seats + vec_len l.shelves ≤ vec_capacity l.shelves;
 }
 

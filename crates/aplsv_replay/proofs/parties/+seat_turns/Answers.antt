@@ -1,4 +1,4 @@
-use Rattle.std.proofs.Common.{◌≡◌, ◌<◌, ◌∷◌, ◌∙◌, ℕ, Bool, List, ap, arith, length, rules, subst, sym}
+use Rattle.std.proofs.Common.{◌≡◌, ◌<◌, ◌∷◌, ◌∙◌, ℕ, Bool, List, ap, ap₂, arith, length, rules, subst, subst₂, sym}
 use Rattle.std.specs.List.{All}
 use Rattle.std.specs.Prelude.{IsTrue}
 use Rattle.std.proofs.lemmas.List.Elements.{All-head, All-tail}
@@ -9,7 +9,9 @@ use Rattle.aplsv_replay.specs.SeatTurns.{AreSeatTurns, IsSeatTurn, is_due, seat_
 use Rattle.aplsv_replay.specs.SoFar.{IsSeated}
 use Rattle.aplsv_replay.specs.declared.seat.Seat.{Seat}
 use Rattle.aplsv_replay.proofs.Growth.{others_ascend}
-use Rattle.aplsv_replay.proofs.SeatTurns.{first_and_others, is_empty, no_turns, others_seated}
+use Rattle.aplsv_replay.proofs.SeatTurns.{is_empty, no_turns}
+use Rattle.aplsv_replay.proofs.TwoTurns.{first_and_others, others_seated}
+use Rattle.aplsv_replay.proofs.Sits.{first_seated, first_sits, none_sits}
 use Rattle.aplsv_replay.proofs.parties.+seat_turns.Goals as goal
 
 pub seat_turn-requires-clause-user : goal.seat_turn-requires-clause-user
@@ -21,18 +23,22 @@ seat_turn-requires-clause-user g t c =
 pub seat_turn-requires-clause-seated : goal.seat_turn-requires-clause-seated
 seat_turn-requires-clause-seated g t c =
     let is : c.args.seats.now ≡ c.in-Some.seat.now ∷ c.in-Some.others.now = search rules in
-    All-head (IsSeated c.args.core.now.journal) c.in-Some.seat.now c.in-Some.others.now (subst (λ list. All (IsSeated c.args.core.now.journal) list) is c.requires.seated)
+    first_seated g.K.Shelf.told g.K.Shelf.faults c.args.core.now.journal c.args.seats.now c.in-Some.others.now c.in-Some.seat.now is c.requires.seated
 
 pub seat_turns-requires : goal.seat_turns-requires
 seat_turns-requires g t c κs within =
     let is : c.args.seats.now ≡ c.in-Some.seat.now ∷ c.in-Some.others.now = search rules in
-    let first = c.in-Some.seat.now in
+    let seat = c.in-Some.seat.now in
     let others = c.in-Some.others.now in
-    let turn = c.seat_turn.ensures in
+    let h = c.requires.seated in
+    let f = first_sits h.sittings seat others (h.here ∙ is) in
+    let all = subst (λ list. All (IsSeated g.K.Shelf.told g.K.Shelf.faults c.args.core.now.journal) list) f.is h.seated in
+    let turn = c.seat_turn.ensures f.first f.here (All-head (IsSeated g.K.Shelf.told g.K.Shelf.faults c.args.core.now.journal) f.first f.rest all) in
     let ascend = subst (λ list. AscendBy (λ seat. seat.session.user) list) is c.requires.ascending in
+    let ascend_there = subst (λ list. AscendBy (λ seat. seat.session.user) list) (sym (ap₂ (λ (one : Seat _) (list : List (Seat _)). one ∷ list) f.here f.behind)) ascend in
     let users =
-    All-tail (λ seat. IsTrue (is_user c.args.core.now.users seat.session.user)) first others (subst (λ list. All (λ seat. IsTrue (is_user c.args.core.now.users seat.session.user)) list) is c.requires.users) in
-    let counted : length c.args.seats.now ≡ length (first ∷ others) = ap (λ (list : List (Seat _)). length list) is in
+    All-tail (λ seat. IsTrue (is_user c.args.core.now.users seat.session.user)) seat others (subst (λ list. All (λ seat. IsTrue (is_user c.args.core.now.users seat.session.user)) list) is c.requires.users) in
+    let counted : length c.args.seats.now ≡ length (seat ∷ others) = ap (λ (list : List (Seat _)). length list) is in
     let smaller : length others < t = omega (arith, counted, c.decreases) in (
       smaller,
       (
@@ -42,8 +48,8 @@ seat_turns-requires g t c κs within =
           (
             subst ArePeople (sym turn.grows.users) c.requires.people,
             (
-              others_ascend first.session.user (seat_numbers others) ascend,
-              others_seated c.is_due-due.result c.args.closes c.args.core.now c.seat_turn.new.core first c.seat_turn.new.seat others ascend turn (subst (λ list. All (IsSeated c.args.core.now.journal) list) is c.requires.seated),
+              others_ascend seat.session.user (seat_numbers others) ascend,
+              record { sittings = f.rest; here = f.behind; seated = others_seated g.K.Shelf.told g.K.Shelf.faults c.is_due-due.result c.args.closes c.args.core.now c.seat_turn.new.core f.first c.seat_turn.new.seat f.rest ascend_there turn all },
             ),
           ),
         ),
@@ -54,13 +60,21 @@ pub returns-in-None : goal.returns-in-None
 returns-in-None g t c =
     let none : length c.args.seats.now ≡ 0 = search rules in
     let is = is_empty c.args.seats.now none in
-    subst (λ list. AreSeatTurns (is_due c.args.only) c.args.closes c.args.core.now list c.args.core.now list) (sym is) (no_turns (is_due c.args.only) c.args.closes c.args.core.now)
+    λ sittings here seated.
+    let empty = none_sits sittings (here ∙ is) in
+    subst₂ (λ before list. AreSeatTurns g.K.Shelf.told g.K.Shelf.faults (is_due c.args.only) c.args.closes c.args.core.now before c.args.core.now list) (sym empty) (sym is) (no_turns g.K.Shelf.told g.K.Shelf.faults (is_due c.args.only) c.args.closes c.args.core.now)
 
 pub returns-in-Some : goal.returns-in-Some
 returns-in-Some g t c =
     let is : c.args.seats.now ≡ c.in-Some.seat.now ∷ c.in-Some.others.now = search rules in
     let ascend = subst (λ list. AscendBy (λ seat. seat.session.user) list) is c.requires.ascending in
-    let turn =
-    subst (λ (due : Bool). IsSeatTurn due c.args.closes c.args.core.now c.in-Some.seat.now c.seat_turn.new.core c.seat_turn.new.seat) (c.is_due-due.ensures ∙ ap (λ (n : ℕ). is_due c.args.only n) c.user.ensures) c.seat_turn.ensures in
-    subst (λ list. AreSeatTurns (is_due c.args.only) c.args.closes c.args.core.now list c.seat_turns.new.core (c.seat_turn.new.seat ∷ c.seat_turns.new.seats)) (sym is)
-    (first_and_others (is_due c.args.only) c.args.closes c.args.core.now c.seat_turn.new.core c.seat_turns.new.core c.in-Some.seat.now c.seat_turn.new.seat c.in-Some.others.now c.seat_turns.new.seats ascend turn c.seat_turns.ensures)
+    λ sittings here seated.
+    let f = first_sits sittings c.in-Some.seat.now c.in-Some.others.now (here ∙ is) in
+    let all = subst (λ list. All (IsSeated g.K.Shelf.told g.K.Shelf.faults c.args.core.now.journal) list) f.is seated in
+    let ascend_there = subst (λ list. AscendBy (λ seat. seat.session.user) list) (sym (ap₂ (λ (one : Seat _) (list : List (Seat _)). one ∷ list) f.here f.behind)) ascend in
+    let made = c.seat_turn.ensures f.first f.here (All-head (IsSeated g.K.Shelf.told g.K.Shelf.faults c.args.core.now.journal) f.first f.rest all) in
+    let due = c.is_due-due.ensures ∙ ap (λ (n : ℕ). is_due c.args.only n) (c.user.ensures ∙ sym (ap (λ (s : Seat _). s.session.user) f.here)) in
+    let turn = subst (λ (due : Bool). IsSeatTurn g.K.Shelf.told g.K.Shelf.faults due c.args.closes c.args.core.now f.first c.seat_turn.new.core c.seat_turn.new.seat) due made in
+    let others = others_seated g.K.Shelf.told g.K.Shelf.faults c.is_due-due.result c.args.closes c.args.core.now c.seat_turn.new.core f.first c.seat_turn.new.seat f.rest ascend_there made all in
+    subst (λ before. AreSeatTurns g.K.Shelf.told g.K.Shelf.faults (is_due c.args.only) c.args.closes c.args.core.now before c.seat_turns.new.core (c.seat_turn.new.seat ∷ c.seat_turns.new.seats)) (sym f.is)
+    (first_and_others g.K.Shelf.told g.K.Shelf.faults (is_due c.args.only) c.args.closes c.args.core.now c.seat_turn.new.core c.seat_turns.new.core f.first c.seat_turn.new.seat f.rest c.seat_turns.new.seats ascend_there turn (c.seat_turns.ensures f.rest f.behind others))

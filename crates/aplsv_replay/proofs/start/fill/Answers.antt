@@ -1,8 +1,7 @@
-use Rattle.std.proofs.Common.{◌∙◌, ◌∷◌, ◌++◌, ◌<◌, List, [], ap, arith, false, length, subst, sym}
+use Rattle.std.proofs.Common.{◌∙◌, ◌∷◌, ◌++◌, ◌<◌, List, [], arith, length, subst, sym}
 use Rattle.std.proofs.lemmas.Iterator.Adapters.{YieldsList-from_vec}
 use Rattle.std.proofs.lemmas.Iterator.Consumers.{YieldsList-turn}
 use Rattle.std.proofs.lemmas.List.{length_push}
-use Rattle.apl_session.specs.PlainSession.{PlainSession}
 use Rattle.aplsv_replay.specs.declared.seat.Seat.{Seat}
 use Rattle.aplsv_replay.proofs.Filling.{AreFilled, filled_more}
 use Rattle.aplsv_replay.proofs.Rows.{front_and_rest}
@@ -28,11 +27,11 @@ loop-user-preserved g c =
     let some : 0 < length loop.shelves.items = omega (arith, place.0, c.args.users.ok.0, loop.shelves.ok.0, loop.invariant.count, loop.invariant.total, c.requires.shelves) in
     let first = front_and_rest loop.shelves.items c.remove-shelf.new.self.items c.remove-shelf.result some c.remove-shelf.ensures.value c.remove-shelf.ensures.by_index.2 in
     let seat = c.new-in-loop-user.result in
-    let filled = filled_more loop.yielded loop.seats.items loop.shelves.items c.remove-shelf.new.self.items c.args.shelves.now.items c.in-Some.user seat c.remove-shelf.result loop.invariant.filled first
-    (c.new-in-loop-user.ensures ∙ ap (λ (s : PlainSession g.row.K.Denot). let t : Seat g.row.K.Denot = record { session = s; is_lost = false } in t) c.new.ensures) in
+    let filled = filled_more g.K.Shelf.told g.K.Shelf.faults loop.yielded loop.seats.items loop.shelves.items c.remove-shelf.new.self.items c.args.shelves.now.items c.in-Some.user seat c.new.result c.remove-shelf.result loop.invariant.filled first
+    c.new.ensures.come c.new.ensures.begins c.new-in-loop-user.ensures in
     let more = length_push loop.yielded c.in-Some.user in
     record {
-      filled = subst (λ (seats : List (Seat g.row.K.Denot)). AreFilled (loop.yielded ++ c.in-Some.user ∷ []) seats c.remove-shelf.new.self.items c.args.shelves.now.items) (sym c.push_reserved.ensures.items) filled;
+      filled = subst (λ (seats : List (Seat g.row.K.Denot)). AreFilled g.K.Shelf.told g.K.Shelf.faults (loop.yielded ++ c.in-Some.user ∷ []) seats c.remove-shelf.new.self.items c.args.shelves.now.items) (sym c.push_reserved.ensures.items) filled;
       count = omega (arith, more, loop.invariant.count, c.push_reserved.ensures.len);
       total = omega (arith, loop.invariant.total, c.push_reserved.ensures.len, c.remove-shelf.ensures.len);
       places = omega (arith, loop.invariant.places, c.push_reserved.ensures.capacity);

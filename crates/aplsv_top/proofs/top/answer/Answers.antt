@@ -1,7 +1,7 @@
 use Rattle.std.proofs.Common.{rules, subst}
 use Rattle.bundle_text.specs.Refused.{IsRefusal}
 use Rattle.bundle_text.specs.declared.refused.BundleRefused.{BundleRefused}
-use Rattle.aplsv_top.specs.Runnable.{IsRefusedAt}
+use Rattle.bundle_text.specs.Breaks.{Breaks}
 use Rattle.aplsv_top.proofs.Causes.{bytes_refused, run_written, front_written}
 use Rattle.aplsv_top.proofs.top.answer.Goals as goal
 
@@ -16,5 +16,5 @@ returns-clause-causes g c =
 pub returns-in-Err-Malformed-clause-causes : goal.returns-in-Err-Malformed-clause-causes
 returns-in-Err-Malformed-clause-causes g c =
     let arm = c.in-Err-Malformed in
-    let refused : IsRefusedAt c.args.bytes.now arm.offset arm.rule = subst (λ (why : BundleRefused). IsRefusal why (IsRefusedAt c.args.bytes.now)) arm.field-0-is arm.ensures.refused in
+    let refused : Breaks c.args.bytes.now arm.offset arm.rule = subst (λ (why : BundleRefused). IsRefusal why (Breaks c.args.bytes.now)) arm.field-0-is arm.ensures.refused in
     bytes_refused c.args.bytes.now arm.offset arm.rule (record { bytes = g.W.Sink.held c.args.output.now; faults = g.W.Sink.faults c.args.output.now }) c.requires refused

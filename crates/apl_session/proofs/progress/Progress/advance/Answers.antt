@@ -8,4 +8,4 @@ take_lines-requires g c = c.in_ok-go_on.ensures.paused
 
 pub returns : goal.returns
 returns g c =
-    on_ok_weaker c.take_lines.result (λ goes answers at. goes answers (c.in_ok-go_on.ensures.stands (map glyphs_in c.args.lines.now) answers at)) c.take_lines.ensures
+    on_ok_weaker c.take_lines.result (λ goes answers exchanges at. goes answers exchanges (c.in_ok-go_on.ensures.stands (map glyphs_in c.args.lines.now) answers exchanges at)) c.take_lines.ensures

@@ -10,8 +10,8 @@ returns-in-Ok-clause-stands g c =
     let p : Progress = c.args.self.now in
     let line : List ℕ = c.args.line.now.items in
     on_ok_weaker c.run.result
-    (λ goes lines answers at.
-    goes lines answers
-    (evaluated_on lines line answers p.read p.terminal c.lend.new.self c.lend.result p.terminal.workspace (plain_tree c.args.tree) c.deref_mut.result.now c.begin.new.self c.lend.ensures.left c.lend.ensures.lent (c.deref_mut.ensures.value ∙ c.in_ok-machine.ensures) refl
+    (λ goes lines answers exchanges at.
+    goes lines answers exchanges
+    (evaluated_on lines line answers exchanges p.read p.terminal c.lend.new.self c.lend.result p.terminal.workspace (plain_tree c.args.tree) c.deref_mut.result.now c.begin.new.self c.lend.ensures.left c.lend.ensures.lent (c.deref_mut.ensures.value ∙ c.in_ok-machine.ensures) refl
     c.requires.tree c.in-Ok.ensures.stands at))
     c.run.ensures.stands

@@ -1,9 +1,13 @@
-use Rattle.std.proofs.Common.{◌≡◌, ap, length, sym, ◌∙◌}
+use Rattle.std.proofs.Common.{◌≡◌, ap, length, subst, sym, ◌∙◌}
+use Rattle.std.specs.Prelude.{map}
+use Rattle.apl_arrays.specs.List.{glyphs_in}
 use Rattle.sv_events.specs.Answer.{plain_answer}
-use Rattle.apl_session.specs.Standing.{MayHear}
+use Rattle.apl_session.specs.Errands.{IsFirstAct}
+use Rattle.apl_session.specs.Standing.{IsCommanded, MayBeDone, MayHear}
+use Rattle.apl_session.specs.declared.errand.Errand.{Errand}
 use Rattle.apl_session.specs.declared.progress.Progress.{Progress}
 use Rattle.apl_session.specs.declared.under_way.UnderWay.TheVariants as under_way
-use Rattle.apl_session.proofs.Moves.{answered_on, heard_on, may_hear_there}
+use Rattle.apl_session.proofs.Moves.{answered_on, command_heard, heard_on, may_hear_command, may_hear_there}
 use Rattle.apl_session.proofs.progress.Progress.take_answer.Goals as goal
 
 -- a line that is one act alone is done with the answer
@@ -12,10 +16,36 @@ returns-in-Ok c =
     let p : Progress = c.args.self.now in
     let waits : p.under_way ≡ under_way.Alone c.in-Alone.act = sym c.replace.ensures.value ∙ c.in-Alone.is in
     let may : MayHear (length c.args.lines.now) p.read p.terminal c.in-Alone.act = may_hear_there (length c.args.lines.now) p.read p.terminal p.under_way c.in-Alone.act waits c.requires in
-    λ answers at.
-    heard_on c.args.lines.now answers c.in-Alone.act (plain_answer c.args.answer) c.index-lines-self.result p c.hear.new.self waits (ap (λ (q : Progress). q.under_way) c.hear.ensures.rest ∙ c.replace.ensures.after) (ap (λ (q : Progress). q.read) c.hear.ensures.rest)
+    λ answers exchanges at.
+    heard_on c.args.lines.now answers exchanges c.in-Alone.act (plain_answer c.args.answer) c.index-lines-self.result p c.hear.new.self waits (ap (λ (q : Progress). q.under_way) c.hear.ensures.rest ∙ c.replace.ensures.after) (ap (λ (q : Progress). q.read) c.hear.ensures.rest)
     may.some may.within c.index-lines-self.is c.in-Ok.ensures.heard at
 
 -- any other is handed it
 pub returns-in-Ok-hand : goal.returns-in-Ok-hand
-returns-in-Ok-hand c = λ answers at. answered_on _ answers c.in-Asking.act (plain_answer c.args.answer) c.in-Asking.machine c.args.self.now c.hand.new.self c.replace.new.dest (sym c.replace.ensures.value ∙ c.in-Asking.is) c.hand.ensures.stands at
+returns-in-Ok-hand c = λ answers exchanges at. answered_on _ answers exchanges c.in-Asking.act (plain_answer c.args.answer) c.in-Asking.machine c.args.self.now c.hand.new.self c.replace.new.dest (sym c.replace.ensures.value ∙ c.in-Asking.is) c.hand.ensures.stands at
+
+-- what it does for a command is done
+pub hear_command-requires-clause-none : goal.hear_command-requires-clause-none
+hear_command-requires-clause-none c = c.replace.ensures.after
+
+pub hear_command-requires-clause-may : goal.hear_command-requires-clause-may
+hear_command-requires-clause-may c =
+    let p : Progress = c.args.self.now in
+    let waits : p.under_way ≡ under_way.Commanding c.in-Commanding.errand c.in-Commanding.act = sym c.replace.ensures.value ∙ c.in-Commanding.is in
+    subst (λ (e : Errand). MayBeDone p.terminal e) (sym c.into_inner.ensures) (may_hear_command (length c.args.lines.now) p.read p.terminal p.under_way c.in-Commanding.errand c.in-Commanding.act waits c.requires).0
+
+pub hear_command-requires-clause-first : goal.hear_command-requires-clause-first
+hear_command-requires-clause-first c =
+    let p : Progress = c.args.self.now in
+    let waits : p.under_way ≡ under_way.Commanding c.in-Commanding.errand c.in-Commanding.act = sym c.replace.ensures.value ∙ c.in-Commanding.is in
+    subst (λ (e : Errand). IsFirstAct e p.terminal.workspace c.in-Commanding.act) (sym c.into_inner.ensures) (may_hear_command (length c.args.lines.now) p.read p.terminal p.under_way c.in-Commanding.errand c.in-Commanding.act waits c.requires).1
+
+pub returns-in-Ok-hear_command : goal.returns-in-Ok-hear_command
+returns-in-Ok-hear_command c =
+    let p : Progress = c.args.self.now in
+    let waits : p.under_way ≡ under_way.Commanding c.in-Commanding.errand c.in-Commanding.act = sym c.replace.ensures.value ∙ c.in-Commanding.is in
+    let answer = plain_answer c.args.answer in
+    λ answers exchanges at.
+    command_heard (map glyphs_in c.args.lines.now) answers exchanges c.in-Commanding.act answer c.in-Commanding.errand p c.hear_command.new.self waits
+    (λ list given had h. c.in-Ok-hear_command.ensures.heard list given had (subst (λ (e : Errand). IsCommanded list given had p.read p.terminal e) (sym c.into_inner.ensures) h))
+    c.in-Ok-hear_command.ensures.may at

@@ -4,4 +4,4 @@ use Rattle.apl_session.proofs.session.Session.into_parts.Goals as goal
 pub returns-clause-transcript : goal.returns-clause-transcript
 returns-clause-transcript g c =
     let inside = c.self.inside in
-    shows_all c.args.self inside.user inside.lines.items _ inside.receipts.items inside.progress inside.stage inside.shelf c.self.view_is c.self.invariant c.into_transcript.ensures
+    shows_all g.K.Shelf.told g.K.Shelf.faults c.args.self inside.user inside.lines.items _ inside.receipts.items inside.progress inside.stage inside.shelf c.self.view_is c.self.invariant c.into_transcript.ensures

@@ -4,20 +4,16 @@ use Rattle.aplsv_replay.proofs.Taking.{takes_no_more, takes_while}
 use Rattle.replay_rules.specs.Turns.{party_turn}
 use Rattle.aplsv_replay.proofs.parties.Parties.take_next_turn.Goals as goal
 
-pub returns-then-all_have_left-clause-together : goal.returns-then-all_have_left-clause-together
-returns-then-all_have_left-clause-together g c = λ bundle ten twenty shelves h. h
-
-pub returns-then-all_have_left-clause-turn : goal.returns-then-all_have_left-clause-turn
-returns-then-all_have_left-clause-turn g c =
-    takes_no_more (party_turn c.args.party) c.args.self.now
-    (all_gone g.X.Replier.forgets g.X.Replier.replies g.Y.Replier.forgets g.Y.Replier.replies c.args.self.now c.all_have_left.result c.all_have_left.ensures c.if-all_have_left.true)
+pub returns-then-all_have_left : goal.returns-then-all_have_left
+returns-then-all_have_left g c =
+    takes_no_more g.X.Replier.forgets g.X.Replier.replies g.Y.Replier.forgets g.Y.Replier.replies g.K.Shelf.told g.K.Shelf.faults (party_turn c.args.party) c.args.self.now (all_gone g.X.Replier.forgets g.X.Replier.replies g.Y.Replier.forgets g.Y.Replier.replies g.K.Shelf.told g.K.Shelf.faults c.args.self.now c.all_have_left.result c.all_have_left.ensures c.if-all_have_left.true)
 
 pub take_turn-requires-clause-stay : goal.take_turn-requires-clause-stay
 take_turn-requires-clause-stay g c =
-    users_stay_on g.X.Replier.forgets g.X.Replier.replies g.Y.Replier.forgets g.Y.Replier.replies c.args.self.now c.requires.together
-    ∙ stays_on g.X.Replier.forgets g.X.Replier.replies g.Y.Replier.forgets g.Y.Replier.replies c.args.self.now c.all_have_left.result c.all_have_left.ensures c.if-all_have_left.false
+    users_stay_on g.X.Replier.forgets g.X.Replier.replies g.Y.Replier.forgets g.Y.Replier.replies g.K.Shelf.told g.K.Shelf.faults c.args.self.now c.requires.together
+    ∙ stays_on g.X.Replier.forgets g.X.Replier.replies g.Y.Replier.forgets g.Y.Replier.replies g.K.Shelf.told g.K.Shelf.faults c.args.self.now c.all_have_left.result c.all_have_left.ensures c.if-all_have_left.false
 
-pub returns-clause-turn : goal.returns-clause-turn
-returns-clause-turn g c =
-    takes_while (party_turn c.args.party) c.args.self.now c.take_turn.new.self
-    (stays_on g.X.Replier.forgets g.X.Replier.replies g.Y.Replier.forgets g.Y.Replier.replies c.args.self.now c.all_have_left.result c.all_have_left.ensures c.if-all_have_left.false) c.take_turn.ensures.turns
+pub returns : goal.returns
+returns g c =
+    takes_while g.X.Replier.forgets g.X.Replier.replies g.Y.Replier.forgets g.Y.Replier.replies g.K.Shelf.told g.K.Shelf.faults (party_turn c.args.party) c.args.self.now c.take_turn.new.self
+    (stays_on g.X.Replier.forgets g.X.Replier.replies g.Y.Replier.forgets g.Y.Replier.replies g.K.Shelf.told g.K.Shelf.faults c.args.self.now c.all_have_left.result c.all_have_left.ensures c.if-all_have_left.false) c.take_turn.ensures

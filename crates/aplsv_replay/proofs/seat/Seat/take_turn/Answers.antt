@@ -1,6 +1,7 @@
 use Rattle.std.proofs.Common.{◌≡◌, ◌∙◌, ap, false, refl, sym, true, ℕ}
+use Rattle.std.proofs.lemmas.Bool.{both_ways}
 use Rattle.sv_rules.specs.Entries.{has_left}
-use Rattle.aplsv_replay.proofs.Leaving.{gone_turn, grows_none, has_left_of, leave_grows_of, leaving_goes_on, left_seated, user_is}
+use Rattle.aplsv_replay.proofs.Leaving.{grows_none, has_left_of, leave_grows_of, leaving_goes_on, user_is}
 use Rattle.aplsv_replay.proofs.Staging.{on_ok_is}
 use Rattle.aplsv_replay.proofs.seat.Seat.take_turn.Goals as goal
 
@@ -8,12 +9,8 @@ pub returns-then-has_left-clause-grows : goal.returns-then-has_left-clause-grows
 returns-then-has_left-clause-grows g c = grows_none c.args.self.now.session.user c.args.core.now
 
 pub returns-then-has_left-clause-turn : goal.returns-then-has_left-clause-turn
-returns-then-has_left-clause-turn g c = λ stays whole.
-    gone_turn c.args.core.now c.args.self.now.session (ap (λ (u : ℕ). has_left c.args.core.now.journal u) (sym c.user.ensures) ∙ sym c.has_left.ensures ∙ c.if-has_left.true)
-
-pub returns-then-closes-clause-seated : goal.returns-then-closes-clause-seated
-returns-then-closes-clause-seated g c =
-    left_seated c.leave.new.self.journal c.args.self.now.session c.args.self.now refl (has_left_of c.args.core.now c.leave.new.self c.user-then-closes.result c.args.self.now.session.user c.user-then-closes.ensures c.leave.ensures)
+returns-then-has_left-clause-turn g c = λ unclosed here stays.
+    absurd (both_ways (has_left c.args.core.now.journal c.args.self.now.session.user) stays (ap (λ (u : ℕ). has_left c.args.core.now.journal u) (sym c.user.ensures) ∙ sym c.has_left.ensures ∙ c.if-has_left.true))
 
 pub returns-then-closes-clause-grows : goal.returns-then-closes-clause-grows
 returns-then-closes-clause-grows g c =
@@ -28,17 +25,11 @@ returns-then-closes-clause-goes_on g c =
 pub returns-then-closes-clause-closed : goal.returns-then-closes-clause-closed
 returns-then-closes-clause-closed g c = λ closed. has_left_of c.args.core.now c.leave.new.self c.user-then-closes.result c.args.self.now.session.user c.user-then-closes.ensures c.leave.ensures
 
-pub returns-then-is_ok-clause-seated : goal.returns-then-is_ok-clause-seated
-returns-then-is_ok-clause-seated g c = on_ok_is c.go_on.result (sym c.is_ok.ensures.value ∙ c.if-is_ok.true) c.go_on.ensures.seated
-
 pub returns-then-is_ok-clause-goes_on : goal.returns-then-is_ok-clause-goes_on
 returns-then-is_ok-clause-goes_on g c = on_ok_is c.go_on.result (sym c.is_ok.ensures.value ∙ c.if-is_ok.true) c.go_on.ensures.goes_on
 
-pub returns-then-is_ok-clause-whole : goal.returns-then-is_ok-clause-whole
-returns-then-is_ok-clause-whole g c = λ stays here before. on_ok_is c.go_on.result (sym c.is_ok.ensures.value ∙ c.if-is_ok.true) c.go_on.ensures.whole
-
 pub returns-then-is_ok-clause-turn : goal.returns-then-is_ok-clause-turn
-returns-then-is_ok-clause-turn g c = λ stays here. on_ok_is c.go_on.result (sym c.is_ok.ensures.value ∙ c.if-is_ok.true) c.go_on.ensures.turn
+returns-then-is_ok-clause-turn g c = λ unclosed here stays. on_ok_is c.go_on.result (sym c.is_ok.ensures.value ∙ c.if-is_ok.true) c.go_on.ensures.turn
 
 pub returns-clause-grows : goal.returns-clause-grows
 returns-clause-grows g c =
