@@ -5,6 +5,7 @@ pub mod Found
 pub mod Grammar
 pub mod Headings
 pub mod Kept
+pub mod LoadTexts
 pub mod Numbers
 pub mod Offsets
 pub mod Pages

@@ -4,6 +4,7 @@ pub mod BundleLine
 pub mod Draft
 pub mod Heading
 pub mod Limits
+pub mod Load
 pub mod Number
 pub mod Offset
 pub mod Parts

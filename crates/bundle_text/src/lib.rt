@@ -7,6 +7,7 @@ mod draft;
 mod glyphs;
 mod heading;
 mod limits;
+mod loads;
 mod number;
 mod offset;
 mod parties;
@@ -18,6 +19,7 @@ pub mod worked;
 
 pub use bundle::{Bundle, BundleParts};
 pub use limits::{FILE_LIMIT, LINE_LIMIT, READING_LIMIT, TURN_LIMIT};
+pub use loads::load;
 pub use refused::{BundleRefused, BundleRule};
 pub use text::{read, texts_are_of_one_bundle, texts_break_at_one_place};
 pub use user::{BundleUser, UserList};
