@@ -9,6 +9,6 @@ mod status;
 mod top;
 
 pub use bytes::replay_bytes;
-pub use laws::{a_bundle_has_one_output, printed_control_loses_nothing};
+pub use laws::{a_bundle_has_one_output, printed_control_loses_nothing, replays_are_determined};
 pub use status::{Finish, Status};
 pub use top::aplsv_replay_words;
