@@ -81,7 +81,8 @@ fn run<S: Source, W: Sink>(
 ) -> Finish<Text, Clock, Shelf>
     requires shelves { vec_len devices.shelves ≡ most_users }
     ensures causes { (asked : Asked) → Means (map string_bytes (drop 1 words.now)) asked →
-        HasCause (IsOutputAs (λ _. None) (λ clock. clock.faults) (λ _. None) (λ text. text.faults) asked devices.clock result.clock devices.text result.text) result.status
+        HasCause (IsOutputAs (λ _. None) (λ clock. clock.faults) (λ _. None) (λ text. text.faults) (λ _. None) (λ shelf. shelf.faults)
+        asked devices.clock result.clock devices.text result.text devices.shelves.items result.shelves.items) result.status
         (record { bytes = S.left input.old; faults = S.faults input.old }) (record { bytes = S.left input.new; faults = S.faults input.new })
         (record { bytes = W.held output.old; faults = W.faults output.old }) (record { bytes = W.held output.new; faults = W.faults output.new }) }
     ensures usage { result.status ≡ status.Usage → ¬ AskReplay (map string_bytes (drop 1 words.now)) }
