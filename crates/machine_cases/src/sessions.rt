@@ -56,9 +56,7 @@ fn told_by(
     requires { MayGoOn session.old.stage }
 {
     let mut acts = Notes::new(alloc);
-    for _ in 0..answers.len() {
-        give_next(alloc, session, answers, &mut acts)?;
-    }
+    give_all(alloc, session, answers, &mut acts)?;
     finish(session)?;
     let mut printed = Notes::new(alloc);
     note_each(alloc, &mut printed, session.transcript())?;
@@ -66,6 +64,22 @@ fn told_by(
     text.push_str(" ¦ ")?;
     text.push_str(acts.into_text()?.as_str())?;
     Ok(text)
+}
+
+// Gives all these answers, the last one first.
+fn give_all(
+    alloc: Global,
+    session: &mut Session<MemoryShelf>,
+    answers: &mut Vec<Answer>,
+    acts: &mut Notes,
+) -> Result<()>
+    requires { MayGoOn session.old.stage }
+    ensures { OnOk result (MayGoOn session.new.stage) }
+{
+    for _given in 0..answers.len() {
+        give_next(alloc, session, answers, acts)?;
+    }
+    Ok(())
 }
 
 // Gives the next answer to the act that is asked.
