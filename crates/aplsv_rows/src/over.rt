@@ -68,14 +68,17 @@ fn run_each(
     sink: &mut MemorySink,
     handed: Handed,
 ) -> Result<Left> {
-    let mut left = Left {
-        status: Status::Done,
-        handed,
-    };
+    let mut status = Status::Done;
+    let mut handed = handed;
     for bundle in bundles.split(" ⋄ ") {
-        left = run_next(alloc, words, bundle, sink, left.handed)?;
+        let Left {
+            status: ended,
+            handed: after,
+        } = run_next(alloc, words, bundle, sink, handed)?;
+        status = ended;
+        handed = after;
     }
-    Ok(left)
+    Ok(Left { status, handed })
 }
 
 fn run_next(
