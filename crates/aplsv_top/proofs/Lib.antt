@@ -11,9 +11,10 @@ pub mod OneOutput
 pub mod OneReplay
 pub mod OneReply
 pub mod OneRun
+pub mod Over
+pub mod Printing
 pub mod ReplyWork
 pub mod Sessions
 pub mod Shelves
-pub mod SingleWords
 pub mod Sound
 pub mod Told
