@@ -122,9 +122,10 @@ module _ {P : Type 0} (Fits : P → ℕ → List Exchange → Type 0) (older : (
   same_dealings dealings others journal [] (user ∷ users) (transcript ∷ transcripts) (other ∷ more) parts others_parts fits also = absurd fits
   same_dealings dealings others journal (place ∷ places) (user ∷ users) (transcript ∷ transcripts) (other ∷ more) parts others_parts fits also =
       let mine : IsUserPart journal user (dealings user.number) transcript.lines = parts.1 in
-      let theirs : IsUserPart journal user (others user.number) other.lines = others_parts.1 in
-      (same_by place user.number user.lines (answered_entries journal user.number) mine.refused theirs.refused (dealings user.number) (others user.number) transcript.lines other.lines fits.0 also.0 mine.finished theirs.finished (fronts mine.refused theirs.refused),
-      same_dealings dealings others journal places users transcripts more parts.2 others_parts.2 fits.1 also.1)
+      let theirs : IsUserPart journal user (others user.number) other.lines = others_parts.1 in (
+        same_by place user.number user.lines (answered_entries journal user.number) mine.refused theirs.refused (dealings user.number) (others user.number) transcript.lines other.lines fits.0 also.0 mine.finished theirs.finished (fronts mine.refused theirs.refused),
+        same_dealings dealings others journal places users transcripts more parts.2 others_parts.2 fits.1 also.1,
+      )
 
 -- parts in dealings are parts in dealings that are the same
 pub same_parts : (dealings others : Dealings) (journal : Entries) (users : List PlainUser) (transcripts : List PlainTranscript) → AllByRecursion (λ (user : PlainUser). dealings user.number ≡ others user.number) users → AreUserParts others journal users transcripts

@@ -94,7 +94,11 @@ module _ (one_text : OneText) where
     taken_alike (answers value state) a b answer other c d h known takes took = (
       takes.0 ∙ sym took.0,
       record {
-        one = h.one; other = h.other; tells = ap (λ (s : Served T). told s.store) takes.1 ∙ h.tells; also = ap (λ (s : Served T). told s.store) took.1 ∙ h.also; alike = h.alike;
+        one = h.one;
+        other = h.other;
+        tells = ap (λ (s : Served T). told s.store) takes.1 ∙ h.tells;
+        also = ap (λ (s : Served T). told s.store) took.1 ∙ h.also;
+        alike = h.alike;
         state = ap (λ (s : Served T). s.state) takes.1 ∙ sym (ap (λ (s : Served T). s.state) took.1);
       },
     )
@@ -107,19 +111,28 @@ module _ (one_text : OneText) where
     taken_alike (replaces name bytes) a b answer other c d h known takes took =
         let p = some_and (told c.store) (IsChange name_order h.one name (Some (Some bytes)) takes.reply) (subst (λ (o : Option (Told (List ℕ))). Writes name_order o name bytes takes.reply (told c.store)) h.tells takes.told_reply) in
         let q = some_and (told d.store) (IsChange name_order h.other name (Some (Some bytes)) took.reply) (subst (λ (o : Option (Told (List ℕ))). Writes name_order o name bytes took.reply (told d.store)) h.also took.told_reply) in
-        let same = replaced_by h.one h.other p.0 q.0 name bytes takes.reply took.reply answer other a.state b.state c.state d.state h.alike h.state p.2 q.2 takes.after took.after in
-        (same.same, record {
-          one = p.0; other = q.0; tells = p.1; also = q.1;
-          alike = changed_alike name_order h.one h.other h.alike p.0 q.0 name (Some (Some bytes)) takes.reply took.reply p.2 q.2 same.ends;
-          state = same.state;
-        })
+        let same = replaced_by h.one h.other p.0 q.0 name bytes takes.reply took.reply answer other a.state b.state c.state d.state h.alike h.state p.2 q.2 takes.after took.after in (
+          same.same,
+          record {
+            one = p.0;
+            other = q.0;
+            tells = p.1;
+            also = q.1;
+            alike = changed_alike name_order h.one h.other h.alike p.0 q.0 name (Some (Some bytes)) takes.reply took.reply p.2 q.2 same.ends;
+            state = same.state;
+          },
+        )
 
     -- the replies of text files that begin with this content are determined
     pub files_are_determined : (content : Told (List ℕ)) → IsDetermined (λ old party new. new ≡ forgotten old) KnownReplies (BeginsWith content) ServeAlike
     files_are_determined content = record {
       begun = λ a b is are. record { one = content; other = content; tells = is.tells; also = are.tells; alike = alike_itself name_order content; state = is.state ∙ sym are.state };
       forgotten = λ a b party c d h one other. record {
-        one = h.one; other = h.other; tells = ap (λ (s : Served T). told s.store) one ∙ h.tells; also = ap (λ (s : Served T). told s.store) other ∙ h.also; alike = h.alike;
+        one = h.one;
+        other = h.other;
+        tells = ap (λ (s : Served T). told s.store) one ∙ h.tells;
+        also = ap (λ (s : Served T). told s.store) other ∙ h.also;
+        alike = h.alike;
         state = ap (λ (s : Served T). s.state) one ∙ sym (ap (λ (s : Served T). s.state) other);
       };
       replied = λ a b party value answer other c d h one another.

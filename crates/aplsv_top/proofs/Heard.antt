@@ -209,8 +209,7 @@ pub heard_turns : (test : Participant → Bool) (numbers : List ℕ) (journal : 
 heard_turns test numbers journal [] apart h = tt
 heard_turns test numbers journal (user ∷ users) apart h =
     let first : Turn = turn_if (test user) numbers journal user in
-    let same : user.number ≡ first.user.number = sym (ap (λ (u : Participant). u.number) (later_turn (test user) numbers journal user).same) in
-    (
+    let same : user.number ≡ first.user.number = sym (ap (λ (u : Participant). u.number) (later_turn (test user) numbers journal user).same) in (
       heard_past test numbers first.journal users first.user.number first.user.answers (subst (λ (n : ℕ). AreApartFrom n (numbers_of users)) same apart.0) (heard_turn (test user) numbers journal user h.0),
       heard_turns test numbers first.journal users apart.1 (all_heard_beside user.number journal first.journal users (adds_turn (test user) numbers journal user) apart.0 h.1),
     )

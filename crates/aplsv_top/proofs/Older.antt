@@ -80,6 +80,7 @@ left_before journal party [] (work.Control local) left = left
 left_before journal party [] (work.Counter to surrogate) left = left
 left_before journal party [] (work.Use local) left = left
 left_before journal party (reply ∷ replies) due left = λ e. cc e
+
 -- ---- the turns of users
 
 adds_retried : (held : Bool) (next : Option Act) (numbers : List ℕ) (journal : Entries) (party : ℕ)

@@ -1,5 +1,5 @@
 -- Replays over devices that tell the same, and leave no entry untold, are one.
-use Rattle.std.proofs.Common.{◌≡◌, ◌≢◌, ℕ, ◌≤◌, List, [], ◌∷◌, ◌++◌, map, Option, Some, None, refl, sym, ap, ap₂, subst, ◌∙◌, arith}
+use Rattle.std.proofs.Common.{◌≡◌, ◌≢◌, ℕ, ◌≤◌, List, [], ◌∷◌, ◌++◌, map, reverse, Option, Some, None, refl, sym, ap, ap₂, subst, ◌∙◌, arith}
 use Rattle.std.specs.Prelude.{All, IsSome}
 use Rattle.std.specs.List.{AllByRecursion}
 use Rattle.std.proofs.lemmas.List.Elements.{All-head, All-tail}
@@ -14,13 +14,13 @@ use Rattle.auxiliaries.specs.Served.{Replies, Served, forgotten}
 use Rattle.bundle_text.specs.Bundle.{IsBundle, PlainBundle}
 use Rattle.bundle_text.specs.Rules.{IsUser}
 use Rattle.bundle_text.specs.User.{PlainUser}
-use Rattle.sv_journal.specs.Output.{PlainTranscript}
+use Rattle.sv_journal.specs.Output.{PlainTranscript, output_text}
 use Rattle.sv_rules.specs.Entries.{Entries}
 use Rattle.session_rules.specs.Run.{AreUserParts, Dealings, ServeUsers}
 use Rattle.session_rules.specs.RunLaws.{PartsMakeOneTranscript}
 use Rattle.replay_rules.specs.Turns.{newcomer, numbers_of, ordered, rounds}
 use Rattle.aplsv_replay.specs.Replayed.{IsDeviceRun}
-use Rattle.aplsv_top.specs.OutputLaws.{AllTellThroughout, LeavesNoneUntold, ReplaysAreDetermined}
+use Rattle.aplsv_top.specs.OutputLaws.{AllTellThroughout, LeavesNoneUntold, OutputsAreDetermined, ReplaysAreDetermined}
 use Rattle.aplsv_top.proofs.Clocks.{TickAlike, clocks_are_determined}
 use Rattle.aplsv_top.proofs.Ended.{DealingsFit, fit_at_end, same_dealings, same_parts}
 use Rattle.aplsv_top.proofs.Files.{BeginsWith, KnownReplies, OneText, ServeAlike, files_are_determined, holds_at_start, known_run}
@@ -130,3 +130,11 @@ one_replay one_text one_transcript ticks clock_faults text_told text_faults told
     (dealings_fit told faults run.run.dealings bundle.users shelves shelves shelves_then run.run.run.shelves_served none.saved refl)
     (dealings_fit told faults rerun.run.dealings bundle.users shelves racks racks_then rerun.run.run.shelves_served also.saved (sym same)) in
     (one, one_transcript bundle run.run.dealings journal transcripts others run.run.run.users (same_parts run.run.dealings rerun.run.dealings journal bundle.users others dealings theirs))
+
+-- and so is what is written of them
+pub one_written : OneText → PartsMakeOneTranscript → {C T K : Type 0} (ticks : C → Option Ticks) (clock_faults : C → ℕ) (text_told : T → Option (Told (List ℕ))) (text_faults : T → ℕ) (told : K → Option (Told (ℕ × List ℕ))) (faults : K → ℕ)
+    → OutputsAreDetermined ticks clock_faults text_told text_faults told faults
+one_written one_text one_transcript ticks clock_faults text_told text_faults told faults bundle text other clock clock_then another another_then texts texts_then files files_then shelves shelves_then racks racks_then rules output again none also ticking telling same =
+    let one = one_replay one_text one_transcript ticks clock_faults text_told text_faults told faults bundle output.journal again.journal output.transcripts again.transcripts clock clock_then another another_then texts texts_then files files_then
+    shelves shelves_then racks racks_then rules output.run again.run none also ticking telling same in
+    output.output ∙ (ap₂ (λ (t : List PlainTranscript) (j : Entries). output_text t (reverse j)) one.1 one.0 ∙ sym again.output)

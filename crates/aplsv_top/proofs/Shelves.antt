@@ -93,7 +93,10 @@ module _ {K : Type 0} (told : K → Option (Told (ℕ × List ℕ))) (faults : K
       record {
         same = one.same;
         stand = record {
-          one = c.0; other = d.0; tells = c.1; also = d.1;
+          one = c.0;
+          other = d.0;
+          tells = c.1;
+          also = d.1;
           alike = changed_alike by_user_and_name h.one h.other h.alike c.0 d.0 (user, name) (Some (Some bytes)) served.answer also.answer c.2 d.2 one.ends;
         };
       }
@@ -113,7 +116,10 @@ module _ {K : Type 0} (told : K → Option (Told (ℕ × List ℕ))) (faults : K
       record {
         same = one.same;
         stand = record {
-          one = c.0; other = d.0; tells = c.1; also = d.1;
+          one = c.0;
+          other = d.0;
+          tells = c.1;
+          also = d.1;
           alike = changed_alike by_user_and_name h.one h.other h.alike c.0 d.0 (user, name) None served.answer also.answer c.2 d.2 one.ends;
         };
       }

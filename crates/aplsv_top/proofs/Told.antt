@@ -40,7 +40,7 @@ pub record EndAlike {T : Type 0} (r s : Result T StoreError) : Type 0 where
 -- ---- failures
 
 clash : (a b : Bool) → a ≡ b → a ≡ false → b ≡ true → ⊥
-clash a b same no yes = let e : false ≡ true = sym no ∙ (same ∙ yes) in cc
+clash a b same off on = let e : false ≡ true = sym off ∙ (same ∙ on) in cc
 
 module _ {K : Type 0} (order : K → K → Ordering) (a b : Told K) (alike : TellAlike order a b) where
   next_fails : fails_after a.calls a.fails ≡ fails_after b.calls b.fails
@@ -55,10 +55,10 @@ module _ {K : Type 0} (order : K → K → Ordering) (a b : Told K) (alike : Tel
   module _ {T : Type 0} where
     -- one call fails where the other does
     pub one_fails : (x : T) → FailsByNumber {T = T} a.calls a.fails (Ok x) → FailsByNumber {T = T} b.calls b.fails (Err Failed) → ⊥
-    one_fails x no yes = clash (fails_after a.calls a.fails) (fails_after b.calls b.fails) next_fails no yes
+    one_fails x answered failed = clash (fails_after a.calls a.fails) (fails_after b.calls b.fails) next_fails answered failed
 
     pub other_fails : (x : T) → FailsByNumber {T = T} a.calls a.fails (Err Failed) → FailsByNumber {T = T} b.calls b.fails (Ok x) → ⊥
-    other_fails x yes no = clash (fails_after b.calls b.fails) (fails_after a.calls a.fails) (sym next_fails) no yes
+    other_fails x failed answered = clash (fails_after b.calls b.fails) (fails_after a.calls a.fails) (sym next_fails) answered failed
 
     -- after a call that was to change an entry
     pub changed_alike : (c d : Told K) (key : K) (wanted : Option (Option (List ℕ))) (r s : Result T StoreError) → IsChange order a key wanted r c → IsChange order b key wanted s d → EndAlike r s → TellAlike order c d

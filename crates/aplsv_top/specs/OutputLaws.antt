@@ -15,7 +15,7 @@ use Rattle.sv_delivery_laws.specs.DeliveryLaws.{WhatControlGives}
 use Rattle.session_rules.specs.Run.{Dealings, ServeUsers}
 use Rattle.session_rules.specs.Shelf.{Exchange, IsShelfRun}
 use Rattle.aplsv_replay.specs.Replayed.{IsDeviceRun}
-use Rattle.aplsv_top.specs.Headline.{IsOutputFor}
+use Rattle.aplsv_top.specs.Headline.{IsOutputFor, IsOutputOver}
 
 -- for the bytes read there is one output and no other
 abbrev pub BundlesHaveOneOutput : Type 0
@@ -68,3 +68,14 @@ module _ {C T K : Type 0} (ticks : C → Option Ticks) (clock_faults : C → ℕ
       → (rerun : IsDeviceRun ticks clock_faults text_told text_faults told faults bundle other others another another_then files files_then racks racks_then)
       → LeavesNoneUntold bundle journal transcripts clock clock_then text text_then shelves shelves_then run → LeavesNoneUntold bundle other others another another_then files files_then racks racks_then rerun
       → ticks clock ≡ ticks another → text_told text ≡ text_told files → map told shelves ≡ map told racks → (journal ≡ other) × (transcripts ≡ others)
+
+  -- so two outputs of a bundle over such devices are one text
+  abbrev pub OutputsAreDetermined : Type 0
+  OutputsAreDetermined =
+      (bundle : PlainBundle) (text other : List ℕ) (clock clock_then another another_then : C) (texts texts_then files files_then : T) (shelves shelves_then racks racks_then : List K)
+      → IsBundle bundle
+      → (output : IsOutputOver ticks clock_faults text_told text_faults told faults bundle text clock clock_then texts texts_then shelves shelves_then)
+      → (again : IsOutputOver ticks clock_faults text_told text_faults told faults bundle other another another_then files files_then racks racks_then)
+      → LeavesNoneUntold bundle output.journal output.transcripts clock clock_then texts texts_then shelves shelves_then output.run
+      → LeavesNoneUntold bundle again.journal again.transcripts another another_then files files_then racks racks_then again.run
+      → ticks clock ≡ ticks another → text_told texts ≡ text_told files → map told shelves ≡ map told racks → text ≡ other

@@ -1,4 +1,4 @@
-ghost use Rattle.aplsv_top.specs.OutputLaws.{BundlesHaveOneOutput, PrintedControlLosesNothing, ReplaysAreDetermined};
+ghost use Rattle.aplsv_top.specs.OutputLaws.{BundlesHaveOneOutput, OutputsAreDetermined, PrintedControlLosesNothing, ReplaysAreDetermined};
 
 use apl_io::{Clock, Shelf, TextStore};
 use auxiliaries::files_are_read_in_one_way;
@@ -20,6 +20,15 @@ pub fn a_bundle_has_one_output()
 /// to change an entry fails and leaves it untold. The call does nothing.
 pub fn replays_are_determined<T: TextStore, C: Clock, K: Shelf>()
     ensures { ReplaysAreDetermined C.told C.faults T.told T.faults K.told K.faults }
+{
+    files_are_read_in_one_way();
+    one_transcript_of_parts();
+}
+
+/// So what is written of such runs is one text: over devices that tell it is a function of the bytes read and of what they tell,
+/// whichever of them the bundle's own are. The call does nothing.
+pub fn outputs_are_determined<T: TextStore, C: Clock, K: Shelf>()
+    ensures { OutputsAreDetermined C.told C.faults T.told T.faults K.told K.faults }
 {
     files_are_read_in_one_way();
     one_transcript_of_parts();
