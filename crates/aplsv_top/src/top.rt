@@ -46,7 +46,7 @@ pub fn aplsv_replay_words<S: Source, W: Sink, T: TextStore, C: Clock, K: Shelf>(
         (record { bytes = W.held output.old; faults = W.faults output.old }) (record { bytes = W.held output.new; faults = W.faults output.new }) }
     ensures usage { result.status ≡ status.Usage → ¬ AskReplay (map string_bytes words.now) }
     ensures unasked { ¬ AskReplay (map string_bytes words.now) → (result.status ≡ status.Usage) ⊎ (result.status ≡ status.WantOfMemory) }
-    ensures unread { result.status ≡ status.Usage → input.new ≡ input.old }
+    ensures unread { ¬ AskReplay (map string_bytes words.now) → input.new ≡ input.old }
     ensures unwritten { result.status ≢ status.Done → result.status ≢ status.WriteFault → output.new ≡ output.old }
 
     // Without faults, bytes that are few enough are answered if there is memory: no bundle is refused, and nothing else is run.
@@ -55,6 +55,7 @@ pub fn aplsv_replay_words<S: Source, W: Sink, T: TextStore, C: Clock, K: Shelf>(
         → IsConclusion result.status }
 
     // What no word names comes back as it came, and all does where nothing was run.
+    ensures unnamed { ¬ AskReplay (map string_bytes words.now) → (result.text ≡ text) × (result.clock ≡ clock) × (result.shelves ≡ shelves) }
     ensures text { (asked : Asked) → Means (map string_bytes words.now) asked → asked.text ≡ None → result.text ≡ text }
     ensures clock { (asked : Asked) → Means (map string_bytes words.now) asked → asked.clock ≡ false → result.clock ≡ clock }
     ensures library { (asked : Asked) → Means (map string_bytes words.now) asked → asked.library ≡ None → result.shelves ≡ shelves }
@@ -94,8 +95,9 @@ fn as_asked<S: Source, W: Sink, T: TextStore, C: Clock, K: Shelf>(
         (record { bytes = S.left input.old; faults = S.faults input.old }) (record { bytes = S.left input.new; faults = S.faults input.new })
         (record { bytes = W.held output.old; faults = W.faults output.old }) (record { bytes = W.held output.new; faults = W.faults output.new }) }
     ensures usage { (result.status ≡ status.Usage) ↔ ((asked_by words.now).replay ≡ false) }
-    ensures unread { result.status ≡ status.Usage → input.new ≡ input.old }
+    ensures unread { (asked_by words.now).replay ≡ false → input.new ≡ input.old }
     ensures unwritten { result.status ≢ status.Done → result.status ≢ status.WriteFault → output.new ≡ output.old }
+    ensures unnamed { (asked_by words.now).replay ≡ false → (result.text ≡ text) × (result.clock ≡ clock) × (result.shelves ≡ shelves) }
     ensures text { (asked_by words.now).text ≡ None → result.text ≡ text }
     ensures clock { (asked_by words.now).clock ≡ false → result.clock ≡ clock }
     ensures library { (asked_by words.now).library ≡ None → result.shelves ≡ shelves }

@@ -28,6 +28,14 @@ pub returns-in-Ok-clause-unasked : goal.returns-in-Ok-clause-unasked
 returns-in-Ok-clause-unasked g c = λ unasked.
     inl (c.as_asked.ensures.usage.1 (is_false (asked_by c.in-Ok.asked).replay (λ yes. unasked (asked_by c.in-Ok.asked, c.in-Ok.ensures.means, yes))))
 
+pub returns-in-Ok-clause-unread : goal.returns-in-Ok-clause-unread
+returns-in-Ok-clause-unread g c = λ unasked.
+    c.as_asked.ensures.unread (is_false (asked_by c.in-Ok.asked).replay (λ yes. unasked (asked_by c.in-Ok.asked, c.in-Ok.ensures.means, yes)))
+
+pub returns-in-Ok-clause-unnamed : goal.returns-in-Ok-clause-unnamed
+returns-in-Ok-clause-unnamed g c = λ unasked.
+    c.as_asked.ensures.unnamed (is_false (asked_by c.in-Ok.asked).replay (λ yes. unasked (asked_by c.in-Ok.asked, c.in-Ok.ensures.means, yes)))
+
 pub returns-in-Ok-clause-complete : goal.returns-in-Ok-clause-complete
 returns-in-Ok-clause-complete g c = λ ask few reads_well writes_well.
     concluded
