@@ -18,3 +18,7 @@ returns-clause-unasked g c = λ unasked.
 pub returns-clause-complete : goal.returns-clause-complete
 returns-clause-complete g c = λ ask.
     c.aplsv_replay_words.ensures.complete (subst (λ words. AskReplay (map string_bytes words)) (sym c.behind_name.ensures) ask)
+
+pub returns-clause-unread : goal.returns-clause-unread
+returns-clause-unread g c = λ unasked.
+    c.aplsv_replay_words.ensures.unread (λ ask. unasked (subst (λ words. AskReplay (map string_bytes words)) c.behind_name.ensures ask))
