@@ -1,8 +1,7 @@
 ghost use Rattle.std.specs.Prelude.{◌≡◌, ◌<◌, [], ◌∷◌, IfOk};
 
-use anyhow::{Result, bail, ensure};
+use anyhow::{Context, Result, bail, ensure};
 use apl_io::CallNumbers;
-use case_workspaces::natural_of;
 use std::alloc::Global;
 
 // One number.
@@ -52,11 +51,11 @@ fn ascending(alloc: Global, numbers: &[u64]) -> Result<CallNumbers> {
     }
 }
 
-/// The numbers of calls that a field says: three at most, which ascend.
+/// The numbers of calls that a field says: three at most, which ascend. Memory for them.
 pub fn calls_of(alloc: Global, field: &str) -> Result<CallNumbers> {
     let mut numbers = Vec::new(alloc);
     for word in field.split_whitespace() {
-        numbers.push(u64::from(natural_of(word)?))?;
+        numbers.push(word.parse().context("no number of a call")?)?;
     }
     ascending(alloc, &numbers)
 }
