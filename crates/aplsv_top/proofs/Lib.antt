@@ -6,5 +6,6 @@ pub mod Files
 pub mod Level
 pub mod OneOutput
 pub mod OneRun
+pub mod Over
+pub mod Printing
 pub mod ReplyWork
-pub mod SingleWords
