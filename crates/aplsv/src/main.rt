@@ -1,8 +1,8 @@
 // The program: it makes the devices of the machine, hands them and its words to the proved run, and tells how that ended.
 #![tactic(auto)]
 
-ghost use Rattle.std.specs.Prelude.{◌≡◌, ◌≢◌, ◌⊎◌, IfOk, None, drop, map, string_bytes, vec_len};
-ghost use Rattle.std.specs.Vec.Iter.{into_iter_items};
+ghost use Rattle.std.specs.Prelude.{◌≡◌, ◌≢◌, ◌⊎◌, IfErr, IfOk, None, drop, length, map, string_bytes, vec_len};
+ghost use Rattle.std.specs.Vec.Iter.{into_iter_items, into_iter_len};
 ghost use Rattle.apl_arrays.specs.Limits.{most_input_bytes, most_users};
 ghost use Rattle.apl_io.specs.Faults.{Rose};
 ghost use Rattle.apl_io.specs.Whole.{AreAtMost};
@@ -29,9 +29,9 @@ type Clock = SystemClock<HostRuntime>;
 
 type Shelf = DirShelf<HostRuntime>;
 
-// The words of the process in their order, the program's name in front.
+// The words of the process in their order, the program's name in front: all of them, where what gives them counts what it has.
 fn all_words(alloc: Global, given: Args) -> Result<Vec<String>, AllocError>
-    ensures { IfOk result (λ words. words.items ≡ into_iter_items given) }
+    ensures { IfOk result (λ words. into_iter_len given ≡ length (into_iter_items given) → words.items ≡ into_iter_items given) }
 {
     let mut words = Vec::new(alloc);
     for word in given {
@@ -87,7 +87,7 @@ fn run<S: Source, W: Sink>(
         (record { bytes = W.held output.old; faults = W.faults output.old }) (record { bytes = W.held output.new; faults = W.faults output.new }) }
     ensures usage { result.status ≡ status.Usage → ¬ AskReplay (map string_bytes (drop 1 words.now)) }
     ensures unasked { ¬ AskReplay (map string_bytes (drop 1 words.now)) → (result.status ≡ status.Usage) ⊎ (result.status ≡ status.WantOfMemory) }
-    ensures unread { result.status ≡ status.Usage → input.new ≡ input.old }
+    ensures unread { ¬ AskReplay (map string_bytes (drop 1 words.now)) → input.new ≡ input.old }
     ensures unwritten { result.status ≢ status.Done → result.status ≢ status.WriteFault → output.new ≡ output.old }
     ensures complete { AskReplay (map string_bytes (drop 1 words.now)) → AreAtMost (S.left input.old) most_input_bytes
         → ¬ (Rose (S.faults input.old) (S.faults input.new)) → ¬ (Rose (W.faults output.old) (W.faults output.new))
