@@ -77,15 +77,15 @@ module _ {C T K : Type 0} (ticks : C → Option Ticks) (clock_faults : C → ℕ
   own_output (Some place) named library bundle text clock clock_then files files_then shelves shelves_then no_text no_clock no_library over = absurd (none-some place (sym no_text))
   own_output None true library bundle text clock clock_then files files_then shelves shelves_then no_text no_clock no_library over = absurd (true≢false no_clock)
   own_output None false (Some place) bundle text clock clock_then files files_then shelves shelves_then no_text no_clock no_library over = absurd (none-some place (sym no_library))
-  own_output None false None bundle text clock clock_then files files_then shelves shelves_then no_text no_clock no_library (kept, readings, empty, over) = record {
-    transcripts = over.transcripts;
-    journal = over.journal;
-    clock = readings;
-    files = kept;
-    shelves = empty;
-    run = over.run;
-    output = over.output;
-    printable = over.printable;
+  own_output None false None bundle text clock clock_then files files_then shelves shelves_then no_text no_clock no_library over = record {
+    transcripts = over.1.1.1.transcripts;
+    journal = over.1.1.1.journal;
+    clock = over.1.0;
+    files = over.0;
+    shelves = over.1.1.0;
+    run = over.1.1.1.run;
+    output = over.1.1.1.output;
+    printable = over.1.1.1.printable;
   }
 
   pub own_outputs : OwnOutputsAreTheBundles ticks clock_faults text_told text_faults told faults

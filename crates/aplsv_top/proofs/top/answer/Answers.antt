@@ -1,4 +1,4 @@
-use Rattle.std.proofs.Common.{rules, ◌≡◌, ◌∙◌, ℕ, ap, ap₂, subst}
+use Rattle.std.proofs.Common.{rules, ◌≡◌, ◌∙◌, ℕ, ap, ap₂, subst, sym}
 use Rattle.std.proofs.lemmas.Result.{IfOk-at_ok}
 use Rattle.apl_arrays.specs.List.{Listed}
 use Rattle.aplsv_words.specs.Meaning.{asked_by}
@@ -36,9 +36,9 @@ returns-in-Err-WantOfMemory-clause-causes g c =
 pub returns-in-Ok-written-clause-causes : goal.returns-in-Ok-written-clause-causes
 returns-in-Ok-written-clause-causes g c =
     let is : c.ended-in-Ok-written.result.status ≡ c.write.result = cc in
-    let same_clock : c.run_as_asked-written.result.clock ≡ c.ended-in-Ok-written.result.clock = cc in
-    let same_text : c.run_as_asked-written.result.text ≡ c.ended-in-Ok-written.result.text = cc in
-    let same_shelves : c.run_as_asked-written.result.shelves.items ≡ c.ended-in-Ok-written.result.shelves.items = cc in
+    let same_clock : c.run_as_asked-written.result.clock ≡ c.ended-in-Ok-written.result.clock = sym (ap (λ (end : Finish _ _ _). end.clock) c.ended-in-Ok-written.ensures) in
+    let same_text : c.run_as_asked-written.result.text ≡ c.ended-in-Ok-written.result.text = sym (ap (λ (end : Finish _ _ _). end.text) c.ended-in-Ok-written.ensures) in
+    let same_shelves : c.run_as_asked-written.result.shelves.items ≡ c.ended-in-Ok-written.result.shelves.items = sym (ap (λ (end : Finish _ _ _). end.shelves.items) c.ended-in-Ok-written.ensures) in
     let named = IfOk-at_ok
     (λ (output : Listed ℕ). NamedOutput g.C.Clock.told g.C.Clock.faults g.T.TextStore.told g.T.TextStore.faults g.K.Shelf.told g.K.Shelf.faults (asked_by c.args.words.now).text (asked_by c.args.words.now).clock (asked_by c.args.words.now).library c.in-Ok.bundle output.items c.args.clock c.run_as_asked-written.result.clock c.args.text c.run_as_asked-written.result.text
     c.args.shelves.items c.run_as_asked-written.result.shelves.items)
