@@ -1,6 +1,5 @@
 -- A clock that tells its readings answers in one way.
 use Rattle.std.proofs.Common.{◌≡◌, ℕ, negsuc, Bool, true, false, Option, Some, sym, ap, subst, ◌∙◌}
-use Rattle.std.specs.Prelude.{IfSome}
 use Rattle.std.specs.Bool.{MatchBool}
 use Rattle.apl_arrays.specs.Array.{PlainArray, scalar}
 use Rattle.apl_io.specs.Clock.{Ticks, Ticked, next_reading, after_reading}

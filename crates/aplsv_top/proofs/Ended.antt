@@ -1,5 +1,5 @@
 -- Where a replay ends, the exchanges of its users fit their shelves; and with one journal two runs have the same dealings.
-use Rattle.std.proofs.Common.{◌≡◌, ◌⊎◌, ℕ, List, [], ◌∷◌, ◌++◌, map, Option, None, inl, inr, refl, sym, ap, subst, ◌∙◌, append_assoc}
+use Rattle.std.proofs.Common.{◌≡◌, ◌⊎◌, ℕ, List, [], ◌∷◌, ◌++◌, map, None, inl, inr, refl, sym, ap, subst, ◌∙◌, append_assoc}
 use Rattle.std.specs.List.{AllByRecursion}
 use Rattle.bundle_text.specs.User.{PlainUser}
 use Rattle.sv_events.specs.Answer.{PlainAnswer, full}
@@ -16,7 +16,7 @@ use Rattle.replay_rules.specs.Turns.{Participant, newcomer}
 use Rattle.aplsv_top.proofs.Heard.{AreHeard, IsHeard}
 use Rattle.aplsv_top.proofs.Level.{AreFitting, FitsAt}
 use Rattle.aplsv_top.proofs.Older.{AreLater, IsLater}
-use Rattle.aplsv_top.proofs.Sessions.{AreEarlier, AreLevel, more_calls, same_session}
+use Rattle.aplsv_top.proofs.Sessions.{AreLevel, more_calls, same_session}
 
 -- the answers that refused acts have
 abbrev refusals : List Act → List PlainAnswer

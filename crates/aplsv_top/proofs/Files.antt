@@ -1,9 +1,9 @@
 -- Text files in a store that tells all that it keeps are answered in one way.
-use Rattle.std.proofs.Common.{◌≡◌, ◌≢◌, ℕ, List, [], ◌∷◌, Option, Some, None, refl, sym, ap, subst, subst₂, ◌∙◌, inl, inr}
-use Rattle.std.specs.Prelude.{Result, Ok, Err, IfSome, IsSomeAnd}
+use Rattle.std.proofs.Common.{◌≡◌, ◌≢◌, ℕ, List, [], ◌∷◌, Option, Some, None, refl, sym, ap, subst, ◌∙◌, inl, inr}
+use Rattle.std.specs.Prelude.{Result, Ok, Err}
 use Rattle.apl_arrays.specs.Array.{PlainArray}
 use Rattle.apl_arrays.specs.Name.{name_order}
-use Rattle.apl_io.specs.Content.{FailsByNumber, IsChange, IsRead, MayRead, Reads, Told, Writes, entry_of}
+use Rattle.apl_io.specs.Content.{IsChange, IsRead, MayRead, Reads, Told, Writes, entry_of}
 use Rattle.apl_io.specs.declared.store_error.StoreError.{StoreError}
 use Rattle.apl_io.specs.declared.store_error.StoreError.TheVariants.{Failed, WantOfMemory}
 use Rattle.auxiliaries.specs.Command.{command_of}

@@ -20,8 +20,8 @@ use Rattle.session_rules.proofs.Taking.{none_leaves}
 use Rattle.session_rules.specs.Session.{session_of}
 use Rattle.session_rules.specs.UserPart.{answered_entries, answers_of}
 use Rattle.replay_rules.proofs.SoFar.{full_stays, other_awaits, own_answers, own_awaits, own_held, own_leave}
-use Rattle.replay_rules.specs.Turns.{Participant, Turn, act_made, given, numbers_of, turn, turn_by, turns_where}
-use Rattle.aplsv_top.proofs.Older.{AreLater, Adds, adds_turn, entry, later_turn, nothing, turn_if}
+use Rattle.replay_rules.specs.Turns.{Participant, Turn, act_made, given, numbers_of, turn_by, turns_where}
+use Rattle.aplsv_top.proofs.Older.{Adds, adds_turn, entry, later_turn, nothing, turn_if}
 
 -- what a party was answered: the answers of its entries, and full for further acts, of which there are some only where the journal is full; and the act that it waits for is no leave
 pub record IsHeard (journal : Entries) (party : ℕ) (answers : List PlainAnswer) : Type 0 where

@@ -17,7 +17,7 @@ use Rattle.session_rules.specs.Shelf.{Call, Exchange, Reply}
 use Rattle.replay_rules.specs.Turns.{HasReplies, Participant, Replay, Turn, act_made, given, goes_on, numbers_of, ordered, party_turn, round, rounds, served, turn, turn_by, turn_of_ten, turn_of_twenty, turns_where, user_turns}
 use Rattle.aplsv_top.proofs.Determined.{Answers, IsDetermined, older_answers}
 use Rattle.aplsv_top.proofs.Heard.{AreApart, AreApartFrom, AreHeard, all_heard_beside, heard_turns}
-use Rattle.aplsv_top.proofs.Older.{Adds, AreLater, IsLater, IsOlder, adds_served, all_later_still, answered_too, later_turn, later_turns, left_before, none_later, older_by, older_turns, same_numbers, turn_if}
+use Rattle.aplsv_top.proofs.Older.{AreLater, IsLater, IsOlder, adds_served, all_later_still, later_turn, later_turns, left_before, none_later, older_by, older_turns, same_numbers, turn_if}
 use Rattle.aplsv_top.proofs.OneReply.{same_served}
 use Rattle.aplsv_top.proofs.Sessions.{AreLevel, more_calls, same_session}
 

@@ -9,7 +9,6 @@ use Rattle.apl_io.specs.Clock.{Ticks}
 use Rattle.apl_io.specs.Content.{Told, by_user_and_name}
 use Rattle.apl_io.specs.Kept.{Keeper, Timer, file_entry, new_keeper}
 use Rattle.bundle_text.specs.Bundle.{BundleText, IsBundle, PlainBundle}
-use Rattle.bundle_text.specs.User.{PlainUser}
 use Rattle.sv_journal.specs.Output.{output_text}
 use Rattle.session_rules.specs.RunLaws.{PartsMakeOneTranscript}
 use Rattle.aplsv_top.specs.Headline.{IsOutputOf, clock_of, shelves_of, text_of}

@@ -1,5 +1,5 @@
 -- Replays over devices that tell the same, and leave no entry untold, are one.
-use Rattle.std.proofs.Common.{◌≡◌, ◌≢◌, ℕ, ◌≤◌, List, [], ◌∷◌, ◌++◌, map, reverse, Option, Some, None, refl, sym, ap, ap₂, subst, ◌∙◌, arith}
+use Rattle.std.proofs.Common.{◌≡◌, ◌≢◌, ℕ, ◌≤◌, List, [], ◌∷◌, map, reverse, Option, Some, None, refl, sym, ap, ap₂, subst, ◌∙◌, arith}
 use Rattle.std.specs.Prelude.{All, IsSome}
 use Rattle.std.specs.List.{AllByRecursion}
 use Rattle.std.proofs.lemmas.List.Elements.{All-head, All-tail}
@@ -10,7 +10,7 @@ use Rattle.apl_io.specs.Clock.{Ticks}
 use Rattle.apl_io.specs.Content.{Told, entry_of}
 use Rattle.auxiliaries.specs.Clock.{RepliesByReading}
 use Rattle.auxiliaries.specs.Protocol.{idle}
-use Rattle.auxiliaries.specs.Served.{Replies, Served, forgotten}
+use Rattle.auxiliaries.specs.Served.{forgotten}
 use Rattle.bundle_text.specs.Bundle.{IsBundle, PlainBundle}
 use Rattle.bundle_text.specs.Rules.{IsUser}
 use Rattle.bundle_text.specs.User.{PlainUser}
@@ -26,7 +26,7 @@ use Rattle.aplsv_top.proofs.Ended.{DealingsFit, fit_at_end, same_dealings, same_
 use Rattle.aplsv_top.proofs.Files.{BeginsWith, KnownReplies, OneText, ServeAlike, files_are_determined, holds_at_start, known_run}
 use Rattle.aplsv_top.proofs.Heard.{AreApart, AreApartFrom, AreHeard, ascending_apart}
 use Rattle.aplsv_top.proofs.Level.{AreTame}
-use Rattle.aplsv_top.proofs.OneRun.{IsRepliedJournal, after_rounds, before_turns, one_journal, tame, users_left}
+use Rattle.aplsv_top.proofs.OneRun.{IsRepliedJournal, before_turns, one_journal, tame, users_left}
 use Rattle.aplsv_top.proofs.Shelves.{FitShelf, fit_earlier, fit_one}
 use Rattle.aplsv_top.proofs.Told.{some_and}
 

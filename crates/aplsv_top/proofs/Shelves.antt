@@ -7,7 +7,7 @@ use Rattle.apl_arrays.specs.Name.{name_order}
 use Rattle.apl_io.specs.Content.{FailsByNumber, IsChange, IsListing, IsRead, MayList, MayRead, MayRemove, Told, by_user_and_name, entry_of, has_name}
 use Rattle.apl_io.specs.declared.store_error.StoreError.{StoreError}
 use Rattle.apl_io.specs.declared.store_error.StoreError.TheVariants.{Failed, WantOfMemory}
-use Rattle.session_rules.specs.Shelf.{Call, Exchange, IsReplied, IsShelfRun, Reply, Serves, browse, browsed, discard, discarded, failed, fetch, fetched, reply_as, store, stored}
+use Rattle.session_rules.specs.Shelf.{Call, Exchange, IsShelfRun, Reply, Serves, browse, browsed, discard, discarded, failed, fetch, fetched, reply_as, store, stored}
 use Rattle.aplsv_top.specs.OutputLaws.{TellsAll, TellsThroughout}
 use Rattle.aplsv_top.proofs.Told.{EndAlike, TellAlike, alike_itself, called_alike, changed_alike, one_fails, one_list, one_read, one_removal, other_fails, some_and}
 

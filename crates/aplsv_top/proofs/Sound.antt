@@ -6,7 +6,7 @@ use Rattle.std.specs.declared.cmp.Ordering.{Ordering}
 use Rattle.std.proofs.lemmas.Option.{none-some}
 use Rattle.apl_arrays.specs.Array.{PlainArray}
 use Rattle.apl_arrays.specs.Name.{name_order}
-use Rattle.apl_io.specs.Content.{FailsByNumber, IsChange, IsListing, IsRead, MayRemove, Reads, Told, Writes, after_call, by_user_and_name, entry_after, entry_of}
+use Rattle.apl_io.specs.Content.{FailsByNumber, IsChange, IsListing, IsRead, MayRemove, Reads, Told, Writes, after_call, by_user_and_name, entry_of}
 use Rattle.apl_io.specs.declared.store_error.StoreError.{StoreError}
 use Rattle.apl_io.specs.declared.store_error.StoreError.TheVariants.{Failed, WantOfMemory}
 use Rattle.auxiliaries.specs.Command.{command_of}

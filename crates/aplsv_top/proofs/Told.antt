@@ -1,6 +1,6 @@
 -- Devices that tell the same answer in one way, while they tell all that they keep.
 use Rattle.std.proofs.Common.{◌≡◌, ◌≢◌, ℕ, Bool, true, false, ◌||◌, List, [], ◌∷◌, Option, Some, None, refl, sym, ap, ap₂, subst, subst₂, ◌∙◌}
-use Rattle.std.specs.Prelude.{Result, Ok, Err, IfOk, IfSome, IsSomeAnd, IsSome, MatchOption, if◌then◌else◌}
+use Rattle.std.specs.Prelude.{Result, Ok, Err, IsSomeAnd, IsSome, MatchOption, if◌then◌else◌}
 use Rattle.std.specs.BTreeMap.{is_at}
 use Rattle.std.specs.List.{AllByRecursion}
 use Rattle.std.specs.List.Sorted.{IsStrictlySortedBy}
@@ -12,12 +12,11 @@ use Rattle.std.proofs.lemmas.Cmp.{nat_list_cmp_total, nat_list_eq_equiv}
 use Rattle.std.proofs.lemmas.Map.Keys.{sorted_head, sorted_tail}
 use Rattle.std.proofs.lemmas.Map.Lookups.{exact_bytes}
 use Rattle.std.proofs.lemmas.Map.Text.{is_eq-slice_cmp}
-use Rattle.std.proofs.lemmas.Option.{none-some, same_Some}
 use Rattle.apl_arrays.specs.Name.{name_order}
 use Rattle.apl_io.specs.Content.{FailsByNumber, IsChange, MayList, MayRead, MayRemove, Told, after_call, by_user_and_name, entry_after, entry_of, fails_after, has_name}
 use Rattle.apl_io.specs.Faults.{one_more}
 use Rattle.apl_io.specs.declared.store_error.StoreError.{StoreError}
-use Rattle.apl_io.specs.declared.store_error.StoreError.TheVariants.{Failed, WantOfMemory}
+use Rattle.apl_io.specs.declared.store_error.StoreError.TheVariants.{Failed}
 
 -- what one device tells is what the other tells: the same count of calls, the same calls that are to fail, and of each key the same
 pub record TellAlike {K : Type 0} (order : K → K → Ordering) (a b : Told K) : Type 0 where

@@ -6,7 +6,7 @@ use Rattle.apl_arrays.specs.Name.{name_order}
 use Rattle.apl_io.specs.Clock.{Ticks}
 use Rattle.apl_io.specs.Content.{Told, by_user_and_name, entry_of}
 use Rattle.auxiliaries.specs.Run.{Event, IsReplierRun}
-use Rattle.auxiliaries.specs.Served.{Replies, Served, forgotten}
+use Rattle.auxiliaries.specs.Served.{Replies, forgotten}
 use Rattle.bundle_text.specs.Bundle.{IsBundle, PlainBundle}
 use Rattle.bundle_text.specs.User.{PlainUser}
 use Rattle.sv_journal.specs.Output.{PlainTranscript}
