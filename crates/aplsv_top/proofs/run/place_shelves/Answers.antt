@@ -1,11 +1,11 @@
-use Rattle.std.proofs.Common.{◌+◌, ◌≤◌, ap, subst, ◌∙◌, arith, drop-set-lt}
+use Rattle.std.proofs.Common.{◌+◌, ◌≤◌, ap, refl, subst, ◌∙◌, arith, drop-set-lt}
 use Rattle.std.proofs.lemmas.Grind.{drop_more_same}
 use Rattle.std.proofs.Math.Seq.{map-set_same}
 use Rattle.aplsv_top.proofs.Placed.{none_fell_set, none_fell_yet}
 use Rattle.aplsv_top.proofs.run.place_shelves.Goals as goal
 
 pub loop-at-init : goal.loop-at-init
-loop-at-init g c = record { counted = none_fell_yet g.K.Shelf.faults c.args.shelves.now.items }
+loop-at-init g c = record { tell = refl; counted = none_fell_yet g.K.Shelf.faults c.args.shelves.now.items; others = refl; many = refl }
 
 pub loop-at-preserved : goal.loop-at-preserved
 loop-at-preserved g c = record {
