@@ -6,7 +6,8 @@ use apl_machine::Machine;
 use std::alloc::Global;
 use sv_events::Act;
 
-/// The line that is under way, if one is: its machine, or what is left of a command, stays in one place until the line is over.
+/// The line that is under way, if one is: its machine stays in one place until the line is over, and what is left of a command
+/// is put into one before each act.
 #[derive(Drop)]
 pub enum UnderWay {
     /// No line is.
