@@ -31,6 +31,7 @@ fn all_cases(rt: &HostRuntime) -> Result<Tally> {
     tally.add(run_table(rt, "refusals.txt", &Refusals)?);
     tally.add(run_table(rt, "texts.txt", &Texts)?);
     tally.add(run_table(rt, "drawn.txt", &Texts)?);
+    tally.add(run_table(rt, "drawn_commands.txt", &Texts)?);
     tally.add(run_table(rt, "words.txt", &Words)?);
     tally.add(run_table(rt, "devices.txt", &Devices { rt })?);
     tally.add(run_table(rt, "handed.txt", &Over)?);
