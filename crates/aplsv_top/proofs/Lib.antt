@@ -12,6 +12,7 @@ pub mod OneReplay
 pub mod OneReply
 pub mod OneRun
 pub mod Over
+pub mod Placed
 pub mod Printing
 pub mod ReplyWork
 pub mod Sessions
