@@ -1,5 +1,5 @@
-use Rattle.std.proofs.Common.{◌≡◌, ℕ, List, map, string_bytes, sym, subst}
-use Rattle.aplsv_words.specs.Meaning.{Asked, Means}
+use Rattle.std.proofs.Common.{map, string_bytes, sym, subst}
+use Rattle.aplsv_words.specs.Meaning.{Means}
 use Rattle.aplsv_top.specs.Words.{AskReplay}
 use Rattle.aplsv.proofs.run.Goals as goal
 
