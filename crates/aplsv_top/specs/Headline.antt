@@ -60,13 +60,15 @@ pub record IsOutputOver {C T K : Type 0} (ticks : C → Option Ticks) (clock_fau
   pub output : text ≡ output_text transcripts (reverse journal)
   pub printable : ArePrintable transcripts (reverse journal)
 
--- what may be said of a clock, a text store or shelves of a run: by what they tell, their faults, and what they are before and after
+-- what may be said of the clock of a run: by what it tells, its faults, and what it is before and after
 abbrev pub SaidOfClock : Type 1
 SaidOfClock = (C : Type 0) → (C → Option Ticks) → (C → ℕ) → C → C → Type 0
 
+-- so of its text store
 abbrev pub SaidOfText : Type 1
 SaidOfText = (T : Type 0) → (T → Option (Told (List ℕ))) → (T → ℕ) → T → T → Type 0
 
+-- and of its shelves
 abbrev pub SaidOfShelves : Type 1
 SaidOfShelves = (K : Type 0) → (K → Option (Told (ℕ × List ℕ))) → (K → ℕ) → List K → List K → Type 0
 
@@ -75,7 +77,7 @@ abbrev pub OverClock : {C : Type 0} → (C → Option Ticks) → (C → ℕ) →
 OverClock {C} ticks faults true bundle clock clock_then Holds = Holds C ticks faults clock clock_then
 OverClock ticks faults false bundle clock clock_then Holds = (readings : Timer) × Holds Timer (λ c. Some c.told) (λ c. c.faults) (clock_of bundle) readings
 
--- a store that was handed in was told this place
+-- a store that was handed in was told this place: it keeps what it kept
 abbrev pub IsPlaced : {T : Type 0} → (T → Option (Told (List ℕ))) → List ℕ → T → T → Type 0
 IsPlaced told place before now = told now ≡ told before
 
@@ -84,7 +86,7 @@ abbrev pub OverText : {T : Type 0} → (T → Option (Told (List ℕ))) → (T �
 OverText {T} told faults (Some place) bundle files files_then Holds = (placed : T) × IsPlaced told place files placed × Holds T told faults placed files_then
 OverText told faults None bundle files files_then Holds = (kept : Keeper (List ℕ)) × Holds (Keeper (List ℕ)) (λ t. Some t.told) (λ t. t.faults) (text_of bundle) kept
 
--- shelves that were handed in: the first so many were told this place, and all others are as they were
+-- of the shelves that were handed in the first so many were told this place: each keeps what it kept, and the others are as they were
 pub record ArePlaced {K : Type 0} (told : K → Option (Told (ℕ × List ℕ))) (place : List ℕ) (count : ℕ) (before now : List K) : Type 0 where
   pub tell : map told now ≡ map told before
   pub others : drop count now ≡ drop count before

@@ -1,4 +1,4 @@
-use Rattle.std.proofs.Common.{rules, ◌≡◌, Some}
+use Rattle.std.proofs.Common.{Some}
 use Rattle.std.proofs.lemmas.Result.{IfOk-weaker}
 use Rattle.aplsv_words.specs.Meaning.{asked_by}
 use Rattle.aplsv_top.specs.Headline.{ClockedOutput, NamedOutput}
