@@ -1,5 +1,5 @@
 -- In each run of a load user 1002 has a line.
-use Rattle.std.proofs.Common.{◌≡◌, ◌≤◌, ◌<◌, ◌^◌, ◌-◌, ◌==◌, ◌∷◌, ◌++◌, ◌∙◌, ℕ, Bool, true, false, cond, List, [], Option, Some, None, codes, drop, find, get_or, length, map, refl, sym, ap, ap₂, subst, arith}
+use Rattle.std.proofs.Common.{◌≡◌, ◌<◌, ◌^◌, ◌-◌, ◌==◌, ◌∷◌, ◌++◌, ◌∙◌, ℕ, Bool, false, cond, List, [], Option, Some, None, codes, drop, find, get_or, length, map, refl, sym, ap, ap₂, subst, arith}
 use Rattle.std.proofs.lemmas.Option.{slice_get-get_or}
 use Rattle.std.specs.Option.{option_and_then}
 use Rattle.apl_meaning.specs.Meaning.{most_statements}

@@ -123,11 +123,3 @@ pub over_files : {C K : Type 0} (ticks : C → Option Ticks) (clock_faults : C �
     → (kept : Keeper (List ℕ)) × ClockedRun ticks clock_faults told_of faults_of told faults named library bundle journal transcripts clock clock_then (text_of bundle) kept shelves shelves_then
 over_files ticks clock_faults told faults named library bundle journal transcripts clock clock_then files files_then shelves shelves_then is over =
     (files_then, subst (λ (t : Keeper (List ℕ)). ClockedRun ticks clock_faults told_of faults_of told faults named library bundle journal transcripts clock clock_then t files_then shelves shelves_then) is over)
-
--- over empty shelves
-pub over_empty : {C T : Type 0} (ticks : C → Option Ticks) (clock_faults : C → ℕ) (text_told : T → Option (Told (List ℕ))) (text_faults : T → ℕ)
-    (bundle : PlainBundle) (journal : Entries) (transcripts : List PlainTranscript) (clock clock_then : C) (files files_then : T) (shelves shelves_then : List (Keeper (ℕ × List ℕ))) → shelves ≡ shelves_of bundle
-    → IsDeviceRun ticks clock_faults text_told text_faults told_of faults_of bundle journal transcripts clock clock_then files files_then shelves shelves_then
-    → (kept : List (Keeper (ℕ × List ℕ))) × IsDeviceRun ticks clock_faults text_told text_faults told_of faults_of bundle journal transcripts clock clock_then files files_then (shelves_of bundle) kept
-over_empty ticks clock_faults text_told text_faults bundle journal transcripts clock clock_then files files_then shelves shelves_then is over =
-    (shelves_then, subst (λ (k : List (Keeper (ℕ × List ℕ))). IsDeviceRun ticks clock_faults text_told text_faults told_of faults_of bundle journal transcripts clock clock_then files files_then k shelves_then) is over)

@@ -1,5 +1,5 @@
 -- What the program promises of a load.
-use Rattle.std.specs.Prelude.{◌≡◌, ℕ, List, Option, Some, reverse}
+use Rattle.std.specs.Prelude.{◌≡◌, ℕ, List, Option, reverse}
 use Rattle.std.specs.Io.KnownBytes.{Appends}
 use Rattle.apl_io.specs.Clock.{Ticks}
 use Rattle.apl_io.specs.Content.{Told}

@@ -1,4 +1,4 @@
-use Rattle.std.proofs.Common.{rules, ◌≡◌, ◌<◌, ◌^◌, ℕ, ap, arith, sym}
+use Rattle.std.proofs.Common.{◌≡◌, ◌<◌, ◌^◌, ℕ, ap, arith, sym}
 use Rattle.std.proofs.lemmas.Result.{IfOk-at_ok}
 use Rattle.apl_arrays.specs.List.{Listed}
 use Rattle.aplsv_words.specs.Meaning.{asked_by}
@@ -8,8 +8,8 @@ use Rattle.aplsv_top.specs.declared.status.Status.TheVariants as status
 use Rattle.aplsv_top.proofs.LoadCauses.{load_as, load_for_ending, load_lacked, load_shows, load_written}
 use Rattle.aplsv_top.proofs.loads.loaded.Goals as goal
 
-pub summary_in-requires : goal.summary_in-requires
-summary_in-requires g c =
+pub summary_in-written-requires : goal.summary_in-written-requires
+summary_in-written-requires g c =
     let fits : c.args.count < 2 ^ 64 = omega (arith, c.requires.few) in
     load_shows g.C.Clock.told g.C.Clock.faults g.T.TextStore.told g.T.TextStore.faults g.K.Shelf.told g.K.Shelf.faults c.args.count (asked_by c.args.words.now) c.in-Ok.bundle c.in-Ok.ensures
     c.args.clock c.run_as_asked-outcome.result.clock c.args.text c.run_as_asked-outcome.result.text c.args.shelves.items c.run_as_asked-outcome.result.shelves.items c.run_as_asked-outcome.result.ended

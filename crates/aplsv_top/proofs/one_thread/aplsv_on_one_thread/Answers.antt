@@ -1,4 +1,4 @@
-use Rattle.std.proofs.Common.{rules, ◌≡◌, ◌||◌, ◌∙◌, ℕ, Bool, true, false, Option, Some, None, ap, is_some, inl, map, refl, string_bytes, subst, sym, true≢false}
+use Rattle.std.proofs.Common.{◌≡◌, ◌||◌, ◌∙◌, ℕ, Bool, true, false, Option, Some, None, ap, is_some, inl, map, refl, string_bytes, subst, sym, true≢false}
 use Rattle.aplsv_words.specs.Meaning.{Asked, asked_by}
 use Rattle.aplsv_words.specs.declared.words.WordsRefused.TheVariants as refused
 use Rattle.aplsv_top.specs.Causes.{HasCause}
@@ -17,7 +17,7 @@ usage_is_no_want : refused.Usage ≡ refused.WantOfMemory → ⊥
 usage_is_no_want e = cc
 
 -- a run is asked for
-asks_run : Asked → Bool
+abbrev asks_run : Asked → Bool
 asks_run asked = asked.replay || is_some asked.load
 
 pub by_words-requires-clause-count : goal.by_words-requires-clause-count

@@ -1,4 +1,4 @@
-use Rattle.std.proofs.Common.{rules, ◌≡◌, ◌||◌, ◌∙◌, ℕ, Bool, true, false, Option, Some, None, ap, is_some, refl, subst, sym, true≢false}
+use Rattle.std.proofs.Common.{◌≡◌, ◌||◌, ◌∙◌, ℕ, Bool, true, false, Option, ap, is_some, refl, subst, sym, true≢false}
 use Rattle.std.proofs.lemmas.Option.{none-some, same_Some}
 use Rattle.aplsv_words.specs.Meaning.{asked_by}
 use Rattle.aplsv_top.specs.Loads.{HasLoadCause, IsLoadAs, IsLoadEnding}

@@ -1,4 +1,4 @@
-use Rattle.std.proofs.Common.{rules, ◌≡◌, ◌++◌, ◌∷◌, ◌∙◌, ℕ, List, [], ap, codes, cond, decimal, length, map, sym}
+use Rattle.std.proofs.Common.{◌≡◌, ◌++◌, ◌∷◌, ◌∙◌, ℕ, List, [], ap, codes, cond, decimal, length, map, sym}
 use Rattle.std.proofs.lemmas.List.{length-map}
 use Rattle.line_text.specs.Lines.{content, end_line, line_text, lines_text}
 use Rattle.sv_events.specs.Entry.{PlainEntry, plain_entry}
@@ -30,7 +30,7 @@ returns c =
     let grouped : ((((a ++ b) ++ d) ++ e) ++ line_text (content last)) ++ line_text end_line ≡ lines_of c.from.result (length c.args.journal.now) c.held_count.result c.in_ok-lines.lines last =
     six a b d e (line_text (content last)) (line_text end_line) in
     let given : c.from.result ≡ c.args.n = c.from.ensures in
-    let entries : length c.args.journal.now ≡ length (map plain_entry c.args.journal.now) = sym (length-map plain_entry c.args.journal.now) in
+    let entries : length c.args.journal.now ≡ length (map plain_entry c.args.journal.now) = sym (length-map c.args.journal.now plain_entry) in
     let held : c.held_count.result ≡ held_count (map plain_entry c.args.journal.now) = c.held_count.ensures ∙ sym (sum_by-map (λ (entry : PlainEntry). cond (was_held entry) 1 0) plain_entry c.args.journal.now) in
     let lines : c.in_ok-lines.lines ≡ line_count c.args.transcripts.now.items = c.in_ok-lines.ensures ∙ ap line_count c.as_slice.ensures.value in
     record {
