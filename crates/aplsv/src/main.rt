@@ -1,7 +1,7 @@
 // The program: it makes the devices of the machine, hands them and its words to the proved run, and tells how that ended.
 #![tactic(auto)]
 
-ghost use Rattle.std.specs.Prelude.{◌≡◌, ◌≢◌, ◌⊎◌, IfErr, IfOk, None, drop, length, map, string_bytes, vec_len};
+ghost use Rattle.std.specs.Prelude.{◌≡◌, ◌≢◌, ◌⊎◌, ℕ, IfErr, IfOk, None, Some, drop, length, map, string_bytes, vec_len};
 ghost use Rattle.std.specs.Vec.Iter.{into_iter_items, into_iter_len};
 ghost use Rattle.apl_arrays.specs.Limits.{most_input_bytes, most_users};
 ghost use Rattle.apl_io.specs.Faults.{Rose};
@@ -9,13 +9,14 @@ ghost use Rattle.apl_io.specs.Whole.{AreAtMost};
 ghost use Rattle.aplsv_words.specs.Meaning.{Asked, Means};
 ghost use Rattle.aplsv_top.specs.Causes.{HasCause};
 ghost use Rattle.aplsv_top.specs.Headline.{IsOutputAs};
-ghost use Rattle.aplsv_top.specs.Words.{AskReplay, IsConclusion};
+ghost use Rattle.aplsv_top.specs.Loads.{HasLoadCause, IsLoadAs};
+ghost use Rattle.aplsv_top.specs.Words.{AskReplay, AskRun, IsConclusion};
 ghost use Rattle.aplsv_top.specs.declared.status.Status.TheVariants as status;
 
 use apl_arrays::{USER_LIMIT, WantOfMemory};
 use apl_io::{Devices, Sink, Source};
 use aplsv_devices::{DirShelf, DirText, StdSink, StdSource, SystemClock};
-use aplsv_top::{Finish, Status, aplsv_replay_words};
+use aplsv_top::{Finish, Status, aplsv_on_one_thread};
 use bundle_text::BundleRule;
 use refusal_lines::{malformed_lines, usage_lines};
 use std::alloc::{AllocError, Global};
@@ -80,16 +81,21 @@ fn run<S: Source, W: Sink>(
     devices: Devices<Text, Clock, Shelf>,
 ) -> Finish<Text, Clock, Shelf>
     requires shelves { vec_len devices.shelves ≡ most_users }
-    ensures causes { (asked : Asked) → Means (map string_bytes (drop 1 words.now)) asked →
+    ensures load { (asked : Asked) → Means (map string_bytes (drop 1 words.now)) asked → (n : ℕ) → asked.load ≡ Some n →
+        HasLoadCause (IsLoadAs (λ _. None) (λ clock. clock.faults) (λ _. None) (λ text. text.faults) (λ _. None) (λ shelf. shelf.faults)
+        n asked devices.clock result.clock devices.text result.text devices.shelves.items result.shelves.items) result.status
+        (record { bytes = W.held output.old; faults = W.faults output.old }) (record { bytes = W.held output.new; faults = W.faults output.new }) }
+    ensures causes { (asked : Asked) → Means (map string_bytes (drop 1 words.now)) asked → asked.load ≡ None →
         HasCause (IsOutputAs (λ _. None) (λ clock. clock.faults) (λ _. None) (λ text. text.faults) (λ _. None) (λ shelf. shelf.faults)
         asked devices.clock result.clock devices.text result.text devices.shelves.items result.shelves.items) result.status
         (record { bytes = S.left input.old; faults = S.faults input.old }) (record { bytes = S.left input.new; faults = S.faults input.new })
         (record { bytes = W.held output.old; faults = W.faults output.old }) (record { bytes = W.held output.new; faults = W.faults output.new }) }
-    ensures usage { result.status ≡ status.Usage → ¬ AskReplay (map string_bytes (drop 1 words.now)) }
-    ensures unasked { ¬ AskReplay (map string_bytes (drop 1 words.now)) → (result.status ≡ status.Usage) ⊎ (result.status ≡ status.WantOfMemory) }
+    ensures usage { result.status ≡ status.Usage → ¬ AskRun (map string_bytes (drop 1 words.now)) }
+    ensures unasked { ¬ AskRun (map string_bytes (drop 1 words.now)) → (result.status ≡ status.Usage) ⊎ (result.status ≡ status.WantOfMemory) }
     ensures unread { ¬ AskReplay (map string_bytes (drop 1 words.now)) → input.new ≡ input.old }
+    ensures refused { result.status ≡ status.Usage → input.new ≡ input.old }
     ensures unwritten { result.status ≢ status.Done → result.status ≢ status.WriteFault → output.new ≡ output.old }
-    ensures complete { AskReplay (map string_bytes (drop 1 words.now)) → AreAtMost (S.left input.old) most_input_bytes
+    ensures complete { AskRun (map string_bytes (drop 1 words.now)) → AreAtMost (S.left input.old) most_input_bytes
         → ¬ (Rose (S.faults input.old) (S.faults input.new)) → ¬ (Rose (W.faults output.old) (W.faults output.new))
         → IsConclusion result.status }
 {
@@ -98,7 +104,7 @@ fn run<S: Source, W: Sink>(
         clock,
         shelves,
     } = devices;
-    aplsv_replay_words(
+    aplsv_on_one_thread(
         alloc,
         behind_name(words),
         input,

@@ -5,7 +5,7 @@ use crate::case::{Case, Device};
 use anyhow::Result;
 use apl_arrays::{Bytes, FileList, List, USER_LIMIT, WantOfMemory};
 use apl_io::{CallNumbers, MemoryClock, MemoryShelf, MemorySink, MemorySource, MemoryText};
-use aplsv_top::{Status, aplsv_replay_words};
+use aplsv_top::{Status, aplsv_on_one_thread};
 use std::alloc::Global;
 
 /// How a run ended: its exit status, its text on standard error, and the bytes that it wrote.
@@ -54,7 +54,7 @@ fn finished(
     let shelves = shelves(alloc)?;
     let text = MemoryText::new(alloc, FileList::new(alloc), CallNumbers::new(alloc));
     let clock = MemoryClock::new(List::new(alloc), CallNumbers::new(alloc));
-    let finish = aplsv_replay_words(alloc, words, source, sink, text, clock, shelves);
+    let finish = aplsv_on_one_thread(alloc, words, source, sink, text, clock, shelves);
     let status = finish.status;
     drop(finish);
     Ok(status)

@@ -6,6 +6,8 @@ pub mod Ended
 pub mod Files
 pub mod Heard
 pub mod Level
+pub mod LoadCauses
+pub mod LoadRuns
 pub mod Older
 pub mod OneOutput
 pub mod OneReplay
@@ -18,4 +20,5 @@ pub mod ReplyWork
 pub mod Sessions
 pub mod Shelves
 pub mod Sound
+pub mod SummaryLines
 pub mod Told

@@ -1,5 +1,5 @@
--- What is written of a run is its output.
-use Rattle.std.proofs.Common.{◌≡◌, ℕ, Bool, List, Option, Some, reverse, subst, subst₂, sym, ap, ◌∙◌}
+-- What is written of a run over the devices that were asked for.
+use Rattle.std.proofs.Common.{◌≡◌, ℕ, Bool, true, false, List, None, Option, Some, ap, reverse, subst, subst₂, sym, ◌∙◌}
 use Rattle.std.proofs.lemmas.List.{reverse-reverse}
 use Rattle.apl_io.specs.Clock.{Ticks}
 use Rattle.apl_io.specs.Content.{Told}
@@ -9,50 +9,117 @@ use Rattle.apl_session.specs.declared.outcome.Ended.{Ended}
 use Rattle.apl_session.specs.declared.outcome.Ended.TheVariants.{Whole, WantOfMemory}
 use Rattle.aplsv_replay.specs.Replayed.{IsDeviceRun}
 use Rattle.bundle_text.specs.Bundle.{BundleText, PlainBundle}
-use Rattle.sv_journal.specs.Output.{output_text}
+use Rattle.session_rules.specs.Run.{AreUserParts, Dealings, user_numbers}
+use Rattle.sv_journal.specs.Output.{PlainTranscript, output_text}
 use Rattle.sv_journal.specs.Printable.{ArePrintable}
+use Rattle.sv_rules.specs.Entries.{Entries}
+use Rattle.sv_rules.specs.Legal.{IsLegal}
 use Rattle.aplsv_words.specs.Meaning.{Asked}
-use Rattle.aplsv_top.specs.Headline.{ClockedOutput, IsOutputAs, IsOutputIn, IsOutputOver, NamedOutput, ShelvedOutput, clock_of, text_of}
+use Rattle.aplsv_top.specs.Headline.{ClockedRun, IsOutputAs, IsOutputIn, NamedRun, ShelvedRun, clock_of, shelves_of, text_of}
+
+-- what devices in memory tell, and their faults
+abbrev pub ticks_of : Timer → Option Ticks
+ticks_of c = Some c.told
+
+abbrev pub clock_faults_of : Timer → ℕ
+clock_faults_of c = c.faults
+
+abbrev pub told_of : {N : Type 0} → Keeper N → Option (Told N)
+told_of k = Some k.told
+
+abbrev pub faults_of : {N : Type 0} → Keeper N → ℕ
+faults_of k = k.faults
+
+-- what follows of a run that is whole
+pub if_whole : (ended : Ended) (P Q : List PlainTranscript → Entries → Type 0) → ((transcripts : List PlainTranscript) (journal : Entries) → P transcripts journal → Q transcripts journal) → IfWhole ended P → IfWhole ended Q
+if_whole (Whole transcripts journal) P Q follows run = follows transcripts.items (reverse journal.items) run
+if_whole WantOfMemory P Q follows run = tt
+
+-- ---- whatever devices a run had, its journal is legal, and each user has its part
+
+pub record HasParts (bundle : PlainBundle) (journal : Entries) (transcripts : List PlainTranscript) : Type 0 where
+  pub dealings : Dealings
+  pub legal : IsLegal (user_numbers bundle) journal
+  pub users : AreUserParts dealings journal bundle.users transcripts
 
 module _ {C T K : Type 0} (ticks : C → Option Ticks) (clock_faults : C → ℕ) (text_told : T → Option (Told (List ℕ))) (text_faults : T → ℕ) (told : K → Option (Told (ℕ × List ℕ))) (faults : K → ℕ) where
-  pub output_over : (bundle : PlainBundle) (text : List ℕ) (clock clock_then : C) (files files_then : T) (shelves shelves_then : List K) (ended : Ended)
-      → IfWhole ended (λ transcripts journal. IsDeviceRun ticks clock_faults text_told text_faults told faults bundle journal transcripts clock clock_then files files_then shelves shelves_then) → IsOutputIn ended text
-      → IsOutputOver ticks clock_faults text_told text_faults told faults bundle text clock clock_then files files_then shelves shelves_then
-  output_over bundle text clock clock_then files files_then shelves shelves_then (Whole transcripts journal) run written =
+  device_parts : (bundle : PlainBundle) (journal : Entries) (transcripts : List PlainTranscript) (clock clock_then : C) (files files_then : T) (shelves shelves_then : List K)
+      → IsDeviceRun ticks clock_faults text_told text_faults told faults bundle journal transcripts clock clock_then files files_then shelves shelves_then → HasParts bundle journal transcripts
+  device_parts bundle journal transcripts clock clock_then files files_then shelves shelves_then over = record {
+    dealings = over.run.dealings;
+    legal = over.run.run.legal;
+    users = over.run.run.users;
+  }
+
+module _ {C T K : Type 0} (ticks : C → Option Ticks) (clock_faults : C → ℕ) (text_told : T → Option (Told (List ℕ))) (text_faults : T → ℕ) (told : K → Option (Told (ℕ × List ℕ))) (faults : K → ℕ) where
+  shelved_parts : (library : Option (List ℕ)) (bundle : PlainBundle) (journal : Entries) (transcripts : List PlainTranscript) (clock clock_then : C) (files files_then : T) (shelves shelves_then : List K)
+      → ShelvedRun ticks clock_faults text_told text_faults told faults library bundle journal transcripts clock clock_then files files_then shelves shelves_then → HasParts bundle journal transcripts
+  shelved_parts (Some place) bundle journal transcripts clock clock_then files files_then shelves shelves_then over =
+      device_parts ticks clock_faults text_told text_faults told faults bundle journal transcripts clock clock_then files files_then over.0 shelves_then over.2
+  shelved_parts None bundle journal transcripts clock clock_then files files_then shelves shelves_then over =
+      device_parts ticks clock_faults text_told text_faults told_of faults_of bundle journal transcripts clock clock_then files files_then (shelves_of bundle) over.0 over.1
+
+module _ {C T K : Type 0} (ticks : C → Option Ticks) (clock_faults : C → ℕ) (text_told : T → Option (Told (List ℕ))) (text_faults : T → ℕ) (told : K → Option (Told (ℕ × List ℕ))) (faults : K → ℕ) where
+  clocked_parts : (named : Bool) (library : Option (List ℕ)) (bundle : PlainBundle) (journal : Entries) (transcripts : List PlainTranscript) (clock clock_then : C) (files files_then : T) (shelves shelves_then : List K)
+      → ClockedRun ticks clock_faults text_told text_faults told faults named library bundle journal transcripts clock clock_then files files_then shelves shelves_then → HasParts bundle journal transcripts
+  clocked_parts true library bundle journal transcripts clock clock_then files files_then shelves shelves_then over =
+      shelved_parts ticks clock_faults text_told text_faults told faults library bundle journal transcripts clock clock_then files files_then shelves shelves_then over
+  clocked_parts false library bundle journal transcripts clock clock_then files files_then shelves shelves_then over =
+      shelved_parts ticks_of clock_faults_of text_told text_faults told faults library bundle journal transcripts (clock_of bundle) over.0 files files_then shelves shelves_then over.1
+
+module _ {C T K : Type 0} (ticks : C → Option Ticks) (clock_faults : C → ℕ) (text_told : T → Option (Told (List ℕ))) (text_faults : T → ℕ) (told : K → Option (Told (ℕ × List ℕ))) (faults : K → ℕ) where
+  pub named_parts : (place : Option (List ℕ)) (named : Bool) (library : Option (List ℕ)) (bundle : PlainBundle) (journal : Entries) (transcripts : List PlainTranscript) (clock clock_then : C) (files files_then : T) (shelves shelves_then : List K)
+      → NamedRun ticks clock_faults text_told text_faults told faults place named library bundle journal transcripts clock clock_then files files_then shelves shelves_then → HasParts bundle journal transcripts
+  named_parts (Some place) named library bundle journal transcripts clock clock_then files files_then shelves shelves_then over =
+      clocked_parts ticks clock_faults text_told text_faults told faults named library bundle journal transcripts clock clock_then over.0 files_then shelves shelves_then over.2
+  named_parts None named library bundle journal transcripts clock clock_then files files_then shelves shelves_then over =
+      clocked_parts ticks clock_faults told_of faults_of told faults named library bundle journal transcripts clock clock_then (text_of bundle) over.0 shelves shelves_then over.1
+
+  -- ---- a run that ended whole
+
+  -- the run was over what was asked for
+  abbrev pub RunAs : Asked → PlainBundle → Entries → List PlainTranscript → C → C → T → T → List K → List K → Type 0
+  RunAs asked bundle journal transcripts clock clock_then files files_then shelves shelves_then =
+      NamedRun ticks clock_faults text_told text_faults told faults asked.text asked.clock asked.library bundle journal transcripts clock clock_then files files_then shelves shelves_then
+
+  -- devices that are others by name alone
+  pub run_of_same : (asked : Asked) (bundle : PlainBundle) (journal : Entries) (transcripts : List PlainTranscript) (clock clock_then clock_now : C) (files files_then files_now : T) (shelves shelves_then shelves_now : List K)
+      → clock_then ≡ clock_now → files_then ≡ files_now → shelves_then ≡ shelves_now
+      → RunAs asked bundle journal transcripts clock clock_then files files_then shelves shelves_then → RunAs asked bundle journal transcripts clock clock_now files files_now shelves shelves_now
+  run_of_same asked bundle journal transcripts clock clock_then clock_now files files_then files_now shelves shelves_then shelves_now same_clock same_files same_shelves run =
+      subst (λ (k : List K). RunAs asked bundle journal transcripts clock clock_now files files_now shelves k) same_shelves
+      (subst₂ (λ (c : C) (t : T). RunAs asked bundle journal transcripts clock c files t shelves shelves_then) same_clock same_files run)
+
+  -- what is written of it is its output
+  pub output_as : (asked : Asked) (bundle : PlainBundle) (bytes text : List ℕ) (clock clock_then clock_now : C) (files files_then files_now : T) (shelves shelves_then shelves_now : List K) (ended : Ended) → BundleText bytes bundle
+      → IfWhole ended (λ transcripts journal. RunAs asked bundle journal transcripts clock clock_then files files_then shelves shelves_then) → IsOutputIn ended text
+      → clock_then ≡ clock_now → files_then ≡ files_now → shelves_then ≡ shelves_now
+      → IsOutputAs ticks clock_faults text_told text_faults told faults asked clock clock_now files files_now shelves shelves_now bytes text
+  output_as asked bundle bytes text clock clock_then clock_now files files_then files_now shelves shelves_then shelves_now (Whole transcripts journal) read run written same_clock same_files same_shelves =
       let twice : journal.items ≡ reverse (reverse journal.items) = sym (reverse-reverse journal.items) in
       record {
+        bundle = bundle;
+        read = read;
         transcripts = transcripts.items;
         journal = reverse journal.items;
-        run = run;
+        run = run_of_same asked bundle (reverse journal.items) transcripts.items clock clock_then clock_now files files_then files_now shelves shelves_then shelves_now same_clock same_files same_shelves run;
         output = written.0 ∙ ap (output_text transcripts.items) twice;
         printable = subst (ArePrintable transcripts.items) twice written.1;
       }
-  output_over bundle text clock clock_then files files_then shelves shelves_then WantOfMemory run written = absurd written
-
-  pub output_as : (asked : Asked) (bundle : PlainBundle) (bytes text : List ℕ) (clock clock_then clock_now : C) (files files_then files_now : T) (shelves shelves_then shelves_now : List K) → BundleText bytes bundle
-      → NamedOutput ticks clock_faults text_told text_faults told faults asked.text asked.clock asked.library bundle text clock clock_then files files_then shelves shelves_then
-      → clock_then ≡ clock_now → files_then ≡ files_now → shelves_then ≡ shelves_now
-      → IsOutputAs ticks clock_faults text_told text_faults told faults asked clock clock_now files files_now shelves shelves_now bytes text
-  output_as asked bundle bytes text clock clock_then clock_now files files_then files_now shelves shelves_then shelves_now read named same_clock same_files same_shelves = record {
-    bundle = bundle;
-    read = read;
-    run =
-        subst (λ (k : List K). NamedOutput ticks clock_faults text_told text_faults told faults asked.text asked.clock asked.library bundle text clock clock_now files files_now shelves k) same_shelves
-        (subst₂ (λ (c : C) (t : T). NamedOutput ticks clock_faults text_told text_faults told faults asked.text asked.clock asked.library bundle text clock c files t shelves shelves_then) same_clock same_files named);
-  }
+  output_as asked bundle bytes text clock clock_then clock_now files files_then files_now shelves shelves_then shelves_now WantOfMemory read run written same_clock same_files same_shelves = absurd written
 
 -- over the bundle's readings
 pub over_readings : {T K : Type 0} (text_told : T → Option (Told (List ℕ))) (text_faults : T → ℕ) (told : K → Option (Told (ℕ × List ℕ))) (faults : K → ℕ)
-    (library : Option (List ℕ)) (bundle : PlainBundle) (text : List ℕ) (clock clock_then : Timer) (files files_then : T) (shelves shelves_then : List K) → clock ≡ clock_of bundle
-    → ShelvedOutput (λ c. Some c.told) (λ c. c.faults) text_told text_faults told faults library bundle text clock clock_then files files_then shelves shelves_then
-    → (readings : Timer) × ShelvedOutput (λ c. Some c.told) (λ c. c.faults) text_told text_faults told faults library bundle text (clock_of bundle) readings files files_then shelves shelves_then
-over_readings text_told text_faults told faults library bundle text clock clock_then files files_then shelves shelves_then is over =
-    (clock_then, subst (λ (c : Timer). ShelvedOutput (λ c. Some c.told) (λ c. c.faults) text_told text_faults told faults library bundle text c clock_then files files_then shelves shelves_then) is over)
+    (library : Option (List ℕ)) (bundle : PlainBundle) (journal : Entries) (transcripts : List PlainTranscript) (clock clock_then : Timer) (files files_then : T) (shelves shelves_then : List K) → clock ≡ clock_of bundle
+    → ShelvedRun ticks_of clock_faults_of text_told text_faults told faults library bundle journal transcripts clock clock_then files files_then shelves shelves_then
+    → (readings : Timer) × ShelvedRun ticks_of clock_faults_of text_told text_faults told faults library bundle journal transcripts (clock_of bundle) readings files files_then shelves shelves_then
+over_readings text_told text_faults told faults library bundle journal transcripts clock clock_then files files_then shelves shelves_then is over =
+    (clock_then, subst (λ (c : Timer). ShelvedRun ticks_of clock_faults_of text_told text_faults told faults library bundle journal transcripts c clock_then files files_then shelves shelves_then) is over)
 
 -- over the bundle's files
 pub over_files : {C K : Type 0} (ticks : C → Option Ticks) (clock_faults : C → ℕ) (told : K → Option (Told (ℕ × List ℕ))) (faults : K → ℕ)
-    (named : Bool) (library : Option (List ℕ)) (bundle : PlainBundle) (text : List ℕ) (clock clock_then : C) (files files_then : Keeper (List ℕ)) (shelves shelves_then : List K) → files ≡ text_of bundle
-    → ClockedOutput ticks clock_faults (λ t. Some t.told) (λ t. t.faults) told faults named library bundle text clock clock_then files files_then shelves shelves_then
-    → (kept : Keeper (List ℕ)) × ClockedOutput ticks clock_faults (λ t. Some t.told) (λ t. t.faults) told faults named library bundle text clock clock_then (text_of bundle) kept shelves shelves_then
-over_files ticks clock_faults told faults named library bundle text clock clock_then files files_then shelves shelves_then is over =
-    (files_then, subst (λ (t : Keeper (List ℕ)). ClockedOutput ticks clock_faults (λ t. Some t.told) (λ t. t.faults) told faults named library bundle text clock clock_then t files_then shelves shelves_then) is over)
+    (named : Bool) (library : Option (List ℕ)) (bundle : PlainBundle) (journal : Entries) (transcripts : List PlainTranscript) (clock clock_then : C) (files files_then : Keeper (List ℕ)) (shelves shelves_then : List K) → files ≡ text_of bundle
+    → ClockedRun ticks clock_faults told_of faults_of told faults named library bundle journal transcripts clock clock_then files files_then shelves shelves_then
+    → (kept : Keeper (List ℕ)) × ClockedRun ticks clock_faults told_of faults_of told faults named library bundle journal transcripts clock clock_then (text_of bundle) kept shelves shelves_then
+over_files ticks clock_faults told faults named library bundle journal transcripts clock clock_then files files_then shelves shelves_then is over =
+    (files_then, subst (λ (t : Keeper (List ℕ)). ClockedRun ticks clock_faults told_of faults_of told faults named library bundle journal transcripts clock clock_then t files_then shelves shelves_then) is over)

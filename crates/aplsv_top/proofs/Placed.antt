@@ -1,5 +1,5 @@
 -- Shelves that are told a place, one after another: no count of faults falls.
-use Rattle.std.proofs.Common.{◌≡◌, ◌≤◌, ℕ, zero, suc, List, [], ◌∷◌, get_or, set, arith}
+use Rattle.std.proofs.Common.{◌≤◌, ℕ, zero, suc, List, [], ◌∷◌, get_or, set, arith}
 use Rattle.aplsv_top.specs.Headline.{NoneFell}
 
 pub none_fell_yet : {K : Type 0} (faults : K → ℕ) (shelves : List K) → NoneFell faults shelves shelves

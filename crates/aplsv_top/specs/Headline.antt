@@ -103,33 +103,37 @@ abbrev pub OverShelves : {K : Type 0} → (K → Option (Told (ℕ × List ℕ))
 OverShelves {K} told faults (Some place) bundle shelves shelves_then Holds = (placed : List K) × ArePlaced told faults place (length bundle.users) shelves placed × Holds K told faults placed shelves_then
 OverShelves told faults None bundle shelves shelves_then Holds = (kept : List (Keeper (ℕ × List ℕ))) × Holds (Keeper (ℕ × List ℕ)) (λ k. Some k.told) (λ k. k.faults) (shelves_of bundle) kept
 
--- the text is the output of a run of this bundle over a clock, a text store, and the shelves that are named
-abbrev pub ShelvedOutput : {C T K : Type 0} → (C → Option Ticks) → (C → ℕ) → (T → Option (Told (List ℕ))) → (T → ℕ) → (K → Option (Told (ℕ × List ℕ))) → (K → ℕ)
-    → Option (List ℕ) → PlainBundle → List ℕ → C → C → T → T → List K → List K → Type 0
-ShelvedOutput ticks clock_faults text_told text_faults told faults library bundle text clock clock_then files files_then shelves shelves_then =
+-- it is a run of this bundle over a clock, a text store, and the shelves that are named: this is its journal, and these are its transcripts
+abbrev pub ShelvedRun : {C T K : Type 0} → (C → Option Ticks) → (C → ℕ) → (T → Option (Told (List ℕ))) → (T → ℕ) → (K → Option (Told (ℕ × List ℕ))) → (K → ℕ)
+    → Option (List ℕ) → PlainBundle → Entries → List PlainTranscript → C → C → T → T → List K → List K → Type 0
+ShelvedRun ticks clock_faults text_told text_faults told faults library bundle journal transcripts clock clock_then files files_then shelves shelves_then =
     OverShelves told faults library bundle shelves shelves_then (λ K told faults shelves shelves_then.
-    IsOutputOver ticks clock_faults text_told text_faults told faults bundle text clock clock_then files files_then shelves shelves_then)
+    IsDeviceRun ticks clock_faults text_told text_faults told faults bundle journal transcripts clock clock_then files files_then shelves shelves_then)
 
 -- over a text store, and the clock and the shelves that are named
-abbrev pub ClockedOutput : {C T K : Type 0} → (C → Option Ticks) → (C → ℕ) → (T → Option (Told (List ℕ))) → (T → ℕ) → (K → Option (Told (ℕ × List ℕ))) → (K → ℕ)
-    → Bool → Option (List ℕ) → PlainBundle → List ℕ → C → C → T → T → List K → List K → Type 0
-ClockedOutput ticks clock_faults text_told text_faults told faults named library bundle text clock clock_then files files_then shelves shelves_then =
+abbrev pub ClockedRun : {C T K : Type 0} → (C → Option Ticks) → (C → ℕ) → (T → Option (Told (List ℕ))) → (T → ℕ) → (K → Option (Told (ℕ × List ℕ))) → (K → ℕ)
+    → Bool → Option (List ℕ) → PlainBundle → Entries → List PlainTranscript → C → C → T → T → List K → List K → Type 0
+ClockedRun ticks clock_faults text_told text_faults told faults named library bundle journal transcripts clock clock_then files files_then shelves shelves_then =
     OverClock ticks clock_faults named bundle clock clock_then (λ C ticks clock_faults clock clock_then.
-    ShelvedOutput ticks clock_faults text_told text_faults told faults library bundle text clock clock_then files files_then shelves shelves_then)
+    ShelvedRun ticks clock_faults text_told text_faults told faults library bundle journal transcripts clock clock_then files files_then shelves shelves_then)
 
 -- over the text store, the clock and the shelves that are named
-abbrev pub NamedOutput : {C T K : Type 0} → (C → Option Ticks) → (C → ℕ) → (T → Option (Told (List ℕ))) → (T → ℕ) → (K → Option (Told (ℕ × List ℕ))) → (K → ℕ)
-    → Option (List ℕ) → Bool → Option (List ℕ) → PlainBundle → List ℕ → C → C → T → T → List K → List K → Type 0
-NamedOutput ticks clock_faults text_told text_faults told faults place named library bundle text clock clock_then files files_then shelves shelves_then =
+abbrev pub NamedRun : {C T K : Type 0} → (C → Option Ticks) → (C → ℕ) → (T → Option (Told (List ℕ))) → (T → ℕ) → (K → Option (Told (ℕ × List ℕ))) → (K → ℕ)
+    → Option (List ℕ) → Bool → Option (List ℕ) → PlainBundle → Entries → List PlainTranscript → C → C → T → T → List K → List K → Type 0
+NamedRun ticks clock_faults text_told text_faults told faults place named library bundle journal transcripts clock clock_then files files_then shelves shelves_then =
     OverText text_told text_faults place bundle files files_then (λ T text_told text_faults files files_then.
-    ClockedOutput ticks clock_faults text_told text_faults told faults named library bundle text clock clock_then files files_then shelves shelves_then)
+    ClockedRun ticks clock_faults text_told text_faults told faults named library bundle journal transcripts clock clock_then files files_then shelves shelves_then)
 
 -- the bytes are the text of a bundle, and the text is the output of a run of it over what is asked for
 pub record IsOutputAs {C T K : Type 0} (ticks : C → Option Ticks) (clock_faults : C → ℕ) (text_told : T → Option (Told (List ℕ))) (text_faults : T → ℕ) (told : K → Option (Told (ℕ × List ℕ))) (faults : K → ℕ)
     (asked : Asked) (clock clock_then : C) (files files_then : T) (shelves shelves_then : List K) (bytes text : List ℕ) : Type 0 where
   pub bundle : PlainBundle
   pub read : BundleText bytes bundle
-  pub run : NamedOutput ticks clock_faults text_told text_faults told faults asked.text asked.clock asked.library bundle text clock clock_then files files_then shelves shelves_then
+  pub transcripts : List PlainTranscript
+  pub journal : Entries
+  pub run : NamedRun ticks clock_faults text_told text_faults told faults asked.text asked.clock asked.library bundle journal transcripts clock clock_then files files_then shelves shelves_then
+  pub output : text ≡ output_text transcripts (reverse journal)
+  pub printable : ArePrintable transcripts (reverse journal)
 
 -- all bytes were read, to their end, and the output of a run of their bundle was written
 pub record WritesRun (IsRunOf : List ℕ → List ℕ → Type 0) (left rest held now : Option (List ℕ)) : Type 0 where

@@ -1,5 +1,7 @@
 pub mod Causes
 pub mod Headline
+pub mod Loads
 pub mod OutputLaws
 pub mod Printed
+pub mod Summary
 pub mod Words

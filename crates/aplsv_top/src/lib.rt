@@ -3,11 +3,14 @@
 
 mod bytes;
 mod laws;
+mod loads;
 mod memory;
+mod one_thread;
 mod output;
 mod printed;
 mod run;
 mod status;
+mod summaries;
 mod top;
 
 pub use bytes::replay_bytes;
@@ -15,10 +18,12 @@ pub use laws::{
     a_bundle_has_one_output, outputs_are_determined, printed_control_loses_nothing,
     replays_are_determined,
 };
+pub use one_thread::aplsv_on_one_thread;
 pub use printed::{
     outputs_are_printed, own_outputs_are_the_bundles, printed_accesses_follow_the_table,
     printed_journals_answer_full_past_their_limit, printed_transcripts_are_evaluated_alone,
     printed_uses_give_the_last_value,
 };
 pub use status::{Finish, Status};
+pub use summaries::summary;
 pub use top::aplsv_replay_words;

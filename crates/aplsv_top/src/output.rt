@@ -5,9 +5,10 @@ ghost use Rattle.sv_events.specs.Entry.{plain_entry};
 ghost use Rattle.sv_journal.specs.Output.{transcript_lines, output_text};
 ghost use Rattle.sv_journal.specs.Printable.{IsPrintableTranscript, ArePrintable};
 ghost use Rattle.apl_session.specs.Transcripts.{plain_transcript};
+ghost use Rattle.aplsv_top.specs.Headline.{IsOutputIn};
 
 use apl_arrays::{Bytes, List, WantOfMemory};
-use apl_session::{Transcript, Transcripts};
+use apl_session::{Ended, Transcript, Transcripts};
 use line_text::add_user_lines;
 use std::alloc::Global;
 use sv_events::Entry;
@@ -61,4 +62,17 @@ pub fn output_of(
     add_transcripts(alloc, &mut bytes, transcripts.as_slice())?;
     add_journal(alloc, &mut bytes, journal)?;
     Ok(List::from(bytes))
+}
+
+/// What is written of a run that is whole. It takes memory for the bytes.
+pub(crate) fn output_in(alloc: Global, ended: Ended) -> Result<Bytes, WantOfMemory>
+    ensures { IfOk result (λ output. IsOutputIn ended output.items) }
+{
+    match ended {
+        Ended::Whole {
+            transcripts,
+            journal,
+        } => output_of(alloc, &transcripts, journal.as_slice()),
+        Ended::WantOfMemory => Err(WantOfMemory),
+    }
 }

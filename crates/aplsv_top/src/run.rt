@@ -1,11 +1,12 @@
-ghost use Rattle.std.specs.Prelude.{◌≡◌, ◌≤◌, false, IfOk, None, OnOk, Some, length, vec_len};
+ghost use Rattle.std.specs.Prelude.{◌≡◌, ◌≤◌, false, None, OnOk, Some, length, vec_len};
 ghost use Rattle.apl_arrays.specs.Limits.{most_users};
+ghost use Rattle.apl_session.specs.Ended.{IfWhole};
+ghost use Rattle.aplsv_replay.specs.Replayed.{IsDeviceRun};
 ghost use Rattle.aplsv_words.specs.Meaning.{asked_by};
-ghost use Rattle.aplsv_top.specs.Headline.{ArePlaced, ClockedOutput, IsOutputIn, IsOutputOver, NamedOutput, ShelvedOutput};
+ghost use Rattle.aplsv_top.specs.Headline.{ArePlaced, ClockedRun, NamedRun, ShelvedRun};
 
 use crate::memory::{memory_clock, memory_shelves, memory_text};
-use crate::output::output_of;
-use apl_arrays::{Bytes, WantOfMemory};
+use apl_arrays::WantOfMemory;
 use apl_io::{Clock, Devices, Shelf, TextStore};
 use apl_session::{Ended, Outcome};
 use aplsv_replay::replay;
@@ -13,18 +14,17 @@ use aplsv_words::Words;
 use bundle_text::Bundle;
 use std::alloc::Global;
 
-/// What came of a run: its output, and the devices as it left them.
+/// What came of a run: how it ended, and the devices as it left them.
 #[derive(Debug, Drop)]
 pub(crate) struct Ran<T, C, K> {
-    pub written: Result<Bytes, WantOfMemory>,
+    pub ended: Ended,
     pub text: T,
     pub clock: C,
     pub shelves: Vec<K>,
 }
 
 /// Runs a bundle over the devices that the words name; in the place of each other one is a new one in memory: the bundle's
-/// files, its readings, and an empty shelf for each user. What no word names is not called. It takes memory for the run and
-/// its output.
+/// files, its readings, and an empty shelf for each user. What no word names is not called. It takes memory for the run.
 pub(crate) fn run_as_asked<T: TextStore, C: Clock, K: Shelf>(
     alloc: Global,
     words: &Words,
@@ -34,8 +34,8 @@ pub(crate) fn run_as_asked<T: TextStore, C: Clock, K: Shelf>(
     shelves: Vec<K>,
 ) -> Ran<T, C, K>
     requires shelves { vec_len shelves ≡ most_users }
-    ensures run { IfOk result.written (λ output. NamedOutput C.told C.faults T.told T.faults K.told K.faults (asked_by words.now).text (asked_by words.now).clock (asked_by words.now).library
-        bundle output.items clock result.clock text result.text
+    ensures run { IfWhole result.ended (λ transcripts journal. NamedRun C.told C.faults T.told T.faults K.told K.faults (asked_by words.now).text (asked_by words.now).clock (asked_by words.now).library
+        bundle journal transcripts clock result.clock text result.text
         shelves.items result.shelves.items) }
     ensures text { (asked_by words.now).text ≡ None → result.text ≡ text }
     ensures clock { (asked_by words.now).clock ≡ false → result.clock ≡ clock }
@@ -58,8 +58,8 @@ fn over_placed_text<T: TextStore, C: Clock, K: Shelf>(
     shelves: Vec<K>,
 ) -> Ran<T, C, K>
     requires shelves { vec_len shelves ≡ most_users }
-    ensures run { IfOk result.written (λ output. NamedOutput C.told C.faults T.told T.faults K.told K.faults (Some place.now) (asked_by words.now).clock (asked_by words.now).library
-        bundle output.items clock result.clock text result.text
+    ensures run { IfWhole result.ended (λ transcripts journal. NamedRun C.told C.faults T.told T.faults K.told K.faults (Some place.now) (asked_by words.now).clock (asked_by words.now).library
+        bundle journal transcripts clock result.clock text result.text
         shelves.items result.shelves.items) }
     ensures clock { (asked_by words.now).clock ≡ false → result.clock ≡ clock }
     ensures library { (asked_by words.now).library ≡ None → result.shelves ≡ shelves }
@@ -67,8 +67,8 @@ fn over_placed_text<T: TextStore, C: Clock, K: Shelf>(
     let mut text = text;
     match text.set_place(place) {
         Ok(()) => over_text(alloc, words, bundle, text, clock, shelves),
-        Err(refused) => Ran {
-            written: Err(refused),
+        Err(WantOfMemory) => Ran {
+            ended: Ended::WantOfMemory,
             text,
             clock,
             shelves,
@@ -86,8 +86,8 @@ fn over_bundle_text<T: TextStore, C: Clock, K: Shelf>(
     shelves: Vec<K>,
 ) -> Ran<T, C, K>
     requires shelves { vec_len shelves ≡ most_users }
-    ensures run { IfOk result.written (λ output. NamedOutput C.told C.faults T.told T.faults K.told K.faults None (asked_by words.now).clock (asked_by words.now).library
-        bundle output.items clock result.clock text result.text
+    ensures run { IfWhole result.ended (λ transcripts journal. NamedRun C.told C.faults T.told T.faults K.told K.faults None (asked_by words.now).clock (asked_by words.now).library
+        bundle journal transcripts clock result.clock text result.text
         shelves.items result.shelves.items) }
     ensures text { result.text ≡ text }
     ensures clock { (asked_by words.now).clock ≡ false → result.clock ≡ clock }
@@ -95,9 +95,9 @@ fn over_bundle_text<T: TextStore, C: Clock, K: Shelf>(
 {
     let files = match memory_text(alloc, &bundle) {
         Ok(files) => files,
-        Err(refused) => {
+        Err(WantOfMemory) => {
             return Ran {
-                written: Err(refused),
+                ended: Ended::WantOfMemory,
                 text,
                 clock,
                 shelves,
@@ -105,13 +105,13 @@ fn over_bundle_text<T: TextStore, C: Clock, K: Shelf>(
         }
     };
     let Ran {
-        written,
+        ended,
         text: _files,
         clock,
         shelves,
     } = over_text(alloc, words, bundle, files, clock, shelves);
     Ran {
-        written,
+        ended,
         text,
         clock,
         shelves,
@@ -128,8 +128,8 @@ fn over_text<T: TextStore, C: Clock, K: Shelf>(
     shelves: Vec<K>,
 ) -> Ran<T, C, K>
     requires shelves { vec_len shelves ≡ most_users }
-    ensures run { IfOk result.written (λ output. ClockedOutput C.told C.faults T.told T.faults K.told K.faults (asked_by words.now).clock (asked_by words.now).library
-        bundle output.items clock result.clock text result.text
+    ensures run { IfWhole result.ended (λ transcripts journal. ClockedRun C.told C.faults T.told T.faults K.told K.faults (asked_by words.now).clock (asked_by words.now).library
+        bundle journal transcripts clock result.clock text result.text
         shelves.items result.shelves.items) }
     ensures clock { (asked_by words.now).clock ≡ false → result.clock ≡ clock }
     ensures library { (asked_by words.now).library ≡ None → result.shelves ≡ shelves }
@@ -151,17 +151,17 @@ fn over_bundle_clock<T: TextStore, C: Clock, K: Shelf>(
     shelves: Vec<K>,
 ) -> Ran<T, C, K>
     requires shelves { vec_len shelves ≡ most_users }
-    ensures run { IfOk result.written (λ output. ClockedOutput C.told C.faults T.told T.faults K.told K.faults false (asked_by words.now).library
-        bundle output.items clock result.clock text result.text
+    ensures run { IfWhole result.ended (λ transcripts journal. ClockedRun C.told C.faults T.told T.faults K.told K.faults false (asked_by words.now).library
+        bundle journal transcripts clock result.clock text result.text
         shelves.items result.shelves.items) }
     ensures clock { result.clock ≡ clock }
     ensures library { (asked_by words.now).library ≡ None → result.shelves ≡ shelves }
 {
     let readings = match memory_clock(alloc, &bundle) {
         Ok(readings) => readings,
-        Err(refused) => {
+        Err(WantOfMemory) => {
             return Ran {
-                written: Err(refused),
+                ended: Ended::WantOfMemory,
                 text,
                 clock,
                 shelves,
@@ -169,13 +169,13 @@ fn over_bundle_clock<T: TextStore, C: Clock, K: Shelf>(
         }
     };
     let Ran {
-        written,
+        ended,
         text,
         clock: _readings,
         shelves,
     } = over_clock(alloc, words, bundle, text, readings, shelves);
     Ran {
-        written,
+        ended,
         text,
         clock,
         shelves,
@@ -192,8 +192,8 @@ fn over_clock<T: TextStore, C: Clock, K: Shelf>(
     shelves: Vec<K>,
 ) -> Ran<T, C, K>
     requires shelves { vec_len shelves ≡ most_users }
-    ensures run { IfOk result.written (λ output. ShelvedOutput C.told C.faults T.told T.faults K.told K.faults (asked_by words.now).library
-        bundle output.items clock result.clock text result.text
+    ensures run { IfWhole result.ended (λ transcripts journal. ShelvedRun C.told C.faults T.told T.faults K.told K.faults (asked_by words.now).library
+        bundle journal transcripts clock result.clock text result.text
         shelves.items result.shelves.items) }
     ensures library { (asked_by words.now).library ≡ None → result.shelves ≡ shelves }
 {
@@ -213,15 +213,15 @@ fn over_placed_shelves<T: TextStore, C: Clock, K: Shelf>(
     shelves: Vec<K>,
 ) -> Ran<T, C, K>
     requires shelves { vec_len shelves ≡ most_users }
-    ensures run { IfOk result.written (λ output. ShelvedOutput C.told C.faults T.told T.faults K.told K.faults (Some place.now)
-        bundle output.items clock result.clock text result.text
+    ensures run { IfWhole result.ended (λ transcripts journal. ShelvedRun C.told C.faults T.told T.faults K.told K.faults (Some place.now)
+        bundle journal transcripts clock result.clock text result.text
         shelves.items result.shelves.items) }
 {
     let mut shelves = shelves;
     match place_shelves(&mut shelves, bundle.users().len(), place) {
         Ok(()) => run_over(alloc, bundle, text, clock, shelves),
-        Err(refused) => Ran {
-            written: Err(refused),
+        Err(WantOfMemory) => Ran {
+            ended: Ended::WantOfMemory,
             text,
             clock,
             shelves,
@@ -253,16 +253,16 @@ fn over_empty_shelves<T: TextStore, C: Clock, K: Shelf>(
     clock: C,
     shelves: Vec<K>,
 ) -> Ran<T, C, K>
-    ensures run { IfOk result.written (λ output. ShelvedOutput C.told C.faults T.told T.faults K.told K.faults None
-        bundle output.items clock result.clock text result.text
+    ensures run { IfWhole result.ended (λ transcripts journal. ShelvedRun C.told C.faults T.told T.faults K.told K.faults None
+        bundle journal transcripts clock result.clock text result.text
         shelves.items result.shelves.items) }
     ensures library { result.shelves ≡ shelves }
 {
     let made = match memory_shelves(alloc, &bundle) {
         Ok(made) => made,
-        Err(refused) => {
+        Err(WantOfMemory) => {
             return Ran {
-                written: Err(refused),
+                ended: Ended::WantOfMemory,
                 text,
                 clock,
                 shelves,
@@ -270,13 +270,13 @@ fn over_empty_shelves<T: TextStore, C: Clock, K: Shelf>(
         }
     };
     let Ran {
-        written,
+        ended,
         text,
         clock,
         shelves: _made,
     } = run_over(alloc, bundle, text, clock, made);
     Ran {
-        written,
+        ended,
         text,
         clock,
         shelves,
@@ -292,8 +292,8 @@ fn run_over<T: TextStore, C: Clock, K: Shelf>(
     shelves: Vec<K>,
 ) -> Ran<T, C, K>
     requires { length bundle.users ≤ vec_len shelves }
-    ensures { IfOk result.written (λ output. IsOutputOver C.told C.faults T.told T.faults K.told K.faults
-        bundle output.items clock result.clock text result.text
+    ensures { IfWhole result.ended (λ transcripts journal. IsDeviceRun C.told C.faults T.told T.faults K.told K.faults
+        bundle journal transcripts clock result.clock text result.text
         shelves.items result.shelves.items) }
 {
     let Outcome { ended, devices } = replay(
@@ -311,22 +311,9 @@ fn run_over<T: TextStore, C: Clock, K: Shelf>(
         shelves,
     } = devices;
     Ran {
-        written: output_in(alloc, ended),
+        ended,
         text,
         clock,
         shelves,
-    }
-}
-
-// What is written of a run that is whole.
-fn output_in(alloc: Global, ended: Ended) -> Result<Bytes, WantOfMemory>
-    ensures { IfOk result (λ output. IsOutputIn ended output.items) }
-{
-    match ended {
-        Ended::Whole {
-            transcripts,
-            journal,
-        } => output_of(alloc, &transcripts, journal.as_slice()),
-        Ended::WantOfMemory => Err(WantOfMemory),
     }
 }

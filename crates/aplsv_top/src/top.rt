@@ -8,6 +8,7 @@ ghost use Rattle.aplsv_top.specs.Headline.{IsOutputAs};
 ghost use Rattle.aplsv_top.specs.Words.{AskReplay, IsConclusion};
 ghost use Rattle.aplsv_top.specs.declared.status.Status.TheVariants as status;
 
+use crate::output::output_in;
 use crate::run::{Ran, run_as_asked};
 use crate::status::{Finish, Status};
 use apl_arrays::Bytes;
@@ -69,7 +70,8 @@ pub fn aplsv_replay_words<S: Source, W: Sink, T: TextStore, C: Clock, K: Shelf>(
     }
 }
 
-fn ended<T, C, K>(status: Status, text: T, clock: C, shelves: Vec<K>) -> Finish<T, C, K>
+/// An ending that leaves the devices as they are here. No memory.
+pub(crate) fn ended<T, C, K>(status: Status, text: T, clock: C, shelves: Vec<K>) -> Finish<T, C, K>
     ensures { result ≡ record { status = status; text = text; clock = clock; shelves = shelves } }
 {
     Finish {
@@ -80,8 +82,9 @@ fn ended<T, C, K>(status: Status, text: T, clock: C, shelves: Vec<K>) -> Finish<
     }
 }
 
-// What words that have a meaning come to.
-fn as_asked<S: Source, W: Sink, T: TextStore, C: Clock, K: Shelf>(
+/// What words that have a meaning come to, where they ask for a replay; else they are `Usage`. It takes memory for the bundle,
+/// the run and the output.
+pub(crate) fn as_asked<S: Source, W: Sink, T: TextStore, C: Clock, K: Shelf>(
     alloc: Global,
     words: &Words,
     input: &mut S,
@@ -173,19 +176,20 @@ fn answer<W: Sink, T: TextStore, C: Clock, K: Shelf>(
         }
     };
     let Ran {
-        written,
+        ended: outcome,
         text,
         clock,
         shelves,
     } = run_as_asked(alloc, words, bundle, text, clock, shelves);
+    let written = output_in(alloc, outcome);
     match written {
         Ok(written) => ended(write(&written, output), text, clock, shelves),
         Err(_) => ended(Status::WantOfMemory, text, clock, shelves),
     }
 }
 
-// Writes what a run printed.
-fn write<W: Sink>(written: &Bytes, output: &mut W) -> Status
+/// Writes what is said of a run: all of it, or a part from its front on where the sink fails. No memory.
+pub(crate) fn write<W: Sink>(written: &Bytes, output: &mut W) -> Status
     ensures { IsWriting (W.held output.old) (W.held output.new) (W.faults output.old) (W.faults output.new) written.now.items result }
 {
     match write_all(output, written.as_slice()) {

@@ -1,5 +1,5 @@
 -- What the parser tells of settings, with its defaults, and when it has a fault.
-use Rattle.std.proofs.Common.{◌≡◌, ◌⊎◌, ◌||◌, ◌&&◌, ◌++◌, ℕ, Bool, true, false, not, cond, List, [], ◌∷◌, map, Option, Some, None, is_some, slice_get, codes, string_bytes, refl, sym, ap, ap₂, ◌∙◌, inl, inr, subst}
+use Rattle.std.proofs.Common.{◌≡◌, ◌⊎◌, ◌||◌, ◌&&◌, Bool, true, false, not, cond, List, [], ◌∷◌, map, Option, Some, None, is_some, slice_get, codes, refl, sym, ap, ◌∙◌, inl, inr, subst}
 use Rattle.std.specs.List.{find, fold, list_all, list_any}
 use Rattle.std.specs.Option.{option_and_then, option_map, option_map_or, option_or}
 use Rattle.std.specs.Str.{bytes_eq}
@@ -12,20 +12,19 @@ use Rattle.clap.specs.Kinds.{Kinds, check_kinds, or_else}
 use Rattle.clap.specs.Matches.{first_value, found_of, one_text}
 use Rattle.clap.specs.Simple.{App, HasMatchesOf, entered, is_simple, matches_of, names_of}
 use Rattle.clap.specs.Takes.{is_given}
-use Rattle.clap.specs.Walk.{Held, Row, Rule, default_rows, finished, first_of, has_row, is_empty, more_values, nothing_held, one_of, reading_by, row_text, rows_after, rows_of, settled, walk, with_default}
+use Rattle.clap.specs.Walk.{Held, Row, default_rows, finished, first_of, has_row, is_empty, more_values, nothing_held, one_of, reading_by, row_text, rows_after, rows_of, settled, walk, with_default}
 use Rattle.clap.specs.declared.builder.value_parser.Reading.TheVariants.{AsWritten}
-use Rattle.clap.specs.declared.error.kind.ErrorKind.TheVariants as kind
 use Rattle.clap.specs.declared.parser.matches.ArgMatches.{ArgMatches}
 use Rattle.clap.specs.declared.parser.matches.ValueSource.TheVariants.{DefaultValue}
 use Rattle.clap.proofs.WalkLemmas.{first_value-rows, one_text-rows}
 use Rattle.aplsv_words.specs.CommandLine.{IsFlagOf, command_of}
 use Rattle.aplsv_words.specs.Table.{Word, flag, table, valued}
-use Rattle.aplsv_words.specs.Meaning.{AreFine, Asked, Setting, Spell, Text, asked_by, is_known, is_named, is_set, said_by, takes, value_of, word_of}
-use Rattle.aplsv_words.specs.declared.words.Words.{Words}
-use Rattle.aplsv_words.proofs.Readings.{AreRead, IsFree, ended, spelled_are_read, standing}
-use Rattle.aplsv_words.proofs.Settings.{alone, known_word, with_value, word_with}
+use Rattle.aplsv_words.specs.Meaning.{AreFine, Said, Setting, Spell, Text, is_known, is_named, is_set, said_by, said_in, takes, value_of, word_of}
+use Rattle.aplsv_words.specs.declared.written.Written.{Written}
+use Rattle.aplsv_words.proofs.Readings.{IsFree, ended, spelled_are_read, standing}
+use Rattle.aplsv_words.proofs.Settings.{known_word, word_with}
 use Rattle.aplsv_words.proofs.Texts.{found_holds, found_passes}
-use Rattle.aplsv_words.proofs.Walks.{app, argument, arguments, both_none, built_is, names_fit, none_of, row_for, row_missing, shape, table_is_simple}
+use Rattle.aplsv_words.proofs.Walks.{app, argument, arguments, both_none, built_is, names_fit, none_of, row_for, row_missing, shape}
 
 -- ---- faults
 
@@ -281,33 +280,35 @@ spelled_are_taken settings texts spelled fine = free_is_taken texts (spelled_are
 is_simple_table : is_simple (command_of table) ≡ true
 is_simple_table = refl
 
-abbrev asks : Bool → Option Text → Option Text → Bool → Asked
-asks replay library text clock = record { replay = replay; library = library; text = text; clock = clock }
+abbrev says : Bool → Option Text → Option Text → Bool → Option Text → Said
+says replay library text clock load = record { replay = replay; library = library; text = text; clock = clock; load = load }
 
-asks_alike : (a b : Bool) (c d e f : Option Text) (g h : Bool) → a ≡ b → c ≡ d → e ≡ f → g ≡ h → asks a c e g ≡ asks b d f h
-asks_alike a b c d e f g h p q r s = λ i. asks (p i) (q i) (r i) (s i)
+says_alike : (a b : Bool) (c d e f : Option Text) (g h : Bool) (k l : Option Text) → a ≡ b → c ≡ d → e ≡ f → g ≡ h → k ≡ l → says a c e g k ≡ says b d f h l
+says_alike a b c d e f g h k l p q r s t = λ i. says (p i) (q i) (r i) (s i) (t i)
 
 -- what is read is what the settings say
-pub read_is_said : (m : ArgMatches) (words : Words) (texts : List Text) (settings : List Setting) → HasMatchesOf (command_of table) texts m → Spell settings texts → AreFine table settings
-    → IsFlagOf (one_text (found_of m) (codes "replay")) words.replay
-    → (asked_by words).library ≡ first_value (found_of m) (codes "library")
-    → (asked_by words).text ≡ first_value (found_of m) (codes "text")
-    → IsFlagOf (one_text (found_of m) (codes "clock")) words.clock
-    → said_by settings ≡ asked_by words
-read_is_said m words texts settings has spelled fine replay library text clock =
+pub read_is_said : (m : ArgMatches) (written : Written) (texts : List Text) (settings : List Setting) → HasMatchesOf (command_of table) texts m → Spell settings texts → AreFine table settings
+    → IsFlagOf (one_text (found_of m) (codes "replay")) written.replay
+    → (said_in written).library ≡ first_value (found_of m) (codes "library")
+    → (said_in written).text ≡ first_value (found_of m) (codes "text")
+    → IsFlagOf (one_text (found_of m) (codes "clock")) written.clock
+    → (said_in written).load ≡ first_value (found_of m) (codes "load")
+    → said_by settings ≡ said_in written
+read_is_said m written texts settings has spelled fine replay library text clock load =
     let rows : rows_of (found_of m) ≡ fold with_default (map row_for settings) (arguments table) = (has is_simple_table).0 ∙ spelled_are_told settings texts spelled fine in
     let one : (name : Text) → one_text (found_of m) name ≡ one_of name (told table settings fine name) = λ name. one_text-rows (found_of m) name ∙ ap (one_of name) rows in
     let first : (name : Text) → first_value (found_of m) name ≡ first_of name (told table settings fine name) = λ name. first_value-rows (found_of m) name ∙ ap (first_of name) rows in
-    let e_replay : words.replay ≡ is_set (codes "replay") settings =
-    flag_is table settings fine (codes "replay") refl words.replay (subst (λ (o : Option Text). IsFlagOf o words.replay) (one (codes "replay")) replay) in
-    let e_library : (asked_by words).library ≡ value_of (codes "library") settings = library ∙ (first (codes "library") ∙ value_is table settings fine (codes "library") refl refl) in
-    let e_text : (asked_by words).text ≡ value_of (codes "text") settings = text ∙ (first (codes "text") ∙ value_is table settings fine (codes "text") refl refl) in
-    let e_clock : words.clock ≡ is_set (codes "clock") settings =
-    flag_is table settings fine (codes "clock") refl words.clock (subst (λ (o : Option Text). IsFlagOf o words.clock) (one (codes "clock")) clock) in
-    sym (asks_alike words.replay (is_set (codes "replay") settings) (asked_by words).library (value_of (codes "library") settings) (asked_by words).text (value_of (codes "text") settings)
-    words.clock (is_set (codes "clock") settings) e_replay e_library e_text e_clock)
+    let e_replay : written.replay ≡ is_set (codes "replay") settings =
+    flag_is table settings fine (codes "replay") refl written.replay (subst (λ (o : Option Text). IsFlagOf o written.replay) (one (codes "replay")) replay) in
+    let e_library : (said_in written).library ≡ value_of (codes "library") settings = library ∙ (first (codes "library") ∙ value_is table settings fine (codes "library") refl refl) in
+    let e_text : (said_in written).text ≡ value_of (codes "text") settings = text ∙ (first (codes "text") ∙ value_is table settings fine (codes "text") refl refl) in
+    let e_clock : written.clock ≡ is_set (codes "clock") settings =
+    flag_is table settings fine (codes "clock") refl written.clock (subst (λ (o : Option Text). IsFlagOf o written.clock) (one (codes "clock")) clock) in
+    let e_load : (said_in written).load ≡ value_of (codes "load") settings = load ∙ (first (codes "load") ∙ value_is table settings fine (codes "load") refl refl) in
+    sym (says_alike written.replay (is_set (codes "replay") settings) (said_in written).library (value_of (codes "library") settings) (said_in written).text (value_of (codes "text") settings)
+    written.clock (is_set (codes "clock") settings) (said_in written).load (value_of (codes "load") settings) e_replay e_library e_text e_clock e_load)
 
--- words that spell two lists of settings ask for the same
+-- words that spell two lists of settings say the same
 pub one_meaning : (texts : List Text) (settings others : List Setting) → Spell settings texts → AreFine table settings → Spell others texts → AreFine table others → said_by settings ≡ said_by others
 one_meaning texts settings others spelled fine spells good =
     let rows : fold with_default (map row_for others) (arguments table) ≡ fold with_default (map row_for settings) (arguments table) = sym (spelled_are_told others texts spells good) ∙ spelled_are_told settings texts spelled fine in
@@ -316,6 +317,7 @@ one_meaning texts settings others spelled fine spells good =
     (subst (λ (rs : List Row). TellsFlag name rs (is_set name others)) rows (flag_tells table others good name word)) in
     let values : (name : Text) → word_of table name ≡ Some (valued name) → list_all (takes_if_named name) table ≡ true → value_of name settings ≡ value_of name others = λ name word fit.
     sym (value_is table settings fine name word fit) ∙ (ap (first_of name) (sym rows) ∙ value_is table others good name word fit) in
-    asks_alike (is_set (codes "replay") settings) (is_set (codes "replay") others) (value_of (codes "library") settings) (value_of (codes "library") others)
+    says_alike (is_set (codes "replay") settings) (is_set (codes "replay") others) (value_of (codes "library") settings) (value_of (codes "library") others)
     (value_of (codes "text") settings) (value_of (codes "text") others) (is_set (codes "clock") settings) (is_set (codes "clock") others)
-    (flags (codes "replay") refl) (values (codes "library") refl refl) (values (codes "text") refl refl) (flags (codes "clock") refl)
+    (value_of (codes "load") settings) (value_of (codes "load") others)
+    (flags (codes "replay") refl) (values (codes "library") refl refl) (values (codes "text") refl refl) (flags (codes "clock") refl) (values (codes "load") refl refl)

@@ -1,3 +1,4 @@
+pub mod Counts
 pub mod Getters
 pub mod Lexing
 pub mod Parses

@@ -1,14 +1,13 @@
 -- The parser takes the words exactly where they have a meaning, and keeps a row for each setting.
-use Rattle.std.proofs.Common.{◌≡◌, ◌⊎◌, ◌++◌, ℕ, Bool, true, false, List, [], ◌∷◌, map, nat_lt, length, Option, Some, None, refl, sym, ap, ap₂, ◌∙◌, inl, inr, subst, append_assoc, append-nil}
+use Rattle.std.proofs.Common.{◌≡◌, ◌⊎◌, ◌++◌, Bool, true, false, List, [], ◌∷◌, map, nat_lt, length, Option, Some, None, refl, sym, ap, ap₂, ◌∙◌, inl, inr, subst, append_assoc, append-nil}
 use Rattle.std.proofs.lemmas.List.{map_push}
 use Rattle.std.specs.List.{fold, list_all, list_any}
-use Rattle.std.specs.Option.{option_map_or}
 use Rattle.std.proofs.lemmas.Bool.{or_parts}
 use Rattle.clap.specs.Faults.{settle_fault, turn_fault, use_fault, walk_fault}
 use Rattle.clap.specs.Kinds.{or_else}
 use Rattle.clap.specs.Walk.{Held, Row, Walk, has_row, idle, option, settled, walked}
 use Rattle.aplsv_words.specs.Table.{Word, flag, valued}
-use Rattle.aplsv_words.specs.Meaning.{AreFine, BeginsWith, Setting, Spell, Text, begins_with_hyphen, hyphened, is_known, is_set, joined, word_of}
+use Rattle.aplsv_words.specs.Meaning.{AreFine, BeginsWith, Setting, Spell, Text, begins_with_hyphen, hyphened, is_set, joined, word_of}
 use Rattle.aplsv_words.specs.Stray.{is_stray}
 use Rattle.aplsv_words.proofs.Lexing.{IsLong, IsRead, alone_is_long, fit_name, is_name, joined_is_long, unhyphened_is_plain, word_is_read, written}
 use Rattle.aplsv_words.proofs.Settings.{alone, fine_front, fine_more, fine_next, flag_known, found_word, known_alone, known_value, value_known, with_value, word_with}

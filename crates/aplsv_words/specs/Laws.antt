@@ -1,5 +1,5 @@
 -- What holds of the meaning of words.
-use Rattle.std.specs.Prelude.{◌≡◌, true, false, List, None, Some, codes}
+use Rattle.std.specs.Prelude.{◌≡◌, true, false, List, None}
 use Rattle.aplsv_words.specs.Meaning.{Asked, Means, Text}
 
 -- words have one meaning and no other
@@ -12,7 +12,7 @@ MeanNothing words = (asked : Asked) → ¬ Means words asked
 
 -- nothing is asked for
 abbrev pub nothing : Asked
-nothing = record { replay = false; library = None; text = None; clock = false }
+nothing = record { replay = false; library = None; text = None; clock = false; load = None }
 
 -- a replay alone
 abbrev pub replay_alone : Asked

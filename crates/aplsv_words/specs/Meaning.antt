@@ -1,10 +1,11 @@
 -- What the words of a command line mean.
-use Rattle.std.specs.Prelude.{◌≡◌, ◌⊎◌, ◌==◌, ◌++◌, Bool, true, false, not, ℕ, List, [], ◌∷◌, Option, Some, None, find, length, nat_lt, codes, option_map}
+use Rattle.std.specs.Prelude.{◌≡◌, ◌≤◌, ◌⊎◌, ◌==◌, ◌&&◌, ◌++◌, Bool, true, false, ℕ, List, [], ◌∷◌, Option, Some, None, find, is_some, length, nat_lt, codes, decimal, option_map}
 use Rattle.std.specs.List.{list_all, list_any}
 use Rattle.std.specs.Option.{option_and_then, option_map_or}
 use Rattle.std.specs.Str.{bytes_eq}
 use Rattle.aplsv_words.specs.Table.{Word, table}
 use Rattle.aplsv_words.specs.declared.words.Words.{Words}
+use Rattle.aplsv_words.specs.declared.written.Written.{Written}
 
 -- a text, by its bytes
 abbrev pub Text : Type 0
@@ -76,34 +77,91 @@ pub record AreFine (words : List Word) (settings : List Setting) : Type 0 where
 abbrev pub value_of : Text → List Setting → Option Text
 value_of name settings = option_and_then (λ setting. setting.value) (find (is_named name) settings)
 
+-- what words say: a field for each word of the table, and a value as it was written
+pub record Said : Type 0 where
+  pub replay : Bool
+  pub library : Option Text
+  pub text : Option Text
+  pub clock : Bool
+  pub load : Option Text
+
+-- what was read
+abbrev pub said_in : Written → Said
+said_in written = record {
+  replay = written.replay;
+  library = option_map (λ place. place.now) written.library;
+  text = option_map (λ place. place.now) written.text;
+  clock = written.clock;
+  load = option_map (λ count. count.now) written.load;
+}
+
+-- what settings say
+abbrev pub said_by : List Setting → Said
+said_by settings = record {
+  replay = is_set (codes "replay") settings;
+  library = value_of (codes "library") settings;
+  text = value_of (codes "text") settings;
+  clock = is_set (codes "clock") settings;
+  load = value_of (codes "load") settings;
+}
+
+-- the words say this: they are settings of the table, in any order and each once
+pub record Say (words : List Text) (said : Said) : Type 0 where
+  pub settings : List Setting
+  pub spelled : Spell settings words
+  pub fine : AreFine table settings
+  pub says : said_by settings ≡ said
+
 -- what words ask for: a field for each word of the table
 pub record Asked : Type 0 where
   pub replay : Bool
   pub library : Option Text
   pub text : Option Text
   pub clock : Bool
+  pub load : Option ℕ
 
--- what was read
+-- what was understood
 abbrev pub asked_by : Words → Asked
 asked_by words = record {
   replay = words.replay;
   library = option_map (λ place. place.now) words.library;
   text = option_map (λ place. place.now) words.text;
   clock = words.clock;
+  load = words.load;
 }
 
--- what settings ask for
-abbrev pub said_by : List Setting → Asked
-said_by settings = record {
-  replay = is_set (codes "replay") settings;
-  library = value_of (codes "library") settings;
-  text = value_of (codes "text") settings;
-  clock = is_set (codes "clock") settings;
-}
+-- the text is this count: its decimal digits, from 1 to 100,000, so without a sign and without a zero at the front
+pub record IsCount (text : Text) (n : ℕ) : Type 0 where
+  pub digits : text ≡ decimal n
+  pub some : 1 ≤ n
+  pub few : n ≤ 100000
 
--- the words mean this: they are settings of the table, in any order and each once, that ask for it
+-- it is none
+abbrev pub NoCount : Text → Type 0
+NoCount text = (n : ℕ) → ¬ IsCount text n
+
+-- a count is written where one is asked for, and else none
+abbrev pub CountsAs : Option Text → Option ℕ → Type 0
+CountsAs None None = Unit {0}
+CountsAs None (Some n) = ⊥
+CountsAs (Some text) None = ⊥
+CountsAs (Some text) (Some n) = IsCount text n
+
+-- nothing can be asked for by what was written
+abbrev pub NothingCounts : Option Text → Type 0
+NothingCounts written = (count : Option ℕ) → ¬ CountsAs written count
+
+-- what is said asks for this: the same of each word, a load by its count, and a replay and a load are not asked for together
+pub record AsksFor (said : Said) (asked : Asked) : Type 0 where
+  pub replay : asked.replay ≡ said.replay
+  pub library : asked.library ≡ said.library
+  pub text : asked.text ≡ said.text
+  pub clock : asked.clock ≡ said.clock
+  pub load : CountsAs said.load asked.load
+  pub single : (asked.replay && is_some asked.load) ≡ false
+
+-- the words mean this: they say what asks for it
 pub record Means (words : List Text) (asked : Asked) : Type 0 where
-  pub settings : List Setting
-  pub spelled : Spell settings words
-  pub fine : AreFine table settings
-  pub said : said_by settings ≡ asked
+  pub said : Said
+  pub say : Say words said
+  pub asks : AsksFor said asked

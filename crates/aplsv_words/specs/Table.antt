@@ -14,6 +14,6 @@ flag name = record { name = name; takes_value = false }
 abbrev pub valued : List ℕ → Word
 valued name = record { name = name; takes_value = true }
 
--- the table: --replay, --library DIR, --text DIR, --clock
+-- the table: --replay, --library DIR, --text DIR, --clock, --load N
 abbrev pub table : List Word
-table = flag (codes "replay") ∷ valued (codes "library") ∷ valued (codes "text") ∷ flag (codes "clock") ∷ []
+table = flag (codes "replay") ∷ valued (codes "library") ∷ valued (codes "text") ∷ flag (codes "clock") ∷ valued (codes "load") ∷ []

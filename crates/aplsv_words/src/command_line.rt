@@ -2,25 +2,26 @@ ghost use Rattle.std.specs.Prelude.{◌≡◌, false, codes, IfOk, IsErrOf, Matc
 ghost use Rattle.std.specs.List.{list_any};
 ghost use Rattle.clap.specs.Words.{app_of, first_value, found_of, kind_of, one_text, rule_of};
 ghost use Rattle.aplsv_words.specs.CommandLine.{IsFlagOf, command_of, flag_rule, refusal_of, value_rule};
-ghost use Rattle.aplsv_words.specs.Meaning.{Asked, Means, asked_by};
+ghost use Rattle.aplsv_words.specs.Meaning.{Said, Say, said_in};
 ghost use Rattle.aplsv_words.specs.Stray.{is_stray};
 ghost use Rattle.aplsv_words.specs.Table.{table};
 
 use crate::stray::has_stray;
-use crate::words::{Words, WordsRefused};
+use crate::words::WordsRefused;
+use crate::written::Written;
 use clap::builder::ValueParser;
 use clap::error::ErrorKind;
 use clap::{Arg, ArgAction, ArgMatches, Command, Error};
 use std::alloc::{AllocError, Global};
 
-/// What the words behind the program's name ask for. `Usage` exactly where they have no meaning: where a word is none of
-/// the table, stands twice, or has a value that it does not take, lacks one, or has one that is empty or that begins with a
-/// hyphen in a word of its own. The values are those in the words. It takes memory to read them.
-pub fn words_of<'a>(alloc: Global, args: &'a [String]) -> Result<Words<'a>, WordsRefused>
-    ensures means { IfOk result (λ words. Means (map string_bytes args.entry.now) (asked_by words)) }
-    ensures usage { IsErrOf result WordsRefused.Usage → (asked : Asked) → ¬ Means (map string_bytes args.entry.now) asked }
-    ensures only { (asked : Asked) → Means (map string_bytes args.entry.now) asked →
-        MatchResult result (λ words. asked_by words ≡ asked) (λ why. why ≡ WordsRefused.WantOfMemory) }
+/// What the words behind the program's name say. `Usage` exactly where they say nothing: where a word is none of the table,
+/// stands twice, or has a value that it does not take, lacks one, or has one that is empty or that begins with a hyphen in a
+/// word of its own. The values are those in the words. It takes memory to read them.
+pub(crate) fn written_in<'a>(alloc: Global, args: &'a [String]) -> Result<Written<'a>, WordsRefused>
+    ensures says { IfOk result (λ written. Say (map string_bytes args.entry.now) (said_in written)) }
+    ensures usage { IsErrOf result WordsRefused.Usage → (said : Said) → ¬ Say (map string_bytes args.entry.now) said }
+    ensures only { (said : Said) → Say (map string_bytes args.entry.now) said →
+        MatchResult result (λ written. said_in written ≡ said) (λ why. why ≡ WordsRefused.WantOfMemory) }
 {
     if has_stray(args) {
         Err(WordsRefused::Usage)
@@ -30,12 +31,12 @@ pub fn words_of<'a>(alloc: Global, args: &'a [String]) -> Result<Words<'a>, Word
 }
 
 // The same, where each word that begins with a hyphen goes on as a name behind two.
-fn parsed<'a>(alloc: Global, args: &'a [String]) -> Result<Words<'a>, WordsRefused>
+fn parsed<'a>(alloc: Global, args: &'a [String]) -> Result<Written<'a>, WordsRefused>
     requires { list_any (λ arg. is_stray (string_bytes arg)) args.now ≡ false }
-    ensures means { IfOk result (λ words. Means (map string_bytes args.entry.now) (asked_by words)) }
-    ensures usage { IsErrOf result WordsRefused.Usage → (asked : Asked) → ¬ Means (map string_bytes args.entry.now) asked }
-    ensures only { (asked : Asked) → Means (map string_bytes args.entry.now) asked →
-        MatchResult result (λ words. asked_by words ≡ asked) (λ why. why ≡ WordsRefused.WantOfMemory) }
+    ensures says { IfOk result (λ written. Say (map string_bytes args.entry.now) (said_in written)) }
+    ensures usage { IsErrOf result WordsRefused.Usage → (said : Said) → ¬ Say (map string_bytes args.entry.now) said }
+    ensures only { (said : Said) → Say (map string_bytes args.entry.now) said →
+        MatchResult result (λ written. said_in written ≡ said) (λ why. why ≡ WordsRefused.WantOfMemory) }
 {
     let command = command_line(alloc)?;
     match command.try_get_matches_from(args) {
@@ -54,7 +55,8 @@ fn command_line<'a>(alloc: Global) -> Result<Command<'a>, AllocError>
     let with_replay = bare.arg(flag(alloc, "replay"))?;
     let with_library = with_replay.arg(valued(alloc, "library"))?;
     let with_text = with_library.arg(valued(alloc, "text"))?;
-    let whole = with_text.arg(flag(alloc, "clock"))?;
+    let with_clock = with_text.arg(flag(alloc, "clock"))?;
+    let whole = with_clock.arg(valued(alloc, "load"))?;
     Ok(whole)
 }
 
@@ -77,17 +79,19 @@ fn valued<'a>(alloc: Global, name: &'a str) -> Arg<'a>
 }
 
 // What a parse found.
-fn words_in<'a>(matches: ArgMatches<'a>) -> Words<'a>
+fn words_in<'a>(matches: ArgMatches<'a>) -> Written<'a>
     ensures replay { IsFlagOf (one_text (found_of matches.entry) (codes "replay")) result.replay }
     ensures library { option_map (λ place. place.now) result.library ≡ first_value (found_of matches.entry) (codes "library") }
     ensures text { option_map (λ place. place.now) result.text ≡ first_value (found_of matches.entry) (codes "text") }
     ensures clock { IsFlagOf (one_text (found_of matches.entry) (codes "clock")) result.clock }
+    ensures load { option_map (λ count. count.now) result.load ≡ first_value (found_of matches.entry) (codes "load") }
 {
-    Words {
+    Written {
         replay: flag_in(&matches, "replay"),
         library: matches.get_str("library"),
         text: matches.get_str("text"),
         clock: flag_in(&matches, "clock"),
+        load: matches.get_str("load"),
     }
 }
 

@@ -8,9 +8,9 @@ pub fn words_have_one_meaning()
 {}
 
 /// Words at work: none; one; all, in another order and with values in both ways; a value that begins with a hyphen behind
-/// its `=`, and one that has another `=`. And words that mean nothing: with a value that begins with a hyphen, is empty, or
-/// is not there; with one that is not taken; twice; short, cut, bare, or none of the table. The call does nothing. No
-/// memory.
+/// its `=`, and one that has another `=`; a load, of the most numbers too. And words that mean nothing: with a value that
+/// begins with a hyphen, is empty, or is not there; with one that is not taken, or is no count; twice; a replay beside a
+/// load; short, cut, bare, or none of the table. The call does nothing. No memory.
 pub fn worked_words()
     ensures none { Means [] nothing }
     ensures replay { Means (codes "--replay" ∷ []) replay_alone }
@@ -33,5 +33,13 @@ pub fn worked_words()
     ensures one_hyphen { MeanNothing (codes "-" ∷ []) }
     ensures help { MeanNothing (codes "--help" ∷ []) }
     ensures workers { MeanNothing (codes "--workers" ∷ codes "2" ∷ []) }
-    ensures load { MeanNothing (codes "--load" ∷ codes "5" ∷ []) }
+    ensures load { Means (codes "--load" ∷ codes "5" ∷ []) (record nothing { load = Some 5 }) }
+    ensures load_beside { Means (codes "--clock" ∷ codes "--load=100000" ∷ []) (record nothing { clock = true; load = Some 100000 }) }
+    ensures load_of_none { MeanNothing (codes "--load" ∷ codes "0" ∷ []) }
+    ensures load_past { MeanNothing (codes "--load=100001" ∷ []) }
+    ensures load_zero { MeanNothing (codes "--load" ∷ codes "05" ∷ []) }
+    ensures load_plus { MeanNothing (codes "--load=+5" ∷ []) }
+    ensures load_minus { MeanNothing (codes "--load=-5" ∷ []) }
+    ensures load_twice { MeanNothing (codes "--load=5" ∷ codes "--load=5" ∷ []) }
+    ensures load_replayed { MeanNothing (codes "--load" ∷ codes "5" ∷ codes "--replay" ∷ []) }
 {}

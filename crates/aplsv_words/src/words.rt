@@ -13,6 +13,8 @@ pub struct Words<'a> {
     pub text: Option<&'a str>,
     /// `--clock`: the readings are those of the machine's clock.
     pub clock: bool,
+    /// `--load N`: a bundle of so many numbers is made and run on one thread.
+    pub load: Option<u32>,
 }
 
 /// Why words are not read.

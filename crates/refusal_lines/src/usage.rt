@@ -3,9 +3,11 @@ pub fn usage_lines() -> &'static str {
     "\
 The program reads a bundle from standard input and writes transcripts and the journal to standard output. Its words:
   --replay       runs the bundle on one thread, in an order of turns that the bundle alone decides
+  --load N       makes a bundle that hands over N numbers, runs it so without reading, and writes a summary of six lines
   --library DIR  keeps saved workspaces as files DIR/USER/NAME, where a later run finds them
   --text DIR     reads and writes text files as DIR/NAME, and leaves the files of the bundle aside
   --clock        reads the clock of the machine, and leaves the readings of the bundle aside
-Each stands once at most, in any order. DIR is not empty. It is the next word, and then begins with no -, or it follows =.
+Each stands once at most, in any order, and --load not beside --replay. N is from 1 to 100000, without a sign or a 0 in front.
+DIR is not empty. A value is the next word, and then begins with no -, or it follows =.
 "
 }

@@ -37,6 +37,9 @@ fn shown(alloc: Global, words: Words) -> Result<String, AllocError> {
     if words.clock {
         text.push_str("clock; ")?;
     }
+    if let Some(count) = words.load {
+        write!(text, "load {count}; ")?;
+    }
     text.push_str("no more")?;
     Ok(text)
 }

@@ -6,7 +6,7 @@ use Rattle.bundle_text.specs.Breaks.{Breaks}
 use Rattle.bundle_text.specs.Refused.{IsRefusal}
 use Rattle.bundle_text.specs.declared.refused.BundleRefused.{BundleRefused}
 use Rattle.bundle_text.specs.declared.refused.BundleRule.{BundleRule}
-use Rattle.aplsv_top.specs.Headline.{IsOutputAs, NamedOutput}
+use Rattle.aplsv_top.specs.Headline.{IsOutputAs, IsOutputIn}
 use Rattle.aplsv_top.specs.declared.status.Finish.{Finish}
 use Rattle.aplsv_top.specs.declared.status.Status.TheVariants as status
 use Rattle.aplsv_top.proofs.Causes.{bytes_refused, for_ending, given, memory_ran_out, run_written, used_up}
@@ -36,13 +36,10 @@ returns-in-Err-WantOfMemory-clause-causes g c =
 pub returns-in-Ok-written-clause-causes : goal.returns-in-Ok-written-clause-causes
 returns-in-Ok-written-clause-causes g c =
     let is : c.ended-in-Ok-written.result.status ≡ c.write.result = cc in
-    let same_clock : c.run_as_asked-written.result.clock ≡ c.ended-in-Ok-written.result.clock = sym (ap (λ (end : Finish _ _ _). end.clock) c.ended-in-Ok-written.ensures) in
-    let same_text : c.run_as_asked-written.result.text ≡ c.ended-in-Ok-written.result.text = sym (ap (λ (end : Finish _ _ _). end.text) c.ended-in-Ok-written.ensures) in
-    let same_shelves : c.run_as_asked-written.result.shelves.items ≡ c.ended-in-Ok-written.result.shelves.items = sym (ap (λ (end : Finish _ _ _). end.shelves.items) c.ended-in-Ok-written.ensures) in
-    let named = IfOk-at_ok
-    (λ (output : Listed ℕ). NamedOutput g.C.Clock.told g.C.Clock.faults g.T.TextStore.told g.T.TextStore.faults g.K.Shelf.told g.K.Shelf.faults (asked_by c.args.words.now).text (asked_by c.args.words.now).clock (asked_by c.args.words.now).library c.in-Ok.bundle output.items c.args.clock c.run_as_asked-written.result.clock c.args.text c.run_as_asked-written.result.text
-    c.args.shelves.items c.run_as_asked-written.result.shelves.items)
-    c.in-Ok-written.is c.run_as_asked-written.ensures.run in
+    let same_clock : c.run_as_asked-outcome.result.clock ≡ c.ended-in-Ok-written.result.clock = sym (ap (λ (end : Finish _ _ _). end.clock) c.ended-in-Ok-written.ensures) in
+    let same_text : c.run_as_asked-outcome.result.text ≡ c.ended-in-Ok-written.result.text = sym (ap (λ (end : Finish _ _ _). end.text) c.ended-in-Ok-written.ensures) in
+    let same_shelves : c.run_as_asked-outcome.result.shelves.items ≡ c.ended-in-Ok-written.result.shelves.items = sym (ap (λ (end : Finish _ _ _). end.shelves.items) c.ended-in-Ok-written.ensures) in
+    let written = IfOk-at_ok (λ (output : Listed ℕ). IsOutputIn c.run_as_asked-outcome.result.ended output.items) c.in-Ok-written.is c.output_in-written.ensures in
     for_ending (IsOutputAs g.C.Clock.told g.C.Clock.faults g.T.TextStore.told g.T.TextStore.faults g.K.Shelf.told g.K.Shelf.faults (asked_by c.args.words.now) c.args.clock c.ended-in-Ok-written.result.clock c.args.text c.ended-in-Ok-written.result.text c.args.shelves.items c.ended-in-Ok-written.result.shelves.items)
     (λ bytes text out. (out.bundle, out.read)) c.ended-in-Ok-written.result.status c.write.result (given c.args.bytes.now) used_up
     (record { bytes = g.W.Sink.held c.args.output.now; faults = g.W.Sink.faults c.args.output.now }) (record { bytes = g.W.Sink.held c.write.new.output; faults = g.W.Sink.faults c.write.new.output }) is
@@ -50,9 +47,9 @@ returns-in-Ok-written-clause-causes g c =
     (λ bytes text out. (out.bundle, out.read)) c.args.bytes.now c.in-Ok-written.written.items (record { bytes = g.W.Sink.held c.args.output.now; faults = g.W.Sink.faults c.args.output.now })
     (record { bytes = g.W.Sink.held c.write.new.output; faults = g.W.Sink.faults c.write.new.output }) c.write.result c.requires.few
     (output_as g.C.Clock.told g.C.Clock.faults g.T.TextStore.told g.T.TextStore.faults g.K.Shelf.told g.K.Shelf.faults (asked_by c.args.words.now) c.in-Ok.bundle c.args.bytes.now c.in-Ok-written.written.items
-    c.args.clock c.run_as_asked-written.result.clock c.ended-in-Ok-written.result.clock c.args.text c.run_as_asked-written.result.text c.ended-in-Ok-written.result.text
-    c.args.shelves.items c.run_as_asked-written.result.shelves.items c.ended-in-Ok-written.result.shelves.items
-    c.in-Ok.ensures.bundle named same_clock same_text same_shelves)
+    c.args.clock c.run_as_asked-outcome.result.clock c.ended-in-Ok-written.result.clock c.args.text c.run_as_asked-outcome.result.text c.ended-in-Ok-written.result.text
+    c.args.shelves.items c.run_as_asked-outcome.result.shelves.items c.ended-in-Ok-written.result.shelves.items c.run_as_asked-outcome.result.ended
+    c.in-Ok.ensures.bundle c.run_as_asked-outcome.ensures.run written same_clock same_text same_shelves)
     c.write.ensures)
 
 pub returns-in-Err-clause-causes : goal.returns-in-Err-clause-causes

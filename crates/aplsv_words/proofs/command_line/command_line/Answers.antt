@@ -22,6 +22,9 @@ with_library = with_rule with_replay (value_rule (codes "library"))
 abbrev with_text : App
 with_text = with_rule with_library (value_rule (codes "text"))
 
+abbrev with_clock : App
+with_clock = with_rule with_text (flag_rule (codes "clock"))
+
 pub returns : goal.returns
 returns c =
     let named : app_of c.no_binary_name.result ≡ without_a_name (app_of c.new.result) = ap app_of_fields c.no_binary_name.ensures in
@@ -30,4 +33,5 @@ returns c =
     let first : app_of c.in_ok-with_replay.with_replay ≡ with_replay = c.in_ok-with_replay.ensures.shape c.flag.ensures.local ∙ ap₂ with_rule start c.flag.ensures.rule in
     let second : app_of c.in_ok-with_library.with_library ≡ with_library = c.in_ok-with_library.ensures.shape c.valued.ensures.local ∙ ap₂ with_rule first c.valued.ensures.rule in
     let third : app_of c.in_ok-with_text.with_text ≡ with_text = c.in_ok-with_text.ensures.shape c.valued-2.ensures.local ∙ ap₂ with_rule second c.valued-2.ensures.rule in
-    c.in_ok-whole.ensures.shape c.flag-2.ensures.local ∙ ap₂ with_rule third c.flag-2.ensures.rule
+    let fourth : app_of c.in_ok-with_clock.with_clock ≡ with_clock = c.in_ok-with_clock.ensures.shape c.flag-2.ensures.local ∙ ap₂ with_rule third c.flag-2.ensures.rule in
+    c.in_ok-whole.ensures.shape c.valued-3.ensures.local ∙ ap₂ with_rule fourth c.valued-3.ensures.rule

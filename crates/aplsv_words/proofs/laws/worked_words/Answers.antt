@@ -1,41 +1,120 @@
-use Rattle.std.proofs.Common.{◌≡◌, true, false, List, [], ◌∷◌, Some, None, codes, refl, inl, inr}
+use Rattle.std.proofs.Common.{◌≡◌, Bool, true, false, [], ◌∷◌, Option, Some, None, codes, decimal, length, nat_lt, refl, sym, inl, inr, arith}
+use Rattle.std.proofs.lemmas.Bool.{and_from}
+use Rattle.std.proofs.lemmas.Fmt.{decimal_digit}
+use Rattle.std.specs.Fmt.{digits}
 use Rattle.clap.specs.Faults.{fault_of}
 use Rattle.clap.specs.declared.error.kind.ErrorKind.TheVariants as kind
 use Rattle.clap.proofs.OnLiterals.{clap_on_literals}
 use Rattle.aplsv_words.specs.CommandLine.{command_of}
-use Rattle.aplsv_words.specs.Meaning.{Text}
+use Rattle.aplsv_words.specs.Laws.{MeanNothing, nothing, replay_alone}
+use Rattle.aplsv_words.specs.Meaning.{AsksFor, IsCount, NoCount, Text, begins_with_hyphen, hyphened, is_known, joined, said_by}
 use Rattle.aplsv_words.specs.Table.{table}
-use Rattle.aplsv_words.proofs.Settings.{alone, with_value}
-use Rattle.aplsv_words.proofs.Worked.{a_stray_means_nothing, faults_mean_nothing}
+use Rattle.aplsv_words.proofs.Counts.{both_mean_nothing, low_counts_not, no_count_means_nothing, other_counts_not}
+use Rattle.aplsv_words.proofs.Settings.{alone, value_known, with_value}
+use Rattle.aplsv_words.proofs.Worked.{a_stray_means_nothing, faults_mean_nothing, means_by, say_by}
 use Rattle.aplsv_words.proofs.laws.worked_words.Goals as goal
 
+-- nothing but these four words is asked for
+four : (replay : Bool) (library text : Option Text) (clock : Bool)
+    → AsksFor (record { replay = replay; library = library; text = text; clock = clock; load = None }) (record { replay = replay; library = library; text = text; clock = clock; load = None })
+four true library text clock = record { replay = refl; library = refl; text = refl; clock = refl; load = tt; single = refl }
+four false library text clock = record { replay = refl; library = refl; text = refl; clock = refl; load = tt; single = refl }
+
 pub returns-clause-none : goal.returns-clause-none
-returns-clause-none c = record { settings = []; spelled = refl; fine = record { known = refl; once = tt }; said = refl }
+returns-clause-none c = means_by [] [] nothing refl (record { known = refl; once = tt }) (four false None None false)
 
 pub returns-clause-replay : goal.returns-clause-replay
-returns-clause-replay c = record { settings = alone (codes "replay") ∷ []; spelled = ([], refl, refl); fine = record { known = refl; once = (refl, tt) }; said = refl }
+returns-clause-replay c =
+    means_by (codes "--replay" ∷ []) (alone (codes "replay") ∷ []) replay_alone ([], refl, refl) (record { known = refl; once = (refl, tt) }) (four true None None false)
 
 pub returns-clause-all : goal.returns-clause-all
-returns-clause-all c = record {
-  settings = alone (codes "clock") ∷ with_value (codes "text") (codes "NOTES") ∷ alone (codes "replay") ∷ with_value (codes "library") (codes "SAVED") ∷ [];
-  spelled = (
-    codes "--text=NOTES" ∷ codes "--replay" ∷ codes "--library" ∷ codes "SAVED" ∷ [],
-    refl,
-    (
-      codes "--replay" ∷ codes "--library" ∷ codes "SAVED" ∷ [],
-      inl refl,
-      (codes "--library" ∷ codes "SAVED" ∷ [], refl, ([], inr (refl, refl), refl)),
-    ),
-  );
-  fine = record { known = refl; once = (refl, (refl, (refl, (refl, tt)))) };
-  said = refl;
-}
+returns-clause-all c =
+    means_by (codes "--clock" ∷ codes "--text=NOTES" ∷ codes "--replay" ∷ codes "--library" ∷ codes "SAVED" ∷ [])
+    (alone (codes "clock") ∷ with_value (codes "text") (codes "NOTES") ∷ alone (codes "replay") ∷ with_value (codes "library") (codes "SAVED") ∷ [])
+    (record replay_alone { library = Some (codes "SAVED"); text = Some (codes "NOTES"); clock = true }) (
+      codes "--text=NOTES" ∷ codes "--replay" ∷ codes "--library" ∷ codes "SAVED" ∷ [],
+      refl,
+      (
+        codes "--replay" ∷ codes "--library" ∷ codes "SAVED" ∷ [],
+        inl refl,
+        (codes "--library" ∷ codes "SAVED" ∷ [], refl, ([], inr (refl, refl), refl)),
+      ),
+    )
+    (record { known = refl; once = (refl, (refl, (refl, (refl, tt)))) })
+    (four true (Some (codes "SAVED")) (Some (codes "NOTES")) true)
 
 pub returns-clause-hyphen : goal.returns-clause-hyphen
-returns-clause-hyphen c = record { settings = with_value (codes "library") (codes "-x") ∷ []; spelled = ([], inl refl, refl); fine = record { known = refl; once = (refl, tt) }; said = refl }
+returns-clause-hyphen c =
+    means_by (codes "--library=-x" ∷ []) (with_value (codes "library") (codes "-x") ∷ []) (record nothing { library = Some (codes "-x") }) ([], inl refl, refl)
+    (record { known = refl; once = (refl, tt) }) (four false (Some (codes "-x")) None false)
 
 pub returns-clause-equals : goal.returns-clause-equals
-returns-clause-equals c = record { settings = with_value (codes "text") (codes "a=b") ∷ []; spelled = ([], inl refl, refl); fine = record { known = refl; once = (refl, tt) }; said = refl }
+returns-clause-equals c =
+    means_by (codes "--text=a=b" ∷ []) (with_value (codes "text") (codes "a=b") ∷ []) (record nothing { text = Some (codes "a=b") }) ([], inl refl, refl)
+    (record { known = refl; once = (refl, tt) }) (four false None (Some (codes "a=b")) false)
+
+-- a load and its count
+
+five : IsCount (codes "5") 5
+five = record { digits = sym (decimal_digit 5 (omega arith)); some = omega arith; few = omega arith }
+
+most_digits : codes "100000" ≡ decimal 100000
+unfolding digits
+most_digits = refl
+
+past_digits : codes "100001" ≡ decimal 100001
+unfolding digits
+past_digits = refl
+
+most : IsCount (codes "100000") 100000
+most = record { digits = most_digits; some = omega arith; few = omega arith }
+
+pub returns-clause-load : goal.returns-clause-load
+returns-clause-load c =
+    means_by (codes "--load" ∷ codes "5" ∷ []) (with_value (codes "load") (codes "5") ∷ []) (record nothing { load = Some 5 }) ([], inr (refl, refl), refl)
+    (record { known = refl; once = (refl, tt) }) (record { replay = refl; library = refl; text = refl; clock = refl; load = five; single = refl })
+
+pub returns-clause-load_beside : goal.returns-clause-load_beside
+returns-clause-load_beside c =
+    means_by (codes "--clock" ∷ codes "--load=100000" ∷ []) (alone (codes "clock") ∷ with_value (codes "load") (codes "100000") ∷ []) (record nothing { clock = true; load = Some 100000 })
+    (codes "--load=100000" ∷ [], refl, ([], inl refl, refl)) (record { known = refl; once = (refl, (refl, tt)) })
+    (record { replay = refl; library = refl; text = refl; clock = refl; load = most; single = refl })
+
+-- loads of no count, in one word and in two
+
+joined_count : (text : Text) → nat_lt 0 (length text) ≡ true → NoCount text → MeanNothing (joined (codes "load") text ∷ [])
+joined_count text filled none =
+    no_count_means_nothing (joined (codes "load") text ∷ []) (said_by (with_value (codes "load") text ∷ [])) text
+    (say_by (joined (codes "load") text ∷ []) (with_value (codes "load") text ∷ []) ([], inl refl, refl) (record { known = and_from (is_known table (with_value (codes "load") text)) true (value_known table (codes "load") text refl filled) refl; once = (refl, tt) }))
+    refl none
+
+parted_count : (text : Text) → nat_lt 0 (length text) ≡ true → begins_with_hyphen text ≡ false → NoCount text → MeanNothing (hyphened (codes "load") ∷ text ∷ [])
+parted_count text filled plain none =
+    no_count_means_nothing (hyphened (codes "load") ∷ text ∷ []) (said_by (with_value (codes "load") text ∷ [])) text
+    (say_by (hyphened (codes "load") ∷ text ∷ []) (with_value (codes "load") text ∷ []) ([], inr (plain, refl), refl) (record { known = and_from (is_known table (with_value (codes "load") text)) true (value_known table (codes "load") text refl filled) refl; once = (refl, tt) }))
+    refl none
+
+pub returns-clause-load_of_none : goal.returns-clause-load_of_none
+returns-clause-load_of_none c = parted_count (codes "0") refl refl (low_counts_not (codes "0") (omega arith))
+
+pub returns-clause-load_past : goal.returns-clause-load_past
+returns-clause-load_past c = joined_count (codes "100001") refl (other_counts_not (codes "100001") 100001 (omega arith) (omega arith) past_digits)
+
+pub returns-clause-load_zero : goal.returns-clause-load_zero
+returns-clause-load_zero c = parted_count (codes "05") refl refl (low_counts_not (codes "05") (omega arith))
+
+pub returns-clause-load_plus : goal.returns-clause-load_plus
+returns-clause-load_plus c = joined_count (codes "+5") refl (low_counts_not (codes "+5") (omega arith))
+
+pub returns-clause-load_minus : goal.returns-clause-load_minus
+returns-clause-load_minus c = joined_count (codes "-5") refl (low_counts_not (codes "-5") (omega arith))
+
+pub returns-clause-load_replayed : goal.returns-clause-load_replayed
+returns-clause-load_replayed c =
+    both_mean_nothing (codes "--load" ∷ codes "5" ∷ codes "--replay" ∷ []) (said_by (with_value (codes "load") (codes "5") ∷ alone (codes "replay") ∷ [])) (codes "5")
+    (say_by (codes "--load" ∷ codes "5" ∷ codes "--replay" ∷ []) (with_value (codes "load") (codes "5") ∷ alone (codes "replay") ∷ []) (codes "--replay" ∷ [], inr (refl, refl), ([], refl, refl))
+    (record { known = refl; once = (refl, (refl, tt)) }))
+    refl refl
 
 pub returns-clause-hyphen_apart : goal.returns-clause-hyphen_apart
 returns-clause-hyphen_apart c = a_stray_means_nothing (codes "--library" ∷ codes "-x" ∷ []) refl
@@ -86,9 +165,9 @@ fault_workers : fault_of (command_of table) (codes "--workers" ∷ codes "2" ∷
 unfolding clap_on_literals
 fault_workers = refl
 
-fault_load : fault_of (command_of table) (codes "--load" ∷ codes "5" ∷ []) ≡ kind.UnknownArgument ∷ []
+fault_load_twice : fault_of (command_of table) (codes "--load=5" ∷ codes "--load=5" ∷ []) ≡ kind.ArgumentConflict ∷ []
 unfolding clap_on_literals
-fault_load = refl
+fault_load_twice = refl
 
 pub returns-clause-name_apart : goal.returns-clause-name_apart
 returns-clause-name_apart c = faults_mean_nothing (codes "--text" ∷ codes "--clock" ∷ []) kind.InvalidValue [] fault_name_apart
@@ -132,5 +211,5 @@ returns-clause-help c = faults_mean_nothing (codes "--help" ∷ []) kind.Unknown
 pub returns-clause-workers : goal.returns-clause-workers
 returns-clause-workers c = faults_mean_nothing (codes "--workers" ∷ codes "2" ∷ []) kind.UnknownArgument [] fault_workers
 
-pub returns-clause-load : goal.returns-clause-load
-returns-clause-load c = faults_mean_nothing (codes "--load" ∷ codes "5" ∷ []) kind.UnknownArgument [] fault_load
+pub returns-clause-load_twice : goal.returns-clause-load_twice
+returns-clause-load_twice c = faults_mean_nothing (codes "--load=5" ∷ codes "--load=5" ∷ []) kind.ArgumentConflict [] fault_load_twice

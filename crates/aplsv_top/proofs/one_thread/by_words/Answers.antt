@@ -1,0 +1,55 @@
+use Rattle.std.proofs.Common.{◌≡◌, ◌||◌, ◌∙◌, ℕ, Bool, true, false, Option, ap, is_some, refl, subst, sym, true≢false}
+use Rattle.std.proofs.lemmas.Option.{none-some, same_Some}
+use Rattle.aplsv_words.specs.Meaning.{asked_by}
+use Rattle.aplsv_top.specs.Loads.{HasLoadCause, IsLoadAs, IsLoadEnding}
+use Rattle.aplsv_top.proofs.LoadCauses.{load_ends_so}
+use Rattle.aplsv_top.proofs.one_thread.by_words.Goals as goal
+
+or_some : (b : Bool) → (b || true) ≡ false → ⊥
+or_some true e = true≢false e
+or_some false e = true≢false e
+
+or_none : (b : Bool) → (b || false) ≡ b
+or_none true = refl
+or_none false = refl
+
+pub returns-in-Some-clause-load : goal.returns-in-Some-clause-load
+returns-in-Some-clause-load g c = λ n is.
+    let same : c.in-Some.count ≡ n = same_Some c.in-Some.count n (sym c.in-Some.is ∙ is) in
+    subst (λ (m : ℕ). HasLoadCause (IsLoadAs g.C.Clock.told g.C.Clock.faults g.T.TextStore.told g.T.TextStore.faults g.K.Shelf.told g.K.Shelf.faults m (asked_by c.args.words.now) c.args.clock c.loaded.result.clock c.args.text c.loaded.result.text c.args.shelves.items c.loaded.result.shelves.items) c.loaded.result.status (record { bytes = g.W.Sink.held c.args.output.now; faults = g.W.Sink.faults c.args.output.now }) (record { bytes = g.W.Sink.held c.loaded.new.output; faults = g.W.Sink.faults c.loaded.new.output })) same c.loaded.ensures.causes
+
+pub returns-in-Some-clause-causes : goal.returns-in-Some-clause-causes
+returns-in-Some-clause-causes g c = λ none. absurd (none-some c.in-Some.count (sym none ∙ c.in-Some.is))
+
+pub returns-in-Some-clause-usage : goal.returns-in-Some-clause-usage
+returns-in-Some-clause-usage g c = (
+  λ is. absurd (subst IsLoadEnding is c.loaded.ensures.causes.only),
+  λ none. absurd (or_some (asked_by c.args.words.now).replay (ap (λ (load : Option ℕ). (asked_by c.args.words.now).replay || is_some load) (sym c.in-Some.is) ∙ none)),
+)
+
+pub returns-in-Some-clause-unnamed : goal.returns-in-Some-clause-unnamed
+returns-in-Some-clause-unnamed g c = λ none.
+    absurd (or_some (asked_by c.args.words.now).replay (ap (λ (load : Option ℕ). (asked_by c.args.words.now).replay || is_some load) (sym c.in-Some.is) ∙ none))
+
+pub returns-in-Some-clause-devices : goal.returns-in-Some-clause-devices
+returns-in-Some-clause-devices g c = λ done fault memory. absurd (load_ends_so c.loaded.result.status c.loaded.ensures.causes.only done fault memory)
+
+pub returns-in-None-clause-load : goal.returns-in-None-clause-load
+returns-in-None-clause-load g c = λ n is. absurd (none-some n (sym c.in-None.is ∙ is))
+
+pub returns-in-None-clause-load_unread : goal.returns-in-None-clause-load_unread
+returns-in-None-clause-load_unread g c = λ n is. absurd (none-some n (sym c.in-None.is ∙ is))
+
+pub returns-in-None-clause-usage : goal.returns-in-None-clause-usage
+returns-in-None-clause-usage g c =
+    let alone : ((asked_by c.args.words.now).replay || is_some (asked_by c.args.words.now).load) ≡ (asked_by c.args.words.now).replay =
+    ap (λ (load : Option ℕ). (asked_by c.args.words.now).replay || is_some load) c.in-None.is ∙ or_none (asked_by c.args.words.now).replay in (
+      λ is. alone ∙ c.as_asked.ensures.usage.0 is,
+      λ none. c.as_asked.ensures.usage.1 (sym alone ∙ none),
+    )
+
+pub returns-in-None-clause-unnamed : goal.returns-in-None-clause-unnamed
+returns-in-None-clause-unnamed g c = λ none.
+    let alone : ((asked_by c.args.words.now).replay || is_some (asked_by c.args.words.now).load) ≡ (asked_by c.args.words.now).replay =
+    ap (λ (load : Option ℕ). (asked_by c.args.words.now).replay || is_some load) c.in-None.is ∙ or_none (asked_by c.args.words.now).replay in
+    c.as_asked.ensures.unnamed (sym alone ∙ none)
