@@ -1,4 +1,4 @@
-use Rattle.std.proofs.Common.{◌≡◌, ◌||◌, Bool, ℕ, List, ap, is_some, map, string_bytes, sym, subst}
+use Rattle.std.proofs.Common.{◌||◌, Bool, ℕ, List, ap, is_some, map, string_bytes, sym, subst}
 use Rattle.aplsv_words.specs.Meaning.{Means}
 use Rattle.aplsv_top.specs.Words.{AskReplay, AskRun}
 use Rattle.aplsv.proofs.run.Goals as goal
