@@ -21,7 +21,7 @@ use Rattle.bundle_text.specs.Rules.{PlainBundle, IsBundle, IsContent, IsUser, Is
 use Rattle.bundle_text.specs.BundleLine.{PlainLine, input, user, order, file, clock, end, IsReadingText}
 use Rattle.bundle_text.specs.Draft.{PlainDraft, PlainSection, start, of_user, turns, of_file, readings, ended, users_with, files_with, users_of, files_of, takes_content, takes_user, takes_turns, takes_file, has_room, with_line, said, bundle_of, nothing_read}
 use Rattle.bundle_text.specs.Limits.{most_turns, most_files, most_readings}
-use Rattle.bundle_text.specs.Number.{value_of}
+use Rattle.text_reader.specs.Numeral.{value_of}
 use Rattle.bundle_text.specs.User.{PlainUser}
 
 -- the rules, one kind of section after the other

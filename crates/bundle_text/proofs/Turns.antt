@@ -11,7 +11,7 @@ use Rattle.bundle_text.specs.Rules.{IsUser, is_party}
 use Rattle.bundle_text.specs.BundleLine.{IsReadingText}
 use Rattle.bundle_text.specs.Heading.{kept}
 use Rattle.bundle_text.specs.Limits.{greatest_reading}
-use Rattle.bundle_text.specs.Number.{capped, value_of}
+use Rattle.text_reader.specs.Numeral.{capped, value_of}
 use Rattle.bundle_text.specs.User.{PlainUser}
 
 -- a number that is no greater than one of 64 bits is kept as it is

@@ -1,10 +1,11 @@
 -- What holds of the parts of a run.
 use Rattle.std.specs.Prelude.{◌≡◌, ◌≢◌, ℕ, List, ◌∷◌, IsTrue}
 use Rattle.apl_arrays.specs.Array.{PlainArray}
-use Rattle.apl_arrays.specs.Parties.{clock_party, text_party}
 use Rattle.sv_events.specs.Entry.{PlainEntry}
+use Rattle.sv_rules.specs.Auxiliaries.{party_of}
 use Rattle.sv_rules.specs.Entries.{Entries}
 use Rattle.sv_rules.specs.Legal.{IsLegal}
+use Rattle.sv_rules.specs.declared.auxiliary.AuxiliaryKind.{AuxiliaryKind}
 use Rattle.bundle_text.specs.Rules.{PlainBundle}
 use Rattle.bundle_text.specs.User.{PlainUser}
 use Rattle.sv_journal.specs.Output.{PlainTranscript}
@@ -35,4 +36,4 @@ PartsMakeOneTranscript =
 abbrev pub NothingFollowsTheLastLeave : Type 0
 NothingFollowsTheLastLeave =
     (users : List ℕ) (journal : Entries) (e : PlainEntry) → IsLegal users (e ∷ journal)
-    → IsTrue (acts_among users clock_party (e ∷ journal)) → IsTrue (acts_among users text_party (e ∷ journal)) → IsTrue (some_stay users journal)
+    → ((kind : AuxiliaryKind) → IsTrue (acts_among users (party_of kind) (e ∷ journal))) → IsTrue (some_stay users journal)

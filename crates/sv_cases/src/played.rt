@@ -1,4 +1,5 @@
 ghost use Rattle.std.specs.Prelude.{◌≡◌, Bool, None, Some, IsTrue, IfOk, IfSome, not, false, true};
+ghost use Rattle.apl_arrays.specs.Parties.{is_user_number};
 ghost use Rattle.sv_core.specs.Core.{ArePeople};
 ghost use Rattle.sv_events.specs.Row.{act_row};
 ghost use Rattle.sv_events.specs.declared.work.Work.TheVariants.{Reply};
@@ -12,7 +13,7 @@ use crate::journals::{entries_of, users_of, verdict};
 use crate::retries::{still_held_are_told, try_again};
 use crate::told::is_told;
 use anyhow::{Result, bail};
-use apl_arrays::{Array, Name};
+use apl_arrays::{Array, FIRST_USER, LAST_USER, Name};
 use case_tables::Trial;
 use std::alloc::Global;
 use sv_core::Core;
@@ -133,11 +134,18 @@ fn made_count(alloc: Global, users: &[u32], entries: &[Entry]) -> Result<usize>
     made
 }
 
-// Whether no user is an auxiliary.
+// Whether it is the number of a user.
+fn is_user_number(number: u32) -> bool
+    ensures { result ≡ is_user_number number }
+{
+    FIRST_USER <= number && number <= LAST_USER
+}
+
+// Whether all are.
 fn are_people(users: &[u32]) -> bool
     ensures { IsTrue result → ArePeople users.now }
 {
-    users.iter().all(|user| !is_auxiliary(*user))
+    users.iter().all(|user| is_user_number(*user))
 }
 
 impl Trial for Played {
@@ -152,7 +160,7 @@ impl Trial for Played {
         let users = users_of(alloc, *users)?;
         let entries = entries_of(alloc, *journal)?;
         if !are_people(&users) {
-            bail!("an auxiliary is no user");
+            bail!("users are 1001 to 1999");
         }
         let made = made_count(alloc, &users, &entries)?;
         verdict(alloc, made, entries.len())

@@ -1,12 +1,12 @@
 use Rattle.std.specs.Prelude.{◌≡◌, Option, Some, None, Contains, IsTrue}
 use Rattle.sv_access.specs.declared.access.Side.{Side}
 use Rattle.sv_access.specs.declared.access.Side.TheVariants.{A, B}
-use Rattle.sv_story.specs.Share.{PlainShare, IsShareOf}
-use Rattle.sv_cells.specs.Cells.{cell_at}
-use Rattle.sv_cells.specs.declared.cell.Cell.{Cell}
-use Rattle.sv_cells.specs.declared.cell.Held.{Held}
-use Rattle.sv_cells.specs.declared.cell.Held.TheVariants.{Alone, Shared, Lent}
-use Rattle.sv_cells.specs.declared.cells.Cells.{Cells}
+use Rattle.sv_kept.specs.Share.{PlainShare, IsShareOf}
+use Rattle.sv_kept.specs.Cells.{cell_at}
+use Rattle.sv_kept.specs.declared.cell.Cell.{Cell}
+use Rattle.sv_kept.specs.declared.cell.Held.{Held}
+use Rattle.sv_kept.specs.declared.cell.Held.TheVariants.{Alone, Shared, Lent}
+use Rattle.sv_kept.specs.declared.cells.Cells.{Cells}
 use Rattle.sv_rules.specs.Control.{side_at, vector_of}
 use Rattle.sv_rules.specs.Coupling.{coupling_now}
 use Rattle.sv_rules.specs.Entries.{Entries}

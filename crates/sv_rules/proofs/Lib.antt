@@ -1,2 +1,3 @@
 pub mod HoldLemmas
 pub mod JournalLemmas
+pub mod TableLemmas

@@ -1,3 +1,5 @@
+pub mod Auxiliaries
+pub mod Limits
 pub mod Entries
 pub mod Journal
 pub mod Standing

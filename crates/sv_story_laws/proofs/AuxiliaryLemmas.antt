@@ -180,7 +180,7 @@ uses_only offer e local is got h = by got.kind got.value (IsAccessOn-from_access
     by kind.Set v on = absurd (let no : Use local ≡ Set offer.local v = sym is ∙ on.0 in cc)
 
 -- an entry that does not try to access the offer does not
-untried : (offer : Standing) (e : PlainEntry) → tries offer e ≡ false → access_on offer e ≡ None
+pub untried : (offer : Standing) (e : PlainEntry) → tries offer e ≡ false → access_on offer e ≡ None
 untried offer e h = elim (cases_Bool (eqb e.party offer.party)) [
   | inl own ↦ rw own (by (act_row e.act).row.accesses (rw own at h))
   | inr others ↦ rw others refl

@@ -93,7 +93,7 @@ fn act(core: &mut Core, session: &mut Session<MemoryShelf>, user: u32, act: Act)
 }
 
 // The answer to a user that tries the act again for which it waits, or none where it waits for none.
-#[tactic(auto, using(crate::proofs::RetryLemmas::users_stay))]
+#[tactic(auto, using(sv_core::proofs::RetryLemmas::users_stay))]
 fn retried(core: &mut Core, user: u32) -> Result<Option<Retry>>
     ensures { core.new.users ≡ core.old.users }
 {
