@@ -15,7 +15,7 @@ use Rattle.bundle_text.specs.User.{PlainUser}
 use Rattle.sv_core.specs.Core.{ArePeople, PlainCore}
 use Rattle.sv_rules.specs.Entries.{Entries, has_left}
 use Rattle.sv_rules.specs.Legal.{is_user}
-use Rattle.sv_rules.specs.Work.{is_auxiliary}
+use Rattle.aux_parties.specs.Auxiliaries.{is_auxiliary}
 use Rattle.session_rules.specs.Auxiliaries.{acts_among, events_of, some_stay}
 use Rattle.session_rules.specs.Run.{Dealings, user_numbers}
 use Rattle.aplsv_replay.specs.Participants.{users_of}

@@ -19,7 +19,7 @@ use Rattle.sv_events.specs.Entry.{PlainEntry}
 use Rattle.sv_journal.specs.Output.{PlainTranscript}
 use Rattle.sv_rules.specs.Entries.{Entries, has_left}
 use Rattle.sv_rules.specs.Legal.{IsLegal}
-use Rattle.sv_rules.specs.Work.{is_auxiliary}
+use Rattle.aux_parties.specs.Auxiliaries.{is_auxiliary}
 use Rattle.session_rules.specs.Auxiliaries.{IsAuxiliaryPart, acts_among, events_of, some_stay}
 use Rattle.session_rules.specs.Run.{AreUserParts, Dealings, IsRun, ServeUsers, user_numbers}
 use Rattle.session_rules.specs.Shelf.{Exchange, IsShelfRun}

@@ -12,7 +12,8 @@ use Rattle.sv_events.specs.declared.event.Act.{Act}
 use Rattle.sv_rules.specs.Entries.{Entries, counted_entries, has_left, held_elements, is_full, is_held, is_leave, kind_of}
 use Rattle.sv_rules.specs.Legal.{act_due, answer_to, is_still_held, is_user, journal_after, may_do, retried}
 use Rattle.sv_rules.specs.Refused.{awaited, still_refused, waits}
-use Rattle.sv_rules.specs.Work.{is_auxiliary, is_stuck}
+use Rattle.aux_parties.specs.Auxiliaries.{is_auxiliary}
+use Rattle.sv_rules.specs.Work.{is_stuck}
 use Rattle.sv_core.specs.Core.{ArePeople, PlainCore}
 use Rattle.sv_core.specs.Retry.{core_retried}
 use Rattle.session_rules.specs.Session.{session_of}

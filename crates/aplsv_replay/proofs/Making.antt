@@ -11,7 +11,7 @@ use Rattle.sv_rules.specs.Entries.{Entries, has_left, is_full, is_leave}
 use Rattle.sv_rules.specs.Legal.{answer_to, entry_for, is_still_held, is_user, journal_after, retried}
 use Rattle.sv_rules.specs.Outcome.{outcome}
 use Rattle.sv_rules.specs.Refused.{awaited}
-use Rattle.sv_rules.specs.Work.{is_auxiliary}
+use Rattle.aux_parties.specs.Auxiliaries.{is_auxiliary}
 use Rattle.sv_core.specs.Core.{ArePeople, PlainCore}
 use Rattle.sv_core.specs.Retry.{core_retried, journal_retried}
 use Rattle.aplsv_replay.specs.SoFar.{GrowsBy}

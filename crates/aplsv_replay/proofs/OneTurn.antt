@@ -4,9 +4,8 @@ use Rattle.apl_arrays.specs.Array.{PlainArray}
 use Rattle.session_rules.specs.Auxiliaries.{some_stay}
 use Rattle.session_rules.specs.Behind.{Behind, forgets_of, replies_of}
 use Rattle.sv_core.specs.Core.{PlainCore}
-use Rattle.sv_rules.specs.Auxiliaries.{party_of}
-use Rattle.sv_rules.specs.Work.{is_auxiliary}
-use Rattle.sv_rules.specs.declared.auxiliary.AuxiliaryKind.{AuxiliaryKind}
+use Rattle.aux_parties.specs.Auxiliaries.{is_auxiliary, party_of}
+use Rattle.aux_parties.specs.declared.auxiliary.AuxiliaryKind.{AuxiliaryKind}
 use Rattle.aplsv_replay.specs.SoFar.{GrowsBy, HasAnswered, IsIdleIf, IsServed}
 use Rattle.aplsv_replay.specs.Together.{AreOfSomeBundle, LeavesLess, TookAuxiliaryTurn, auxiliary_of}
 use Rattle.aplsv_replay.specs.declared.auxiliary.Auxiliary.{Auxiliary}

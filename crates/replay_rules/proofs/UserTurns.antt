@@ -26,7 +26,7 @@ use Rattle.replay_rules.proofs.Retrying.{waiters_are_answered}
 pub turn_is : (numbers : List ℕ) (journal : Entries) (user : Participant) (act : Act) (waiting : Bool) → has_left journal user.number ≡ false → Asks user act → waits journal user.number ≡ waiting
     → turn numbers journal user ≡ act_made waiting numbers journal user act
 turn_is numbers journal user act waiting present asks is =
-    ap (λ (left : Bool). turn_by left (session_of user.lines user.answers).waits numbers journal user) present
+    ap (λ (left : Bool). turn_by left (session_of user.lines user.answers user.replies).waits numbers journal user) present
     ∙ ap (λ (next : Option Act). turn_by false next numbers journal user) asks
     ∙ ap (λ (w : Bool). act_made w numbers journal user act) is
 
@@ -132,11 +132,11 @@ module _ (numbers : List ℕ) (journal : Entries) (user : Participant) (next : A
 
 -- a user that has left, and one whose lines ask no act
 left_is : (numbers : List ℕ) (journal : Entries) (user : Participant) → has_left journal user.number ≡ true → turn numbers journal user ≡ (let t : Turn = record { journal = journal; user = user } in t)
-left_is numbers journal user left = ap (λ (b : Bool). turn_by b (session_of user.lines user.answers).waits numbers journal user) left
+left_is numbers journal user left = ap (λ (b : Bool). turn_by b (session_of user.lines user.answers user.replies).waits numbers journal user) left
 
-pub last_turn : (numbers : List ℕ) (journal : Entries) (user : Participant) → has_left journal user.number ≡ false → (session_of user.lines user.answers).waits ≡ None → turn numbers journal user ≡ turn_by false None numbers journal user
+pub last_turn : (numbers : List ℕ) (journal : Entries) (user : Participant) → has_left journal user.number ≡ false → (session_of user.lines user.answers user.replies).waits ≡ None → turn numbers journal user ≡ turn_by false None numbers journal user
 last_turn numbers journal user present asks =
-    ap (λ (left : Bool). turn_by left (session_of user.lines user.answers).waits numbers journal user) present
+    ap (λ (left : Bool). turn_by left (session_of user.lines user.answers user.replies).waits numbers journal user) present
     ∙ ap (λ (next : Option Act). turn_by false next numbers journal user) asks
 
 -- in a full journal a user hears Full, whether it waits or not
@@ -148,9 +148,9 @@ full_turn numbers journal user act limit present asks = by (waits journal user.n
     by false free = turn_is numbers journal user act false present asks free ∙ made_when numbers journal user act true limit
 
 pub users_take_turns : UsersTakeTurns
-users_take_turns numbers journal user = by (has_left journal user.number) refl (session_of user.lines user.answers).waits refl (awaited journal user.number) refl
+users_take_turns numbers journal user = by (has_left journal user.number) refl (session_of user.lines user.answers user.replies).waits refl (awaited journal user.number) refl
   where
-    by : (left : Bool) → has_left journal user.number ≡ left → (next : Option Act) → (session_of user.lines user.answers).waits ≡ next → (waited : Option Act) → awaited journal user.number ≡ waited →
+    by : (left : Bool) → has_left journal user.number ≡ left → (next : Option Act) → (session_of user.lines user.answers user.replies).waits ≡ next → (waited : Option Act) → awaited journal user.number ≡ waited →
         IsUserTurn numbers journal user (turn numbers journal user)
     by true left next asks waited is = has_gone left (left_is numbers journal user left)
     by false present None asks waited is = leaves present asks (last_turn numbers journal user present asks)

@@ -8,13 +8,13 @@ use Rattle.sv_events.specs.declared.event.Act.{Act}
 use Rattle.sv_events.specs.declared.event.Act.TheVariants.{Leave}
 use Rattle.sv_events.specs.declared.work.Work.{Work}
 use Rattle.sv_events.specs.declared.work.Work.TheVariants as work
-use Rattle.sv_rules.specs.Auxiliaries.{auxiliaries, party_of}
+use Rattle.aux_parties.specs.Auxiliaries.{auxiliaries, is_auxiliary, party_of}
 use Rattle.sv_rules.specs.Entries.{Entries, has_left, is_held, kind_of, next_place}
 use Rattle.sv_rules.specs.Legal.{answer_to, entry_for, journal_after, retried}
 use Rattle.sv_rules.specs.Refused.{waits}
-use Rattle.sv_rules.specs.Work.{is_auxiliary, work_of}
-use Rattle.sv_rules.specs.declared.auxiliary.AuxiliaryKind.{AuxiliaryKind}
-use Rattle.sv_rules.specs.declared.auxiliary.AuxiliaryRow.{AuxiliaryRow}
+use Rattle.sv_rules.specs.Work.{work_of}
+use Rattle.aux_parties.specs.declared.auxiliary.AuxiliaryKind.{AuxiliaryKind}
+use Rattle.aux_parties.specs.declared.auxiliary.AuxiliaryRow.{AuxiliaryRow}
 use Rattle.sv_core.specs.Retry.{core_retried}
 use Rattle.bundle_text.specs.Rules.{PlainBundle}
 use Rattle.bundle_text.specs.User.{PlainUser}

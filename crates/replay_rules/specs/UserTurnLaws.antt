@@ -51,7 +51,7 @@ pub data TriesAgain (numbers : List ℕ) (journal : Entries) (user : Participant
 -- tries again the one that it waits for
 pub data IsUserTurn (numbers : List ℕ) (journal : Entries) (user : Participant) (after : Turn) : Type 0 where
   has_gone : IsTrue (has_left journal user.number) → after ≡ passed journal user → IsUserTurn numbers journal user after
-  leaves : has_left journal user.number ≡ false → (session_of user.lines user.answers).waits ≡ None → after ≡ entered journal user act.Leave → IsUserTurn numbers journal user after
+  leaves : has_left journal user.number ≡ false → (session_of user.lines user.answers user.replies).waits ≡ None → after ≡ entered journal user act.Leave → IsUserTurn numbers journal user after
   makes : (made : Act) → has_left journal user.number ≡ false → Asks user made → awaited journal user.number ≡ None → MakesAct journal user made after → IsUserTurn numbers journal user after
   tries : (next waited : Act) → has_left journal user.number ≡ false → Asks user next → awaited journal user.number ≡ Some waited → TriesAgain numbers journal user waited after → IsUserTurn numbers journal user after
 

@@ -2,11 +2,10 @@
 use Rattle.std.proofs.Common.{◌≡◌, ℕ, ◌==◌, ◌||◌, Bool, true, false, not, List, [], ◌∷◌, IsTrue, inl, inr, sym, ap, subst, ◌∙◌}
 use Rattle.std.proofs.lemmas.Bool.{and_parts, eq-eqb, eqb-true, or_cases, or_left, or_right}
 use Rattle.sv_events.specs.Entry.{PlainEntry}
-use Rattle.sv_rules.specs.Auxiliaries.{party_of}
+use Rattle.aux_parties.specs.Auxiliaries.{is_auxiliary, party_of}
 use Rattle.sv_rules.specs.Entries.{Entries, has_left}
 use Rattle.sv_rules.specs.Legal.{is_user}
-use Rattle.sv_rules.specs.Work.{is_auxiliary}
-use Rattle.sv_rules.proofs.TableLemmas.{kind_of_party}
+use Rattle.aux_parties.proofs.TableLemmas.{kind_of_party}
 use Rattle.session_rules.specs.Auxiliaries.{acts_among, some_stay}
 use Rattle.session_rules.specs.RunLaws.{NothingFollowsTheLastLeave}
 

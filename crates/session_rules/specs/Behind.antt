@@ -1,8 +1,8 @@
 -- What answers behind the auxiliaries of a run: something of one type behind the clock, and something of another behind text files.
 use Rattle.std.specs.Prelude.{ℕ}
 use Rattle.apl_arrays.specs.Array.{PlainArray}
-use Rattle.sv_rules.specs.declared.auxiliary.AuxiliaryKind.{AuxiliaryKind}
-use Rattle.sv_rules.specs.declared.auxiliary.AuxiliaryKind.TheVariants.{Clock, TextFiles}
+use Rattle.aux_parties.specs.declared.auxiliary.AuxiliaryKind.{AuxiliaryKind}
+use Rattle.aux_parties.specs.declared.auxiliary.AuxiliaryKind.TheVariants.{Clock, TextFiles}
 
 -- the states of what answers behind an auxiliary
 abbrev pub Behind : Type 0 → Type 0 → AuxiliaryKind → Type 0

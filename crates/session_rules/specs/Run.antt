@@ -2,10 +2,10 @@
 use Rattle.std.specs.Prelude.{◌≡◌, ℕ, List, [], ◌∷◌, Option, map}
 use Rattle.apl_arrays.specs.Array.{PlainArray}
 use Rattle.apl_io.specs.Content.{Told}
-use Rattle.sv_rules.specs.Auxiliaries.{party_of}
+use Rattle.aux_parties.specs.Auxiliaries.{party_of}
 use Rattle.sv_rules.specs.Entries.{Entries}
 use Rattle.sv_rules.specs.Legal.{IsLegal}
-use Rattle.sv_rules.specs.declared.auxiliary.AuxiliaryKind.{AuxiliaryKind}
+use Rattle.aux_parties.specs.declared.auxiliary.AuxiliaryKind.{AuxiliaryKind}
 use Rattle.bundle_text.specs.Rules.{PlainBundle}
 use Rattle.bundle_text.specs.User.{PlainUser}
 use Rattle.sv_journal.specs.Output.{PlainTranscript}

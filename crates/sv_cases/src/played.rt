@@ -6,7 +6,7 @@ ghost use Rattle.sv_events.specs.declared.work.Work.TheVariants.{Reply};
 ghost use Rattle.sv_rules.specs.Entries.{has_left, is_leave};
 ghost use Rattle.sv_rules.specs.Legal.{act_for, is_user};
 ghost use Rattle.sv_rules.specs.Refused.{awaited};
-ghost use Rattle.sv_rules.specs.Work.{is_auxiliary};
+ghost use Rattle.aux_parties.specs.Auxiliaries.{is_auxiliary};
 
 use crate::equal::is_equal;
 use crate::journals::{entries_of, users_of, verdict};
@@ -14,11 +14,12 @@ use crate::retries::{still_held_are_told, try_again};
 use crate::told::is_told;
 use anyhow::{Result, bail};
 use apl_arrays::{Array, FIRST_USER, LAST_USER, Name};
+use aux_parties::is_auxiliary;
 use case_tables::Trial;
 use std::alloc::Global;
 use sv_core::Core;
 use sv_events::{Act, Entry, Retry, Work, act_of};
-use sv_rules::{is_auxiliary, is_leave};
+use sv_rules::is_leave;
 
 /// Journals that the processor makes, an entry after another: `legal`, or the number of the first that it makes
 /// otherwise, or not at all. What an auxiliary does is its work, of which it has to be told what the entries say. Before

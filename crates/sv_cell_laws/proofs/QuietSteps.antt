@@ -30,7 +30,8 @@ use Rattle.sv_rules.specs.Outcome.{Outcome, outcome, answer_only, joined_to, off
 use Rattle.sv_rules.specs.Refused.{hold_of, hold_on, waits}
 use Rattle.sv_rules.specs.Standing.{standing, own_offer, offer_count, with_offer}
 use Rattle.sv_rules.specs.Story.{GrantedAccess, access_on, granted_on}
-use Rattle.sv_rules.specs.Work.{is_auxiliary, tries}
+use Rattle.aux_parties.specs.Auxiliaries.{is_auxiliary}
+use Rattle.sv_rules.specs.Work.{tries}
 use Rattle.sv_rules.specs.declared.standing.Standing.{Standing}
 use Rattle.sv_offer_laws.proofs.ChangeLemmas.{none_ends}
 use Rattle.sv_offer_laws.proofs.OfferLemmas.{couplings_stay}

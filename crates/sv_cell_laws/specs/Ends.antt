@@ -16,7 +16,7 @@ use Rattle.sv_rules.specs.Coupling.{coupling_at, coupling_now, couplings}
 use Rattle.sv_rules.specs.Entries.{Entries}
 use Rattle.sv_rules.specs.Legal.{IsLegal}
 use Rattle.sv_rules.specs.Standing.{is_ended, standing}
-use Rattle.sv_rules.specs.Work.{is_auxiliary}
+use Rattle.aux_parties.specs.Auxiliaries.{is_auxiliary}
 use Rattle.sv_rules.specs.declared.coupling.Coupling.{Coupling}
 use Rattle.sv_rules.specs.declared.coupling.Made.{Made}
 use Rattle.sv_rules.specs.declared.standing.Standing.{Standing}

@@ -23,7 +23,8 @@ use Rattle.sv_rules.specs.Coupling.{coupling_now, couplings, pair_of}
 use Rattle.sv_rules.specs.Entries.{Entries, next_place}
 use Rattle.sv_rules.specs.Standing.{standing}
 use Rattle.sv_rules.specs.Story.{GrantedAccess, access_on, known_after}
-use Rattle.sv_rules.specs.Work.{is_auxiliary, gets_value, tries}
+use Rattle.aux_parties.specs.Auxiliaries.{is_auxiliary}
+use Rattle.sv_rules.specs.Work.{gets_value, tries}
 use Rattle.sv_rules.specs.declared.coupling.Coupling.{Coupling}
 use Rattle.sv_rules.specs.declared.standing.Standing.{Standing}
 use Rattle.sv_kept.specs.Share.{PlainShare, after_access, share_of}

@@ -29,7 +29,8 @@ use Rattle.sv_rules.specs.Entries.{Entries, has_left, is_full, is_leave, next_pl
 use Rattle.sv_rules.specs.Legal.{IsLegal, MayFollow, act_due, entry_for, is_user, reply_in}
 use Rattle.sv_rules.specs.Refused.{awaited}
 use Rattle.sv_rules.specs.Standing.{own_offer, standing, without_ended}
-use Rattle.sv_rules.specs.Work.{is_auxiliary, work_of}
+use Rattle.aux_parties.specs.Auxiliaries.{is_auxiliary}
+use Rattle.sv_rules.specs.Work.{work_of}
 use Rattle.sv_rules.specs.declared.standing.Standing.{Standing}
 use Rattle.sv_kept.specs.Share.{share_of}
 use Rattle.sv_story_laws.proofs.StepLemmas.{leaves_may_follow, steps_may_follow, work_may_follow}

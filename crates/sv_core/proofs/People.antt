@@ -5,8 +5,8 @@ use Rattle.std.proofs.lemmas.Bool.{and_parts, eqb-true, leb-true, or_cases}
 use Rattle.std.proofs.lemmas.List.Elements.{All-head, All-tail, All-weaker}
 use Rattle.apl_arrays.specs.Parties.{first_user, is_user_number, last_user}
 use Rattle.sv_rules.specs.Legal.{is_user}
-use Rattle.sv_rules.specs.Work.{is_auxiliary}
-use Rattle.sv_rules.proofs.TableLemmas.{users_are_no_auxiliaries}
+use Rattle.aux_parties.specs.Auxiliaries.{is_auxiliary}
+use Rattle.aux_parties.proofs.TableLemmas.{users_are_no_auxiliaries}
 use Rattle.sv_core.specs.Core.{ArePeople}
 
 -- a user's number is no auxiliary's

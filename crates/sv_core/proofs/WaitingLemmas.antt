@@ -17,7 +17,7 @@ use Rattle.sv_rules.specs.Journal.{journal_of}
 use Rattle.sv_rules.specs.Legal.{IsLegal, is_user}
 use Rattle.sv_rules.specs.Outcome.{outcome}
 use Rattle.sv_rules.specs.Refused.{awaited, waits}
-use Rattle.sv_rules.specs.Work.{is_auxiliary}
+use Rattle.aux_parties.specs.Auxiliaries.{is_auxiliary}
 use Rattle.sv_story_laws.specs.StepLaws.{IsPresent}
 use Rattle.sv_story_laws.proofs.AnswerLemmas.{holds_are_given_or_given_up}
 use Rattle.sv_story_laws.proofs.AuxiliaryLemmas.{auxiliaries_are_never_refused}

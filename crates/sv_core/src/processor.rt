@@ -8,7 +8,8 @@ ghost use Rattle.sv_rules.specs.Entries.{has_left, is_full, is_leave};
 ghost use Rattle.sv_rules.specs.Journal.{journal_of};
 ghost use Rattle.sv_rules.specs.Legal.{IsLegal, act_due, answer_to, is_still_held, is_user, journal_after, retried};
 ghost use Rattle.sv_rules.specs.Refused.{awaited, still_refused, waits};
-ghost use Rattle.sv_rules.specs.Work.{is_auxiliary, is_stuck};
+ghost use Rattle.aux_parties.specs.Auxiliaries.{is_auxiliary};
+ghost use Rattle.sv_rules.specs.Work.{is_stuck};
 ghost use Rattle.sv_kept.specs.Member.{waiting_at};
 
 use crate::leaves::{spare_lists, take_spare};

@@ -9,12 +9,14 @@ ghost use Rattle.sv_rules.specs.Refused.{hold_of, hold_on, refused, still_refuse
 ghost use Rattle.sv_rules.specs.Standing.{offer_count, own_offer, standing};
 ghost use Rattle.sv_rules.specs.declared.coupling.Coupling.{Coupling};
 ghost use Rattle.sv_rules.specs.declared.standing.Standing.{Standing};
-ghost use Rattle.sv_rules.specs.Work.{first_coupled, has_unseen, is_auxiliary, is_halted, is_stuck, lacks_control, most_counters, owes_reply, rests, to_counter, work_due, work_of};
+ghost use Rattle.aux_parties.specs.Auxiliaries.{is_auxiliary, most_counters};
+ghost use Rattle.sv_rules.specs.Work.{first_coupled, has_unseen, is_halted, is_stuck, lacks_control, owes_reply, rests, to_counter, work_due, work_of};
 
 use crate::Core;
 use apl_arrays::Array;
+use aux_parties::{AUXILIARIES, AuxiliaryRow, most_counters};
 use sv_events::{Accessing, Act, Work};
-use sv_rules::{AUXILIARIES, AuxiliaryRow, Coupling, Standing, most_counters};
+use sv_rules::{Coupling, Standing};
 
 impl Core {
     /// The work of an auxiliary: none where the journal is full. No memory.

@@ -10,9 +10,10 @@ ghost use Rattle.sv_rules.specs.Work.{is_halted, is_idle, is_stuck, rests};
 use crate::holding::hold_on;
 use crate::{couplings_of, standing_offers, work_of};
 use apl_arrays::WantOfMemory;
+use aux_parties::{AUXILIARIES, AuxiliaryRow};
 use std::alloc::Global;
 use sv_events::{Act, Entry, Hold, Work};
-use sv_rules::{AUXILIARIES, AuxiliaryRow, has_left, is_held, own_offer};
+use sv_rules::{has_left, is_held, own_offer};
 
 /// What refuses an act of a party, if anything does. It takes memory for the offers and the couplings of each entry in
 /// turn.

@@ -1,3 +1,2 @@
 pub mod HoldLemmas
 pub mod JournalLemmas
-pub mod TableLemmas

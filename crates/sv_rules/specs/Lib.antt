@@ -1,4 +1,3 @@
-pub mod Auxiliaries
 pub mod Limits
 pub mod Entries
 pub mod Journal

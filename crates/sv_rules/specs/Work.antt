@@ -7,7 +7,7 @@ use Rattle.sv_events.specs.Entry.{PlainEntry}
 use Rattle.sv_events.specs.Row.{act_row}
 use Rattle.sv_events.specs.declared.work.Work.{Work}
 use Rattle.sv_events.specs.declared.work.Work.TheVariants as work
-use Rattle.sv_rules.specs.Auxiliaries.{auxiliaries, auxiliary_at, has_row}
+use Rattle.aux_parties.specs.Auxiliaries.{auxiliaries, most_counters}
 use Rattle.sv_rules.specs.Control.{control_on, side_at}
 use Rattle.sv_rules.specs.Coupling.{couplings, is_coupled, coupling_now, open_to}
 use Rattle.apl_arrays.specs.Name.{same_name}
@@ -15,13 +15,9 @@ use Rattle.sv_rules.specs.Entries.{Entries, since, is_full, has_left}
 use Rattle.sv_rules.specs.Refused.{still_refused}
 use Rattle.sv_rules.specs.Standing.{standing, offer_count}
 use Rattle.sv_rules.specs.Story.{access_on, story}
-use Rattle.sv_rules.specs.declared.auxiliary.AuxiliaryRow.{AuxiliaryRow}
+use Rattle.aux_parties.specs.declared.auxiliary.AuxiliaryRow.{AuxiliaryRow}
 use Rattle.sv_rules.specs.declared.coupling.Coupling.{Coupling}
 use Rattle.sv_rules.specs.declared.standing.Standing.{Standing}
-
--- the party is an auxiliary: the table has a row for it
-abbrev pub is_auxiliary : ℕ → Bool
-is_auxiliary party = has_row auxiliaries party
 
 -- the offers of a party that stand, by place
 abbrev pub own_offers : Entries → ℕ → List Standing
@@ -55,10 +51,6 @@ owes_reply journal offer coupling = option_map_or (gets_value offer) (find (trie
 -- a set of the partner is unseen
 abbrev pub has_unseen : Entries → Standing → Coupling → Bool
 has_unseen journal offer coupling = is_unseen (other_side (side_at coupling offer.place)) (story journal coupling)
-
--- how many counter-offers of an auxiliary may stand, as the table has it; of another party none
-abbrev pub most_counters : ℕ → ℕ
-most_counters party = option_map_or (λ row. row.counters) (auxiliary_at party) 0
 
 -- the open offer of the lowest place that is made to the auxiliary, where it may have one offer more
 abbrev pub to_counter : Entries → ℕ → Option Standing

@@ -1,7 +1,6 @@
 //! Which entry may follow a journal. The definitions stand in `specs/`; here are the look-ups that compute them.
 #![tactic(auto)]
 
-mod auxiliary;
 mod control;
 mod coupling;
 mod entries;
@@ -13,10 +12,6 @@ mod weight;
 mod work;
 
 pub use apl_arrays::OFFER_LIMIT;
-pub use auxiliary::{
-    AUXILIARIES, AuxiliaryKind, AuxiliaryRow, CLOCK_PARTY, TEXT_PARTY,
-    auxiliaries_are_ten_and_twenty, auxiliary_at, is_auxiliary, most_counters,
-};
 pub use control::{control_on, hold_by_state, refusal_answer, side_at};
 pub use coupling::{
     Coupling, Made, both_stand, coupling_at, degree_at, is_coupled, keep_couplings, open_match,

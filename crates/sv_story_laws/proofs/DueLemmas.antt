@@ -12,15 +12,15 @@ use Rattle.sv_events.specs.declared.event.Act.{Act}
 use Rattle.sv_events.specs.declared.event.Act.TheVariants.{Offer, Retract, SetControl, Set, Use}
 use Rattle.sv_events.specs.declared.work.Work.{Work}
 use Rattle.sv_events.specs.declared.work.Work.TheVariants as work
-use Rattle.sv_rules.specs.Auxiliaries.{party_of, row_of}
+use Rattle.aux_parties.specs.Auxiliaries.{is_auxiliary, most_counters, party_of, row_of}
 use Rattle.sv_rules.specs.Coupling.{couplings, is_coupled}
 use Rattle.sv_rules.specs.Entries.{Entries, next_place, is_full}
 use Rattle.sv_rules.specs.Legal.{IsLegal, act_due, act_for}
 use Rattle.sv_rules.specs.Standing.{standing, offer_count}
-use Rattle.sv_rules.specs.Work.{is_auxiliary, first_open, first_coupled, lacks_control, owes_reply, has_unseen, most_counters, to_counter, work_due, work_of}
-use Rattle.sv_rules.specs.declared.auxiliary.AuxiliaryKind.{AuxiliaryKind}
+use Rattle.sv_rules.specs.Work.{first_open, first_coupled, lacks_control, owes_reply, has_unseen, to_counter, work_due, work_of}
+use Rattle.aux_parties.specs.declared.auxiliary.AuxiliaryKind.{AuxiliaryKind}
 use Rattle.sv_rules.specs.declared.standing.Standing.{Standing}
-use Rattle.sv_rules.proofs.TableLemmas.{kind_of_party, rows_allow}
+use Rattle.aux_parties.proofs.TableLemmas.{kind_of_party, rows_allow}
 use Rattle.sv_story_laws.specs.WorkLaws.{HoldsOfNone, IsFirstThatApplies, IsLowest, IsOwnOpen, IsToCounter, MayCounter, LacksControl, OwesReply, HasUnseen}
 use Rattle.sv_story_laws.proofs.WorkLemmas.{find-of_filter, first_is_lowest, lowest_by, first_open_is_lowest, first_coupled_is_lowest}
 

@@ -13,12 +13,12 @@ use Rattle.sv_events.specs.declared.event.Act.TheVariants.{Leave}
 use Rattle.sv_events.specs.declared.event.Hold.{Hold}
 use Rattle.sv_events.specs.declared.work.Work.{Work}
 use Rattle.sv_events.specs.declared.work.Work.TheVariants as work
-use Rattle.sv_rules.specs.Auxiliaries.{auxiliaries, party_of}
+use Rattle.aux_parties.specs.Auxiliaries.{auxiliaries, is_auxiliary, party_of}
 use Rattle.sv_rules.specs.Entries.{Entries, next_place, has_left, is_leave, kind_of, is_held}
 use Rattle.sv_rules.specs.Legal.{IsLegal, act_due, act_for, may_do, is_user}
 use Rattle.sv_rules.specs.Refused.{awaited, still_refused}
-use Rattle.sv_rules.specs.Work.{is_auxiliary, is_halted, is_idle, is_stuck, rests, work_of}
-use Rattle.sv_rules.proofs.TableLemmas.{all_pass, each_passes, of_kinds, of_rows}
+use Rattle.sv_rules.specs.Work.{is_halted, is_idle, is_stuck, rests, work_of}
+use Rattle.aux_parties.proofs.TableLemmas.{all_pass, each_passes, of_kinds, of_rows}
 use Rattle.sv_story_laws.specs.WaitLaws.{HasNone, IsStuck}
 use Rattle.sv_offer_laws.proofs.Members.{Contains-head, Contains-behind, Contains-cons_cases, list_any_member}
 

@@ -6,12 +6,12 @@ use Rattle.sv_events.specs.declared.event.Act.{Act}
 use Rattle.sv_events.specs.declared.event.Act.TheVariants.{Leave}
 use Rattle.sv_events.specs.declared.event.Hold.{Hold}
 use Rattle.sv_events.specs.declared.work.Work.TheVariants.{Idle}
-use Rattle.sv_rules.specs.Auxiliaries.{party_of}
+use Rattle.aux_parties.specs.Auxiliaries.{is_auxiliary, party_of}
 use Rattle.sv_rules.specs.Entries.{Entries, has_left}
 use Rattle.sv_rules.specs.Legal.{IsLegal, is_user}
 use Rattle.sv_rules.specs.Refused.{awaited, refused, waits, still_refused}
-use Rattle.sv_rules.specs.Work.{is_auxiliary, is_stuck, work_of}
-use Rattle.sv_rules.specs.declared.auxiliary.AuxiliaryKind.{AuxiliaryKind}
+use Rattle.sv_rules.specs.Work.{is_stuck, work_of}
+use Rattle.aux_parties.specs.declared.auxiliary.AuxiliaryKind.{AuxiliaryKind}
 
 -- none of the entries is the party's
 abbrev pub HasNone : ℕ → Entries → Type 0

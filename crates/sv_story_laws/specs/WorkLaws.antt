@@ -7,7 +7,7 @@ use Rattle.sv_events.specs.Work.{counter_name}
 use Rattle.sv_events.specs.declared.event.Act.TheVariants.{Offer, Use}
 use Rattle.sv_events.specs.declared.work.Work.{Work}
 use Rattle.sv_events.specs.declared.work.Work.TheVariants as work
-use Rattle.sv_rules.specs.Auxiliaries.{party_of, row_of}
+use Rattle.aux_parties.specs.Auxiliaries.{is_auxiliary, party_of, row_of}
 use Rattle.sv_rules.specs.Control.{control_on}
 use Rattle.sv_rules.specs.Coupling.{couplings, coupling_now, is_coupled, open_to}
 use Rattle.sv_rules.specs.Entries.{Entries, next_place, since, is_full}
@@ -15,8 +15,8 @@ use Rattle.sv_rules.specs.Legal.{IsLegal}
 use Rattle.sv_rules.specs.Questions.{parties_to}
 use Rattle.sv_rules.specs.Standing.{standing, offer_count}
 use Rattle.sv_rules.specs.Story.{known}
-use Rattle.sv_rules.specs.Work.{is_auxiliary, first_coupled, first_open, lacks_control, owes_reply, has_unseen, to_counter, tries, gets_value, work_due, work_of}
-use Rattle.sv_rules.specs.declared.auxiliary.AuxiliaryKind.{AuxiliaryKind}
+use Rattle.sv_rules.specs.Work.{first_coupled, first_open, lacks_control, owes_reply, has_unseen, to_counter, tries, gets_value, work_due, work_of}
+use Rattle.aux_parties.specs.declared.auxiliary.AuxiliaryKind.{AuxiliaryKind}
 use Rattle.sv_rules.specs.declared.coupling.Coupling.{Coupling}
 use Rattle.sv_rules.specs.declared.standing.Standing.{Standing}
 

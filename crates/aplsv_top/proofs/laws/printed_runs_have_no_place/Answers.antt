@@ -2,7 +2,7 @@ use Rattle.apl_arrays.specs.Parties.{text_party}
 use Rattle.auxiliaries.specs.Protocol.{idle}
 use Rattle.auxiliaries.proofs.Places.{run_keeps}
 use Rattle.session_rules.specs.Auxiliaries.{events_of}
-use Rattle.sv_rules.specs.declared.auxiliary.AuxiliaryKind.TheVariants.{TextFiles}
+use Rattle.aux_parties.specs.declared.auxiliary.AuxiliaryKind.TheVariants.{TextFiles}
 use Rattle.aplsv_top.specs.Headline.{text_of}
 use Rattle.aplsv_top.proofs.Files.{store_faults, told_by}
 use Rattle.aplsv_top.proofs.laws.printed_runs_have_no_place.Goals as goal

@@ -1,6 +1,6 @@
 use Rattle.std.proofs.Common.{subst, sym}
-use Rattle.sv_rules.specs.declared.auxiliary.AuxiliaryKind.{AuxiliaryKind}
-use Rattle.sv_rules.specs.declared.auxiliary.AuxiliaryKind.TheVariants.{Clock, TextFiles}
+use Rattle.aux_parties.specs.declared.auxiliary.AuxiliaryKind.{AuxiliaryKind}
+use Rattle.aux_parties.specs.declared.auxiliary.AuxiliaryKind.TheVariants.{Clock, TextFiles}
 use Rattle.aplsv_replay.specs.Together.{TookAuxiliaryTurn}
 use Rattle.aplsv_replay.proofs.AllTogether.{is_auxiliary_of}
 use Rattle.aplsv_replay.proofs.Kinds.{with_auxiliary}

@@ -1,5 +1,5 @@
 use Rattle.std.proofs.Common.{ℕ, ap}
-use Rattle.sv_rules.specs.Work.{is_auxiliary}
+use Rattle.aux_parties.specs.Auxiliaries.{is_auxiliary}
 use Rattle.aplsv_replay.proofs.AllTogether.{same_work, still_stay}
 use Rattle.aplsv_replay.proofs.AuxiliaryTurns.{ten_leaves_less, takes_ten}
 use Rattle.aplsv_replay.proofs.parties.Parties.turn_of_ten.Goals as goal

@@ -1,5 +1,5 @@
 use Rattle.std.proofs.Common.{ℕ, ap}
-use Rattle.sv_rules.specs.Work.{is_auxiliary}
+use Rattle.aux_parties.specs.Auxiliaries.{is_auxiliary}
 use Rattle.aplsv_replay.proofs.AllTogether.{same_work, still_stay}
 use Rattle.aplsv_replay.proofs.AuxiliaryTurns.{twenty_leaves_less, takes_twenty}
 use Rattle.aplsv_replay.proofs.parties.Parties.turn_of_twenty.Goals as goal

@@ -1,9 +1,8 @@
 use Rattle.std.proofs.Common.{◌≡◌, true}
 use Rattle.std.proofs.lemmas.List.Elements.{All-from_recursion}
-use Rattle.sv_rules.specs.Auxiliaries.{auxiliaries}
-use Rattle.sv_rules.specs.Work.{is_auxiliary}
-use Rattle.sv_rules.specs.declared.auxiliary.AuxiliaryRow.{AuxiliaryRow}
-use Rattle.sv_rules.proofs.TableLemmas.{kinds_are_auxiliaries, of_rows}
+use Rattle.aux_parties.specs.Auxiliaries.{auxiliaries, is_auxiliary}
+use Rattle.aux_parties.specs.declared.auxiliary.AuxiliaryRow.{AuxiliaryRow}
+use Rattle.aux_parties.proofs.TableLemmas.{kinds_are_auxiliaries, of_rows}
 use Rattle.sv_core.proofs.processor.Core.is_stuck.Goals as goal
 
 pub all_rest-requires : goal.all_rest-requires

@@ -5,11 +5,10 @@ use Rattle.std.specs.List.{AllByRecursion, list_all}
 use Rattle.std.proofs.lemmas.Bool.{and_from, and_parts, cases_Bool, eqb-true, ltb-true, ne_eqb, or_cases, or_from}
 use Rattle.std.proofs.lemmas.Option.{none-some, same_Some}
 use Rattle.apl_arrays.specs.Parties.{clock_party, first_user, text_party}
-use Rattle.sv_rules.specs.Auxiliaries.{auxiliaries, auxiliary_at, has_row, party_of, row_among, row_of}
-use Rattle.sv_rules.specs.Work.{is_auxiliary, most_counters}
-use Rattle.sv_rules.specs.declared.auxiliary.AuxiliaryKind.{AuxiliaryKind}
-use Rattle.sv_rules.specs.declared.auxiliary.AuxiliaryKind.TheVariants.{Clock, TextFiles}
-use Rattle.sv_rules.specs.declared.auxiliary.AuxiliaryRow.{AuxiliaryRow}
+use Rattle.aux_parties.specs.Auxiliaries.{auxiliaries, auxiliary_at, has_row, is_auxiliary, most_counters, party_of, row_among, row_of}
+use Rattle.aux_parties.specs.declared.auxiliary.AuxiliaryKind.{AuxiliaryKind}
+use Rattle.aux_parties.specs.declared.auxiliary.AuxiliaryKind.TheVariants.{Clock, TextFiles}
+use Rattle.aux_parties.specs.declared.auxiliary.AuxiliaryRow.{AuxiliaryRow}
 
 -- ---- rows
 
@@ -96,6 +95,12 @@ is_found party = is_found_among auxiliaries party
 pub kind_found : (party : ℕ) (row : AuxiliaryRow) → auxiliary_at party ≡ Some row → party_of row.kind ≡ party
 kind_found party row is =
     let own = found (λ (r : AuxiliaryRow). party_of r.kind ≡ r.party) auxiliaries party row (refl, (refl, tt)) is in own.1 ∙ own.0
+
+-- the number of an auxiliary is lower than that of each user
+pub auxiliaries_are_low : (number : ℕ) → IsTrue (is_auxiliary number) → number < first_user
+auxiliaries_are_low number is =
+    let clock : clock_party < first_user = omega arith in
+    let text : text_party < first_user = omega arith in of_party (λ (n : ℕ). n < first_user) auxiliaries number (clock, (text, tt)) is
 
 -- no user is an auxiliary
 pub users_are_no_auxiliaries : (number : ℕ) → first_user ≤ number → is_auxiliary number ≡ false

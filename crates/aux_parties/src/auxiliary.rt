@@ -1,6 +1,5 @@
 ghost use Rattle.std.specs.Prelude.{◌≡◌, ◌⊎◌, ◌↔◌, ℕ, IsTrue};
-ghost use Rattle.sv_rules.specs.Auxiliaries.{auxiliaries, auxiliary_at, has_row, row_among};
-ghost use Rattle.sv_rules.specs.Work.{is_auxiliary, most_counters};
+ghost use Rattle.aux_parties.specs.Auxiliaries.{auxiliaries, auxiliary_at, has_row, is_auxiliary, most_counters, row_among};
 
 use apl_arrays::OFFER_LIMIT;
 

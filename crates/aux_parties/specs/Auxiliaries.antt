@@ -1,11 +1,12 @@
 -- The auxiliary parties: a table.
 use Rattle.std.specs.Prelude.{ℕ, Bool, ◌==◌, List, [], ◌∷◌, find, Option}
 use Rattle.std.specs.List.{list_any}
+use Rattle.std.specs.Option.{option_map_or}
 use Rattle.apl_arrays.specs.Limits.{most_offers}
 use Rattle.apl_arrays.specs.Parties.{clock_party, text_party}
-use Rattle.sv_rules.specs.declared.auxiliary.AuxiliaryKind.{AuxiliaryKind}
-use Rattle.sv_rules.specs.declared.auxiliary.AuxiliaryKind.TheVariants.{Clock, TextFiles}
-use Rattle.sv_rules.specs.declared.auxiliary.AuxiliaryRow.{AuxiliaryRow}
+use Rattle.aux_parties.specs.declared.auxiliary.AuxiliaryKind.{AuxiliaryKind}
+use Rattle.aux_parties.specs.declared.auxiliary.AuxiliaryKind.TheVariants.{Clock, TextFiles}
+use Rattle.aux_parties.specs.declared.auxiliary.AuxiliaryRow.{AuxiliaryRow}
 
 -- the table: what an auxiliary is, its number, and how many of its counter-offers may stand
 abbrev pub row_of : AuxiliaryKind → AuxiliaryRow
@@ -31,3 +32,11 @@ row_among rows party = find (λ row. row.party == party) rows
 -- the row of a party, if it is an auxiliary
 abbrev pub auxiliary_at : ℕ → Option AuxiliaryRow
 auxiliary_at party = row_among auxiliaries party
+
+-- the party is an auxiliary: the table has a row for it
+abbrev pub is_auxiliary : ℕ → Bool
+is_auxiliary party = has_row auxiliaries party
+
+-- how many counter-offers of an auxiliary may stand, as the table has it; of another party none
+abbrev pub most_counters : ℕ → ℕ
+most_counters party = option_map_or (λ row. row.counters) (auxiliary_at party) 0

@@ -1,8 +1,8 @@
 use Rattle.std.proofs.Common.{◌∙◌, eqb, rules, tests}
 use Rattle.std.proofs.lemmas.Iterator.{YieldsList-from_slice}
 use Rattle.std.proofs.lemmas.Iterator.Search.{find_from_yields_List}
-use Rattle.sv_rules.specs.declared.auxiliary.AuxiliaryRow.{AuxiliaryRow}
-use Rattle.sv_rules.proofs.auxiliary.row_among.Goals as goal
+use Rattle.aux_parties.specs.declared.auxiliary.AuxiliaryRow.{AuxiliaryRow}
+use Rattle.aux_parties.proofs.auxiliary.row_among.Goals as goal
 
 pub returns : goal.returns
 returns c =
