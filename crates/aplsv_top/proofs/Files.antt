@@ -134,5 +134,5 @@ found_told name (file ∷ files) = by (is_at (name_order name) file.name) (found
   by false rest = rest
 
 -- what files that are handed in tell is all told
-pub files_keep_alike : (files : List PlainFile) → KeepAlike (record { entries = map file_entry files; calls = 0; fails = [] }) (record { entries = map file_entry files; calls = 0; fails = [] })
+pub files_keep_alike : (files : List PlainFile) → KeepAlike (record { places = []; entries = map file_entry files; calls = 0; fails = [] }) (record { places = []; entries = map file_entry files; calls = 0; fails = [] })
 files_keep_alike files = record { sound = refl; also_sound = refl; entries = λ name. refl; told = λ name. found_told name files }

@@ -1,10 +1,10 @@
 -- Two replays of one bundle go on side by side.
 use Rattle.std.proofs.Common.{◌≡◌, ◌≢◌, ℕ, zero, suc, Bool, true, false, List, [], ◌∷◌, ◌++◌, Option, Some, None, refl, sym, ap, ap₂, subst, ◌∙◌}
-use Rattle.std.proofs.lemmas.Bool.{eq-eqb}
+use Rattle.std.proofs.lemmas.Bool.{eq-eqb, eqb-true}
+use Rattle.std.specs.List.{AllByRecursion}
 use Rattle.std.specs.Prelude.{◌==◌, option_to_list, if◌then◌else◌}
 use Rattle.std.specs.Option.{option_map_or}
 use Rattle.apl_arrays.specs.Array.{PlainArray}
-use Rattle.apl_arrays.specs.Parties.{clock_party, text_party}
 use Rattle.auxiliaries.specs.Run.{Event, answered, IsReplierRun}
 use Rattle.sv_events.specs.Answer.{PlainAnswer}
 use Rattle.sv_events.specs.Entry.{PlainEntry}
@@ -13,15 +13,19 @@ use Rattle.sv_events.specs.declared.event.Act.{Act}
 use Rattle.sv_events.specs.declared.event.Act.TheVariants as act
 use Rattle.sv_events.specs.declared.work.Work.{Work}
 use Rattle.sv_events.specs.declared.work.Work.TheVariants as work
+use Rattle.aux_parties.specs.Auxiliaries.{auxiliaries, is_auxiliary, party_of}
 use Rattle.sv_rules.specs.Entries.{Entries, has_left, is_full, is_held, kind_of, next_place}
 use Rattle.sv_rules.specs.Legal.{answer_to, entry_for, is_still_held, journal_after, retried}
 use Rattle.sv_rules.specs.Refused.{awaited, waits}
 use Rattle.sv_rules.specs.Work.{work_of}
+use Rattle.aux_parties.specs.declared.auxiliary.AuxiliaryKind.{AuxiliaryKind}
+use Rattle.aux_parties.specs.declared.auxiliary.AuxiliaryRow.{AuxiliaryRow}
+use Rattle.aux_parties.proofs.TableLemmas.{kind_of_party, of_rows}
 use Rattle.sv_core.specs.Core.{PlainCore}
 use Rattle.sv_core.specs.Retry.{journal_retried}
 use Rattle.session_rules.specs.Auxiliaries.{event_of, events_of, reply_to, some_stay}
 use Rattle.session_rules.specs.Session.{session_of}
-use Rattle.replay_rules.specs.Turns.{HasReplies, Participant, Replay, Turn, act_made, given, goes_on, numbers_of, ordered, party_turn, round, rounds, served, served_by, serving, turn, turn_by, turn_of_ten, turn_of_twenty, turns_where, user_turns}
+use Rattle.replay_rules.specs.Turns.{HasReplies, Participant, Replay, Turn, act_made, auxiliary_turn, auxiliary_turns, given, goes_on, numbers_of, ordered, party_turn, round, rounds, served, served_by, serving, turn, turn_by, turns_where, user_turns}
 use Rattle.aplsv_top.proofs.Determined.{Answers, IsDetermined, older_answers, one_answer}
 use Rattle.aplsv_top.proofs.ReplyWork.{IsAsked, replies_are_asked}
 
@@ -184,21 +188,26 @@ pub record IsLevel (a b : Replay) : Type 0 where
   pub journal : a.journal ≡ b.journal
   pub users : a.users ≡ b.users
 
-module _ {X Y : Type 0} (forgets_ten : X → ℕ → X → Type 0) (replies_ten : X → ℕ → PlainArray → PlainArray → X → Type 0) (AlikeTen : X → X → Type 0) (one_ten : IsDetermined forgets_ten replies_ten AlikeTen)
-    (forgets_twenty : Y → ℕ → Y → Type 0) (replies_twenty : Y → ℕ → PlainArray → PlainArray → Y → Type 0) (AlikeTwenty : Y → Y → Type 0) (one_twenty : IsDetermined forgets_twenty replies_twenty AlikeTwenty)
-    (ten : X) (alike_ten : AlikeTen ten ten) (twenty : Y) (alike_twenty : AlikeTwenty twenty twenty) where
-  -- what answers behind both auxiliaries has a run over a replay's journal, and both have replies left
+-- where replies are left after an auxiliary's turn, some were left before, of each auxiliary
+left_before_turn : (a : Replay) (party other : ℕ) → (auxiliary_turn party a).replies other ≢ [] → a.replies other ≢ []
+left_before_turn a party other left = by (other == party) refl left where
+  by : (own : Bool) → (other == party) ≡ own → (if own then (served a.journal party (a.replies party)).replies else a.replies other) ≢ [] → a.replies other ≢ []
+  by true is some = subst (λ (number : ℕ). a.replies number ≢ []) (sym (eqb-true other party is)) (left_before a.journal party (a.replies party) (work_of a.journal party) some)
+  by false is some = some
+
+module _ (S : AuxiliaryKind → Type 0) (forgets : (kind : AuxiliaryKind) → S kind → ℕ → S kind → Type 0) (replies : (kind : AuxiliaryKind) → S kind → ℕ → PlainArray → PlainArray → S kind → Type 0)
+    (Alike : (kind : AuxiliaryKind) → S kind → S kind → Type 0) (one : (kind : AuxiliaryKind) → IsDetermined (forgets kind) (replies kind) (Alike kind)) (start : (kind : AuxiliaryKind) → S kind)
+    (alike : (kind : AuxiliaryKind) → Alike kind (start kind) (start kind)) where
+  -- what answers behind each auxiliary has a run over a replay's journal, and each has replies left
   pub record IsRepliedTo (a : Replay) : Type 0 where
-    pub ten_answers : Answers forgets_ten replies_ten clock_party ten a.journal
-    pub twenty_answers : Answers forgets_twenty replies_twenty text_party twenty a.journal
+    pub answers : (kind : AuxiliaryKind) → Answers (forgets kind) (replies kind) (party_of kind) (start kind) a.journal
     pub left : HasReplies a
 
   -- so it was in an older journal
-  older_replied : (a b : Replay) → IsOlder a.journal b.journal → (b.ten ≢ [] → a.ten ≢ []) → (b.twenty ≢ [] → a.twenty ≢ []) → IsRepliedTo b → IsRepliedTo a
-  older_replied a b older ten_left twenty_left h = record {
-    ten_answers = older_answers forgets_ten replies_ten clock_party ten older.more a.journal (subst (Answers forgets_ten replies_ten clock_party ten) older.same h.ten_answers);
-    twenty_answers = older_answers forgets_twenty replies_twenty text_party twenty older.more a.journal (subst (Answers forgets_twenty replies_twenty text_party twenty) older.same h.twenty_answers);
-    left = record { ten = ten_left h.left.ten; twenty = twenty_left h.left.twenty };
+  older_replied : (a b : Replay) → IsOlder a.journal b.journal → ((kind : AuxiliaryKind) → b.replies (party_of kind) ≢ [] → a.replies (party_of kind) ≢ []) → IsRepliedTo b → IsRepliedTo a
+  older_replied a b older left h = record {
+    answers = λ kind. older_answers (forgets kind) (replies kind) (party_of kind) (start kind) older.more a.journal (subst (Answers (forgets kind) (replies kind) (party_of kind) (start kind)) older.same (h.answers kind));
+    left = λ kind. left kind (h.left kind);
   }
 
   -- turns that were replied to were so before, leave two replays level that were, and users their numbers
@@ -234,43 +243,30 @@ module _ {X Y : Type 0} (forgets_ten : X → ℕ → X → Type 0) (replies_ten 
     numbers = λ a. (tame_by (goes_on a) turns (λ a. a) f tame_none).numbers a;
   }
 
-  tame_ten : AreTame turn_of_ten
-  tame_ten = record {
+  tame_auxiliary : (kind : AuxiliaryKind) → AreTame (auxiliary_turn (party_of kind))
+  tame_auxiliary kind = record {
     before = λ a h.
-        older_replied a (turn_of_ten a) (older_served a.journal clock_party a.ten (work_of a.journal clock_party)) (left_before a.journal clock_party a.ten (work_of a.journal clock_party)) (λ left. left) h;
+        older_replied a (auxiliary_turn (party_of kind) a) (older_served a.journal (party_of kind) (a.replies (party_of kind)) (work_of a.journal (party_of kind))) (λ other. left_before_turn a (party_of kind) (party_of other)) h;
     level = λ a b level h k.
-        let there : Answers forgets_ten replies_ten clock_party ten (served a.journal clock_party b.ten).journal =
-        subst (λ (journal : Entries). Answers forgets_ten replies_ten clock_party ten (served journal clock_party b.ten).journal) (sym level.journal) k.ten_answers in
-        let some : b.ten ≢ [] = left_before b.journal clock_party b.ten (work_of b.journal clock_party) k.left.ten in
+        let there : Answers (forgets kind) (replies kind) (party_of kind) (start kind) (served a.journal (party_of kind) (b.replies (party_of kind))).journal =
+        subst (λ (journal : Entries). Answers (forgets kind) (replies kind) (party_of kind) (start kind) (served journal (party_of kind) (b.replies (party_of kind))).journal) (sym level.journal) (k.answers kind) in
         record {
-          journal = same_served forgets_ten replies_ten AlikeTen one_ten ten alike_ten clock_party a.journal a.ten b.ten (work_of a.journal clock_party) refl
-              (left_before a.journal clock_party a.ten (work_of a.journal clock_party) h.left.ten) some h.ten_answers there
-              ∙ ap (λ (journal : Entries). (served journal clock_party b.ten).journal) level.journal;
+          journal = same_served (forgets kind) (replies kind) (Alike kind) (one kind) (start kind) (alike kind) (party_of kind) a.journal (a.replies (party_of kind)) (b.replies (party_of kind)) (work_of a.journal (party_of kind)) refl
+              (left_before_turn a (party_of kind) (party_of kind) (h.left kind)) (left_before_turn b (party_of kind) (party_of kind) (k.left kind)) (h.answers kind) there
+              ∙ ap (λ (journal : Entries). (served journal (party_of kind) (b.replies (party_of kind))).journal) level.journal;
           users = level.users;
         };
     numbers = λ a. refl;
   }
 
-  tame_twenty : AreTame turn_of_twenty
-  tame_twenty = record {
-    before = λ a h.
-        older_replied a (turn_of_twenty a) (older_served a.journal text_party a.twenty (work_of a.journal text_party)) (λ left. left) (left_before a.journal text_party a.twenty (work_of a.journal text_party)) h;
-    level = λ a b level h k.
-        let there : Answers forgets_twenty replies_twenty text_party twenty (served a.journal text_party b.twenty).journal =
-        subst (λ (journal : Entries). Answers forgets_twenty replies_twenty text_party twenty (served journal text_party b.twenty).journal) (sym level.journal) k.twenty_answers in
-        let some : b.twenty ≢ [] = left_before b.journal text_party b.twenty (work_of b.journal text_party) k.left.twenty in
-        record {
-          journal = same_served forgets_twenty replies_twenty AlikeTwenty one_twenty twenty alike_twenty text_party a.journal a.twenty b.twenty (work_of a.journal text_party) refl
-              (left_before a.journal text_party a.twenty (work_of a.journal text_party) h.left.twenty) some h.twenty_answers there
-              ∙ ap (λ (journal : Entries). (served journal text_party b.twenty).journal) level.journal;
-          users = level.users;
-        };
-    numbers = λ a. refl;
-  }
+  -- turns of some auxiliaries, one after another
+  tame_turns : (rows : List AuxiliaryRow) → AllByRecursion (λ (row : AuxiliaryRow). AreTame (auxiliary_turn row.party)) rows → AreTame (auxiliary_turns rows)
+  tame_turns [] each = tame_none
+  tame_turns (row ∷ rows) each = tame_then (auxiliary_turn row.party) (auxiliary_turns rows) each.0 (tame_turns rows each.1)
 
   tame_users : (test : Participant → Bool) → AreTame (user_turns test)
   tame_users test = record {
-    before = λ a h. older_replied a (user_turns test a) (older_turns test (numbers_of a.users) a.journal a.users) (λ left. left) (λ left. left) h;
+    before = λ a h. older_replied a (user_turns test a) (older_turns test (numbers_of a.users) a.journal a.users) (λ kind left. left) h;
     level = λ a b level h k. record {
       journal = ap₂ (λ (users : List Participant) (journal : Entries). (turns_where test (numbers_of users) journal users).journal) level.users level.journal;
       users = ap₂ (λ (users : List Participant) (journal : Entries). (turns_where test (numbers_of users) journal users).users) level.users level.journal;
@@ -279,16 +275,22 @@ module _ {X Y : Type 0} (forgets_ten : X → ℕ → X → Type 0) (replies_ten 
   }
 
   tame_party : (party : ℕ) → AreTame (party_turn party)
-  tame_party party =
-      tame_by (party == clock_party) turn_of_ten (λ a. if party == text_party then turn_of_twenty a else user_turns (λ user. user.number == party) a)
-      tame_ten (tame_by (party == text_party) turn_of_twenty (user_turns (λ user. user.number == party)) tame_twenty (tame_users (λ user. user.number == party)))
+  tame_party party = by (is_auxiliary party) refl where
+    by : (auxiliary : Bool) → is_auxiliary party ≡ auxiliary → AreTame (λ a. if auxiliary then auxiliary_turn party a else user_turns (λ user. user.number == party) a)
+    by true is =
+        let own = kind_of_party party is in
+        let tame : AreTame (auxiliary_turn party) = subst (λ (number : ℕ). AreTame (auxiliary_turn number)) own.1 (tame_auxiliary own.0) in
+        record { before = tame.before; level = tame.level; numbers = tame.numbers }
+    by false is =
+        let tame : AreTame (user_turns (λ user. user.number == party)) = tame_users (λ user. user.number == party) in
+        record { before = tame.before; level = tame.level; numbers = tame.numbers }
 
   tame_ordered : (order : List ℕ) → AreTame (ordered order)
   tame_ordered [] = tame_none
   tame_ordered (party ∷ order) = tame_then (λ a. if goes_on a then party_turn party a else a) (ordered order) (tame_while (party_turn party) (tame_party party)) (tame_ordered order)
 
   tame_round : AreTame round
-  tame_round = tame_then (λ a. turn_of_twenty (turn_of_ten a)) (user_turns (λ user. true)) (tame_then turn_of_ten turn_of_twenty tame_ten tame_twenty) (tame_users (λ user. true))
+  tame_round = tame_then (auxiliary_turns auxiliaries) (user_turns (λ user. true)) (tame_turns auxiliaries (of_rows (λ (party : ℕ). AreTame (auxiliary_turn party)) tame_auxiliary)) (tame_users (λ user. true))
 
   tame_rounds : (count : ℕ) → AreTame (rounds count)
   tame_rounds zero = tame_none

@@ -4,10 +4,11 @@ use Rattle.std.specs.Prelude.{All}
 use Rattle.std.proofs.lemmas.Bool.{leb-true, leb-false}
 use Rattle.std.proofs.lemmas.List.Elements.{All-head, All-tail}
 use Rattle.apl_arrays.specs.Array.{PlainArray}
-use Rattle.apl_arrays.specs.Parties.{clock_party, text_party}
 use Rattle.bundle_text.specs.Rules.{PlainBundle}
 use Rattle.bundle_text.specs.User.{PlainUser}
+use Rattle.aux_parties.specs.Auxiliaries.{party_of}
 use Rattle.sv_rules.specs.Entries.{Entries, has_left}
+use Rattle.aux_parties.specs.declared.auxiliary.AuxiliaryKind.{AuxiliaryKind}
 use Rattle.session_rules.specs.Auxiliaries.{some_stay}
 use Rattle.session_rules.specs.Run.{Dealings}
 use Rattle.replay_rules.proofs.Rounds.{stays}
@@ -22,25 +23,24 @@ none_stay dealings journal (user ∷ users) left =
     ap (λ (gone : Bool). not gone || some_stay (numbers_of (map (newcomer dealings) users)) journal) (All-head (λ (user : PlainUser). IsTrue (has_left journal user.number)) user users left)
     ∙ none_stay dealings journal users (All-tail (λ (user : PlainUser). IsTrue (has_left journal user.number)) user users left)
 
-module _ {X Y : Type 0} (forgets_ten : X → ℕ → X → Type 0) (replies_ten : X → ℕ → PlainArray → PlainArray → X → Type 0) (AlikeTen : X → X → Type 0) (one_ten : IsDetermined forgets_ten replies_ten AlikeTen)
-    (forgets_twenty : Y → ℕ → Y → Type 0) (replies_twenty : Y → ℕ → PlainArray → PlainArray → Y → Type 0) (AlikeTwenty : Y → Y → Type 0) (one_twenty : IsDetermined forgets_twenty replies_twenty AlikeTwenty)
-    (ten : X) (alike_ten : AlikeTen ten ten) (twenty : Y) (alike_twenty : AlikeTwenty twenty twenty) (bundle : PlainBundle) where
-  -- a journal of the bundle's turns with these dealings that both auxiliaries replied to
+module _ (S : AuxiliaryKind → Type 0) (forgets : (kind : AuxiliaryKind) → S kind → ℕ → S kind → Type 0) (replies : (kind : AuxiliaryKind) → S kind → ℕ → PlainArray → PlainArray → S kind → Type 0)
+    (Alike : (kind : AuxiliaryKind) → S kind → S kind → Type 0) (one : (kind : AuxiliaryKind) → IsDetermined (forgets kind) (replies kind) (Alike kind)) (start : (kind : AuxiliaryKind) → S kind)
+    (alike : (kind : AuxiliaryKind) → Alike kind (start kind) (start kind)) (bundle : PlainBundle) where
+  -- a journal of the bundle's turns with these dealings that the auxiliaries replied to
   pub record IsRepliedJournal (dealings : Dealings) (journal : Entries) : Type 0 where
     pub turns : IsJournalOfTurns bundle dealings journal
-    pub ten_answers : Answers forgets_ten replies_ten clock_party ten journal
-    pub twenty_answers : Answers forgets_twenty replies_twenty text_party twenty journal
+    pub answers : (kind : AuxiliaryKind) → Answers (forgets kind) (replies kind) (party_of kind) (start kind) journal
 
   abbrev RepliedTo : Replay → Type 0
-  RepliedTo = IsRepliedTo forgets_ten replies_ten AlikeTen one_ten forgets_twenty replies_twenty AlikeTwenty one_twenty ten alike_ten twenty alike_twenty
+  RepliedTo = IsRepliedTo S forgets replies Alike one start alike
 
-  tame : (count : ℕ) → AreTame forgets_ten replies_ten AlikeTen one_ten forgets_twenty replies_twenty AlikeTwenty one_twenty ten alike_ten twenty alike_twenty (λ a. rounds count (ordered bundle.order a))
-  tame count = tame_replay forgets_ten replies_ten AlikeTen one_ten forgets_twenty replies_twenty AlikeTwenty one_twenty ten alike_ten twenty alike_twenty bundle.order count
+  tame : (count : ℕ) → AreTame S forgets replies Alike one start alike (λ a. rounds count (ordered bundle.order a))
+  tame count = tame_replay S forgets replies Alike one start alike bundle.order count
 
   module _ (dealings : Dealings) (journal : Entries) (h : IsRepliedJournal dealings journal) where
     -- the replay of a journal, before its first turn and after so many rounds
     abbrev before : Replay
-    before = beginning bundle dealings h.turns.ten h.turns.twenty
+    before = beginning bundle dealings h.turns.replies
 
     abbrev after : ℕ → Replay
     after count = rounds count (ordered bundle.order before)
@@ -50,8 +50,7 @@ module _ {X Y : Type 0} (forgets_ten : X → ℕ → X → Type 0) (replies_ten 
 
     last_replied : RepliedTo (after h.turns.count)
     last_replied = record {
-      ten_answers = subst (Answers forgets_ten replies_ten clock_party ten) (sym h.turns.last) h.ten_answers;
-      twenty_answers = subst (Answers forgets_twenty replies_twenty text_party twenty) (sym h.turns.last) h.twenty_answers;
+      answers = λ kind. subst (Answers (forgets kind) (replies kind) (party_of kind) (start kind)) (sym h.turns.last) (h.answers kind);
       left = h.turns.enough;
     }
 
@@ -68,8 +67,8 @@ module _ {X Y : Type 0} (forgets_ten : X → ℕ → X → Type 0) (replies_ten 
   module _ (dealings others : Dealings) (journal other : Entries) (h : IsRepliedJournal dealings journal) (k : IsRepliedJournal others other) (same : map (newcomer dealings) bundle.users ≡ map (newcomer others) bundle.users) where
     by_count : (count : ℕ) → h.turns.count ≤ count → k.turns.count ≤ count → journal ≡ other
     by_count count more also =
-        let start : IsLevel (before dealings journal h) (before others other k) = record { journal = refl; users = same } in
-        let end = (tame count).level (before dealings journal h) (before others other k) start (replied_after dealings journal h count more) (replied_after others other k count also) in
+        let level : IsLevel (before dealings journal h) (before others other k) = record { journal = refl; users = same } in
+        let end = (tame count).level (before dealings journal h) (before others other k) level (replied_after dealings journal h count more) (replied_after others other k count also) in
         sym (journal_after dealings journal h count more) ∙ (end.journal ∙ journal_after others other k count also)
 
     -- there is one, where the shelves of users give the same replies
