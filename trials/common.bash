@@ -70,6 +70,11 @@ left_out() {
     echo "left out: $1"
 }
 
+# Whether the program can be given little memory: one that is built with tests of each address can not.
+takes_limits() {
+    ! grep -qa __asan_init "$program"
+}
+
 lines() {
     printf '%s\n' "$@"
 }

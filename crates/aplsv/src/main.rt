@@ -1,29 +1,54 @@
 // The program: it makes the devices of the machine, hands them and its words to the proved run, and tells how that ended.
 #![tactic(auto)]
 
-ghost use Rattle.std.specs.Prelude.{◌≡◌, IfOk, vec_len};
-ghost use Rattle.apl_arrays.specs.Limits.{most_users};
+ghost use Rattle.std.specs.Prelude.{◌≡◌, ◌≢◌, ◌⊎◌, IfErr, IfOk, None, drop, length, map, string_bytes, vec_len};
+ghost use Rattle.std.specs.Vec.Iter.{into_iter_items, into_iter_len};
+ghost use Rattle.apl_arrays.specs.Limits.{most_input_bytes, most_users};
+ghost use Rattle.apl_io.specs.Faults.{Rose};
+ghost use Rattle.apl_io.specs.Whole.{AreAtMost};
+ghost use Rattle.aplsv_words.specs.Meaning.{Asked, Means};
+ghost use Rattle.aplsv_top.specs.Causes.{HasCause};
+ghost use Rattle.aplsv_top.specs.Headline.{IsOutputAs};
+ghost use Rattle.aplsv_top.specs.Words.{AskReplay, IsConclusion};
+ghost use Rattle.aplsv_top.specs.declared.status.Status.TheVariants as status;
 
 use apl_arrays::{USER_LIMIT, WantOfMemory};
-use apl_io::Source;
+use apl_io::{Devices, Sink, Source};
 use aplsv_devices::{DirShelf, DirText, StdSink, StdSource, SystemClock};
-use aplsv_top::{Status, aplsv_replay_words};
+use aplsv_top::{Finish, Status, aplsv_replay_words};
 use bundle_text::BundleRule;
 use refusal_lines::{malformed_lines, usage_lines};
+use std::alloc::{AllocError, Global};
+use std::env::{self, Args};
+use std::io::{self, ErrorKind};
 use std::process::{self, ExitCode};
-use std::{env, io};
 
-// The words after the program's name.
-fn words(rt: &HostRuntime) -> io::Result<Vec<String>> {
-    let mut words = Vec::new(rt.alloc());
-    for word in env::args(rt)?.skip(1) {
+type Text = DirText<HostRuntime>;
+
+type Clock = SystemClock<HostRuntime>;
+
+type Shelf = DirShelf<HostRuntime>;
+
+// The words of the process in their order, the program's name in front: all of them, where what gives them counts what it has.
+fn all_words(alloc: Global, given: Args) -> Result<Vec<String>, AllocError>
+    ensures { IfOk result (λ words. into_iter_len given ≡ length (into_iter_items given) → words.items ≡ into_iter_items given) }
+{
+    let mut words = Vec::new(alloc);
+    for word in given {
         words.push(word)?;
     }
     Ok(words)
 }
 
+// The words behind the program's name.
+fn behind_name(words: &[String]) -> &[String]
+    ensures { result.now ≡ drop 1 words.now }
+{
+    if words.is_empty() { words } else { &words[1..] }
+}
+
 // A shelf for each user, without a place, and with the mark of this process.
-fn shelves(rt: HostRuntime, mark: u32) -> Result<Vec<DirShelf<HostRuntime>>, WantOfMemory>
+fn shelves(rt: HostRuntime, mark: u32) -> Result<Vec<Shelf>, WantOfMemory>
     ensures { IfOk result (λ shelves. vec_len shelves ≡ most_users) }
 {
     let mut shelves = Vec::new(rt.alloc());
@@ -33,21 +58,87 @@ fn shelves(rt: HostRuntime, mark: u32) -> Result<Vec<DirShelf<HostRuntime>>, Wan
     Ok(shelves)
 }
 
-fn run<S: Source>(rt: &HostRuntime, words: &[String], input: &mut S) -> Status {
+// The devices of the machine, without a place.
+fn devices(rt: HostRuntime) -> Result<Devices<Text, Clock, Shelf>, WantOfMemory>
+    ensures { IfOk result (λ devices. vec_len devices.shelves ≡ most_users) }
+{
     let mark = process::id(rt.process());
-    let Ok(shelves) = shelves(*rt, mark) else {
-        return Status::WantOfMemory;
-    };
-    let mut output = StdSink::new(rt.stdout());
-    let text = DirText::new(*rt, mark);
-    let clock = SystemClock::new(*rt);
-    aplsv_replay_words(rt.alloc(), words, input, &mut output, text, clock, shelves).status
+    Ok(Devices {
+        text: DirText::new(rt, mark),
+        clock: SystemClock::new(rt),
+        shelves: shelves(rt, mark)?,
+    })
 }
 
-fn status_of<S: Source>(rt: &HostRuntime, input: &mut S) -> Status {
-    match words(rt) {
-        Ok(words) => run(rt, &words, input),
-        Err(fault) if fault.kind() == io::ErrorKind::OutOfMemory => Status::WantOfMemory,
+// What the program does for its words, the program's name in front, over a source and a sink: what the top call does over the
+// devices of the machine, which tell nothing of what they hold.
+fn run<S: Source, W: Sink>(
+    alloc: Global,
+    words: &[String],
+    input: &mut S,
+    output: &mut W,
+    devices: Devices<Text, Clock, Shelf>,
+) -> Finish<Text, Clock, Shelf>
+    requires shelves { vec_len devices.shelves ≡ most_users }
+    ensures causes { (asked : Asked) → Means (map string_bytes (drop 1 words.now)) asked →
+        HasCause (IsOutputAs (λ _. None) (λ clock. clock.faults) (λ _. None) (λ text. text.faults) (λ _. None) (λ shelf. shelf.faults)
+        asked devices.clock result.clock devices.text result.text devices.shelves.items result.shelves.items) result.status
+        (record { bytes = S.left input.old; faults = S.faults input.old }) (record { bytes = S.left input.new; faults = S.faults input.new })
+        (record { bytes = W.held output.old; faults = W.faults output.old }) (record { bytes = W.held output.new; faults = W.faults output.new }) }
+    ensures usage { result.status ≡ status.Usage → ¬ AskReplay (map string_bytes (drop 1 words.now)) }
+    ensures unasked { ¬ AskReplay (map string_bytes (drop 1 words.now)) → (result.status ≡ status.Usage) ⊎ (result.status ≡ status.WantOfMemory) }
+    ensures unread { ¬ AskReplay (map string_bytes (drop 1 words.now)) → input.new ≡ input.old }
+    ensures unwritten { result.status ≢ status.Done → result.status ≢ status.WriteFault → output.new ≡ output.old }
+    ensures complete { AskReplay (map string_bytes (drop 1 words.now)) → AreAtMost (S.left input.old) most_input_bytes
+        → ¬ (Rose (S.faults input.old) (S.faults input.new)) → ¬ (Rose (W.faults output.old) (W.faults output.new))
+        → IsConclusion result.status }
+{
+    let Devices {
+        text,
+        clock,
+        shelves,
+    } = devices;
+    aplsv_replay_words(
+        alloc,
+        behind_name(words),
+        input,
+        output,
+        text,
+        clock,
+        shelves,
+    )
+}
+
+// How it ends for the words of the process.
+fn ending<S: Source, W: Sink>(
+    rt: HostRuntime,
+    given: Args,
+    input: &mut S,
+    output: &mut W,
+) -> Result<Status, WantOfMemory>
+    ensures unread { IfOk result (λ ending. ending ≡ status.Usage → input.new ≡ input.old) }
+    ensures unwritten { IfOk result (λ ending. ending ≢ status.Done → ending ≢ status.WriteFault → output.new ≡ output.old) }
+    ensures refused { IfErr result (λ _. (input.new ≡ input.old) × (output.new ≡ output.old)) }
+{
+    let words = all_words(rt.alloc(), given)?;
+    let devices = devices(rt)?;
+    let finish = run(rt.alloc(), &words, input, output, devices);
+    let status = finish.status;
+    drop(finish);
+    Ok(status)
+}
+
+// The same, where words that are no text have no meaning.
+fn status_of<S: Source, W: Sink>(rt: HostRuntime, input: &mut S, output: &mut W) -> Status
+    ensures unread { result ≡ status.Usage → input.new ≡ input.old }
+    ensures unwritten { result ≢ status.Done → result ≢ status.WriteFault → output.new ≡ output.old }
+{
+    match env::args(&rt) {
+        Ok(given) => match ending(rt, given, input, output) {
+            Ok(status) => status,
+            Err(WantOfMemory) => Status::WantOfMemory,
+        },
+        Err(fault) if fault.kind() == ErrorKind::OutOfMemory => Status::WantOfMemory,
         Err(_) => Status::Usage,
     }
 }
@@ -80,7 +171,8 @@ fn say(rt: &HostRuntime, status: Status, read: Option<&[u8]>) -> io::Result<()> 
 
 fn main(rt: HostRuntime) -> ExitCode {
     let mut input = StdSource::new(rt.alloc(), rt.stdin());
-    let status = status_of(&rt, &mut input);
+    let mut output = StdSink::new(rt.stdout());
+    let status = status_of(rt, &mut input, &mut output);
     if status != Status::Done {
         // Where standard error fails too, the exit status still tells.
         let _ = say(&rt, status, input.kept());

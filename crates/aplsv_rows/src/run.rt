@@ -24,7 +24,8 @@ fn numbers(alloc: Global, call: u64) -> Result<CallNumbers, WantOfMemory> {
     Ok(numbers)
 }
 
-fn words_of(alloc: Global, lines: &str) -> Result<Vec<String>, WantOfMemory> {
+/// The words of lines, one a line.
+pub fn words_of(alloc: Global, lines: &str) -> Result<Vec<String>, WantOfMemory> {
     let mut words = Vec::new(alloc);
     for line in lines.lines() {
         words.push(String::from_str(alloc, line)?)?;
@@ -59,8 +60,8 @@ fn finished(
     Ok(status)
 }
 
-// How a run ended that left these bytes written.
-fn ended_as(alloc: Global, status: Status, written: &[u8]) -> Result<Ended, WantOfMemory> {
+/// How a run ended that left these bytes written.
+pub fn ended_as(alloc: Global, status: Status, written: &[u8]) -> Result<Ended, WantOfMemory> {
     if status == Status::WantOfMemory {
         return Err(WantOfMemory);
     }

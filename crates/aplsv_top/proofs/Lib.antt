@@ -6,5 +6,7 @@ pub mod Files
 pub mod Level
 pub mod OneOutput
 pub mod OneRun
+pub mod Over
+pub mod Placing
+pub mod Printing
 pub mod ReplyWork
-pub mod SingleWords

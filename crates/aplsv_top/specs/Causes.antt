@@ -1,9 +1,10 @@
 -- Why the program ends as it does, by what its source and its sink tell before and after.
-use Rattle.std.specs.Prelude.{◌≡◌, ◌≢◌, ℕ, ◌+◌, List, IsSomeAnd}
+use Rattle.std.specs.Prelude.{◌≡◌, ◌≢◌, ◌⊎◌, ℕ, ◌+◌, List, IsSomeAnd}
 use Rattle.std.specs.declared.option.Option.{Option}
 use Rattle.apl_arrays.specs.Limits.{most_input_bytes}
 use Rattle.apl_io.specs.Faults.{Rose}
-use Rattle.apl_io.specs.Whole.{TakesExactly, TakesAtMost}
+use Rattle.std.specs.Io.KnownBytes.{Appends}
+use Rattle.apl_io.specs.Whole.{AppendsPrefix, TakesExactly, TakesAtMost}
 use Rattle.bundle_text.specs.Bundle.{IsNoBundle}
 use Rattle.bundle_text.specs.declared.refused.BundleRule.{BundleRule}
 use Rattle.aplsv_top.specs.Headline.{WritesRun, WritesFront, FindsNoBundle}
@@ -15,11 +16,11 @@ pub record Device : Type 0 where
   pub bytes : Option (List ℕ)
   pub faults : ℕ
 
--- what stands behind a status: the source before and after, and the sink before and after
-pub record HasCause (ending : Status) (source rest sink grown : Device) : Type 0 where
+-- what stands behind a status: which texts are written of which bytes; the source before and after; and the sink before and after
+pub record HasCause (IsRunOf : List ℕ → List ℕ → Type 0) (ending : Status) (source rest sink grown : Device) : Type 0 where
   -- the headline: what is written is a run of what was read
-  pub done : ending ≡ status.Done → WritesRun source.bytes rest.bytes sink.bytes grown.bytes
-  pub front : ending ≡ status.WriteFault → WritesFront source.bytes rest.bytes sink.bytes grown.bytes
+  pub done : ending ≡ status.Done → WritesRun IsRunOf source.bytes rest.bytes sink.bytes grown.bytes
+  pub front : ending ≡ status.WriteFault → WritesFront IsRunOf source.bytes rest.bytes sink.bytes grown.bytes
   -- each other answer has its cause
   pub read_fault : ending ≡ status.ReadFault → Rose source.faults rest.faults
   pub write_fault : ending ≡ status.WriteFault → Rose sink.faults grown.faults
@@ -27,3 +28,10 @@ pub record HasCause (ending : Status) (source rest sink grown : Device) : Type 0
   pub taken : ending ≢ status.TooLong → TakesAtMost source.bytes rest.bytes most_input_bytes
   pub malformed : (offset : ℕ) (rule : BundleRule) → ending ≡ status.Malformed offset rule → FindsNoBundle source.bytes rest.bytes offset rule
   pub no_bundle : IsSomeAnd source.bytes IsNoBundle → (ending ≢ status.Done) × (ending ≢ status.WriteFault)
+
+-- how writing a text ended: all of it went to the sink, or a front part of it, and the sink failed
+pub record IsWriting (held now : Option (List ℕ)) (before after : ℕ) (text : List ℕ) (ending : Status) : Type 0 where
+  pub only : (ending ≡ status.Done) ⊎ (ending ≡ status.WriteFault)
+  pub whole : ending ≡ status.Done → Appends held now text
+  pub front : ending ≡ status.WriteFault → AppendsPrefix held now text
+  pub fault : ending ≡ status.WriteFault → Rose before after

@@ -1,7 +1,8 @@
 -- What the program promises of the bytes that it reads and writes.
-use Rattle.std.specs.Prelude.{◌≡◌, ℕ, List, [], Some, map, reverse}
-use Rattle.std.specs.declared.option.Option.{Option}
+use Rattle.std.specs.Prelude.{◌≡◌, ℕ, Bool, true, false, List, [], None, Option, Some, drop, length, map, option_map, reverse, take}
 use Rattle.std.specs.Io.KnownBytes.{Appends}
+use Rattle.apl_io.specs.Clock.{Ticks}
+use Rattle.apl_io.specs.Content.{Told, placed}
 use Rattle.apl_io.specs.Kept.{Keeper, Timer, file_entry, new_keeper}
 use Rattle.apl_io.specs.Whole.{ReadsAll, AppendsPrefix}
 use Rattle.sv_rules.specs.Entries.{Entries}
@@ -10,7 +11,10 @@ use Rattle.sv_journal.specs.Printable.{ArePrintable}
 use Rattle.bundle_text.specs.Breaks.{Breaks}
 use Rattle.bundle_text.specs.Bundle.{BundleText, IsNoBundle, PlainBundle}
 use Rattle.bundle_text.specs.declared.refused.BundleRule.{BundleRule}
+use Rattle.apl_session.specs.declared.outcome.Ended.{Ended}
+use Rattle.apl_session.specs.declared.outcome.Ended.TheVariants.{Whole, WantOfMemory}
 use Rattle.aplsv_replay.specs.Replayed.{IsDeviceRun}
+use Rattle.aplsv_words.specs.Meaning.{Asked}
 
 -- the text store of a run: the bundle's files, before the first call, none of which is to fail
 abbrev pub text_of : PlainBundle → Keeper (List ℕ)
@@ -42,20 +46,96 @@ pub record IsOutputFor (bytes text : List ℕ) : Type 0 where
   pub read : BundleText bytes bundle
   pub run : IsOutputOf bundle text
 
+-- the text is what is written of a run that is whole
+abbrev pub IsOutputIn : Ended → List ℕ → Type 0
+IsOutputIn (Whole transcripts journal) text = (text ≡ output_text transcripts.items journal.items) × ArePrintable transcripts.items journal.items
+IsOutputIn WantOfMemory text = ⊥
+
+-- the text is the output of a run of this bundle over a clock, a text store and shelves, from what they were to what they are then
+pub record IsOutputOver {C T K : Type 0} (ticks : C → Option Ticks) (clock_faults : C → ℕ) (text_told : T → Option (Told (List ℕ))) (text_faults : T → ℕ) (told : K → Option (Told (ℕ × List ℕ))) (faults : K → ℕ)
+    (bundle : PlainBundle) (text : List ℕ) (clock clock_then : C) (files files_then : T) (shelves shelves_then : List K) : Type 0 where
+  pub transcripts : List PlainTranscript
+  pub journal : Entries
+  pub run : IsDeviceRun ticks clock_faults text_told text_faults told faults bundle journal transcripts clock clock_then files files_then shelves shelves_then
+  pub output : text ≡ output_text transcripts (reverse journal)
+  pub printable : ArePrintable transcripts (reverse journal)
+
+-- what may be said of a clock, a text store or shelves of a run: by what they tell, their faults, and what they are before and after
+abbrev pub SaidOfClock : Type 1
+SaidOfClock = (C : Type 0) → (C → Option Ticks) → (C → ℕ) → C → C → Type 0
+
+abbrev pub SaidOfText : Type 1
+SaidOfText = (T : Type 0) → (T → Option (Told (List ℕ))) → (T → ℕ) → T → T → Type 0
+
+abbrev pub SaidOfShelves : Type 1
+SaidOfShelves = (K : Type 0) → (K → Option (Told (ℕ × List ℕ))) → (K → ℕ) → List K → List K → Type 0
+
+-- it holds of the clock that was handed in where that is named, and else of one of the bundle's readings
+abbrev pub OverClock : {C : Type 0} → (C → Option Ticks) → (C → ℕ) → Bool → PlainBundle → C → C → SaidOfClock → Type 0
+OverClock {C} ticks faults true bundle clock clock_then Holds = Holds C ticks faults clock clock_then
+OverClock ticks faults false bundle clock clock_then Holds = (readings : Timer) × Holds Timer (λ c. Some c.told) (λ c. c.faults) (clock_of bundle) readings
+
+-- a store that was handed in was told this place, once and no other
+abbrev pub IsPlaced : {T : Type 0} → (T → Option (Told (List ℕ))) → List ℕ → T → T → Type 0
+IsPlaced told place before now = told now ≡ option_map (placed place) (told before)
+
+-- it holds of the text store that was handed in, at its place, where that is named, and else of one of the bundle's files
+abbrev pub OverText : {T : Type 0} → (T → Option (Told (List ℕ))) → (T → ℕ) → Option (List ℕ) → PlainBundle → T → T → SaidOfText → Type 0
+OverText {T} told faults (Some place) bundle files files_then Holds = (placed : T) × IsPlaced told place files placed × Holds T told faults placed files_then
+OverText told faults None bundle files files_then Holds = (kept : Keeper (List ℕ)) × Holds (Keeper (List ℕ)) (λ t. Some t.told) (λ t. t.faults) (text_of bundle) kept
+
+-- shelves that were handed in: the first so many were told this place, once and no other, and all others are as they were
+pub record ArePlaced {K : Type 0} (told : K → Option (Told (ℕ × List ℕ))) (place : List ℕ) (count : ℕ) (before now : List K) : Type 0 where
+  pub tell : map told (take count now) ≡ map (λ shelf. option_map (placed place) (told shelf)) (take count before)
+  pub others : drop count now ≡ drop count before
+
+-- it holds of the shelves that were handed in, each user's at its place, where they are named, and else of empty ones, one for each user
+abbrev pub OverShelves : {K : Type 0} → (K → Option (Told (ℕ × List ℕ))) → (K → ℕ) → Option (List ℕ) → PlainBundle → List K → List K → SaidOfShelves → Type 0
+OverShelves {K} told faults (Some place) bundle shelves shelves_then Holds = (placed : List K) × ArePlaced told place (length bundle.users) shelves placed × Holds K told faults placed shelves_then
+OverShelves told faults None bundle shelves shelves_then Holds = (kept : List (Keeper (ℕ × List ℕ))) × Holds (Keeper (ℕ × List ℕ)) (λ k. Some k.told) (λ k. k.faults) (shelves_of bundle) kept
+
+-- the text is the output of a run of this bundle over a clock, a text store, and the shelves that are named
+abbrev pub ShelvedOutput : {C T K : Type 0} → (C → Option Ticks) → (C → ℕ) → (T → Option (Told (List ℕ))) → (T → ℕ) → (K → Option (Told (ℕ × List ℕ))) → (K → ℕ)
+    → Option (List ℕ) → PlainBundle → List ℕ → C → C → T → T → List K → List K → Type 0
+ShelvedOutput ticks clock_faults text_told text_faults told faults library bundle text clock clock_then files files_then shelves shelves_then =
+    OverShelves told faults library bundle shelves shelves_then (λ K told faults shelves shelves_then.
+    IsOutputOver ticks clock_faults text_told text_faults told faults bundle text clock clock_then files files_then shelves shelves_then)
+
+-- over a text store, and the clock and the shelves that are named
+abbrev pub ClockedOutput : {C T K : Type 0} → (C → Option Ticks) → (C → ℕ) → (T → Option (Told (List ℕ))) → (T → ℕ) → (K → Option (Told (ℕ × List ℕ))) → (K → ℕ)
+    → Bool → Option (List ℕ) → PlainBundle → List ℕ → C → C → T → T → List K → List K → Type 0
+ClockedOutput ticks clock_faults text_told text_faults told faults named library bundle text clock clock_then files files_then shelves shelves_then =
+    OverClock ticks clock_faults named bundle clock clock_then (λ C ticks clock_faults clock clock_then.
+    ShelvedOutput ticks clock_faults text_told text_faults told faults library bundle text clock clock_then files files_then shelves shelves_then)
+
+-- over the text store, the clock and the shelves that are named
+abbrev pub NamedOutput : {C T K : Type 0} → (C → Option Ticks) → (C → ℕ) → (T → Option (Told (List ℕ))) → (T → ℕ) → (K → Option (Told (ℕ × List ℕ))) → (K → ℕ)
+    → Option (List ℕ) → Bool → Option (List ℕ) → PlainBundle → List ℕ → C → C → T → T → List K → List K → Type 0
+NamedOutput ticks clock_faults text_told text_faults told faults place named library bundle text clock clock_then files files_then shelves shelves_then =
+    OverText text_told text_faults place bundle files files_then (λ T text_told text_faults files files_then.
+    ClockedOutput ticks clock_faults text_told text_faults told faults named library bundle text clock clock_then files files_then shelves shelves_then)
+
+-- the bytes are the text of a bundle, and the text is the output of a run of it over what is asked for
+pub record IsOutputAs {C T K : Type 0} (ticks : C → Option Ticks) (clock_faults : C → ℕ) (text_told : T → Option (Told (List ℕ))) (text_faults : T → ℕ) (told : K → Option (Told (ℕ × List ℕ))) (faults : K → ℕ)
+    (asked : Asked) (clock clock_then : C) (files files_then : T) (shelves shelves_then : List K) (bytes text : List ℕ) : Type 0 where
+  pub bundle : PlainBundle
+  pub read : BundleText bytes bundle
+  pub run : NamedOutput ticks clock_faults text_told text_faults told faults asked.text asked.clock asked.library bundle text clock clock_then files files_then shelves shelves_then
+
 -- all bytes were read, to their end, and the output of a run of their bundle was written
-pub record WritesRun (left rest held now : Option (List ℕ)) : Type 0 where
+pub record WritesRun (IsRunOf : List ℕ → List ℕ → Type 0) (left rest held now : Option (List ℕ)) : Type 0 where
   pub bytes : List ℕ
   pub text : List ℕ
   pub read : ReadsAll left rest bytes
-  pub run : IsOutputFor bytes text
+  pub run : IsRunOf bytes text
   pub written : Appends held now text
 
 -- all bytes were read, to their end, and a part of the output of a run of their bundle was written, from its front on
-pub record WritesFront (left rest held now : Option (List ℕ)) : Type 0 where
+pub record WritesFront (IsRunOf : List ℕ → List ℕ → Type 0) (left rest held now : Option (List ℕ)) : Type 0 where
   pub bytes : List ℕ
   pub text : List ℕ
   pub read : ReadsAll left rest bytes
-  pub run : IsOutputFor bytes text
+  pub run : IsRunOf bytes text
   pub written : AppendsPrefix held now text
 
 -- all bytes were read, to their end, and they are the text of no bundle, since this rule is broken at this offset

@@ -1,4 +1,5 @@
 pub mod Causes
 pub mod Headline
 pub mod OutputLaws
+pub mod Printed
 pub mod Words

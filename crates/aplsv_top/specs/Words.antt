@@ -1,10 +1,12 @@
-use Rattle.std.specs.Prelude.{◌≡◌, ℕ, List, [], ◌∷◌, codes}
+-- What words ask of the program, and how it may end.
+use Rattle.std.specs.Prelude.{◌≡◌, ℕ, List, true}
+use Rattle.aplsv_words.specs.Meaning.{Asked, Means}
 use Rattle.aplsv_top.specs.declared.status.Status.{Status}
 use Rattle.aplsv_top.specs.declared.status.Status.TheVariants as status
 
--- the words are the one word --replay
+-- the words have a meaning, and --replay is among them
 abbrev pub AskReplay : List (List ℕ) → Type 0
-AskReplay words = words ≡ codes "--replay" ∷ []
+AskReplay words = (asked : Asked) × Means words asked × (asked.replay ≡ true)
 
 -- the bytes themselves decided: their run was written, or they are said to be no bundle, or memory ran out
 abbrev pub IsConclusion : Status → Type 0

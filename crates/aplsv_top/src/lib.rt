@@ -5,10 +5,17 @@ mod bytes;
 mod laws;
 mod memory;
 mod output;
+mod printed;
+mod run;
 mod status;
 mod top;
 
 pub use bytes::replay_bytes;
 pub use laws::{a_bundle_has_one_output, printed_control_loses_nothing};
+pub use printed::{
+    outputs_are_printed, own_outputs_are_the_bundles, printed_accesses_follow_the_table,
+    printed_journals_answer_full_past_their_limit, printed_transcripts_are_evaluated_alone,
+    printed_uses_give_the_last_value,
+};
 pub use status::{Finish, Status};
 pub use top::aplsv_replay_words;

@@ -19,14 +19,38 @@ pub fn memory_devices(
     ensures shelves { IfOk result (λ devices. devices.shelves.items ≡ shelves_of bundle.now) }
     ensures enough { IfOk result (λ devices. length bundle.now.users ≤ vec_len devices.shelves) }
 {
-    let files = copied_files(alloc, bundle.files())?;
-    let readings = List::from(bundle.clock().to_vec(alloc)?);
-    let shelves = empty_shelves(alloc, bundle.users())?;
     Ok(Devices {
-        text: MemoryText::new(alloc, files, CallNumbers::new(alloc)),
-        clock: MemoryClock::new(readings, CallNumbers::new(alloc)),
-        shelves,
+        text: memory_text(alloc, bundle)?,
+        clock: memory_clock(alloc, bundle)?,
+        shelves: memory_shelves(alloc, bundle)?,
     })
+}
+
+/// The bundle's files, before the first call, none of which is to fail. It takes memory for them.
+pub(crate) fn memory_text(alloc: Global, bundle: &Bundle) -> Result<MemoryText, WantOfMemory>
+    ensures { IfOk result (λ text. text ≡ text_of bundle.now) }
+{
+    let files = copied_files(alloc, bundle.files())?;
+    Ok(MemoryText::new(alloc, files, CallNumbers::new(alloc)))
+}
+
+/// A clock of the bundle's readings, none of which is to fail. It takes memory for them.
+pub(crate) fn memory_clock(alloc: Global, bundle: &Bundle) -> Result<MemoryClock, WantOfMemory>
+    ensures { IfOk result (λ clock. clock ≡ clock_of bundle.now) }
+{
+    let readings = List::from(bundle.clock().to_vec(alloc)?);
+    Ok(MemoryClock::new(readings, CallNumbers::new(alloc)))
+}
+
+/// An empty shelf for each user of the bundle, none of whose calls is to fail. It takes memory for them.
+pub(crate) fn memory_shelves(
+    alloc: Global,
+    bundle: &Bundle,
+) -> Result<Vec<MemoryShelf>, WantOfMemory>
+    ensures shelves { IfOk result (λ shelves. shelves.items ≡ shelves_of bundle.now) }
+    ensures enough { IfOk result (λ shelves. length bundle.now.users ≤ vec_len shelves) }
+{
+    empty_shelves(alloc, bundle.users())
 }
 
 // A shelf without an entry for each of these users.

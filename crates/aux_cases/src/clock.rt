@@ -1,8 +1,8 @@
-use crate::devices::calls_of;
 use crate::sessions::answers;
 use anyhow::{Result, bail};
 use apl_io::MemoryClock;
 use auxiliaries::ClockAux;
+use case_devices::calls_of;
 use case_fields::numbers_of;
 use case_tables::Trial;
 use std::alloc::Global;

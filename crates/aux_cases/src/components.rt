@@ -1,8 +1,9 @@
-use crate::devices::{file_text, store_of};
+use crate::devices::file_text;
 use crate::sessions::{BETWEEN, answers};
 use anyhow::{Result, bail};
 use apl_io::MemoryText;
 use aux_components::Components;
+use case_devices::store_of;
 use case_tables::Trial;
 use std::alloc::Global;
 

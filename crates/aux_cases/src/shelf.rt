@@ -1,8 +1,9 @@
-use crate::devices::{calls_of, done_text, failure_text, read_text};
+use crate::devices::{done_text, failure_text, read_text};
 use crate::sessions::BETWEEN;
 use anyhow::{Context, Result, bail};
 use apl_arrays::Name;
 use apl_io::{MemoryShelf, Shelf};
+use case_devices::calls_of;
 use case_fields::{name_of, names_text};
 use case_tables::{Trial, bytes_of};
 use std::alloc::Global;

@@ -1,7 +1,8 @@
-use crate::devices::{done_text, read_text, store_of};
+use crate::devices::{done_text, read_text};
 use crate::sessions::BETWEEN;
 use anyhow::{Context, Result, bail};
 use apl_io::{MemoryText, TextStore};
+use case_devices::store_of;
 use case_tables::{Trial, bytes_of};
 use std::alloc::Global;
 

@@ -17,7 +17,8 @@ use Rattle.sv_rules.specs.declared.standing.Standing.{Standing}
 use Rattle.sv_offer_laws.proofs.LegalLemmas.{IsLegal-before}
 use Rattle.sv_story_laws.specs.AnswerLaws.{GrantedExactlyWhereTheTableAllows, IsAccessOf, IsThere, NoValueExactlyWhereNoneIsThere, RefusedByTheElementNamed, UsesGetWhatIsThere, table_on}
 use Rattle.sv_story_laws.specs.ControlLaws.{HoldsAreThoseOfTheTable}
-use Rattle.session_rules.specs.Run.{AreUserParts}
+use Rattle.session_rules.specs.Run.{AreUserParts, Dealings}
+use Rattle.session_rules.specs.Shelf.{Exchange}
 use Rattle.session_rules.specs.UserPart.{IsUserPart}
 use Rattle.journal_laws.specs.JournalLaws.{FollowsTheTable, FullJournalsTakeLeavesAlone, GivesWhatIsThere, IsEvaluatedAlone, IsMade, TranscriptsAreEvaluatedAlone, AccessesFollowTheTable, UsesGiveTheLastValue}
 use Rattle.journal_laws.proofs.NeverFull.{never_full}
@@ -65,35 +66,37 @@ module _ (gets : UsesGetWhatIsThere) (without : NoValueExactlyWhereNoneIsThere) 
       }
 
 -- a part of a user is its lines alone
-alone : (journal : Entries) (user : PlainUser) (transcript : PlainTranscript) → transcript.user ≡ user.number → IsUserPart journal user transcript.lines → IsEvaluatedAlone journal user transcript
-alone journal user transcript whose part = record {
+alone : (journal : Entries) (user : PlainUser) (exchanges : List Exchange) (transcript : PlainTranscript) → transcript.user ≡ user.number → IsUserPart journal user exchanges transcript.lines → IsEvaluatedAlone journal user exchanges transcript
+alone journal user exchanges transcript whose part = record {
   whose = whose;
   past = part.refused;
   printed = part.finished.printed;
   asked = part.finished.acts;
+  called = part.finished.calls;
   finished = part.finished.waits;
   limit = part.at_limit;
 }
 
-alone_at : (journal : Entries) (users : List PlainUser) (transcripts : List PlainTranscript) → AreUserParts journal users transcripts → (place : ℕ) (user : PlainUser) (transcript : PlainTranscript)
-    → slice_get users place ≡ Some user → slice_get transcripts place ≡ Some transcript → IsEvaluatedAlone journal user transcript
-alone_at journal [] [] parts place user transcript one other = absurd (none-some user one)
-alone_at journal [] (t ∷ transcripts) parts place user transcript one other = absurd parts
-alone_at journal (u ∷ users) [] parts place user transcript one other = absurd parts
-alone_at journal (u ∷ users) (t ∷ transcripts) parts zero user transcript one other =
-    let first : IsEvaluatedAlone journal u t = alone journal u t parts.0 parts.1 in
-    subst (λ (v : PlainUser). IsEvaluatedAlone journal v transcript) (same_Some u user one) (subst (IsEvaluatedAlone journal u) (same_Some t transcript other) first)
-alone_at journal (u ∷ users) (t ∷ transcripts) parts (suc place) user transcript one other = alone_at journal users transcripts parts.2 place user transcript one other
+module _ (dealings : Dealings) (journal : Entries) where
+  alone_at : (users : List PlainUser) (transcripts : List PlainTranscript) → AreUserParts dealings journal users transcripts → (place : ℕ) (user : PlainUser) (transcript : PlainTranscript)
+      → slice_get users place ≡ Some user → slice_get transcripts place ≡ Some transcript → IsEvaluatedAlone journal user (dealings user.number) transcript
+  alone_at [] [] parts place user transcript one other = absurd (none-some user one)
+  alone_at [] (t ∷ transcripts) parts place user transcript one other = absurd parts
+  alone_at (u ∷ users) [] parts place user transcript one other = absurd parts
+  alone_at (u ∷ users) (t ∷ transcripts) parts zero user transcript one other =
+      let first : IsEvaluatedAlone journal u (dealings u.number) t = alone journal u (dealings u.number) t parts.0 parts.1 in
+      subst (λ (v : PlainUser). IsEvaluatedAlone journal v (dealings v.number) transcript) (same_Some u user one) (subst (IsEvaluatedAlone journal u (dealings u.number)) (same_Some t transcript other) first)
+  alone_at (u ∷ users) (t ∷ transcripts) parts (suc place) user transcript one other = alone_at users transcripts parts.2 place user transcript one other
 
-as_many : (journal : Entries) (users : List PlainUser) (transcripts : List PlainTranscript) → AreUserParts journal users transcripts → length transcripts ≡ length users
-as_many journal [] [] parts = refl
-as_many journal [] (t ∷ transcripts) parts = absurd parts
-as_many journal (u ∷ users) [] parts = absurd parts
-as_many journal (u ∷ users) (t ∷ transcripts) parts = ap (λ (n : ℕ). suc n) (as_many journal users transcripts parts.2)
+  as_many : (users : List PlainUser) (transcripts : List PlainTranscript) → AreUserParts dealings journal users transcripts → length transcripts ≡ length users
+  as_many [] [] parts = refl
+  as_many [] (t ∷ transcripts) parts = absurd parts
+  as_many (u ∷ users) [] parts = absurd parts
+  as_many (u ∷ users) (t ∷ transcripts) parts = ap (λ (n : ℕ). suc n) (as_many users transcripts parts.2)
 
--- each transcript is
-pub evaluated_alone : (journal : Entries) (users : List PlainUser) (transcripts : List PlainTranscript) → AreUserParts journal users transcripts → TranscriptsAreEvaluatedAlone users journal transcripts
-evaluated_alone journal users transcripts parts = record { each = alone_at journal users transcripts parts; many = as_many journal users transcripts parts }
+  -- each transcript is
+  pub evaluated_alone : (users : List PlainUser) (transcripts : List PlainTranscript) → AreUserParts dealings journal users transcripts → TranscriptsAreEvaluatedAlone dealings users journal transcripts
+  evaluated_alone users transcripts parts = record { each = alone_at users transcripts parts; many = as_many users transcripts parts }
 
 -- where there is no room an act is a leave
 leaves_alone : (leave : Bool) (full : Bool) → IsTrue (leave || not full) → IsTrue full → IsTrue leave

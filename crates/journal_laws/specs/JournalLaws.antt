@@ -14,7 +14,9 @@ use Rattle.sv_rules.specs.Outcome.{value_answer}
 use Rattle.sv_rules.specs.Refused.{hold_on}
 use Rattle.sv_rules.specs.declared.standing.Standing.{Standing}
 use Rattle.sv_story_laws.specs.AnswerLaws.{Grants, IsAccessOf, IsThere}
+use Rattle.session_rules.specs.Run.{Dealings}
 use Rattle.session_rules.specs.Session.{session_of}
+use Rattle.session_rules.specs.Shelf.{Exchange, replies_in}
 use Rattle.session_rules.specs.UserPart.{acts_of, answered_entries, answers_of, before_leave}
 
 -- the journal has this entry, and these before it
@@ -59,18 +61,19 @@ answers_given journal user = answers_of (answered_entries journal user)
 abbrev pub acts_answered : Entries → ℕ → List Act
 acts_answered journal user = acts_of (answered_entries journal user)
 
--- a transcript is its user's: that of its lines alone, which asked the acts that the journal answers, and then, only where the journal was full, acts that are answered Full
-pub record IsEvaluatedAlone (journal : Entries) (user : PlainUser) (transcript : PlainTranscript) : Type 0 where
+-- a transcript is its user's: that of its lines alone, with the replies of these exchanges with its shelf, which asked the acts that the journal answers, and then, only where the journal was full, acts that are answered Full
+pub record IsEvaluatedAlone (journal : Entries) (user : PlainUser) (exchanges : List Exchange) (transcript : PlainTranscript) : Type 0 where
   pub whose : transcript.user ≡ user.number
   pub past : List Act
-  pub printed : (session_of user.lines (answers_given journal user.number ++ map (λ act. full) past)).terminal.transcript ≡ transcript.lines
-  pub asked : (session_of user.lines (answers_given journal user.number ++ map (λ act. full) past)).acts ≡ acts_answered journal user.number ++ past
-  pub finished : (session_of user.lines (answers_given journal user.number ++ map (λ act. full) past)).waits ≡ None
+  pub printed : (session_of user.lines (answers_given journal user.number ++ map (λ act. full) past) (replies_in exchanges)).terminal.transcript ≡ transcript.lines
+  pub asked : (session_of user.lines (answers_given journal user.number ++ map (λ act. full) past) (replies_in exchanges)).acts ≡ acts_answered journal user.number ++ past
+  pub called : (session_of user.lines (answers_given journal user.number ++ map (λ act. full) past) (replies_in exchanges)).exchanges ≡ exchanges
+  pub finished : (session_of user.lines (answers_given journal user.number ++ map (λ act. full) past) (replies_in exchanges)).waits ≡ None
   pub limit : past ≢ [] → IsTrue (is_full (before_leave journal user.number))
 
--- there is one for each user, in their order
-pub record TranscriptsAreEvaluatedAlone (users : List PlainUser) (journal : Entries) (transcripts : List PlainTranscript) : Type 0 where
-  pub each : (place : ℕ) (user : PlainUser) (transcript : PlainTranscript) → slice_get users place ≡ Some user → slice_get transcripts place ≡ Some transcript → IsEvaluatedAlone journal user transcript
+-- there is one for each user, in their order, with these dealings with their shelves
+pub record TranscriptsAreEvaluatedAlone (dealings : Dealings) (users : List PlainUser) (journal : Entries) (transcripts : List PlainTranscript) : Type 0 where
+  pub each : (place : ℕ) (user : PlainUser) (transcript : PlainTranscript) → slice_get users place ≡ Some user → slice_get transcripts place ≡ Some transcript → IsEvaluatedAlone journal user (dealings user.number) transcript
   pub many : length transcripts ≡ length users
 
 -- an entry that is made behind a full journal is a leave, and none has the answer Full

@@ -3,7 +3,7 @@ ghost use Rattle.bundle_text.specs.User.{PlainUser};
 ghost use Rattle.sv_journal.specs.Output.{PlainTranscript};
 ghost use Rattle.sv_rules.specs.Entries.{Entries};
 ghost use Rattle.sv_rules.specs.Legal.{IsLegal};
-ghost use Rattle.session_rules.specs.Run.{AreUserParts};
+ghost use Rattle.session_rules.specs.Run.{AreUserParts, Dealings};
 ghost use Rattle.journal_laws.specs.JournalLaws.{AccessesFollowTheTable, FullJournalsTakeLeavesAlone, TranscriptsAreEvaluatedAlone, UsesGiveTheLastValue};
 
 use sv_story_laws::{answer_law, control_law};
@@ -27,11 +27,11 @@ pub fn uses_give_the_last_value()
     control_law();
 }
 
-/// Each transcript is that of its user's lines, evaluated alone with the answers that the journal gives that user. The call
-/// does nothing. No memory.
+/// Each transcript is that of its user's lines, evaluated alone with the answers that the journal gives that user, and with
+/// the replies of its shelf. The call does nothing. No memory.
 pub fn transcripts_are_evaluated_alone()
-    ensures { (journal : Entries) (users : List PlainUser) (transcripts : List PlainTranscript) → AreUserParts journal users transcripts →
-        TranscriptsAreEvaluatedAlone users journal transcripts }
+    ensures { (dealings : Dealings) (journal : Entries) (users : List PlainUser) (transcripts : List PlainTranscript) → AreUserParts dealings journal users transcripts →
+        TranscriptsAreEvaluatedAlone dealings users journal transcripts }
 {}
 
 /// Past its limit a legal journal takes leaves alone, and no entry has the answer Full: so whatever else is asked then is

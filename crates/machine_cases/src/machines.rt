@@ -188,14 +188,19 @@ fn note_report(alloc: Global, printed: &mut Notes, fail: Fail, line: &Line) -> R
 
 // Notes lines that were printed.
 fn note_lines(alloc: Global, printed: &mut Notes, lines: LineList) -> Result<()> {
-    for line in lines.as_slice() {
+    note_each(alloc, printed, lines.as_slice())
+}
+
+/// Notes each of these lines.
+pub fn note_each(alloc: Global, printed: &mut Notes, lines: &[Line]) -> Result<()> {
+    for line in lines {
         printed.push(glyphs_text(alloc, line.as_slice())?)?;
     }
     Ok(())
 }
 
-// Notes an act that was asked: the text of its entry without its place, its party and its answer.
-fn note_act(alloc: Global, acts: &mut Notes, act: Act) -> Result<()> {
+/// Notes an act that was asked: the text of its entry without its place, its party and its answer.
+pub fn note_act(alloc: Global, acts: &mut Notes, act: Act) -> Result<()> {
     let text = entry_text(alloc, act)?;
     let act = text
         .strip_prefix("1 1001 ")

@@ -1,9 +1,9 @@
 -- What a session asks of its user's shelf, and what it is answered.
 use Rattle.std.specs.Prelude.{◌≡◌, ℕ, Bool, List, [], ◌∷◌, Option, Some, None, Result, Ok, Err, drop, map, reverse}
-use Rattle.apl_io.specs.Content.{Told, Lists, Reads, Removes, Writes, by_user_and_name}
+use Rattle.apl_io.specs.Content.{Told, Reads, Removes, Writes, by_user_and_name}
 use Rattle.apl_io.specs.declared.store_error.StoreError.{StoreError}
 use Rattle.apl_io.specs.declared.store_error.StoreError.TheVariants.{Failed, WantOfMemory}
-use Rattle.ws_commands.specs.Shelf.{CountsFaults}
+use Rattle.ws_commands.specs.Shelf.{CountsFaults, ListsInOrder}
 use Rattle.ws_commands.specs.Step.{Step, does, reads, writes, removes, lists}
 use Rattle.ws_commands.specs.Todo.{PlainTodo, faulted}
 
@@ -95,7 +95,7 @@ module _ {K : Type 0} (told : K → Option (Told (ℕ × List ℕ))) (faults : K
   Serves user (fetch name) old reply new = IsReplied (λ before answer now. Reads by_user_and_name before (user, name) answer now) fetched old reply new
   Serves user (store name bytes) old reply new = IsReplied {T = Unit {0}} (λ before answer now. Writes by_user_and_name before (user, name) bytes answer now) (λ _. stored) old reply new
   Serves user (discard name) old reply new = IsReplied (λ before answer now. Removes by_user_and_name before (user, name) answer now) discarded old reply new
-  Serves user browse old reply new = IsReplied (λ before answer now. Lists before user answer now) browsed old reply new
+  Serves user browse old reply new = IsReplied (λ before answer now. ListsInOrder before user answer now) browsed old reply new
 
   -- these exchanges of a user, the newest first, lead the shelf from where it was at the start to where it is at the end
   abbrev pub IsShelfRun : ℕ → K → List Exchange → K → Type 0

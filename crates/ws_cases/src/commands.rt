@@ -1,8 +1,8 @@
 use crate::desk::Desk;
-use crate::failing::calls_of;
 use crate::shelf::shelf_step;
 use anyhow::Result;
 use apl_io::MemoryShelf;
+use case_devices::calls_of;
 use case_fields::{names_text, report_text, unescaped};
 use case_workspaces::{STEP_END, answers, natural_of, step};
 use std::alloc::Global;

@@ -6,7 +6,6 @@ mod bytes;
 mod calls;
 mod commands;
 mod desk;
-mod failing;
 mod saved;
 mod shelf;
 

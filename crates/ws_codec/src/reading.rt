@@ -12,8 +12,8 @@ use apl_workspace::{RemakeList, Workspace};
 use std::alloc::Global;
 
 /// The workspace that bytes of version 1 or 2 hold, and the offers that are to be made again, in their order. `BadBytes`
-/// tells the first field that breaks a rule, else `WantOfMemory`. It takes memory for the workspace and the offers, and
-/// none for what the bytes do not hold.
+/// tells the first field that breaks a rule, unless memory ran out, which `WantOfMemory` says, whatever the bytes hold. It
+/// takes memory for the workspace and the offers, and none for what the bytes do not hold.
 pub fn read(alloc: Global, bytes: &[u8]) -> Result<Saved, CodecRefused>
     ensures { ReadsSaved result bytes.now }
 {

@@ -13,7 +13,8 @@ pub struct Saved {
     pub remakes: RemakeList,
 }
 
-/// The rules of saved bytes, in the order in which they are looked at where a field breaks several.
+/// The rules of saved bytes, in the order in which they are looked at where a field breaks several. A field that is cut breaks
+/// `Short`, and no other.
 #[derive(Clone, Copy, Debug, PartialEq, Eq, Hash)]
 pub enum SavedRule {
     /// The first four bytes are `APLS`.

@@ -1,5 +1,7 @@
 -- What the shelf is asked, what it tells, and what is to be done by its answer.
-use Rattle.std.specs.Prelude.{◌≡◌, ◌≤◌, ◌⊎◌, ℕ, List, Option, Result, Ok, Err, IfSome, IsSomeAnd, IsErrOf}
+use Rattle.std.specs.Prelude.{◌≡◌, ◌≤◌, ◌⊎◌, ℕ, List, Option, Result, Ok, Err, IfOk, IfSome, IsSomeAnd, IsErrOf}
+use Rattle.std.specs.List.Sorted.{IsStrictlySortedBy}
+use Rattle.apl_arrays.specs.Name.{name_order}
 use Rattle.apl_io.specs.Content.{Told, Lists, Reads, Removes, Writes, by_user_and_name, entry_of}
 use Rattle.apl_io.specs.Faults.{Rose, one_more}
 use Rattle.apl_io.specs.declared.store_error.StoreError.{StoreError}
@@ -18,6 +20,10 @@ Follows next (Ok answer) todo = todo ≡ next answer
 Follows next (Err Failed) todo = todo ≡ faulted
 Follows next (Err WantOfMemory) todo = ⊥
 
+-- the names of a user, ascending, where the call answered
+abbrev pub ListsInOrder : Option (Told (ℕ × List ℕ)) → ℕ → Result (List (List ℕ)) StoreError → Option (Told (ℕ × List ℕ)) → Type 0
+ListsInOrder before user answer now = Lists before user answer now × IfOk answer (λ names. IsStrictlySortedBy name_order names)
+
 module _ {K : Type 0} (told : K → Option (Told (ℕ × List ℕ))) (faults : K → ℕ) where
   -- one call of the shelf: what it told, its count of faults, and what is to be done by its answer
   pub record IsCall {T : Type 0} (Tells : Option (Told (ℕ × List ℕ)) → Result T StoreError → Option (Told (ℕ × List ℕ)) → Type 0) (next : T → PlainTodo) (old : K) (todo : PlainTodo) (new : K) : Type 0 where
@@ -32,7 +38,7 @@ module _ {K : Type 0} (told : K → Option (Told (ℕ × List ℕ))) (faults : K
   Takes user (reads name next) old todo new = IsCall (λ before answer now. Reads by_user_and_name before (user, name) answer now) next old todo new
   Takes user (writes name bytes wanted) old todo new = IsCall {T = Unit {0}} (λ before answer now. Writes by_user_and_name before (user, name) bytes answer now) (λ _. wanted) old todo new
   Takes user (removes name next) old todo new = IsCall (λ before answer now. Removes by_user_and_name before (user, name) answer now) next old todo new
-  Takes user (lists next) old todo new = IsCall (λ before answer now. Lists before user answer now) next old todo new
+  Takes user (lists next) old todo new = IsCall (λ before answer now. ListsInOrder before user answer now) next old todo new
 
 -- what a shelf tells is kept, its places among it, though it may have had one call more
 abbrev pub KeepsEntries : Option (Told (ℕ × List ℕ)) → Option (Told (ℕ × List ℕ)) → Type 0

@@ -27,10 +27,10 @@ use apl_workspace::{What, Workspace};
 use std::alloc::Global;
 
 /// What is to be done for a line that begins with `)`: the shared names to be retracted, the lines to be printed and whether
-/// their glyphs are counted, the change, and the offers to be made again. `)SAVE`, `)LOAD`, `)COPY`, `)DROP` and `)LIB` call
-/// the shelf once, with the number of the user, and no other line does. LIBRARY FAULT comes only where the shelf's count of
-/// faults rose in that call. It takes memory for all this and for what it reads; `WantOfMemory` leaves the shelf as that call
-/// left it.
+/// their glyphs are counted, the change, and the offers to be made again. `)SAVE` under a name or an id, `)LOAD`, `)COPY`,
+/// `)DROP` and `)LIB` call the shelf once, with the number of the user, and no other line does. A call that fails is told by
+/// LIBRARY FAULT alone, and only where the shelf's count of faults rose in it. It takes memory for all this and for what it
+/// reads; `WantOfMemory` leaves the shelf as that call left it.
 pub fn prepare<K: Shelf>(
     alloc: Global,
     line: &Line,

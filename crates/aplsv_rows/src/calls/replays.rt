@@ -82,6 +82,40 @@ journal
 end
 ";
 
+// Each user keeps a workspace on the shelf that it was lent, of which a call fails.
+const KEPT: &str = "user 1001
+|)SAVE W
+|)SAVE W
+user 1002
+|X←3
+|)SAVE W
+|)LOAD W
+|)LOAD W
+|X
+end
+";
+
+const KEPT_PRINTS: &str = "      )SAVE W
+LIBRARY FAULT
+      )SAVE W
+SAVED W
+
+      X←3
+      )SAVE W
+SAVED W
+      )LOAD W
+LIBRARY FAULT
+      )LOAD W
+LOADED W
+      X
+3
+
+journal
+1 1001 leave : done
+2 1002 leave : done
+end
+";
+
 // A user asks what answers behind 10.
 const ASKED: &str = "user 1001
 |10 ⎕SVO 'C'
@@ -270,7 +304,9 @@ impl Calls for Replays {
     fn make(&self, alloc: Global, looks: &mut Looks) -> Result<()> {
         prints(alloc, looks, SHARED, SHARED_PRINTS)?;
         prints(alloc, looks, HELD, HELD_PRINTS)?;
+        prints(alloc, looks, KEPT, KEPT_PRINTS)?;
         gives_shelves_back(alloc, looks)?;
-        prints_fixed(alloc, looks, ASKED, ASKED_PRINTS)
+        prints_fixed(alloc, looks, ASKED, ASKED_PRINTS)?;
+        prints_fixed(alloc, looks, KEPT, KEPT_PRINTS)
     }
 }

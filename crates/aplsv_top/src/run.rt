@@ -1,0 +1,332 @@
+ghost use Rattle.std.specs.Prelude.{◌≡◌, ◌≤◌, false, IfOk, None, OnOk, Some, length, vec_len};
+ghost use Rattle.apl_arrays.specs.Limits.{most_users};
+ghost use Rattle.aplsv_words.specs.Meaning.{asked_by};
+ghost use Rattle.aplsv_top.specs.Headline.{ArePlaced, ClockedOutput, IsOutputIn, IsOutputOver, NamedOutput, ShelvedOutput};
+
+use crate::memory::{memory_clock, memory_shelves, memory_text};
+use crate::output::output_of;
+use apl_arrays::{Bytes, WantOfMemory};
+use apl_io::{Clock, Devices, Shelf, TextStore};
+use apl_session::{Ended, Outcome};
+use aplsv_replay::replay;
+use aplsv_words::Words;
+use bundle_text::Bundle;
+use std::alloc::Global;
+
+/// What came of a run: its output, and the devices as it left them.
+#[derive(Debug, Drop)]
+pub(crate) struct Ran<T, C, K> {
+    pub written: Result<Bytes, WantOfMemory>,
+    pub text: T,
+    pub clock: C,
+    pub shelves: Vec<K>,
+}
+
+/// Runs a bundle over the devices that the words name; in the place of each other one is a new one in memory: the bundle's
+/// files, its readings, and an empty shelf for each user. What no word names is not called. It takes memory for the run and
+/// its output.
+pub(crate) fn run_as_asked<T: TextStore, C: Clock, K: Shelf>(
+    alloc: Global,
+    words: &Words,
+    bundle: Bundle,
+    text: T,
+    clock: C,
+    shelves: Vec<K>,
+) -> Ran<T, C, K>
+    requires shelves { vec_len shelves ≡ most_users }
+    ensures run { IfOk result.written (λ output. NamedOutput C.told C.faults T.told T.faults K.told K.faults (asked_by words.now).text (asked_by words.now).clock (asked_by words.now).library
+        bundle output.items clock result.clock text result.text
+        shelves.items result.shelves.items) }
+    ensures text { (asked_by words.now).text ≡ None → result.text ≡ text }
+    ensures clock { (asked_by words.now).clock ≡ false → result.clock ≡ clock }
+    ensures library { (asked_by words.now).library ≡ None → result.shelves ≡ shelves }
+{
+    match words.text {
+        Some(place) => over_placed_text(alloc, place, words, bundle, text, clock, shelves),
+        None => over_bundle_text(alloc, words, bundle, text, clock, shelves),
+    }
+}
+
+// Runs it over the text store that was handed in, which is told its place.
+fn over_placed_text<T: TextStore, C: Clock, K: Shelf>(
+    alloc: Global,
+    place: &str,
+    words: &Words,
+    bundle: Bundle,
+    text: T,
+    clock: C,
+    shelves: Vec<K>,
+) -> Ran<T, C, K>
+    requires shelves { vec_len shelves ≡ most_users }
+    ensures run { IfOk result.written (λ output. NamedOutput C.told C.faults T.told T.faults K.told K.faults (Some place.now) (asked_by words.now).clock (asked_by words.now).library
+        bundle output.items clock result.clock text result.text
+        shelves.items result.shelves.items) }
+    ensures clock { (asked_by words.now).clock ≡ false → result.clock ≡ clock }
+    ensures library { (asked_by words.now).library ≡ None → result.shelves ≡ shelves }
+{
+    let mut text = text;
+    match text.set_place(place) {
+        Ok(()) => over_text(alloc, words, bundle, text, clock, shelves),
+        Err(refused) => Ran {
+            written: Err(refused),
+            text,
+            clock,
+            shelves,
+        },
+    }
+}
+
+// Runs it over its own files.
+fn over_bundle_text<T: TextStore, C: Clock, K: Shelf>(
+    alloc: Global,
+    words: &Words,
+    bundle: Bundle,
+    text: T,
+    clock: C,
+    shelves: Vec<K>,
+) -> Ran<T, C, K>
+    requires shelves { vec_len shelves ≡ most_users }
+    ensures run { IfOk result.written (λ output. NamedOutput C.told C.faults T.told T.faults K.told K.faults None (asked_by words.now).clock (asked_by words.now).library
+        bundle output.items clock result.clock text result.text
+        shelves.items result.shelves.items) }
+    ensures text { result.text ≡ text }
+    ensures clock { (asked_by words.now).clock ≡ false → result.clock ≡ clock }
+    ensures library { (asked_by words.now).library ≡ None → result.shelves ≡ shelves }
+{
+    let files = match memory_text(alloc, &bundle) {
+        Ok(files) => files,
+        Err(refused) => {
+            return Ran {
+                written: Err(refused),
+                text,
+                clock,
+                shelves,
+            };
+        }
+    };
+    let Ran {
+        written,
+        text: _files,
+        clock,
+        shelves,
+    } = over_text(alloc, words, bundle, files, clock, shelves);
+    Ran {
+        written,
+        text,
+        clock,
+        shelves,
+    }
+}
+
+// Runs it over a text store, and the clock that the words ask for.
+fn over_text<T: TextStore, C: Clock, K: Shelf>(
+    alloc: Global,
+    words: &Words,
+    bundle: Bundle,
+    text: T,
+    clock: C,
+    shelves: Vec<K>,
+) -> Ran<T, C, K>
+    requires shelves { vec_len shelves ≡ most_users }
+    ensures run { IfOk result.written (λ output. ClockedOutput C.told C.faults T.told T.faults K.told K.faults (asked_by words.now).clock (asked_by words.now).library
+        bundle output.items clock result.clock text result.text
+        shelves.items result.shelves.items) }
+    ensures clock { (asked_by words.now).clock ≡ false → result.clock ≡ clock }
+    ensures library { (asked_by words.now).library ≡ None → result.shelves ≡ shelves }
+{
+    if words.clock {
+        over_clock(alloc, words, bundle, text, clock, shelves)
+    } else {
+        over_bundle_clock(alloc, words, bundle, text, clock, shelves)
+    }
+}
+
+// Runs it over its own readings.
+fn over_bundle_clock<T: TextStore, C: Clock, K: Shelf>(
+    alloc: Global,
+    words: &Words,
+    bundle: Bundle,
+    text: T,
+    clock: C,
+    shelves: Vec<K>,
+) -> Ran<T, C, K>
+    requires shelves { vec_len shelves ≡ most_users }
+    ensures run { IfOk result.written (λ output. ClockedOutput C.told C.faults T.told T.faults K.told K.faults false (asked_by words.now).library
+        bundle output.items clock result.clock text result.text
+        shelves.items result.shelves.items) }
+    ensures clock { result.clock ≡ clock }
+    ensures library { (asked_by words.now).library ≡ None → result.shelves ≡ shelves }
+{
+    let readings = match memory_clock(alloc, &bundle) {
+        Ok(readings) => readings,
+        Err(refused) => {
+            return Ran {
+                written: Err(refused),
+                text,
+                clock,
+                shelves,
+            };
+        }
+    };
+    let Ran {
+        written,
+        text,
+        clock: _readings,
+        shelves,
+    } = over_clock(alloc, words, bundle, text, readings, shelves);
+    Ran {
+        written,
+        text,
+        clock,
+        shelves,
+    }
+}
+
+// Runs it over a text store and a clock, and the shelves that the words ask for.
+fn over_clock<T: TextStore, C: Clock, K: Shelf>(
+    alloc: Global,
+    words: &Words,
+    bundle: Bundle,
+    text: T,
+    clock: C,
+    shelves: Vec<K>,
+) -> Ran<T, C, K>
+    requires shelves { vec_len shelves ≡ most_users }
+    ensures run { IfOk result.written (λ output. ShelvedOutput C.told C.faults T.told T.faults K.told K.faults (asked_by words.now).library
+        bundle output.items clock result.clock text result.text
+        shelves.items result.shelves.items) }
+    ensures library { (asked_by words.now).library ≡ None → result.shelves ≡ shelves }
+{
+    match words.library {
+        Some(place) => over_placed_shelves(alloc, place, bundle, text, clock, shelves),
+        None => over_empty_shelves(alloc, bundle, text, clock, shelves),
+    }
+}
+
+// Runs it over the shelves that were handed in; each user's is told its place.
+fn over_placed_shelves<T: TextStore, C: Clock, K: Shelf>(
+    alloc: Global,
+    place: &str,
+    bundle: Bundle,
+    text: T,
+    clock: C,
+    shelves: Vec<K>,
+) -> Ran<T, C, K>
+    requires shelves { vec_len shelves ≡ most_users }
+    ensures run { IfOk result.written (λ output. ShelvedOutput C.told C.faults T.told T.faults K.told K.faults (Some place.now)
+        bundle output.items clock result.clock text result.text
+        shelves.items result.shelves.items) }
+{
+    let mut shelves = shelves;
+    match place_shelves(&mut shelves, bundle.users().len(), place) {
+        Ok(()) => run_over(alloc, bundle, text, clock, shelves),
+        Err(refused) => Ran {
+            written: Err(refused),
+            text,
+            clock,
+            shelves,
+        },
+    }
+}
+
+// Tells so many shelves their place.
+fn place_shelves<K: Shelf>(
+    shelves: &mut Vec<K>,
+    count: usize,
+    place: &str,
+) -> Result<(), WantOfMemory>
+    requires { count ≤ vec_len shelves.old }
+    ensures placed { OnOk result (ArePlaced K.told place.now count shelves.old.items shelves.new.items) }
+    ensures many { vec_len shelves.new ≡ vec_len shelves.old }
+{
+    for at in 0..count {
+        shelves[at].set_place(place)?;
+    }
+    Ok(())
+}
+
+// Runs it over a new shelf for each user.
+fn over_empty_shelves<T: TextStore, C: Clock, K: Shelf>(
+    alloc: Global,
+    bundle: Bundle,
+    text: T,
+    clock: C,
+    shelves: Vec<K>,
+) -> Ran<T, C, K>
+    ensures run { IfOk result.written (λ output. ShelvedOutput C.told C.faults T.told T.faults K.told K.faults None
+        bundle output.items clock result.clock text result.text
+        shelves.items result.shelves.items) }
+    ensures library { result.shelves ≡ shelves }
+{
+    let made = match memory_shelves(alloc, &bundle) {
+        Ok(made) => made,
+        Err(refused) => {
+            return Ran {
+                written: Err(refused),
+                text,
+                clock,
+                shelves,
+            };
+        }
+    };
+    let Ran {
+        written,
+        text,
+        clock,
+        shelves: _made,
+    } = run_over(alloc, bundle, text, clock, made);
+    Ran {
+        written,
+        text,
+        clock,
+        shelves,
+    }
+}
+
+// Runs it over these devices.
+fn run_over<T: TextStore, C: Clock, K: Shelf>(
+    alloc: Global,
+    bundle: Bundle,
+    text: T,
+    clock: C,
+    shelves: Vec<K>,
+) -> Ran<T, C, K>
+    requires { length bundle.users ≤ vec_len shelves }
+    ensures { IfOk result.written (λ output. IsOutputOver C.told C.faults T.told T.faults K.told K.faults
+        bundle output.items clock result.clock text result.text
+        shelves.items result.shelves.items) }
+{
+    let Outcome { ended, devices } = replay(
+        alloc,
+        bundle,
+        Devices {
+            text,
+            clock,
+            shelves,
+        },
+    );
+    let Devices {
+        text,
+        clock,
+        shelves,
+    } = devices;
+    Ran {
+        written: output_in(alloc, ended),
+        text,
+        clock,
+        shelves,
+    }
+}
+
+// What is written of a run that is whole.
+fn output_in(alloc: Global, ended: Ended) -> Result<Bytes, WantOfMemory>
+    ensures { IfOk result (λ output. IsOutputIn ended output.items) }
+{
+    match ended {
+        Ended::Whole {
+            transcripts,
+            journal,
+        } => output_of(alloc, &transcripts, journal.as_slice()),
+        Ended::WantOfMemory => Err(WantOfMemory),
+    }
+}

@@ -1,7 +1,0 @@
-use Rattle.std.proofs.Common.{ℕ, List, ◌∷◌, [], ◌++◌, subst, sym}
-use Rattle.std.specs.List.Sorted.{IsStrictlyIncreasing}
-use Rattle.ws_cases.proofs.CallLemmas.{two_ascend}
-use Rattle.ws_cases.proofs.failing.two_calls.Goals as goal
-
-pub push-requires : goal.push-requires
-push-requires c = subst (λ (numbers : List ℕ). IsStrictlyIncreasing (numbers ++ c.args.second ∷ [])) (sym c.in_ok-calls.ensures) (two_ascend c.args.first c.args.second c.requires)
