@@ -1,7 +1,6 @@
 -- Elements that are changed one after another, as shelves that are told their place.
-use Rattle.std.proofs.Common.{◌≡◌, ◌∙◌, ℕ, ◌+◌, ◌<◌, List, [], ◌∷◌, ◌++◌, length, map, take, drop, set, sym, ap, ap₂, arith}
+use Rattle.std.proofs.Common.{◌≡◌, ◌∙◌, ℕ, ◌+◌, ◌<◌, List, [], ◌∷◌, ◌++◌, length, map, take, drop, set, get_or, sym, ap, ap₂, arith}
 use Rattle.std.proofs.lemmas.List.{drop_more, map-append, take_more, take_more_set}
-use Rattle.std.specs.List.{get_or}
 
 module _ {A B : Type 0} (seen : A → B) (change : B → B) where
   -- one more is changed, where those in front of it were, and it was as before
