@@ -11,7 +11,7 @@ module _ {K : Type 0} (told : K → Option (Told (ℕ × List ℕ))) (faults : K
   served_keeps user (fetch name) old reply new h = read_keeps by_user_and_name (told old) (told new) (user, name) h.answer h.told_answer
   served_keeps user (store name bytes) old reply new h = write_keeps by_user_and_name (told old) (told new) (user, name) bytes h.answer h.told_answer
   served_keeps user (discard name) old reply new h = remove_keeps by_user_and_name (told old) (told new) (user, name) h.answer h.told_answer
-  served_keeps user browse old reply new h = list_keeps (told old) (told new) user h.answer h.told_answer
+  served_keeps user browse old reply new h = list_keeps (told old) (told new) user h.answer h.told_answer.0
 
   -- and so all
   pub shelves_keep : ShelvesKeepTheirPlaces told faults
