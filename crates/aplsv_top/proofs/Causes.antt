@@ -1,10 +1,9 @@
 -- Why the program ends as it does.
 use Rattle.std.proofs.Common.{◌≡◌, ◌≢◌, ◌≤◌, ◌⊎◌, ◌+◌, ℕ, List, [], length, Option, Some, None, IsSomeAnd, ap, sym, subst, subst₂, refl, inl, inr, ◌∙◌, arith}
 use Rattle.std.proofs.lemmas.List.{drop_all}
-use Rattle.std.specs.Io.KnownBytes.{Appends}
 use Rattle.apl_arrays.specs.Limits.{most_input_bytes}
 use Rattle.apl_io.specs.Faults.{Rose}
-use Rattle.apl_io.specs.Whole.{ReadsAll, TakesExactly, TakesAtMost, AppendsPrefix, AreAtMost}
+use Rattle.apl_io.specs.Whole.{ReadsAll, TakesExactly, TakesAtMost, AreAtMost}
 use Rattle.bundle_text.specs.Breaks.{Breaks}
 use Rattle.bundle_text.specs.Bundle.{BundleText, IsNoBundle, PlainBundle}
 use Rattle.bundle_text.specs.declared.refused.BundleRule.{BundleRule}

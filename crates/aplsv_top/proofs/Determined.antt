@@ -6,29 +6,30 @@ use Rattle.auxiliaries.specs.Run.{Event, began, answered, Leads, IsReplierRun}
 use Rattle.sv_rules.specs.Entries.{Entries}
 use Rattle.session_rules.specs.Auxiliaries.{event_of, events_of}
 
--- from states that are alike a replier comes to states that are alike, with one answer
-pub record IsDetermined {S : Type 0} (forgets : S → ℕ → S → Type 0) (replies : S → ℕ → PlainArray → PlainArray → S → Type 0) (Alike : S → S → Type 0) : Type 0 where
+-- those that begin so are alike, and from states that are alike a replier comes to states that are alike, with one answer
+pub record IsDetermined {S : Type 0} (forgets : S → ℕ → S → Type 0) (replies : S → ℕ → PlainArray → PlainArray → S → Type 0) (Begins : S → Type 0) (Alike : S → S → Type 0) : Type 0 where
+  pub begun : (a b : S) → Begins a → Begins b → Alike a b
   pub forgotten : (a b : S) (party : ℕ) (c d : S) → Alike a b → forgets a party c → forgets b party d → Alike c d
   pub replied : (a b : S) (party : ℕ) (value answer other : PlainArray) (c d : S) → Alike a b → replies a party value answer c → replies b party value other d → (answer ≡ other) × Alike c d
 
-module _ {S : Type 0} (forgets : S → ℕ → S → Type 0) (replies : S → ℕ → PlainArray → PlainArray → S → Type 0) where
+module _ {S : Type 0} (forgets : S → ℕ → S → Type 0) (replies : S → ℕ → PlainArray → PlainArray → S → Type 0) (Begins : S → Type 0) where
   -- a replier that went through some events went through those before the last ones
   before_more : (more events : List Event) (start end : S) → IsReplierRun forgets replies start (more ++ events) end → (between : S) × IsReplierRun forgets replies start events between
   before_more [] events start end run = (end, run)
   before_more (event ∷ more) events start end (between, run, lead) = before_more more events start between run
 
-  -- what answers behind a party has a run over a journal
-  abbrev pub Answers : ℕ → S → Entries → Type 0
-  Answers party start journal = (end : S) × IsReplierRun forgets replies start (events_of journal party) end
+  -- what answers behind a party has a run over a journal, from a state at which it may begin
+  abbrev pub Answers : ℕ → Entries → Type 0
+  Answers party journal = (start : S) × Begins start × ((end : S) × IsReplierRun forgets replies start (events_of journal party) end)
 
   -- and so it has over an older one
-  pub older_answers : (party : ℕ) (start : S) (more journal : Entries) → Answers party start (more ++ journal) → Answers party start journal
-  older_answers party start [] journal run = run
-  older_answers party start (e ∷ more) journal (end, run) =
-      older_answers party start more journal
-      (before_more (if e.party == party then option_to_list (event_of (more ++ journal) e) else []) (events_of (more ++ journal) party) start end run)
+  pub older_answers : (party : ℕ) (more journal : Entries) → Answers party (more ++ journal) → Answers party journal
+  older_answers party [] journal run = run
+  older_answers party (e ∷ more) journal (start, begins, (end, run)) =
+      older_answers party more journal
+      (start, begins, before_more (if e.party == party then option_to_list (event_of (more ++ journal) e) else []) (events_of (more ++ journal) party) start end run)
 
-  module _ (Alike : S → S → Type 0) (one : IsDetermined forgets replies Alike) where
+  module _ (Alike : S → S → Type 0) (one : IsDetermined forgets replies Begins Alike) where
     leads_alike : (event : Event) (a b c d : S) → Alike a b → Leads forgets replies event a c → Leads forgets replies event b d → Alike c d
     leads_alike (began party) a b c d alike lead other = one.forgotten a b party c d alike lead other
     leads_alike (answered party value answer) a b c d alike lead other = (one.replied a b party value answer answer c d alike lead other).1
@@ -40,7 +41,7 @@ module _ {S : Type 0} (forgets : S → ℕ → S → Type 0) (replies : S → �
         leads_alike event between middle c d (runs_alike events a b between middle alike run other) lead led
 
     -- and so the same value is given one answer
-    pub one_answer : (events : List Event) (party : ℕ) (value answer other : PlainArray) (start c d : S) → Alike start start → IsReplierRun forgets replies start (answered party value answer ∷ events) c
-        → IsReplierRun forgets replies start (answered party value other ∷ events) d → answer ≡ other
-    one_answer events party value answer other start c d alike (between, run, lead) (middle, ran, led) =
-        (one.replied between middle party value answer other c d (runs_alike events start start between middle alike run ran) lead led).0
+    pub one_answer : (events : List Event) (party : ℕ) (value answer other : PlainArray) (a b c d : S) → Begins a → Begins b → IsReplierRun forgets replies a (answered party value answer ∷ events) c
+        → IsReplierRun forgets replies b (answered party value other ∷ events) d → answer ≡ other
+    one_answer events party value answer other a b c d begins also (between, run, lead) (middle, ran, led) =
+        (one.replied between middle party value answer other c d (runs_alike events a b between middle (one.begun a b begins also) run ran) lead led).0

@@ -1,192 +1,80 @@
 -- Two replays of one bundle go on side by side.
 use Rattle.std.proofs.Common.{◌≡◌, ◌≢◌, ℕ, zero, suc, Bool, true, false, List, [], ◌∷◌, ◌++◌, Option, Some, None, refl, sym, ap, ap₂, subst, ◌∙◌}
-use Rattle.std.proofs.lemmas.Bool.{eq-eqb, eqb-true}
 use Rattle.std.specs.List.{AllByRecursion}
-use Rattle.std.specs.Prelude.{◌==◌, option_to_list, if◌then◌else◌}
+use Rattle.std.specs.Prelude.{◌==◌, if◌then◌else◌}
+use Rattle.std.proofs.lemmas.Bool.{eqb-true}
 use Rattle.std.specs.Option.{option_map_or}
 use Rattle.apl_arrays.specs.Array.{PlainArray}
-use Rattle.auxiliaries.specs.Run.{Event, answered, IsReplierRun}
+use Rattle.apl_arrays.specs.Parties.{clock_party, text_party}
 use Rattle.sv_events.specs.Answer.{PlainAnswer}
-use Rattle.sv_events.specs.Entry.{PlainEntry}
-use Rattle.sv_events.specs.Work.{act_of}
 use Rattle.sv_events.specs.declared.event.Act.{Act}
-use Rattle.sv_events.specs.declared.event.Act.TheVariants as act
-use Rattle.sv_events.specs.declared.work.Work.{Work}
-use Rattle.sv_events.specs.declared.work.Work.TheVariants as work
-use Rattle.aux_parties.specs.Auxiliaries.{auxiliaries, is_auxiliary, party_of}
-use Rattle.sv_rules.specs.Entries.{Entries, has_left, is_full, is_held, kind_of, next_place}
-use Rattle.sv_rules.specs.Legal.{answer_to, entry_for, is_still_held, journal_after, retried}
-use Rattle.sv_rules.specs.Refused.{awaited, waits}
+use Rattle.sv_rules.specs.Entries.{Entries, has_left, is_held, kind_of}
+use Rattle.sv_rules.specs.Legal.{answer_to, retried}
+use Rattle.sv_rules.specs.Refused.{waits}
 use Rattle.sv_rules.specs.Work.{work_of}
+use Rattle.aux_parties.specs.Auxiliaries.{auxiliaries, is_auxiliary, party_of}
 use Rattle.aux_parties.specs.declared.auxiliary.AuxiliaryKind.{AuxiliaryKind}
+use Rattle.aux_parties.specs.declared.auxiliary.AuxiliaryKind.TheVariants.{Clock, TextFiles}
 use Rattle.aux_parties.specs.declared.auxiliary.AuxiliaryRow.{AuxiliaryRow}
 use Rattle.aux_parties.proofs.TableLemmas.{kind_of_party, of_rows}
-use Rattle.sv_core.specs.Core.{PlainCore}
-use Rattle.sv_core.specs.Retry.{journal_retried}
-use Rattle.session_rules.specs.Auxiliaries.{event_of, events_of, reply_to, some_stay}
+use Rattle.session_rules.specs.Auxiliaries.{some_stay}
+use Rattle.session_rules.specs.Course.{Course}
 use Rattle.session_rules.specs.Session.{session_of}
-use Rattle.replay_rules.specs.Turns.{HasReplies, Participant, Replay, Turn, act_made, auxiliary_turn, auxiliary_turns, given, goes_on, numbers_of, ordered, party_turn, round, rounds, served, served_by, serving, turn, turn_by, turns_where, user_turns}
-use Rattle.aplsv_top.proofs.Determined.{Answers, IsDetermined, older_answers, one_answer}
-use Rattle.aplsv_top.proofs.ReplyWork.{IsAsked, replies_are_asked}
+use Rattle.session_rules.specs.Shelf.{Call, Exchange, Reply}
+use Rattle.replay_rules.specs.Turns.{HasReplies, Participant, Replay, Turn, act_made, auxiliary_turn, auxiliary_turns, given, goes_on, numbers_of, ordered, party_turn, round, rounds, served, turn, turn_by, turns_where, user_turns}
+use Rattle.aplsv_top.proofs.Determined.{Answers, IsDetermined, older_answers}
+use Rattle.aplsv_top.proofs.Heard.{AreApart, AreApartFrom, AreHeard, all_heard_beside, heard_turns}
+use Rattle.aplsv_top.proofs.Older.{AreLater, IsLater, IsOlder, adds_served, all_later_still, later_turn, later_turns, left_before, none_later, older_by, older_turns, same_numbers, turn_if}
+use Rattle.aplsv_top.proofs.OneReply.{same_served}
+use Rattle.aplsv_top.proofs.Sessions.{AreLevel, more_calls, same_session}
 
--- ---- what turns do to a journal: entries come before it
+-- ---- two users
 
-pub record IsOlder (before after : Entries) : Type 0 where
-  pub more : Entries
-  pub same : after ≡ more ++ before
+-- a user with other replies to come
+abbrev pub replying : List Reply → Participant → Participant
+replying replies user = record user { replies = replies }
 
-unchanged : (journal : Entries) → IsOlder journal journal
-unchanged journal = record { more = []; same = refl }
+-- two users differ in the replies to come, and in nothing else
+pub record IsLevelWith (user other : Participant) : Type 0 where
+  pub replies : List Reply
+  pub same : other ≡ replying replies user
 
-one_more : (e : PlainEntry) (journal : Entries) → IsOlder journal (e ∷ journal)
-one_more e journal = record { more = e ∷ []; same = refl }
+-- so do users
+abbrev pub AreLevelWith : List Participant → List Participant → Type 0
+AreLevelWith [] [] = Unit {0}
+AreLevelWith [] (other ∷ others) = ⊥
+AreLevelWith (user ∷ users) [] = ⊥
+AreLevelWith (user ∷ users) (other ∷ others) = IsLevelWith user other × AreLevelWith users others
 
-append_later : (later more before : Entries) → (later ++ more) ++ before ≡ later ++ (more ++ before)
-append_later [] more before = refl
-append_later (e ∷ later) more before = ap (λ (journal : Entries). e ∷ journal) (append_later later more before)
+numbers_level : (users others : List Participant) → AreLevelWith users others → numbers_of users ≡ numbers_of others
+numbers_level [] [] h = refl
+numbers_level [] (other ∷ others) h = absurd h
+numbers_level (user ∷ users) [] h = absurd h
+numbers_level (user ∷ users) (other ∷ others) h = ap₂ (λ (n : ℕ) (ns : List ℕ). n ∷ ns) (sym (ap (λ (u : Participant). u.number) h.0.same)) (numbers_level users others h.1)
 
-older_still : (before between after : Entries) → IsOlder before between → IsOlder between after → IsOlder before after
-older_still before between after h k = record { more = k.more ++ h.more; same = k.same ∙ (ap (λ (journal : Entries). k.more ++ journal) h.same ∙ sym (append_later k.more h.more before)) }
+-- two turns are level: they have one journal, and their users are
+record TurnsLevel (one other : Turn) : Type 0 where
+  journal : one.journal ≡ other.journal
+  user : IsLevelWith one.user other.user
 
-older_if : (full : Bool) (e : PlainEntry) (journal : Entries) → IsOlder journal (if full then journal else e ∷ journal)
-older_if true e journal = unchanged journal
-older_if false e journal = one_more e journal
+level_given : (held : Bool) (answer : PlainAnswer) (user : Participant) (replies : List Reply)
+    → IsLevelWith (if held then user else record user { answers = user.answers ++ answer ∷ [] }) (if held then replying replies user else record (replying replies user) { answers = user.answers ++ answer ∷ [] })
+level_given true answer user replies = record { replies = replies; same = refl }
+level_given false answer user replies = record { replies = replies; same = refl }
 
-older_after : (journal : Entries) (party : ℕ) (made : Act) → IsOlder journal (journal_after journal party made)
-older_after journal party made = older_if (is_full journal) (entry_for journal party made) journal
+level_heard : (answer : Option PlainAnswer) (user : Participant) (replies : List Reply)
+    → IsLevelWith (option_map_or (λ (given' : PlainAnswer). given given' user) answer user) (option_map_or (λ (given' : PlainAnswer). given given' (replying replies user)) answer (replying replies user))
+level_heard None user replies = record { replies = replies; same = refl }
+level_heard (Some answer) user replies = level_given (is_held (kind_of answer)) answer user replies
 
-older_serving : (journal : Entries) (party : ℕ) (replies : List PlainArray) (made : Option Act) → IsOlder journal (serving journal party replies made).journal
-older_serving journal party replies None = unchanged journal
-older_serving journal party replies (Some made) = older_after journal party made
+level_made : (again : Bool) (numbers : List ℕ) (journal : Entries) (user : Participant) (replies : List Reply) (made : Act) → TurnsLevel (act_made again numbers journal user made) (act_made again numbers journal (replying replies user) made)
+level_made true numbers journal user replies made = record { journal = refl; user = level_heard (retried numbers journal user.number) user replies }
+level_made false numbers journal user replies made = record { journal = refl; user = level_given (is_held (kind_of (answer_to journal user.number made))) (answer_to journal user.number made) user replies }
 
--- ---- the turn of an auxiliary
-
-older_served : (journal : Entries) (party : ℕ) (replies : List PlainArray) (due : Work) → IsOlder journal (served_by journal party replies due).journal
-older_served journal party [] (work.Reply local) = unchanged journal
-older_served journal party [] work.Idle = unchanged journal
-older_served journal party [] (work.Retract local) = older_after journal party (act.Retract local)
-older_served journal party [] (work.Control local) = older_serving journal party [] (act_of (work.Control local) (next_place journal) None)
-older_served journal party [] (work.Counter to surrogate) = older_serving journal party [] (act_of (work.Counter to surrogate) (next_place journal) None)
-older_served journal party [] (work.Use local) = older_serving journal party [] (act_of (work.Use local) (next_place journal) None)
-older_served journal party (reply ∷ replies) (work.Reply local) = older_serving journal party replies (act_of (work.Reply local) (next_place journal) (Some reply))
-older_served journal party (reply ∷ replies) work.Idle = unchanged journal
-older_served journal party (reply ∷ replies) (work.Retract local) = older_serving journal party (reply ∷ replies) (act_of (work.Retract local) (next_place journal) None)
-older_served journal party (reply ∷ replies) (work.Control local) = older_serving journal party (reply ∷ replies) (act_of (work.Control local) (next_place journal) None)
-older_served journal party (reply ∷ replies) (work.Counter to surrogate) = older_serving journal party (reply ∷ replies) (act_of (work.Counter to surrogate) (next_place journal) None)
-older_served journal party (reply ∷ replies) (work.Use local) = older_serving journal party (reply ∷ replies) (act_of (work.Use local) (next_place journal) None)
-
--- where replies are left after a turn, some were left before
-left_before : (journal : Entries) (party : ℕ) (replies : List PlainArray) (due : Work) → (served_by journal party replies due).replies ≢ [] → replies ≢ []
-left_before journal party [] (work.Reply local) left = left
-left_before journal party [] work.Idle left = left
-left_before journal party [] (work.Retract local) left = left
-left_before journal party [] (work.Control local) left = left
-left_before journal party [] (work.Counter to surrogate) left = left
-left_before journal party [] (work.Use local) left = left
-left_before journal party (reply ∷ replies) due left = λ e. cc e
-
-module _ {S : Type 0} (forgets : S → ℕ → S → Type 0) (replies : S → ℕ → PlainArray → PlainArray → S → Type 0) (Alike : S → S → Type 0) (one : IsDetermined forgets replies Alike)
-    (start : S) (alike : Alike start start) (party : ℕ) where
-  -- what the entry of a reply is to what answers
-  reply_event : (journal : Entries) (local : List ℕ) (asked : IsAsked journal party local) (reply : PlainArray)
-      → events_of (entry_for journal party (act.Set local reply) ∷ journal) party ≡ answered asked.customer asked.command reply ∷ events_of journal party
-  reply_event journal local asked reply =
-      ap (λ (same : Bool). (if same then option_to_list (event_of journal (entry_for journal party (act.Set local reply))) else []) ++ events_of journal party) (eq-eqb party party refl)
-      ∙ ap₂ (λ (value : Option PlainArray) (partner : Option ℕ). option_to_list (reply_to value partner (Some reply)) ++ events_of journal party) asked.value asked.partner
-
-  -- two replies to one value are one
-  same_reply : (journal : Entries) (local : List ℕ) (asked : IsAsked journal party local) (reply other : PlainArray)
-      → Answers forgets replies party start (entry_for journal party (act.Set local reply) ∷ journal) → Answers forgets replies party start (entry_for journal party (act.Set local other) ∷ journal)
-      → reply ≡ other
-  same_reply journal local asked reply other run ran =
-      one_answer forgets replies Alike one (events_of journal party) asked.customer asked.command reply other start run.0 ran.0 alike
-      (subst (λ (events : List Event). IsReplierRun forgets replies start events run.0) (reply_event journal local asked reply) run.1)
-      (subst (λ (events : List Event). IsReplierRun forgets replies start events ran.0) (reply_event journal local asked other) ran.1)
-
-  same_if : (full : Bool) (journal : Entries) (local : List ℕ) (asked : IsAsked journal party local) (reply other : PlainArray)
-      → Answers forgets replies party start (if full then journal else entry_for journal party (act.Set local reply) ∷ journal)
-      → Answers forgets replies party start (if full then journal else entry_for journal party (act.Set local other) ∷ journal)
-      → (if full then journal else entry_for journal party (act.Set local reply) ∷ journal) ≡ (if full then journal else entry_for journal party (act.Set local other) ∷ journal)
-  same_if true journal local asked reply other run ran = refl
-  same_if false journal local asked reply other run ran = ap (λ (given : PlainArray). entry_for journal party (act.Set local given) ∷ journal) (same_reply journal local asked reply other run ran)
-
-  -- a turn with some replies left has one journal
-  same_served : (journal : Entries) (rs ss : List PlainArray) (due : Work) → work_of journal party ≡ due → rs ≢ [] → ss ≢ []
-      → Answers forgets replies party start (served_by journal party rs due).journal → Answers forgets replies party start (served_by journal party ss due).journal
-      → (served_by journal party rs due).journal ≡ (served_by journal party ss due).journal
-  same_served journal [] ss due is some others run ran = absurd (some refl)
-  same_served journal (r ∷ rs) [] due is some others run ran = absurd (others refl)
-  same_served journal (r ∷ rs) (s ∷ ss) (work.Reply local) is some others run ran = same_if (is_full journal) journal local (replies_are_asked journal party local is) r s run ran
-  same_served journal (r ∷ rs) (s ∷ ss) work.Idle is some others run ran = refl
-  same_served journal (r ∷ rs) (s ∷ ss) (work.Retract local) is some others run ran = refl
-  same_served journal (r ∷ rs) (s ∷ ss) (work.Control local) is some others run ran = refl
-  same_served journal (r ∷ rs) (s ∷ ss) (work.Counter to surrogate) is some others run ran = refl
-  same_served journal (r ∷ rs) (s ∷ ss) (work.Use local) is some others run ran = refl
-
--- ---- the turns of users
-
-older_retried : (held : Bool) (next : Option Act) (numbers : List ℕ) (journal : Entries) (party : ℕ)
-    → IsOlder journal (let core : PlainCore = (if held then record { users = numbers; journal = journal } else record { users = numbers; journal = journal_retried journal party next }) in core.journal)
-older_retried true next numbers journal party = unchanged journal
-older_retried false None numbers journal party = unchanged journal
-older_retried false (Some made) numbers journal party = older_after journal party made
-
-older_made : (again : Bool) (numbers : List ℕ) (journal : Entries) (user : Participant) (made : Act) → IsOlder journal (act_made again numbers journal user made).journal
-older_made true numbers journal user made = older_retried (is_still_held numbers journal user.number) (awaited journal user.number) numbers journal user.number
-older_made false numbers journal user made = older_after journal user.number made
-
-older_by : (left : Bool) (next : Option Act) (numbers : List ℕ) (journal : Entries) (user : Participant) → IsOlder journal (turn_by left next numbers journal user).journal
-older_by true next numbers journal user = unchanged journal
-older_by false None numbers journal user = one_more (entry_for journal user.number act.Leave) journal
-older_by false (Some made) numbers journal user = older_made (waits journal user.number) numbers journal user made
-
-older_turn : (takes : Bool) (numbers : List ℕ) (journal : Entries) (user : Participant)
-    → IsOlder journal (let first : Turn = (if takes then turn numbers journal user else record { journal = journal; user = user }) in first.journal)
-older_turn true numbers journal user = older_by (has_left journal user.number) (session_of user.lines user.answers user.replies).waits numbers journal user
-older_turn false numbers journal user = unchanged journal
-
-older_turns : (test : Participant → Bool) (numbers : List ℕ) (journal : Entries) (users : List Participant) → IsOlder journal (turns_where test numbers journal users).journal
-older_turns test numbers journal [] = unchanged journal
-older_turns test numbers journal (user ∷ users) =
-    let first : Turn = (if test user then turn numbers journal user else record { journal = journal; user = user }) in
-    older_still journal first.journal (turns_where test numbers first.journal users).journal (older_turn (test user) numbers journal user) (older_turns test numbers first.journal users)
-
--- users keep their numbers
-
-given_number : (held : Bool) (answers : List PlainAnswer) (user : Participant) → (let after : Participant = (if held then user else record user { answers = answers }) in after.number) ≡ user.number
-given_number true answers user = refl
-given_number false answers user = refl
-
-heard_number : (answer : Option PlainAnswer) (user : Participant) → (option_map_or (λ (given' : PlainAnswer). given given' user) answer user).number ≡ user.number
-heard_number None user = refl
-heard_number (Some answer) user = given_number (is_held (kind_of answer)) (user.answers ++ answer ∷ []) user
-
-number_made : (again : Bool) (numbers : List ℕ) (journal : Entries) (user : Participant) (made : Act) → (act_made again numbers journal user made).user.number ≡ user.number
-number_made true numbers journal user made = heard_number (retried numbers journal user.number) user
-number_made false numbers journal user made = heard_number (Some (answer_to journal user.number made)) user
-
-number_by : (left : Bool) (next : Option Act) (numbers : List ℕ) (journal : Entries) (user : Participant) → (turn_by left next numbers journal user).user.number ≡ user.number
-number_by true next numbers journal user = refl
-number_by false None numbers journal user = refl
-number_by false (Some made) numbers journal user = number_made (waits journal user.number) numbers journal user made
-
-number_turn : (takes : Bool) (numbers : List ℕ) (journal : Entries) (user : Participant)
-    → (let first : Turn = (if takes then turn numbers journal user else record { journal = journal; user = user }) in first.user.number) ≡ user.number
-number_turn true numbers journal user = number_by (has_left journal user.number) (session_of user.lines user.answers user.replies).waits numbers journal user
-number_turn false numbers journal user = refl
-
-numbers_kept : (test : Participant → Bool) (numbers : List ℕ) (journal : Entries) (users : List Participant) → numbers_of (turns_where test numbers journal users).users ≡ numbers_of users
-numbers_kept test numbers journal [] = refl
-numbers_kept test numbers journal (user ∷ users) =
-    let first : Turn = (if test user then turn numbers journal user else record { journal = journal; user = user }) in
-    ap₂ (λ (n : ℕ) (ns : List ℕ). n ∷ ns) (number_turn (test user) numbers journal user) (numbers_kept test numbers first.journal users)
-
--- ---- side by side
-
--- two replays stand alike: in the journal, and with their users
-pub record IsLevel (a b : Replay) : Type 0 where
-  pub journal : a.journal ≡ b.journal
-  pub users : a.users ≡ b.users
+level_by : (left : Bool) (next : Option Act) (numbers : List ℕ) (journal : Entries) (user : Participant) (replies : List Reply) → TurnsLevel (turn_by left next numbers journal user) (turn_by left next numbers journal (replying replies user))
+level_by true next numbers journal user replies = record { journal = refl; user = record { replies = replies; same = refl } }
+level_by false None numbers journal user replies = record { journal = refl; user = record { replies = replies; same = refl } }
+level_by false (Some made) numbers journal user replies = level_made (waits journal user.number) numbers journal user replies made
 
 -- where replies are left after an auxiliary's turn, some were left before, of each auxiliary
 left_before_turn : (a : Replay) (party other : ℕ) → (auxiliary_turn party a).replies other ≢ [] → a.replies other ≢ []
@@ -195,107 +83,225 @@ left_before_turn a party other left = by (other == party) refl left where
   by true is some = subst (λ (number : ℕ). a.replies number ≢ []) (sym (eqb-true other party is)) (left_before a.journal party (a.replies party) (work_of a.journal party) some)
   by false is some = some
 
-module _ (S : AuxiliaryKind → Type 0) (forgets : (kind : AuxiliaryKind) → S kind → ℕ → S kind → Type 0) (replies : (kind : AuxiliaryKind) → S kind → ℕ → PlainArray → PlainArray → S kind → Type 0)
-    (Alike : (kind : AuxiliaryKind) → S kind → S kind → Type 0) (one : (kind : AuxiliaryKind) → IsDetermined (forgets kind) (replies kind) (Alike kind)) (start : (kind : AuxiliaryKind) → S kind)
-    (alike : (kind : AuxiliaryKind) → Alike kind (start kind) (start kind)) where
-  -- what answers behind each auxiliary has a run over a replay's journal, and each has replies left
-  pub record IsRepliedTo (a : Replay) : Type 0 where
-    pub answers : (kind : AuxiliaryKind) → Answers (forgets kind) (replies kind) (party_of kind) (start kind) a.journal
-    pub left : HasReplies a
+module _ {P : Type 0} (Fits : P → ℕ → List Exchange → Type 0) (older : (place : P) (user : ℕ) (more earlier : List Exchange) → Fits place user (more ++ earlier) → Fits place user earlier)
+    (one_reply : (place : P) (user : ℕ) (call : Call) (reply other : Reply) (earlier : List Exchange) → Fits place user (record { call = call; reply = reply } ∷ earlier) → Fits place user (record { call = call; reply = other } ∷ earlier) → reply ≡ other) where
+  -- the exchanges of a user's session fit its place
+  abbrev pub FitsAt : P → Participant → Type 0
+  FitsAt place user = Fits place user.number (session_of user.lines user.answers user.replies).exchanges
 
-  -- so it was in an older journal
-  older_replied : (a b : Replay) → IsOlder a.journal b.journal → ((kind : AuxiliaryKind) → b.replies (party_of kind) ≢ [] → a.replies (party_of kind) ≢ []) → IsRepliedTo b → IsRepliedTo a
-  older_replied a b older left h = record {
-    answers = λ kind. older_answers (forgets kind) (replies kind) (party_of kind) (start kind) older.more a.journal (subst (Answers (forgets kind) (replies kind) (party_of kind) (start kind)) older.same (h.answers kind));
-    left = λ kind. left kind (h.left kind);
-  }
+  -- and so it is with users
+  abbrev pub AreFitting : List P → List Participant → Type 0
+  AreFitting places [] = Unit {0}
+  AreFitting [] (user ∷ users) = ⊥
+  AreFitting (place ∷ places) (user ∷ users) = FitsAt place user × AreFitting places users
 
-  -- turns that were replied to were so before, leave two replays level that were, and users their numbers
-  pub record AreTame (turns : Replay → Replay) : Type 0 where
-    pub before : (a : Replay) → IsRepliedTo (turns a) → IsRepliedTo a
-    pub level : (a b : Replay) → IsLevel a b → IsRepliedTo (turns a) → IsRepliedTo (turns b) → IsLevel (turns a) (turns b)
-    pub numbers : (a : Replay) → numbers_of (turns a).users ≡ numbers_of a.users
+  -- they did before answers were given
+  fitted_before : (place : P) (user now : Participant) → IsLater user now → FitsAt place now → FitsAt place user
+  fitted_before place user now later fits =
+      let calls = more_calls user.lines user.answers later.more user.replies in
+      older place user.number calls.more (session_of user.lines user.answers user.replies).exchanges
+      (subst (Fits place user.number) calls.same (subst (λ (u : Participant). FitsAt place u) later.same fits))
 
-  tame_none : AreTame (λ a. a)
-  tame_none = record { before = λ a h. h; level = λ a b level h k. level; numbers = λ a. refl }
+  all_fitted_before : (places : List P) (users nows : List Participant) → AreLater users nows → AreFitting places nows → AreFitting places users
+  all_fitted_before places [] [] later fits = tt
+  all_fitted_before places [] (now ∷ nows) later fits = absurd later
+  all_fitted_before places (user ∷ users) [] later fits = absurd later
+  all_fitted_before [] (user ∷ users) (now ∷ nows) later fits = absurd fits
+  all_fitted_before (place ∷ places) (user ∷ users) (now ∷ nows) later fits = (fitted_before place user now later.0 fits.0, all_fitted_before places users nows later.1 fits.1)
 
-  -- turns, and then others
-  tame_then : (first then' : Replay → Replay) → AreTame first → AreTame then' → AreTame (λ a. then' (first a))
-  tame_then first then' f g = record {
-    before = λ a h. f.before a (g.before (first a) h);
-    level = λ a b level h k. g.level (first a) (first b) (f.level a b level (g.before (first a) h) (g.before (first b) k)) h k;
-    numbers = λ a. g.numbers (first a) ∙ f.numbers a;
-  }
+  -- turns of users that are level are level
+  level_turn : (takes : Bool) (numbers : List ℕ) (journal : Entries) (place : P) (user : Participant) (replies : List Reply) → FitsAt place user → FitsAt place (replying replies user)
+      → TurnsLevel (turn_if takes numbers journal user) (turn_if takes numbers journal (replying replies user))
+  level_turn true numbers journal place user replies fits other =
+      let level : AreLevel (session_of user.lines user.answers user.replies) (session_of user.lines user.answers replies) =
+      same_session (Fits place user.number) (older place user.number) (one_reply place user.number) user.lines user.answers user.replies replies fits other in
+      subst (λ (next : Option Act). TurnsLevel (turn numbers journal user) (turn_by (has_left journal user.number) next numbers journal (replying replies user))) (sym (ap (λ (c : Course). c.waits) level.same))
+      (level_by (has_left journal user.number) (session_of user.lines user.answers user.replies).waits numbers journal user replies)
+  level_turn false numbers journal place user replies fits other = record { journal = refl; user = record { replies = replies; same = refl } }
 
-  -- these turns or others
-  tame_by : (b : Bool) (first other : Replay → Replay) → AreTame first → AreTame other → AreTame (λ a. if b then first a else other a)
-  tame_by true first other f g = record { before = f.before; level = f.level; numbers = f.numbers }
-  tame_by false first other f g = record { before = g.before; level = g.level; numbers = g.numbers }
+  -- a test asks nothing of the replies to come
+  abbrev IsBlind : (Participant → Bool) → Type 0
+  IsBlind test = (user : Participant) (replies : List Reply) → test (replying replies user) ≡ test user
 
-  -- turns while some user has not left
-  tame_while : (turns : Replay → Replay) → AreTame turns → AreTame (λ a. if goes_on a then turns a else a)
-  tame_while turns f = record {
-    before = λ a. (tame_by (goes_on a) turns (λ a. a) f tame_none).before a;
-    level = λ a b level h k.
-        let same : goes_on b ≡ goes_on a = sym (ap₂ (λ (users : List Participant) (journal : Entries). some_stay (numbers_of users) journal) level.users level.journal) in
-        let there : IsRepliedTo (if goes_on a then turns b else b) = subst (λ (goes : Bool). IsRepliedTo (if goes then turns b else b)) same k in
-        subst (λ (goes : Bool). IsLevel (if goes_on a then turns a else a) (if goes then turns b else b)) (sym same) ((tame_by (goes_on a) turns (λ a. a) f tame_none).level a b level h there);
-    numbers = λ a. (tame_by (goes_on a) turns (λ a. a) f tame_none).numbers a;
-  }
+  level_at : (test : Participant → Bool) → IsBlind test → (numbers : List ℕ) (journal : Entries) (place : P) (user other : Participant) → IsLevelWith user other → FitsAt place user → FitsAt place other
+      → TurnsLevel (turn_if (test user) numbers journal user) (turn_if (test other) numbers journal other)
+  level_at test blind numbers journal place user other level fits also =
+      subst (λ (u : Participant). TurnsLevel (turn_if (test user) numbers journal user) (turn_if (test u) numbers journal u)) (sym level.same)
+      (subst (λ (takes : Bool). TurnsLevel (turn_if (test user) numbers journal user) (turn_if takes numbers journal (replying level.replies user))) (sym (blind user level.replies))
+      (level_turn (test user) numbers journal place user level.replies fits (subst (λ (u : Participant). FitsAt place u) level.same also)))
 
-  tame_auxiliary : (kind : AuxiliaryKind) → AreTame (auxiliary_turn (party_of kind))
-  tame_auxiliary kind = record {
-    before = λ a h.
-        older_replied a (auxiliary_turn (party_of kind) a) (older_served a.journal (party_of kind) (a.replies (party_of kind)) (work_of a.journal (party_of kind))) (λ other. left_before_turn a (party_of kind) (party_of other)) h;
-    level = λ a b level h k.
-        let there : Answers (forgets kind) (replies kind) (party_of kind) (start kind) (served a.journal (party_of kind) (b.replies (party_of kind))).journal =
-        subst (λ (journal : Entries). Answers (forgets kind) (replies kind) (party_of kind) (start kind) (served journal (party_of kind) (b.replies (party_of kind))).journal) (sym level.journal) (k.answers kind) in
-        record {
-          journal = same_served (forgets kind) (replies kind) (Alike kind) (one kind) (start kind) (alike kind) (party_of kind) a.journal (a.replies (party_of kind)) (b.replies (party_of kind)) (work_of a.journal (party_of kind)) refl
-              (left_before_turn a (party_of kind) (party_of kind) (h.left kind)) (left_before_turn b (party_of kind) (party_of kind) (k.left kind)) (h.answers kind) there
-              ∙ ap (λ (journal : Entries). (served journal (party_of kind) (b.replies (party_of kind))).journal) level.journal;
-          users = level.users;
-        };
-    numbers = λ a. refl;
-  }
+  -- the turns of some users, and of others that are level with them, are level
+  record AllTurnsLevel (test : Participant → Bool) (numbers : List ℕ) (journal later : Entries) (users others : List Participant) : Type 0 where
+    same : (turns_where test numbers journal users).journal ≡ (turns_where test numbers later others).journal
+    level : AreLevelWith (turns_where test numbers journal users).users (turns_where test numbers later others).users
 
-  -- turns of some auxiliaries, one after another
-  tame_turns : (rows : List AuxiliaryRow) → AllByRecursion (λ (row : AuxiliaryRow). AreTame (auxiliary_turn row.party)) rows → AreTame (auxiliary_turns rows)
-  tame_turns [] each = tame_none
-  tame_turns (row ∷ rows) each = tame_then (auxiliary_turn row.party) (auxiliary_turns rows) each.0 (tame_turns rows each.1)
+  level_turns : (test : Participant → Bool) → IsBlind test → (numbers : List ℕ) (journal later : Entries) (places : List P) (users others : List Participant) → journal ≡ later → AreLevelWith users others
+      → AreFitting places (turns_where test numbers journal users).users → AreFitting places (turns_where test numbers later others).users → AllTurnsLevel test numbers journal later users others
+  level_turns test blind numbers journal later places [] [] same level fits also = record { same = same; level = tt }
+  level_turns test blind numbers journal later places [] (other ∷ others) same level fits also = absurd level
+  level_turns test blind numbers journal later places (user ∷ users) [] same level fits also = absurd level
+  level_turns test blind numbers journal later [] (user ∷ users) (other ∷ others) same level fits also = absurd fits
+  level_turns test blind numbers journal later (place ∷ places) (user ∷ users) (other ∷ others) same level fits also =
+      let first : Turn = turn_if (test user) numbers journal user in
+      let second : Turn = turn_if (test other) numbers later other in
+      let now : TurnsLevel first second =
+      subst (λ (j : Entries). TurnsLevel first (turn_if (test other) numbers j other)) same
+      (level_at test blind numbers journal place user other level.0 (fitted_before place user first.user (later_turn (test user) numbers journal user) fits.0)
+      (fitted_before place other second.user (later_turn (test other) numbers later other) also.0)) in
+      let rest : AllTurnsLevel test numbers first.journal second.journal users others = level_turns test blind numbers first.journal second.journal places users others now.journal level.1 fits.1 also.1 in
+      record { same = rest.same; level = (now.user, rest.level) }
 
-  tame_users : (test : Participant → Bool) → AreTame (user_turns test)
-  tame_users test = record {
-    before = λ a h. older_replied a (user_turns test a) (older_turns test (numbers_of a.users) a.journal a.users) (λ kind left. left) h;
-    level = λ a b level h k. record {
-      journal = ap₂ (λ (users : List Participant) (journal : Entries). (turns_where test (numbers_of users) journal users).journal) level.users level.journal;
-      users = ap₂ (λ (users : List Participant) (journal : Entries). (turns_where test (numbers_of users) journal users).users) level.users level.journal;
-    };
-    numbers = λ a. numbers_kept test (numbers_of a.users) a.journal a.users;
-  }
+  -- ---- two replays
 
-  tame_party : (party : ℕ) → AreTame (party_turn party)
-  tame_party party = by (is_auxiliary party) refl where
-    by : (auxiliary : Bool) → is_auxiliary party ≡ auxiliary → AreTame (λ a. if auxiliary then auxiliary_turn party a else user_turns (λ user. user.number == party) a)
-    by true is =
-        let own = kind_of_party party is in
-        let tame : AreTame (auxiliary_turn party) = subst (λ (number : ℕ). AreTame (auxiliary_turn number)) own.1 (tame_auxiliary own.0) in
-        record { before = tame.before; level = tame.level; numbers = tame.numbers }
-    by false is =
-        let tame : AreTame (user_turns (λ user. user.number == party)) = tame_users (λ user. user.number == party) in
-        record { before = tame.before; level = tame.level; numbers = tame.numbers }
+  -- two replays stand alike: in the journal, and with their users
+  pub record IsLevel (a b : Replay) : Type 0 where
+    pub journal : a.journal ≡ b.journal
+    pub users : AreLevelWith a.users b.users
 
-  tame_ordered : (order : List ℕ) → AreTame (ordered order)
-  tame_ordered [] = tame_none
-  tame_ordered (party ∷ order) = tame_then (λ a. if goes_on a then party_turn party a else a) (ordered order) (tame_while (party_turn party) (tame_party party)) (tame_ordered order)
+  module _ {X Y : Type 0} (forgets_ten : X → ℕ → X → Type 0) (replies_ten : X → ℕ → PlainArray → PlainArray → X → Type 0) (BeginsTen : X → Type 0) (AlikeTen : X → X → Type 0) (one_ten : IsDetermined forgets_ten replies_ten BeginsTen AlikeTen)
+      (forgets_twenty : Y → ℕ → Y → Type 0) (replies_twenty : Y → ℕ → PlainArray → PlainArray → Y → Type 0) (BeginsTwenty : Y → Type 0) (AlikeTwenty : Y → Y → Type 0) (one_twenty : IsDetermined forgets_twenty replies_twenty BeginsTwenty AlikeTwenty)
+      (places : List P) where
+    -- what answers behind both auxiliaries has a run over a replay's journal, both have replies left, and the exchanges of its users fit
+    pub record IsRepliedTo (a : Replay) : Type 0 where
+      pub ten_answers : Answers forgets_ten replies_ten BeginsTen clock_party a.journal
+      pub twenty_answers : Answers forgets_twenty replies_twenty BeginsTwenty text_party a.journal
+      pub left : HasReplies a
+      pub fits : AreFitting places a.users
 
-  tame_round : AreTame round
-  tame_round = tame_then (auxiliary_turns auxiliaries) (user_turns (λ user. true)) (tame_turns auxiliaries (of_rows (λ (party : ℕ). AreTame (auxiliary_turn party)) tame_auxiliary)) (tame_users (λ user. true))
+    -- so it was before
+    replied_before : (a b : Replay) → IsOlder a.journal b.journal → ((kind : AuxiliaryKind) → b.replies (party_of kind) ≢ [] → a.replies (party_of kind) ≢ []) → AreLater a.users b.users → IsRepliedTo b → IsRepliedTo a
+    replied_before a b older left later h = record {
+      ten_answers = older_answers forgets_ten replies_ten BeginsTen clock_party older.more a.journal (subst (Answers forgets_ten replies_ten BeginsTen clock_party) older.same h.ten_answers);
+      twenty_answers = older_answers forgets_twenty replies_twenty BeginsTwenty text_party older.more a.journal (subst (Answers forgets_twenty replies_twenty BeginsTwenty text_party) older.same h.twenty_answers);
+      left = λ kind. left kind (h.left kind);
+      fits = all_fitted_before places a.users b.users later h.fits;
+    }
 
-  tame_rounds : (count : ℕ) → AreTame (rounds count)
-  tame_rounds zero = tame_none
-  tame_rounds (suc count) = tame_then (rounds count) (λ a. if goes_on a then round a else a) (tame_rounds count) (tame_while round tame_round)
+    -- users are apart from the auxiliaries, and from each other
+    abbrev pub ArePeople : List ℕ → Type 0
+    ArePeople numbers = AreApartFrom clock_party numbers × (AreApartFrom text_party numbers × AreApart numbers)
 
-  -- so many rounds behind an order
-  pub tame_replay : (order : List ℕ) (count : ℕ) → AreTame (λ a. rounds count (ordered order a))
-  tame_replay order count = tame_then (ordered order) (rounds count) (tame_ordered order) (tame_rounds count)
+    -- turns that were replied to were so before, and leave two replays level that were; users are given answers and nothing else, and what they heard are those of their entries
+    pub record AreTame (turns : Replay → Replay) : Type 0 where
+      pub before : (a : Replay) → IsRepliedTo (turns a) → IsRepliedTo a
+      pub level : (a b : Replay) → IsLevel a b → IsRepliedTo (turns a) → IsRepliedTo (turns b) → IsLevel (turns a) (turns b)
+      pub later : (a : Replay) → AreLater a.users (turns a).users
+      pub heard : (a : Replay) → ArePeople (numbers_of a.users) → AreHeard a.journal a.users → AreHeard (turns a).journal (turns a).users
+
+    tame_none : AreTame (λ a. a)
+    tame_none = record { before = λ a h. h; level = λ a b level h k. level; later = λ a. none_later a.users; heard = λ a people h. h }
+
+    -- turns, and then others
+    tame_then : (first then' : Replay → Replay) → AreTame first → AreTame then' → AreTame (λ a. then' (first a))
+    tame_then first then' f g = record {
+      before = λ a h. f.before a (g.before (first a) h);
+      level = λ a b level h k. g.level (first a) (first b) (f.level a b level (g.before (first a) h) (g.before (first b) k)) h k;
+      later = λ a. all_later_still a.users (first a).users (then' (first a)).users (f.later a) (g.later (first a));
+      heard = λ a people h. g.heard (first a) (subst ArePeople (sym (same_numbers a.users (first a).users (f.later a))) people) (f.heard a people h);
+    }
+
+    -- these turns or others
+    tame_by : (b : Bool) (first other : Replay → Replay) → AreTame first → AreTame other → AreTame (λ a. if b then first a else other a)
+    tame_by true first other f g = record { before = f.before; level = f.level; later = f.later; heard = f.heard }
+    tame_by false first other f g = record { before = g.before; level = g.level; later = g.later; heard = g.heard }
+
+    -- turns while some user has not left
+    tame_while : (turns : Replay → Replay) → AreTame turns → AreTame (λ a. if goes_on a then turns a else a)
+    tame_while turns f = record {
+      before = λ a. (tame_by (goes_on a) turns (λ a. a) f tame_none).before a;
+      level = λ a b level h k.
+          let same : goes_on b ≡ goes_on a = sym (ap₂ (λ (numbers : List ℕ) (journal : Entries). some_stay numbers journal) (numbers_level a.users b.users level.users) level.journal) in
+          let there : IsRepliedTo (if goes_on a then turns b else b) = subst (λ (goes : Bool). IsRepliedTo (if goes then turns b else b)) same k in
+          subst (λ (goes : Bool). IsLevel (if goes_on a then turns a else a) (if goes then turns b else b)) (sym same) ((tame_by (goes_on a) turns (λ a. a) f tame_none).level a b level h there);
+      later = λ a. (tame_by (goes_on a) turns (λ a. a) f tame_none).later a;
+      heard = λ a. (tame_by (goes_on a) turns (λ a. a) f tame_none).heard a;
+    }
+
+    tame_ten : AreTame (auxiliary_turn clock_party)
+    tame_ten = record {
+      before = λ a h.
+          replied_before a ((auxiliary_turn clock_party) a) (older_by clock_party a.journal ((auxiliary_turn clock_party) a).journal (adds_served a.journal clock_party (a.replies clock_party) (work_of a.journal clock_party)))
+          (λ kind. left_before_turn a clock_party (party_of kind)) (none_later a.users) h;
+      level = λ a b level h k.
+          let there : Answers forgets_ten replies_ten BeginsTen clock_party (served a.journal clock_party (b.replies clock_party)).journal =
+          subst (λ (journal : Entries). Answers forgets_ten replies_ten BeginsTen clock_party (served journal clock_party (b.replies clock_party)).journal) (sym level.journal) k.ten_answers in
+          let some : b.replies clock_party ≢ [] = left_before_turn b clock_party clock_party (k.left Clock) in
+          record {
+            journal = same_served forgets_ten replies_ten BeginsTen AlikeTen one_ten clock_party a.journal (a.replies clock_party) (b.replies clock_party) (work_of a.journal clock_party) refl
+                (left_before_turn a clock_party clock_party (h.left Clock)) some h.ten_answers there
+                ∙ ap (λ (journal : Entries). (served journal clock_party (b.replies clock_party)).journal) level.journal;
+            users = level.users;
+          };
+      later = λ a. none_later a.users;
+      heard = λ a people h. all_heard_beside clock_party a.journal ((auxiliary_turn clock_party) a).journal a.users (adds_served a.journal clock_party (a.replies clock_party) (work_of a.journal clock_party)) people.0 h;
+    }
+
+    tame_twenty : AreTame (auxiliary_turn text_party)
+    tame_twenty = record {
+      before = λ a h.
+          replied_before a ((auxiliary_turn text_party) a) (older_by text_party a.journal ((auxiliary_turn text_party) a).journal (adds_served a.journal text_party (a.replies text_party) (work_of a.journal text_party)))
+          (λ kind. left_before_turn a text_party (party_of kind)) (none_later a.users) h;
+      level = λ a b level h k.
+          let there : Answers forgets_twenty replies_twenty BeginsTwenty text_party (served a.journal text_party (b.replies text_party)).journal =
+          subst (λ (journal : Entries). Answers forgets_twenty replies_twenty BeginsTwenty text_party (served journal text_party (b.replies text_party)).journal) (sym level.journal) k.twenty_answers in
+          let some : b.replies text_party ≢ [] = left_before_turn b text_party text_party (k.left TextFiles) in
+          record {
+            journal = same_served forgets_twenty replies_twenty BeginsTwenty AlikeTwenty one_twenty text_party a.journal (a.replies text_party) (b.replies text_party) (work_of a.journal text_party) refl
+                (left_before_turn a text_party text_party (h.left TextFiles)) some h.twenty_answers there
+                ∙ ap (λ (journal : Entries). (served journal text_party (b.replies text_party)).journal) level.journal;
+            users = level.users;
+          };
+      later = λ a. none_later a.users;
+      heard = λ a people h. all_heard_beside text_party a.journal ((auxiliary_turn text_party) a).journal a.users (adds_served a.journal text_party (a.replies text_party) (work_of a.journal text_party)) people.1.0 h;
+    }
+
+    tame_auxiliary : (kind : AuxiliaryKind) → AreTame (auxiliary_turn (party_of kind))
+    tame_auxiliary Clock = tame_ten
+    tame_auxiliary TextFiles = tame_twenty
+
+    -- turns of some auxiliaries, one after another
+    tame_turns : (rows : List AuxiliaryRow) → AllByRecursion (λ (row : AuxiliaryRow). AreTame (auxiliary_turn row.party)) rows → AreTame (auxiliary_turns rows)
+    tame_turns [] each = tame_none
+    tame_turns (row ∷ rows) each = tame_then (auxiliary_turn row.party) (auxiliary_turns rows) each.0 (tame_turns rows each.1)
+
+    tame_users : (test : Participant → Bool) → IsBlind test → AreTame (user_turns test)
+    tame_users test blind = record {
+      before = λ a h.
+          replied_before a (user_turns test a) (older_turns test (numbers_of a.users) a.journal a.users) (λ kind left. left) (later_turns test (numbers_of a.users) a.journal a.users) h;
+      level = λ a b level h k.
+          let same : numbers_of b.users ≡ numbers_of a.users = sym (numbers_level a.users b.users level.users) in
+          let there : AreFitting places (turns_where test (numbers_of a.users) b.journal b.users).users = subst (λ (numbers : List ℕ). AreFitting places (turns_where test numbers b.journal b.users).users) same k.fits in
+          let now : AllTurnsLevel test (numbers_of a.users) a.journal b.journal a.users b.users = level_turns test blind (numbers_of a.users) a.journal b.journal places a.users b.users level.journal level.users h.fits there in
+          record {
+            journal = now.same ∙ ap (λ (numbers : List ℕ). (turns_where test numbers b.journal b.users).journal) (sym same);
+            users = subst (λ (numbers : List ℕ). AreLevelWith (turns_where test (numbers_of a.users) a.journal a.users).users (turns_where test numbers b.journal b.users).users) (sym same) now.level;
+          };
+      later = λ a. later_turns test (numbers_of a.users) a.journal a.users;
+      heard = λ a people h. heard_turns test (numbers_of a.users) a.journal a.users people.1.1 h;
+    }
+
+    tame_party : (party : ℕ) → AreTame (party_turn party)
+    tame_party party = by (is_auxiliary party) refl where
+      by : (auxiliary : Bool) → is_auxiliary party ≡ auxiliary → AreTame (λ a. if auxiliary then auxiliary_turn party a else user_turns (λ user. user.number == party) a)
+      by true is =
+          let own = kind_of_party party is in
+          let tame : AreTame (auxiliary_turn party) = subst (λ (number : ℕ). AreTame (auxiliary_turn number)) own.1 (tame_auxiliary own.0) in
+          record { before = tame.before; level = tame.level; later = tame.later; heard = tame.heard }
+      by false is =
+          let tame : AreTame (user_turns (λ user. user.number == party)) = tame_users (λ user. user.number == party) (λ user replies. refl) in
+          record { before = tame.before; level = tame.level; later = tame.later; heard = tame.heard }
+
+    tame_ordered : (order : List ℕ) → AreTame (ordered order)
+    tame_ordered [] = tame_none
+    tame_ordered (party ∷ order) = tame_then (λ a. if goes_on a then party_turn party a else a) (ordered order) (tame_while (party_turn party) (tame_party party)) (tame_ordered order)
+
+    tame_round : AreTame round
+    tame_round = tame_then (auxiliary_turns auxiliaries) (user_turns (λ user. true)) (tame_turns auxiliaries (of_rows (λ (party : ℕ). AreTame (auxiliary_turn party)) tame_auxiliary)) (tame_users (λ user. true) (λ user replies. refl))
+
+    tame_rounds : (count : ℕ) → AreTame (rounds count)
+    tame_rounds zero = tame_none
+    tame_rounds (suc count) = tame_then (rounds count) (λ a. if goes_on a then round a else a) (tame_rounds count) (tame_while round tame_round)
+
+    -- so many rounds behind an order
+    pub tame_replay : (order : List ℕ) (count : ℕ) → AreTame (λ a. rounds count (ordered order a))
+    tame_replay order count = tame_then (ordered order) (rounds count) (tame_ordered order) (tame_rounds count)

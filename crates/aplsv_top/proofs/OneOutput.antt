@@ -1,104 +1,74 @@
 -- The output is one function of the bytes read.
-use Rattle.std.proofs.Common.{◌≡◌, ℕ, List, [], ◌∷◌, map, reverse, refl, sym, ap₂, ◌∙◌, subst}
-use Rattle.std.specs.List.{AllByRecursion}
-use Rattle.apl_arrays.specs.Array.{PlainArray}
-use Rattle.apl_io.specs.Kept.{Keeper, Timer}
-use Rattle.auxiliaries.specs.Clock.{RepliesByReading}
-use Rattle.auxiliaries.specs.Protocol.{idle}
-use Rattle.auxiliaries.specs.Served.{Replies, Served, forgotten}
-use Rattle.bundle_text.specs.Bundle.{PlainBundle, BundleText}
-use Rattle.sv_journal.specs.Output.{PlainTranscript, output_text}
-use Rattle.bundle_text.specs.User.{PlainUser}
-use Rattle.sv_rules.specs.Entries.{Entries}
-use Rattle.aux_parties.specs.declared.auxiliary.AuxiliaryKind.{AuxiliaryKind}
-use Rattle.aux_parties.specs.declared.auxiliary.AuxiliaryKind.TheVariants.{Clock, TextFiles}
-use Rattle.session_rules.specs.Behind.{Behind, forgets_of, of_each, replies_of}
-use Rattle.session_rules.specs.Run.{AreUserParts, Dealings}
-use Rattle.session_rules.specs.Shelf.{Exchange, replies_in}
-use Rattle.session_rules.specs.UserPart.{IsUserPart}
-use Rattle.replay_rules.specs.Turns.{Participant, newcomer}
+use Rattle.std.proofs.Common.{◌≡◌, ◌≢◌, ℕ, Bool, true, false, List, [], ◌∷◌, map, reverse, Option, Some, None, refl, sym, ap₂, ◌∙◌, subst}
+use Rattle.std.specs.Prelude.{cond}
+use Rattle.std.specs.BTreeMap.{is_at}
+use Rattle.std.specs.Map.{lookup}
+use Rattle.apl_arrays.specs.FileList.{PlainFile}
+use Rattle.apl_arrays.specs.Name.{name_order}
+use Rattle.apl_io.specs.Clock.{Ticks}
+use Rattle.apl_io.specs.Content.{Told, by_user_and_name}
+use Rattle.apl_io.specs.Kept.{Keeper, Timer, file_entry, new_keeper}
+use Rattle.bundle_text.specs.Bundle.{BundleText, IsBundle, PlainBundle}
+use Rattle.sv_journal.specs.Output.{output_text}
+use Rattle.aux_parties.specs.declared.auxiliary.AuxiliaryKind.TheVariants.{TextFiles}
 use Rattle.session_rules.specs.RunLaws.{PartsMakeOneTranscript}
-use Rattle.aplsv_top.specs.Headline.{IsOutputOf, clock_of, text_of}
-use Rattle.aplsv_top.specs.OutputLaws.{BundlesHaveOneOutput}
-use Rattle.aplsv_top.proofs.Clocks.{TellAlike, clock_faults, clocks_are_determined, ticks}
-use Rattle.aplsv_top.proofs.Determined.{IsDetermined}
-use Rattle.aplsv_top.proofs.Files.{OneText, ServeAlike, files_are_determined, files_keep_alike, store_faults, told_by}
-use Rattle.aplsv_top.proofs.OneRun.{IsRepliedJournal, one_journal}
+use Rattle.aplsv_top.specs.Headline.{IsOutputOf, clock_of, shelves_of, text_of}
+use Rattle.aplsv_top.specs.OutputLaws.{BundlesHaveOneOutput, LeavesNoneUntold}
+use Rattle.aplsv_top.proofs.Files.{OneText}
+use Rattle.aplsv_top.proofs.OneReplay.{one_replay}
+use Rattle.aplsv_top.proofs.Sound.{TellsSound, files_sound, shelves_sound}
 
--- what answers behind the clock and the text files of a run
-abbrev Replying : AuxiliaryKind → Type 0
-Replying = Behind Timer (Served (Keeper (List ℕ)))
+-- what a timer and a keeper tell, and how many faults they had
+abbrev readings_of : Timer → Option Ticks
+readings_of c = Some c.told
 
-abbrev forgets : (kind : AuxiliaryKind) → Replying kind → ℕ → Replying kind → Type 0
-forgets = forgets_of (λ (old : Timer) (party : ℕ) (new : Timer). new ≡ old) (λ (old : Served (Keeper (List ℕ))) (party : ℕ) (new : Served (Keeper (List ℕ))). new ≡ forgotten old)
+abbrev clock_faults : Timer → ℕ
+clock_faults c = c.faults
 
-abbrev replies : (kind : AuxiliaryKind) → Replying kind → ℕ → PlainArray → PlainArray → Replying kind → Type 0
-replies =
-    replies_of (λ (old : Timer) (party : ℕ) (value answer : PlainArray) (new : Timer). RepliesByReading ticks clock_faults old value answer new)
-    (λ (old : Served (Keeper (List ℕ))) (party : ℕ) (value answer : PlainArray) (new : Served (Keeper (List ℕ))). Replies told_by store_faults old value answer new)
+abbrev told_by : {K : Type 0} → Keeper K → Option (Told K)
+told_by k = Some k.told
 
--- states that answer alike
-abbrev AnswerAlike : (kind : AuxiliaryKind) → Replying kind → Replying kind → Type 0
-AnswerAlike Clock = TellAlike
-AnswerAlike TextFiles = ServeAlike
+abbrev keeper_faults : {K : Type 0} → Keeper K → ℕ
+keeper_faults k = k.faults
 
-are_determined : OneText → (kind : AuxiliaryKind) → IsDetermined (forgets kind) (replies kind) (AnswerAlike kind)
-are_determined one_text Clock = clocks_are_determined
-are_determined one_text TextFiles = files_are_determined one_text
+-- what files that are handed in tell is all told
+found_told : (name : List ℕ) (files : List PlainFile) → lookup (is_at (name_order name)) (map file_entry files) ≢ Some None
+found_told name [] = λ e. cc e
+found_told name (file ∷ files) = by (is_at (name_order name) file.name) (found_told name files) where
+  by : (here : Bool) → lookup (is_at (name_order name)) (map file_entry files) ≢ Some None → cond here (Some (Some file.bytes)) (lookup (is_at (name_order name)) (map file_entry files)) ≢ Some None
+  by true rest = λ e. cc e
+  by false rest = rest
 
-module _ (one_text : OneText) (bundle : PlainBundle) where
-  -- what answers, at the start
-  abbrev beginnings : (kind : AuxiliaryKind) → Replying kind
-  beginnings = of_each (clock_of bundle) (let files : Served (Keeper (List ℕ)) = record { store = text_of bundle; state = idle } in files)
+files_told : (bundle : PlainBundle) → TellsSound name_order (told_by (text_of bundle))
+files_told bundle = record { now = (text_of bundle).told; tells = refl; sound = record { fails = refl; told = λ name. found_told name bundle.files } }
 
-  begin_alike : (kind : AuxiliaryKind) → AnswerAlike kind (beginnings kind) (beginnings kind)
-  begin_alike Clock = refl
-  begin_alike TextFiles = record { stores = files_keep_alike bundle.files; state = refl }
+-- an empty shelf tells all
+abbrev empty_shelf : Keeper (ℕ × List ℕ)
+empty_shelf = new_keeper [] []
 
-  abbrev Replied : Dealings → Entries → Type 0
-  Replied dealings journal = IsRepliedJournal Replying forgets replies AnswerAlike (are_determined one_text) beginnings begin_alike bundle dealings journal
+shelf_told : TellsSound by_user_and_name (told_by empty_shelf)
+shelf_told = record { now = empty_shelf.told; tells = refl; sound = record { fails = refl; told = λ key e. cc e } }
 
-  replied : (text : List ℕ) (out : IsOutputOf bundle text) → Replied out.run.run.dealings out.journal
-  replied text out = record {
-    turns = out.run.run.turns.turns;
-    answers = λ kind. (of_each out.clock (let files : Served (Keeper (List ℕ)) = record { store = out.files; state = out.run.state } in files) kind, (out.run.run.run.parts kind).answers);
+module _ (one_text : OneText) (one_transcript : PartsMakeOneTranscript) (bundle : PlainBundle) (rules : IsBundle bundle) where
+  -- the devices of a bundle leave no entry untold
+  none_untold : (text : List ℕ) (out : IsOutputOf bundle text)
+      → LeavesNoneUntold readings_of clock_faults told_by keeper_faults told_by keeper_faults bundle out.journal out.transcripts (clock_of bundle) out.clock (text_of bundle) out.files (shelves_of bundle) out.shelves out.run
+  none_untold text out = record {
+    readings = refl;
+    files = files_sound told_by keeper_faults _ _ _ (out.run.run.run.parts TextFiles).answers (files_told bundle);
+    saved = shelves_sound told_by keeper_faults empty_shelf shelf_told out.run.run.dealings bundle.users out.shelves out.run.run.run.shelves_served;
   }
 
-  -- the empty shelves of two runs are asked the same and answer the same
-  same_dealings : (text other : List ℕ) (one : IsOutputOf bundle text) (another : IsOutputOf bundle other) → AllByRecursion (λ (user : PlainUser). one.run.run.dealings user.number ≡ another.run.run.dealings user.number) bundle.users
-  same_dealings text other one another = ?
-
-  same_newcomers : (dealings others : Dealings) (users : List PlainUser) → AllByRecursion (λ (user : PlainUser). dealings user.number ≡ others user.number) users → map (newcomer dealings) users ≡ map (newcomer others) users
-  same_newcomers dealings others [] h = refl
-  same_newcomers dealings others (user ∷ users) h =
-      ap₂ (λ (e : List Exchange) (list : List Participant). let first : Participant = record { number = user.number; lines = user.lines; replies = replies_in e; answers = [] } in first ∷ list) h.0 (same_newcomers dealings others users h.1)
-
-  same_parts : (dealings others : Dealings) (journal : Entries) (users : List PlainUser) (transcripts : List PlainTranscript) → AllByRecursion (λ (user : PlainUser). dealings user.number ≡ others user.number) users → AreUserParts others journal users transcripts
-      → AreUserParts dealings journal users transcripts
-  same_parts dealings others journal [] [] same h = tt
-  same_parts dealings others journal [] (transcript ∷ transcripts) same h = absurd h
-  same_parts dealings others journal (user ∷ users) [] same h = absurd h
-  same_parts dealings others journal (user ∷ users) (transcript ∷ transcripts) same h =
-      (h.0, subst (λ (e : List Exchange). IsUserPart journal user e transcript.lines) (sym same.0) h.1, same_parts dealings others journal users transcripts same.1 h.2)
-
-  -- two outputs are of one journal
-  same_journal : (text other : List ℕ) (one : IsOutputOf bundle text) (another : IsOutputOf bundle other) → one.journal ≡ another.journal
-  same_journal text other one another =
-      one_journal Replying forgets replies AnswerAlike (are_determined one_text) beginnings begin_alike bundle one.run.run.dealings another.run.run.dealings one.journal another.journal (replied text one) (replied other another)
-      (same_newcomers one.run.run.dealings another.run.run.dealings bundle.users (same_dealings text other one another))
-
   -- a bundle has one output
-  pub one_output : PartsMakeOneTranscript → (text other : List ℕ) → IsOutputOf bundle text → IsOutputOf bundle other → text ≡ other
-  one_output one_transcript text other one another =
-      let journal : one.journal ≡ another.journal = same_journal text other one another in
-      let parts : AreUserParts one.run.run.dealings one.journal bundle.users another.transcripts =
-      same_parts one.run.run.dealings another.run.run.dealings one.journal bundle.users another.transcripts (same_dealings text other one another)
-      (subst (λ j. AreUserParts another.run.run.dealings j bundle.users another.transcripts) (sym journal) another.run.run.run.users) in
-      let transcripts : one.transcripts ≡ another.transcripts = one_transcript bundle one.run.run.dealings one.journal one.transcripts another.transcripts one.run.run.run.users parts in
-      one.output ∙ (ap₂ (λ t j. output_text t (reverse j)) transcripts journal ∙ sym another.output)
+  pub one_output : (text other : List ℕ) → IsOutputOf bundle text → IsOutputOf bundle other → text ≡ other
+  one_output text other one another =
+      let same = one_replay one_text one_transcript readings_of clock_faults told_by keeper_faults told_by keeper_faults bundle one.journal another.journal one.transcripts another.transcripts
+      (clock_of bundle) one.clock (clock_of bundle) another.clock (text_of bundle) one.files (text_of bundle) another.files (shelves_of bundle) one.shelves (shelves_of bundle) another.shelves
+      rules one.run another.run (none_untold text one) (none_untold other another) refl refl refl in
+      one.output ∙ (ap₂ (λ t j. output_text t (reverse j)) same.1 same.0 ∙ sym another.output)
 
 -- so bytes have one output, since they are the text of one bundle
 pub one_output_of_bytes : OneText → PartsMakeOneTranscript → ((bytes : List ℕ) (bundle other : PlainBundle) → BundleText bytes bundle → BundleText bytes other → bundle ≡ other) → BundlesHaveOneOutput
 one_output_of_bytes one_text one_transcript one_bundle bytes text other one another =
     let bundle = one_bundle bytes one.bundle another.bundle one.read another.read in
-    one_output one_text one.bundle one_transcript text other one.run (subst (λ b. IsOutputOf b other) (sym bundle) another.run)
+    one_output one_text one_transcript one.bundle one.read.rules text other one.run (subst (λ b. IsOutputOf b other) (sym bundle) another.run)

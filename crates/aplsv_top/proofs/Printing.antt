@@ -6,7 +6,7 @@ use Rattle.apl_io.specs.Content.{Told}
 use Rattle.apl_io.specs.Kept.{Keeper, Timer}
 use Rattle.bundle_text.specs.Bundle.{BundleText, PlainBundle}
 use Rattle.aplsv_top.specs.Headline.{ClockedOutput, IsOutputOf, IsOutputOver, NamedOutput, ShelvedOutput, clock_of, shelves_of, text_of}
-use Rattle.aplsv_top.specs.Printed.{IsPrinted, OutputsArePrinted, OwnOutputsAreTheBundles}
+use Rattle.aplsv_top.specs.Printed.{IsPrinted, OutputsArePrinted, OwnOutputsAreTheBundles, WhatIsWrittenIsPrinted}
 
 -- what devices in memory tell, and their faults
 abbrev ticks_of : Timer → Option Ticks
@@ -69,6 +69,15 @@ module _ {C T K : Type 0} (ticks : C → Option Ticks) (clock_faults : C → ℕ
   pub outputs_printed : OutputsArePrinted ticks clock_faults text_told text_faults told faults
   outputs_printed asked clock clock_then files files_then shelves shelves_then bytes text output =
       named_is_printed asked.text asked.clock asked.library bytes text output.bundle clock clock_then files files_then shelves shelves_then output.read output.run
+
+  pub writes_printed : WhatIsWrittenIsPrinted ticks clock_faults text_told text_faults told faults
+  writes_printed asked clock clock_then files files_then shelves shelves_then left rest held now whole = record {
+    bytes = whole.bytes;
+    text = whole.text;
+    read = whole.read;
+    run = outputs_printed asked clock clock_then files files_then shelves shelves_then whole.bytes whole.text whole.run;
+    written = whole.written;
+  }
 
   -- ---- where no word names a device
 

@@ -1,5 +1,5 @@
 -- What the program promises of the bytes that it reads and writes.
-use Rattle.std.specs.Prelude.{◌≡◌, ℕ, Bool, true, false, List, [], None, Option, Some, drop, length, map, option_map, reverse, take}
+use Rattle.std.specs.Prelude.{◌≡◌, ◌≤◌, ℕ, Bool, true, false, List, [], ◌∷◌, None, Option, Some, drop, length, map, option_map, reverse, take}
 use Rattle.std.specs.Io.KnownBytes.{Appends}
 use Rattle.apl_io.specs.Clock.{Ticks}
 use Rattle.apl_io.specs.Content.{Told, placed}
@@ -60,13 +60,15 @@ pub record IsOutputOver {C T K : Type 0} (ticks : C → Option Ticks) (clock_fau
   pub output : text ≡ output_text transcripts (reverse journal)
   pub printable : ArePrintable transcripts (reverse journal)
 
--- what may be said of a clock, a text store or shelves of a run: by what they tell, their faults, and what they are before and after
+-- what may be said of the clock of a run: by what it tells, its faults, and what it is before and after
 abbrev pub SaidOfClock : Type 1
 SaidOfClock = (C : Type 0) → (C → Option Ticks) → (C → ℕ) → C → C → Type 0
 
+-- so of its text store
 abbrev pub SaidOfText : Type 1
 SaidOfText = (T : Type 0) → (T → Option (Told (List ℕ))) → (T → ℕ) → T → T → Type 0
 
+-- and of its shelves
 abbrev pub SaidOfShelves : Type 1
 SaidOfShelves = (K : Type 0) → (K → Option (Told (ℕ × List ℕ))) → (K → ℕ) → List K → List K → Type 0
 
@@ -75,23 +77,30 @@ abbrev pub OverClock : {C : Type 0} → (C → Option Ticks) → (C → ℕ) →
 OverClock {C} ticks faults true bundle clock clock_then Holds = Holds C ticks faults clock clock_then
 OverClock ticks faults false bundle clock clock_then Holds = (readings : Timer) × Holds Timer (λ c. Some c.told) (λ c. c.faults) (clock_of bundle) readings
 
--- a store that was handed in was told this place, once and no other
-abbrev pub IsPlaced : {T : Type 0} → (T → Option (Told (List ℕ))) → List ℕ → T → T → Type 0
-IsPlaced told place before now = told now ≡ option_map (placed place) (told before)
+-- a store that was handed in was told this place, once and no other: it keeps what it kept, and its count of faults did not fall
+abbrev pub IsPlaced : {T : Type 0} → (T → Option (Told (List ℕ))) → (T → ℕ) → List ℕ → T → T → Type 0
+IsPlaced told faults place before now = (told now ≡ option_map (placed place) (told before)) × (faults before ≤ faults now)
 
 -- it holds of the text store that was handed in, at its place, where that is named, and else of one of the bundle's files
 abbrev pub OverText : {T : Type 0} → (T → Option (Told (List ℕ))) → (T → ℕ) → Option (List ℕ) → PlainBundle → T → T → SaidOfText → Type 0
-OverText {T} told faults (Some place) bundle files files_then Holds = (placed : T) × IsPlaced told place files placed × Holds T told faults placed files_then
+OverText {T} told faults (Some place) bundle files files_then Holds = (placed : T) × IsPlaced told faults place files placed × Holds T told faults placed files_then
 OverText told faults None bundle files files_then Holds = (kept : Keeper (List ℕ)) × Holds (Keeper (List ℕ)) (λ t. Some t.told) (λ t. t.faults) (text_of bundle) kept
 
--- shelves that were handed in: the first so many were told this place, once and no other, and all others are as they were
-pub record ArePlaced {K : Type 0} (told : K → Option (Told (ℕ × List ℕ))) (place : List ℕ) (count : ℕ) (before now : List K) : Type 0 where
+-- no count of faults fell of these shelves, each of which stands at its place among the others
+abbrev pub NoneFell : {K : Type 0} → (K → ℕ) → List K → List K → Type 0
+NoneFell faults [] now = Unit {0}
+NoneFell faults (shelf ∷ before) [] = Unit {0}
+NoneFell faults (shelf ∷ before) (shelf_now ∷ now) = (faults shelf ≤ faults shelf_now) × NoneFell faults before now
+
+-- of the shelves that were handed in the first so many were told this place, once and no other: each keeps what it kept, no count of faults fell, and the others are as they were
+pub record ArePlaced {K : Type 0} (told : K → Option (Told (ℕ × List ℕ))) (faults : K → ℕ) (place : List ℕ) (count : ℕ) (before now : List K) : Type 0 where
   pub tell : map told (take count now) ≡ map (λ shelf. option_map (placed place) (told shelf)) (take count before)
+  pub counted : NoneFell faults before now
   pub others : drop count now ≡ drop count before
 
 -- it holds of the shelves that were handed in, each user's at its place, where they are named, and else of empty ones, one for each user
 abbrev pub OverShelves : {K : Type 0} → (K → Option (Told (ℕ × List ℕ))) → (K → ℕ) → Option (List ℕ) → PlainBundle → List K → List K → SaidOfShelves → Type 0
-OverShelves {K} told faults (Some place) bundle shelves shelves_then Holds = (placed : List K) × ArePlaced told place (length bundle.users) shelves placed × Holds K told faults placed shelves_then
+OverShelves {K} told faults (Some place) bundle shelves shelves_then Holds = (placed : List K) × ArePlaced told faults place (length bundle.users) shelves placed × Holds K told faults placed shelves_then
 OverShelves told faults None bundle shelves shelves_then Holds = (kept : List (Keeper (ℕ × List ℕ))) × Holds (Keeper (ℕ × List ℕ)) (λ k. Some k.told) (λ k. k.faults) (shelves_of bundle) kept
 
 -- the text is the output of a run of this bundle over a clock, a text store, and the shelves that are named

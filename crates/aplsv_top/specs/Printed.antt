@@ -10,7 +10,7 @@ use Rattle.sv_rules.specs.Legal.{IsLegal}
 use Rattle.session_rules.specs.Run.{AreUserParts, Dealings, user_numbers}
 use Rattle.journal_laws.specs.JournalLaws.{AccessesFollowTheTable, FullJournalsTakeLeavesAlone, TranscriptsAreEvaluatedAlone, UsesGiveTheLastValue}
 use Rattle.aplsv_words.specs.Meaning.{Asked}
-use Rattle.aplsv_top.specs.Headline.{IsOutputAs, IsOutputFor}
+use Rattle.aplsv_top.specs.Headline.{IsOutputAs, IsOutputFor, WritesRun}
 
 -- the text tells of the bundle that the bytes are the text of: a transcript of each user's lines, with some dealings with its shelf, and a legal journal. There are no other transcripts and no other journal that it tells of
 pub record IsPrinted (bytes text : List ℕ) : Type 0 where
@@ -30,6 +30,11 @@ module _ {C T K : Type 0} (ticks : C → Option Ticks) (clock_faults : C → ℕ
   OutputsArePrinted = (asked : Asked) (clock clock_then : C) (files files_then : T) (shelves shelves_then : List K) (bytes text : List ℕ)
       → IsOutputAs ticks clock_faults text_told text_faults told faults asked clock clock_then files files_then shelves shelves_then bytes text → IsPrinted bytes text
 
+  -- so where all was written, what the sink got tells of the bundle that the source gave
+  abbrev pub WhatIsWrittenIsPrinted : Type 0
+  WhatIsWrittenIsPrinted = (asked : Asked) (clock clock_then : C) (files files_then : T) (shelves shelves_then : List K) (left rest held now : Option (List ℕ))
+      → WritesRun (IsOutputAs ticks clock_faults text_told text_faults told faults asked clock clock_then files files_then shelves shelves_then) left rest held now → WritesRun IsPrinted left rest held now
+
   -- where no word names a device, it is the output of a run over the bundle's own, so that it is the only one
   abbrev pub OwnOutputsAreTheBundles : Type 0
   OwnOutputsAreTheBundles = (asked : Asked) (clock clock_then : C) (files files_then : T) (shelves shelves_then : List K) (bytes text : List ℕ) → asked.text ≡ None → asked.clock ≡ false → asked.library ≡ None
@@ -48,6 +53,6 @@ abbrev pub PrintedTranscriptsAreEvaluatedAlone : Type 0
 PrintedTranscriptsAreEvaluatedAlone =
     (bytes text : List ℕ) → (printed : IsPrinted bytes text) → TranscriptsAreEvaluatedAlone printed.dealings printed.bundle.users printed.journal printed.transcripts
 
--- past its limit the journal answers Full: it takes leaves alone
+-- past its limit the journal takes leaves alone, and no entry has the answer Full
 abbrev pub PrintedJournalsAnswerFullPastTheirLimit : Type 0
 PrintedJournalsAnswerFullPastTheirLimit = (bytes text : List ℕ) → (printed : IsPrinted bytes text) → FullJournalsTakeLeavesAlone printed.journal

@@ -1,5 +1,6 @@
-ghost use Rattle.aplsv_top.specs.OutputLaws.{BundlesHaveOneOutput, PrintedControlLosesNothing};
+ghost use Rattle.aplsv_top.specs.OutputLaws.{BundlesHaveOneOutput, OutputsAreDetermined, PrintedControlLosesNothing, ReplaysAreDetermined};
 
+use apl_io::{Clock, Shelf, TextStore};
 use auxiliaries::files_are_read_in_one_way;
 use bundle_text::texts_are_of_one_bundle;
 use session_rules::one_transcript_of_parts;
@@ -10,6 +11,25 @@ pub fn a_bundle_has_one_output()
     ensures { BundlesHaveOneOutput }
 {
     texts_are_of_one_bundle();
+    files_are_read_in_one_way();
+    one_transcript_of_parts();
+}
+
+/// What `replay` comes to is a function of the bundle and of what the devices tell: over clocks, text stores and shelves that
+/// tell the same, all of what they keep, two runs of a bundle have one journal and the same transcripts, unless a call that was
+/// to change an entry fails and leaves it untold. The call does nothing.
+pub fn replays_are_determined<T: TextStore, C: Clock, K: Shelf>()
+    ensures { ReplaysAreDetermined C.told C.faults T.told T.faults K.told K.faults }
+{
+    files_are_read_in_one_way();
+    one_transcript_of_parts();
+}
+
+/// So what is written of such runs is one text: over devices that tell it is a function of the bytes read and of what they tell,
+/// whichever of them the bundle's own are. The call does nothing.
+pub fn outputs_are_determined<T: TextStore, C: Clock, K: Shelf>()
+    ensures { OutputsAreDetermined C.told C.faults T.told T.faults K.told K.faults }
+{
     files_are_read_in_one_way();
     one_transcript_of_parts();
 }

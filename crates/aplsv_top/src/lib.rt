@@ -11,7 +11,10 @@ mod status;
 mod top;
 
 pub use bytes::replay_bytes;
-pub use laws::{a_bundle_has_one_output, printed_control_loses_nothing};
+pub use laws::{
+    a_bundle_has_one_output, outputs_are_determined, printed_control_loses_nothing,
+    replays_are_determined,
+};
 pub use printed::{
     outputs_are_printed, own_outputs_are_the_bundles, printed_accesses_follow_the_table,
     printed_journals_answer_full_past_their_limit, printed_transcripts_are_evaluated_alone,

@@ -1,4 +1,4 @@
-ghost use Rattle.aplsv_top.specs.Printed.{OutputsArePrinted, OwnOutputsAreTheBundles, PrintedAccessesFollowTheTable, PrintedJournalsAnswerFullPastTheirLimit, PrintedTranscriptsAreEvaluatedAlone, PrintedUsesGiveTheLastValue};
+ghost use Rattle.aplsv_top.specs.Printed.{OutputsArePrinted, OwnOutputsAreTheBundles, PrintedAccessesFollowTheTable, PrintedJournalsAnswerFullPastTheirLimit, PrintedTranscriptsAreEvaluatedAlone, PrintedUsesGiveTheLastValue, WhatIsWrittenIsPrinted};
 
 use apl_io::{Clock, Shelf, TextStore};
 use journal_laws::{
@@ -6,10 +6,11 @@ use journal_laws::{
     uses_give_the_last_value,
 };
 
-/// What is written where the program is `Done` tells of the bundle that was read, over any devices. The call does nothing.
-/// No memory.
+/// The output of each run tells of the bundle that was read, over any devices; and where the program is `Done` it is this that
+/// was written (`causes` of `aplsv_replay_words`). The call does nothing. No memory.
 pub fn outputs_are_printed<T: TextStore, C: Clock, K: Shelf>()
-    ensures { OutputsArePrinted C.told C.faults T.told T.faults K.told K.faults }
+    ensures printed { OutputsArePrinted C.told C.faults T.told T.faults K.told K.faults }
+    ensures written { WhatIsWrittenIsPrinted C.told C.faults T.told T.faults K.told K.faults }
 {}
 
 /// Where no word names a device, what is written is the output of a run over the bundle's files and readings and empty shelves,
@@ -34,16 +35,16 @@ pub fn printed_uses_give_the_last_value()
     uses_give_the_last_value();
 }
 
-/// Each transcript that is printed is its user's lines, evaluated alone with the answers that the journal gives that user.
-/// The call does nothing. No memory.
+/// Each transcript that is printed is its user's lines, evaluated alone with the answers that the journal gives that user, with
+/// Full behind these where the journal was full, and with replies of a shelf. The call does nothing. No memory.
 pub fn printed_transcripts_are_evaluated_alone()
     ensures { PrintedTranscriptsAreEvaluatedAlone }
 {
     transcripts_are_evaluated_alone();
 }
 
-/// Past its limit a journal that is printed takes leaves alone, and answers Full to all else. The call does nothing. No
-/// memory.
+/// Past its limit a journal that is printed takes leaves alone, and no entry of it has the answer Full: what a user's lines ask
+/// then has no entry, and is answered Full (`printed_transcripts_are_evaluated_alone`). The call does nothing. No memory.
 pub fn printed_journals_answer_full_past_their_limit()
     ensures { PrintedJournalsAnswerFullPastTheirLimit }
 {

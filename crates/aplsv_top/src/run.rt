@@ -236,7 +236,7 @@ fn place_shelves<K: Shelf>(
     place: &str,
 ) -> Result<(), WantOfMemory>
     requires { count ≤ vec_len shelves.old }
-    ensures placed { OnOk result (ArePlaced K.told place.now count shelves.old.items shelves.new.items) }
+    ensures placed { OnOk result (ArePlaced K.told K.faults place.now count shelves.old.items shelves.new.items) }
     ensures many { vec_len shelves.new ≡ vec_len shelves.old }
 {
     for at in 0..count {

@@ -75,6 +75,7 @@ alone journal user exchanges transcript whose part = record {
   called = part.finished.calls;
   finished = part.finished.waits;
   limit = part.at_limit;
+  waited = part.waited;
 }
 
 module _ (dealings : Dealings) (journal : Entries) where

@@ -1,5 +1,5 @@
 -- What a journal says to those who read it. Journals stand here with their newest entry first.
-use Rattle.std.specs.Prelude.{◌≡◌, ◌≢◌, ◌⊎◌, ◌↔◌, ◌++◌, ℕ, List, [], ◌∷◌, IsTrue, None, Option, Some, length, map, slice_get}
+use Rattle.std.specs.Prelude.{◌≡◌, ◌≢◌, ◌⊎◌, ◌↔◌, ◌++◌, ℕ, List, [], ◌∷◌, IfSome, IsTrue, None, Option, Some, length, map, slice_get}
 use Rattle.apl_arrays.specs.Array.{PlainArray}
 use Rattle.bundle_text.specs.User.{PlainUser}
 use Rattle.sv_access.specs.declared.access.Kind.{Kind}
@@ -11,7 +11,7 @@ use Rattle.sv_events.specs.declared.event.Hold.{Hold}
 use Rattle.sv_journal.specs.Output.{PlainTranscript}
 use Rattle.sv_rules.specs.Entries.{Entries, is_full, is_leave}
 use Rattle.sv_rules.specs.Outcome.{value_answer}
-use Rattle.sv_rules.specs.Refused.{hold_on}
+use Rattle.sv_rules.specs.Refused.{awaited, hold_on}
 use Rattle.sv_rules.specs.declared.standing.Standing.{Standing}
 use Rattle.sv_story_laws.specs.AnswerLaws.{Grants, IsAccessOf, IsThere}
 use Rattle.session_rules.specs.Run.{Dealings}
@@ -61,7 +61,7 @@ answers_given journal user = answers_of (answered_entries journal user)
 abbrev pub acts_answered : Entries → ℕ → List Act
 acts_answered journal user = acts_of (answered_entries journal user)
 
--- a transcript is its user's: that of its lines alone, with the replies of these exchanges with its shelf, which asked the acts that the journal answers, and then, only where the journal was full, acts that are answered Full
+-- a transcript is its user's: that of its lines alone, with the replies of these exchanges with its shelf, which asked the acts that the journal answers, and then, only where the journal was full, acts that are answered Full, of which the first is that which the user waited for, if it waited
 pub record IsEvaluatedAlone (journal : Entries) (user : PlainUser) (exchanges : List Exchange) (transcript : PlainTranscript) : Type 0 where
   pub whose : transcript.user ≡ user.number
   pub past : List Act
@@ -70,6 +70,7 @@ pub record IsEvaluatedAlone (journal : Entries) (user : PlainUser) (exchanges : 
   pub called : (session_of user.lines (answers_given journal user.number ++ map (λ act. full) past) (replies_in exchanges)).exchanges ≡ exchanges
   pub finished : (session_of user.lines (answers_given journal user.number ++ map (λ act. full) past) (replies_in exchanges)).waits ≡ None
   pub limit : past ≢ [] → IsTrue (is_full (before_leave journal user.number))
+  pub waited : IfSome (awaited (before_leave journal user.number) user.number) (λ act. slice_get past 0 ≡ Some act)
 
 -- there is one for each user, in their order, with these dealings with their shelves
 pub record TranscriptsAreEvaluatedAlone (dealings : Dealings) (users : List PlainUser) (journal : Entries) (transcripts : List PlainTranscript) : Type 0 where

@@ -1,4 +1,3 @@
-use Rattle.std.proofs.Common.{rules}
 use Rattle.std.proofs.lemmas.Result.{IfOk-weaker}
 use Rattle.aplsv_top.specs.Headline.{IsOutputIn, IsOutputOver}
 use Rattle.aplsv_top.proofs.Over.{output_over}

@@ -1,4 +1,4 @@
-use Rattle.std.proofs.Common.{rules, ◌≡◌, Bool, true, false, ap, subst, sym, refl, true≢false, inl, ◌∙◌}
+use Rattle.std.proofs.Common.{◌≡◌, Bool, true, false, ap, subst, sym, refl, true≢false, inl, ◌∙◌}
 use Rattle.aplsv_words.specs.Meaning.{Asked, asked_by}
 use Rattle.aplsv_words.specs.declared.words.WordsRefused.TheVariants as refused
 use Rattle.aplsv_top.specs.Causes.{HasCause}
