@@ -17,14 +17,12 @@ ghost use Rattle.apl_acts.specs.Faults.{IsOneOrAsMany, offers_of, plain_faults};
 
 use crate::controls::control;
 use crate::queries::query;
-use apl_arrays::{
-    Array, FIRST_USER, Fail, LAST_USER, Report, SystemName, WantOfMemory, shape_fault,
-};
+use apl_arrays::{Array, Fail, LAST_USER, Report, SystemName, WantOfMemory, shape_fault};
 use apl_statements::{Evaluation, Flow, Interpreter};
 use apl_values::{
     Deed, Held, Naming, Row, Rows, names_all, naming_count, namings_of, result_shape,
 };
-use apl_workspace::{Seen, Workspace};
+use apl_workspace::{Seen, Workspace, is_addressee};
 use std::alloc::Global;
 
 /// What is wrong with the arguments of a shared variable function. The first report counts: RANK, LENGTH, DOMAIN, WS FULL.
@@ -277,14 +275,11 @@ fn offers(alloc: Global, parties: &[i64], namings: Vec<Naming>) -> Result<Vec<Ro
     Ok(rows)
 }
 
-/// Whether a number is no party that an offer may be made to: 0, 10, 20 or a user's. No memory.
+/// Whether a number is no party that an offer may be made to: to any, which is 0, to an auxiliary, or to a user. No memory.
 pub fn is_no_addressee(number: i64) -> bool
     ensures { result ≡ is_no_addressee number }
 {
-    !(number == 0
-        || number == 10
-        || number == 20
-        || (number >= i64::from(FIRST_USER) && number <= i64::from(LAST_USER)))
+    number < 0 || number > i64::from(LAST_USER) || !is_addressee(number.unsigned_abs() as u32)
 }
 
 // Whether a local name cannot be offered: a frame has it, or it is a function.

@@ -1,4 +1,5 @@
 pub mod Edits
+pub mod Fronts
 pub mod Glyphs
 pub mod Names
 pub mod Padding

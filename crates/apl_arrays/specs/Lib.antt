@@ -2,6 +2,7 @@ pub mod Array
 pub mod Ascending
 pub mod File
 pub mod FileList
+pub mod Front
 pub mod Glyph
 pub mod Limits
 pub mod List

@@ -35,11 +35,3 @@ most_input_bytes = 4194304
 -- the most offers of one party that stand at a time
 abbrev pub most_offers : ℕ
 most_offers = 64
-
--- the entries with which a journal is full
-abbrev pub most_entries : ℕ
-most_entries = 200000
-
--- the elements with which a journal is full
-abbrev pub most_journal_elements : ℕ
-most_journal_elements = 4194304

@@ -1,4 +1,4 @@
-//! The values of APL: glyphs, names, lists, arrays, and the names of its functions and reports.
+//! The values of APL: glyphs, names, lists, arrays, and the names of its reports.
 #![tactic(auto)]
 
 mod array;
@@ -19,7 +19,7 @@ mod shaped;
 mod system;
 mod text;
 mod threads;
-mod verb;
+mod way;
 mod word;
 
 pub use array::{
@@ -42,5 +42,5 @@ pub use report::{Fail, Report};
 pub use system::SystemName;
 pub use text::{GlyphRefused, add_utf8, glyph_at, glyphs_of, texts_are_read_in_one_way, utf8_of};
 pub use threads::{lists_may_cross_threads, values_may_cross_threads};
-pub use verb::{Dyad, Mix1, Mix2, Monad, Verb, Way};
+pub use way::Way;
 pub use word::{blank_count, digit_count, next_word, words_stand_between_blanks};

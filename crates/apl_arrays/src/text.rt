@@ -1,5 +1,6 @@
-ghost use Rattle.std.specs.Prelude.{◌≡◌, ◌≢◌, ◌+◌, ◌<◌, ◌≤◌, ◌^◌, ◌++◌, ◌∷◌, [], ◌⊎◌, ◌==◌, true, ℕ, List as ListOf, All, length, take, drop, IfOk, IfErr, OnOk, MatchResult, MatchOption, encode_utf8, nat_lt, vec_len, vec_capacity};
+ghost use Rattle.std.specs.Prelude.{◌≡◌, ◌≢◌, ◌+◌, ◌<◌, ◌≤◌, ◌^◌, ◌++◌, ◌∷◌, [], ◌⊎◌, ◌==◌, true, ℕ, List as ListOf, All, length, take, drop, IfOk, IfErr, OnOk, MatchResult, MatchOption, encode_utf8, nat_lt, vec_len, vec_capacity, OnErr};
 ghost use Rattle.std.specs.List.{list_all, position};
+ghost use Rattle.apl_arrays.specs.Front.{KeepsFront};
 ghost use Rattle.apl_arrays.specs.Glyph.{IsGlyph, scalar_of, glyph_utf8, line_utf8, Spells, StartsWithNoGlyph, IsBadFrom};
 ghost use Rattle.apl_arrays.specs.Text.{IsReasonToRefuse, StartsWithNoScalar};
 
@@ -169,6 +170,7 @@ const GLYPH_BYTES: usize = 4;
 fn add_glyph(bytes: &mut Vec<u8>, glyph: Glyph) -> Result<(), WantOfMemory>
     requires room { vec_len bytes.old + 4 ≤ vec_capacity bytes.old }
     ensures text { OnOk result (bytes.new.items ≡ bytes.old.items ++ glyph_utf8 glyph) }
+    ensures err { OnErr result (bytes.new.items ≡ bytes.old.items) }
     ensures glyph { IsGlyph glyph }
     ensures len { vec_len bytes.new ≤ vec_len bytes.old + 4 }
     ensures capacity { vec_capacity bytes.old ≤ vec_capacity bytes.new }
@@ -207,6 +209,7 @@ fn add_codes(bytes: &mut Vec<u8>, line: &[Glyph]) -> Result<(), WantOfMemory>
     requires low { list_all (λ code. nat_lt code 128) line.now ≡ true }
     requires room { vec_len bytes.old + length line.now ≤ vec_capacity bytes.old }
     ensures text { OnOk result (bytes.new.items ≡ bytes.old.items ++ line_utf8 line.now) }
+    ensures err { OnErr result (bytes.new.items ≡ bytes.old.items) }
     ensures glyphs { OnOk result (All IsGlyph line.now) }
 {
     let start = bytes.len();
@@ -216,9 +219,10 @@ fn add_codes(bytes: &mut Vec<u8>, line: &[Glyph]) -> Result<(), WantOfMemory>
 }
 
 /// Adds glyphs in UTF-8. It takes memory once, as if each glyph took its most bytes; where that runs out, a part
-/// of them may stand there.
+/// of them may stand there, behind what stood there before.
 pub fn add_utf8(bytes: &mut Vec<u8>, line: &[Glyph]) -> Result<(), WantOfMemory>
     ensures text { OnOk result (bytes.new.items ≡ bytes.old.items ++ line_utf8 line.now) }
+    ensures front { OnErr result (KeepsFront bytes.old.items bytes.new.items) }
     ensures glyphs { OnOk result (All IsGlyph line.now) }
 {
     let Some(room) = line.len().checked_mul(GLYPH_BYTES) else {

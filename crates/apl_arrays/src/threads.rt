@@ -1,6 +1,6 @@
 //! Values may go to other threads.
 
-use crate::{Array, FileList, FileName, LineList, List, Name, Verb};
+use crate::{Array, FileList, FileName, LineList, List, Name};
 
 fn may_cross<T: Send + Sync>(_value: &T) {}
 
@@ -16,12 +16,10 @@ pub fn values_may_cross_threads(
     files: &FileList,
     name: &Name,
     file_name: &FileName,
-    verb: &Verb,
 ) {
     may_cross(array);
     may_cross(lines);
     may_cross(files);
     may_cross(name);
     may_cross(file_name);
-    may_cross(verb);
 }

@@ -1,3 +1,4 @@
 pub mod Copies
 pub mod Mentions
 pub mod MergeLaw
+pub mod TextLaw

@@ -1,3 +1,4 @@
 pub mod Copying
 pub mod Merge
 pub mod Text
+pub mod TextLaws

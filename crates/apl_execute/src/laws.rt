@@ -1,12 +1,27 @@
-//! What holds of a merge: what stands under each name, and what stays.
+//! What holds of the definitions: which values are texts; and of a merge what stands under each name, and what stays.
 
-ghost use Rattle.std.specs.Prelude.{◌≡◌, ◌&&◌, ℕ, true, List as ListOf, Option, if◌then◌else◌};
+ghost use Rattle.std.specs.Prelude.{◌≡◌, ◌<◌, ◌&&◌, ◌↔◌, ℕ, true, List as ListOf, Option, Ok, Err, length, if◌then◌else◌};
 ghost use Rattle.std.specs.List.{list_any};
 ghost use Rattle.apl_workspace.specs.Meaning.{is_shared_in, meaning_in};
 ghost use Rattle.apl_workspace.specs.Names.{all_differ};
+ghost use Rattle.apl_arrays.specs.Array.{PlainArray};
 ghost use Rattle.apl_arrays.specs.Name.{same_name};
 ghost use Rattle.apl_workspace.specs.Workspace.{IsWorkspace, PlainWorkspace, is_shared};
 ghost use Rattle.apl_execute.specs.Merge.{asked, copy_in, each_once, is_copied, merged};
+ghost use Rattle.apl_execute.specs.Text.{text_of};
+ghost use Rattle.apl_execute.specs.TextLaws.{HasNumbers, HasTooMany, IsText};
+
+use apl_arrays::Report;
+
+/// A value is a text exactly where it has at most one axis and at most 1,000 characters: it is these. Where it has more
+/// axes that is RANK; else numbers, also none, are DOMAIN; else too many characters are LENGTH. The call does nothing. No
+/// memory.
+pub fn texts_are_few_characters()
+    ensures text { (value : PlainArray) (text : ListOf ℕ) → (text_of value ≡ Ok text) ↔ IsText value text }
+    ensures axes { (value : PlainArray) → (text_of value ≡ Err Report.Rank) ↔ (1 < length value.shape) }
+    ensures no_numbers { (value : PlainArray) → (text_of value ≡ Err Report.Domain) ↔ HasNumbers value }
+    ensures many { (value : PlainArray) → (text_of value ≡ Err Report.Length) ↔ HasTooMany value }
+{}
 
 /// After a merge the names that are copied stand for what the other workspace has, and all others, the marks, the offers
 /// and the count of printed glyphs are as they were. The call does nothing. No memory.

@@ -2,4 +2,5 @@ mod Ascending
 mod Entries
 mod Members
 mod Names
+pub mod Places
 mod Streams

@@ -1,5 +1,5 @@
 -- What devices tell of what they keep, and what calls do to it. Keys are names, or users and names, compared by an order.
-use Rattle.std.specs.Prelude.{◌≡◌, ◌==◌, ℕ, Bool, true, false, List, Option, None, Some, Result, Ok, Err, IfSome, IsSomeAnd, MatchOption, IfOk, IsSome, if◌then◌else◌}
+use Rattle.std.specs.Prelude.{◌≡◌, ◌==◌, ℕ, Bool, true, false, List, [], ◌∷◌, ◌++◌, Option, None, Some, Result, Ok, Err, IfSome, IsSomeAnd, MatchOption, IfOk, IsSome, if◌then◌else◌}
 use Rattle.std.specs.List.{list_any}
 use Rattle.std.specs.Ordering.{nat_cmp, ordering_then}
 use Rattle.std.specs.declared.cmp.Ordering.{Ordering}
@@ -11,12 +11,22 @@ use Rattle.apl_io.specs.Faults.{one_more}
 use Rattle.apl_io.specs.declared.store_error.StoreError.{StoreError}
 use Rattle.apl_io.specs.declared.store_error.StoreError.TheVariants.{Failed, WantOfMemory}
 
--- what a device tells: its entries by key, each with its bytes, or with None where they are told no more (of two
--- entries of one key the first counts), the calls so far, and the numbers of the calls that are to fail
+-- what a device tells: the places that it was given, in order; its entries by key, each with its bytes, or with None
+-- where they are told no more (of two entries of one key the first counts); the calls so far, and the numbers of the calls
+-- that are to fail
 pub record Told (K : Type 0) : Type 0 where
+  pub places : List (List ℕ)
   pub entries : List (K × Option (List ℕ))
   pub calls : ℕ
   pub fails : List ℕ
+
+-- given one place more, behind the others
+abbrev pub placed : {K : Type 0} → List ℕ → Told K → Told K
+placed place told = record told { places = told.places ++ place ∷ [] }
+
+-- no place was given, where the device tells what it keeps
+abbrev pub KeepsPlaces : {K : Type 0} → Option (Told K) → Option (Told K) → Type 0
+KeepsPlaces before now = IfSome before (λ old. IsSomeAnd now (λ new. new.places ≡ old.places))
 
 -- users come first, then names
 abbrev pub by_user_and_name : ℕ × List ℕ → ℕ × List ℕ → Ordering
@@ -58,10 +68,11 @@ entry_after (Ok _) wanted before = wanted
 entry_after (Err Failed) wanted before = Some None
 entry_after (Err WantOfMemory) wanted before = before
 
--- a call that was to change the entry of a key to the wanted one: all other entries are as before
+-- a call that was to change the entry of a key to the wanted one: all other entries are as before, and so are the places
 pub record IsChange {K T : Type 0} (order : K → K → Ordering) (old : Told K) (key : K) (wanted : Option (Option (List ℕ))) (answer : Result T StoreError) (new : Told K) : Type 0 where
   pub numbered : FailsByNumber old.calls old.fails answer
   pub counted : new.calls ≡ one_more old.calls
+  pub places : new.places ≡ old.places
   pub fails : new.fails ≡ old.fails
   pub entries : (other : K) → entry_of order new other ≡ (if is_at (order key) other then entry_after answer wanted (entry_of order old other) else entry_of order old other)
 

@@ -1,5 +1,5 @@
 -- What text stores, clocks and shelves in memory keep.
-use Rattle.std.specs.Prelude.{◌==◌, ◌&&◌, ℕ, List, Option, Some, map, filter, is_some}
+use Rattle.std.specs.Prelude.{◌==◌, ◌&&◌, ℕ, List, [], Option, Some, map, filter, is_some}
 use Rattle.std.specs.String.{string_bytes}
 use Rattle.std.specs.declared.string.String.{String}
 use Rattle.std.specs.declared.alloc.Global.{Global}
@@ -31,9 +31,9 @@ text_entry entry = (string_bytes entry.0, plain_bytes entry.1)
 abbrev pub shelf_entry : (ℕ × List ℕ) × Option (Listed ℕ) → (ℕ × List ℕ) × Option (List ℕ)
 shelf_entry entry = (entry.0, plain_bytes entry.1)
 
--- before the first call
+-- before the first call, and given no place
 abbrev pub new_keeper : {K : Type 0} → List (K × Option (List ℕ)) → List ℕ → Keeper K
-new_keeper entries fails = record { told = record { entries = entries; calls = 0; fails = fails }; faults = 0 }
+new_keeper entries fails = record { told = record { places = []; entries = entries; calls = 0; fails = fails }; faults = 0 }
 
 -- the names of a user's entries whose bytes are there
 abbrev pub names_in : ℕ → List ((ℕ × List ℕ) × Option (Listed ℕ)) → List (List ℕ)

@@ -12,6 +12,7 @@ mod memory_shelf;
 mod memory_sink;
 mod memory_source;
 mod memory_text;
+mod places;
 mod shelf;
 mod sink;
 mod source;

@@ -7,6 +7,7 @@ ghost use Rattle.apl_io.specs.Kept.{names_in, shelf_entry};
 ghost use Rattle.apl_io.specs.Replies.{plain_bytes};
 
 use crate::kept::{copy_bytes, copy_kept};
+use crate::places::Places;
 use crate::{Bytes, CallNumbers, Shelf, StoreError, WantOfMemory};
 use apl_arrays::{Name, NameList};
 use std::alloc::Global;
@@ -18,6 +19,7 @@ use std::marker::Model;
 #[derive(Debug, Drop)]
 pub struct MemoryShelf {
     alloc: Global,
+    places: Places,
     kept: BTreeMap<(u32, Name), Option<Bytes>>,
     calls: u64,
     fails: CallNumbers,
@@ -30,20 +32,21 @@ impl Model for MemoryShelf {
 
     ghost Value = { Keeper (ℕ × List ℕ) };
 
-    ghost view = { λ s. record { told = record { entries = map shelf_entry s.kept.entries; calls = s.calls; fails = s.fails.items }; faults = s.faults } };
+    ghost view = { λ s. record { told = record { places = s.places; entries = map shelf_entry s.kept.entries; calls = s.calls; fails = s.fails.items }; faults = s.faults } };
 }
 
 impl MemoryShelf {
     ghost use Rattle.std.specs.Prelude.{[]};
     ghost use Rattle.apl_io.specs.Kept.{new_keeper};
 
-    /// An empty shelf. `fails` has the numbers of the calls that are to fail: the first call is 1, and past the
-    /// greatest `u64` numbers go no further. No memory.
+    /// An empty shelf, given no place. `fails` has the numbers of the calls that are to fail: the first call is 1, and
+    /// past the greatest `u64` numbers go no further. No memory.
     pub fn new(alloc: Global, fails: CallNumbers) -> Self
         ensures { result ≡ new_keeper [] fails.items }
     {
         MemoryShelf {
             alloc,
+            places: Places::new(alloc),
             kept: BTreeMap::new(alloc),
             calls: 0,
             fails,
@@ -63,8 +66,8 @@ impl Shelf for MemoryShelf {
         self.faults
     }
 
-    fn set_place(&mut self, _place: &str) -> Result<(), WantOfMemory> {
-        Ok(())
+    fn set_place(&mut self, place: &str) -> Result<(), WantOfMemory> {
+        self.places.add(self.alloc, place)
     }
 
     fn read(&mut self, user: u32, name: &Name) -> Result<Option<Bytes>, StoreError> {

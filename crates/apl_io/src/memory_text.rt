@@ -9,6 +9,7 @@ ghost use Rattle.apl_io.specs.Kept.{file_entry, text_entry};
 ghost use Rattle.apl_io.specs.Replies.{plain_bytes};
 
 use crate::kept::{copy_bytes, copy_kept};
+use crate::places::Places;
 use crate::{Bytes, CallNumbers, StoreError, TextStore, WantOfMemory};
 use apl_arrays::{File, FileList};
 use std::alloc::Global;
@@ -20,6 +21,7 @@ use std::marker::Model;
 #[derive(Debug, Drop)]
 pub struct MemoryText {
     alloc: Global,
+    places: Places,
     given: FileList,
     written: BTreeMap<String, Option<Bytes>>,
     calls: u64,
@@ -33,19 +35,20 @@ impl Model for MemoryText {
 
     ghost Value = { Keeper (List ℕ) };
 
-    ghost view = { λ t. record { told = record { entries = map text_entry t.written.entries ++ map file_entry t.given.items; calls = t.calls; fails = t.fails.items }; faults = t.faults } };
+    ghost view = { λ t. record { told = record { places = t.places; entries = map text_entry t.written.entries ++ map file_entry t.given.items; calls = t.calls; fails = t.fails.items }; faults = t.faults } };
 }
 
 impl MemoryText {
     ghost use Rattle.apl_io.specs.Kept.{new_keeper};
 
-    /// A store of these files. `fails` has the numbers of the calls that are to fail: the first call is 1, and past the
-    /// greatest `u64` numbers go no further. No memory.
+    /// A store of these files, given no place. `fails` has the numbers of the calls that are to fail: the first call is
+    /// 1, and past the greatest `u64` numbers go no further. No memory.
     pub fn new(alloc: Global, files: FileList, fails: CallNumbers) -> Self
         ensures { result ≡ new_keeper (map file_entry files.items) fails.items }
     {
         MemoryText {
             alloc,
+            places: Places::new(alloc),
             given: files,
             written: BTreeMap::new(alloc),
             calls: 0,
@@ -66,8 +69,8 @@ impl TextStore for MemoryText {
         self.faults
     }
 
-    fn set_place(&mut self, _place: &str) -> Result<(), WantOfMemory> {
-        Ok(())
+    fn set_place(&mut self, place: &str) -> Result<(), WantOfMemory> {
+        self.places.add(self.alloc, place)
     }
 
     fn read(&mut self, name: &str) -> Result<Option<Bytes>, StoreError> {

@@ -1,8 +1,8 @@
-ghost use Rattle.std.specs.Prelude.{◌≡◌, ◌≤◌, ℕ, List, IsErrOf, IfOk};
+ghost use Rattle.std.specs.Prelude.{◌≡◌, ◌≤◌, ℕ, List, IsErrOf, IfOk, OnOk, OnErr, option_map};
 ghost use Rattle.std.specs.declared.option.Option.{Option};
 ghost use Rattle.std.specs.List.Sorted.{IsStrictlySortedBy};
 ghost use Rattle.apl_arrays.specs.Name.{name_order};
-ghost use Rattle.apl_io.specs.Content.{Told, by_user_and_name, Reads, Writes, Removes, Lists};
+ghost use Rattle.apl_io.specs.Content.{Told, placed, by_user_and_name, Reads, Writes, Removes, Lists};
 ghost use Rattle.apl_io.specs.Faults.{Rose};
 ghost use Rattle.apl_io.specs.Replies.{plain_read, plain_names};
 
@@ -11,7 +11,8 @@ use apl_arrays::{Name, NameList};
 
 /// A place of saved workspaces by user and name, which counts its faults. What memory a call takes is the shelf's own.
 pub trait Shelf {
-    /// What is kept, the calls so far and those that are to fail, where the shelf tells them.
+    /// The places that it was given, what is kept, the calls so far and those that are to fail, where the shelf tells
+    /// them.
     ghost told: { Self → Option (Told (ℕ × List ℕ)) };
 
     /// How often the shelf has failed.
@@ -21,9 +22,11 @@ pub trait Shelf {
     fn faults(&self) -> u64
         ensures { result ≡ faults self.now };
 
-    /// Says where the shelf is. It is no call that has a number, and leaves what is told.
+    /// Says where the shelf is. It is no call that has a number. The place goes behind those that were given before, and
+    /// all else that is told stays. `WantOfMemory` leaves what is told.
     fn set_place(&mut self, place: &str) -> Result<(), WantOfMemory>
-        ensures told { told self.new ≡ told self.old }
+        ensures ok { OnOk result (told self.new ≡ option_map (placed place.now) (told self.old)) }
+        ensures err { OnErr result (told self.new ≡ told self.old) }
         ensures counted { faults self.old ≤ faults self.new };
 
     /// The bytes of a user under a name, or `None` where there are none.

@@ -1,7 +1,7 @@
-ghost use Rattle.std.specs.Prelude.{◌≡◌, ◌≤◌, ℕ, List, IsErrOf};
+ghost use Rattle.std.specs.Prelude.{◌≡◌, ◌≤◌, ℕ, List, IsErrOf, OnOk, OnErr, option_map};
 ghost use Rattle.std.specs.declared.option.Option.{Option};
 ghost use Rattle.apl_arrays.specs.Name.{name_order};
-ghost use Rattle.apl_io.specs.Content.{Told, Reads, Writes};
+ghost use Rattle.apl_io.specs.Content.{Told, placed, Reads, Writes};
 ghost use Rattle.apl_io.specs.Faults.{Rose};
 ghost use Rattle.apl_io.specs.Replies.{plain_read};
 
@@ -9,7 +9,7 @@ use crate::{Bytes, StoreError, WantOfMemory};
 
 /// A place of text files by name, which counts its faults. What memory a call takes is the store's own.
 pub trait TextStore {
-    /// The files, the calls so far and those that are to fail, where the store tells them.
+    /// The places that it was given, the files, the calls so far and those that are to fail, where the store tells them.
     ghost told: { Self → Option (Told (List ℕ)) };
 
     /// How often the store has failed.
@@ -19,9 +19,11 @@ pub trait TextStore {
     fn faults(&self) -> u64
         ensures { result ≡ faults self.now };
 
-    /// Says where the files are. It is no call that has a number, and leaves what is told.
+    /// Says where the files are. It is no call that has a number. The place goes behind those that were given before, and
+    /// all else that is told stays. `WantOfMemory` leaves what is told.
     fn set_place(&mut self, place: &str) -> Result<(), WantOfMemory>
-        ensures told { told self.new ≡ told self.old }
+        ensures ok { OnOk result (told self.new ≡ option_map (placed place.now) (told self.old)) }
+        ensures err { OnErr result (told self.new ≡ told self.old) }
         ensures counted { faults self.old ≤ faults self.new };
 
     /// The bytes of a file, or `None` where there is no such file.

@@ -1,7 +1,7 @@
 use Rattle.std.specs.Prelude.{◌+◌, ◌-◌, ◌++◌, ◌||◌, ◌==◌, ℕ, ℤ, Bool, false, List, Option, Some, None, drop, nat_lt, take, unsigned_abs}
 use Rattle.std.specs.Int.{is_negative}
-use Rattle.apl_arrays.specs.declared.verb.Way.{Way}
-use Rattle.apl_arrays.specs.declared.verb.Way.TheVariants.{Last, First}
+use Rattle.apl_arrays.specs.declared.way.Way.{Way}
+use Rattle.apl_arrays.specs.declared.way.Way.TheVariants.{Last, First}
 
 -- a K is given that is not from 1 to the rank
 abbrev pub lacks_axis : ℕ → Option ℤ → Bool

@@ -4,8 +4,9 @@ use Rattle.std.specs.Prelude.{◌&&◌, ◌||◌, ℤ, Option, Some, None, Resul
 use Rattle.apl_arrays.specs.Array.{PlainArray}
 use Rattle.apl_arrays.specs.declared.report.Fail.{Fail}
 use Rattle.apl_arrays.specs.declared.report.Report.TheVariants.{Syntax}
-use Rattle.apl_arrays.specs.declared.verb.Verb.{Verb}
-use Rattle.operator_rules.specs.Apply.{applied, is_dyadic, takes_axis}
+use Rattle.apl_verbs.specs.declared.verb.Verb.{Verb}
+use Rattle.operator_rules.specs.Apply.{applied}
+use Rattle.apl_verbs.specs.Arguments.{is_dyadic, verb_takes_axis}
 use Rattle.apl_meaning.specs.Expressions.{valued}
 use Rattle.apl_meaning.specs.Meaning.{closed}
 use Rattle.apl_meaning.specs.State.{State, gives, refuses, outcome_of}
@@ -20,7 +21,7 @@ use Rattle.apl_statements.proofs.Moving.{comes_then}
 use Rattle.apl_statements.proofs.Same.{comes_as}
 use Rattle.apl_statements.proofs.Taken.{answer_gives}
 
-may_as : {A : Type 0} (f : Verb) (value : A → PlainArray) (left : Option A) (axis : Option ℤ) → (both_or_neither (is_dyadic f) (is_some left) && (not (is_some axis) || takes_axis f)) ≡ may_be_applied f (option_map value left) axis
+may_as : {A : Type 0} (f : Verb) (value : A → PlainArray) (left : Option A) (axis : Option ℤ) → (both_or_neither (is_dyadic f) (is_some left) && (not (is_some axis) || verb_takes_axis f)) ≡ may_be_applied f (option_map value left) axis
 may_as f value None None = refl
 may_as f value None (Some axis) = refl
 may_as f value (Some left) None = refl
@@ -28,11 +29,11 @@ may_as f value (Some left) (Some axis) = refl
 
 -- whether a function may be applied, as it was tested
 pub may_tested : {A : Type 0} (f : Verb) (value : A → PlainArray) (left : Option A) (axis : Option ℤ) (has_left has_axis tested : Bool) → has_left ≡ is_some left → has_axis ≡ is_some axis
-    → tested ≡ (both_or_neither (is_dyadic f) has_left && (not has_axis || takes_axis f)) → may_be_applied f (option_map value left) axis ≡ tested
+    → tested ≡ (both_or_neither (is_dyadic f) has_left && (not has_axis || verb_takes_axis f)) → may_be_applied f (option_map value left) axis ≡ tested
 may_tested f value left axis has_left has_axis tested one two is =
     sym (may_as f value left axis)
-    ∙ ap (λ (b : Bool). both_or_neither (is_dyadic f) b && (not (is_some axis) || takes_axis f)) (sym one)
-    ∙ ap (λ (b : Bool). both_or_neither (is_dyadic f) has_left && (not b || takes_axis f)) (sym two)
+    ∙ ap (λ (b : Bool). both_or_neither (is_dyadic f) b && (not (is_some axis) || verb_takes_axis f)) (sym one)
+    ∙ ap (λ (b : Bool). both_or_neither (is_dyadic f) has_left && (not b || verb_takes_axis f)) (sym two)
     ∙ sym is
 
 -- one that may be counts once

@@ -5,7 +5,7 @@ ghost use Rattle.apl_meaning.specs.Expressions.{valued};
 ghost use Rattle.apl_meaning.specs.Meaning.{ran};
 ghost use Rattle.apl_meaning.specs.Nodes.{apply_step};
 ghost use Rattle.apl_meaning.specs.Verbs.{application, both_or_neither, named_axis};
-ghost use Rattle.operator_rules.specs.Apply.{is_dyadic, takes_axis};
+ghost use Rattle.apl_verbs.specs.Arguments.{is_dyadic, verb_takes_axis};
 ghost use Rattle.apl_values.specs.Values.{IsHeld, held_value};
 ghost use Rattle.apl_statements.specs.Moves.{Comes, if_there, part_gives, part_takes};
 ghost use Rattle.apl_statements.specs.Sound.{IsCaller, IsFlow};
@@ -14,11 +14,12 @@ ghost use Rattle.apl_statements.specs.Work.{StaysWithin};
 ghost use Rattle.apl_machine.specs.Axes.{IsAxis, IsNoAxis};
 
 use apl_acts::system;
-use apl_arrays::{Array, Fail, ItemsRef, Mix1, Mix2, Report, Verb};
+use apl_arrays::{Array, Fail, ItemsRef, Report};
 use apl_calls::call;
 use apl_operators::{Steps, apply};
 use apl_statements::{Evaluation, Flow, Interpreter, Operands};
 use apl_values::{Held, array_of};
+use apl_verbs::{Verb, is_dyadic, verb_takes_axis};
 use apl_workspace::Args;
 use line_trees::Fun;
 use std::sync::ledger::Ledger;
@@ -139,33 +140,9 @@ fn lent<'a>(
 
 // Whether a function may be applied so: with a left argument exactly where it takes two, and an axis only where one may stand.
 fn may_be_applied(verb: &Verb, has_left: bool, has_axis: bool) -> bool
-    ensures { result ≡ (both_or_neither (is_dyadic verb.now) has_left && (not has_axis || takes_axis verb.now)) }
+    ensures { result ≡ (both_or_neither (is_dyadic verb.now) has_left && (not has_axis || verb_takes_axis verb.now)) }
 {
-    is_dyadic(verb) == has_left && (!has_axis || takes_axis(verb))
-}
-
-// Whether a function takes two arguments.
-fn is_dyadic(verb: &Verb) -> bool
-    ensures { result ≡ is_dyadic verb.now }
-{
-    matches!(
-        verb,
-        Verb::Two(_) | Verb::Mixed2(_) | Verb::Inner(..) | Verb::Outer(_)
-    )
-}
-
-// Whether an axis may stand after a function.
-fn takes_axis(verb: &Verb) -> bool
-    ensures { result ≡ takes_axis verb.now }
-{
-    match verb {
-        Verb::Reduce(..) | Verb::Scan(..) | Verb::Mixed1(Mix1::Reverse(_)) => true,
-        Verb::Mixed2(f) => matches!(
-            f,
-            Mix2::Catenate | Mix2::Rotate(_) | Mix2::Compress(_) | Mix2::Expand(_)
-        ),
-        _ => false,
-    }
+    is_dyadic(*verb) == has_left && (!has_axis || verb_takes_axis(*verb))
 }
 
 // The number of an axis.

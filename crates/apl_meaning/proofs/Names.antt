@@ -4,7 +4,7 @@ use Rattle.std.specs.Prelude.{ℤ, pos, ◌==◌, map, Option, Some, None, Resul
 use Rattle.apl_arrays.specs.Array.{PlainArray, item_count, numbers_in, scalar}
 use Rattle.apl_arrays.specs.declared.report.Report.{Report}
 use Rattle.apl_arrays.specs.declared.report.Report.TheVariants.{Syntax, Value}
-use Rattle.apl_arrays.specs.declared.verb.Verb.{Verb}
+use Rattle.apl_verbs.specs.declared.verb.Verb.{Verb}
 use Rattle.apl_items.specs.Answers.{Faults, first_report}
 use Rattle.apl_items.specs.Extension.{number_at}
 use Rattle.apl_items.specs.Places.{places}

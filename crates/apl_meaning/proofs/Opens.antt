@@ -5,7 +5,7 @@ use Rattle.std.proofs.lemmas.Bool.{false≢true}
 use Rattle.apl_arrays.specs.Array.{PlainArray, item_count, numbers_in, scalar}
 use Rattle.apl_arrays.specs.declared.report.Report.{Report}
 use Rattle.apl_arrays.specs.declared.report.Report.TheVariants.{Interrupt, Syntax, Value, WsFull}
-use Rattle.apl_arrays.specs.declared.verb.Verb.{Verb}
+use Rattle.apl_verbs.specs.declared.verb.Verb.{Verb}
 use Rattle.apl_display.specs.Display.{display_lines}
 use Rattle.apl_execute.specs.Text.{text_of}
 use Rattle.apl_items.specs.Answers.{Faults, answer_of, first_report, shape_faults}

@@ -3,9 +3,10 @@ use Rattle.std.specs.Prelude.{◌+◌, ◌&&◌, ◌||◌, ℤ, Bool, true, fals
 use Rattle.apl_arrays.specs.Array.{PlainArray, PlainItems, numbers, chars}
 use Rattle.apl_arrays.specs.declared.report.Report.{Report}
 use Rattle.apl_arrays.specs.declared.report.Report.TheVariants.{Domain, Length, Syntax}
-use Rattle.apl_arrays.specs.declared.verb.Verb.{Verb}
+use Rattle.apl_verbs.specs.declared.verb.Verb.{Verb}
 use Rattle.apl_items.specs.Extension.{is_single}
-use Rattle.operator_rules.specs.Apply.{applied, is_dyadic, takes_axis}
+use Rattle.operator_rules.specs.Apply.{applied}
+use Rattle.apl_verbs.specs.Arguments.{is_dyadic, verb_takes_axis}
 use Rattle.apl_meaning.specs.State.{State, Outcome, outcome_of, refuses}
 
 -- both are there, or neither
@@ -15,7 +16,7 @@ both_or_neither false other = not other
 
 -- the function may be applied so: it has a left argument exactly where it takes two, and an axis only where one may stand
 abbrev pub may_be_applied : Verb → Option PlainArray → Option ℤ → Bool
-may_be_applied f left axis = both_or_neither (is_dyadic f) (is_some left) && (is_none axis || takes_axis f)
+may_be_applied f left axis = both_or_neither (is_dyadic f) (is_some left) && (is_none axis || verb_takes_axis f)
 
 -- an application counts once, also where it is refused; no statement that was read has one that may not be
 abbrev pub application : Verb → Option PlainArray → PlainArray → Option ℤ → State → Outcome PlainArray

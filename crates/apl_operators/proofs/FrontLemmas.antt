@@ -6,7 +6,7 @@ use Rattle.std.proofs.lemmas.Bool.{false≢true}
 use Rattle.std.proofs.lemmas.Bool.Decides.{nat_tests}
 use Rattle.std.proofs.lemmas.Int.{clamps, ints}
 use Rattle.std.proofs.lemmas.Option.{none-some}
-use Rattle.apl_arrays.specs.declared.verb.Dyad.TheVariants.{And, Maximum, Minimum, Or}
+use Rattle.apl_verbs.specs.declared.verb.Dyad.TheVariants.{And, Maximum, Minimum, Or}
 use Rattle.apl_arrays.specs.Number.{fits}
 use Rattle.apl_scalar.specs.Table.{are_truths, dyadic_item, is_truth, item_where, logical}
 use Rattle.operator_rules.specs.Reduction.{joined, reduction}

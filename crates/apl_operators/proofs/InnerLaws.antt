@@ -3,8 +3,8 @@ use Rattle.std.proofs.Common.{◌≡◌, ℕ, ℤ, zero, suc, pos, ◌+◌, ◌*
 use Rattle.std.specs.Prelude.{slice_index_or}
 use Rattle.std.proofs.lemmas.Bool.Decides.{nat_tests}
 use Rattle.apl_arrays.specs.declared.items.Item.TheVariants.{Number}
-use Rattle.apl_arrays.specs.declared.verb.Dyad.{Dyad}
-use Rattle.apl_arrays.specs.declared.verb.Way.TheVariants.{Last}
+use Rattle.apl_verbs.specs.declared.verb.Dyad.{Dyad}
+use Rattle.apl_arrays.specs.declared.way.Way.TheVariants.{Last}
 use Rattle.apl_arrays.specs.Array.{number_array, numbers}
 use Rattle.apl_items.specs.Answers.{answer_of}
 use Rattle.apl_items.specs.Extension.{number_at}

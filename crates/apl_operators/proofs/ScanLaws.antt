@@ -6,10 +6,10 @@ use Rattle.std.proofs.lemmas.Bool.{false≢true}
 use Rattle.std.proofs.lemmas.Bool.Decides.{nat_tests}
 use Rattle.apl_arrays.specs.declared.array.ShapeFault.{ShapeFault}
 use Rattle.apl_arrays.specs.declared.array.ShapeFault.TheVariants as fault
-use Rattle.apl_arrays.specs.declared.verb.Dyad.{Dyad}
+use Rattle.apl_verbs.specs.declared.verb.Dyad.{Dyad}
 use Rattle.apl_arrays.specs.declared.report.Report.TheVariants.{Index}
-use Rattle.apl_arrays.specs.declared.verb.Way.{Way}
-use Rattle.apl_arrays.specs.declared.verb.Way.TheVariants.{First, Last}
+use Rattle.apl_arrays.specs.declared.way.Way.{Way}
+use Rattle.apl_arrays.specs.declared.way.Way.TheVariants.{First, Last}
 use Rattle.apl_arrays.specs.Array.{PlainArray, element_count, number_array, numbers, numbers_in, scalar}
 use Rattle.apl_arrays.specs.Shape.{shape_fault}
 use Rattle.apl_items.specs.Answers.{Answer, answer_of, faults_of_fault}

@@ -10,11 +10,11 @@ use Rattle.apl_arrays.specs.declared.report.Fail.{Fail}
 use Rattle.apl_arrays.specs.declared.report.Fail.TheVariants as fail
 use Rattle.apl_arrays.specs.declared.report.Report.{Report}
 use Rattle.apl_arrays.specs.declared.report.Report.TheVariants.{Domain}
-use Rattle.apl_arrays.specs.declared.verb.Dyad.{Dyad}
+use Rattle.apl_verbs.specs.declared.verb.Dyad.{Dyad}
 use Rattle.apl_arrays.specs.Array.{IsArray, PlainArray, PlainItems, chars, element_count, item_count, numbers}
 use Rattle.apl_arrays.specs.Shape.{shape_fault}
 use Rattle.apl_arrays.proofs.Shapes.{what_fits_has_no_fault}
-use Rattle.apl_arrays.specs.declared.verb.Way.{Way}
+use Rattle.apl_arrays.specs.declared.way.Way.{Way}
 use Rattle.apl_items.specs.Answers.{Answer, AnswersFirst, answer_of, faults_of_fault}
 use Rattle.apl_items.specs.Axis.{axis_of, lacks_axis}
 use Rattle.apl_items.specs.declared.shapes.Split.{Split}

@@ -1,7 +1,7 @@
 -- Shapes that are joined, and the pairs that they count.
 use Rattle.std.proofs.Common.{◌≡◌, ℕ, ℤ, ◌*◌, ◌++◌, false, List, Result, sym, ap, subst, ◌∙◌}
 use Rattle.apl_arrays.specs.declared.report.Fail.{Fail}
-use Rattle.apl_arrays.specs.declared.verb.Dyad.{Dyad}
+use Rattle.apl_verbs.specs.declared.verb.Dyad.{Dyad}
 use Rattle.apl_arrays.specs.Array.{IsArray, PlainArray, PlainItems, chars, element_count, item_count, numbers}
 use Rattle.apl_items.specs.Answers.{AnswersFirst}
 use Rattle.apl_items.proofs.ShapeLemmas.{element_count-append}

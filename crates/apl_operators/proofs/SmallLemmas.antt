@@ -7,7 +7,7 @@ use Rattle.std.proofs.lemmas.Int.{fits_signed_from_abs, int_wrap_fits, wrapping_
 use Rattle.std.proofs.lemmas.List.Elements.{All-get_or}
 use Rattle.std.proofs.lemmas.Nat.{div-add-mod', mul-le}
 use Rattle.std.proofs.lemmas.Option.{slice_get-get_or}
-use Rattle.apl_arrays.specs.declared.verb.Dyad.TheVariants.{Plus}
+use Rattle.apl_verbs.specs.declared.verb.Dyad.TheVariants.{Plus}
 use Rattle.apl_items.specs.declared.shapes.Split.{Split}
 use Rattle.apl_items.specs.Places.{HasItems}
 use Rattle.apl_items.specs.Shapes.{along_of, inner_of, outer_of, place_along, split_count}

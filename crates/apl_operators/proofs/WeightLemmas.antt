@@ -8,8 +8,8 @@ use Rattle.std.proofs.lemmas.Bool.Decides.{nat_tests}
 use Rattle.std.proofs.lemmas.Int.{ints, unsigned_abs-mul}
 use Rattle.std.proofs.lemmas.Nat.{div-mul-add, mod-mul-add, mul-le}
 use Rattle.std.proofs.lemmas.Option.{none-some}
-use Rattle.apl_arrays.specs.declared.verb.Dyad.{Dyad}
-use Rattle.apl_arrays.specs.declared.verb.Dyad.TheVariants.{And, Maximum, Minimum, Or, Plus, Times}
+use Rattle.apl_verbs.specs.declared.verb.Dyad.{Dyad}
+use Rattle.apl_verbs.specs.declared.verb.Dyad.TheVariants.{And, Maximum, Minimum, Or, Plus, Times}
 use Rattle.apl_scalar.specs.Reading.{AllFit}
 use Rattle.apl_scalar.specs.Table.{dyadic_item, item_where}
 use Rattle.apl_items.specs.declared.shapes.Split.{Split}

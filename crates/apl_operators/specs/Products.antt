@@ -1,6 +1,6 @@
 use Rattle.std.specs.Prelude.{◌≡◌, ◌+◌, ◌*◌, ◌/◌, ◌%◌, ◌<◌, ◌≤◌, ℕ, ℤ, Option}
 use Rattle.apl_operators.specs.declared.products.Extent.{Extent}
-use Rattle.apl_arrays.specs.declared.verb.Dyad.{Dyad}
+use Rattle.apl_verbs.specs.declared.verb.Dyad.{Dyad}
 use Rattle.apl_scalar.specs.Table.{dyadic_item, row_of_dyad}
 use Rattle.operator_rules.specs.Reduction.{reduction_of}
 

@@ -1,6 +1,6 @@
 use Rattle.std.specs.Prelude.{◌≡◌, ℕ, ℤ, Bool, true, false, Option, Some, None}
-use Rattle.apl_arrays.specs.declared.verb.Dyad.{Dyad}
-use Rattle.apl_arrays.specs.declared.verb.Dyad.TheVariants.{Maximum, Minimum, Residue, Less, NotGreater, Equal, NotLess, Greater, NotEqual}
+use Rattle.apl_verbs.specs.declared.verb.Dyad.{Dyad}
+use Rattle.apl_verbs.specs.declared.verb.Dyad.TheVariants.{Maximum, Minimum, Residue, Less, NotGreater, Equal, NotLess, Greater, NotEqual}
 use Rattle.apl_arrays.specs.Array.{PlainItems, numbers, chars}
 use Rattle.apl_arrays.specs.Number.{fits}
 use Rattle.apl_scalar.specs.Table.{pair_item, takes_chars}

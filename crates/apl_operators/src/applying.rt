@@ -1,13 +1,14 @@
 ghost use Rattle.std.specs.Prelude.{◌≡◌, ◌+◌, true, is_some, option_copied};
 ghost use Rattle.apl_items.specs.Answers.{Answers};
-ghost use Rattle.operator_rules.specs.Apply.{applied, is_dyadic, mixed_dyadic_of, mixed_monadic_of, takes_axis};
+ghost use Rattle.operator_rules.specs.Apply.{applied, mixed_dyadic_of, mixed_monadic_of};
+ghost use Rattle.apl_verbs.specs.Arguments.{is_dyadic, verb_takes_axis};
 
 use crate::inner_product::inner;
 use crate::outer_product::outer;
 use crate::reducing::reduce;
 use crate::scanning::scan;
 use crate::steps::Steps;
-use apl_arrays::{Array, Fail, Mix1, Mix2, Verb};
+use apl_arrays::{Array, Fail};
 use apl_display::format;
 use apl_scalar::{dyadic, monadic};
 use apl_search::{decode, encode, grade_down, grade_up, index_of, member};
@@ -15,6 +16,7 @@ use apl_structure::{
     catenate, compress, drop_items, expand, iota, ravel, reshape, reverse, rotate, shape_of, take,
     transpose, transpose_by,
 };
+use apl_verbs::{Mix1, Mix2, Verb};
 use std::alloc::Global;
 use std::sync::ledger::Ledger;
 
@@ -30,7 +32,7 @@ pub fn apply<L: Ledger>(
     steps: &mut Steps<L>,
 ) -> Result<Array, Fail>
     requires left { is_some left ≡ is_dyadic verb.now }
-    requires axis { is_some axis ≡ true → takes_axis verb.now ≡ true }
+    requires axis { is_some axis ≡ true → verb_takes_axis verb.now ≡ true }
     ensures steps { steps.new ≡ steps.old + 1 }
     ensures value { Answers result (applied verb.now (option_copied left.entry) right.now axis) }
 {

@@ -4,9 +4,10 @@ ghost use Rattle.apl_items.specs.Answers.{AnswersFirst};
 ghost use Rattle.apl_scalar.specs.Table.{row_of_dyad};
 ghost use Rattle.operator_rules.specs.Gathering.{numbers_answer};
 
-use apl_arrays::{Array, Dyad, Fail, Items, NumberList, Report, count_of_elements, shape_fault};
+use apl_arrays::{Array, Fail, Items, NumberList, Report, count_of_elements, shape_fault};
 use apl_items::by_place;
 use apl_scalar::identity_of;
+use apl_verbs::Dyad;
 use std::alloc::Global;
 
 /// The array that has the identity of a dyadic function at each place, or DOMAIN where there is a place and no identity,

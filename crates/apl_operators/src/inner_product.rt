@@ -13,10 +13,11 @@ use crate::identities::identities;
 use crate::items::{refuses_none, takes_all};
 use crate::products::{Extent, all_products};
 use apl_arrays::{
-    Array, Dyad, Fail, Glyph, ItemsRef, RANK_LIMIT, Report, count_of_elements, shape_fault,
+    Array, Fail, Glyph, ItemsRef, RANK_LIMIT, Report, count_of_elements, shape_fault,
 };
 use apl_items::{glyph_at, is_single, joined_shape, number_at};
 use apl_scalar::{character_of, item_of_numbers, rules};
+use apl_verbs::Dyad;
 use std::alloc::Global;
 
 /// The inner product of two arrays: each row of the first with each column of the second, paired by one function and

@@ -5,8 +5,9 @@ ghost use Rattle.operator_rules.specs.Gathering.{number_in};
 ghost use Rattle.operator_rules.specs.Reduction.{Joins, Tells, joined_by};
 ghost use Rattle.apl_operators.specs.Rows.{TakesAll, refuses_none, takes_all};
 
-use apl_arrays::{Dyad, Item, ItemsRef};
+use apl_arrays::{Item, ItemsRef};
 use apl_scalar::{character_of, read_all};
+use apl_verbs::Dyad;
 
 /// Whether a dyadic function has a value of 64 bits at all pairs of numbers of 64 bits: a comparison, the greater, the lesser
 /// and the residue.

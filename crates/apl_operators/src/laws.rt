@@ -11,8 +11,9 @@ ghost use Rattle.operator_rules.specs.Outer.{outer_product_of};
 ghost use Rattle.operator_rules.specs.Reduce.{reduce_of};
 ghost use Rattle.operator_rules.specs.Scan.{scan_of};
 
-use apl_arrays::{Dyad, Report, Way};
+use apl_arrays::{Report, Way};
 use apl_items::Split;
+use apl_verbs::Dyad;
 
 /// Reductions: `-/1 2 3` is 2, since it goes from the right; no items give the identity, numbers or characters, or
 /// DOMAIN where there is none; one item and a scalar are unchanged; a scalar has no axis. The call does nothing. No

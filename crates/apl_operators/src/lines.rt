@@ -4,8 +4,8 @@ ghost use Rattle.apl_scalar.specs.Table.{dyadic_item};
 ghost use Rattle.operator_rules.specs.Reduction.{Joins, front_of_line, number_on};
 
 use crate::reduction::reduced;
-use apl_arrays::Dyad;
 use apl_items::Split;
+use apl_verbs::Dyad;
 
 /// A line along an axis of an array: the row before the axis, and the item in each place along it.
 #[derive(Clone, Copy)]

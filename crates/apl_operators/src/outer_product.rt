@@ -9,9 +9,10 @@ ghost use Rattle.operator_rules.specs.Reduction.{Joins, Tells};
 
 use crate::items::takes_all;
 use crate::rows::numbers_by_rows;
-use apl_arrays::{Array, Dyad, Fail, Glyph, ItemsRef, RANK_LIMIT, Report, shape_fault};
+use apl_arrays::{Array, Fail, Glyph, ItemsRef, RANK_LIMIT, Report, shape_fault};
 use apl_items::joined_shape;
 use apl_scalar::{character_of, dyadic_table, rules};
+use apl_verbs::Dyad;
 use std::alloc::Global;
 
 macro_rules! all_pairs_of {

@@ -9,8 +9,9 @@ ghost use Rattle.operator_rules.specs.Reduction.{Joins};
 
 use crate::reduction::reduced;
 use crate::rows::numbers_by_rows;
-use apl_arrays::{Array, Dyad, Fail};
+use apl_arrays::{Array, Fail};
 use apl_scalar::{item_of_numbers, rules};
+use apl_verbs::Dyad;
 use std::alloc::Global;
 
 /// How many rows the first argument has, how many items are paired in each product, and how many columns the second has.

@@ -14,11 +14,11 @@ use crate::lines::{LineAt, last_front};
 use crate::reduction::reduced;
 use crate::rows::numbers_by_rows;
 use apl_arrays::{
-    Array, Dyad, Fail, Glyph, Item, Items, ItemsRef, List, NumberList, Report, Way,
-    count_of_elements,
+    Array, Fail, Glyph, Item, Items, ItemsRef, List, NumberList, Report, Way, count_of_elements,
 };
 use apl_items::{Split, axis_of, joined_shape, lacks_axis};
 use apl_scalar::{character_of, dyadic_table, item_of_numbers, rules};
+use apl_verbs::Dyad;
 use std::alloc::Global;
 
 macro_rules! all_lines_of {

@@ -6,9 +6,10 @@ ghost use Rattle.operator_rules.specs.Reduction.{Joins, joined};
 ghost use Rattle.apl_operators.specs.Running.{BreaksOff, Runs, RunsTo, Weighs, factor_weight, front_at, is_grouped, row_length, term_weight, weight_on};
 
 use crate::reduction::reduced;
-use apl_arrays::{Dyad, List};
+use apl_arrays::List;
 use apl_items::{Split, lacks_by_rows};
 use apl_scalar::{read_all, rules};
+use apl_verbs::Dyad;
 
 /// Whether the reduction of each front of each line follows from the one before it: by `⌈`, `⌊`, `∧` and `∨`, and by `+` and
 /// `×` where no sum or product of neighbours leaves 64 bits. No memory.

@@ -12,9 +12,10 @@ use crate::lines::{LineAt, front_of_line, last_front};
 use crate::parts::by_parts;
 use crate::running::{running, runs};
 use crate::sums::{are_small, small_sums};
-use apl_arrays::{Array, Dyad, Fail, Items, ItemsRef, List, NumberList, Report, WantOfMemory, Way};
+use apl_arrays::{Array, Fail, Items, ItemsRef, List, NumberList, Report, WantOfMemory, Way};
 use apl_items::{Split, axis_of, lacks_axis, lacks_by_rows, room_for};
 use apl_scalar::dyadic_table;
+use apl_verbs::Dyad;
 use std::alloc::Global;
 
 macro_rules! one_pass_of {

@@ -1,5 +1,5 @@
 ghost use Rattle.std.specs.Prelude.{◌≡◌, ◌<◌, ◌≤◌, All, pos, true, length, slice_index_or, unsigned_abs};
-ghost use Rattle.apl_arrays.specs.declared.verb.Dyad.TheVariants.{Plus};
+ghost use Rattle.apl_verbs.specs.declared.verb.Dyad.TheVariants.{Plus};
 ghost use Rattle.apl_items.specs.Places.{HasItems, MakesItems, OnWantOfMemory};
 ghost use Rattle.apl_items.specs.Shapes.{split_count};
 ghost use Rattle.apl_scalar.specs.Table.{dyadic_item};

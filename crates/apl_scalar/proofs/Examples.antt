@@ -5,8 +5,8 @@ use Rattle.std.proofs.lemmas.Int.{ints, quot-rem}
 use Rattle.std.proofs.lemmas.Bool.Decides.{Decides-int_eq}
 use Rattle.std.specs.Int.RustNames.{int_rem}
 use Rattle.apl_arrays.specs.declared.report.Report.TheVariants.{Rank, Length, Domain}
-use Rattle.apl_arrays.specs.declared.verb.Monad.TheVariants.{Factorial, Not}
-use Rattle.apl_arrays.specs.declared.verb.Dyad.TheVariants.{Plus, Divide, Power, Equal, NotEqual, Less}
+use Rattle.apl_verbs.specs.declared.verb.Monad.TheVariants.{Factorial, Not}
+use Rattle.apl_verbs.specs.declared.verb.Dyad.TheVariants.{Plus, Divide, Power, Equal, NotEqual, Less}
 use Rattle.apl_arrays.specs.Array.{PlainArray, numbers, chars}
 use Rattle.apl_scalar.specs.Counting.{residue, factorial, ways}
 use Rattle.apl_scalar.specs.Table.{monadic_item, dyadic_item, quotient, is_exact, least, greatest}

@@ -1,8 +1,8 @@
 -- Where memory ran out, no report was due.
 use Rattle.std.proofs.Common.{◌≡◌, ℕ, false, Option, Some, IsOk, Result, Err, refl, sym, subst}
 use Rattle.apl_arrays.specs.declared.report.Fail.{Fail}
-use Rattle.apl_arrays.specs.declared.verb.Monad.{Monad}
-use Rattle.apl_arrays.specs.declared.verb.Dyad.{Dyad}
+use Rattle.apl_verbs.specs.declared.verb.Monad.{Monad}
+use Rattle.apl_verbs.specs.declared.verb.Dyad.{Dyad}
 use Rattle.apl_arrays.specs.Array.{PlainArray, element_count, is_chars, numbers_in}
 use Rattle.apl_items.specs.Extension.{leader, ranks_differ, shapes_differ}
 use Rattle.apl_items.specs.Places.{Follows, GivesEach, HasItems, OnWantOfMemory}

@@ -1,7 +1,7 @@
 -- A report that stands before the items are looked at.
 use Rattle.std.proofs.Common.{◌≡◌, Bool, true, false, ◌||◌, Some, Err, sym}
 use Rattle.apl_arrays.specs.declared.report.Report.{Report}
-use Rattle.apl_arrays.specs.declared.verb.Dyad.{Dyad}
+use Rattle.apl_verbs.specs.declared.verb.Dyad.{Dyad}
 use Rattle.apl_arrays.specs.Array.{PlainArray}
 use Rattle.apl_items.specs.Answers.{no_faults, first_report, answer_of}
 use Rattle.apl_items.specs.Extension.{ranks_differ, shapes_differ}

@@ -1,6 +1,6 @@
 use Rattle.std.specs.Prelude.{◌&&◌, ◌||◌, ℕ, ℤ, Bool, List, Option, not}
-use Rattle.apl_arrays.specs.declared.verb.Monad.{Monad}
-use Rattle.apl_arrays.specs.declared.verb.Dyad.{Dyad}
+use Rattle.apl_verbs.specs.declared.verb.Monad.{Monad}
+use Rattle.apl_verbs.specs.declared.verb.Dyad.{Dyad}
 use Rattle.apl_arrays.specs.Array.{PlainArray, PlainItems, is_chars, numbers_in, element_count}
 use Rattle.apl_items.specs.Answers.{Answer, no_faults, answer_of}
 use Rattle.apl_items.specs.Extension.{number_at, item_at, ranks_differ, shapes_differ, leader}

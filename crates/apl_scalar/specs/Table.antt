@@ -1,10 +1,10 @@
 use Rattle.std.specs.Prelude.{◌-◌, ◌^◌, ◌&&◌, ◌||◌, ◌==◌, ℤ, pos, negsuc, ◌+ℤ◌, ◌-ℤ◌, ◌*ℤ◌, neg_ℤ, unsigned_abs, int_lt, int_le, int_div, int_rem, Bool, true, false, not, Option, Some, None, if◌then◌else◌}
 use Rattle.std.specs.Int.{int_min, int_max, int_pow, int_signum, is_negative}
 use Rattle.std.specs.Ordering.{int_eq}
-use Rattle.apl_arrays.specs.declared.verb.Monad.{Monad}
-use Rattle.apl_arrays.specs.declared.verb.Monad.TheVariants.{Identity, Ceiling, Floor, Negative, Sign, Magnitude, Reciprocal, Factorial, Not}
-use Rattle.apl_arrays.specs.declared.verb.Dyad.{Dyad}
-use Rattle.apl_arrays.specs.declared.verb.Dyad.TheVariants.{Plus, Minus, Times, Divide, Maximum, Minimum, Residue, Power, Binomial, And, Or, Nand, Nor, Less, NotGreater, Equal, NotLess, Greater, NotEqual}
+use Rattle.apl_verbs.specs.declared.verb.Monad.{Monad}
+use Rattle.apl_verbs.specs.declared.verb.Monad.TheVariants.{Identity, Ceiling, Floor, Negative, Sign, Magnitude, Reciprocal, Factorial, Not}
+use Rattle.apl_verbs.specs.declared.verb.Dyad.{Dyad}
+use Rattle.apl_verbs.specs.declared.verb.Dyad.TheVariants.{Plus, Minus, Times, Divide, Maximum, Minimum, Residue, Power, Binomial, And, Or, Nand, Nor, Less, NotGreater, Equal, NotLess, Greater, NotEqual}
 use Rattle.apl_arrays.specs.declared.items.Item.{Item}
 use Rattle.apl_arrays.specs.declared.items.Item.TheVariants.{Number, Char}
 use Rattle.apl_arrays.specs.Number.{fits, is_one}

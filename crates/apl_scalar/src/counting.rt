@@ -2,7 +2,7 @@ ghost use Rattle.std.specs.Prelude.{◌≡◌, ◌<◌, ◌≤◌, ◌+◌, ◌^
 ghost use Rattle.apl_scalar.specs.Counting.{factorial, ways};
 ghost use Rattle.apl_scalar.specs.Table.{monadic_item, dyadic_item, item_where};
 
-use apl_arrays::{Dyad, Monad};
+use apl_verbs::{Dyad, Monad};
 
 /// The power. No memory.
 pub fn power(a: i64, b: i64) -> Option<i64>

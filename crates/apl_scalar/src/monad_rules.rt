@@ -2,7 +2,7 @@ ghost use Rattle.std.specs.Prelude.{◌≡◌};
 ghost use Rattle.apl_scalar.specs.Table.{monadic_item};
 
 use crate::rules::is_truth;
-use apl_arrays::Monad;
+use apl_verbs::Monad;
 
 /// The number itself, for `+`. No memory.
 pub fn identity(b: i64) -> Option<i64>

@@ -2,7 +2,7 @@ ghost use Rattle.std.specs.Prelude.{◌≡◌, ◌≢◌, pos};
 ghost use Rattle.apl_scalar.specs.Counting.{residue};
 ghost use Rattle.apl_scalar.specs.Table.{dyadic_item, item_of_chars, is_truth, truth};
 
-use apl_arrays::Dyad;
+use apl_verbs::Dyad;
 
 /// The sum. No memory.
 pub fn plus(a: i64, b: i64) -> Option<i64>

@@ -8,8 +8,9 @@ ghost use Rattle.apl_scalar.specs.Table.{item_of_chars, takes_chars};
 
 use crate::rules;
 use crate::table::{character_of, dyadic_items, monadic_items};
-use apl_arrays::{Array, Dyad, Fail, Glyph, Items, ItemsRef, List, Monad, NumberList, Report};
+use apl_arrays::{Array, Fail, Glyph, Items, ItemsRef, List, NumberList, Report};
 use apl_items::{by_place, glyph_pairs, leader, ranks_differ, shapes_differ};
+use apl_verbs::{Dyad, Monad};
 use std::alloc::Global;
 
 /// A monadic scalar function of an array, item by item. DOMAIN where the argument is of characters, or where an item

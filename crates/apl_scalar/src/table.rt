@@ -4,8 +4,9 @@ ghost use Rattle.apl_items.specs.Places.{HasItems, MakesItems, OnWantOfMemory};
 ghost use Rattle.apl_scalar.specs.Table.{monadic_item, dyadic_item, pair_item, item_of_chars, row_of_dyad};
 
 use crate::{counting, monad_rules, rules};
-use apl_arrays::{Dyad, Fail, Item, List, Monad};
+use apl_arrays::{Fail, Item, List};
 use apl_items::{each, pairs};
+use apl_verbs::{Dyad, Monad};
 use std::alloc::Global;
 
 /// The table of the dyadic functions: for each its rule, a function of two numbers, and its identity where it has one.

@@ -5,8 +5,8 @@ use Rattle.std.specs.List.{filter, list_any, range_with_len}
 use Rattle.std.proofs.lemmas.Bool.Decides.{nat_tests}
 use Rattle.std.proofs.lemmas.List.{append-nil, drop-set-lt, get_or_append_left, get_or_at, get_or-replicate, get_or-set_same, length-append, length-replicate, length-set, set-get_or, set-set, take_all, take-set}
 use Rattle.std.proofs.lemmas.List.FromFn.{get_or-map-range_with_len, length-map-range_with_len}
-use Rattle.apl_arrays.specs.declared.verb.Way.{Way}
-use Rattle.apl_arrays.specs.declared.verb.Way.TheVariants.{Last, First}
+use Rattle.apl_arrays.specs.declared.way.Way.{Way}
+use Rattle.apl_arrays.specs.declared.way.Way.TheVariants.{Last, First}
 use Rattle.apl_arrays.specs.Array.{PlainArray, PlainItems, IsArray, numbers, element_count, is_chars, item_count, numbers_in}
 use Rattle.apl_arrays.specs.Shape.{shape_fault}
 use Rattle.apl_arrays.proofs.Shapes.{what_fits_has_no_fault}

@@ -5,7 +5,7 @@ use Rattle.std.proofs.lemmas.List.{drop-set-lt, get_or-append-add, get_or-set_sa
 use Rattle.std.proofs.lemmas.Option.{get_or_from_slice_get, slice_get_read, slice_get_within}
 use Rattle.apl_arrays.specs.declared.items.Item.{Item}
 use Rattle.apl_arrays.specs.declared.items.Item.TheVariants.{Number, Char}
-use Rattle.apl_arrays.specs.declared.verb.Way.TheVariants.{Last}
+use Rattle.apl_arrays.specs.declared.way.Way.TheVariants.{Last}
 use Rattle.apl_arrays.specs.Array.{PlainArray, PlainItems, IsArray, IsItemOf, numbers, chars, chars_in, element_count, is_chars, item_count, numbers_in}
 use Rattle.apl_arrays.specs.Shape.{shape_fault}
 use Rattle.apl_items.specs.Answers.{Faults, first_report}

@@ -1,7 +1,7 @@
 use Rattle.std.specs.Prelude.{◌+◌, ◌-◌, ◌*◌, ◌&&◌, ◌||◌, ◌==◌, ◌++◌, ℕ, ℤ, Bool, not, List, Option, Some, length, max, take, drop, slice_index, slice_set, is_some, nat_lt, if◌then◌else◌}
 use Rattle.std.specs.Bool.{beq}
 use Rattle.std.specs.Cmp.Lexicographic.{pointwise}
-use Rattle.apl_arrays.specs.declared.verb.Way.TheVariants.{Last}
+use Rattle.apl_arrays.specs.declared.way.Way.TheVariants.{Last}
 use Rattle.apl_arrays.specs.Array.{PlainArray, PlainItems, numbers, chars, chars_in, is_chars, item_count, numbers_in}
 use Rattle.apl_arrays.specs.Shape.{shape_fault}
 use Rattle.apl_items.specs.declared.shapes.Split.{Split}

@@ -1,5 +1,5 @@
 use Rattle.std.specs.Prelude.{◌||◌, ◌==◌, ℕ, ℤ, Bool, List, Option, Some, length, map, filter, if◌then◌else◌}
-use Rattle.apl_arrays.specs.declared.verb.Way.{Way}
+use Rattle.apl_arrays.specs.declared.way.Way.{Way}
 use Rattle.apl_arrays.specs.Array.{PlainArray, item_count, numbers_in}
 use Rattle.apl_items.specs.Answers.{Answer, Faults}
 use Rattle.apl_items.specs.Extension.{number_at, place_in}

@@ -1,5 +1,5 @@
 use Rattle.std.specs.Prelude.{◌||◌, ◌==◌, ℕ, ℤ, pos, Bool, List, Option, Some, None, length, map, count_by, take, slice_index_or, if◌then◌else◌}
-use Rattle.apl_arrays.specs.declared.verb.Way.{Way}
+use Rattle.apl_arrays.specs.declared.way.Way.{Way}
 use Rattle.apl_arrays.specs.Array.{PlainArray, numbers_in}
 use Rattle.apl_items.specs.Answers.{Answer, Faults}
 use Rattle.apl_items.specs.Extension.{place_in}

@@ -1,5 +1,5 @@
 use Rattle.std.specs.Prelude.{◌==◌, ℕ, ℤ, Bool, List, [], ◌∷◌, Option, Some, None, length, slice_index, slice_index_or, slice_set, is_some, nat_lt, if◌then◌else◌}
-use Rattle.apl_arrays.specs.declared.verb.Way.{Way}
+use Rattle.apl_arrays.specs.declared.way.Way.{Way}
 use Rattle.apl_arrays.specs.Array.{PlainArray, PlainItems}
 use Rattle.apl_arrays.specs.Shape.{shape_fault}
 use Rattle.apl_items.specs.Along.{source_along}

@@ -2,7 +2,7 @@
 //! examples.
 
 ghost use Rattle.std.specs.Prelude.{◌≡◌, ◌+◌, ◌<◌, ◌≤◌, ◌++◌, ℕ, ℤ, false, pos, List, [], ◌∷◌, Option, Some, None, Ok, length, replicate, slice_index, slice_set};
-ghost use Rattle.apl_arrays.specs.declared.verb.Way.{Way as PlainWay};
+ghost use Rattle.apl_arrays.specs.declared.way.Way.{Way as PlainWay};
 ghost use Rattle.apl_arrays.specs.declared.items.Item.{Item};
 ghost use Rattle.apl_arrays.specs.Array.{PlainArray, IsArray, IsItemOf, char_array, chars, element_count, item_count, number_array, numbers, numbers_in, scalar};
 ghost use Rattle.apl_arrays.specs.Limits.{most_elements};

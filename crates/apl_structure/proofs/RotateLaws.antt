@@ -6,7 +6,7 @@ use Rattle.std.proofs.lemmas.Bool.Decides.{nat_tests}
 use Rattle.std.proofs.lemmas.List.{length-map}
 use Rattle.std.proofs.lemmas.Nat.{div-add-mod', mod-mul-add, mod_below}
 use Rattle.apl_arrays.specs.declared.report.Report.{Report}
-use Rattle.apl_arrays.specs.declared.verb.Way.{Way}
+use Rattle.apl_arrays.specs.declared.way.Way.{Way}
 use Rattle.apl_arrays.specs.Array.{PlainArray, IsArray, is_chars, item_count, numbers_in}
 use Rattle.apl_items.specs.Answers.{Faults, first_report, no_faults, unless}
 use Rattle.apl_items.specs.Axis.{axis_of, lacks_axis}

@@ -1,5 +1,5 @@
 use Rattle.std.specs.Prelude.{◌-◌, ◌==◌, ℕ, ℤ, Option, Some, None, length, slice_index, nat_lt, if◌then◌else◌}
-use Rattle.apl_arrays.specs.declared.verb.Way.{Way}
+use Rattle.apl_arrays.specs.declared.way.Way.{Way}
 use Rattle.apl_arrays.specs.Array.{PlainArray}
 use Rattle.apl_items.specs.Answers.{Answer, no_faults, answer_of}
 use Rattle.apl_items.specs.Axis.{lacks_axis, axis_of}

@@ -1,7 +1,7 @@
 use Rattle.std.specs.Prelude.{◌+◌, ◌-◌, ◌&&◌, ◌==◌, ℕ, ℤ, pos, Bool, not, List, Option, Some, None, length, take, drop, slice_index, unsigned_abs, nat_lt, if◌then◌else◌}
 use Rattle.std.specs.Cmp.Lexicographic.{pointwise}
 use Rattle.std.specs.Int.{int_rem_euclid}
-use Rattle.apl_arrays.specs.declared.verb.Way.{Way}
+use Rattle.apl_arrays.specs.declared.way.Way.{Way}
 use Rattle.apl_arrays.specs.Array.{PlainArray, is_chars, numbers_in}
 use Rattle.apl_items.specs.Answers.{Answer, Faults, no_faults, answer_of}
 use Rattle.apl_items.specs.Extension.{is_single, number_at}

@@ -2,7 +2,7 @@
 
 ghost use Rattle.std.specs.Prelude.{◌≡◌, ◌<◌, ◌≤◌, ℕ, ℤ, List as ListOf, [], ◌∷◌, Option, None, Some, Ok, length, neg_ℤ, negsuc, pos, unsigned_abs};
 ghost use Rattle.apl_arrays.specs.declared.items.Item.{Item};
-ghost use Rattle.apl_arrays.specs.declared.verb.Way.{Way as PlainWay};
+ghost use Rattle.apl_arrays.specs.declared.way.Way.{Way as PlainWay};
 ghost use Rattle.apl_arrays.specs.Array.{PlainArray, PlainItems, IsArray, IsItemOf, char_array, item_count, number_array, numbers_in, scalar};
 ghost use Rattle.apl_arrays.specs.Limits.{most_elements};
 ghost use Rattle.apl_items.specs.Shapes.{AreWithin, place_of};

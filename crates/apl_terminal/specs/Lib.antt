@@ -1,3 +1,4 @@
 pub mod Commands
 pub mod LineKind
 pub mod Terminal
+pub mod TerminalLaws

@@ -3,8 +3,10 @@
 
 mod commands;
 mod definitions;
+mod laws;
 mod line_kind;
 mod terminal;
 
+pub use laws::refused_lines_print_alone;
 pub use line_kind::{is_command, is_opening};
 pub use terminal::Terminal;

@@ -6,7 +6,8 @@ use Rattle.std.specs.Map.{keys_of, values_of}
 use Rattle.std.specs.Option.{option_or}
 use Rattle.apl_arrays.specs.Array.{PlainArray}
 use Rattle.apl_arrays.specs.Limits.{most_offers}
-use Rattle.apl_arrays.specs.Parties.{clock_party, text_party, is_user_number}
+use Rattle.apl_arrays.specs.Parties.{is_user_number}
+use Rattle.aux_parties.specs.Auxiliaries.{is_auxiliary}
 use Rattle.apl_arrays.specs.declared.report.Fail.{Fail}
 use Rattle.apl_arrays.specs.declared.report.Fail.TheVariants.{Report, WantOfMemory}
 use Rattle.apl_arrays.specs.declared.report.Report.TheVariants.{Syntax, WsFull}
@@ -68,7 +69,7 @@ with_global w name meaning = record w { globals = with_meaning w.globals name me
 
 -- whom an offer may be made to: to any, to an auxiliary, or to a user
 abbrev pub is_addressee : ℕ → Bool
-is_addressee to = to == 0 || to == clock_party || to == text_party || is_user_number to
+is_addressee to = to == 0 || is_auxiliary to || is_user_number to
 
 -- the offer is of another name
 abbrev pub is_of_another : List ℕ → Remake → Bool

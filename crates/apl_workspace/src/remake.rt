@@ -2,12 +2,7 @@ ghost use Rattle.std.specs.Prelude.{◌≡◌};
 ghost use Rattle.apl_workspace.specs.Workspace.{is_addressee};
 
 use apl_arrays::{FIRST_USER, LAST_USER, List, Name};
-
-/// The party that answers with readings of the clock.
-const CLOCK_PARTY: u32 = 10;
-
-/// The party that reads and writes text files.
-const TEXT_PARTY: u32 = 20;
+use aux_parties::is_auxiliary;
 
 /// An offer to be made again: its name here, its name for others, and for whom it is (0: for any).
 #[derive(Clone, Copy, Debug, PartialEq, Eq, Hash)]
@@ -24,5 +19,5 @@ pub type RemakeList = List<Remake>;
 pub fn is_addressee(to: u32) -> bool
     ensures { result ≡ is_addressee to }
 {
-    to == 0 || to == CLOCK_PARTY || to == TEXT_PARTY || (to >= FIRST_USER && to <= LAST_USER)
+    to == 0 || is_auxiliary(to) || (to >= FIRST_USER && to <= LAST_USER)
 }

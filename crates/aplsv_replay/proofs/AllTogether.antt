@@ -1,33 +1,38 @@
 -- Parties that stay those of a bundle while they take turns.
-use Rattle.std.proofs.Common.{◌≡◌, ◌≢◌, ℕ, ◌&&◌, ◌||◌, Bool, true, false, not, eqb, List, [], ◌∷◌, map, Option, IsTrue, refl, sym, ap, ap₂, subst, ◌∙◌, arith}
+use Rattle.std.proofs.Common.{◌≡◌, ◌≢◌, ℕ, ◌&&◌, ◌||◌, Bool, true, false, not, eqb, List, [], ◌∷◌, map, Option, IsTrue, refl, sym, ap, ap₂, subst, ◌∙◌}
 use Rattle.std.specs.List.{All, AllByRecursion, list_all}
 use Rattle.std.specs.Prelude.{sum_by}
-use Rattle.std.proofs.lemmas.Bool.{and_from, and_parts, eq-eqb, not-true, or_from, or_left, or_right}
+use Rattle.std.proofs.lemmas.Bool.{eq-eqb, or_from, or_left, or_right}
 use Rattle.std.proofs.lemmas.Simd.{map-map}
 use Rattle.std.proofs.lemmas.List.Elements.{All-from_recursion, recursion_from_All}
 use Rattle.apl_arrays.specs.Array.{PlainArray}
 use Rattle.apl_arrays.specs.Ascending.{Ascend, AscendBy}
-use Rattle.apl_arrays.specs.Parties.{clock_party, text_party}
 use Rattle.apl_io.specs.Content.{Told}
 use Rattle.auxiliaries.specs.Run.{Event, IsReplierRun}
 use Rattle.bundle_text.specs.Rules.{PlainBundle}
 use Rattle.bundle_text.specs.User.{PlainUser}
+use Rattle.sv_core.proofs.People.{no_auxiliaries}
 use Rattle.sv_core.specs.Core.{ArePeople, PlainCore}
+use Rattle.aux_parties.specs.Auxiliaries.{is_auxiliary, party_of}
 use Rattle.sv_rules.specs.Entries.{Entries, has_left}
 use Rattle.sv_rules.specs.Legal.{is_user}
-use Rattle.sv_rules.specs.Work.{is_auxiliary}
+use Rattle.aux_parties.specs.declared.auxiliary.AuxiliaryKind.{AuxiliaryKind}
+use Rattle.aux_parties.specs.declared.auxiliary.AuxiliaryKind.TheVariants.{Clock, TextFiles}
+use Rattle.aux_parties.proofs.TableLemmas.{kinds_are_auxiliaries, kinds_differ}
 use Rattle.session_rules.specs.Auxiliaries.{acts_among, events_of, some_stay}
+use Rattle.session_rules.specs.Behind.{Behind, forgets_of, of_each, replies_of}
 use Rattle.session_rules.specs.Run.{Dealings, user_numbers}
 use Rattle.aplsv_replay.specs.Participants.{users_of}
 use Rattle.aplsv_replay.specs.SeatTurns.{AreSeatTurns, none_lost, seat_numbers}
 use Rattle.aplsv_replay.specs.Sittings.{Sitting, lent_to, seats_in}
 use Rattle.aplsv_replay.specs.SoFar.{GrowsBy, HasAnswered, IsSeated, IsWholeUnlessLost, user_of, user_work}
-use Rattle.aplsv_replay.specs.Together.{AreOfSomeBundle, AreTogether, StayTogether, TakesTurns, TookTurns, none_is_lost}
+use Rattle.aplsv_replay.specs.Together.{AreOfSomeBundle, AreTogether, StayTogether, TakesTurns, TookTurns, WorksAs, auxiliary_of, none_is_lost}
 use Rattle.aplsv_replay.specs.declared.auxiliary.Auxiliary.{Auxiliary}
 use Rattle.aplsv_replay.specs.declared.parties.Parties.{Parties}
 use Rattle.aplsv_replay.specs.declared.seat.Seat.{Seat}
 use Rattle.replay_rules.specs.Turns.{Replay, Turns, numbers_of, turns_where, user_turns}
 use Rattle.aplsv_replay.proofs.Growth.{AreNone, AreOthers, among_are_others, among_grows, among_stays, events_stay, is_no_user, none_of_people, own_are_others, some_stay_same}
+use Rattle.aplsv_replay.proofs.Kinds.{had_memory, memory_of, memory_of_all, memory_of_users, same_auxiliaries, with_auxiliary}
 use Rattle.aplsv_replay.proofs.Taking.{numbers_by_participants, stays_at}
 use Rattle.aplsv_replay.proofs.SeatTurns.{all_grown_seated, all_grown_whole, not_lost_before, seats_work_stays}
 
@@ -48,6 +53,17 @@ own_users (seat ∷ seats) =
     (or_left (eqb seat.session.user seat.session.user) (is_user (seat_numbers seats) seat.session.user) (eq-eqb seat.session.user seat.session.user refl), widened seat.session.user (seat_numbers seats) seats (own_users seats))
 
 module _ {X Y K : Type 0} (forgets_ten : X → ℕ → X → Type 0) (replies_ten : X → ℕ → PlainArray → PlainArray → X → Type 0)
+    (forgets_twenty : Y → ℕ → Y → Type 0) (replies_twenty : Y → ℕ → PlainArray → PlainArray → Y → Type 0) (bundle : PlainBundle) (ten : X) (twenty : Y) (p : Parties X Y K) (after : PlainCore) where
+  -- where one auxiliary is another, each is at its work, if that one is and the others are
+  each_at_work : (kind : AuxiliaryKind) (aux : Auxiliary (Behind X Y kind)) → WorksAs forgets_ten replies_ten forgets_twenty replies_twenty bundle ten twenty kind after.journal aux
+      → ((other : AuxiliaryKind) → kind ≢ other → WorksAs forgets_ten replies_ten forgets_twenty replies_twenty bundle ten twenty other after.journal (auxiliary_of p other))
+      → (which : AuxiliaryKind) → WorksAs forgets_ten replies_ten forgets_twenty replies_twenty bundle ten twenty which after.journal (auxiliary_of (with_auxiliary p after kind aux) which)
+  each_at_work Clock aux own others Clock = own
+  each_at_work Clock aux own others TextFiles = others TextFiles (λ same. cc)
+  each_at_work TextFiles aux own others Clock = others Clock (λ same. cc)
+  each_at_work TextFiles aux own others TextFiles = own
+
+module _ {X Y K : Type 0} (forgets_ten : X → ℕ → X → Type 0) (replies_ten : X → ℕ → PlainArray → PlainArray → X → Type 0)
     (forgets_twenty : Y → ℕ → Y → Type 0) (replies_twenty : Y → ℕ → PlainArray → PlainArray → Y → Type 0)
     (told : K → Option (Told (ℕ × List ℕ))) (faults : K → ℕ) (bundle : PlainBundle) (ten : X) (twenty : Y) (shelves : List K) (p : Parties X Y K) (sittings : List (Sitting K)) (h : AreTogether forgets_ten replies_ten forgets_twenty replies_twenty told faults bundle ten twenty shelves p sittings) where
   -- the users of the processor are those of the seats
@@ -65,7 +81,7 @@ module _ {X Y K : Type 0} (forgets_ten : X → ℕ → X → Type 0) (replies_te
       subst (λ (users : List ℕ). All (λ seat. IsTrue (is_user users seat.session.user)) p.seats.items) seats_are_users (All-from_recursion _ p.seats.items (own_users p.seats.items))
 
   people : AllByRecursion (λ user. is_auxiliary user ≡ false) p.core.users
-  people = recursion_from_All _ p.core.users h.people
+  people = recursion_from_All _ p.core.users (no_auxiliaries p.core.users h.people)
 
   -- what an auxiliary adds is no user's
   module _ (party : ℕ) (auxiliary : IsTrue (is_auxiliary party)) (after : PlainCore) (grows : GrowsBy party p.core after) where
@@ -112,72 +128,56 @@ module _ {X Y K : Type 0} (forgets_ten : X → ℕ → X → Type 0) (replies_te
     pub same_work : sum_by (λ (seat : Seat K). user_work after.journal seat.session) p.seats.items ≡ sum_by (λ (seat : Seat K). user_work p.core.journal seat.session) p.seats.items
     same_work = seats_work_stays grows.entries p.core.journal after.journal p.seats.items grows.journal no_seats
 
-  -- ---- the turn of 10
+  -- each auxiliary is one
+  pub is_auxiliary_of : (kind : AuxiliaryKind) → IsTrue (is_auxiliary (auxiliary_of p kind).party)
+  is_auxiliary_of kind = ap (λ (number : ℕ). is_auxiliary number) (h.at_work kind).number ∙ kinds_are_auxiliaries kind
 
-  module _ (after : PlainCore) (aux : Auxiliary X) (party : aux.party ≡ p.ten.party) (grows : GrowsBy p.ten.party p.core after)
-      (answered : aux.is_lost ≡ false → (start : X) → HasAnswered forgets_ten replies_ten start p.core.journal p.ten → HasAnswered forgets_ten replies_ten start after.journal aux)
-      (lost : p.ten.is_lost ≡ true → (aux ≡ p.ten) × (after ≡ p.core)) (stay : IsTrue (some_stay p.core.users p.core.journal)) where
-    ten_auxiliary : IsTrue (is_auxiliary p.ten.party)
-    ten_auxiliary = ap (λ (number : ℕ). is_auxiliary number) h.clock
+  -- ---- the turn of an auxiliary
 
-    ten_before : aux.is_lost ≡ false → p.ten.is_lost ≡ false
-    ten_before here = not_lost_before p.ten.is_lost aux.is_lost (λ was. ap (λ (a : Auxiliary X). a.is_lost) (lost was).0 ∙ was) here
+  module _ (kind : AuxiliaryKind) (after : PlainCore) (aux : Auxiliary (Behind X Y kind)) (party : aux.party ≡ (auxiliary_of p kind).party) (grows : GrowsBy (auxiliary_of p kind).party p.core after)
+      (answered : aux.is_lost ≡ false → (start : Behind X Y kind) → HasAnswered (forgets_of forgets_ten forgets_twenty kind) (replies_of replies_ten replies_twenty kind) start p.core.journal (auxiliary_of p kind)
+      → HasAnswered (forgets_of forgets_ten forgets_twenty kind) (replies_of replies_ten replies_twenty kind) start after.journal aux)
+      (lost : (auxiliary_of p kind).is_lost ≡ true → (aux ≡ auxiliary_of p kind) × (after ≡ p.core)) (stay : IsTrue (some_stay p.core.users p.core.journal)) where
+    -- its entries come before the journal
+    own_growth : GrowsBy (party_of kind) p.core after
+    own_growth = subst (λ (number : ℕ). GrowsBy number p.core after) (h.at_work kind).number grows
 
-    not_twenty : p.ten.party ≢ p.twenty.party
-    not_twenty same = let no : clock_party ≡ text_party = sym h.clock ∙ same ∙ h.text in omega arith
+    memory_before : aux.is_lost ≡ false → (auxiliary_of p kind).is_lost ≡ false
+    memory_before here = not_lost_before (auxiliary_of p kind).is_lost aux.is_lost (λ was. ap (λ (a : Auxiliary (Behind X Y kind)). a.is_lost) (lost was).0 ∙ was) here
 
-    pub ten_keeps : AreTogether forgets_ten replies_ten forgets_twenty replies_twenty told faults bundle ten twenty shelves (record p { core = after; ten = aux }) sittings
-    ten_keeps = record {
-      here = h.here;
-      people = subst (λ (users : List ℕ). ArePeople users) (sym grows.users) h.people;
-      numbers = grows.users ∙ h.numbers;
-      ascending = h.ascending;
-      users = h.users;
-      shelves = h.shelves;
-      seated = still_seated p.ten.party ten_auxiliary after grows;
-      whole = λ here there. still_whole p.ten.party ten_auxiliary after grows (h.whole (ten_before here) there);
-      clock = party ∙ h.clock;
-      text = h.text;
-      ten_answered = λ here. answered here ten (h.ten_answered (ten_before here));
-      twenty_answered = λ there.
-          subst (λ (events : List Event). IsReplierRun forgets_twenty replies_twenty twenty events p.twenty.replier) (other_events p.ten.party ten_auxiliary after grows p.twenty.party not_twenty) (h.twenty_answered there);
-      ten_among = subst (λ (number : ℕ). IsTrue (acts_among (user_numbers bundle) number after.journal)) h.clock
-          (still_among p.ten.party ten_auxiliary after grows stay (subst (λ (number : ℕ). IsTrue (acts_among (user_numbers bundle) number p.core.journal)) (sym h.clock) h.ten_among));
-      twenty_among = other_among p.ten.party ten_auxiliary after grows text_party (λ same. not_twenty (same ∙ sym h.text)) h.twenty_among;
+    -- so its own work goes on
+    own_work : WorksAs forgets_ten replies_ten forgets_twenty replies_twenty bundle ten twenty kind after.journal aux
+    own_work = record {
+      number = party ∙ (h.at_work kind).number;
+      answered = λ here. answered here (of_each ten twenty kind) ((h.at_work kind).answered (memory_before here));
+      among = still_among (party_of kind) (kinds_are_auxiliaries kind) after own_growth stay (h.at_work kind).among;
     }
 
-  -- ---- the turn of 20
+    -- and that of another stays what it is
+    other_work : (other : AuxiliaryKind) → kind ≢ other → WorksAs forgets_ten replies_ten forgets_twenty replies_twenty bundle ten twenty other after.journal (auxiliary_of p other)
+    other_work other differ =
+        let apart : party_of kind ≢ party_of other = kinds_differ kind other differ in
+        let same : events_of p.core.journal (auxiliary_of p other).party ≡ events_of after.journal (auxiliary_of p other).party =
+        other_events (party_of kind) (kinds_are_auxiliaries kind) after own_growth (auxiliary_of p other).party (λ is. apart (is ∙ (h.at_work other).number)) in
+        record {
+          number = (h.at_work other).number;
+          answered = λ here.
+              subst (λ (events : List Event). IsReplierRun (forgets_of forgets_ten forgets_twenty other) (replies_of replies_ten replies_twenty other) (of_each ten twenty other) events (auxiliary_of p other).replier) same
+              ((h.at_work other).answered here);
+          among = other_among (party_of kind) (kinds_are_auxiliaries kind) after own_growth (party_of other) apart (h.at_work other).among;
+        }
 
-  module _ (after : PlainCore) (aux : Auxiliary Y) (party : aux.party ≡ p.twenty.party) (grows : GrowsBy p.twenty.party p.core after)
-      (answered : aux.is_lost ≡ false → (start : Y) → HasAnswered forgets_twenty replies_twenty start p.core.journal p.twenty → HasAnswered forgets_twenty replies_twenty start after.journal aux)
-      (lost : p.twenty.is_lost ≡ true → (aux ≡ p.twenty) × (after ≡ p.core)) (stay : IsTrue (some_stay p.core.users p.core.journal)) where
-    twenty_auxiliary : IsTrue (is_auxiliary p.twenty.party)
-    twenty_auxiliary = ap (λ (number : ℕ). is_auxiliary number) h.text
-
-    twenty_before : aux.is_lost ≡ false → p.twenty.is_lost ≡ false
-    twenty_before here = not_lost_before p.twenty.is_lost aux.is_lost (λ was. ap (λ (a : Auxiliary Y). a.is_lost) (lost was).0 ∙ was) here
-
-    not_ten : p.twenty.party ≢ p.ten.party
-    not_ten same = let no : clock_party ≡ text_party = sym h.clock ∙ sym same ∙ h.text in omega arith
-
-    pub twenty_keeps : AreTogether forgets_ten replies_ten forgets_twenty replies_twenty told faults bundle ten twenty shelves (record p { core = after; twenty = aux }) sittings
-    twenty_keeps = record {
+    pub auxiliary_keeps : AreTogether forgets_ten replies_ten forgets_twenty replies_twenty told faults bundle ten twenty shelves (with_auxiliary p after kind aux) sittings
+    auxiliary_keeps = record {
       here = h.here;
       people = subst (λ (users : List ℕ). ArePeople users) (sym grows.users) h.people;
       numbers = grows.users ∙ h.numbers;
       ascending = h.ascending;
       users = h.users;
       shelves = h.shelves;
-      seated = still_seated p.twenty.party twenty_auxiliary after grows;
-      whole = λ here there. still_whole p.twenty.party twenty_auxiliary after grows (h.whole here (twenty_before there));
-      clock = h.clock;
-      text = party ∙ h.text;
-      ten_answered = λ here.
-          subst (λ (events : List Event). IsReplierRun forgets_ten replies_ten ten events p.ten.replier) (other_events p.twenty.party twenty_auxiliary after grows p.ten.party not_ten) (h.ten_answered here);
-      twenty_answered = λ there. answered there twenty (h.twenty_answered (twenty_before there));
-      ten_among = other_among p.twenty.party twenty_auxiliary after grows clock_party (λ same. not_ten (same ∙ sym h.clock)) h.ten_among;
-      twenty_among = subst (λ (number : ℕ). IsTrue (acts_among (user_numbers bundle) number after.journal)) h.text
-          (still_among p.twenty.party twenty_auxiliary after grows stay (subst (λ (number : ℕ). IsTrue (acts_among (user_numbers bundle) number p.core.journal)) (sym h.text) h.twenty_among));
+      seated = still_seated (party_of kind) (kinds_are_auxiliaries kind) after own_growth;
+      whole = λ here. still_whole (party_of kind) (kinds_are_auxiliaries kind) after own_growth (h.whole (had_memory p after kind aux memory_before here));
+      at_work = each_at_work forgets_ten replies_ten forgets_twenty replies_twenty bundle ten twenty p after kind aux own_work other_work;
     }
 
   -- ---- the turns of users
@@ -198,11 +198,23 @@ module _ {X Y K : Type 0} (forgets_ten : X → ℕ → X → Type 0) (replies_te
         ap (λ (journal : Entries). acts_among (user_numbers bundle) party journal) turns.grows.journal
         ∙ among_stays (user_numbers bundle) turns.grows.entries p.core.journal party (users_others party auxiliary) ∙ among
 
-    still_ten : q.ten.is_lost ≡ false → p.ten.is_lost ≡ false
-    still_ten here = ap (λ (a : Auxiliary X). a.is_lost) (sym same_ten) ∙ here
+    same : (kind : AuxiliaryKind) → auxiliary_of q kind ≡ auxiliary_of p kind
+    same kind = same_auxiliaries p q same_ten same_twenty kind
 
-    still_twenty : q.twenty.is_lost ≡ false → p.twenty.is_lost ≡ false
-    still_twenty there = ap (λ (a : Auxiliary Y). a.is_lost) (sym same_twenty) ∙ there
+    memory_still : ((kind : AuxiliaryKind) → (auxiliary_of q kind).is_lost ≡ false) → (kind : AuxiliaryKind) → (auxiliary_of p kind).is_lost ≡ false
+    memory_still here kind = ap (λ (a : Auxiliary (Behind X Y kind)). a.is_lost) (sym (same kind)) ∙ here kind
+
+    unclosed : ((kind : AuxiliaryKind) → (auxiliary_of q kind).is_lost ≡ false) → (p.ten.is_lost || p.twenty.is_lost) ≡ false
+    unclosed here = or_from p.ten.is_lost p.twenty.is_lost (memory_still here Clock) (memory_still here TextFiles)
+
+    works_still : (kind : AuxiliaryKind) → WorksAs forgets_ten replies_ten forgets_twenty replies_twenty bundle ten twenty kind q.core.journal (auxiliary_of p kind)
+    works_still kind = record {
+      number = (h.at_work kind).number;
+      answered = λ here.
+          subst (λ (events : List Event). IsReplierRun (forgets_of forgets_ten forgets_twenty kind) (replies_of replies_ten replies_twenty kind) (of_each ten twenty kind) events (auxiliary_of p kind).replier)
+          (users_events (auxiliary_of p kind).party (is_auxiliary_of kind)) ((h.at_work kind).answered here);
+      among = users_among (party_of kind) (kinds_are_auxiliaries kind) (h.at_work kind).among;
+    }
 
     pub users_keep : AreTogether forgets_ten replies_ten forgets_twenty replies_twenty told faults bundle ten twenty shelves q turns.nows
     users_keep = record {
@@ -213,33 +225,21 @@ module _ {X Y K : Type 0} (forgets_ten : X → ℕ → X → Type 0) (replies_te
       users = turns.users ∙ sym (map-map (λ (s : Seat K). user_of s.session) (λ (s : Sitting K). s.seat) sittings) ∙ ap (λ (seats : List (Seat K)). map (λ (s : Seat K). user_of s.session) seats) h.here ∙ h.users;
       shelves = turns.lent ∙ h.shelves;
       seated = turns.seated;
-      whole = λ here there. turns.whole (or_from p.ten.is_lost p.twenty.is_lost (still_ten here) (still_twenty there)) (h.whole (still_ten here) (still_twenty there));
-      clock = ap (λ (a : Auxiliary X). a.party) same_ten ∙ h.clock;
-      text = ap (λ (a : Auxiliary Y). a.party) same_twenty ∙ h.text;
-      ten_answered = λ here.
-          subst (λ (a : Auxiliary X). HasAnswered forgets_ten replies_ten ten q.core.journal a) (sym same_ten)
-          (subst (λ (events : List Event). IsReplierRun forgets_ten replies_ten ten events p.ten.replier) (users_events p.ten.party (ap (λ (number : ℕ). is_auxiliary number) h.clock)) (h.ten_answered (still_ten here)));
-      twenty_answered = λ there.
-          subst (λ (a : Auxiliary Y). HasAnswered forgets_twenty replies_twenty twenty q.core.journal a) (sym same_twenty)
-          (subst (λ (events : List Event). IsReplierRun forgets_twenty replies_twenty twenty events p.twenty.replier) (users_events p.twenty.party (ap (λ (number : ℕ). is_auxiliary number) h.text)) (h.twenty_answered (still_twenty there)));
-      ten_among = users_among clock_party refl h.ten_among;
-      twenty_among = users_among text_party refl h.twenty_among;
+      whole = λ here. turns.whole (unclosed here) (h.whole (memory_still here));
+      at_work = λ kind.
+          subst (λ (a : Auxiliary (Behind X Y kind)). WorksAs forgets_ten replies_ten forgets_twenty replies_twenty bundle ten twenty kind q.core.journal a) (sym (same kind)) (works_still kind);
     }
 
     -- they are turns of a replay
     users_took : IsTrue (none_is_lost q) → TookTurns (user_turns (λ user. due user.number)) p q turns.nows
     users_took here =
-        let both = and_parts (not q.ten.is_lost && not q.twenty.is_lost) (none_lost q.seats.items) here in
-        let more = and_parts (not q.ten.is_lost) (not q.twenty.is_lost) both.0 in
-        let unclosed = or_from p.ten.is_lost p.twenty.is_lost (still_ten (not-true q.ten.is_lost more.0)) (still_twenty (not-true q.twenty.is_lost more.1)) in
         record {
-          ten = [];
-          twenty = [];
-          same = λ final ends more_ten more_twenty.
+          given = λ party. [];
+          same = λ final ends more.
               let numbers : turns_where (λ user. due user.number) (numbers_of (users_of final p.seats.items)) p.core.journal (users_of final p.seats.items) ≡ turns_where (λ user. due user.number) p.core.users p.core.journal (users_of final (seats_in sittings)) =
               ap (λ (users : List ℕ). turns_where (λ user. due user.number) users p.core.journal (users_of final p.seats.items)) (participants_are_users final)
               ∙ ap (λ (seats : List (Seat K)). turns_where (λ user. due user.number) p.core.users p.core.journal (users_of final seats)) (sym h.here) in
-              ap (λ (after : Turns). record { journal = after.journal; ten = more_ten; twenty = more_twenty; users = after.users }) (numbers ∙ turns.turns unclosed both.1 final ends);
+              ap (λ (after : Turns). record { journal = after.journal; replies = more; users = after.users }) (numbers ∙ turns.turns (unclosed (memory_of q here)) (memory_of_users q here) final ends);
         }
 
     pub users_take : StayTogether forgets_ten replies_ten forgets_twenty replies_twenty told faults (user_turns (λ user. due user.number)) bundle ten twenty shelves p sittings q
@@ -247,12 +247,7 @@ module _ {X Y K : Type 0} (forgets_ten : X → ℕ → X → Type 0) (replies_te
       nows = turns.nows;
       together = users_keep;
       began = turns.began;
-      lost = λ here.
-          let both = and_parts (not q.ten.is_lost && not q.twenty.is_lost) (none_lost q.seats.items) here in
-          let more = and_parts (not q.ten.is_lost) (not q.twenty.is_lost) both.0 in
-          and_from (not p.ten.is_lost && not p.twenty.is_lost) (none_lost p.seats.items)
-          (and_from (not p.ten.is_lost) (not p.twenty.is_lost) (ap (λ (a : Auxiliary X). not a.is_lost) (sym same_ten) ∙ more.0) (ap (λ (a : Auxiliary Y). not a.is_lost) (sym same_twenty) ∙ more.1))
-          (ap (λ (seats : List (Seat K)). none_lost seats) (sym h.here) ∙ turns.lost both.1);
+      lost = λ here. memory_of_all p (memory_still (memory_of q here)) (ap (λ (seats : List (Seat K)). none_lost seats) (sym h.here) ∙ turns.lost (memory_of_users q here));
       took = users_took;
     }
 

@@ -1,91 +1,104 @@
 -- Turns of an auxiliary as those of a replay, and what they leave to do.
-use Rattle.std.proofs.Common.{◌≡◌, ℕ, ◌<◌, ◌≤◌, ◌-◌, ◌+◌, ◌⊎◌, ◌&&◌, Bool, true, false, not, cond, leb, List, [], ◌∷◌, ◌++◌, Option, IsTrue, inl, inr, refl, sym, ap, ap₂, subst, ◌∙◌, arith}
-use Rattle.std.specs.Prelude.{sum_by}
-use Rattle.std.proofs.lemmas.Bool.{and_from, and_parts, leb-false, not-true, not_from_false, or_parts}
+use Rattle.std.proofs.Common.{◌≡◌, ℕ, ◌<◌, ◌≤◌, ◌-◌, ◌+◌, ◌⊎◌, Bool, true, false, not, cond, eqb, leb, List, [], ◌∷◌, ◌++◌, Option, IsTrue, inl, inr, refl, sym, ap, ap₂, subst, ◌∙◌, arith}
+use Rattle.std.proofs.Math.Path.{fun_ext}
+use Rattle.std.specs.Prelude.{◌==◌, sum_by, if◌then◌else◌}
+use Rattle.std.proofs.lemmas.Bool.{eq-eqb, eqb-true, leb-false, or_parts}
 use Rattle.std.proofs.lemmas.List.Sums.{sum_by-cons}
 use Rattle.apl_arrays.specs.Array.{PlainArray}
-use Rattle.apl_arrays.specs.Limits.{most_entries, most_journal_elements}
-use Rattle.apl_arrays.specs.Parties.{clock_party, text_party}
+use Rattle.sv_rules.specs.Limits.{most_entries, most_journal_elements}
 use Rattle.apl_io.specs.Content.{Told}
 use Rattle.sv_core.specs.Core.{PlainCore}
 use Rattle.sv_events.specs.Entry.{PlainEntry}
 use Rattle.sv_events.specs.declared.event.Act.{Act}
 use Rattle.sv_events.specs.declared.work.Work.{Work}
 use Rattle.sv_events.specs.declared.work.Work.TheVariants as work
+use Rattle.aux_parties.specs.Auxiliaries.{party_of}
 use Rattle.sv_rules.specs.Entries.{Entries, counted_entries, held_elements, is_full, is_leave}
 use Rattle.sv_rules.specs.Legal.{entry_for, journal_after}
 use Rattle.sv_rules.specs.Work.{work_of}
+use Rattle.aux_parties.specs.declared.auxiliary.AuxiliaryKind.{AuxiliaryKind}
 use Rattle.session_rules.specs.Auxiliaries.{some_stay}
+use Rattle.session_rules.specs.Behind.{Behind, forgets_of, replies_of}
 use Rattle.aplsv_replay.specs.Participants.{users_of}
-use Rattle.aplsv_replay.specs.SeatTurns.{none_lost, work_left}
+use Rattle.aplsv_replay.specs.SeatTurns.{work_left}
 use Rattle.aplsv_replay.specs.Sittings.{Sitting}
 use Rattle.aplsv_replay.specs.SoFar.{GrowsBy, HasAnswered, IsIdleIf, IsServed, user_work}
-use Rattle.aplsv_replay.specs.Together.{LeavesLess, TakesTurns, TookTurns}
+use Rattle.aplsv_replay.specs.Together.{LeavesLess, TakesTurns, TookTurns, auxiliary_of}
 use Rattle.aplsv_replay.specs.declared.auxiliary.Auxiliary.{Auxiliary}
 use Rattle.aplsv_replay.specs.declared.parties.Parties.{Parties}
 use Rattle.aplsv_replay.specs.declared.seat.Seat.{Seat}
-use Rattle.replay_rules.specs.Turns.{Served, served_by, turn_of_ten, turn_of_twenty}
-use Rattle.aplsv_replay.proofs.AllTogether.{ten_keeps, twenty_keeps}
+use Rattle.replay_rules.specs.Turns.{Participant, Replay, Served, auxiliary_turn, served, served_by, with_left}
+use Rattle.aplsv_replay.proofs.AllTogether.{auxiliary_keeps}
 use Rattle.aplsv_replay.proofs.Growth.{counted_grows}
+use Rattle.aplsv_replay.proofs.Kinds.{had_memory, is_changed, memory_of, memory_of_all, memory_of_users, stays_lost, with_auxiliary}
 use Rattle.aplsv_replay.proofs.SeatTurns.{not_lost_before}
 
 -- ---- as turns of a replay
 
-module _ {X Y K : Type 0} (p : Parties X Y K) (after : PlainCore) (sittings : List (Sitting K)) where
-  took_ten : (aux : Auxiliary X) → IsServed clock_party p.core.journal after.journal → TookTurns turn_of_ten p (record p { core = after; ten = aux }) sittings
-  took_ten aux h = record {
-    ten = h.made;
-    twenty = [];
-    same = λ final ends more_ten more_twenty. ap (λ (s : Served). record { journal = s.journal; ten = s.replies; twenty = more_twenty; users = users_of final p.seats.items }) (h.turn more_ten);
-  }
+abbrev replay_of : Entries → (ℕ → List PlainArray) → List Participant → Replay
+replay_of journal replies users = record { journal = journal; replies = replies; users = users }
 
-  took_twenty : (aux : Auxiliary Y) → IsServed text_party p.core.journal after.journal → TookTurns turn_of_twenty p (record p { core = after; twenty = aux }) sittings
-  took_twenty aux h = record {
-    ten = [];
-    twenty = h.made;
-    same = λ final ends more_ten more_twenty. ap (λ (s : Served). record { journal = s.journal; ten = more_ten; twenty = s.replies; users = users_of final p.seats.items }) (h.turn more_twenty);
+-- what a party gave, and no other
+abbrev given_by : ℕ → List PlainArray → ℕ → List PlainArray
+given_by party made other = if other == party then made else []
+
+-- comes first of its replies
+own_first : (party : ℕ) (made : List PlainArray) (more : ℕ → List PlainArray) → given_by party made party ++ more party ≡ made ++ more party
+own_first party made more = ap (λ (own : Bool). (if own then made else []) ++ more party) (eq-eqb party party refl)
+
+-- and the rest is left then
+left_then : (party : ℕ) (made : List PlainArray) (more : ℕ → List PlainArray) → ◌≡◌ {A = ℕ → List PlainArray} (with_left party (more party) (λ other. given_by party made other ++ more other)) more
+left_then party made more = fun_ext (λ other. by other (eqb other party) refl) where
+  by : (other : ℕ) (own : Bool) → eqb other party ≡ own → with_left party (more party) (λ number. given_by party made number ++ more number) other ≡ more other
+  by other true is = ap (λ (own : Bool). if own then more party else ((if own then made else []) ++ more other)) is ∙ ap more (sym (eqb-true other party is))
+  by other false is = ap (λ (own : Bool). if own then more party else ((if own then made else []) ++ more other)) is
+
+-- a replay of which an auxiliary was served
+abbrev after_serving : ℕ → (ℕ → List PlainArray) → List Participant → Served → Replay
+after_serving party replies users s = replay_of s.journal (with_left party s.replies replies) users
+
+-- where a party was served, it had its turn
+had_turn : (party : ℕ) (before after : Entries) (users : List Participant) (h : IsServed party before after) (more : ℕ → List PlainArray)
+    → auxiliary_turn party (replay_of before (λ other. given_by party h.made other ++ more other) users) ≡ replay_of after more users
+had_turn party before after users h more =
+    let replies : ℕ → List PlainArray = λ other. given_by party h.made other ++ more other in
+    ap (λ (list : List PlainArray). after_serving party replies users (served before party list)) (own_first party h.made more)
+    ∙ ap (λ (s : Served). after_serving party replies users s) (h.turn (more party))
+    ∙ ap (λ (left : ℕ → List PlainArray). replay_of after left users) (left_then party h.made more)
+
+module _ {X Y K : Type 0} (p : Parties X Y K) (after : PlainCore) (sittings : List (Sitting K)) where
+  took_auxiliary : (kind : AuxiliaryKind) (aux : Auxiliary (Behind X Y kind)) → IsServed (party_of kind) p.core.journal after.journal → TookTurns (auxiliary_turn (party_of kind)) p (with_auxiliary p after kind aux) sittings
+  took_auxiliary kind aux h = record {
+    given = given_by (party_of kind) h.made;
+    same = λ final ends more. had_turn (party_of kind) p.core.journal after.journal (users_of final p.seats.items) h more;
   }
 
 module _ {X Y K : Type 0} (forgets_ten : X → ℕ → X → Type 0) (replies_ten : X → ℕ → PlainArray → PlainArray → X → Type 0)
     (forgets_twenty : Y → ℕ → Y → Type 0) (replies_twenty : Y → ℕ → PlainArray → PlainArray → Y → Type 0) (told : K → Option (Told (ℕ × List ℕ))) (faults : K → ℕ)
     (p : Parties X Y K) (after : PlainCore) (stay : IsTrue (some_stay p.core.users p.core.journal)) where
-  pub takes_ten : (aux : Auxiliary X) → aux.party ≡ p.ten.party → GrowsBy p.ten.party p.core after
-      → (aux.is_lost ≡ false → (start : X) → HasAnswered forgets_ten replies_ten start p.core.journal p.ten → HasAnswered forgets_ten replies_ten start after.journal aux)
-      → (p.ten.is_lost ≡ true → (aux ≡ p.ten) × (after ≡ p.core)) → (aux.is_lost ≡ false → IsServed p.ten.party p.core.journal after.journal)
-      → TakesTurns forgets_ten replies_ten forgets_twenty replies_twenty told faults turn_of_ten p (record p { core = after; ten = aux })
-  takes_ten aux party grows answered lost turn bundle ten twenty shelves sittings h = record {
+  pub takes_auxiliary : (kind : AuxiliaryKind) (aux : Auxiliary (Behind X Y kind)) → aux.party ≡ (auxiliary_of p kind).party → GrowsBy (auxiliary_of p kind).party p.core after
+      → (aux.is_lost ≡ false → (start : Behind X Y kind) → HasAnswered (forgets_of forgets_ten forgets_twenty kind) (replies_of replies_ten replies_twenty kind) start p.core.journal (auxiliary_of p kind)
+      → HasAnswered (forgets_of forgets_ten forgets_twenty kind) (replies_of replies_ten replies_twenty kind) start after.journal aux)
+      → ((auxiliary_of p kind).is_lost ≡ true → (aux ≡ auxiliary_of p kind) × (after ≡ p.core)) → (aux.is_lost ≡ false → IsServed (auxiliary_of p kind).party p.core.journal after.journal)
+      → TakesTurns forgets_ten replies_ten forgets_twenty replies_twenty told faults (auxiliary_turn (party_of kind)) p (with_auxiliary p after kind aux)
+  takes_auxiliary kind aux party grows answered lost turn bundle ten twenty shelves sittings h = record {
     nows = sittings;
-    together = ten_keeps forgets_ten replies_ten forgets_twenty replies_twenty told faults bundle ten twenty shelves p sittings h after aux party grows answered lost stay;
+    together = auxiliary_keeps forgets_ten replies_ten forgets_twenty replies_twenty told faults bundle ten twenty shelves p sittings h kind after aux party grows answered lost stay;
     began = λ final ends. ends;
-    lost = λ here.
-        let both = and_parts (not aux.is_lost && not p.twenty.is_lost) (none_lost p.seats.items) here in
-        let more = and_parts (not aux.is_lost) (not p.twenty.is_lost) both.0 in
-        let before : p.ten.is_lost ≡ false = not_lost_before p.ten.is_lost aux.is_lost (λ was. ap (λ (a : Auxiliary X). a.is_lost) (lost was).0 ∙ was) (not-true aux.is_lost more.0) in
-        and_from (not p.ten.is_lost && not p.twenty.is_lost) (none_lost p.seats.items) (and_from (not p.ten.is_lost) (not p.twenty.is_lost) (not_from_false p.ten.is_lost before) more.1) both.1;
+    lost = λ here. memory_of_all p (had_memory p after kind aux before (memory_of (with_auxiliary p after kind aux) here)) (memory_of_users (with_auxiliary p after kind aux) here);
     took = λ here.
-        let both = and_parts (not aux.is_lost && not p.twenty.is_lost) (none_lost p.seats.items) here in
-        let more = and_parts (not aux.is_lost) (not p.twenty.is_lost) both.0 in
-        took_ten p after sittings aux (subst (λ (number : ℕ). IsServed number p.core.journal after.journal) h.clock (turn (not-true aux.is_lost more.0)));
+        let memory : aux.is_lost ≡ false = ap (λ (a : Auxiliary (Behind X Y kind)). a.is_lost) (sym (is_changed p after kind aux)) ∙ memory_of (with_auxiliary p after kind aux) here kind in
+        took_auxiliary p after sittings kind aux (subst (λ (number : ℕ). IsServed number p.core.journal after.journal) (h.at_work kind).number (turn memory));
   }
+    where
+      before : aux.is_lost ≡ false → (auxiliary_of p kind).is_lost ≡ false
+      before here = not_lost_before (auxiliary_of p kind).is_lost aux.is_lost (λ was. ap (λ (a : Auxiliary (Behind X Y kind)). a.is_lost) (lost was).0 ∙ was) here
 
-  pub takes_twenty : (aux : Auxiliary Y) → aux.party ≡ p.twenty.party → GrowsBy p.twenty.party p.core after
-      → (aux.is_lost ≡ false → (start : Y) → HasAnswered forgets_twenty replies_twenty start p.core.journal p.twenty → HasAnswered forgets_twenty replies_twenty start after.journal aux)
-      → (p.twenty.is_lost ≡ true → (aux ≡ p.twenty) × (after ≡ p.core)) → (aux.is_lost ≡ false → IsServed p.twenty.party p.core.journal after.journal)
-      → TakesTurns forgets_ten replies_ten forgets_twenty replies_twenty told faults turn_of_twenty p (record p { core = after; twenty = aux })
-  takes_twenty aux party grows answered lost turn bundle ten twenty shelves sittings h = record {
-    nows = sittings;
-    together = twenty_keeps forgets_ten replies_ten forgets_twenty replies_twenty told faults bundle ten twenty shelves p sittings h after aux party grows answered lost stay;
-    began = λ final ends. ends;
-    lost = λ here.
-        let both = and_parts (not p.ten.is_lost && not aux.is_lost) (none_lost p.seats.items) here in
-        let more = and_parts (not p.ten.is_lost) (not aux.is_lost) both.0 in
-        let before : p.twenty.is_lost ≡ false = not_lost_before p.twenty.is_lost aux.is_lost (λ was. ap (λ (a : Auxiliary Y). a.is_lost) (lost was).0 ∙ was) (not-true aux.is_lost more.1) in
-        and_from (not p.ten.is_lost && not p.twenty.is_lost) (none_lost p.seats.items) (and_from (not p.ten.is_lost) (not p.twenty.is_lost) more.0 (not_from_false p.twenty.is_lost before)) both.1;
-    took = λ here.
-        let both = and_parts (not p.ten.is_lost && not aux.is_lost) (none_lost p.seats.items) here in
-        let more = and_parts (not p.ten.is_lost) (not aux.is_lost) both.0 in
-        took_twenty p after sittings aux (subst (λ (number : ℕ). IsServed number p.core.journal after.journal) h.text (turn (not-true aux.is_lost more.1)));
-  }
+module _ {X Y K : Type 0} (p : Parties X Y K) (after : PlainCore) where
+  -- memory that ran out before stays so
+  pub lost_still : (kind : AuxiliaryKind) (aux : Auxiliary (Behind X Y kind)) → ((auxiliary_of p kind).is_lost ≡ true → (aux ≡ auxiliary_of p kind) × (after ≡ p.core))
+      → (other : AuxiliaryKind) → (auxiliary_of p other).is_lost ≡ true → (auxiliary_of (with_auxiliary p after kind aux) other).is_lost ≡ true
+  lost_still kind aux lost other was = stays_lost p after kind aux (λ own. ap (λ (a : Auxiliary (Behind X Y kind)). a.is_lost) (lost own).0 ∙ own) other was
 
 -- ---- what they leave to do
 
@@ -147,24 +160,14 @@ module _ {K : Type 0} (party : ℕ) (before after : PlainCore) (seats : List (Se
   ]
 
 module _ {X Y K : Type 0} (p : Parties X Y K) (after : PlainCore) where
-  pub ten_leaves_less : (aux : Auxiliary X) → p.ten.party ≡ clock_party → GrowsBy p.ten.party p.core after → sum_by (λ (seat : Seat K). user_work after.journal seat.session) p.seats.items ≡ sum_by (λ (seat : Seat K). user_work p.core.journal seat.session) p.seats.items
-      → (aux.is_lost ≡ false → IsServed p.ten.party p.core.journal after.journal) → (aux.is_lost ≡ false → IsIdleIf p.ten.party p.core.journal after.journal)
-      → LeavesLess clock_party aux.is_lost p (record p { core = after; ten = aux })
-  ten_leaves_less aux clock grows same turn idle =
-      subst (λ (party : ℕ). LeavesLess party aux.is_lost p (record p { core = after; ten = aux })) clock
+  pub auxiliary_leaves_less : (kind : AuxiliaryKind) (aux : Auxiliary (Behind X Y kind)) → (auxiliary_of p kind).party ≡ party_of kind → GrowsBy (auxiliary_of p kind).party p.core after
+      → sum_by (λ (seat : Seat K). user_work after.journal seat.session) p.seats.items ≡ sum_by (λ (seat : Seat K). user_work p.core.journal seat.session) p.seats.items
+      → (aux.is_lost ≡ false → IsServed (auxiliary_of p kind).party p.core.journal after.journal) → (aux.is_lost ≡ false → IsIdleIf (auxiliary_of p kind).party p.core.journal after.journal)
+      → LeavesLess (party_of kind) aux.is_lost p (with_auxiliary p after kind aux)
+  auxiliary_leaves_less kind aux number grows same turn idle =
+      subst (λ (party : ℕ). LeavesLess party aux.is_lost p (with_auxiliary p after kind aux)) number
       (record {
-        most = at_most p.ten.party p.core after p.seats.items grows same;
-        rests = rests_or_less p.ten.party p.core after p.seats.items grows same aux.is_lost turn idle;
-        seats = refl;
-      })
-
-  pub twenty_leaves_less : (aux : Auxiliary Y) → p.twenty.party ≡ text_party → GrowsBy p.twenty.party p.core after → sum_by (λ (seat : Seat K). user_work after.journal seat.session) p.seats.items ≡ sum_by (λ (seat : Seat K). user_work p.core.journal seat.session) p.seats.items
-      → (aux.is_lost ≡ false → IsServed p.twenty.party p.core.journal after.journal) → (aux.is_lost ≡ false → IsIdleIf p.twenty.party p.core.journal after.journal)
-      → LeavesLess text_party aux.is_lost p (record p { core = after; twenty = aux })
-  twenty_leaves_less aux text grows same turn idle =
-      subst (λ (party : ℕ). LeavesLess party aux.is_lost p (record p { core = after; twenty = aux })) text
-      (record {
-        most = at_most p.twenty.party p.core after p.seats.items grows same;
-        rests = rests_or_less p.twenty.party p.core after p.seats.items grows same aux.is_lost turn idle;
+        most = at_most (auxiliary_of p kind).party p.core after p.seats.items grows same;
+        rests = rests_or_less (auxiliary_of p kind).party p.core after p.seats.items grows same aux.is_lost turn idle;
         seats = refl;
       })

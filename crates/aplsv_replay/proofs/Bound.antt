@@ -2,7 +2,7 @@
 use Rattle.std.proofs.Common.{◌≡◌, ℕ, suc, ◌+◌, ◌-◌, ◌<◌, ◌≤◌, Bool, true, false, List, [], ◌∷◌, length, map, Option, refl, subst, arith}
 use Rattle.std.specs.Prelude.{count_by, if◌then◌else◌, sum_by}
 use Rattle.std.proofs.lemmas.List.Sums.{sum_by-cons}
-use Rattle.apl_arrays.specs.Limits.{most_entries}
+use Rattle.sv_rules.specs.Limits.{most_entries}
 use Rattle.apl_arrays.specs.Array.{PlainArray}
 use Rattle.apl_io.specs.Content.{Told}
 use Rattle.bundle_text.specs.Rules.{PlainBundle}

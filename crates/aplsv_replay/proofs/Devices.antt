@@ -1,15 +1,19 @@
 -- A run over a clock and a text store.
 use Rattle.std.proofs.Common.{◌≡◌, ℕ, List, subst, sym}
 use Rattle.std.specs.Prelude.{Option}
+use Rattle.apl_arrays.specs.Parties.{text_party}
 use Rattle.apl_io.specs.Clock.{Ticks}
-use Rattle.apl_io.specs.Content.{Told}
+use Rattle.apl_io.specs.Content.{Told, KeepsPlaces}
 use Rattle.apl_session.specs.Ended.{IfWhole}
 use Rattle.apl_session.specs.declared.outcome.Ended.{Ended}
 use Rattle.auxiliaries.specs.Clock.{RepliesByReading}
 use Rattle.auxiliaries.specs.Protocol.{idle}
 use Rattle.auxiliaries.specs.Served.{Replies, Served, forgotten}
+use Rattle.auxiliaries.proofs.Places.{run_keeps}
 use Rattle.bundle_text.specs.Rules.{PlainBundle}
+use Rattle.session_rules.specs.Auxiliaries.{events_of}
 use Rattle.sv_journal.specs.Output.{PlainTranscript}
+use Rattle.aux_parties.specs.declared.auxiliary.AuxiliaryKind.TheVariants.{TextFiles}
 use Rattle.sv_rules.specs.Entries.{Entries}
 use Rattle.aplsv_replay.specs.Replayed.{IsDeviceRun, IsRunInTurns}
 use Rattle.aplsv_replay.proofs.Ends.{whole_more}
@@ -36,3 +40,15 @@ module _ {C T K : Type 0} (ticks : C → Option Ticks) (clock_faults : C → ℕ
             (subst (λ (s : Served T). IsRunOver transcripts journal ten ten_then s (record { store = text_then; state = twenty_then.state })) begins_text
             (subst (λ (t : T). IsRunOver transcripts journal ten ten_then twenty (record { store = t; state = twenty_then.state })) (sym ends_text) run)));
       }) whole
+
+  -- and its text store is given no place
+  pub device_places : (ended : Ended) (clock clock_then ten ten_then : C) (text text_then : T) (twenty twenty_then : Served T) → ten ≡ clock → clock_then ≡ ten_then
+      → (twenty ≡ (let s : Served T = record { store = text; state = idle } in s)) → text_then ≡ twenty_then.store
+      → IfWhole ended (λ transcripts journal. IsRunOver transcripts journal ten ten_then twenty twenty_then)
+      → IfWhole ended (λ transcripts journal. KeepsPlaces (text_told text) (text_told text_then))
+  device_places ended clock clock_then ten ten_then text text_then twenty twenty_then begins ends begins_text ends_text whole =
+      whole_more ended (λ transcripts journal. IsDeviceRun ticks clock_faults text_told text_faults told faults bundle journal transcripts clock clock_then text text_then shelves shelves_then)
+      (λ transcripts journal. KeepsPlaces (text_told text) (text_told text_then))
+      (λ transcripts journal run.
+      run_keeps text_told text_faults (record { store = text; state = idle }) (events_of journal text_party) (record { store = text_then; state = run.state }) (run.run.parts TextFiles).answers)
+      (device_runs ended clock clock_then ten ten_then text text_then twenty twenty_then begins ends begins_text ends_text whole)

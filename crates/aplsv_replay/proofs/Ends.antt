@@ -1,15 +1,15 @@
 -- A replay from its beginning to its end.
-use Rattle.std.proofs.Common.{◌≡◌, ℕ, ◌<◌, ◌≤◌, ◌&&◌, Bool, true, false, not, eqb, List, [], ◌∷◌, ◌++◌, length, map, reverse, IsTrue, refl, sym, ap, ap₂, subst, subst₂, ◌∙◌, arith}
+use Rattle.std.proofs.Common.{◌≡◌, ℕ, ◌<◌, ◌≤◌, Bool, true, false, not, eqb, leb, List, [], ◌∷◌, ◌++◌, length, map, reverse, IsTrue, refl, sym, ap, ap₂, subst, subst₂, ◌∙◌, arith}
 use Rattle.std.specs.List.{All, AllByRecursion}
 use Rattle.std.specs.Prelude.{IfSome, Option, Some, None, if◌then◌else◌}
-use Rattle.std.proofs.lemmas.Bool.{and_parts, eq-eqb, ne_eqb, not-true, or_from, or_parts}
+use Rattle.std.proofs.lemmas.Bool.{and_from, and_parts, eq-eqb, le-leb, ne_eqb, not-true, or_parts}
 use Rattle.std.proofs.lemmas.List.{length-map}
 use Rattle.std.proofs.lemmas.Simd.{map-map}
 use Rattle.std.proofs.lemmas.List.Elements.{All-cons, All-head, All-nil, All-tail, All-from_recursion, recursion_from_All}
 use Rattle.apl_arrays.specs.Array.{PlainArray, chars}
 use Rattle.apl_arrays.specs.Ascending.{AscendBy}
 use Rattle.apl_arrays.specs.List.{Listed}
-use Rattle.apl_arrays.specs.Parties.{clock_party, text_party, first_user}
+use Rattle.apl_arrays.specs.Parties.{first_user, is_user_number, last_user}
 use Rattle.apl_io.specs.Content.{Told}
 use Rattle.bundle_text.specs.Rules.{IsBundle, IsUser, PlainBundle}
 use Rattle.bundle_text.specs.User.{PlainUser, plain_user}
@@ -17,10 +17,13 @@ use Rattle.bundle_text.specs.declared.user.BundleUser.{BundleUser}
 use Rattle.sv_core.specs.Core.{ArePeople, PlainCore}
 use Rattle.sv_events.specs.Entry.{PlainEntry}
 use Rattle.sv_journal.specs.Output.{PlainTranscript}
+use Rattle.aux_parties.specs.Auxiliaries.{party_of}
 use Rattle.sv_rules.specs.Entries.{Entries, has_left}
 use Rattle.sv_rules.specs.Legal.{IsLegal}
-use Rattle.sv_rules.specs.Work.{is_auxiliary}
-use Rattle.session_rules.specs.Auxiliaries.{IsAuxiliaryPart, acts_among, events_of, some_stay}
+use Rattle.aux_parties.specs.declared.auxiliary.AuxiliaryKind.{AuxiliaryKind}
+use Rattle.aux_parties.specs.declared.auxiliary.AuxiliaryKind.TheVariants.{Clock, TextFiles}
+use Rattle.session_rules.specs.Auxiliaries.{IsAuxiliaryPart, events_of, some_stay}
+use Rattle.session_rules.specs.Behind.{Behind, forgets_of, of_each, replies_of}
 use Rattle.session_rules.specs.Run.{AreUserParts, Dealings, IsRun, ServeUsers, user_numbers}
 use Rattle.session_rules.specs.Shelf.{Exchange, IsShelfRun}
 use Rattle.session_rules.specs.UserPart.{IsUserPart}
@@ -37,7 +40,7 @@ use Rattle.aplsv_replay.specs.SeatTurns.{AreSeated, none_lost, seat_numbers}
 use Rattle.aplsv_replay.specs.Seats.{HasPrinted, end_by, transcript_of}
 use Rattle.aplsv_replay.specs.Sittings.{EndsIn, Sitting, lent_to, seats_in}
 use Rattle.aplsv_replay.specs.SoFar.{HasPart, IsSeated, IsWholeUnlessLost, printed_by, user_of}
-use Rattle.aplsv_replay.specs.Together.{AreTogether, TakesRounds, TakesTurns, TookTurns, none_is_lost}
+use Rattle.aplsv_replay.specs.Together.{AreTogether, TakesRounds, TakesTurns, TookTurns, WorksAs, auxiliary_of, none_is_lost}
 use Rattle.aplsv_replay.specs.declared.auxiliary.Auxiliary.{Auxiliary}
 use Rattle.aplsv_replay.specs.declared.parties.Parties.{Parties}
 use Rattle.aplsv_replay.specs.declared.seat.Seat.{Seat}
@@ -45,20 +48,19 @@ use Rattle.replay_rules.specs.Turns.{HasReplies, Participant, Replay, beginning,
 use Rattle.aplsv_replay.proofs.AllTogether.{seats_ascend}
 use Rattle.aplsv_replay.proofs.Bound.{few_rounds}
 use Rattle.aplsv_replay.proofs.Growth.{first_below, others_ascend}
+use Rattle.aplsv_replay.proofs.Kinds.{memory_of, memory_of_users, repliers_are}
 use Rattle.aplsv_replay.proofs.Taking.{takes_both}
 
 -- ---- the beginning
 
--- a number from 1001 on is no auxiliary's
-person : (number : ℕ) → first_user ≤ number → is_auxiliary number ≡ false
-person number least = or_from (eqb number clock_party) (eqb number text_party) (ne_eqb number clock_party (λ is. omega (arith, least, is))) (ne_eqb number text_party (λ is. omega (arith, least, is)))
-
--- users are people
+-- users of a bundle have the numbers of users
 pub users_are_people : (users : List PlainUser) → All IsUser users → ArePeople (map (λ user. user.number) users)
-users_are_people [] each = All-nil (λ (user : ℕ). is_auxiliary user ≡ false)
+users_are_people [] each = All-nil (λ (number : ℕ). is_user_number number ≡ true)
 users_are_people (user ∷ users) each =
-    All-cons (λ (number : ℕ). is_auxiliary number ≡ false) user.number (map (λ (one : PlainUser). one.number) users)
-    (person user.number (All-head IsUser user users each).number.0) (users_are_people users (All-tail IsUser user users each))
+    All-cons (λ (number : ℕ). is_user_number number ≡ true) user.number (map (λ (one : PlainUser). one.number) users)
+    (and_from (leb first_user user.number) (leb user.number last_user) (le-leb first_user user.number (All-head IsUser user users each).number.0)
+    (le-leb user.number last_user (All-head IsUser user users each).number.1))
+    (users_are_people users (All-tail IsUser user users each))
 
 module _ {K : Type 0} (told : K → Option (Told (ℕ × List ℕ))) (faults : K → ℕ) where
   -- nobody has left an empty journal
@@ -71,7 +73,7 @@ module _ {X Y K : Type 0} (forgets_ten : X → ℕ → X → Type 0) (replies_te
     (told : K → Option (Told (ℕ × List ℕ))) (faults : K → ℕ) where
   -- the parties before the first turn
   pub begins_together : (bundle : PlainBundle) (ten : X) (twenty : Y) (p : Parties X Y K) → IsBundle bundle → p.core ≡ record { users = user_numbers bundle; journal = [] }
-      → p.ten ≡ record { party = clock_party; replier = ten; is_lost = false } → p.twenty ≡ record { party = text_party; replier = twenty; is_lost = false }
+      → p.ten ≡ record { party = party_of Clock; replier = ten; is_lost = false } → p.twenty ≡ record { party = party_of TextFiles; replier = twenty; is_lost = false }
       → map (λ seat. user_of seat.session) p.seats.items ≡ bundle.users → (seated : AreSeated told faults [] p.seats.items)
       → AreTogether forgets_ten replies_ten forgets_twenty replies_twenty told faults bundle ten twenty (lent_to seated.sittings) p seated.sittings
   begins_together bundle ten twenty p is core at_ten at_twenty users seated = record {
@@ -82,16 +84,20 @@ module _ {X Y K : Type 0} (forgets_ten : X → ℕ → X → Type 0) (replies_te
     users = users;
     shelves = refl;
     seated = subst (λ (c : PlainCore). All (IsSeated told faults c.journal) seated.sittings) (sym core) seated.seated;
-    whole = λ here there. subst (λ (c : PlainCore). All (IsWholeUnlessLost told faults c.journal) seated.sittings) (sym core) (All-from_recursion _ seated.sittings (none_has_left told faults seated.sittings));
-    clock = ap (λ (aux : Auxiliary X). aux.party) at_ten;
-    text = ap (λ (aux : Auxiliary Y). aux.party) at_twenty;
-    ten_answered = λ here.
-        subst (λ (journal : Entries). IsReplierRun forgets_ten replies_ten ten (events_of journal p.ten.party) p.ten.replier) (sym (ap (λ (c : PlainCore). c.journal) core)) (ap (λ (aux : Auxiliary X). aux.replier) at_ten);
-    twenty_answered = λ here.
-        subst (λ (journal : Entries). IsReplierRun forgets_twenty replies_twenty twenty (events_of journal p.twenty.party) p.twenty.replier) (sym (ap (λ (c : PlainCore). c.journal) core)) (ap (λ (aux : Auxiliary Y). aux.replier) at_twenty);
-    ten_among = ap (λ (c : PlainCore). acts_among (user_numbers bundle) clock_party c.journal) core;
-    twenty_among = ap (λ (c : PlainCore). acts_among (user_numbers bundle) text_party c.journal) core;
+    whole = λ here. subst (λ (c : PlainCore). All (IsWholeUnlessLost told faults c.journal) seated.sittings) (sym core) (All-from_recursion _ seated.sittings (none_has_left told faults seated.sittings));
+    at_work = λ kind. subst (λ (c : PlainCore). WorksAs forgets_ten replies_ten forgets_twenty replies_twenty bundle ten twenty kind c.journal (auxiliary_of p kind)) (sym core) (at_start kind);
   }
+    where
+      new : (kind : AuxiliaryKind) → auxiliary_of p kind ≡ (let a : Auxiliary (Behind X Y kind) = record { party = party_of kind; replier = of_each ten twenty kind; is_lost = false } in a)
+      new Clock = at_ten
+      new TextFiles = at_twenty
+
+      at_start : (kind : AuxiliaryKind) → WorksAs forgets_ten replies_ten forgets_twenty replies_twenty bundle ten twenty kind [] (auxiliary_of p kind)
+      at_start kind = record {
+        number = ap (λ (a : Auxiliary (Behind X Y kind)). a.party) (new kind);
+        answered = λ here. ap (λ (a : Auxiliary (Behind X Y kind)). a.replier) (new kind);
+        among = refl;
+      }
 
 -- ---- the dealings of a run
 
@@ -200,17 +206,11 @@ module _ {X Y K : Type 0} (forgets_ten : X → ℕ → X → Type 0) (replies_te
   left : AllByRecursion (λ (user : PlainUser). IsTrue (has_left p.core.journal user.number)) bundle.users
   left = all_left bundle.users p.core.journal (ap (λ (users : List ℕ). some_stay users p.core.journal) (sym h.numbers) ∙ over)
 
-  nobody : (p.ten.is_lost ≡ false) × (p.twenty.is_lost ≡ false) × IsTrue (none_lost p.seats.items)
-  nobody =
-      let both = and_parts (not p.ten.is_lost && not p.twenty.is_lost) (none_lost p.seats.items) ended.here in
-      let more = and_parts (not p.ten.is_lost) (not p.twenty.is_lost) both.0 in
-      (not-true p.ten.is_lost more.0, not-true p.twenty.is_lost more.1, both.1)
-
   whole : AllByRecursion (IsWholeUnlessLost told faults p.core.journal) sittings
-  whole = recursion_from_All _ sittings (h.whole nobody.0 nobody.1)
+  whole = recursion_from_All _ sittings (h.whole (memory_of p ended.here))
 
   none_out : IsTrue (none_lost (seats_in sittings))
-  none_out = ap (λ (seats : List (Seat K)). none_lost seats) h.here ∙ nobody.2
+  none_out = ap (λ (seats : List (Seat K)). none_lost seats) h.here ∙ memory_of_users p ended.here
 
   users_there : map (λ (s : Sitting K). user_of s.seat.session) sittings ≡ bundle.users
   users_there = sym (map-map (λ (s : Seat K). user_of s.session) (λ (s : Sitting K). s.seat) sittings) ∙ ap (λ (seats : List (Seat K)). map (λ (s : Seat K). user_of s.session) seats) h.here ∙ h.users
@@ -225,6 +225,16 @@ module _ {X Y K : Type 0} (forgets_ten : X → ℕ → X → Type 0) (replies_te
   printed : transcripts ≡ map transcript_of sittings
   printed = ended.printed sittings h.here (All-from_recursion _ sittings (all_printed told faults dealings p.core.journal sittings bundle.users users_there none_out whole left))
 
+  -- what answers behind an auxiliary came to where it is by its part
+  part_of : (kind : AuxiliaryKind) →
+      IsAuxiliaryPart (forgets_of forgets_ten forgets_twenty kind) (replies_of replies_ten replies_twenty kind) (user_numbers bundle) (party_of kind) p.core.journal (of_each ten twenty kind) (of_each p.ten.replier p.twenty.replier kind)
+  part_of kind = record {
+    answers = subst (λ (end : Behind X Y kind). IsReplierRun (forgets_of forgets_ten forgets_twenty kind) (replies_of replies_ten replies_twenty kind) (of_each ten twenty kind) (events_of p.core.journal (party_of kind)) end) (repliers_are p kind)
+        (subst (λ (party : ℕ). IsReplierRun (forgets_of forgets_ten forgets_twenty kind) (replies_of replies_ten replies_twenty kind) (of_each ten twenty kind) (events_of p.core.journal party) (auxiliary_of p kind).replier) (h.at_work kind).number
+        ((h.at_work kind).answered (memory_of p ended.here kind)));
+    among = (h.at_work kind).among;
+  }
+
   -- what came of the parties is a run
   pub is_run : (rest : List K)
       → IsRun forgets_ten replies_ten forgets_twenty replies_twenty told faults bundle dealings journal transcripts ten p.ten.replier twenty p.twenty.replier (shelves ++ rest) (map (λ seat. seat.session.shelf) p.seats.items ++ rest)
@@ -234,10 +244,10 @@ module _ {X Y K : Type 0} (forgets_ten : X → ℕ → X → Type 0) (replies_te
         (subst (λ (j : Entries). AreUserParts dealings j bundle.users (map transcript_of sittings)) (sym ended.same) (parts_of told faults dealings p.core.journal sittings bundle.users users_there none_out whole left deals));
     shelves_served = subst₂ (λ (lent : List K) (seats : List (Seat K)). ServeUsers told faults dealings bundle.users (lent ++ rest) (map (λ seat. seat.session.shelf) seats ++ rest)) h.shelves h.here
         (serve_users told faults dealings p.core.journal sittings bundle.users rest users_there none_out whole left deals);
-    ten_part = subst (λ (j : Entries). IsAuxiliaryPart forgets_ten replies_ten (user_numbers bundle) clock_party j ten p.ten.replier) (sym ended.same)
-        (record { answers = subst (λ (party : ℕ). IsReplierRun forgets_ten replies_ten ten (events_of p.core.journal party) p.ten.replier) h.clock (h.ten_answered nobody.0); among = h.ten_among });
-    twenty_part = subst (λ (j : Entries). IsAuxiliaryPart forgets_twenty replies_twenty (user_numbers bundle) text_party j twenty p.twenty.replier) (sym ended.same)
-        (record { answers = subst (λ (party : ℕ). IsReplierRun forgets_twenty replies_twenty twenty (events_of p.core.journal party) p.twenty.replier) h.text (h.twenty_answered nobody.1); among = h.twenty_among });
+    parts = λ kind.
+        subst (λ (j : Entries).
+        IsAuxiliaryPart (forgets_of forgets_ten forgets_twenty kind) (replies_of replies_ten replies_twenty kind) (user_numbers bundle) (party_of kind) j (of_each ten twenty kind) (of_each p.ten.replier p.twenty.replier kind)) (sym ended.same)
+        (part_of kind);
   }
 
   -- some reply that nobody gave
@@ -247,26 +257,22 @@ module _ {X Y K : Type 0} (forgets_ten : X → ℕ → X → Type 0) (replies_te
   -- and its journal is that of the turns, which led from where the users sat at the start
   module _ (start middle : Parties X Y K) (none : start.core.journal ≡ []) (users : users_of dealings start.seats.items ≡ map (newcomer dealings) bundle.users) (order : List ℕ) (same : order ≡ bundle.order) (count : ℕ)
       (all_turns : TookTurns (λ replay. rounds count (ordered order replay)) start p sittings) (few : count ≤ most_rounds bundle) where
-    abbrev replies_ten_given : List PlainArray
-    replies_ten_given = all_turns.ten ++ spare ∷ []
+    abbrev replies_given : ℕ → List PlainArray
+    replies_given party = all_turns.given party ++ spare ∷ []
 
-    abbrev replies_twenty_given : List PlainArray
-    replies_twenty_given = all_turns.twenty ++ spare ∷ []
-
-    came_to : rounds count (ordered bundle.order (beginning bundle dealings replies_ten_given replies_twenty_given)) ≡ record { journal = p.core.journal; ten = spare ∷ []; twenty = spare ∷ []; users = users_of dealings p.seats.items }
+    came_to : rounds count (ordered bundle.order (beginning bundle dealings replies_given)) ≡ record { journal = p.core.journal; replies = λ party. spare ∷ []; users = users_of dealings p.seats.items }
     came_to =
-        ap (λ (parties : List ℕ). rounds count (ordered parties (beginning bundle dealings replies_ten_given replies_twenty_given))) (sym same)
-        ∙ ap₂ (λ (j : Entries) (list : List Participant). rounds count (ordered order (record { journal = j; ten = replies_ten_given; twenty = replies_twenty_given; users = list }))) (sym none) (sym users)
-        ∙ all_turns.same dealings (All-from_recursion _ sittings (each_ends dealings sittings deals)) (spare ∷ []) (spare ∷ [])
+        ap (λ (parties : List ℕ). rounds count (ordered parties (beginning bundle dealings replies_given))) (sym same)
+        ∙ ap₂ (λ (j : Entries) (list : List Participant). rounds count (ordered order (record { journal = j; replies = replies_given; users = list }))) (sym none) (sym users)
+        ∙ all_turns.same dealings (All-from_recursion _ sittings (each_ends dealings sittings deals)) (λ party. spare ∷ [])
 
     pub is_replay : IsReplay bundle dealings journal
     is_replay = record {
       turns = record {
-        ten = replies_ten_given;
-        twenty = replies_twenty_given;
+        replies = replies_given;
         count = count;
         last = ap (λ (r : Replay). r.journal) came_to ∙ sym ended.same;
-        enough = subst (λ (r : Replay). HasReplies r) (sym came_to) (record { ten = λ e. cc; twenty = λ e. cc });
+        enough = subst (λ (r : Replay). HasReplies r) (sym came_to) (λ kind e. cc);
         left = All-from_recursion _ bundle.users (subst (λ (j : Entries). AllByRecursion (λ (user : PlainUser). IsTrue (has_left j user.number)) bundle.users) (sym ended.same) left);
       };
       few = few;

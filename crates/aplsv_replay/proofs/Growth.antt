@@ -9,7 +9,7 @@ use Rattle.bundle_text.specs.User.{PlainUser}
 use Rattle.sv_events.specs.Entry.{PlainEntry}
 use Rattle.sv_rules.specs.Entries.{Entries, counted_entries, has_left, is_leave}
 use Rattle.sv_rules.specs.Legal.{is_user}
-use Rattle.sv_rules.specs.Work.{is_auxiliary}
+use Rattle.aux_parties.specs.Auxiliaries.{is_auxiliary}
 use Rattle.session_rules.specs.Auxiliaries.{acts_among, events_of, some_stay}
 use Rattle.session_rules.specs.Shelf.{Exchange}
 use Rattle.session_rules.specs.UserPart.{IsUserPart}

@@ -12,7 +12,10 @@ use Rattle.sv_events.specs.declared.event.Act.{Act}
 use Rattle.sv_rules.specs.Entries.{Entries, counted_entries, has_left, held_elements, is_full, is_held, is_leave, kind_of}
 use Rattle.sv_rules.specs.Legal.{act_due, answer_to, is_still_held, is_user, journal_after, may_do, retried}
 use Rattle.sv_rules.specs.Refused.{awaited, still_refused, waits}
-use Rattle.sv_rules.specs.Work.{is_auxiliary, is_stuck}
+use Rattle.aux_parties.specs.Auxiliaries.{is_auxiliary}
+use Rattle.sv_rules.specs.Work.{is_stuck}
+use Rattle.sv_core.proofs.People.{people_are}
+use Rattle.sv_core.proofs.RetryLemmas.{some_act, users_stay}
 use Rattle.sv_core.specs.Core.{ArePeople, PlainCore}
 use Rattle.sv_core.specs.Retry.{core_retried}
 use Rattle.session_rules.specs.Session.{session_of}
@@ -21,13 +24,14 @@ use Rattle.session_rules.specs.Shelf.{Reply}
 use Rattle.session_rules.proofs.Taking.{full_is_rare, none_leaves}
 use Rattle.replay_rules.specs.SoFar.{IsSoFar, IsWaitedFor}
 use Rattle.replay_rules.specs.SoFarLaws.{Asks, with_answer}
-use Rattle.replay_rules.specs.Turns.{Participant, Turn, act_made, given, turn, turn_by}
+use Rattle.replay_rules.specs.Turns.{Participant, Turn, given}
 use Rattle.replay_rules.proofs.SoFar.{answered_on, held_on, refused_on}
+use Rattle.replay_rules.proofs.UserTurns.{turn_is}
 use Rattle.apl_session.specs.PlainSession.{PlainSession}
 use Rattle.apl_session.specs.declared.session.Stage.TheVariants as stage
 use Rattle.aplsv_replay.specs.Participants.{participant_with}
 use Rattle.aplsv_replay.specs.SoFar.{GrowsBy, IsSameUser, heard, is_waiting, work_with}
-use Rattle.aplsv_replay.proofs.Making.{IsMade, entering, held_again, is_person, made_again, made_grows, made_now, made_stays, refusing, retried_users, some_act}
+use Rattle.aplsv_replay.proofs.Making.{IsMade, entering, held_again, made_again, made_grows, made_now, made_stays, refusing}
 
 -- the user of a session is so far, where these are all replies that its shelf gives in the end
 abbrev pub IsUserAt : {K : Type 0} → List Reply → Entries → PlainSession K → Type 0
@@ -176,17 +180,8 @@ none_waits journal party free = none_awaited (awaited journal party) free
 -- a user that does not wait may make whatever act it comes to
 pub any_is_due : (users : List ℕ) (journal : Entries) (party : ℕ) (act : Act) → ArePeople users → is_user users party ≡ true → waits journal party ≡ false → act_due (is_auxiliary party) journal party act ≡ Some act
 any_is_due users journal party act people user free =
-    ap (λ (auxiliary : Bool). act_due auxiliary journal party act) (is_person users party people user)
+    ap (λ (auxiliary : Bool). act_due auxiliary journal party act) (people_are users people party user)
     ∙ ap (λ (waited : Option Act). Some (may_do waited act)) (none_waits journal party free)
-
--- ---- the turn
-
-turn_is : (numbers : List ℕ) (journal : Entries) (user : Participant) (act : Act) (waiting : Bool) → has_left journal user.number ≡ false → Asks user act → waits journal user.number ≡ waiting
-    → turn numbers journal user ≡ act_made waiting numbers journal user act
-turn_is numbers journal user act waiting present asks is =
-    ap (λ (left : Bool). turn_by left (session_of user.lines user.answers user.replies).waits numbers journal user) present
-    ∙ ap (λ (next : Option Act). turn_by false next numbers journal user) asks
-    ∙ ap (λ (w : Bool). act_made w numbers journal user act) is
 
 -- ---- an act that is made
 
@@ -306,7 +301,7 @@ tried {K = K} replies m before after s now answer present at some waiting h try 
     let c : PlainCore = core_retried before s.user in
     let k = made_as_asked replies before c s awaited'.0 asked.0 answer at awaited'.1 asked.1 h (made_again before s.user awaited'.0 answer awaited'.1 (sym got)) in
     let turned : IsTurnAt replies before s c (heard answer m s) = retried_turn replies m before s asked.0 answer present asked.1 waiting (sym got) in
-    let gone : HasGoneOn replies before s c (heard answer m s) = gone_on replies m before c s k.0 asked.0 answer k.2 (retried_users before s.user) present at asked.1 k.1 turned in
+    let gone : HasGoneOn replies before s c (heard answer m s) = gone_on replies m before c s k.0 asked.0 answer k.2 (users_stay before s.user) present at asked.1 k.1 turned in
     subst₂ (λ (d : PlainCore) (t : PlainSession K). HasGoneOn replies before s d t) (sym try.became) (sym hears) gone
 
 -- ---- what the code's steps say, for a party that is the user

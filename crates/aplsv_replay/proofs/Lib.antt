@@ -8,8 +8,10 @@ pub mod Ends
 pub mod Filling
 pub mod Growth
 pub mod Hearing
+pub mod Kinds
 pub mod Leaving
 pub mod Making
+pub mod OneTurn
 pub mod RoundsEnd
 pub mod Rows
 pub mod SeatSteps

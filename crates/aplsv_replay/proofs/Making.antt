@@ -1,33 +1,18 @@
 -- What becomes of an act that a party makes, or tries again: a full journal refuses it, or it is entered.
-use Rattle.std.proofs.Common.{◌≡◌, ℕ, inl, inr, ◌&&◌, ◌||◌, Bool, true, false, eqb, List, [], ◌∷◌, Option, Some, None, IsTrue, if◌then◌else◌, refl, sym, ap, ◌∙◌, subst}
-use Rattle.std.proofs.lemmas.Bool.{eqb-true, or_cases}
+use Rattle.std.proofs.Common.{◌≡◌, ℕ, ◌&&◌, ◌||◌, Bool, true, false, eqb, List, [], ◌∷◌, Option, Some, None, IsTrue, if◌then◌else◌, refl, sym, ap, ◌∙◌, subst}
 use Rattle.std.proofs.lemmas.Option.{none-some, same_Some}
-use Rattle.std.proofs.lemmas.List.Elements.{All-cons, All-head, All-nil, All-tail}
-use Rattle.std.specs.Prelude.{is_some, option_map}
+use Rattle.std.proofs.lemmas.List.Elements.{All-cons, All-nil}
+use Rattle.std.specs.Prelude.{option_map}
 use Rattle.sv_events.specs.Answer.{PlainAnswer, full}
 use Rattle.sv_events.specs.Entry.{PlainEntry}
 use Rattle.sv_events.specs.declared.event.Act.{Act}
 use Rattle.sv_rules.specs.Entries.{Entries, has_left, is_full, is_leave}
-use Rattle.sv_rules.specs.Legal.{answer_to, entry_for, is_still_held, is_user, journal_after, retried}
+use Rattle.sv_rules.specs.Legal.{answer_to, entry_for, is_still_held, journal_after, retried}
 use Rattle.sv_rules.specs.Outcome.{outcome}
 use Rattle.sv_rules.specs.Refused.{awaited}
-use Rattle.sv_rules.specs.Work.{is_auxiliary}
-use Rattle.sv_core.specs.Core.{ArePeople, PlainCore}
+use Rattle.sv_core.specs.Core.{PlainCore}
 use Rattle.sv_core.specs.Retry.{core_retried, journal_retried}
 use Rattle.aplsv_replay.specs.SoFar.{GrowsBy}
-
--- what is there
-pub some_act : (o : Option Act) → is_some o ≡ true → (act : Act) × (o ≡ Some act)
-some_act None some = absurd cc
-some_act (Some act) some = (act, refl)
-
--- no user is an auxiliary
-pub is_person : (users : List ℕ) (party : ℕ) → ArePeople users → is_user users party ≡ true → is_auxiliary party ≡ false
-is_person [] party people user = absurd (let no : false ≡ true = user in cc)
-is_person (first ∷ users) party people user = elim (or_cases (eqb first party) (is_user users party) user) [
-  | inl same ↦ subst (λ (number : ℕ). is_auxiliary number ≡ false) (eqb-true first party same) (All-head (λ (number : ℕ). is_auxiliary number ≡ false) first users people)
-  | inr behind ↦ is_person users party (All-tail (λ (number : ℕ). is_auxiliary number ≡ false) first users people) behind
-]
 
 -- an entry of a party with this act and this answer was added, where there was room
 pub record IsEntered (journal : Entries) (party : ℕ) (act : Act) (after : Entries) (answer : PlainAnswer) : Type 0 where
@@ -95,14 +80,6 @@ made_again core party act answer awaits got =
     ∙ ap (λ (o : Option Act). let c : PlainCore = record { users = core.users; journal = journal_retried core.journal party o } in c) awaits in
     subst (λ (after : Entries). IsMade core.journal party act after answer) (sym (ap (λ (c : PlainCore). c.journal) core_is))
     (subst (λ (a : PlainAnswer). IsMade core.journal party act (journal_after core.journal party act) a) free.1 (made_now core.journal party act))
-
--- the users stay at a retry
-pub retried_users : (core : PlainCore) (party : ℕ) → (core_retried core party).users ≡ core.users
-retried_users core party = by (is_still_held core.users core.journal party)
-  where
-    by : (b : Bool) → (if b then core else (let c : PlainCore = record { users = core.users; journal = journal_retried core.journal party (awaited core.journal party) } in c)).users ≡ core.users
-    by true = refl
-    by false = refl
 
 -- ---- what an act adds
 

@@ -9,6 +9,7 @@ use Rattle.sv_rules.specs.Entries.{Entries, has_left, is_full}
 use Rattle.sv_rules.specs.Legal.{answer_to, is_still_held}
 use Rattle.sv_rules.specs.Refused.{awaited, still_refused, waits}
 use Rattle.sv_rules.specs.Work.{is_stuck}
+use Rattle.sv_core.proofs.RetryLemmas.{some_act, users_stay}
 use Rattle.sv_core.specs.Core.{PlainCore}
 use Rattle.session_rules.specs.Session.{session_of}
 use Rattle.session_rules.specs.Shelf.{Exchange, Reply, replies_in}
@@ -18,7 +19,7 @@ use Rattle.apl_session.specs.declared.session.Stage.TheVariants as stage
 use Rattle.aplsv_replay.specs.Participants.{participant_with}
 use Rattle.aplsv_replay.specs.SoFar.{AsksNow, GoesOn, GrowsBy, HasHeard, IsRetried, TriesAgain, heard, work_with}
 use Rattle.aplsv_replay.proofs.Hearing.{HasGoneOn, IsStepped, IsStillAsBefore, IsTriedAgain, IsTriedAt, IsTurnAt, IsUserAt, asked_stays, held_still, made_as_asked, some_is, stepped, tried, waits_at_limit}
-use Rattle.aplsv_replay.proofs.Making.{IsMade, made_again, made_grows, made_now, made_stays, retried_users, some_act}
+use Rattle.aplsv_replay.proofs.Making.{IsMade, made_again, made_grows, made_now, made_stays}
 
 -- ---- an act that is made
 
@@ -40,7 +41,7 @@ step_stays replies before after s act answer present asks h =
 pub try_grows : (before after : PlainCore) (party : ℕ) (answer : PlainAnswer) → waits before.journal party ≡ true → IsTriedAgain before party after (Some answer) → GrowsBy party before after
 try_grows before after party answer waiting h =
     let a = some_act (awaited before.journal party) waiting in
-    made_grows party a.0 answer before after (ap (λ (c : PlainCore). c.users) h.became ∙ retried_users before party)
+    made_grows party a.0 answer before after (ap (λ (c : PlainCore). c.users) h.became ∙ users_stay before party)
     (subst (λ (j : Entries). IsMade before.journal party a.0 j answer) (sym (ap (λ (c : PlainCore). c.journal) h.became)) (made_again before party a.0 answer a.1 (sym h.told)))
 
 pub try_stays : {K : Type 0} (replies : List Reply) (before after : PlainCore) (s : PlainSession K) (answer : PlainAnswer) → has_left before.journal s.user ≡ false → s.stage ≡ stage.Waiting → IsSome (session_of s.lines s.answers replies).waits

@@ -16,7 +16,8 @@ use Rattle.sv_events.specs.declared.work.Work.TheVariants as work
 use Rattle.sv_rules.specs.Entries.{Entries, next_place}
 use Rattle.sv_rules.specs.Journal.{journal_of}
 use Rattle.sv_rules.specs.Legal.{IsLegal, entry_for, journal_after}
-use Rattle.sv_rules.specs.Work.{is_auxiliary, work_of}
+use Rattle.aux_parties.specs.Auxiliaries.{is_auxiliary}
+use Rattle.sv_rules.specs.Work.{work_of}
 use Rattle.sv_rules.proofs.JournalLemmas.{length-journal_of}
 use Rattle.session_rules.specs.Auxiliaries.{events_of}
 use Rattle.replay_rules.specs.Turns.{served}

@@ -1,11 +1,12 @@
 -- Turns of all parties, one after another.
-use Rattle.std.proofs.Common.{◌≡◌, ℕ, suc, Bool, true, false, eqb, List, [], ◌∷◌, ◌++◌, Option, refl, ap, ap₂, ◌∙◌, append_assoc}
+use Rattle.std.proofs.Common.{◌≡◌, ℕ, suc, Bool, true, false, eqb, List, [], ◌∷◌, ◌++◌, Option, refl, ap, ◌∙◌, append_assoc}
+use Rattle.std.proofs.Math.Path.{fun_ext}
 use Rattle.std.specs.List.{All}
 use Rattle.std.specs.Prelude.{if◌then◌else◌}
 use Rattle.apl_arrays.specs.Array.{PlainArray}
-use Rattle.apl_arrays.specs.Parties.{clock_party, text_party}
 use Rattle.apl_io.specs.Content.{Told}
 use Rattle.bundle_text.specs.Rules.{PlainBundle}
+use Rattle.aux_parties.specs.Auxiliaries.{is_auxiliary}
 use Rattle.session_rules.specs.Auxiliaries.{some_stay}
 use Rattle.session_rules.specs.Run.{Dealings}
 use Rattle.aplsv_replay.specs.Participants.{users_of}
@@ -14,7 +15,7 @@ use Rattle.aplsv_replay.specs.Sittings.{EndsIn, Sitting}
 use Rattle.aplsv_replay.specs.Together.{AreTogether, StayTogether, TakesTurns, TookTurns}
 use Rattle.aplsv_replay.specs.declared.parties.Parties.{Parties}
 use Rattle.aplsv_replay.specs.declared.seat.Seat.{Seat}
-use Rattle.replay_rules.specs.Turns.{Replay, goes_on, numbers_of, ordered, party_turn, round, rounds, turn_of_ten, turn_of_twenty, user_turns}
+use Rattle.replay_rules.specs.Turns.{Replay, auxiliary_turn, goes_on, numbers_of, ordered, party_turn, round, rounds, user_turns}
 
 -- turns that are taken while some user stays
 abbrev unless_over : (Replay → Replay) → Replay → Replay
@@ -25,29 +26,32 @@ pub numbers_by_participants : {K : Type 0} (final : Dealings) (seats : List (Sea
 numbers_by_participants final [] = refl
 numbers_by_participants final (seat ∷ seats) = ap (λ (others : List ℕ). seat.session.user ∷ others) (numbers_by_participants final seats)
 
+-- replies of some turns, of others behind them, and more
+grouped : (a b more : ℕ → List PlainArray) → ◌≡◌ {A = ℕ → List PlainArray} (λ party. (a party ++ b party) ++ more party) (λ party. a party ++ (b party ++ more party))
+grouped a b more = fun_ext (λ party. append_assoc (a party) (b party) (more party))
+
 module _ {X Y K : Type 0} where
   -- the replay where the parties are, with these replies to come
-  abbrev pub replay_at : Dealings → Parties X Y K → List PlainArray → List PlainArray → Replay
-  replay_at final p ten twenty = record { journal = p.core.journal; ten = ten; twenty = twenty; users = users_of final p.seats.items }
+  abbrev pub replay_at : Dealings → Parties X Y K → (ℕ → List PlainArray) → Replay
+  replay_at final p replies = record { journal = p.core.journal; replies = replies; users = users_of final p.seats.items }
 
   -- some user stays
   abbrev pub stays_at : Parties X Y K → Bool
   stays_at p = some_stay (seat_numbers p.seats.items) p.core.journal
 
   -- so the replay goes on
-  goes_at : (final : Dealings) (p : Parties X Y K) (ten twenty : List PlainArray) → goes_on (replay_at final p ten twenty) ≡ stays_at p
-  goes_at final p ten twenty = ap (λ (numbers : List ℕ). some_stay numbers p.core.journal) (numbers_by_participants final p.seats.items)
+  goes_at : (final : Dealings) (p : Parties X Y K) (replies : ℕ → List PlainArray) → goes_on (replay_at final p replies) ≡ stays_at p
+  goes_at final p replies = ap (λ (numbers : List ℕ). some_stay numbers p.core.journal) (numbers_by_participants final p.seats.items)
 
   -- some turns and then others
   took_both : (one two : Replay → Replay) (p q r : Parties X Y K) (between nows : List (Sitting K)) → ((final : Dealings) → All (EndsIn final) nows → All (EndsIn final) between) → TookTurns one p q between → TookTurns two q r nows → TookTurns (λ replay. two (one replay)) p r nows
   took_both one two p q r between nows began a b = record {
-    ten = a.ten ++ b.ten;
-    twenty = a.twenty ++ b.twenty;
-    same = λ final ends more_ten more_twenty.
+    given = λ party. a.given party ++ b.given party;
+    same = λ final ends more.
         ap two
-        (ap₂ (λ (ten twenty : List PlainArray). one (replay_at final p ten twenty)) (append_assoc a.ten b.ten more_ten) (append_assoc a.twenty b.twenty more_twenty)
-        ∙ a.same final (began final ends) (b.ten ++ more_ten) (b.twenty ++ more_twenty))
-        ∙ b.same final ends more_ten more_twenty;
+        (ap (λ (replies : ℕ → List PlainArray). one (replay_at final p replies)) (grouped a.given b.given more)
+        ∙ a.same final (began final ends) (λ party. b.given party ++ more party))
+        ∙ b.same final ends more;
   }
 
 module _ {X Y K : Type 0} (forgets_ten : X → ℕ → X → Type 0) (replies_ten : X → ℕ → PlainArray → PlainArray → X → Type 0)
@@ -64,20 +68,20 @@ module _ {X Y K : Type 0} (forgets_ten : X → ℕ → X → Type 0) (replies_te
 
   -- no turn
   stay_still : (turns : Replay → Replay) (bundle : PlainBundle) (ten : X) (twenty : Y) (shelves : List K) (p : Parties X Y K) (sittings : List (Sitting K)) → Together bundle ten twenty shelves p sittings
-      → ((final : Dealings) (ten twenty : List PlainArray) → turns (replay_at final p ten twenty) ≡ replay_at final p ten twenty) → Stay turns bundle ten twenty shelves p sittings p
+      → ((final : Dealings) (replies : ℕ → List PlainArray) → turns (replay_at final p replies) ≡ replay_at final p replies) → Stay turns bundle ten twenty shelves p sittings p
   stay_still turns bundle ten twenty shelves p sittings h none = record {
     nows = sittings;
     together = h;
     began = λ final h. h;
     lost = λ here. here;
-    took = λ here. record { ten = []; twenty = []; same = λ final ends more_ten more_twenty. none final more_ten more_twenty };
+    took = λ here. record { given = λ party. []; same = λ final ends more. none final more };
   }
 
   pub takes_none : (turns : Replay → Replay) (p : Parties X Y K) → ((r : Replay) → turns r ≡ r) → Take turns p p
-  takes_none turns p none bundle ten twenty shelves sittings h = stay_still turns bundle ten twenty shelves p sittings h (λ final more_ten more_twenty. none (replay_at final p more_ten more_twenty))
+  takes_none turns p none bundle ten twenty shelves sittings h = stay_still turns bundle ten twenty shelves p sittings h (λ final replies. none (replay_at final p replies))
 
   -- turns that are said otherwise, where the parties are
-  stay_same : (turns others : Replay → Replay) (bundle : PlainBundle) (ten : X) (twenty : Y) (shelves : List K) (p q : Parties X Y K) (sittings : List (Sitting K)) → ((final : Dealings) (ten twenty : List PlainArray) → others (replay_at final p ten twenty) ≡ turns (replay_at final p ten twenty)) → Stay turns bundle ten twenty shelves p sittings q
+  stay_same : (turns others : Replay → Replay) (bundle : PlainBundle) (ten : X) (twenty : Y) (shelves : List K) (p q : Parties X Y K) (sittings : List (Sitting K)) → ((final : Dealings) (replies : ℕ → List PlainArray) → others (replay_at final p replies) ≡ turns (replay_at final p replies)) → Stay turns bundle ten twenty shelves p sittings q
       → Stay others bundle ten twenty shelves p sittings q
   stay_same turns others bundle ten twenty shelves p q sittings same h = record {
     nows = h.nows;
@@ -85,14 +89,13 @@ module _ {X Y K : Type 0} (forgets_ten : X → ℕ → X → Type 0) (replies_te
     began = h.began;
     lost = h.lost;
     took = λ here. let took = h.took here in record {
-      ten = took.ten;
-      twenty = took.twenty;
-      same = λ final ends more_ten more_twenty. same final (took.ten ++ more_ten) (took.twenty ++ more_twenty) ∙ took.same final ends more_ten more_twenty;
+      given = took.given;
+      same = λ final ends more. same final (λ party. took.given party ++ more party) ∙ took.same final ends more;
     };
   }
 
   pub takes_same : (turns others : Replay → Replay) (p q : Parties X Y K) → ((r : Replay) → others r ≡ turns r) → Take turns p q → Take others p q
-  takes_same turns others p q same h bundle ten twenty shelves sittings k = stay_same turns others bundle ten twenty shelves p q sittings (λ final more_ten more_twenty. same (replay_at final p more_ten more_twenty)) (h bundle ten twenty shelves sittings k)
+  takes_same turns others p q same h bundle ten twenty shelves sittings k = stay_same turns others bundle ten twenty shelves p q sittings (λ final replies. same (replay_at final p replies)) (h bundle ten twenty shelves sittings k)
 
   -- some turns and then others
   pub takes_both : (one two : Replay → Replay) (p q r : Parties X Y K) → Take one p q → Take two q r → Take (λ replay. two (one replay)) p r
@@ -110,13 +113,13 @@ module _ {X Y K : Type 0} (forgets_ten : X → ℕ → X → Type 0) (replies_te
   pub takes_while : (turns : Replay → Replay) (p q : Parties X Y K) → stays_at p ≡ true → Take turns p q → Take (unless_over turns) p q
   takes_while turns p q stay h bundle ten twenty shelves sittings k =
       stay_same turns (unless_over turns) bundle ten twenty shelves p q sittings
-      (λ final more_ten more_twenty. let start : Replay = replay_at final p more_ten more_twenty in ap (λ (goes : Bool). if goes then turns start else start) (goes_at final p more_ten more_twenty ∙ stay))
+      (λ final replies. let start : Replay = replay_at final p replies in ap (λ (goes : Bool). if goes then turns start else start) (goes_at final p replies ∙ stay))
       (h bundle ten twenty shelves sittings k)
 
   pub takes_no_more : (turns : Replay → Replay) (p : Parties X Y K) → stays_at p ≡ false → Take (unless_over turns) p p
   takes_no_more turns p over bundle ten twenty shelves sittings h =
       stay_still (unless_over turns) bundle ten twenty shelves p sittings h
-      (λ final more_ten more_twenty. let start : Replay = replay_at final p more_ten more_twenty in ap (λ (goes : Bool). if goes then turns start else start) (goes_at final p more_ten more_twenty ∙ over))
+      (λ final replies. let start : Replay = replay_at final p replies in ap (λ (goes : Bool). if goes then turns start else start) (goes_at final p replies ∙ over))
 
   -- ---- orders
 
@@ -134,17 +137,12 @@ module _ {X Y K : Type 0} (forgets_ten : X → ℕ → X → Type 0) (replies_te
   takes_round count p q r so_far stay next = takes_both (rounds count) (unless_over round) p q r so_far (takes_while round q r stay next)
 
   -- the turn of a party by its number
-  pub ten_is_party : (party : ℕ) (p q : Parties X Y K) → eqb party clock_party ≡ true → Take turn_of_ten p q → Take (party_turn party) p q
-  ten_is_party party p q is h =
-      takes_same turn_of_ten (party_turn party) p q
-      (λ replay. ap (λ (same : Bool). if same then turn_of_ten replay else if eqb party text_party then turn_of_twenty replay else user_turns (λ user. eqb user.number party) replay) is) h
+  pub auxiliary_is_party : (party : ℕ) (p q : Parties X Y K) → is_auxiliary party ≡ true → Take (auxiliary_turn party) p q → Take (party_turn party) p q
+  auxiliary_is_party party p q is h =
+      takes_same (auxiliary_turn party) (party_turn party) p q
+      (λ replay. ap (λ (auxiliary : Bool). if auxiliary then auxiliary_turn party replay else user_turns (λ user. eqb user.number party) replay) is) h
 
-  pub twenty_is_party : (party : ℕ) (p q : Parties X Y K) → eqb party clock_party ≡ false → eqb party text_party ≡ true → Take turn_of_twenty p q → Take (party_turn party) p q
-  twenty_is_party party p q other is h =
-      takes_same turn_of_twenty (party_turn party) p q
-      (λ replay. ap₂ (λ (ten twenty : Bool). if ten then turn_of_ten replay else if twenty then turn_of_twenty replay else user_turns (λ user. eqb user.number party) replay) other is) h
-
-  pub user_is_party : (party : ℕ) (p q : Parties X Y K) → eqb party clock_party ≡ false → eqb party text_party ≡ false → Take (user_turns (λ user. eqb user.number party)) p q → Take (party_turn party) p q
-  user_is_party party p q other another h =
+  pub user_is_party : (party : ℕ) (p q : Parties X Y K) → is_auxiliary party ≡ false → Take (user_turns (λ user. eqb user.number party)) p q → Take (party_turn party) p q
+  user_is_party party p q other h =
       takes_same (user_turns (λ user. eqb user.number party)) (party_turn party) p q
-      (λ replay. ap₂ (λ (ten twenty : Bool). if ten then turn_of_ten replay else if twenty then turn_of_twenty replay else user_turns (λ user. eqb user.number party) replay) other another) h
+      (λ replay. ap (λ (auxiliary : Bool). if auxiliary then auxiliary_turn party replay else user_turns (λ user. eqb user.number party) replay) other) h

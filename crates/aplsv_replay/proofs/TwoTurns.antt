@@ -9,7 +9,7 @@ use Rattle.std.proofs.lemmas.Simd.{map-map}
 use Rattle.std.proofs.lemmas.List.Elements.{All-append, All-cons, All-head, All-tail, All-from_recursion, recursion_from_All}
 use Rattle.std.proofs.lemmas.List.Sums.{sum_by-cons}
 use Rattle.apl_arrays.specs.Ascending.{AscendBy}
-use Rattle.apl_arrays.specs.Limits.{most_entries}
+use Rattle.sv_rules.specs.Limits.{most_entries}
 use Rattle.apl_io.specs.Content.{Told}
 use Rattle.bundle_text.specs.User.{PlainUser}
 use Rattle.sv_core.specs.Core.{PlainCore}

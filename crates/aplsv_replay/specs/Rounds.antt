@@ -1,6 +1,6 @@
 -- How long a replay may be.
 use Rattle.std.specs.Prelude.{◌≤◌, ◌+◌, ℕ, length, sum_by}
-use Rattle.apl_arrays.specs.Limits.{most_entries}
+use Rattle.sv_rules.specs.Limits.{most_entries}
 use Rattle.bundle_text.specs.Rules.{PlainBundle}
 use Rattle.session_rules.specs.Run.{Dealings}
 use Rattle.sv_rules.specs.Entries.{Entries}

@@ -1,7 +1,7 @@
 -- The turns of users beside a journal, one after another.
 use Rattle.std.specs.Prelude.{◌≡◌, ◌⊎◌, ◌<◌, ◌+◌, ◌-◌, ◌==◌, ◌++◌, ℕ, Bool, true, false, not, List, Option, Some, None, All, IsTrue, map, sum_by, if◌then◌else◌}
 use Rattle.std.specs.List.{list_all}
-use Rattle.apl_arrays.specs.Limits.{most_entries}
+use Rattle.sv_rules.specs.Limits.{most_entries}
 use Rattle.apl_io.specs.Content.{Told}
 use Rattle.sv_core.specs.Core.{PlainCore}
 use Rattle.sv_rules.specs.Entries.{Entries, counted_entries, has_left}

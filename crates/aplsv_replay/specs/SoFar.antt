@@ -1,7 +1,7 @@
 -- The parties of a replay between two turns: what each did so far.
 use Rattle.std.specs.Prelude.{Option, Some, IsSome, ◌≡◌, ◌⊎◌, ◌<◌, ◌+◌, ◌-◌, ◌++◌, ℕ, Bool, true, false, List, [], ◌∷◌, All, IsTrue, count_by, length, if◌then◌else◌}
 use Rattle.apl_arrays.specs.Array.{PlainArray}
-use Rattle.apl_arrays.specs.Limits.{most_entries}
+use Rattle.sv_rules.specs.Limits.{most_entries}
 use Rattle.apl_io.specs.Content.{Told}
 use Rattle.auxiliaries.specs.Run.{IsReplierRun}
 use Rattle.bundle_text.specs.User.{PlainUser}

@@ -2,32 +2,36 @@
 use Rattle.std.specs.Prelude.{◌≡◌, ◌⊎◌, ◌<◌, ◌≤◌, ◌+◌, ◌++◌, ◌&&◌, ℕ, Bool, true, false, not, List, Option, All, IsTrue, map}
 use Rattle.apl_arrays.specs.Array.{PlainArray}
 use Rattle.apl_arrays.specs.Ascending.{AscendBy}
-use Rattle.apl_arrays.specs.Parties.{clock_party, text_party}
 use Rattle.apl_io.specs.Content.{Told}
 use Rattle.bundle_text.specs.Rules.{PlainBundle}
 use Rattle.sv_core.specs.Core.{ArePeople}
 use Rattle.sv_events.specs.declared.work.Work.TheVariants.{Idle}
+use Rattle.aux_parties.specs.Auxiliaries.{party_of}
+use Rattle.sv_rules.specs.Entries.{Entries}
 use Rattle.sv_rules.specs.Work.{work_of}
-use Rattle.session_rules.specs.Auxiliaries.{acts_among}
+use Rattle.aux_parties.specs.declared.auxiliary.AuxiliaryKind.{AuxiliaryKind}
+use Rattle.aux_parties.specs.declared.auxiliary.AuxiliaryKind.TheVariants.{Clock, TextFiles}
+use Rattle.session_rules.specs.Auxiliaries.{acts_among, some_stay}
+use Rattle.session_rules.specs.Behind.{Behind, forgets_of, of_each, replies_of}
 use Rattle.session_rules.specs.Run.{Dealings, user_numbers}
 use Rattle.aplsv_replay.specs.Participants.{users_of}
 use Rattle.aplsv_replay.specs.SeatTurns.{none_lost, work_left}
 use Rattle.aplsv_replay.specs.Sittings.{EndsIn, Sitting, lent_to, seats_in}
 use Rattle.aplsv_replay.specs.SoFar.{HasAnswered, IsSeated, IsWholeUnlessLost, user_of}
-use Rattle.replay_rules.specs.Turns.{Replay, rounds}
+use Rattle.replay_rules.specs.Turns.{Replay, auxiliary_turn, rounds}
+use Rattle.aplsv_replay.specs.declared.auxiliary.Auxiliary.{Auxiliary}
 use Rattle.aplsv_replay.specs.declared.parties.Parties.{Parties}
 
 -- memory ran out for nobody
 abbrev pub none_is_lost : {X Y K : Type 0} → Parties X Y K → Bool
 none_is_lost p = not p.ten.is_lost && not p.twenty.is_lost && none_lost p.seats.items
 
--- the parties took the turns of a replay that a function says: with the replies that 10 and 20 gave in them, in whatever dealings the users end
+-- the parties took the turns of a replay that a function says: with the replies that the auxiliaries gave in them, in whatever dealings the users end
 pub record TookTurns {X Y K : Type 0} (turns : Replay → Replay) (before after : Parties X Y K) (nows : List (Sitting K)) : Type 0 where
-  pub ten : List PlainArray
-  pub twenty : List PlainArray
-  pub same : (final : Dealings) → All (EndsIn final) nows → (more_ten more_twenty : List PlainArray) →
-      turns (record { journal = before.core.journal; ten = ten ++ more_ten; twenty = twenty ++ more_twenty; users = users_of final before.seats.items })
-      ≡ record { journal = after.core.journal; ten = more_ten; twenty = more_twenty; users = users_of final after.seats.items }
+  pub given : ℕ → List PlainArray
+  pub same : (final : Dealings) → All (EndsIn final) nows → (more : ℕ → List PlainArray) →
+      turns (record { journal = before.core.journal; replies = λ party. given party ++ more party; users = users_of final before.seats.items })
+      ≡ record { journal = after.core.journal; replies = more; users = users_of final after.seats.items }
 
 -- how much may still be done
 abbrev pub left_to_do : {X Y K : Type 0} → Parties X Y K → ℕ
@@ -39,10 +43,28 @@ pub record LeavesLess {X Y K : Type 0} (party : ℕ) (lost : Bool) (before after
   pub rests : (left_to_do after < left_to_do before) ⊎ ((lost ≡ true) ⊎ ((after.core ≡ before.core) × (work_of before.core.journal party ≡ Idle)))
   pub seats : after.seats ≡ before.seats
 
+-- an auxiliary of a run between two turns: it has this number; what answers behind it came to where it is by the auxiliary's entries, of which nothing is said once memory ran out for it; and before each of these entries some user had not left
+pub record IsAtWork {S : Type 0} (forgets : S → ℕ → S → Type 0) (replies : S → ℕ → PlainArray → PlainArray → S → Type 0) (users : List ℕ) (party : ℕ) (start : S) (journal : Entries) (aux : Auxiliary S) : Type 0 where
+  pub number : aux.party ≡ party
+  pub answered : aux.is_lost ≡ false → HasAnswered forgets replies start journal aux
+  pub among : IsTrue (acts_among users party journal)
+
+module _ {X Y : Type 0} (forgets_ten : X → ℕ → X → Type 0) (replies_ten : X → ℕ → PlainArray → PlainArray → X → Type 0)
+    (forgets_twenty : Y → ℕ → Y → Type 0) (replies_twenty : Y → ℕ → PlainArray → PlainArray → Y → Type 0) where
+  -- the auxiliary of a kind in a run of a bundle, whose auxiliaries began at these states
+  abbrev pub WorksAs : PlainBundle → X → Y → (kind : AuxiliaryKind) → Entries → Auxiliary (Behind X Y kind) → Type 0
+  WorksAs bundle ten twenty kind journal aux =
+      IsAtWork (forgets_of forgets_ten forgets_twenty kind) (replies_of replies_ten replies_twenty kind) (user_numbers bundle) (party_of kind) (of_each ten twenty kind) journal aux
+
+-- the auxiliary of a kind
+abbrev pub auxiliary_of : {X Y K : Type 0} → Parties X Y K → (kind : AuxiliaryKind) → Auxiliary (Behind X Y kind)
+auxiliary_of p Clock = p.ten
+auxiliary_of p TextFiles = p.twenty
+
 module _ {X Y K : Type 0} (forgets_ten : X → ℕ → X → Type 0) (replies_ten : X → ℕ → PlainArray → PlainArray → X → Type 0)
     (forgets_twenty : Y → ℕ → Y → Type 0) (replies_twenty : Y → ℕ → PlainArray → PlainArray → Y → Type 0)
     (told : K → Option (Told (ℕ × List ℕ))) (faults : K → ℕ) where
-  -- the parties of a bundle, whose auxiliaries began at these states: its users in their order, each on the shelf that it was lent, and so far, or with its part once it has left; what answers behind each auxiliary came to where it is by the auxiliary's entries, before each of which some user had not left. Where memory ran out for a party, nothing is said of its part
+  -- the parties of a bundle, whose auxiliaries began at these states: its users in their order, each on the shelf that it was lent, and so far, or with its part once it has left; and each auxiliary at its work. Where memory ran out for a party, nothing is said of its part
   pub record AreTogether (bundle : PlainBundle) (ten : X) (twenty : Y) (lent : List K) (p : Parties X Y K) (sittings : List (Sitting K)) : Type 0 where
     pub here : seats_in sittings ≡ p.seats.items
     pub people : ArePeople p.core.users
@@ -51,13 +73,8 @@ module _ {X Y K : Type 0} (forgets_ten : X → ℕ → X → Type 0) (replies_te
     pub users : map (λ seat. user_of seat.session) p.seats.items ≡ bundle.users
     pub shelves : lent_to sittings ≡ lent
     pub seated : All (IsSeated told faults p.core.journal) sittings
-    pub whole : p.ten.is_lost ≡ false → p.twenty.is_lost ≡ false → All (IsWholeUnlessLost told faults p.core.journal) sittings
-    pub clock : p.ten.party ≡ clock_party
-    pub text : p.twenty.party ≡ text_party
-    pub ten_answered : p.ten.is_lost ≡ false → HasAnswered forgets_ten replies_ten ten p.core.journal p.ten
-    pub twenty_answered : p.twenty.is_lost ≡ false → HasAnswered forgets_twenty replies_twenty twenty p.core.journal p.twenty
-    pub ten_among : IsTrue (acts_among (user_numbers bundle) clock_party p.core.journal)
-    pub twenty_among : IsTrue (acts_among (user_numbers bundle) text_party p.core.journal)
+    pub whole : ((kind : AuxiliaryKind) → (auxiliary_of p kind).is_lost ≡ false) → All (IsWholeUnlessLost told faults p.core.journal) sittings
+    pub at_work : (kind : AuxiliaryKind) → WorksAs forgets_ten replies_ten forgets_twenty replies_twenty bundle ten twenty kind p.core.journal (auxiliary_of p kind)
 
   -- they are those of some bundle
   pub record AreOfSomeBundle (p : Parties X Y K) : Type 0 where
@@ -79,6 +96,13 @@ module _ {X Y K : Type 0} (forgets_ten : X → ℕ → X → Type 0) (replies_te
   -- so wherever they sat
   abbrev pub TakesTurns : (Replay → Replay) → Parties X Y K → Parties X Y K → Type 0
   TakesTurns turns before after = (bundle : PlainBundle) (ten : X) (twenty : Y) (shelves : List K) (sittings : List (Sitting K)) → AreTogether bundle ten twenty shelves before sittings → StayTogether turns bundle ten twenty shelves before sittings after
+
+  -- the auxiliary of a kind had its turn: it was the turn of a replay, unless memory ran out, and some user stays; memory that ran out before stays so; and less is left to do, or the auxiliary can't do anything
+  pub record TookAuxiliaryTurn (kind : AuxiliaryKind) (before after : Parties X Y K) : Type 0 where
+    pub turn : TakesTurns (auxiliary_turn (party_of kind)) before after
+    pub stay : IsTrue (some_stay after.core.users after.core.journal)
+    pub lost : (other : AuxiliaryKind) → (auxiliary_of before other).is_lost ≡ true → (auxiliary_of after other).is_lost ≡ true
+    pub less : LeavesLess (party_of kind) (auxiliary_of after kind).is_lost before after
 
   -- the parties took some rounds, and each of them left less to do
   pub record TakesRounds (before after : Parties X Y K) : Type 0 where

@@ -3,7 +3,8 @@ ghost use Rattle.sv_core.specs.Due.{is_service};
 ghost use Rattle.sv_events.specs.Work.{act_of};
 ghost use Rattle.sv_events.specs.declared.work.Work.TheVariants as work;
 ghost use Rattle.sv_rules.specs.Entries.{next_place};
-ghost use Rattle.sv_rules.specs.Work.{is_auxiliary, work_of};
+ghost use Rattle.aux_parties.specs.Auxiliaries.{is_auxiliary};
+ghost use Rattle.sv_rules.specs.Work.{work_of};
 ghost use Rattle.aplsv_replay.specs.Serving.{MakesWork, TookTurn};
 ghost use Rattle.aplsv_replay.specs.SoFar.{GrowsBy, HasAnswered, IsIdleIf, IsServed};
 

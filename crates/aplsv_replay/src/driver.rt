@@ -1,5 +1,6 @@
 ghost use Rattle.std.specs.Prelude.{◌≡◌, ◌+◌, ◌≤◌, ◌++◌, length, map, vec_capacity, vec_len};
 ghost use Rattle.apl_arrays.specs.Ascending.{AscendBy};
+ghost use Rattle.apl_io.specs.Content.{KeepsPlaces};
 ghost use Rattle.apl_session.specs.Ended.{IfWhole};
 ghost use Rattle.aplsv_replay.specs.Replayed.{IsDeviceRun, IsRunInTurns};
 ghost use Rattle.aplsv_replay.specs.Endings.{ComesOf, IsEnded};
@@ -11,24 +12,26 @@ use crate::parties::Parties;
 use crate::start::{core_of, fill, room_for};
 use apl_io::{Clock, Devices, Shelf, TextStore};
 use apl_session::{Ended, Outcome, RunOf};
+use aux_parties::{CLOCK_PARTY, TEXT_PARTY};
 use auxiliaries::{ClockAux, Replier, TextAux};
 use bundle_text::{Bundle, BundleParts};
 use std::alloc::Global;
-use sv_rules::{CLOCK_PARTY, TEXT_PARTY};
 
 /// Runs a bundle on one thread over a text store, a clock, and a shelf for each user: first the turns of the order, then
 /// rounds over 10, 20 and the users, ascending, until all users have left. The k-th user takes the k-th shelf, and all come
 /// back in their order. A command calls its user's shelf with that user's number; what the shelves were asked and answered are
-/// the dealings of the run. No more rounds are taken than the journal may have entries and the users have lines and leaves. It
-/// takes the memory of the run; where that runs out for a party, the run ends as `WantOfMemory` when all users have left.
+/// the dealings of the run. Where the files are and where the shelves are is said before: a run gives no place. No more rounds
+/// are taken than the journal may have entries and the users have lines and leaves. It takes the memory of the run; where
+/// that runs out for a party, the run ends as `WantOfMemory` when all users have left.
 pub fn replay<T: TextStore, C: Clock, K: Shelf>(
     alloc: Global,
     bundle: Bundle,
     devices: Devices<T, C, K>,
 ) -> Outcome<T, C, K>
     requires shelves { length bundle.users ≤ vec_len devices.shelves }
-    ensures { IfWhole result.ended (λ transcripts journal. IsDeviceRun C.told C.faults T.told T.faults K.told K.faults bundle journal transcripts devices.clock result.devices.clock devices.text result.devices.text
+    ensures run { IfWhole result.ended (λ transcripts journal. IsDeviceRun C.told C.faults T.told T.faults K.told K.faults bundle journal transcripts devices.clock result.devices.clock devices.text result.devices.text
         devices.shelves.items result.devices.shelves.items) }
+    ensures places { IfWhole result.ended (λ transcripts journal. KeepsPlaces (T.told devices.text) (T.told result.devices.text)) }
 {
     let Devices {
         text,

@@ -1,22 +1,21 @@
-ghost use Rattle.std.specs.Prelude.{◌≡◌, ◌==◌, ◌<◌, ◌||◌, ◌∷◌, [], List, All, IsTrue, false, not, true};
+ghost use Rattle.std.specs.Prelude.{◌≡◌, ◌<◌, ◌||◌, ◌∷◌, [], List, All, IsTrue, false, not};
 ghost use Rattle.apl_arrays.specs.Ascending.{AscendBy};
-ghost use Rattle.apl_arrays.specs.Parties.{clock_party, text_party};
 ghost use Rattle.sv_core.specs.Core.{ArePeople};
 ghost use Rattle.sv_rules.specs.Legal.{is_user};
 ghost use Rattle.session_rules.specs.Auxiliaries.{some_stay};
 ghost use Rattle.aplsv_replay.specs.SeatTurns.{AreSeatTurns, AreSeated, IsOneSeated, IsSeatTurn, is_due, seat_numbers};
 ghost use Rattle.aplsv_replay.specs.Sittings.{Sitting, seats_in};
 ghost use Rattle.aplsv_replay.specs.SoFar.{IsSeated};
-ghost use Rattle.aplsv_replay.specs.Together.{AreOfSomeBundle, LeavesLess, TakesRounds, TakesTurns, left_to_do, none_is_lost};
-ghost use Rattle.replay_rules.specs.Turns.{ordered, party_turn, round, turn_of_ten, turn_of_twenty};
+ghost use Rattle.aplsv_replay.specs.Together.{AreOfSomeBundle, TakesRounds, TakesTurns, TookAuxiliaryTurn, left_to_do, none_is_lost};
+ghost use Rattle.replay_rules.specs.Turns.{ordered, party_turn, round};
 
 use crate::auxiliary::Auxiliary;
 use crate::ending::none_is_lost;
 use crate::seat::Seat;
 use apl_io::Shelf;
+use aux_parties::{AuxiliaryKind, auxiliary_at};
 use auxiliaries::Replier;
 use sv_core::Core;
-use sv_rules::{CLOCK_PARTY, TEXT_PARTY};
 
 /// The parties of a run around its processor: the auxiliaries 10 and 20, and the users, ascending.
 #[derive(Drop)]
@@ -57,15 +56,15 @@ impl<X: Replier, Y: Replier, K: Shelf> Parties<X, Y, K> {
         !self.ten.is_lost() && !self.twenty.is_lost() && none_is_lost(&self.seats)
     }
 
-    // One round.
+    // One round: over the auxiliaries, as their table has them, and the users.
     fn take_round(&mut self)
         requires together { AreOfSomeBundle X.forgets X.replies Y.forgets Y.replies K.told K.faults self.old }
         requires stay { IsTrue (some_stay self.old.core.users self.old.core.journal) }
         ensures turns { TakesTurns X.forgets X.replies Y.forgets Y.replies K.told K.faults round self.old self.new }
         ensures less { left_to_do self.new < left_to_do self.old }
     {
-        self.turn_of_ten();
-        self.turn_of_twenty();
+        self.turn_of(AuxiliaryKind::Clock);
+        self.turn_of(AuxiliaryKind::TextFiles);
         self.user_turns(None);
     }
 
@@ -86,38 +85,22 @@ impl<X: Replier, Y: Replier, K: Shelf> Parties<X, Y, K> {
         requires stay { IsTrue (some_stay self.old.core.users self.old.core.journal) }
         ensures { TakesTurns X.forgets X.replies Y.forgets Y.replies K.told K.faults (party_turn party) self.old self.new }
     {
-        if is_clock(party) {
-            self.turn_of_ten();
-            return;
+        match auxiliary_at(party) {
+            None => self.user_turns(Some(party)),
+            Some(row) => self.turn_of(row.kind),
         }
-        if is_text(party) {
-            self.turn_of_twenty();
-            return;
-        }
-        self.user_turns(Some(party));
     }
 
-    // The turn of 10.
-    fn turn_of_ten(&mut self)
+    // The turn of an auxiliary.
+    fn turn_of(&mut self, kind: AuxiliaryKind)
         requires together { AreOfSomeBundle X.forgets X.replies Y.forgets Y.replies K.told K.faults self.old }
         requires stay { IsTrue (some_stay self.old.core.users self.old.core.journal) }
-        ensures stay { IsTrue (some_stay self.new.core.users self.new.core.journal) }
-        ensures turn { TakesTurns X.forgets X.replies Y.forgets Y.replies K.told K.faults turn_of_ten self.old self.new }
-        ensures less { LeavesLess clock_party self.new.ten.is_lost self.old self.new }
+        ensures { TookAuxiliaryTurn X.forgets X.replies Y.forgets Y.replies K.told K.faults kind self.old self.new }
     {
-        self.ten.take_turn(&mut self.core);
-    }
-
-    // The turn of 20.
-    fn turn_of_twenty(&mut self)
-        requires together { AreOfSomeBundle X.forgets X.replies Y.forgets Y.replies K.told K.faults self.old }
-        requires stay { IsTrue (some_stay self.old.core.users self.old.core.journal) }
-        ensures stay { IsTrue (some_stay self.new.core.users self.new.core.journal) }
-        ensures turn { TakesTurns X.forgets X.replies Y.forgets Y.replies K.told K.faults turn_of_twenty self.old self.new }
-        ensures same { self.new.ten ≡ self.old.ten }
-        ensures less { LeavesLess text_party self.new.twenty.is_lost self.old self.new }
-    {
-        self.twenty.take_turn(&mut self.core);
+        match kind {
+            AuxiliaryKind::Clock => self.ten.take_turn(&mut self.core),
+            AuxiliaryKind::TextFiles => self.twenty.take_turn(&mut self.core),
+        }
     }
 
     // A turn for each user, in their order, or for the one with this number alone. Each user leaves at its turn where memory
@@ -148,20 +131,6 @@ impl<X: Replier, Y: Replier, K: Shelf> Parties<X, Y, K> {
             .iter()
             .all(|seat| self.core.has_left(seat.user()))
     }
-}
-
-// Whether a party is the clock.
-fn is_clock(party: u32) -> bool
-    ensures { result ≡ (party == clock_party) }
-{
-    party == CLOCK_PARTY
-}
-
-// Whether a party is the text files.
-fn is_text(party: u32) -> bool
-    ensures { result ≡ (party == text_party) }
-{
-    party == TEXT_PARTY
 }
 
 // The turns of those users that are due, in their order: of each, or of the one with this number.

@@ -1,6 +1,8 @@
 -- Two replays of one bundle go on side by side.
 use Rattle.std.proofs.Common.{◌≡◌, ◌≢◌, ℕ, zero, suc, Bool, true, false, List, [], ◌∷◌, ◌++◌, Option, Some, None, refl, sym, ap, ap₂, subst, ◌∙◌}
+use Rattle.std.specs.List.{AllByRecursion}
 use Rattle.std.specs.Prelude.{◌==◌, if◌then◌else◌}
+use Rattle.std.proofs.lemmas.Bool.{eqb-true}
 use Rattle.std.specs.Option.{option_map_or}
 use Rattle.apl_arrays.specs.Array.{PlainArray}
 use Rattle.apl_arrays.specs.Parties.{clock_party, text_party}
@@ -10,11 +12,16 @@ use Rattle.sv_rules.specs.Entries.{Entries, has_left, is_held, kind_of}
 use Rattle.sv_rules.specs.Legal.{answer_to, retried}
 use Rattle.sv_rules.specs.Refused.{waits}
 use Rattle.sv_rules.specs.Work.{work_of}
+use Rattle.aux_parties.specs.Auxiliaries.{auxiliaries, is_auxiliary, party_of}
+use Rattle.aux_parties.specs.declared.auxiliary.AuxiliaryKind.{AuxiliaryKind}
+use Rattle.aux_parties.specs.declared.auxiliary.AuxiliaryKind.TheVariants.{Clock, TextFiles}
+use Rattle.aux_parties.specs.declared.auxiliary.AuxiliaryRow.{AuxiliaryRow}
+use Rattle.aux_parties.proofs.TableLemmas.{kind_of_party, of_rows}
 use Rattle.session_rules.specs.Auxiliaries.{some_stay}
 use Rattle.session_rules.specs.Course.{Course}
 use Rattle.session_rules.specs.Session.{session_of}
 use Rattle.session_rules.specs.Shelf.{Call, Exchange, Reply}
-use Rattle.replay_rules.specs.Turns.{HasReplies, Participant, Replay, Turn, act_made, given, goes_on, numbers_of, ordered, party_turn, round, rounds, served, turn, turn_by, turn_of_ten, turn_of_twenty, turns_where, user_turns}
+use Rattle.replay_rules.specs.Turns.{HasReplies, Participant, Replay, Turn, act_made, auxiliary_turn, auxiliary_turns, given, goes_on, numbers_of, ordered, party_turn, round, rounds, served, turn, turn_by, turns_where, user_turns}
 use Rattle.aplsv_top.proofs.Determined.{Answers, IsDetermined, older_answers}
 use Rattle.aplsv_top.proofs.Heard.{AreApart, AreApartFrom, AreHeard, all_heard_beside, heard_turns}
 use Rattle.aplsv_top.proofs.Older.{AreLater, IsLater, IsOlder, adds_served, all_later_still, later_turn, later_turns, left_before, none_later, older_by, older_turns, same_numbers, turn_if}
@@ -68,6 +75,13 @@ level_by : (left : Bool) (next : Option Act) (numbers : List ℕ) (journal : Ent
 level_by true next numbers journal user replies = record { journal = refl; user = record { replies = replies; same = refl } }
 level_by false None numbers journal user replies = record { journal = refl; user = record { replies = replies; same = refl } }
 level_by false (Some made) numbers journal user replies = level_made (waits journal user.number) numbers journal user replies made
+
+-- where replies are left after an auxiliary's turn, some were left before, of each auxiliary
+left_before_turn : (a : Replay) (party other : ℕ) → (auxiliary_turn party a).replies other ≢ [] → a.replies other ≢ []
+left_before_turn a party other left = by (other == party) refl left where
+  by : (own : Bool) → (other == party) ≡ own → (if own then (served a.journal party (a.replies party)).replies else a.replies other) ≢ [] → a.replies other ≢ []
+  by true is some = subst (λ (number : ℕ). a.replies number ≢ []) (sym (eqb-true other party is)) (left_before a.journal party (a.replies party) (work_of a.journal party) some)
+  by false is some = some
 
 module _ {P : Type 0} (Fits : P → ℕ → List Exchange → Type 0) (older : (place : P) (user : ℕ) (more earlier : List Exchange) → Fits place user (more ++ earlier) → Fits place user earlier)
     (one_reply : (place : P) (user : ℕ) (call : Call) (reply other : Reply) (earlier : List Exchange) → Fits place user (record { call = call; reply = reply } ∷ earlier) → Fits place user (record { call = call; reply = other } ∷ earlier) → reply ≡ other) where
@@ -155,11 +169,11 @@ module _ {P : Type 0} (Fits : P → ℕ → List Exchange → Type 0) (older : (
       pub fits : AreFitting places a.users
 
     -- so it was before
-    replied_before : (a b : Replay) → IsOlder a.journal b.journal → (b.ten ≢ [] → a.ten ≢ []) → (b.twenty ≢ [] → a.twenty ≢ []) → AreLater a.users b.users → IsRepliedTo b → IsRepliedTo a
-    replied_before a b older ten_left twenty_left later h = record {
+    replied_before : (a b : Replay) → IsOlder a.journal b.journal → ((kind : AuxiliaryKind) → b.replies (party_of kind) ≢ [] → a.replies (party_of kind) ≢ []) → AreLater a.users b.users → IsRepliedTo b → IsRepliedTo a
+    replied_before a b older left later h = record {
       ten_answers = older_answers forgets_ten replies_ten BeginsTen clock_party older.more a.journal (subst (Answers forgets_ten replies_ten BeginsTen clock_party) older.same h.ten_answers);
       twenty_answers = older_answers forgets_twenty replies_twenty BeginsTwenty text_party older.more a.journal (subst (Answers forgets_twenty replies_twenty BeginsTwenty text_party) older.same h.twenty_answers);
-      left = record { ten = ten_left h.left.ten; twenty = twenty_left h.left.twenty };
+      left = λ kind. left kind (h.left kind);
       fits = all_fitted_before places a.users b.users later h.fits;
     }
 
@@ -203,48 +217,57 @@ module _ {P : Type 0} (Fits : P → ℕ → List Exchange → Type 0) (older : (
       heard = λ a. (tame_by (goes_on a) turns (λ a. a) f tame_none).heard a;
     }
 
-    tame_ten : AreTame turn_of_ten
+    tame_ten : AreTame (auxiliary_turn clock_party)
     tame_ten = record {
       before = λ a h.
-          replied_before a (turn_of_ten a) (older_by clock_party a.journal (turn_of_ten a).journal (adds_served a.journal clock_party a.ten (work_of a.journal clock_party)))
-          (left_before a.journal clock_party a.ten (work_of a.journal clock_party)) (λ left. left) (none_later a.users) h;
+          replied_before a ((auxiliary_turn clock_party) a) (older_by clock_party a.journal ((auxiliary_turn clock_party) a).journal (adds_served a.journal clock_party (a.replies clock_party) (work_of a.journal clock_party)))
+          (λ kind. left_before_turn a clock_party (party_of kind)) (none_later a.users) h;
       level = λ a b level h k.
-          let there : Answers forgets_ten replies_ten BeginsTen clock_party (served a.journal clock_party b.ten).journal =
-          subst (λ (journal : Entries). Answers forgets_ten replies_ten BeginsTen clock_party (served journal clock_party b.ten).journal) (sym level.journal) k.ten_answers in
-          let some : b.ten ≢ [] = left_before b.journal clock_party b.ten (work_of b.journal clock_party) k.left.ten in
+          let there : Answers forgets_ten replies_ten BeginsTen clock_party (served a.journal clock_party (b.replies clock_party)).journal =
+          subst (λ (journal : Entries). Answers forgets_ten replies_ten BeginsTen clock_party (served journal clock_party (b.replies clock_party)).journal) (sym level.journal) k.ten_answers in
+          let some : b.replies clock_party ≢ [] = left_before_turn b clock_party clock_party (k.left Clock) in
           record {
-            journal = same_served forgets_ten replies_ten BeginsTen AlikeTen one_ten clock_party a.journal a.ten b.ten (work_of a.journal clock_party) refl
-                (left_before a.journal clock_party a.ten (work_of a.journal clock_party) h.left.ten) some h.ten_answers there
-                ∙ ap (λ (journal : Entries). (served journal clock_party b.ten).journal) level.journal;
+            journal = same_served forgets_ten replies_ten BeginsTen AlikeTen one_ten clock_party a.journal (a.replies clock_party) (b.replies clock_party) (work_of a.journal clock_party) refl
+                (left_before_turn a clock_party clock_party (h.left Clock)) some h.ten_answers there
+                ∙ ap (λ (journal : Entries). (served journal clock_party (b.replies clock_party)).journal) level.journal;
             users = level.users;
           };
       later = λ a. none_later a.users;
-      heard = λ a people h. all_heard_beside clock_party a.journal (turn_of_ten a).journal a.users (adds_served a.journal clock_party a.ten (work_of a.journal clock_party)) people.0 h;
+      heard = λ a people h. all_heard_beside clock_party a.journal ((auxiliary_turn clock_party) a).journal a.users (adds_served a.journal clock_party (a.replies clock_party) (work_of a.journal clock_party)) people.0 h;
     }
 
-    tame_twenty : AreTame turn_of_twenty
+    tame_twenty : AreTame (auxiliary_turn text_party)
     tame_twenty = record {
       before = λ a h.
-          replied_before a (turn_of_twenty a) (older_by text_party a.journal (turn_of_twenty a).journal (adds_served a.journal text_party a.twenty (work_of a.journal text_party))) (λ left. left)
-          (left_before a.journal text_party a.twenty (work_of a.journal text_party)) (none_later a.users) h;
+          replied_before a ((auxiliary_turn text_party) a) (older_by text_party a.journal ((auxiliary_turn text_party) a).journal (adds_served a.journal text_party (a.replies text_party) (work_of a.journal text_party)))
+          (λ kind. left_before_turn a text_party (party_of kind)) (none_later a.users) h;
       level = λ a b level h k.
-          let there : Answers forgets_twenty replies_twenty BeginsTwenty text_party (served a.journal text_party b.twenty).journal =
-          subst (λ (journal : Entries). Answers forgets_twenty replies_twenty BeginsTwenty text_party (served journal text_party b.twenty).journal) (sym level.journal) k.twenty_answers in
-          let some : b.twenty ≢ [] = left_before b.journal text_party b.twenty (work_of b.journal text_party) k.left.twenty in
+          let there : Answers forgets_twenty replies_twenty BeginsTwenty text_party (served a.journal text_party (b.replies text_party)).journal =
+          subst (λ (journal : Entries). Answers forgets_twenty replies_twenty BeginsTwenty text_party (served journal text_party (b.replies text_party)).journal) (sym level.journal) k.twenty_answers in
+          let some : b.replies text_party ≢ [] = left_before_turn b text_party text_party (k.left TextFiles) in
           record {
-            journal = same_served forgets_twenty replies_twenty BeginsTwenty AlikeTwenty one_twenty text_party a.journal a.twenty b.twenty (work_of a.journal text_party) refl
-                (left_before a.journal text_party a.twenty (work_of a.journal text_party) h.left.twenty) some h.twenty_answers there
-                ∙ ap (λ (journal : Entries). (served journal text_party b.twenty).journal) level.journal;
+            journal = same_served forgets_twenty replies_twenty BeginsTwenty AlikeTwenty one_twenty text_party a.journal (a.replies text_party) (b.replies text_party) (work_of a.journal text_party) refl
+                (left_before_turn a text_party text_party (h.left TextFiles)) some h.twenty_answers there
+                ∙ ap (λ (journal : Entries). (served journal text_party (b.replies text_party)).journal) level.journal;
             users = level.users;
           };
       later = λ a. none_later a.users;
-      heard = λ a people h. all_heard_beside text_party a.journal (turn_of_twenty a).journal a.users (adds_served a.journal text_party a.twenty (work_of a.journal text_party)) people.1.0 h;
+      heard = λ a people h. all_heard_beside text_party a.journal ((auxiliary_turn text_party) a).journal a.users (adds_served a.journal text_party (a.replies text_party) (work_of a.journal text_party)) people.1.0 h;
     }
+
+    tame_auxiliary : (kind : AuxiliaryKind) → AreTame (auxiliary_turn (party_of kind))
+    tame_auxiliary Clock = tame_ten
+    tame_auxiliary TextFiles = tame_twenty
+
+    -- turns of some auxiliaries, one after another
+    tame_turns : (rows : List AuxiliaryRow) → AllByRecursion (λ (row : AuxiliaryRow). AreTame (auxiliary_turn row.party)) rows → AreTame (auxiliary_turns rows)
+    tame_turns [] each = tame_none
+    tame_turns (row ∷ rows) each = tame_then (auxiliary_turn row.party) (auxiliary_turns rows) each.0 (tame_turns rows each.1)
 
     tame_users : (test : Participant → Bool) → IsBlind test → AreTame (user_turns test)
     tame_users test blind = record {
       before = λ a h.
-          replied_before a (user_turns test a) (older_turns test (numbers_of a.users) a.journal a.users) (λ left. left) (λ left. left) (later_turns test (numbers_of a.users) a.journal a.users) h;
+          replied_before a (user_turns test a) (older_turns test (numbers_of a.users) a.journal a.users) (λ kind left. left) (later_turns test (numbers_of a.users) a.journal a.users) h;
       level = λ a b level h k.
           let same : numbers_of b.users ≡ numbers_of a.users = sym (numbers_level a.users b.users level.users) in
           let there : AreFitting places (turns_where test (numbers_of a.users) b.journal b.users).users = subst (λ (numbers : List ℕ). AreFitting places (turns_where test numbers b.journal b.users).users) same k.fits in
@@ -258,16 +281,22 @@ module _ {P : Type 0} (Fits : P → ℕ → List Exchange → Type 0) (older : (
     }
 
     tame_party : (party : ℕ) → AreTame (party_turn party)
-    tame_party party =
-        tame_by (party == clock_party) turn_of_ten (λ a. if party == text_party then turn_of_twenty a else user_turns (λ user. user.number == party) a)
-        tame_ten (tame_by (party == text_party) turn_of_twenty (user_turns (λ user. user.number == party)) tame_twenty (tame_users (λ user. user.number == party) (λ user replies. refl)))
+    tame_party party = by (is_auxiliary party) refl where
+      by : (auxiliary : Bool) → is_auxiliary party ≡ auxiliary → AreTame (λ a. if auxiliary then auxiliary_turn party a else user_turns (λ user. user.number == party) a)
+      by true is =
+          let own = kind_of_party party is in
+          let tame : AreTame (auxiliary_turn party) = subst (λ (number : ℕ). AreTame (auxiliary_turn number)) own.1 (tame_auxiliary own.0) in
+          record { before = tame.before; level = tame.level; later = tame.later; heard = tame.heard }
+      by false is =
+          let tame : AreTame (user_turns (λ user. user.number == party)) = tame_users (λ user. user.number == party) (λ user replies. refl) in
+          record { before = tame.before; level = tame.level; later = tame.later; heard = tame.heard }
 
     tame_ordered : (order : List ℕ) → AreTame (ordered order)
     tame_ordered [] = tame_none
     tame_ordered (party ∷ order) = tame_then (λ a. if goes_on a then party_turn party a else a) (ordered order) (tame_while (party_turn party) (tame_party party)) (tame_ordered order)
 
     tame_round : AreTame round
-    tame_round = tame_then (λ a. turn_of_twenty (turn_of_ten a)) (user_turns (λ user. true)) (tame_then turn_of_ten turn_of_twenty tame_ten tame_twenty) (tame_users (λ user. true) (λ user replies. refl))
+    tame_round = tame_then (auxiliary_turns auxiliaries) (user_turns (λ user. true)) (tame_turns auxiliaries (of_rows (λ (party : ℕ). AreTame (auxiliary_turn party)) tame_auxiliary)) (tame_users (λ user. true) (λ user replies. refl))
 
     tame_rounds : (count : ℕ) → AreTame (rounds count)
     tame_rounds zero = tame_none

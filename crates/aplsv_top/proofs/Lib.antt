@@ -15,6 +15,7 @@ pub mod OneReply
 pub mod OneRun
 pub mod Over
 pub mod Placed
+pub mod Placing
 pub mod Printing
 pub mod ReplyWork
 pub mod Sessions

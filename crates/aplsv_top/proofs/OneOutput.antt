@@ -10,6 +10,7 @@ use Rattle.apl_io.specs.Content.{Told, by_user_and_name}
 use Rattle.apl_io.specs.Kept.{Keeper, Timer, file_entry, new_keeper}
 use Rattle.bundle_text.specs.Bundle.{BundleText, IsBundle, PlainBundle}
 use Rattle.sv_journal.specs.Output.{output_text}
+use Rattle.aux_parties.specs.declared.auxiliary.AuxiliaryKind.TheVariants.{TextFiles}
 use Rattle.session_rules.specs.RunLaws.{PartsMakeOneTranscript}
 use Rattle.aplsv_top.specs.Headline.{IsOutputOf, clock_of, shelves_of, text_of}
 use Rattle.aplsv_top.specs.OutputLaws.{BundlesHaveOneOutput, LeavesNoneUntold}
@@ -54,7 +55,7 @@ module _ (one_text : OneText) (one_transcript : PartsMakeOneTranscript) (bundle 
       → LeavesNoneUntold readings_of clock_faults told_by keeper_faults told_by keeper_faults bundle out.journal out.transcripts (clock_of bundle) out.clock (text_of bundle) out.files (shelves_of bundle) out.shelves out.run
   none_untold text out = record {
     readings = refl;
-    files = files_sound told_by keeper_faults _ _ _ out.run.run.run.twenty_part.answers (files_told bundle);
+    files = files_sound told_by keeper_faults _ _ _ (out.run.run.run.parts TextFiles).answers (files_told bundle);
     saved = shelves_sound told_by keeper_faults empty_shelf shelf_told out.run.run.dealings bundle.users out.shelves out.run.run.run.shelves_served;
   }
 

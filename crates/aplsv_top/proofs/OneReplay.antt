@@ -16,6 +16,7 @@ use Rattle.bundle_text.specs.Rules.{IsUser}
 use Rattle.bundle_text.specs.User.{PlainUser}
 use Rattle.sv_journal.specs.Output.{PlainTranscript, output_text}
 use Rattle.sv_rules.specs.Entries.{Entries}
+use Rattle.aux_parties.specs.declared.auxiliary.AuxiliaryKind.TheVariants.{Clock, TextFiles}
 use Rattle.session_rules.specs.Run.{AreUserParts, Dealings, ServeUsers}
 use Rattle.session_rules.specs.RunLaws.{PartsMakeOneTranscript}
 use Rattle.replay_rules.specs.Turns.{newcomer, numbers_of, ordered, rounds}
@@ -102,8 +103,8 @@ module _ (one_text : OneText) {C T K : Type 0} (ticks : C → Option Ticks) (clo
     replied : Replied run.run.dealings journal
     replied = record {
       turns = run.run.turns.turns;
-      ten_answers = (clock, ticking, (clock_then, run.run.run.ten_part.answers));
-      twenty_answers = (record { store = text; state = idle }, record { tells = telling; state = refl }, (record { store = text_then; state = run.state }, known_run one_text text_told text_faults _ _ _ run.run.run.twenty_part.answers none.files));
+      ten_answers = (clock, ticking, (clock_then, (run.run.run.parts Clock).answers));
+      twenty_answers = (record { store = text; state = idle }, record { tells = telling; state = refl }, (record { store = text_then; state = run.state }, known_run one_text text_told text_faults _ _ _ (run.run.run.parts TextFiles).answers none.files));
       fits = fit_at_end (FitShelf told faults) (fit_earlier told faults) (fit_one told faults) run.run.dealings journal places bundle.users
           (users_left bundle run.run.dealings journal run.run.turns.turns) transcripts
           ((turns_tame run.run.turns.turns.count).later (before_turns bundle run.run.dealings journal run.run.turns.turns))
@@ -117,7 +118,7 @@ pub one_replay : OneText → PartsMakeOneTranscript → {C T K : Type 0} (ticks 
     → ReplaysAreDetermined ticks clock_faults text_told text_faults told faults
 one_replay one_text one_transcript ticks clock_faults text_told text_faults told faults bundle journal other transcripts others clock clock_then another another_then text text_then files files_then shelves shelves_then racks racks_then rules run rerun none also ticking telling same =
     let readings = some_of (ticks clock) none.readings in
-    let content = some_and (text_told text) (λ now. (key : List ℕ) → entry_of name_order now key ≢ Some None) (holds_at_start one_text text_told text_faults _ _ _ run.run.run.twenty_part.answers none.files) in
+    let content = some_and (text_told text) (λ now. (key : List ℕ) → entry_of name_order now key ≢ Some None) (holds_at_start one_text text_told text_faults _ _ _ (run.run.run.parts TextFiles).answers none.files) in
     let first = replied one_text ticks clock_faults text_told text_faults told faults bundle rules readings.0 content.0 shelves journal transcripts clock clock_then text text_then shelves shelves_then run none readings.1 content.1 refl in
     let second = replied one_text ticks clock_faults text_told text_faults told faults bundle rules readings.0 content.0 shelves other others another another_then files files_then racks racks_then rerun also (sym ticking ∙ readings.1) (sym telling ∙ content.1) (sym same) in
     let one : journal ≡ other = one_journal (FitShelf told faults) (fit_earlier told faults) (fit_one told faults)

@@ -31,7 +31,7 @@ level_newcomers dealings others (user ∷ users) = (record { replies = replies_i
 
 -- the replay of a bundle's turns with these dealings, before its first turn, and after so many rounds
 abbrev pub before_turns : (bundle : PlainBundle) (dealings : Dealings) (journal : Entries) → IsJournalOfTurns bundle dealings journal → Replay
-before_turns bundle dealings journal turns = beginning bundle dealings turns.ten turns.twenty
+before_turns bundle dealings journal turns = beginning bundle dealings turns.replies
 
 abbrev pub after_rounds : (bundle : PlainBundle) (dealings : Dealings) (journal : Entries) → IsJournalOfTurns bundle dealings journal → ℕ → Replay
 after_rounds bundle dealings journal turns count = rounds count (ordered bundle.order (before_turns bundle dealings journal turns))

@@ -1,8 +1,8 @@
 -- What the program promises of the bytes that it reads and writes.
-use Rattle.std.specs.Prelude.{◌≡◌, ◌≤◌, ℕ, Bool, true, false, List, [], ◌∷◌, None, Option, Some, drop, length, map, reverse}
+use Rattle.std.specs.Prelude.{◌≡◌, ◌≤◌, ℕ, Bool, true, false, List, [], ◌∷◌, None, Option, Some, drop, length, map, option_map, reverse, take}
 use Rattle.std.specs.Io.KnownBytes.{Appends}
 use Rattle.apl_io.specs.Clock.{Ticks}
-use Rattle.apl_io.specs.Content.{Told}
+use Rattle.apl_io.specs.Content.{Told, placed}
 use Rattle.apl_io.specs.Kept.{Keeper, Timer, file_entry, new_keeper}
 use Rattle.apl_io.specs.Whole.{ReadsAll, AppendsPrefix}
 use Rattle.sv_rules.specs.Entries.{Entries}
@@ -77,9 +77,9 @@ abbrev pub OverClock : {C : Type 0} → (C → Option Ticks) → (C → ℕ) →
 OverClock {C} ticks faults true bundle clock clock_then Holds = Holds C ticks faults clock clock_then
 OverClock ticks faults false bundle clock clock_then Holds = (readings : Timer) × Holds Timer (λ c. Some c.told) (λ c. c.faults) (clock_of bundle) readings
 
--- a store that was handed in was told this place: it keeps what it kept, and its count of faults did not fall
+-- a store that was handed in was told this place, once and no other: it keeps what it kept, and its count of faults did not fall
 abbrev pub IsPlaced : {T : Type 0} → (T → Option (Told (List ℕ))) → (T → ℕ) → List ℕ → T → T → Type 0
-IsPlaced told faults place before now = (told now ≡ told before) × (faults before ≤ faults now)
+IsPlaced told faults place before now = (told now ≡ option_map (placed place) (told before)) × (faults before ≤ faults now)
 
 -- it holds of the text store that was handed in, at its place, where that is named, and else of one of the bundle's files
 abbrev pub OverText : {T : Type 0} → (T → Option (Told (List ℕ))) → (T → ℕ) → Option (List ℕ) → PlainBundle → T → T → SaidOfText → Type 0
@@ -92,9 +92,9 @@ NoneFell faults [] now = Unit {0}
 NoneFell faults (shelf ∷ before) [] = Unit {0}
 NoneFell faults (shelf ∷ before) (shelf_now ∷ now) = (faults shelf ≤ faults shelf_now) × NoneFell faults before now
 
--- of the shelves that were handed in the first so many were told this place: each keeps what it kept, no count of faults fell, and the others are as they were
+-- of the shelves that were handed in the first so many were told this place, once and no other: each keeps what it kept, no count of faults fell, and the others are as they were
 pub record ArePlaced {K : Type 0} (told : K → Option (Told (ℕ × List ℕ))) (faults : K → ℕ) (place : List ℕ) (count : ℕ) (before now : List K) : Type 0 where
-  pub tell : map told now ≡ map told before
+  pub tell : map told (take count now) ≡ map (λ shelf. option_map (placed place) (told shelf)) (take count before)
   pub counted : NoneFell faults before now
   pub others : drop count now ≡ drop count before
 

@@ -11,6 +11,7 @@ use Rattle.bundle_text.specs.Bundle.{IsBundle, PlainBundle}
 use Rattle.bundle_text.specs.User.{PlainUser}
 use Rattle.sv_journal.specs.Output.{PlainTranscript}
 use Rattle.sv_rules.specs.Entries.{Entries}
+use Rattle.aux_parties.specs.declared.auxiliary.AuxiliaryKind.TheVariants.{TextFiles}
 use Rattle.sv_delivery_laws.specs.DeliveryLaws.{WhatControlGives}
 use Rattle.session_rules.specs.Run.{Dealings, ServeUsers}
 use Rattle.session_rules.specs.Shelf.{Exchange, IsShelfRun}
@@ -56,7 +57,7 @@ module _ {C T K : Type 0} (ticks : C → Option Ticks) (clock_faults : C → ℕ
       (run : IsDeviceRun ticks clock_faults text_told text_faults told faults bundle journal transcripts clock clock_then text text_then shelves shelves_then) : Type 0 where
     pub readings : IsSome (ticks clock)
     pub files : HoldsThroughout (λ old party new. new ≡ forgotten old) (λ old party value answer new. Replies text_told text_faults old value answer new) (λ served. TellsAll name_order (text_told served.store))
-        _ _ _ run.run.run.twenty_part.answers
+        _ _ _ (run.run.run.parts TextFiles).answers
     pub saved : AllTellThroughout told faults run.run.dealings bundle.users shelves shelves_then run.run.run.shelves_served
 
   -- two replays of a bundle over devices that tell the same at the start, and leave no entry untold, have one journal, and the same transcripts

@@ -48,6 +48,6 @@ module _ {T : Type 0} (told : T → Option (Told (List ℕ))) (faults : T → �
 abbrev pub forgotten : {T : Type 0} → Served T → Served T
 forgotten served = record { store = served.store; state = idle }
 
--- what a store tells is kept, though it may have had one call more
+-- what a store tells is kept, its places among it, though it may have had one call more
 abbrev pub KeepsFiles : Option (Told (List ℕ)) → Option (Told (List ℕ)) → Type 0
-KeepsFiles before now = IfSome before (λ old. IsSomeAnd now (λ new. (new.fails ≡ old.fails) × ((new.calls ≡ old.calls) ⊎ (new.calls ≡ one_more old.calls)) × ((name : List ℕ) → entry_of name_order new name ≡ entry_of name_order old name)))
+KeepsFiles before now = IfSome before (λ old. IsSomeAnd now (λ new. (new.places ≡ old.places) × (new.fails ≡ old.fails) × ((new.calls ≡ old.calls) ⊎ (new.calls ≡ one_more old.calls)) × ((name : List ℕ) → entry_of name_order new name ≡ entry_of name_order old name)))

@@ -1,14 +1,17 @@
 ghost use Rattle.std.specs.Prelude.{◌≡◌, ◌∷◌, [], ◌++◌, ℕ, List, codes, Err, Ok, None, Some};
 ghost use Rattle.std.specs.declared.option.Option.{Option};
 ghost use Rattle.apl_arrays.specs.Array.{PlainArray};
+ghost use Rattle.apl_io.specs.Content.{KeepsPlaces};
 ghost use Rattle.apl_io.specs.declared.store_error.StoreError.TheVariants.{Failed};
 ghost use Rattle.auxiliaries.specs.Command.{command_of, read, next, write, put, done, other};
 ghost use Rattle.auxiliaries.specs.File.{lines_in, IsText};
 ghost use Rattle.auxiliaries.specs.Run.{Event, began, answered, IsReplierRun};
 ghost use Rattle.auxiliaries.specs.Protocol.{step, answers, reads, replaces, refused, idle, reading, writing, code, vector, no_line, AfterRead, AfterReplace};
+ghost use Rattle.auxiliaries.specs.Served.{Served, Replies, forgotten};
 
 use crate::Replier;
 use apl_arrays::texts_are_read_in_one_way;
+use apl_io::TextStore;
 
 /// Commands as they are written: the word, one blank, and a name or a text, with nothing before or behind. The call does
 /// nothing.
@@ -69,4 +72,11 @@ pub fn runs_go_on<R: Replier + Drop>()
         → R.forgets before party after → IsReplierRun R.forgets R.replies start (began party ∷ events) after }
     ensures replies { (start before after : R) (events : List Event) (party : ℕ) (value answer : PlainArray) → IsReplierRun R.forgets R.replies start events before
         → R.replies before party value answer after → IsReplierRun R.forgets R.replies start (answered party value answer ∷ events) after }
+{}
+
+/// Files are asked for and replaced, and nothing else: the store of a text auxiliary is given no place. The call does
+/// nothing.
+pub fn runs_give_no_place<T: TextStore>()
+    ensures { (start end : Served T) (events : List Event) → IsReplierRun (λ old party new. new ≡ forgotten old) (λ old party value answer new. Replies T.told T.faults old value answer new) start events end
+        → KeepsPlaces (T.told start.store) (T.told end.store) }
 {}

@@ -12,8 +12,8 @@ mod text_state;
 
 pub use clock_aux::ClockAux;
 pub use laws::{
-    commands_as_written, files_are_read_in_one_way, lines_as_they_stand, runs_go_on,
-    session_as_worked,
+    commands_as_written, files_are_read_in_one_way, lines_as_they_stand, runs_give_no_place,
+    runs_go_on, session_as_worked,
 };
 pub use replier::Replier;
 pub use text_aux::TextAux;

@@ -8,7 +8,7 @@ use Rattle.bundle_text.specs.BundleLine.{IsLine, order, clock}
 use Rattle.bundle_text.specs.Draft.{PlainDraft, turns, readings, users_of, names_parties, keeps_limits, begun, with_line, bundle_of}
 use Rattle.bundle_text.specs.Heading.{kept}
 use Rattle.bundle_text.specs.Limits.{most_turns, most_readings}
-use Rattle.bundle_text.specs.Number.{capped, value_of}
+use Rattle.text_reader.specs.Numeral.{capped, value_of}
 use Rattle.bundle_text.specs.User.{PlainUser}
 use Rattle.bundle_text.proofs.Turns.{parties_kept, parties_small, kept_parties, kept_readings}
 

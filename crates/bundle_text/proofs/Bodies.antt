@@ -4,7 +4,7 @@ use Rattle.std.specs.List.{flat_map}
 use Rattle.std.proofs.lemmas.List.{map-append}
 use Rattle.std.proofs.lemmas.List.Concat.{flat_map-append}
 use Rattle.bundle_text.specs.BundleLine.{PlainLine, input, user, order, file, clock}
-use Rattle.bundle_text.specs.Number.{value_of}
+use Rattle.text_reader.specs.Numeral.{value_of}
 use Rattle.bundle_text.specs.Bundle.{Sheet, user_section, file_section}
 use Rattle.bundle_text.specs.User.{PlainUser}
 

@@ -19,7 +19,7 @@ use Rattle.bundle_text.specs.Rules.{PlainBundle, IsBundle, IsContent, IsUser, Is
 use Rattle.bundle_text.specs.BundleLine.{PlainLine, input, user, order, file, clock, end, IsLine}
 use Rattle.bundle_text.specs.Draft.{PlainDraft, PlainSection, start, of_user, turns, of_file, readings, ended, users_with, files_with, users_of, files_of, takes_content, takes_user, takes_turns, takes_file, is_ended, with_line, nothing_read, bundle_of}
 use Rattle.bundle_text.specs.Limits.{most_turns, most_files, most_readings}
-use Rattle.bundle_text.specs.Number.{value_of}
+use Rattle.text_reader.specs.Numeral.{value_of}
 use Rattle.bundle_text.specs.Bundle.{Page, Sheet, user_section, file_section, lines_of, file_of, said_by}
 use Rattle.bundle_text.specs.User.{PlainUser}
 use Rattle.bundle_text.proofs.Kept.{text_push}

@@ -1,144 +1,339 @@
--- Headings and their texts.
-use Rattle.std.proofs.Common.{◌≡◌, ◌≢◌, ℕ, ◌+◌, ◌<◌, ◌≤◌, ◌^◌, Bool, true, false, ◌&&◌, eqb, leb, List, [], ◌∷◌, ◌++◌, length, take, drop, codes, Option, Some, None, MatchOption, refl, sym, ap, ◌∙◌, subst, arith}
+-- Headings are read as they are written.
+use Rattle.std.proofs.Common.{◌≡◌, ◌≢◌, ℕ, zero, suc, ◌+◌, ◌<◌, ◌≤◌, ◌^◌, min, Bool, true, false, ◌&&◌, cond, leb, List, [], ◌∷◌, ◌++◌, length, codes, Option, Some, None, MatchOption, Result, Ok, Err, refl, sym, ap, ◌∙◌, subst, arith, append-nil, append_assoc}
 use Rattle.std.specs.Fmt.{decimal}
+use Rattle.std.specs.Prelude.{IfOk, nat_le}
 use Rattle.std.specs.List.{All, list_all}
-use Rattle.std.specs.Cmp.Lexicographic.{pointwise}
-use Rattle.std.proofs.lemmas.Bool.{false≢true}
+use Rattle.std.proofs.lemmas.Bool.{false≢true, leb-true}
 use Rattle.std.proofs.lemmas.Bool.Decides.{nat_tests}
-use Rattle.std.proofs.lemmas.List.{take-append-drop, append_cancel_left}
-use Rattle.std.proofs.lemmas.List.Folds.{list_all-append}
-use Rattle.std.proofs.lemmas.Slice.Eq.{bytes_eq-Decides}
-use Rattle.apl_arrays.specs.File.{IsFileName, is_file_byte}
-use Rattle.apl_arrays.specs.Glyph.{is_digit, line_utf8}
-use Rattle.line_text.specs.Lines.{heading, end_line}
-use Rattle.line_text.specs.Spaced.{is_plain, spaced}
-use Rattle.line_text.proofs.Ascii.{plain_utf8, heading_utf8, end_utf8}
+use Rattle.std.proofs.lemmas.List.Elements.{All-nil, All-cons, All-head, All-tail}
+use Rattle.apl_arrays.specs.File.{IsFileName, is_file_name}
+use Rattle.line_text.specs.Spaced.{spaced}
 use Rattle.line_text.proofs.Spans.{both}
+use Rattle.text_reader.specs.declared.unread.Unread.{Unread}
+use Rattle.text_reader.specs.declared.unread.Unread.TheVariants.{Left, WantOfMemory}
+use Rattle.text_reader.specs.Reading.{Reading, ◌>>=◌, IsLeft, Stops, as_read, begins_with, file_name_at, list_at, literal_at, read_behind}
+use Rattle.text_reader.specs.NumberReading.{number_at}
+use Rattle.text_reader.specs.Numeral.{is_numeral, value_of, capped, count_at}
+use Rattle.text_reader.proofs.Literals.{literal_is, literal_then}
+use Rattle.text_reader.proofs.NumberForms.{InRange, NoDigit, number_reads}
+use Rattle.text_reader.proofs.Numerals.{CountFound, count_found, count_reads}
+use Rattle.text_reader.proofs.Readers.{SameFirst, Reads, Found, again_by}
+use Rattle.text_reader.proofs.Told.{tell, first_told, second_told, bind_ok}
 use Rattle.bundle_text.specs.Rules.{IsUserNumber}
-use Rattle.bundle_text.specs.BundleLine.{PlainLine, input, user, order, file, clock, end, IsLine, IsTextOf, line_glyphs}
-use Rattle.bundle_text.specs.Heading.{IsHeading, IsHeadingText, IsNoHeading}
-use Rattle.bundle_text.specs.Number.{is_numeral}
-use Rattle.bundle_text.specs.Word.{AreNoNumbers, AreNoReadings}
-use Rattle.bundle_text.proofs.Texts.{numeral_digits, reading_numerals, name_bytes, first_glyph, tag}
+use Rattle.bundle_text.specs.BundleLine.{PlainLine, input, user, order, file, clock, end, IsLine, IsReadingText, line_glyphs}
+use Rattle.bundle_text.specs.Heading.{PlainHeading, user_heading, turns_heading, file_heading, readings_heading, end_heading, IsHeading, IsHeadingLine, IsNoHeading, IsSaidBy, kept, plain_heading}
+use Rattle.bundle_text.specs.HeadingReading.{next_count_at, counts_at, user_at, turns_at, file_at, readings_of, readings_at, end_at, later_heading_at, heading_at}
+use Rattle.bundle_text.specs.Limits.{greatest_reading}
+use Rattle.bundle_text.specs.declared.heading.Heading.{Heading}
+use Rattle.bundle_text.proofs.Texts.{no_digit_begins, reading_numerals, spaced_words, tails}
 
--- what stands behind a word
+-- ---- numbers, each behind a blank
 
-pub behind_word : (word line rest : List ℕ) → pointwise eqb (take (length word) line) word ≡ true → rest ≡ drop (length word) line → line ≡ word ++ rest
-behind_word word line rest same e =
-    let front = (bytes_eq-Decides (take (length word) line) word).0 same in
-    sym (take-append-drop (length word) line) ∙ (ap (λ (x : List ℕ). x ++ drop (length word) line) front ∙ ap (λ (x : List ℕ). word ++ x) (sym e))
+-- numbers by their digits, each behind a blank, up to what follows them
+record Listed (line numbers rest : List ℕ) : Type 0 where
+  words : List (List ℕ)
+  are : list_all is_numeral words ≡ true
+  kept_ : numbers ≡ kept words
+  whole : line ≡ tails words ++ rest
 
--- headings are ASCII
+-- a number behind a blank
+next_found : (line : List ℕ) (number : ℕ) (rest : List ℕ) → next_count_at line ≡ Ok (number, rest) → (after : List ℕ) × (line ≡ 32 ∷ after) × CountFound after number rest
+unfolding next_count_at
+next_found line number rest e =
+    let one = literal_then (literal_at (codes " ") line) count_at (number, rest) e in
+    (one.0, literal_is (codes " ") line one.0 one.1, count_found one.0 number rest one.2)
 
-digit_plain : (c : ℕ) → is_digit c ≡ true → is_plain c ≡ true
-digit_plain c e =
-    let parts = both (leb 48 c) (leb c 57) e in grind (arith, nat_tests)
+-- one more in front
+listed_more : (line after number_line numbers others rest : List ℕ) (number : ℕ) → line ≡ 32 ∷ after → CountFound after number number_line → number ∷ others ≡ numbers → Listed number_line others rest → Listed line numbers rest
+listed_more line after number_line numbers others rest number front found all listed = record {
+  words = found.word ∷ listed.words;
+  are = ap (λ b. b && list_all is_numeral listed.words) found.are ∙ listed.are;
+  kept_ = sym all ∙ (ap (λ n. n ∷ others) found.number_is ∙ ap (λ ns. capped (value_of found.word) ∷ ns) listed.kept_);
+  whole = front ∙ ap (λ (text : List ℕ). 32 ∷ text) (found.whole ∙ (ap (λ (text : List ℕ). found.word ++ text) listed.whole ∙ sym (append_assoc found.word (tails listed.words) rest)));
+}
 
-file_plain : (c : ℕ) → is_file_byte c ≡ true → is_plain c ≡ true
-file_plain c e = grind (arith, nat_tests)
+-- what is read as a list, where it goes on and where it ends
+listed_step : (most : ℕ) (line numbers rest : List ℕ)
+    → ((more others behind : List ℕ) → list_at (begins_with 32) next_count_at most more ≡ Ok (others, behind) → Listed more others behind) → (b : Bool)
+    → cond b (next_count_at line >>= λ first. read_behind (first.0 ∷ []) (list_at (begins_with 32) next_count_at most first.1)) (Ok ([], line)) ≡ Ok (numbers, rest) → Listed line numbers rest
+listed_step most line numbers rest inner true e =
+    let one = bind_ok (next_count_at line) (λ first. read_behind (first.0 ∷ []) (list_at (begins_with 32) next_count_at most first.1)) (numbers, rest) e in
+    let two = bind_ok (list_at (begins_with 32) next_count_at most one.0.1) (λ found. tell ((one.0.0 ∷ []) ++ found.0) found.1) (numbers, rest) one.2 in
+    let next = next_found line one.0.0 one.0.1 one.1 in
+    let all : one.0.0 ∷ two.0.0 ≡ numbers = first_told (one.0.0 ∷ two.0.0) two.0.1 numbers rest two.2 in
+    let last : two.0.1 ≡ rest = second_told (one.0.0 ∷ two.0.0) two.0.1 numbers rest two.2 in
+    listed_more line next.0 one.0.1 numbers two.0.0 rest one.0.0 next.1 next.2 all (subst (Listed one.0.1 two.0.0) last (inner one.0.1 two.0.0 two.0.1 two.1))
+listed_step most line numbers rest inner false e = record {
+  words = [];
+  are = refl;
+  kept_ = sym (first_told [] line numbers rest e);
+  whole = second_told [] line numbers rest e;
+}
 
-all_pass : (p q : ℕ → Bool) → ((n : ℕ) → p n ≡ true → q n ≡ true) → (xs : List ℕ) → list_all p xs ≡ true → list_all q xs ≡ true
-all_pass p q f [] e = refl
-all_pass p q f (x ∷ xs) e =
-    let parts = both (p x) (list_all p xs) e in rw (f x parts.0, all_pass p q f xs parts.1) refl
+listed : (most : ℕ) (line numbers rest : List ℕ) → list_at (begins_with 32) next_count_at most line ≡ Ok (numbers, rest) → Listed line numbers rest
+unfolding list_at
+listed zero line numbers rest e = record {
+  words = [];
+  are = refl;
+  kept_ = sym (first_told [] line numbers rest e);
+  whole = second_told [] line numbers rest e;
+}
+listed (suc most) line numbers rest e = listed_step most line numbers rest (listed most) (begins_with 32 line) e
 
-numeral_plain : (word : List ℕ) → is_numeral word ≡ true → list_all is_plain word ≡ true
-numeral_plain word e = all_pass is_digit is_plain digit_plain word (numeral_digits word e)
+-- what stands behind a blank and a word is shorter than they are
+shorter : (word rest : List ℕ) (most : ℕ) → length (32 ∷ (word ++ rest)) ≤ suc most → length rest ≤ most
+shorter [] rest most fits = omega (arith, fits)
+shorter (x ∷ word) rest most fits = shorter word rest most (omega (arith, fits))
 
-spaced_plain : (words : List (List ℕ)) → list_all is_numeral words ≡ true → list_all is_plain (spaced words) ≡ true
-spaced_plain [] e = refl
-spaced_plain (word ∷ []) e = numeral_plain word (both (is_numeral word) true e).0
-spaced_plain (word ∷ next ∷ words) e =
-    let parts = both (is_numeral word) (list_all is_numeral (next ∷ words)) e in
-    list_all-append is_plain word (32 ∷ spaced (next ∷ words)) ∙ rw (numeral_plain word parts.0, spaced_plain (next ∷ words) parts.1) refl
+-- and numbers behind blanks are read as a list
+reads_listed : (most : ℕ) (words : List (List ℕ)) → list_all is_numeral words ≡ true → length (tails words) ≤ most → list_at (begins_with 32) next_count_at most (tails words) ≡ Ok (kept words, [])
+unfolding list_at next_count_at
+reads_listed zero [] all fits = refl
+reads_listed (suc most) [] all fits = refl
+reads_listed zero (word ∷ words) all fits = absurd (omega (arith, fits))
+reads_listed (suc most) (word ∷ words) all fits =
+    let parts = both (is_numeral word) (list_all is_numeral words) all in
+    let fewer : length (tails words) ≤ most = shorter word (tails words) most fits in
+    let item : count_at (word ++ tails words) ≡ Ok (capped (value_of word), tails words) = count_reads word (tails words) parts.0 (no_digit_begins words) in
+    let inner = reads_listed most words parts.1 fewer in
+    ap (λ (read : Reading ℕ). read >>= λ first. read_behind (first.0 ∷ []) (list_at (begins_with 32) next_count_at most first.1)) item
+    ∙ ap (λ (read : Reading (List ℕ)). read_behind (capped (value_of word) ∷ []) read) inner
 
-pub order_text : (numbers : List (List ℕ)) → IsLine (order numbers) → line_utf8 (line_glyphs (order numbers)) ≡ codes "order " ++ spaced numbers
-order_text [] form = absurd (omega (arith, form.0))
-order_text (first ∷ rest) form =
-    plain_utf8 (codes "order " ++ spaced (first ∷ rest)) (list_all-append is_plain (codes "order ") (spaced (first ∷ rest)) ∙ rw (spaced_plain (first ∷ rest) form.1) refl)
+-- ---- one number at least, with one blank between each two
 
-pub clock_text : (numbers : List (List ℕ)) → IsLine (clock numbers) → line_utf8 (line_glyphs (clock numbers)) ≡ codes "clock " ++ spaced numbers
-clock_text [] form = absurd (omega (arith, form.0))
-clock_text (first ∷ rest) form =
-    plain_utf8 (codes "clock " ++ spaced (first ∷ rest)) (list_all-append is_plain (codes "clock ") (spaced (first ∷ rest)) ∙ rw (spaced_plain (first ∷ rest) (reading_numerals (first ∷ rest) form.1)) refl)
+-- numbers by their digits, up to what follows them
+record Spaced (line numbers rest : List ℕ) : Type 0 where
+  word : List ℕ
+  words : List (List ℕ)
+  are : list_all is_numeral (word ∷ words) ≡ true
+  kept_ : numbers ≡ kept (word ∷ words)
+  whole : line ≡ spaced (word ∷ words) ++ rest
 
-pub file_text : (name : List ℕ) → IsLine (file name) → line_utf8 (line_glyphs (file name)) ≡ codes "file " ++ name
-file_text name form =
-    plain_utf8 (codes "file " ++ name) (list_all-append is_plain (codes "file ") name ∙ rw (all_pass is_file_byte is_plain file_plain name (name_bytes name form)) refl)
+spaced_found : (line numbers rest : List ℕ) → counts_at line ≡ Ok (numbers, rest) → Spaced line numbers rest
+unfolding counts_at
+spaced_found line numbers rest e =
+    let one = bind_ok (count_at line) (λ first. read_behind (first.0 ∷ []) (list_at (begins_with 32) next_count_at (length first.1) first.1)) (numbers, rest) e in
+    let two = bind_ok (list_at (begins_with 32) next_count_at (length one.0.1) one.0.1) (λ found. tell ((one.0.0 ∷ []) ++ found.0) found.1) (numbers, rest) one.2 in
+    let first = count_found line one.0.0 one.0.1 one.1 in
+    let others = listed (length one.0.1) one.0.1 two.0.0 two.0.1 two.1 in
+    let all : one.0.0 ∷ two.0.0 ≡ numbers = first_told (one.0.0 ∷ two.0.0) two.0.1 numbers rest two.2 in
+    let last : two.0.1 ≡ rest = second_told (one.0.0 ∷ two.0.0) two.0.1 numbers rest two.2 in
+    record {
+      word = first.word;
+      words = others.words;
+      are = ap (λ b. b && list_all is_numeral others.words) first.are ∙ others.are;
+      kept_ = sym all ∙ (ap (λ n. n ∷ two.0.0) first.number_is ∙ ap (λ ns. capped (value_of first.word) ∷ ns) others.kept_);
+      whole = first.whole
+          ∙ (ap (λ (text : List ℕ). first.word ++ text) (others.whole ∙ ap (λ (text : List ℕ). tails others.words ++ text) last)
+          ∙ (sym (append_assoc first.word (tails others.words) rest) ∙ ap (λ (text : List ℕ). text ++ rest) (sym (spaced_words first.word others.words))));
+    }
 
-pub user_text : (number : ℕ) → IsLine (user number) → line_utf8 (line_glyphs (user number)) ≡ codes "user " ++ decimal number
-user_text number form = heading_utf8 number (omega (arith, form.1))
+spaced_reads : (word : List ℕ) (words : List (List ℕ)) → list_all is_numeral (word ∷ words) ≡ true → counts_at (spaced (word ∷ words)) ≡ Ok (kept (word ∷ words), [])
+unfolding counts_at
+spaced_reads word words all =
+    let parts = both (is_numeral word) (list_all is_numeral words) all in
+    let item : count_at (word ++ tails words) ≡ Ok (capped (value_of word), tails words) = count_reads word (tails words) parts.0 (no_digit_begins words) in
+    ap counts_at (spaced_words word words)
+    ∙ (ap (λ (read : Reading ℕ). read >>= λ first. read_behind (first.0 ∷ []) (list_at (begins_with 32) next_count_at (length first.1) first.1)) item
+    ∙ ap (λ (read : Reading (List ℕ)). read_behind (capped (value_of word) ∷ []) read) (reads_listed (length (tails words)) words parts.1 (omega arith)))
 
--- the first byte of a heading
+-- ---- numbers that are readings
 
-pub first_byte : (line : PlainLine) → IsLine line → IsHeading line → first_glyph (line_utf8 (line_glyphs line)) ≡ tag line
-first_byte (input line) form is = absurd is
-first_byte (user number) form is = ap first_glyph (user_text number form)
-first_byte (order numbers) form is = ap first_glyph (order_text numbers form)
-first_byte (file name) form is = ap first_glyph (file_text name form)
-first_byte (clock numbers) form is = ap first_glyph (clock_text numbers form)
-first_byte end form is = ap first_glyph end_utf8
+small_test : (value : ℕ) → value ≤ greatest_reading → leb (capped value) greatest_reading ≡ true
+small_test value small =
+    let least : min value 18446744073709551615 ≤ 9223372036854775807 = omega (arith, small) in
+    grind (arith, nat_tests, least)
 
--- numbers behind a word make a heading, or none
+small_value : (value : ℕ) → leb (capped value) greatest_reading ≡ true → value ≤ greatest_reading
+small_value value is =
+    let least = leb-true (capped value) greatest_reading is in omega (arith, least)
 
-no_order_at : (line : PlainLine) (text : List ℕ) → AreNoNumbers text → IsHeading line → IsTextOf line (codes "order " ++ text) → tag line ≡ 111 → ⊥
-no_order_at (input line) text none is t same = is
-no_order_at (user number) text none is t same = omega (arith, same)
-no_order_at (order numbers) text none is t same =
-    none numbers (record { some = t.0.0; numerals = t.0.1; spelled = append_cancel_left (codes "order ") text (spaced numbers) (t.1 ∙ order_text numbers t.0) })
-no_order_at (file name) text none is t same = omega (arith, same)
-no_order_at (clock numbers) text none is t same = omega (arith, same)
-no_order_at end text none is t same = omega (arith, same)
+are_small : (words : List (List ℕ)) → All IsReadingText words → list_all (λ number. nat_le number greatest_reading) (kept words) ≡ true
+are_small [] each = refl
+are_small (word ∷ words) each =
+    ap (λ b. b && list_all (λ number. nat_le number greatest_reading) (kept words)) (small_test (value_of word) (All-head IsReadingText word words each).small)
+    ∙ are_small words (All-tail IsReadingText word words each)
 
-pub no_order : (text : List ℕ) → AreNoNumbers text → IsNoHeading (codes "order " ++ text)
-no_order text none line is t = no_order_at line text none is t (sym (first_byte line t.0 is) ∙ ap first_glyph (sym t.1))
+are_readings : (words : List (List ℕ)) → list_all is_numeral words ≡ true → list_all (λ number. nat_le number greatest_reading) (kept words) ≡ true → All IsReadingText words
+are_readings [] are small = All-nil IsReadingText
+are_readings (word ∷ words) are small =
+    let one = both (is_numeral word) (list_all is_numeral words) are in
+    let other = both (leb (capped (value_of word)) greatest_reading) (list_all (λ number. nat_le number greatest_reading) (kept words)) small in
+    All-cons IsReadingText word words (record { numeral = one.0; small = small_value (value_of word) other.0 }) (are_readings words one.1 other.1)
 
-no_clock_at : (line : PlainLine) (text : List ℕ) → AreNoReadings text → IsHeading line → IsTextOf line (codes "clock " ++ text) → tag line ≡ 99 → ⊥
-no_clock_at (input line) text none is t same = is
-no_clock_at (user number) text none is t same = omega (arith, same)
-no_clock_at (order numbers) text none is t same = omega (arith, same)
-no_clock_at (file name) text none is t same = omega (arith, same)
-no_clock_at (clock numbers) text none is t same =
-    none numbers (record { some = t.0.0; each = t.0.1; spelled = append_cancel_left (codes "clock ") text (spaced numbers) (t.1 ∙ clock_text numbers t.0) })
-no_clock_at end text none is t same = omega (arith, same)
+-- ---- what is read as a heading is one, where nothing follows it
 
-pub no_clock : (text : List ℕ) → AreNoReadings text → IsNoHeading (codes "clock " ++ text)
-no_clock text none line is t = no_clock_at line text none is t (sym (first_byte line t.0 is) ∙ ap first_glyph (sym t.1))
+user_sound : (line : List ℕ) (heading : PlainHeading) → user_at line ≡ Ok (heading, []) → IsHeadingLine heading line
+unfolding user_at
+user_sound line heading e =
+    let one = literal_then (literal_at (codes "user ") line) (λ rest. as_read user_heading (number_at 1001 1999 rest)) (heading, []) e in
+    let two = bind_ok (number_at 1001 1999 one.0) (λ found. tell (user_heading found.0) found.1) (heading, []) one.2 in
+    let found : Found decimal (InRange 1001 1999) NoDigit SameFirst one.0 two.0.0 two.0.1 =
+    subst (Reads decimal (InRange 1001 1999) NoDigit SameFirst one.0) two.1 (number_reads 1001 1999 (omega arith) (omega arith) one.0) in
+    let is : user_heading two.0.0 ≡ heading = first_told (user_heading two.0.0) two.0.1 heading [] two.2 in
+    let last : two.0.1 ≡ [] = second_told (user_heading two.0.0) two.0.1 heading [] two.2 in
+    let text : one.0 ≡ decimal two.0.0 = found.whole ∙ (ap (λ (rest : List ℕ). decimal two.0.0 ++ rest) last ∙ append-nil (decimal two.0.0)) in
+    subst (λ (h : PlainHeading). IsHeadingLine h line) is (record {
+      line = user two.0.0;
+      is = refl;
+      form = (found.fits.least, found.fits.most);
+      spelled = literal_is (codes "user ") line one.0 one.1 ∙ ap (λ (rest : List ℕ). codes "user " ++ rest) text;
+    })
 
-no_user_at : (line : PlainLine) (text : List ℕ) → ((number : ℕ) → IsUserNumber number → text ≢ decimal number) → IsHeading line → IsTextOf line (codes "user " ++ text) → tag line ≡ 117 → ⊥
-no_user_at (input line) text none is t same = is
-no_user_at (user number) text none is t same =
-    none number t.0 (append_cancel_left (codes "user ") text (decimal number) (t.1 ∙ user_text number t.0))
-no_user_at (order numbers) text none is t same = omega (arith, same)
-no_user_at (file name) text none is t same = omega (arith, same)
-no_user_at (clock numbers) text none is t same = omega (arith, same)
-no_user_at end text none is t same = omega (arith, same)
+turns_sound : (line : List ℕ) (heading : PlainHeading) → turns_at line ≡ Ok (heading, []) → IsHeadingLine heading line
+unfolding turns_at
+turns_sound line heading e =
+    let one = literal_then (literal_at (codes "order ") line) (λ rest. as_read turns_heading (counts_at rest)) (heading, []) e in
+    let two = bind_ok (counts_at one.0) (λ found. tell (turns_heading found.0) found.1) (heading, []) one.2 in
+    let found = spaced_found one.0 two.0.0 two.0.1 two.1 in
+    let is : turns_heading two.0.0 ≡ heading = first_told (turns_heading two.0.0) two.0.1 heading [] two.2 in
+    let last : two.0.1 ≡ [] = second_told (turns_heading two.0.0) two.0.1 heading [] two.2 in
+    let text : one.0 ≡ spaced (found.word ∷ found.words) =
+    found.whole ∙ (ap (λ (rest : List ℕ). spaced (found.word ∷ found.words) ++ rest) last ∙ append-nil (spaced (found.word ∷ found.words))) in
+    subst (λ (h : PlainHeading). IsHeadingLine h line) is (record {
+      line = order (found.word ∷ found.words);
+      is = (found.word ∷ found.words, refl, found.kept_);
+      form = (omega arith, found.are);
+      spelled = literal_is (codes "order ") line one.0 one.1 ∙ ap (λ (rest : List ℕ). codes "order " ++ rest) text;
+    })
 
-pub no_user : (text : List ℕ) → ((number : ℕ) → IsUserNumber number → text ≢ decimal number) → IsNoHeading (codes "user " ++ text)
-no_user text none line is t = no_user_at line text none is t (sym (first_byte line t.0 is) ∙ ap first_glyph (sym t.1))
+readings_by : (numbers rest : List ℕ) (heading : PlainHeading) → (b : Bool) → cond b (tell (readings_heading numbers) rest) (Err (length rest)) ≡ Ok (heading, []) → (b ≡ true) × (readings_heading numbers ≡ heading) × (rest ≡ [])
+readings_by numbers rest heading true e =
+    (refl, first_told (readings_heading numbers) rest heading [] e, second_told (readings_heading numbers) rest heading [] e)
+readings_by numbers rest heading false e = absurd (let none : ⊥ = cc in none)
 
-no_file_at : (line : PlainLine) (text : List ℕ) → ¬ IsFileName text → IsHeading line → IsTextOf line (codes "file " ++ text) → tag line ≡ 102 → ⊥
-no_file_at (input line) text none is t same = is
-no_file_at (user number) text none is t same = omega (arith, same)
-no_file_at (order numbers) text none is t same = omega (arith, same)
-no_file_at (file name) text none is t same =
-    none (subst IsFileName (sym (append_cancel_left (codes "file ") text name (t.1 ∙ file_text name t.0))) t.0)
-no_file_at (clock numbers) text none is t same = omega (arith, same)
-no_file_at end text none is t same = omega (arith, same)
+readings_sound : (line : List ℕ) (heading : PlainHeading) → readings_at line ≡ Ok (heading, []) → IsHeadingLine heading line
+unfolding readings_at
+readings_sound line heading e =
+    let one = literal_then (literal_at (codes "clock ") line) (λ rest. counts_at rest >>= λ numbers. readings_of numbers.0 numbers.1) (heading, []) e in
+    let two = bind_ok (counts_at one.0) (λ numbers. readings_of numbers.0 numbers.1) (heading, []) one.2 in
+    let found = spaced_found one.0 two.0.0 two.0.1 two.1 in
+    let last = readings_by two.0.0 two.0.1 heading (list_all (λ number. nat_le number greatest_reading) two.0.0) two.2 in
+    let small : list_all (λ number. nat_le number greatest_reading) (kept (found.word ∷ found.words)) ≡ true = ap (list_all (λ number. nat_le number greatest_reading)) (sym found.kept_) ∙ last.0 in
+    let text : one.0 ≡ spaced (found.word ∷ found.words) =
+    found.whole ∙ (ap (λ (rest : List ℕ). spaced (found.word ∷ found.words) ++ rest) last.2 ∙ append-nil (spaced (found.word ∷ found.words))) in
+    subst (λ (h : PlainHeading). IsHeadingLine h line) last.1 (record {
+      line = clock (found.word ∷ found.words);
+      is = (found.word ∷ found.words, refl, found.kept_);
+      form = (omega arith, are_readings (found.word ∷ found.words) found.are small);
+      spelled = literal_is (codes "clock ") line one.0 one.1 ∙ ap (λ (rest : List ℕ). codes "clock " ++ rest) text;
+    })
 
-pub no_file : (text : List ℕ) → ¬ IsFileName text → IsNoHeading (codes "file " ++ text)
-no_file text none line is t = no_file_at line text none is t (sym (first_byte line t.0 is) ∙ ap first_glyph (sym t.1))
+name_by : (name : List ℕ) (heading : PlainHeading) → (b : Bool) → (as_read file_heading (cond b (tell name []) (Err (length name))) ≡ Ok (heading, [])) → (b ≡ true) × (file_heading name ≡ heading)
+name_by name heading true e = (refl, first_told (file_heading name) [] heading [] e)
+name_by name heading false e = absurd (let none : ⊥ = cc in none)
 
--- a line that is the end, or no heading at all
+file_sound : (line : List ℕ) (heading : PlainHeading) → file_at line ≡ Ok (heading, []) → IsHeadingLine heading line
+unfolding file_at
+file_sound line heading e =
+    let one = literal_then (literal_at (codes "file ") line) (λ rest. as_read file_heading (file_name_at rest)) (heading, []) e in
+    let name = name_by one.0 heading (is_file_name one.0) one.2 in
+    subst (λ (h : PlainHeading). IsHeadingLine h line) name.1 (record {
+      line = file one.0;
+      is = refl;
+      form = name.0;
+      spelled = literal_is (codes "file ") line one.0 one.1;
+    })
 
-pub no_heading : (bytes : List ℕ) → pointwise eqb (take 5 bytes) (codes "user ") ≡ false → pointwise eqb (take 6 bytes) (codes "order ") ≡ false → pointwise eqb (take 5 bytes) (codes "file ") ≡ false → pointwise eqb (take 6 bytes) (codes "clock ") ≡ false → bytes ≢ end_line → IsNoHeading bytes
-no_heading bytes a b c d other (input line) is t = is
-no_heading bytes a b c d other (user number) is t =
-    let whole : bytes ≡ codes "user " ++ decimal number = t.1 ∙ user_text number t.0 in let same = rw whole at a in false≢true (sym same)
-no_heading bytes a b c d other (order numbers) is t =
-    let whole : bytes ≡ codes "order " ++ spaced numbers = t.1 ∙ order_text numbers t.0 in let same = rw whole at b in false≢true (sym same)
-no_heading bytes a b c d other (file name) is t =
-    let whole : bytes ≡ codes "file " ++ name = t.1 ∙ file_text name t.0 in let same = rw whole at c in false≢true (sym same)
-no_heading bytes a b c d other (clock numbers) is t =
-    let whole : bytes ≡ codes "clock " ++ spaced numbers = t.1 ∙ clock_text numbers t.0 in let same = rw whole at d in false≢true (sym same)
-no_heading bytes a b c d other end is t = other (t.1 ∙ end_utf8)
+end_sound : (line : List ℕ) (heading : PlainHeading) → end_at line ≡ Ok (heading, []) → IsHeadingLine heading line
+unfolding end_at
+end_sound line heading e =
+    let one = literal_then (literal_at (codes "end") line) (λ rest. tell end_heading rest) (heading, []) e in
+    let last : one.0 ≡ [] = second_told end_heading one.0 heading [] one.2 in
+    subst (λ (h : PlainHeading). IsHeadingLine h line) (first_told end_heading one.0 heading [] one.2) (record {
+      line = end;
+      is = refl;
+      form = tt;
+      spelled = literal_is (codes "end") line one.0 one.1 ∙ ap (λ (rest : List ℕ). codes "end" ++ rest) last;
+    })
+
+-- what holds of each of two readings holds of the one that is chosen
+chosen_reading : (P : Reading PlainHeading → Type 0) (b : Bool) (one other : Reading PlainHeading) → P one → P other → P (cond b one other)
+chosen_reading P true one other p q = p
+chosen_reading P false one other p q = q
+
+-- a reading with nothing behind it is a heading's
+abbrev IsSound : List ℕ → Reading PlainHeading → Type 0
+IsSound line read = (heading : PlainHeading) → read ≡ Ok (heading, []) → IsHeadingLine heading line
+
+heading_sound : (line : List ℕ) → IsSound line (heading_at line)
+unfolding heading_at later_heading_at
+heading_sound line =
+    let readings_or_end : Reading PlainHeading = cond (begins_with 99 line) (readings_at line) (end_at line) in
+    let file_or_more : Reading PlainHeading = cond (begins_with 102 line) (file_at line) readings_or_end in
+    let turns_or_more : Reading PlainHeading = cond (begins_with 111 line) (turns_at line) file_or_more in
+    chosen_reading (IsSound line) (begins_with 117 line) (user_at line) turns_or_more (user_sound line)
+    (chosen_reading (IsSound line) (begins_with 111 line) (turns_at line) file_or_more (turns_sound line)
+    (chosen_reading (IsSound line) (begins_with 102 line) (file_at line) readings_or_end (file_sound line)
+    (chosen_reading (IsSound line) (begins_with 99 line) (readings_at line) (end_at line) (readings_sound line) (end_sound line))))
+
+-- ---- and each heading is read, with nothing behind it
+
+user_reads : (number : ℕ) → IsUserNumber number → user_at (codes "user " ++ decimal number) ≡ Ok (user_heading number, [])
+unfolding user_at
+user_reads number range =
+    let again : number_at 1001 1999 (decimal number ++ []) ≡ Ok (number, []) =
+    again_by decimal (InRange 1001 1999) NoDigit SameFirst number [] (λ rest. refl) (record { least = range.0; most = range.1 }) refl (number_at 1001 1999 (decimal number ++ []))
+    (number_reads 1001 1999 (omega arith) (omega arith) (decimal number ++ [])) in
+    let whole : number_at 1001 1999 (decimal number) ≡ Ok (number, []) = subst (λ (text : List ℕ). number_at 1001 1999 text ≡ Ok (number, [])) (append-nil (decimal number)) again in
+    ap (λ (read : Reading ℕ). as_read user_heading read) whole
+
+turns_reads : (word : List ℕ) (words : List (List ℕ)) → list_all is_numeral (word ∷ words) ≡ true → turns_at (codes "order " ++ spaced (word ∷ words)) ≡ Ok (turns_heading (kept (word ∷ words)), [])
+unfolding turns_at
+turns_reads word words all = ap (λ (read : Reading (List ℕ)). as_read turns_heading read) (spaced_reads word words all)
+
+readings_reads : (word : List ℕ) (words : List (List ℕ)) → All IsReadingText (word ∷ words) → readings_at (codes "clock " ++ spaced (word ∷ words)) ≡ Ok (readings_heading (kept (word ∷ words)), [])
+unfolding readings_at
+readings_reads word words each =
+    ap (λ (read : Reading (List ℕ)). read >>= λ numbers. readings_of numbers.0 numbers.1) (spaced_reads word words (reading_numerals (word ∷ words) each))
+    ∙ ap (λ b. cond b (tell (readings_heading (kept (word ∷ words))) []) (Err 0)) (are_small (word ∷ words) each)
+
+file_reads : (name : List ℕ) → IsFileName name → file_at (codes "file " ++ name) ≡ Ok (file_heading name, [])
+unfolding file_at
+file_reads name is = ap (λ b. as_read file_heading (cond b (tell name []) (Err (length name)))) is
+
+heading_reads : (line : PlainLine) → IsHeading line → IsLine line → (heading : PlainHeading) × (heading_at (line_glyphs line) ≡ Ok (heading, []))
+unfolding heading_at later_heading_at end_at
+heading_reads (input line) is form = absurd is
+heading_reads (user number) is form = (user_heading number, user_reads number form)
+heading_reads (order []) is form = absurd (omega (arith, form.0))
+heading_reads (order (word ∷ words)) is form = (turns_heading (kept (word ∷ words)), turns_reads word words form.1)
+heading_reads (file name) is form = (file_heading name, file_reads name form)
+heading_reads (clock []) is form = absurd (omega (arith, form.0))
+heading_reads (clock (word ∷ words)) is form = (readings_heading (kept (word ∷ words)), readings_reads word words form.1)
+heading_reads end is form = (end_heading, refl)
+
+-- ---- what a call finds
+
+-- a line that is read in another way, or not, is that of no heading
+none_read : (line : List ℕ) → ((heading : PlainHeading) → heading_at line ≡ Ok (heading, []) → ⊥) → IsNoHeading line
+none_read line never other is form same =
+    let one = heading_reads other is form in
+    never one.0 (ap heading_at same ∙ one.1)
+
+longer : (one other : PlainHeading) (x : ℕ) (rest : List ℕ) → tell one (x ∷ rest) ≡ tell other [] → ⊥
+longer one other x rest e =
+    let same : x ∷ rest ≡ [] = second_told one (x ∷ rest) other [] e in
+    let none : ⊥ = cc in none
+
+-- the heading that was read, where nothing is left
+pub whole_found : (line : List ℕ) (heading : Heading) (rest : List ℕ) → heading_at line ≡ Ok (plain_heading heading, rest) → (found : Option Heading) → (length rest ≡ 0 → found ≡ Some heading) → ((length rest ≡ 0 → ⊥) → found ≡ None)
+    → MatchOption found (IsNoHeading line) (λ heading. IsHeadingLine (plain_heading heading) line)
+whole_found line heading [] read found whole more =
+    subst (λ (o : Option Heading). MatchOption o (IsNoHeading line) (λ heading. IsHeadingLine (plain_heading heading) line)) (sym (whole refl)) (heading_sound line (plain_heading heading) read)
+whole_found line heading (x ∷ rest) read found whole more =
+    subst (λ (o : Option Heading). MatchOption o (IsNoHeading line) (λ heading. IsHeadingLine (plain_heading heading) line)) (sym (more (λ none. omega (arith, none))))
+    (none_read line (λ other again. longer (plain_heading heading) other x rest (sym read ∙ again)))
+
+stops_for_good : (left : ℕ) (heading : PlainHeading) (read : Reading PlainHeading) → read ≡ Err left → read ≡ Ok (heading, []) → ⊥
+stops_for_good left heading read stops again = let none : ⊥ = cc in none
+
+-- or none, where the reading stops
+pub nothing_found : {E : Type 0} (line : List ℕ) (why : Unread) (result : Result (Option Heading) E) → Stops why (heading_at line) → IfOk result (λ found. (found ≡ None) × IsLeft why)
+    → IfOk result (λ found. MatchOption found (IsNoHeading line) (λ heading. IsHeadingLine (plain_heading heading) line))
+nothing_found line WantOfMemory (Ok found) stops is = absurd is.1
+nothing_found line WantOfMemory (Err error) stops is = tt
+nothing_found line (Left left) (Ok found) stops is =
+    subst (λ (o : Option Heading). MatchOption o (IsNoHeading line) (λ heading. IsHeadingLine (plain_heading heading) line)) (sym is.0)
+    (none_read line (λ other again. stops_for_good left other (heading_at line) stops again))
+nothing_found line (Left left) (Err error) stops is = tt

@@ -17,11 +17,12 @@ use Rattle.apl_arrays.specs.Name.{name_order}
 use Rattle.line_text.specs.Lines.{line_text, lines_text}
 use Rattle.line_text.proofs.Spans.{both}
 use Rattle.bundle_text.specs.Breaks.{IsSound, AreSound}
+use Rattle.aux_parties.specs.Auxiliaries.{is_auxiliary}
 use Rattle.bundle_text.specs.Rules.{PlainBundle, IsBundle, IsContent, IsUser, IsUserNumber, IsFile, IsReading, is_party}
 use Rattle.bundle_text.specs.BundleLine.{PlainLine, input, user, order, file, clock, end, IsReadingText}
 use Rattle.bundle_text.specs.Draft.{PlainDraft, PlainSection, start, of_user, turns, of_file, readings, ended, users_with, files_with, users_of, files_of, takes_content, takes_user, takes_turns, takes_file, has_room, with_line, said, bundle_of, nothing_read}
 use Rattle.bundle_text.specs.Limits.{most_turns, most_files, most_readings}
-use Rattle.bundle_text.specs.Number.{value_of}
+use Rattle.text_reader.specs.Numeral.{value_of}
 use Rattle.bundle_text.specs.User.{PlainUser}
 
 -- the rules, one kind of section after the other
@@ -70,10 +71,9 @@ all_pass p q f [] e = refl
 all_pass p q f (x ∷ xs) e =
     let parts = both (p x) (list_all p xs) e in rw (f x parts.0, all_pass p q f xs parts.1) refl
 
-or_more : (a b c d : Bool) → (c ≡ true → d ≡ true) → (a || b || c) ≡ true → (a || b || d) ≡ true
-or_more true b c d f e = refl
-or_more false true c d f e = refl
-or_more false false c d f e = f e
+or_more : (a c d : Bool) → (c ≡ true → d ≡ true) → (a || c) ≡ true → (a || d) ≡ true
+or_more true c d f e = refl
+or_more false c d f e = f e
 
 or_left : (a b : Bool) → a ≡ true → (a || b) ≡ true
 or_left a b e = rw e refl
@@ -81,13 +81,13 @@ or_left a b e = rw e refl
 party_more : (users : List PlainUser) (one : PlainUser) (n : ℕ) → is_party users n ≡ true → is_party (users ++ one ∷ []) n ≡ true
 party_more users one n e =
     let test = λ (some : PlainUser). some.number == n in
-    or_more (n == 10) (n == 20) (list_any test users) (list_any test (users ++ one ∷ [])) (λ found. list_any-append test users (one ∷ []) ∙ or_left (list_any test users) (list_any test (one ∷ [])) found) e
+    or_more (is_auxiliary n) (list_any test users) (list_any test (users ++ one ∷ [])) (λ found. list_any-append test users (one ∷ []) ∙ or_left (list_any test users) (list_any test (one ∷ [])) found) e
 
 party_same : (users : List PlainUser) (one : PlainUser) (lines : List (List ℕ)) (n : ℕ) → is_party (users ++ one ∷ []) n ≡ true → is_party (users ++ record { number = one.number; lines = lines } ∷ []) n ≡ true
 party_same users one lines n e =
     let test = λ (some : PlainUser). some.number == n in
     let next : PlainUser = record { number = one.number; lines = lines } in
-    or_more (n == 10) (n == 20) (list_any test (users ++ one ∷ [])) (list_any test (users ++ next ∷ [])) (λ found. list_any-append test users (next ∷ []) ∙ (sym (list_any-append test users (one ∷ [])) ∙ found)) e
+    or_more (is_auxiliary n) (list_any test (users ++ one ∷ [])) (list_any test (users ++ next ∷ [])) (λ found. list_any-append test users (next ∷ []) ∙ (sym (list_any-append test users (one ∷ [])) ∙ found)) e
 
 -- users
 

@@ -1,12 +1,10 @@
 pub mod Added
 pub mod Bodies
 pub mod Contents
-pub mod Found
 pub mod Grammar
 pub mod Headings
 pub mod Kept
 pub mod LoadTexts
-pub mod Numbers
 pub mod Offsets
 pub mod Pages
 pub mod Places
@@ -16,5 +14,4 @@ pub mod Spelled
 pub mod Steps
 pub mod Texts
 pub mod Turns
-pub mod Users
 pub mod Walks

@@ -4,10 +4,11 @@ use Rattle.std.specs.Prelude.{IfErr}
 use Rattle.std.specs.Cmp.Lexicographic.{pointwise}
 use Rattle.std.proofs.lemmas.Bool.{false≢true}
 use Rattle.apl_arrays.specs.Glyph.{Spells, bar, line_utf8}
+use Rattle.apl_arrays.proofs.Spelling.{one_line}
 use Rattle.line_text.specs.Lines.{end_line}
 use Rattle.line_text.proofs.Ascii.{content_utf8}
 use Rattle.bundle_text.specs.Breaks.{IsSound, IsBroken, IsEnded, IsSpelled, LineBreaks}
-use Rattle.bundle_text.specs.BundleLine.{PlainLine, input, user, order, file, clock, end, IsLine, IsTextOf, IsNoLine, IsNoContent}
+use Rattle.bundle_text.specs.BundleLine.{PlainLine, input, user, order, file, clock, end, IsLine, IsTextOf, IsNoLine, IsNoContent, line_glyphs}
 use Rattle.bundle_text.specs.Draft.{PlainDraft, may_stand, names_parties, keeps_limits, users_of, with_line}
 use Rattle.bundle_text.specs.Heading.{IsNoHeading}
 use Rattle.bundle_text.specs.Refused.{IsRefusal}
@@ -16,6 +17,7 @@ use Rattle.bundle_text.specs.declared.refused.BundleRule.{BundleRule}
 use Rattle.bundle_text.specs.declared.refused.BundleRule.TheVariants.{Glyph, Newline, Form, Place, Party, Limit, End}
 use Rattle.bundle_text.specs.declared.refused.BundleRefused.{BundleRefused}
 use Rattle.bundle_text.specs.declared.refused.BundleRefused.TheVariants.{Malformed, WantOfMemory}
+use Rattle.bundle_text.proofs.Texts.{line_spells}
 
 -- a line of a form
 
@@ -51,13 +53,16 @@ text_added old new line bytes offset (Err (Malformed place rule)) text adds =
 
 -- bytes that are no line
 
-no_line : (bytes : List ℕ) → IsNoContent bytes → IsNoHeading bytes → (line : PlainLine) → ¬ IsTextOf line bytes
-no_line bytes plain none (input line) = λ text. plain (line_utf8 line) (text.1 ∙ content_utf8 line)
-no_line bytes plain none (user number) = none (user number) tt
-no_line bytes plain none (order numbers) = none (order numbers) tt
-no_line bytes plain none (file name) = none (file name) tt
-no_line bytes plain none (clock numbers) = none (clock numbers) tt
-no_line bytes plain none end = none end tt
+spelled_so : (bytes glyphs : List ℕ) → Spells bytes glyphs → (line : PlainLine) → IsTextOf line bytes → glyphs ≡ line_glyphs line
+spelled_so bytes glyphs spells line text = one_line bytes glyphs (line_glyphs line) spells (line_spells line bytes text)
+
+no_line : (bytes glyphs : List ℕ) → Spells bytes glyphs → IsNoContent bytes → IsNoHeading glyphs → (line : PlainLine) → ¬ IsTextOf line bytes
+no_line bytes glyphs spells plain none (input line) = λ text. plain (line_utf8 line) (text.1 ∙ content_utf8 line)
+no_line bytes glyphs spells plain none (user number) = λ text. none (user number) tt text.0 (spelled_so bytes glyphs spells (user number) text)
+no_line bytes glyphs spells plain none (order numbers) = λ text. none (order numbers) tt text.0 (spelled_so bytes glyphs spells (order numbers) text)
+no_line bytes glyphs spells plain none (file name) = λ text. none (file name) tt text.0 (spelled_so bytes glyphs spells (file name) text)
+no_line bytes glyphs spells plain none (clock numbers) = λ text. none (clock numbers) tt text.0 (spelled_so bytes glyphs spells (clock numbers) text)
+no_line bytes glyphs spells plain none end = λ text. none end tt text.0 (spelled_so bytes glyphs spells end text)
 
 -- why bytes are refused, of which all may spell glyphs
 pub bad_glyph : (draft : PlainDraft) (bytes : List ℕ) (fed : Bool) (offset : ℕ) (why : BundleRefused) → IsRefusal why (IsBadGlyph bytes offset) → IsRefusal why (IsLineBroken draft bytes fed offset)
@@ -74,16 +79,23 @@ pub glyph_first : (bytes : List ℕ) (from offset : ℕ) (named : BundleRule) (w
 glyph_first bytes from offset named WantOfMemory is = tt
 glyph_first bytes from offset named (Malformed place rule) is = inl is
 
-form_here : (draft : PlainDraft) (bytes : List ℕ) (fed : Bool) (offset place : ℕ) (rule : BundleRule) → IsSpelled bytes → place ≡ offset → rule ≡ Form → IsNoContent bytes → IsNoHeading bytes → IsEnded bytes fed → IsLineBroken draft bytes fed offset place rule
-form_here draft bytes fed offset place rule spelled there named plain none ended =
-    let broken : LineBreaks draft bytes fed Form 0 = (refl, spelled, ended, no_line bytes plain none) in
-    record { at = 0; broken = subst (λ some. LineBreaks draft bytes fed some 0) (sym named) broken; there = omega (arith, there) }
-
-pub formless : (draft : PlainDraft) (bytes : List ℕ) (offset : ℕ) (why : BundleRefused) → IsRefusal why (IsGlyphOr bytes offset offset Form) → IsNoContent bytes → IsNoHeading bytes
+-- bytes that spell no glyphs, whether a line feed ends them or not
+pub bad_line : (draft : PlainDraft) (bytes : List ℕ) (offset : ℕ) (why : BundleRefused) → IsRefusal why (IsBadGlyph bytes offset)
     → IsRefusal why (λ place rule. (fed : Bool) → IsEnded bytes fed → IsLineBroken draft bytes fed offset place rule)
-formless draft bytes offset WantOfMemory is plain none = tt
-formless draft bytes offset (Malformed place rule) is plain none =
-    ⊎_elim (λ bad fed ended. bad_glyph draft bytes fed offset (Malformed place rule) bad) (λ whole fed ended. form_here draft bytes fed offset place rule whole.0 whole.1 whole.2 plain none ended) is
+bad_line draft bytes offset WantOfMemory is = tt
+bad_line draft bytes offset (Malformed place rule) is = λ fed ended. bad_glyph draft bytes fed offset (Malformed place rule) is
+
+form_here : (draft : PlainDraft) (bytes glyphs : List ℕ) (fed : Bool) (offset : ℕ) → Spells bytes glyphs → IsNoContent bytes → IsNoHeading glyphs → IsEnded bytes fed → IsLineBroken draft bytes fed offset offset Form
+form_here draft bytes glyphs fed offset spells plain none ended =
+    let broken : LineBreaks draft bytes fed Form 0 = (refl, (glyphs, spells), ended, no_line bytes glyphs spells plain none) in
+    record { at = 0; broken = broken; there = omega arith }
+
+-- bytes that spell no line
+pub formless : (draft : PlainDraft) (bytes glyphs : List ℕ) (offset : ℕ) (why : BundleRefused) → why ≡ Malformed offset Form → Spells bytes glyphs → IsNoContent bytes → IsNoHeading glyphs
+    → IsRefusal why (λ place rule. (fed : Bool) → IsEnded bytes fed → IsLineBroken draft bytes fed offset place rule)
+formless draft bytes glyphs offset why is spells plain none =
+    subst (λ (some : BundleRefused). IsRefusal some (λ place rule. (fed : Bool) → IsEnded bytes fed → IsLineBroken draft bytes fed offset place rule)) (sym is)
+    (λ fed ended. form_here draft bytes glyphs fed offset spells plain none ended)
 
 feed_here : (draft : PlainDraft) (bytes : List ℕ) (offset place : ℕ) (rule : BundleRule) → IsSpelled bytes → place ≡ offset → rule ≡ Newline → bytes ≢ end_line → IsLineBroken draft bytes false offset place rule
 feed_here draft bytes offset place rule spelled there named other =

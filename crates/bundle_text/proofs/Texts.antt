@@ -7,7 +7,7 @@ use Rattle.std.proofs.lemmas.Bool.Decides.{nat_tests}
 use Rattle.std.proofs.lemmas.Fmt.{decimal_injective}
 use Rattle.std.proofs.lemmas.List.Elements.{All-head, All-tail, All-weaker}
 use Rattle.apl_arrays.specs.File.{IsFileName, is_file_name, is_file_byte}
-use Rattle.apl_arrays.specs.Glyph.{IsGlyph, digit, is_digit, is_between, line_utf8, Spells}
+use Rattle.apl_arrays.specs.Glyph.{IsGlyph, is_digit, is_between, line_utf8, Spells}
 use Rattle.apl_arrays.specs.Run.{begins}
 use Rattle.apl_arrays.proofs.Spelling.{one_line, no_control}
 use Rattle.line_text.specs.Lines.{end_line, HasNoFeed}
@@ -16,7 +16,8 @@ use Rattle.line_text.proofs.GlyphTexts.{Glyphs, passing, plain_glyphs, spaced_gl
 use Rattle.line_text.proofs.Spans.{both, same_span}
 use Rattle.bundle_text.specs.Rules.{IsUserNumber}
 use Rattle.bundle_text.specs.BundleLine.{PlainLine, input, user, order, file, clock, end, IsLine, IsReadingText, IsTextOf, line_glyphs}
-use Rattle.bundle_text.specs.Number.{is_numeral}
+use Rattle.text_reader.specs.Numeral.{is_numeral}
+use Rattle.text_reader.proofs.Numerals.{numeral_digits}
 
 -- a line is of glyphs
 
@@ -28,11 +29,6 @@ digit_glyph glyph e =
 file_glyph : (byte : ℕ) → is_file_byte byte ≡ true → IsGlyph byte
 file_glyph byte e =
     (grind (arith, nat_tests), grind (arith, nat_tests), λ same. grind (arith, nat_tests))
-
-pub numeral_digits : (word : List ℕ) → is_numeral word ≡ true → list_all is_digit word ≡ true
-numeral_digits [] e = absurd (false≢true e)
-numeral_digits (only ∷ []) e = ap (λ b. b && true) e
-numeral_digits (first ∷ next ∷ rest) e = (both (not (eqb first (digit 0))) (list_all is_digit (first ∷ next ∷ rest)) e).1
 
 words_glyphs : (words : List (List ℕ)) → list_all is_numeral words ≡ true → AllByRecursion Glyphs words
 words_glyphs [] e = tt
@@ -69,14 +65,14 @@ line_has_no_feed line form =
 
 -- words of digits, each behind a blank
 
-abbrev tails : List (List ℕ) → List ℕ
+abbrev pub tails : List (List ℕ) → List ℕ
 tails words = flat_map (λ word. 32 ∷ word) words
 
-spaced_words : (word : List ℕ) (words : List (List ℕ)) → spaced (word ∷ words) ≡ word ++ tails words
+pub spaced_words : (word : List ℕ) (words : List (List ℕ)) → spaced (word ∷ words) ≡ word ++ tails words
 spaced_words word [] = sym (append-nil word)
 spaced_words word (next ∷ words) = ap (λ (rest : List ℕ). word ++ 32 ∷ rest) (spaced_words next words)
 
-no_digit_begins : (words : List (List ℕ)) → begins is_digit (tails words) ≡ false
+pub no_digit_begins : (words : List (List ℕ)) → begins is_digit (tails words) ≡ false
 no_digit_begins [] = refl
 no_digit_begins (word ∷ words) = refl
 
@@ -91,16 +87,6 @@ same_tails (x ∷ xs) (y ∷ ys) a b e =
     let same = same_span is_digit x y (tails xs) (tails ys) (numeral_digits x one.0) (numeral_digits y other.0) (no_digit_begins xs) (no_digit_begins ys) after in
     let rest = same_tails xs ys one.1 other.1 same.1 in
     cc (same.0, rest)
-
-pub same_numbers : (xs ys : List (List ℕ)) → 0 < length xs → 0 < length ys → list_all is_numeral xs ≡ true → list_all is_numeral ys ≡ true → spaced xs ≡ spaced ys → xs ≡ ys
-same_numbers [] ys some more a b e = absurd (omega arith)
-same_numbers (x ∷ xs) [] some more a b e = absurd (omega arith)
-same_numbers (x ∷ xs) (y ∷ ys) some more a b e =
-    same_tails (x ∷ xs) (y ∷ ys) a b (ap (λ (text : List ℕ). 32 ∷ text) (sym (spaced_words x xs) ∙ (e ∙ spaced_words y ys)))
-
--- a word in front of numbers
-behind_word : (word : List ℕ) (xs ys : List (List ℕ)) → list_all is_numeral xs ≡ true → list_all is_numeral ys ≡ true → (tails xs ≡ tails ys → xs ≡ ys)
-behind_word word xs ys a b e = same_tails xs ys a b e
 
 -- the first glyph of each line tells what it is
 

@@ -7,22 +7,19 @@ use Rattle.std.proofs.lemmas.Bool.Decides.{nat_tests}
 use Rattle.std.proofs.lemmas.List.Elements.{All-nil, All-cons, All-head, All-tail}
 use Rattle.std.proofs.lemmas.List.Folds.{list_all-map}
 use Rattle.line_text.proofs.Spans.{both}
+use Rattle.aux_parties.specs.Auxiliaries.{is_auxiliary}
+use Rattle.aux_parties.proofs.TableLemmas.{auxiliaries_are_low}
 use Rattle.bundle_text.specs.Rules.{IsUser, is_party}
 use Rattle.bundle_text.specs.BundleLine.{IsReadingText}
 use Rattle.bundle_text.specs.Heading.{kept}
 use Rattle.bundle_text.specs.Limits.{greatest_reading}
-use Rattle.bundle_text.specs.Number.{capped, value_of}
+use Rattle.text_reader.specs.Numeral.{capped, value_of}
 use Rattle.bundle_text.specs.User.{PlainUser}
 
 -- a number that is no greater than one of 64 bits is kept as it is
 
 capped_same : (n m : ℕ) → n ≤ m → m < 18446744073709551615 → capped n ≡ n
 capped_same n m low small = omega arith
-
-either : (a b c : Bool) → (a || b || c) ≡ true → (a ≡ true) ⊎ ((b ≡ true) ⊎ (c ≡ true))
-either true b c e = inl refl
-either false true c e = inr (inl refl)
-either false false c e = inr (inr e)
 
 or_cases : (a b : Bool) → (a || b) ≡ true → (a ≡ true) ⊎ (b ≡ true)
 or_cases true b e = inl refl
@@ -37,9 +34,7 @@ user_bound (one ∷ users) n each e =
 
 pub party_bound : (users : List PlainUser) (n : ℕ) → All IsUser users → is_party users n ≡ true → n ≤ 1999
 party_bound users n each e =
-    ⊎_elim (λ ten. omega (arith, eqb-true n 10 ten))
-    (λ other. ⊎_elim (λ twenty. omega (arith, eqb-true n 20 twenty)) (λ user. user_bound users n each user) other)
-    (either (n == 10) (n == 20) (list_any (λ user. user.number == n) users) e)
+    ⊎_elim (λ auxiliary. let low = auxiliaries_are_low n auxiliary in omega (arith, low)) (λ user. user_bound users n each user) (or_cases (is_auxiliary n) (list_any (λ user. user.number == n) users) e)
 
 pub parties_small : (users : List PlainUser) (numbers : List ℕ) → All IsUser users → list_all (is_party users) numbers ≡ true → All (λ n. n < 2 ^ 32) numbers
 parties_small users [] each e = All-nil (λ n. n < 2 ^ 32)

@@ -6,7 +6,7 @@ use Rattle.line_text.specs.Lines.{line_feed, lines_text}
 pub use Rattle.bundle_text.specs.Rules.{PlainBundle, IsBundle}
 use Rattle.bundle_text.specs.Rules.{IsContent}
 use Rattle.bundle_text.specs.BundleLine.{PlainLine, input, user, order, file, clock, end, IsLine, line_glyphs}
-use Rattle.bundle_text.specs.Number.{value_of}
+use Rattle.text_reader.specs.Numeral.{value_of}
 use Rattle.bundle_text.specs.User.{PlainUser}
 
 -- a file as it is written: its name and its lines

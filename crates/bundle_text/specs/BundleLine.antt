@@ -7,7 +7,7 @@ use Rattle.line_text.specs.Lines.{heading, content, end_line, line_text}
 use Rattle.line_text.specs.Spaced.{spaced}
 use Rattle.bundle_text.specs.Rules.{IsUserNumber}
 use Rattle.bundle_text.specs.Limits.{greatest_reading}
-use Rattle.bundle_text.specs.Number.{is_numeral, value_of}
+use Rattle.text_reader.specs.Numeral.{is_numeral, value_of}
 
 -- a line as plain data: glyphs behind a bar; the heading of a user; turns, by the digits of their parties; the heading of a
 -- file; readings, by their digits; the end

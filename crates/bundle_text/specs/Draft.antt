@@ -9,7 +9,7 @@ use Rattle.line_text.specs.Lines.{line_text}
 use Rattle.bundle_text.specs.Rules.{PlainBundle, is_party}
 use Rattle.bundle_text.specs.BundleLine.{PlainLine, input, user, order, file, clock, end, IsLine}
 use Rattle.bundle_text.specs.Limits.{most_turns, most_files, most_readings}
-use Rattle.bundle_text.specs.Number.{value_of}
+use Rattle.text_reader.specs.Numeral.{value_of}
 use Rattle.bundle_text.specs.User.{PlainUser}
 
 -- what the last heading began: nothing yet, the lines of a user so far, turns, a file's bytes so far, readings, or the end

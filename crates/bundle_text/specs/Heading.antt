@@ -1,6 +1,6 @@
-use Rattle.std.specs.Prelude.{◌≡◌, ℕ, List, map}
-use Rattle.bundle_text.specs.BundleLine.{PlainLine, input, user, order, file, clock, end, IsTextOf}
-use Rattle.bundle_text.specs.Number.{capped, value_of}
+use Rattle.std.specs.Prelude.{◌≡◌, ◌≢◌, ℕ, List, map}
+use Rattle.text_reader.specs.Numeral.{capped, value_of}
+use Rattle.bundle_text.specs.BundleLine.{PlainLine, input, user, order, file, clock, end, IsLine, line_glyphs}
 use Rattle.bundle_text.specs.declared.heading.Heading.{Heading}
 use Rattle.bundle_text.specs.declared.heading.Heading.TheVariants as headings
 
@@ -8,25 +8,46 @@ use Rattle.bundle_text.specs.declared.heading.Heading.TheVariants as headings
 abbrev pub kept : List (List ℕ) → List ℕ
 kept numbers = map (λ digits. capped (value_of digits)) numbers
 
+-- a heading as plain data: of a user, of turns, of a file, of readings, or the end; numbers as they are kept
+pub data PlainHeading : Type 0 where
+  user_heading : ℕ → PlainHeading
+  turns_heading : List ℕ → PlainHeading
+  file_heading : List ℕ → PlainHeading
+  readings_heading : List ℕ → PlainHeading
+  end_heading : PlainHeading
+
+-- a heading as plain data, whatever room is left
+abbrev pub plain_heading : Heading → PlainHeading
+plain_heading (headings.User number) = user_heading number
+plain_heading (headings.Order numbers) = turns_heading numbers.items
+plain_heading (headings.File name) = file_heading name
+plain_heading (headings.Clock numbers) = readings_heading numbers.items
+plain_heading headings.End = end_heading
+
+-- a heading is said by this line
+abbrev pub IsSaidBy : PlainHeading → PlainLine → Type 0
+IsSaidBy (user_heading number) line = line ≡ user number
+IsSaidBy (turns_heading numbers) line = (digits : List (List ℕ)) × (line ≡ order digits) × (numbers ≡ kept digits)
+IsSaidBy (file_heading name) line = line ≡ file name
+IsSaidBy (readings_heading numbers) line = (digits : List (List ℕ)) × (line ≡ clock digits) × (numbers ≡ kept digits)
+IsSaidBy end_heading line = line ≡ end
+
 -- a heading is this line
 abbrev pub IsHeadingOf : Heading → PlainLine → Type 0
-IsHeadingOf (headings.User number) line = line ≡ user number
-IsHeadingOf (headings.Order numbers) line = (digits : List (List ℕ)) × (line ≡ order digits) × (numbers.items ≡ kept digits)
-IsHeadingOf (headings.File name) line = line ≡ file name
-IsHeadingOf (headings.Clock numbers) line = (digits : List (List ℕ)) × (line ≡ clock digits) × (numbers.items ≡ kept digits)
-IsHeadingOf headings.End line = line ≡ end
+IsHeadingOf heading line = IsSaidBy (plain_heading heading) line
 
--- the bytes are the text of this heading
-pub record IsHeadingText (heading : Heading) (bytes : List ℕ) : Type 0 where
+-- the glyphs are a line that says this heading
+pub record IsHeadingLine (heading : PlainHeading) (glyphs : List ℕ) : Type 0 where
   pub line : PlainLine
-  pub is : IsHeadingOf heading line
-  pub text : IsTextOf line bytes
+  pub is : IsSaidBy heading line
+  pub form : IsLine line
+  pub spelled : glyphs ≡ line_glyphs line
 
 -- a line that is no content line
 abbrev pub IsHeading : PlainLine → Type 0
 IsHeading (input line) = ⊥
 IsHeading _ = Unit {0}
 
--- the bytes are the text of no heading
+-- the glyphs are the line of no heading
 abbrev pub IsNoHeading : List ℕ → Type 0
-IsNoHeading bytes = (line : PlainLine) → IsHeading line → ¬ IsTextOf line bytes
+IsNoHeading glyphs = (line : PlainLine) → IsHeading line → IsLine line → glyphs ≢ line_glyphs line

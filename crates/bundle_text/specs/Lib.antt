@@ -3,9 +3,9 @@ pub mod Bundle
 pub mod BundleLine
 pub mod Draft
 pub mod Heading
+pub mod HeadingReading
 pub mod Limits
 pub mod Load
-pub mod Number
 pub mod Offset
 pub mod Parts
 pub mod Refused
@@ -13,4 +13,3 @@ pub mod Rules
 pub mod Section
 pub mod Step
 pub mod User
-pub mod Word

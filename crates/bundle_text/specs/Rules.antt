@@ -6,7 +6,8 @@ use Rattle.apl_arrays.specs.File.{IsFileName}
 use Rattle.apl_arrays.specs.FileList.{PlainFile, IsAscending}
 use Rattle.apl_arrays.specs.Glyph.{IsGlyph}
 use Rattle.apl_arrays.specs.Limits.{most_line_glyphs, most_user_lines, most_users}
-use Rattle.apl_arrays.specs.Parties.{clock_party, text_party, first_user, last_user}
+use Rattle.apl_arrays.specs.Parties.{first_user, last_user}
+use Rattle.aux_parties.specs.Auxiliaries.{is_auxiliary}
 use Rattle.line_text.specs.Lines.{lines_text}
 use Rattle.bundle_text.specs.Limits.{most_turns, most_files, most_readings, greatest_reading}
 use Rattle.bundle_text.specs.User.{PlainUser}
@@ -33,9 +34,9 @@ pub record IsUser (user : PlainUser) : Type 0 where
   pub few : length user.lines ≤ most_user_lines
   pub each : All IsContent user.lines
 
--- the number of a party that takes turns: the clock, the text files, or one of the users
+-- the number of a party that takes turns: an auxiliary, or one of the users
 abbrev pub is_party : List PlainUser → ℕ → Bool
-is_party users number = number == clock_party || number == text_party || list_any (λ user. user.number == number) users
+is_party users number = is_auxiliary number || list_any (λ user. user.number == number) users
 
 -- a file's name, and its bytes: lines, each with its line feed
 pub record IsFile (file : PlainFile) : Type 0 where

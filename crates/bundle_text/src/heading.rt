@@ -1,15 +1,15 @@
-ghost use Rattle.std.specs.Prelude.{◌≡◌, ◌≢◌, ◌≤◌, ◌++◌, ◌↔◌, All, IsTrue, IfOk, MatchOption, ℕ, List, codes, decimal};
+ghost use Rattle.std.specs.Prelude.{◌≡◌, IfOk, IsTrue, MatchOption, None, Some, length, nat_le, ◌↔◌};
+ghost use Rattle.std.specs.List.{list_all};
 ghost use Rattle.line_text.specs.Lines.{end_line};
-ghost use Rattle.bundle_text.specs.Rules.{IsUserNumber};
-ghost use Rattle.bundle_text.specs.BundleLine.{IsReadingText};
-ghost use Rattle.bundle_text.specs.Heading.{IsHeadingText, IsNoHeading, kept};
+ghost use Rattle.text_reader.specs.Reading.{Gives, IsLeft};
+ghost use Rattle.bundle_text.specs.Heading.{IsHeadingLine, IsNoHeading, plain_heading};
+ghost use Rattle.bundle_text.specs.HeadingReading.{end_at, file_at, heading_at, later_heading_at, readings_at, turns_at, user_at};
 ghost use Rattle.bundle_text.specs.Limits.{greatest_reading};
-ghost use Rattle.bundle_text.specs.Number.{is_numeral, value_of};
-ghost use Rattle.bundle_text.specs.Word.{AreNumbers, AreNoNumbers, AreReadings, AreNoReadings};
 
-use crate::number::{Counts, number_of, numbers_of};
-use apl_arrays::{FIRST_USER, FileName, LAST_USER, WantOfMemory};
+use crate::counts::{Counts, read_counts};
+use apl_arrays::{FIRST_USER, FileName, Glyph, LAST_USER, WantOfMemory};
 use std::alloc::Global;
+use text_reader::{Cursor, Unread};
 
 /// The greatest reading of a clock.
 const READING_MAX: u64 = 9_223_372_036_854_775_807;
@@ -29,81 +29,120 @@ pub enum Heading {
     End,
 }
 
-// The number of a user.
-fn user_of(text: &[u8]) -> Option<u32>
-    ensures { MatchOption result ((number : ℕ) → IsUserNumber number → text.now ≢ decimal number)
-        (λ number. IsUserNumber number × (text.now ≡ decimal number)) }
+// Reads the heading of a user.
+#[tactic(auto, unfolding(crate::specs::HeadingReading::user_at))]
+fn read_user(cursor: &mut Cursor<'_>) -> Result<Heading, Unread>
+    ensures { Gives (λ heading. (plain_heading heading, cursor.new)) result (user_at cursor.old) }
 {
-    let number = number_of(text)?;
-    if number < u64::from(FIRST_USER) || number > u64::from(LAST_USER) {
-        return None;
-    }
-    Some(number as u32)
+    cursor.text(b"user ")?;
+    let number = cursor.number(u64::from(FIRST_USER), u64::from(LAST_USER))?;
+    Ok(Heading::User(number as u32))
+}
+
+// Reads the heading of turns.
+#[tactic(auto, unfolding(crate::specs::HeadingReading::turns_at))]
+fn read_turns(alloc: Global, cursor: &mut Cursor<'_>) -> Result<Heading, Unread>
+    ensures { Gives (λ heading. (plain_heading heading, cursor.new)) result (turns_at cursor.old) }
+{
+    cursor.text(b"order ")?;
+    Ok(Heading::Order(read_counts(alloc, cursor)?))
+}
+
+// Reads the heading of a file.
+#[tactic(auto, unfolding(crate::specs::HeadingReading::file_at))]
+fn read_file(alloc: Global, cursor: &mut Cursor<'_>) -> Result<Heading, Unread>
+    ensures { Gives (λ heading. (plain_heading heading, cursor.new)) result (file_at cursor.old) }
+{
+    cursor.text(b"file ")?;
+    Ok(Heading::File(cursor.file_name(alloc)?))
 }
 
 // Whether all numbers are readings of a clock.
 fn are_readings(numbers: &[u64]) -> bool
-    ensures { IsTrue result ↔ All (λ number. number ≤ greatest_reading) numbers.now }
+    ensures { result ≡ list_all (λ number. nat_le number greatest_reading) numbers.now }
 {
     numbers.iter().all(|number| *number <= READING_MAX)
 }
 
-// The numbers, where all are readings.
-fn readings(numbers: Counts) -> Option<Counts>
-    ensures { MatchOption result (¬ All (λ number. number ≤ greatest_reading) numbers.items)
-        (λ all. All (λ number. number ≤ greatest_reading) numbers.items × (all.items ≡ numbers.items)) }
+// Reads the heading of readings.
+#[tactic(auto, unfolding(crate::specs::HeadingReading::readings_at))]
+fn read_readings(alloc: Global, cursor: &mut Cursor<'_>) -> Result<Heading, Unread>
+    ensures { Gives (λ heading. (plain_heading heading, cursor.new)) result (readings_at cursor.old) }
 {
+    cursor.text(b"clock ")?;
+    let numbers = read_counts(alloc, cursor)?;
     if are_readings(numbers.as_slice()) {
-        Some(numbers)
+        Ok(Heading::Clock(numbers))
     } else {
+        Err(cursor.stops())
+    }
+}
+
+// Reads the end.
+#[tactic(auto, unfolding(crate::specs::HeadingReading::end_at))]
+fn read_end(cursor: &mut Cursor<'_>) -> Result<Heading, Unread>
+    ensures { Gives (λ heading. (plain_heading heading, cursor.new)) result (end_at cursor.old) }
+{
+    cursor.text(b"end")?;
+    Ok(Heading::End)
+}
+
+// Reads the heading of a file or of readings, by the letter with which its word begins, or the end.
+#[tactic(auto, unfolding(crate::specs::HeadingReading::later_heading_at))]
+fn read_later_heading(alloc: Global, cursor: &mut Cursor<'_>) -> Result<Heading, Unread>
+    ensures { Gives (λ heading. (plain_heading heading, cursor.new)) result (later_heading_at cursor.old) }
+{
+    match cursor.first() {
+        Some(first) if first.code() == b'f' => read_file(alloc, cursor),
+        Some(first) if first.code() == b'c' => read_readings(alloc, cursor),
+        _ => read_end(cursor),
+    }
+}
+
+// Reads a heading, by the letter with which its word begins.
+#[tactic(auto, unfolding(crate::specs::HeadingReading::heading_at))]
+fn read_heading(alloc: Global, cursor: &mut Cursor<'_>) -> Result<Heading, Unread>
+    ensures { Gives (λ heading. (plain_heading heading, cursor.new)) result (heading_at cursor.old) }
+{
+    match cursor.first() {
+        Some(first) if first.code() == b'u' => read_user(cursor),
+        Some(first) if first.code() == b'o' => read_turns(alloc, cursor),
+        _ => read_later_heading(alloc, cursor),
+    }
+}
+
+// The heading that was read, where nothing is left behind it.
+fn whole_heading(cursor: &Cursor<'_>, heading: Heading) -> Option<Heading>
+    ensures whole { length cursor.now ≡ 0 → result ≡ Some heading }
+    ensures more { (length cursor.now ≡ 0 → ⊥) → result ≡ None }
+{
+    if cursor.left() == 0 {
+        Some(heading)
+    } else {
+        drop(heading);
         None
     }
 }
 
-// The readings of a clock.
-fn readings_of(alloc: Global, text: &[u8]) -> Result<Option<Counts>, WantOfMemory>
-    ensures { IfOk result (λ found. MatchOption found (AreNoReadings text.now) (λ numbers. AreReadings text.now numbers.items)) }
+// That there is no heading, unless memory ran out.
+fn no_heading(why: Unread) -> Result<Option<Heading>, WantOfMemory>
+    ensures { IfOk result (λ found. (found ≡ None) × IsLeft why) }
 {
-    match numbers_of(alloc, text)? {
-        None => Ok(None),
-        Some(numbers) => Ok(readings(numbers)),
+    match why {
+        Unread::Left(_) => Ok(None),
+        Unread::WantOfMemory => Err(WantOfMemory),
     }
 }
 
-// The heading of turns.
-fn order_heading(alloc: Global, text: &[u8]) -> Result<Option<Heading>, WantOfMemory>
-    ensures { IfOk result (λ found. MatchOption found (IsNoHeading (codes "order " ++ text.now))
-        (λ heading. IsHeadingText heading (codes "order " ++ text.now))) }
+/// The heading that a line is, or `None` where it is none. It takes memory for the numbers or the name of a heading.
+pub fn heading_of(alloc: Global, line: &[Glyph]) -> Result<Option<Heading>, WantOfMemory>
+    ensures { IfOk result (λ found. MatchOption found (IsNoHeading line.now) (λ heading. IsHeadingLine (plain_heading heading) line.now)) }
 {
-    match numbers_of(alloc, text)? {
-        None => Ok(None),
-        Some(numbers) => Ok(Some(Heading::Order(numbers))),
+    let mut cursor = Cursor::new(line);
+    match read_heading(alloc, &mut cursor) {
+        Ok(heading) => Ok(whole_heading(&cursor, heading)),
+        Err(why) => no_heading(why),
     }
-}
-
-// The heading of readings.
-fn clock_heading(alloc: Global, text: &[u8]) -> Result<Option<Heading>, WantOfMemory>
-    ensures { IfOk result (λ found. MatchOption found (IsNoHeading (codes "clock " ++ text.now))
-        (λ heading. IsHeadingText heading (codes "clock " ++ text.now))) }
-{
-    match readings_of(alloc, text)? {
-        None => Ok(None),
-        Some(numbers) => Ok(Some(Heading::Clock(numbers))),
-    }
-}
-
-// The heading of a user.
-fn user_heading(text: &[u8]) -> Option<Heading>
-    ensures { MatchOption result (IsNoHeading (codes "user " ++ text.now)) (λ heading. IsHeadingText heading (codes "user " ++ text.now)) }
-{
-    Some(Heading::User(user_of(text)?))
-}
-
-// The heading of a file.
-fn file_heading(text: &[u8]) -> Option<Heading>
-    ensures { MatchOption result (IsNoHeading (codes "file " ++ text.now)) (λ heading. IsHeadingText heading (codes "file " ++ text.now)) }
-{
-    Some(Heading::File(FileName::of_bytes(text)?))
 }
 
 /// Whether a line is the last one of a bundle. No memory.
@@ -111,34 +150,4 @@ pub fn is_end(line: &[u8]) -> bool
     ensures { IsTrue result ↔ (line.now ≡ end_line) }
 {
     line == b"end".as_slice()
-}
-
-// The heading that a line is whose word is none of the four before numbers and names: the end.
-fn end_heading(line: &[u8]) -> Option<Heading>
-    ensures { MatchOption result (line.now ≢ end_line) (λ heading. IsHeadingText heading line.now) }
-{
-    if is_end(line) {
-        Some(Heading::End)
-    } else {
-        None
-    }
-}
-
-/// The heading that a line is, or `None` where it is none. It takes memory for the numbers of an order or a clock.
-pub fn heading_of(alloc: Global, line: &[u8]) -> Result<Option<Heading>, WantOfMemory>
-    ensures { IfOk result (λ found. MatchOption found (IsNoHeading line.now) (λ heading. IsHeadingText heading line.now)) }
-{
-    if let Some(text) = line.strip_prefix(b"user ") {
-        return Ok(user_heading(text));
-    }
-    if let Some(text) = line.strip_prefix(b"order ") {
-        return order_heading(alloc, text);
-    }
-    if let Some(text) = line.strip_prefix(b"file ") {
-        return Ok(file_heading(text));
-    }
-    if let Some(text) = line.strip_prefix(b"clock ") {
-        return clock_heading(alloc, text);
-    }
-    Ok(end_heading(line))
 }

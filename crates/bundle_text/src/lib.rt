@@ -3,12 +3,12 @@
 #![tactic(auto)]
 
 mod bundle;
+mod counts;
 mod draft;
 mod glyphs;
 mod heading;
 mod limits;
 mod loads;
-mod number;
 mod offset;
 mod parties;
 mod refused;

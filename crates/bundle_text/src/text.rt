@@ -10,7 +10,7 @@ ghost use Rattle.bundle_text.specs.Step.{AddsText, IsGlyphOr, IsLineBroken, IsRe
 
 use crate::Bundle;
 use crate::draft::Draft;
-use crate::glyphs::glyph_count_at;
+use crate::glyphs::{glyph_count_at, glyphs_at};
 use crate::heading::{heading_of, is_end};
 use crate::refused::{BundleRefused, BundleRule};
 use line_text::first_line;
@@ -39,8 +39,9 @@ fn add_other_line(
     requires other { IsNoContent line.now }
     ensures { AddsText draft.old line.now draft.new offset result }
 {
-    match heading_of(alloc, line)? {
-        None => Err(refused_line(line, BundleRule::Form, offset)),
+    let glyphs = glyphs_at(alloc, line, offset)?;
+    match heading_of(alloc, glyphs.as_slice())? {
+        None => Err(BundleRefused::malformed(offset, BundleRule::Form)),
         Some(heading) => draft.add_heading(alloc, heading, offset),
     }
 }

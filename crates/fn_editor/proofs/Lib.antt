@@ -5,4 +5,5 @@ pub mod Editors
 pub mod LastNumber
 pub mod NameKept
 pub mod Numbered
+pub mod OpeningLaw
 pub mod Prompts

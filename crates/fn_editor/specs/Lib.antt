@@ -5,4 +5,5 @@ pub mod Editor
 pub mod Grammar
 pub mod Number
 pub mod Opening
+pub mod OpeningLaws
 pub mod Prompt

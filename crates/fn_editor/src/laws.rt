@@ -1,10 +1,16 @@
-//! What holds of the definitions: laws of numbers, of closing, and of brackets.
+//! What holds of the definitions: laws of numbers, of closing, of brackets, and of what a line opens.
 
 ghost use Rattle.std.specs.Prelude.{◌≡◌, ◌↔◌, ◌<◌, ◌+◌, ℕ, List, Some};
 ghost use Rattle.fn_editor.specs.Closing.{IsBeforeClose, before_close};
 ghost use Rattle.fn_editor.specs.Bracket.{bracket_in};
 ghost use Rattle.fn_editor.specs.Grammar.{IsBracket};
+ghost use Rattle.apl_workspace.specs.Function.{PlainFunction};
+ghost use Rattle.apl_workspace.specs.Workspace.{PlainWorkspace};
+ghost use Rattle.fn_editor.specs.Editing.{Edited};
+ghost use Rattle.fn_editor.specs.Editor.{defined_function};
 ghost use Rattle.fn_editor.specs.Number.{line_number, most_whole, next};
+ghost use Rattle.fn_editor.specs.Opening.{opened};
+ghost use Rattle.fn_editor.specs.OpeningLaws.{IsOpened, IsShut, shut};
 
 use crate::bracket::Bracket;
 use crate::number::WHOLE_LIMIT;
@@ -27,6 +33,20 @@ pub fn lines_close_behind_a_del()
 /// it is 0. The call does nothing. No memory.
 pub fn brackets_ask_what_is_written()
     ensures { (text rest : List ℕ) (bracket : Bracket) → (bracket_in text ≡ Some (bracket, rest)) ↔ IsBracket text bracket rest }
+{}
+
+/// A line opens a definition exactly where its first `∇` has a header behind it whose name stands for nothing, the bare name
+/// of a function, or the name of a function with a bracket that does something; and it closes what it opens where it ends
+/// with `∇` once more. The call does nothing. No memory.
+pub fn lines_open_what_stands_there()
+    ensures { (w : PlainWorkspace) (line : List ℕ) (done : Edited) → (opened w line ≡ Some done) ↔ IsOpened w line done }
+{}
+
+/// A line with the bare name of a function between two `∇` opens that function and closes it, and what is defined then is
+/// that function. The call does nothing. No memory.
+pub fn functions_shut_at_once_are_the_same()
+    ensures opened { (w : PlainWorkspace) (line : List ℕ) (function : PlainFunction) → IsShut w line function → opened w line ≡ Some (shut function) }
+    ensures same { (function : PlainFunction) → defined_function (shut function).editor ≡ function }
 {}
 
 /// The limit of whole parts is that of the definitions. The call does nothing. No memory.

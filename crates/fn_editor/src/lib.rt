@@ -13,8 +13,8 @@ mod showing;
 
 pub use editor::{Editor, Fed};
 pub use laws::{
-    brackets_ask_what_is_written, lines_close_behind_a_del, numbers_go_on_in_tenths,
-    whole_parts_are_as_defined,
+    brackets_ask_what_is_written, functions_shut_at_once_are_the_same, lines_close_behind_a_del,
+    lines_open_what_stands_there, numbers_go_on_in_tenths, whole_parts_are_as_defined,
 };
 pub use opening::Opened;
 pub use prompt::Prompt;

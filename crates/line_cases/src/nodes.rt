@@ -1,6 +1,7 @@
 use crate::system_names::system_text;
 use anyhow::Result;
-use apl_arrays::{Array, Items, Name, Verb};
+use apl_arrays::{Array, Items, Name};
+use apl_verbs::Verb;
 use case_fields::{array_text, push_glyphs};
 use line_trees::{Fun, Node};
 use std::alloc::{AllocError, Global};

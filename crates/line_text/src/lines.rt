@@ -1,5 +1,6 @@
-ghost use Rattle.std.specs.Prelude.{◌≡◌, ◌<◌, ◌^◌, All, ◌∷◌, ◌++◌, ℕ, List as ListOf, OnOk, IsTrue, MatchOption, map};
+ghost use Rattle.std.specs.Prelude.{◌≡◌, ◌<◌, ◌^◌, All, ◌∷◌, ◌++◌, ℕ, List as ListOf, OnOk, IsTrue, MatchOption, map, OnErr};
 ghost use Rattle.std.specs.List.{list_all};
+ghost use Rattle.apl_arrays.specs.Front.{KeepsFront};
 ghost use Rattle.apl_arrays.specs.Glyph.{IsGlyph};
 ghost use Rattle.apl_arrays.specs.List.{glyphs_in};
 ghost use Rattle.line_text.specs.Lines.{heading, content, user_lines, line_feed, line_text, lines_text, HasNoFeed};
@@ -14,6 +15,7 @@ use std::alloc::Global;
 /// stand there.
 pub fn add_line(bytes: &mut Vec<u8>, line: &Line) -> Result<(), WantOfMemory>
     ensures text { OnOk result (bytes.new.items ≡ bytes.old.items ++ line_text line.now.items) }
+    ensures front { OnErr result (KeepsFront bytes.old.items bytes.new.items) }
     ensures printable { OnOk result (All IsGlyph line.now.items) }
 {
     add_utf8(bytes, line.as_slice())?;
@@ -25,7 +27,8 @@ pub fn add_line(bytes: &mut Vec<u8>, line: &Line) -> Result<(), WantOfMemory>
 /// stand there.
 pub fn add_word(alloc: Global, bytes: &mut Vec<u8>, word: &str) -> Result<(), WantOfMemory>
     requires { IsTrue (list_all is_plain word.now) }
-    ensures { OnOk result (bytes.new.items ≡ bytes.old.items ++ line_text word.now) }
+    ensures text { OnOk result (bytes.new.items ≡ bytes.old.items ++ line_text word.now) }
+    ensures front { OnErr result (KeepsFront bytes.old.items bytes.new.items) }
 {
     let mut line = List::new(alloc);
     add_text(&mut line, word)?;

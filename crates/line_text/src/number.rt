@@ -1,5 +1,6 @@
-ghost use Rattle.std.specs.Prelude.{◌≡◌, ◌+◌, ◌<◌, ◌≤◌, ◌^◌, FitsSigned, ◌++◌, ℤ, IsOk, OnOk, decimal, length};
+ghost use Rattle.std.specs.Prelude.{◌≡◌, ◌+◌, ◌<◌, ◌≤◌, ◌^◌, FitsSigned, ◌++◌, ℤ, IsOk, OnOk, decimal, length, OnErr};
 ghost use Rattle.std.specs.Int.{w64};
+ghost use Rattle.apl_arrays.specs.Front.{KeepsFront};
 ghost use Rattle.line_text.specs.Number.{sign_of, number_text, number_width};
 
 use crate::text::add_text;
@@ -30,6 +31,7 @@ pub fn number_width(number: i64) -> usize
 #[tactic(auto, using(crate::proofs::Decimals::text_is_plain))]
 pub fn add_count(line: &mut Line, count: u64) -> Result<(), WantOfMemory>
     ensures text { OnOk result (line.new.items ≡ line.old.items ++ decimal count) }
+    ensures front { OnErr result (KeepsFront line.old.items line.new.items) }
     ensures granted { length (decimal count) ≤ line.old.room → IsOk result }
     ensures room { length (decimal count) ≤ line.old.room → line.new.room + length (decimal count) ≡ line.old.room }
     ensures printable { count < 2 ^ 64 }
@@ -41,6 +43,7 @@ pub fn add_count(line: &mut Line, count: u64) -> Result<(), WantOfMemory>
 // Adds the sign of a number: ¯ where it is negative.
 fn add_sign(line: &mut Line, number: i64) -> Result<(), WantOfMemory>
     ensures text { OnOk result (line.new.items ≡ line.old.items ++ sign_of number) }
+    ensures front { OnErr result (KeepsFront line.old.items line.new.items) }
     ensures granted { length (sign_of number) ≤ line.old.room → IsOk result }
     ensures room { length (sign_of number) ≤ line.old.room → line.new.room + length (sign_of number) ≡ line.old.room }
 {
@@ -55,6 +58,7 @@ fn add_sign(line: &mut Line, number: i64) -> Result<(), WantOfMemory>
 /// may stand there.
 pub fn add_number(line: &mut Line, number: i64) -> Result<(), WantOfMemory>
     ensures text { OnOk result (line.new.items ≡ line.old.items ++ number_text number) }
+    ensures front { OnErr result (KeepsFront line.old.items line.new.items) }
     ensures granted { number_width number ≤ line.old.room → IsOk result }
     ensures room { number_width number ≤ line.old.room → line.new.room + number_width number ≡ line.old.room }
     ensures printable { FitsSigned w64 number }

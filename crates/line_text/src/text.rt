@@ -1,6 +1,7 @@
 ghost use Rattle.std.specs.Prelude.{◌≡◌, ◌+◌, ◌<◌, ◌≤◌, All, FitsSigned, ◌∷◌, [], ◌++◌, IsTrue, IsOk, OnOk, OnErr, map, length, decimal, replicate};
 ghost use Rattle.std.specs.Int.{w64};
 ghost use Rattle.std.specs.List.{list_all};
+ghost use Rattle.apl_arrays.specs.Front.{KeepsFront};
 ghost use Rattle.apl_arrays.specs.Glyph.{blank};
 ghost use Rattle.line_text.specs.Number.{number_text};
 ghost use Rattle.line_text.specs.Spaced.{is_plain, spaced};
@@ -13,6 +14,7 @@ use apl_arrays::{Glyph, Line, WantOfMemory};
 pub fn add_text(line: &mut Line, text: &str) -> Result<(), WantOfMemory>
     requires { IsTrue (list_all is_plain text.now) }
     ensures text { OnOk result (line.new.items ≡ line.old.items ++ text.now) }
+    ensures front { OnErr result (KeepsFront line.old.items line.new.items) }
     ensures granted { length text.now ≤ line.old.room → IsOk result }
     ensures room { length text.now ≤ line.old.room → line.new.room + length text.now ≡ line.old.room }
 {
@@ -26,6 +28,7 @@ pub fn add_text(line: &mut Line, text: &str) -> Result<(), WantOfMemory>
 /// memory for more; where that runs out, some of the glyphs may stand there.
 pub fn add_glyphs(line: &mut Line, glyphs: &[Glyph]) -> Result<(), WantOfMemory>
     ensures text { OnOk result (line.new.items ≡ line.old.items ++ glyphs.now) }
+    ensures front { OnErr result (KeepsFront line.old.items line.new.items) }
     ensures granted { length glyphs.now ≤ line.old.room → IsOk result }
     ensures room { length glyphs.now ≤ line.old.room → line.new.room + length glyphs.now ≡ line.old.room }
 {
@@ -62,6 +65,7 @@ pub fn add_blanks(line: &mut Line, count: usize) -> Result<(), WantOfMemory>
 pub fn add_numbers(line: &mut Line, numbers: &[i64]) -> Result<(), WantOfMemory>
     ensures text { OnOk result (line.new.items
         ≡ line.old.items ++ spaced (map number_text numbers.now)) }
+    ensures front { OnErr result (KeepsFront line.old.items line.new.items) }
     ensures printable { OnOk result (All (λ number. FitsSigned w64 number) numbers.now) }
 {
     let Some((first, others)) = numbers.split_first() else {
@@ -78,7 +82,8 @@ pub fn add_numbers(line: &mut Line, numbers: &[i64]) -> Result<(), WantOfMemory>
 /// Adds counts at the end of a line, with one blank between each two. It takes memory for them; where that runs out, a
 /// part of the text may stand there.
 pub fn add_counts(line: &mut Line, counts: &[u32]) -> Result<(), WantOfMemory>
-    ensures { OnOk result (line.new.items ≡ line.old.items ++ spaced (map decimal counts.now)) }
+    ensures text { OnOk result (line.new.items ≡ line.old.items ++ spaced (map decimal counts.now)) }
+    ensures front { OnErr result (KeepsFront line.old.items line.new.items) }
 {
     let Some((first, others)) = counts.split_first() else {
         return Ok(());

@@ -1,8 +1,8 @@
 -- Where an expression begins, a token and what may follow it are one.
 use Rattle.std.proofs.Common.{◌≡◌, Bool, true, false, cond, List, [], ◌∷◌, ◌++◌, Option, Some, refl, sym, ap, subst, ◌∙◌, ◌⊎◌, inl, inr, append_assoc}
-use Rattle.apl_arrays.specs.declared.verb.Monad.{Monad}
-use Rattle.apl_arrays.specs.declared.verb.Dyad.{Dyad}
-use Rattle.apl_arrays.specs.declared.verb.Verb.TheVariants as verb
+use Rattle.apl_verbs.specs.declared.verb.Monad.{Monad}
+use Rattle.apl_verbs.specs.declared.verb.Dyad.{Dyad}
+use Rattle.apl_verbs.specs.declared.verb.Verb.TheVariants as verb
 use Rattle.line_scanner.specs.Token.{PlainToken}
 use Rattle.line_trees.specs.declared.class.Class.{Class}
 use Rattle.line_trees.specs.declared.tree.Fun.{Fun}

@@ -3,15 +3,15 @@ use Rattle.std.proofs.Common.{◌≡◌, ℕ, Bool, true, false, cond, List, [],
 use Rattle.std.specs.Prelude.{◌==◌, pos, is_some, option_map}
 use Rattle.std.proofs.lemmas.Bool.{false≢true}
 use Rattle.apl_arrays.specs.Glyph as glyph
-use Rattle.apl_arrays.specs.declared.verb.Monad.{Monad}
-use Rattle.apl_arrays.specs.declared.verb.Monad.TheVariants as monad
-use Rattle.apl_arrays.specs.declared.verb.Dyad.{Dyad}
-use Rattle.apl_arrays.specs.declared.verb.Dyad.TheVariants as dyad
-use Rattle.apl_arrays.specs.declared.verb.Way.TheVariants.{Last}
+use Rattle.apl_verbs.specs.declared.verb.Monad.{Monad}
+use Rattle.apl_verbs.specs.declared.verb.Monad.TheVariants as monad
+use Rattle.apl_verbs.specs.declared.verb.Dyad.{Dyad}
+use Rattle.apl_verbs.specs.declared.verb.Dyad.TheVariants as dyad
+use Rattle.apl_arrays.specs.declared.way.Way.TheVariants.{Last}
 use Rattle.apl_arrays.specs.declared.system.SystemName.TheVariants.{Svo, Svc, Svr, Svq, Svs}
 use Rattle.line_scanner.specs.Token.{PlainKind, numbers, chars, name, system, sign, PlainToken}
 use Rattle.line_trees.specs.declared.class.Class.{Class}
-use Rattle.apl_arrays.specs.declared.verb.Verb.TheVariants as verb
+use Rattle.apl_verbs.specs.declared.verb.Verb.TheVariants as verb
 use Rattle.line_trees.specs.declared.tree.Fun.{Fun}
 use Rattle.line_trees.specs.declared.tree.Fun.TheVariants as fun
 use Rattle.line_trees.specs.declared.tree.Mark.{Mark}

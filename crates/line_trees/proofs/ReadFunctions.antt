@@ -1,9 +1,9 @@
 -- The tokens of functions are read as their nodes, where those of their arguments are.
 use Rattle.std.proofs.Common.{◌≡◌, ℕ, Bool, true, false, cond, List, [], ◌∷◌, ◌++◌, Option, Some, None, Ok, length, refl, sym, ap, subst, ◌∙◌, append_assoc}
 use Rattle.std.proofs.lemmas.Bool.{false≢true}
-use Rattle.apl_arrays.specs.declared.verb.Monad.{Monad}
-use Rattle.apl_arrays.specs.declared.verb.Dyad.{Dyad}
-use Rattle.apl_arrays.specs.declared.verb.Verb.TheVariants as verb
+use Rattle.apl_verbs.specs.declared.verb.Monad.{Monad}
+use Rattle.apl_verbs.specs.declared.verb.Dyad.{Dyad}
+use Rattle.apl_verbs.specs.declared.verb.Verb.TheVariants as verb
 use Rattle.line_scanner.specs.Token.{PlainToken}
 use Rattle.line_trees.specs.declared.class.Class.{Class}
 use Rattle.line_trees.specs.declared.tree.Fun.{Fun}

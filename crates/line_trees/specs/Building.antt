@@ -2,9 +2,9 @@
 use Rattle.std.specs.Prelude.{◌++◌, ℕ, Bool, true, false, List, [], ◌∷◌, Option, Some, None, length}
 use Rattle.apl_arrays.specs.Array.{PlainItems}
 use Rattle.apl_arrays.specs.Array as array
-use Rattle.apl_arrays.specs.declared.verb.Dyad.{Dyad}
-use Rattle.apl_arrays.specs.declared.verb.Monad.{Monad}
-use Rattle.apl_arrays.specs.declared.verb.Verb.TheVariants as verb
+use Rattle.apl_verbs.specs.declared.verb.Dyad.{Dyad}
+use Rattle.apl_verbs.specs.declared.verb.Monad.{Monad}
+use Rattle.apl_verbs.specs.declared.verb.Verb.TheVariants as verb
 use Rattle.line_scanner.specs.Token.{PlainKind, numbers, chars, name, system, sign, PlainToken}
 use Rattle.line_trees.specs.declared.tree.Fun.{Fun}
 use Rattle.line_trees.specs.declared.tree.Fun.TheVariants as fun

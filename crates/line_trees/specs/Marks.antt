@@ -1,7 +1,8 @@
 -- What each token does in its line, read from left to right, or the place of the first token with which no line goes on.
 use Rattle.std.specs.Prelude.{◌≡◌, ℕ, Bool, true, false, List, [], ◌∷◌, Option, Some, None, Result, Ok, Err, is_some, if◌then◌else◌}
-use Rattle.apl_arrays.specs.declared.verb.Dyad.{Dyad}
-use Rattle.apl_arrays.specs.declared.verb.Monad.{Monad}
+use Rattle.apl_verbs.specs.Arguments.{verb_takes_axis}
+use Rattle.apl_verbs.specs.declared.verb.Dyad.{Dyad}
+use Rattle.apl_verbs.specs.declared.verb.Monad.{Monad}
 use Rattle.line_scanner.specs.Token.{PlainToken}
 use Rattle.line_trees.specs.declared.class.Class.{Class}
 use Rattle.line_trees.specs.declared.tree.Fun.{Fun}
@@ -23,7 +24,6 @@ use Rattle.line_trees.specs.declared.machine.Change.TheVariants.{Keep, Open, Clo
 use Rattle.line_trees.specs.declared.machine.Move.{Move}
 use Rattle.line_trees.specs.declared.refused.ParseRefused.{ParseRefused}
 use Rattle.line_trees.specs.declared.refused.ParseRefused.TheVariants.{SyntaxError, WantOfMemory}
-use Rattle.line_trees.specs.Signs.{verb_takes_axis}
 use Rattle.apl_arrays.specs.List.{first_of}
 use Rattle.line_trees.specs.Symbols.{symbol_of}
 

@@ -2,7 +2,7 @@
 use Rattle.std.specs.Prelude.{◌==◌, ◌||◌, ℕ, Option, Some, None, option_map, is_some, List, find, if◌then◌else◌}
 use Rattle.std.specs.Cmp.Lexicographic.{pointwise}
 use Rattle.apl_arrays.specs.Glyph as glyph
-use Rattle.apl_arrays.specs.declared.verb.Verb.TheVariants as verb
+use Rattle.apl_verbs.specs.declared.verb.Verb.TheVariants as verb
 use Rattle.apl_arrays.specs.declared.system.SystemName.{SystemName}
 use Rattle.apl_arrays.specs.declared.system.SystemName.TheVariants.{Svo, Svc, Svr, Svq, Svs}
 use Rattle.line_scanner.specs.Token.{PlainKind, numbers, chars, name, system, sign}

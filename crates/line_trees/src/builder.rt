@@ -16,7 +16,8 @@ use crate::stack::Stack;
 use crate::symbol::{Fold, Symbol, name_symbol, symbol_of};
 use crate::tree::{Mark, Pending};
 use crate::{Classes, Form, Fun, Node, NodeList, Places, Tree, pending};
-use apl_arrays::{Dyad, Items, List, Monad, Name, Verb, WantOfMemory};
+use apl_arrays::{Items, List, Name, WantOfMemory};
+use apl_verbs::{Dyad, Monad, Verb};
 use line_scanner::TokenKind;
 use std::alloc::Global;
 

@@ -14,7 +14,8 @@ ghost use Rattle.line_trees.specs.Order.{IsTreeInOrder};
 ghost use Rattle.line_trees.specs.Worked.{parsed_glyphs, three_classes};
 
 use crate::{Form, Fun};
-use apl_arrays::{Dyad, Mix1, Mix2, Monad, SystemName, Verb, Way};
+use apl_arrays::{SystemName, Way};
+use apl_verbs::{Dyad, Mix1, Mix2, Monad, Verb};
 
 /// Worked lines of operands and functions, each token of one glyph. The call does nothing.
 #[tactic(auto, unfolding(crate::specs::Marks::marks_from, crate::specs::Marks::step, crate::specs::Marks::may_end, crate::specs::Building::built_from, crate::specs::Building::built_by, crate::specs::Building::attached, crate::specs::Symbols::sign_symbol, crate::specs::Symbols::other_sign, crate::specs::Signs::monad_of, crate::specs::Signs::dyad_of, crate::specs::Signs::mix1_of, crate::specs::Signs::mix2_of, crate::specs::Signs::fold_of))]

@@ -4,10 +4,9 @@ ghost use Rattle.std.specs.Prelude.{◌≡◌};
 ghost use Rattle.line_trees.specs.Marks.{takes_axis, after_function, goes, opens, closes, monadic_move, dyadic_move, begin, begin_statement, begin_line, close_bracket, close_parenthesis, next_subscript, begin_subscript, begin_axis, begin_product, begin_lead, begin_by, is_bare_name, is_target, is_first, scalar_move, go_on, jot_dot, factor_move, factor, step, may_be_nothing, may_end};
 
 use crate::Fun;
-use crate::signs::verb_takes_axis;
 use crate::symbol::Symbol;
 use crate::tree::Mark;
-use apl_arrays::{Dyad, Monad};
+use apl_verbs::{Dyad, Monad, verb_takes_axis};
 
 /// Where an expression may begin: what else may stand there.
 #[derive(Clone, Copy, Debug, PartialEq, Eq)]

@@ -8,7 +8,8 @@ use crate::stack::Stack;
 use crate::symbol::Fold;
 use crate::tree::Pending;
 use crate::{Fun, Places};
-use apl_arrays::{Dyad, List, Verb, WantOfMemory};
+use apl_arrays::{List, WantOfMemory};
+use apl_verbs::{Dyad, Verb};
 use std::alloc::Global;
 
 /// A subscript ends to the left.

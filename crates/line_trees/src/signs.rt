@@ -1,10 +1,11 @@
 //! Which sign is which function.
 
 ghost use Rattle.std.specs.Prelude.{◌≡◌};
-ghost use Rattle.line_trees.specs.Signs.{monad_of, dyad_of, mix1_of, mix2_of, fold_of, folded, between, mix1_takes_axis, mix2_takes_axis, verb_takes_axis};
+ghost use Rattle.line_trees.specs.Signs.{monad_of, dyad_of, mix1_of, mix2_of, fold_of, folded, between};
 
 use crate::symbol::Fold;
-use apl_arrays::{Dyad, Glyph, Mix1, Mix2, Monad, Verb, Way};
+use apl_arrays::{Glyph, Way};
+use apl_verbs::{Dyad, Mix1, Mix2, Monad, Verb};
 
 /// The monadic scalar function of a sign.
 #[tactic(auto, unfolding(crate::specs::Signs::monad_of))]
@@ -125,32 +126,5 @@ pub fn between(fold: Fold) -> Verb
     match fold {
         Fold::Reduce(way) => Verb::Mixed2(Mix2::Compress(way)),
         Fold::Scan(way) => Verb::Mixed2(Mix2::Expand(way)),
-    }
-}
-
-fn mix1_takes_axis(function: Mix1) -> bool
-    ensures { result ≡ mix1_takes_axis function }
-{
-    matches!(function, Mix1::Reverse(_))
-}
-
-fn mix2_takes_axis(function: Mix2) -> bool
-    ensures { result ≡ mix2_takes_axis function }
-{
-    matches!(
-        function,
-        Mix2::Catenate | Mix2::Rotate(_) | Mix2::Compress(_) | Mix2::Expand(_)
-    )
-}
-
-/// Whether an axis may stand behind the function.
-pub fn verb_takes_axis(verb: Verb) -> bool
-    ensures { result ≡ verb_takes_axis verb }
-{
-    match verb {
-        Verb::Reduce(..) | Verb::Scan(..) => true,
-        Verb::Mixed1(function) => mix1_takes_axis(function),
-        Verb::Mixed2(function) => mix2_takes_axis(function),
-        Verb::One(_) | Verb::Two(_) | Verb::Inner(..) | Verb::Outer(_) => false,
     }
 }

@@ -5,7 +5,8 @@ ghost use Rattle.line_trees.specs.Symbols.{name_symbol, system_symbol, other_sig
 
 use crate::signs::{dyad_of, fold_of, mix1_of, mix2_of, monad_of};
 use crate::{Classes, Fun};
-use apl_arrays::{Dyad, Glyph, Monad, Name, SystemName, Verb, Way};
+use apl_arrays::{Glyph, Name, SystemName, Way};
+use apl_verbs::{Dyad, Monad, Verb};
 use line_scanner::TokenKind;
 
 /// The operator that a slash is behind a scalar function.

@@ -1,6 +1,7 @@
 use crate::NodeList;
 use crate::symbol::Fold;
-use apl_arrays::{Dyad, Items, List, Name, SystemName, Verb};
+use apl_arrays::{Items, List, Name, SystemName};
+use apl_verbs::{Dyad, Verb};
 
 /// A function: a primitive one, one that a name stands for, or a system function.
 #[derive(Clone, Copy, Debug, PartialEq, Eq)]

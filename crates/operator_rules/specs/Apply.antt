@@ -1,11 +1,11 @@
-use Rattle.std.specs.Prelude.{ℤ, Bool, true, false, Option, Some, None, Err}
+use Rattle.std.specs.Prelude.{ℤ, Option, Some, None, Err}
 use Rattle.apl_arrays.specs.declared.report.Report.TheVariants.{Syntax}
-use Rattle.apl_arrays.specs.declared.verb.Mix1.{Mix1}
-use Rattle.apl_arrays.specs.declared.verb.Mix1.TheVariants as one
-use Rattle.apl_arrays.specs.declared.verb.Mix2.{Mix2}
-use Rattle.apl_arrays.specs.declared.verb.Mix2.TheVariants as two
-use Rattle.apl_arrays.specs.declared.verb.Verb.{Verb}
-use Rattle.apl_arrays.specs.declared.verb.Verb.TheVariants.{One, Two, Mixed1, Mixed2, Reduce, Scan, Inner, Outer}
+use Rattle.apl_verbs.specs.declared.verb.Mix1.{Mix1}
+use Rattle.apl_verbs.specs.declared.verb.Mix1.TheVariants as one
+use Rattle.apl_verbs.specs.declared.verb.Mix2.{Mix2}
+use Rattle.apl_verbs.specs.declared.verb.Mix2.TheVariants as two
+use Rattle.apl_verbs.specs.declared.verb.Verb.{Verb}
+use Rattle.apl_verbs.specs.declared.verb.Verb.TheVariants.{One, Two, Mixed1, Mixed2, Reduce, Scan, Inner, Outer}
 use Rattle.apl_arrays.specs.Array.{PlainArray}
 use Rattle.apl_items.specs.Answers.{Answer}
 use Rattle.apl_display.specs.Format.{format_of}
@@ -29,41 +29,6 @@ use Rattle.apl_structure.specs.Reversal.{reverse_of}
 use Rattle.apl_structure.specs.Rotation.{rotate_of}
 use Rattle.apl_structure.specs.Taking.{drop_of, take_of}
 use Rattle.apl_structure.specs.Transposition.{transpose_of}
-
--- the function has two arguments
-abbrev pub is_dyadic : Verb → Bool
-is_dyadic (One f) = false
-is_dyadic (Two f) = true
-is_dyadic (Mixed1 f) = false
-is_dyadic (Mixed2 f) = true
-is_dyadic (Reduce f way) = false
-is_dyadic (Scan f way) = false
-is_dyadic (Inner f g) = true
-is_dyadic (Outer f) = true
-
--- of one argument: an axis may stand after ⌽ and ⊖
-abbrev pub one_takes_axis : Mix1 → Bool
-one_takes_axis (one.Reverse way) = true
-one_takes_axis _ = false
-
--- of two: after , ⌽ ⊖ / ⌿ \ ⍀
-abbrev pub two_takes_axis : Mix2 → Bool
-two_takes_axis two.Catenate = true
-two_takes_axis (two.Rotate way) = true
-two_takes_axis (two.Compress way) = true
-two_takes_axis (two.Expand way) = true
-two_takes_axis _ = false
-
--- an axis may stand after these, and after a reduction or a scan
-abbrev pub takes_axis : Verb → Bool
-takes_axis (One f) = false
-takes_axis (Two f) = false
-takes_axis (Mixed1 f) = one_takes_axis f
-takes_axis (Mixed2 f) = two_takes_axis f
-takes_axis (Reduce f way) = true
-takes_axis (Scan f way) = true
-takes_axis (Inner f g) = false
-takes_axis (Outer f) = false
 
 -- what a mixed function gives of one argument
 abbrev pub mixed_monadic_of : Mix1 → PlainArray → Option ℤ → Answer

@@ -1,5 +1,5 @@
 use Rattle.std.specs.Prelude.{◌+◌, ◌*◌, ◌-◌, ◌/◌, ◌%◌, ◌==◌, ◌&&◌, ◌++◌, ℕ, ℤ, Bool, not, List, Option, drop, length, slice_index_or, take, if◌then◌else◌}
-use Rattle.apl_arrays.specs.declared.verb.Dyad.{Dyad}
+use Rattle.apl_verbs.specs.declared.verb.Dyad.{Dyad}
 use Rattle.apl_arrays.specs.Array.{PlainArray, PlainItems, element_count}
 use Rattle.apl_items.specs.Answers.{Answer, answer_of}
 use Rattle.apl_items.specs.Extension.{are_whole, is_single, item_at}

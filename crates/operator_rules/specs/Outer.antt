@@ -1,5 +1,5 @@
 use Rattle.std.specs.Prelude.{◌/◌, ◌%◌, ◌++◌, ℕ, ℤ, Option}
-use Rattle.apl_arrays.specs.declared.verb.Dyad.{Dyad}
+use Rattle.apl_verbs.specs.declared.verb.Dyad.{Dyad}
 use Rattle.apl_arrays.specs.Array.{PlainArray, PlainItems, item_count}
 use Rattle.apl_items.specs.Answers.{Answer}
 use Rattle.apl_scalar.specs.Table.{pair_item}

@@ -1,8 +1,8 @@
 use Rattle.std.specs.Prelude.{◌/◌, ◌%◌, ◌==◌, ℕ, ℤ, Option, Some, Ok, Err, length, if◌then◌else◌}
 use Rattle.apl_arrays.specs.declared.items.Item.{Item}
 use Rattle.apl_arrays.specs.declared.report.Report.TheVariants.{Index}
-use Rattle.apl_arrays.specs.declared.verb.Dyad.{Dyad}
-use Rattle.apl_arrays.specs.declared.verb.Way.{Way}
+use Rattle.apl_verbs.specs.declared.verb.Dyad.{Dyad}
+use Rattle.apl_arrays.specs.declared.way.Way.{Way}
 use Rattle.apl_arrays.specs.Array.{PlainArray, PlainItems}
 use Rattle.apl_items.specs.declared.shapes.Split.{Split}
 use Rattle.apl_items.specs.Answers.{Answer}

@@ -1,7 +1,7 @@
 use Rattle.std.specs.Prelude.{◌≡◌, ◌+◌, ℕ, ℤ, zero, suc, pos, List, Option, Some, None, option_map, slice_index, slice_index_or}
 use Rattle.apl_arrays.specs.declared.items.Item.{Item}
 use Rattle.apl_arrays.specs.declared.items.Item.TheVariants.{Number, Char}
-use Rattle.apl_arrays.specs.declared.verb.Dyad.{Dyad}
+use Rattle.apl_verbs.specs.declared.verb.Dyad.{Dyad}
 use Rattle.apl_arrays.specs.Array.{PlainItems, numbers, chars}
 use Rattle.apl_items.specs.declared.shapes.Split.{Split}
 use Rattle.apl_items.specs.Shapes.{place_along}

@@ -3,3 +3,4 @@ pub mod Rounds
 pub mod Serving
 pub mod SoFar
 pub mod Stepping
+pub mod UserTurns

@@ -27,7 +27,7 @@ stays (suc m) n replay le over = elim (up_to n m le) [
 ]
 
 pub one_journal : TurnsMakeOneJournal
-one_journal bundle dealings ten twenty count more over also = by (leb count more) refl where
-  by : (b : Bool) → leb count more ≡ b → replayed bundle dealings ten twenty count ≡ replayed bundle dealings ten twenty more
-  by true e = sym (stays more count (ordered bundle.order (beginning bundle dealings ten twenty)) (leb-true count more e) over)
-  by false e = stays count more (ordered bundle.order (beginning bundle dealings ten twenty)) (let le : more ≤ count = omega (arith, leb-false count more e) in le) also
+one_journal bundle dealings replies count more over also = by (leb count more) refl where
+  by : (b : Bool) → leb count more ≡ b → replayed bundle dealings replies count ≡ replayed bundle dealings replies more
+  by true e = sym (stays more count (ordered bundle.order (beginning bundle dealings replies)) (leb-true count more e) over)
+  by false e = stays count more (ordered bundle.order (beginning bundle dealings replies)) (let le : more ≤ count = omega (arith, leb-false count more e) in le) also

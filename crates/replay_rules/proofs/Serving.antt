@@ -27,12 +27,13 @@ use Rattle.sv_rules.specs.Coupling.{coupling_now}
 use Rattle.sv_rules.specs.Entries.{Entries, is_full, next_place, since, value_got}
 use Rattle.sv_rules.specs.Legal.{IsLegal, entry_for, journal_after}
 use Rattle.sv_rules.specs.Standing.{own_offer, standing}
-use Rattle.sv_rules.specs.Story.{GrantedAccess, access_on, granted_on, handed_in, known, known_after}
+use Rattle.sv_rules.specs.Story.{GrantedAccess, access_on, handed_in, known, known_after}
 use Rattle.sv_rules.specs.Work.{first_coupled, first_open, first_work, gets_value, has_unseen, lacks_control, owes_reply, to_counter, tries, work_of}
 use Rattle.sv_rules.specs.declared.coupling.Coupling.{Coupling}
 use Rattle.sv_rules.specs.declared.standing.Standing.{Standing}
 use Rattle.sv_story_laws.specs.StoryLaws.{IsAccessTo}
 use Rattle.sv_story_laws.proofs.AccessLemmas.{IsAccessOn-from_access}
+use Rattle.sv_story_laws.proofs.AuxiliaryLemmas.{untried}
 use Rattle.sv_story_laws.proofs.WorkLemmas.{first_coupled_is_lowest}
 use Rattle.session_rules.specs.Auxiliaries.{event_of, events_of, is_use_on, partner_of, partner_on, reply_to, uses, value_used}
 use Rattle.replay_rules.specs.ServingLaws.{AuxiliariesServeTheirWork, ControlsBegin, OtherWorkTellsNothing, RepliesAnswer}
@@ -87,19 +88,7 @@ not_after users journal legal place coupling now =
     let lower = is.lower_first in
     elim is.here [ inl low ↦ omega (arith, low, made, lower) | inr high ↦ omega (arith, high, made) ]
 
--- an entry that does not try to access the offer does not
-untried : (offer : Standing) (e : PlainEntry) → tries offer e ≡ false → access_on offer e ≡ None
-untried offer e h = by (eqb e.party offer.party) refl
-  where
-    none : (access : Option Accessing) → option_map_or (λ a. same_name a.local offer.local) access false ≡ false → granted_on offer.local (handed_in e.act) e.answer access ≡ None
-    none None k = refl
-    none (Some a) k = rw k refl
-
-    by : (b : Bool) → eqb e.party offer.party ≡ b → access_on offer e ≡ None
-    by true own = rw own (none (act_row e.act).row.accesses (rw own at h))
-    by false others = rw others refl
-
--- and is no use of its name
+-- an entry that does not try to access the offer is no use of its name
 unused : (offer : Standing) (e : PlainEntry) → tries offer e ≡ false → uses offer.party offer.local e ≡ false
 unused offer e h = by (eqb e.party offer.party) refl
   where

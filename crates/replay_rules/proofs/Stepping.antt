@@ -14,7 +14,8 @@ use Rattle.sv_rules.specs.Entries.{Entries, has_left, is_held, is_leave, kind_of
 use Rattle.sv_rules.specs.Legal.{IsLegal, act_due, is_user}
 use Rattle.sv_rules.specs.Outcome.{outcome}
 use Rattle.sv_rules.specs.Refused.{act_held, awaited, last_entry, refused, waits}
-use Rattle.sv_rules.specs.Work.{is_auxiliary, work_of}
+use Rattle.aux_parties.specs.Auxiliaries.{is_auxiliary}
+use Rattle.sv_rules.specs.Work.{work_of}
 use Rattle.sv_story_laws.proofs.AnswerLemmas.{Answered, answered, given_up, held_first, unrefused}
 use Rattle.sv_story_laws.proofs.AuxiliaryLemmas.{auxiliaries_are_never_refused}
 use Rattle.sv_story_laws.proofs.StepLemmas.{work_may_follow}

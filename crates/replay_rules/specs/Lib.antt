@@ -3,4 +3,5 @@ pub mod SoFar
 pub mod SoFarLaws
 pub mod TurnLaws
 pub mod Turns
+pub mod UserTurnLaws
 pub mod Worked

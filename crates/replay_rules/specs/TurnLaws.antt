@@ -5,12 +5,12 @@ use Rattle.bundle_text.specs.Rules.{PlainBundle}
 use Rattle.session_rules.specs.Run.{Dealings}
 use Rattle.replay_rules.specs.Turns.{Replay, beginning, goes_on, ordered, rounds}
 
--- a replay after the order and so many rounds, where the shelves, 10 and 20 give these replies
-abbrev pub replayed : PlainBundle → Dealings → List PlainArray → List PlainArray → ℕ → Replay
-replayed bundle dealings ten twenty count = rounds count (ordered bundle.order (beginning bundle dealings ten twenty))
+-- a replay after the order and so many rounds, where the shelves and the auxiliaries give these replies
+abbrev pub replayed : PlainBundle → Dealings → (ℕ → List PlainArray) → ℕ → Replay
+replayed bundle dealings replies count = rounds count (ordered bundle.order (beginning bundle dealings replies))
 
 -- with the same replies a bundle's turns have one journal: no more rounds change it once all users have left
 abbrev pub TurnsMakeOneJournal : Type 0
 TurnsMakeOneJournal =
-    (bundle : PlainBundle) (dealings : Dealings) (ten twenty : List PlainArray) (count more : ℕ)
-    → goes_on (replayed bundle dealings ten twenty count) ≡ false → goes_on (replayed bundle dealings ten twenty more) ≡ false → replayed bundle dealings ten twenty count ≡ replayed bundle dealings ten twenty more
+    (bundle : PlainBundle) (dealings : Dealings) (replies : ℕ → List PlainArray) (count more : ℕ)
+    → goes_on (replayed bundle dealings replies count) ≡ false → goes_on (replayed bundle dealings replies more) ≡ false → replayed bundle dealings replies count ≡ replayed bundle dealings replies more

@@ -1,18 +1,20 @@
--- The turns of a replay: those of the order, and then rounds over 10, 20 and the users, ascending, until all users have left.
+-- The turns of a replay: those of the order, and then rounds over the auxiliaries, 10 and 20, and the users, ascending, until all users have left.
 use Rattle.std.specs.Prelude.{◌≡◌, ◌≢◌, ◌++◌, ◌==◌, ℕ, zero, suc, Bool, true, false, List, [], ◌∷◌, map, Option, Some, None, All, IsTrue, if◌then◌else◌}
 use Rattle.std.specs.Option.{option_map_or}
 use Rattle.apl_arrays.specs.Array.{PlainArray}
-use Rattle.apl_arrays.specs.Parties.{clock_party, text_party}
 use Rattle.sv_events.specs.Answer.{PlainAnswer}
 use Rattle.sv_events.specs.Work.{act_of}
 use Rattle.sv_events.specs.declared.event.Act.{Act}
 use Rattle.sv_events.specs.declared.event.Act.TheVariants.{Leave}
 use Rattle.sv_events.specs.declared.work.Work.{Work}
 use Rattle.sv_events.specs.declared.work.Work.TheVariants as work
+use Rattle.aux_parties.specs.Auxiliaries.{auxiliaries, is_auxiliary, party_of}
 use Rattle.sv_rules.specs.Entries.{Entries, has_left, is_held, kind_of, next_place}
 use Rattle.sv_rules.specs.Legal.{answer_to, entry_for, journal_after, retried}
 use Rattle.sv_rules.specs.Refused.{waits}
 use Rattle.sv_rules.specs.Work.{work_of}
+use Rattle.aux_parties.specs.declared.auxiliary.AuxiliaryKind.{AuxiliaryKind}
+use Rattle.aux_parties.specs.declared.auxiliary.AuxiliaryRow.{AuxiliaryRow}
 use Rattle.sv_core.specs.Retry.{core_retried}
 use Rattle.bundle_text.specs.Rules.{PlainBundle}
 use Rattle.bundle_text.specs.User.{PlainUser}
@@ -28,11 +30,10 @@ pub record Participant : Type 0 where
   pub replies : List Reply
   pub answers : List PlainAnswer
 
--- a replay between two turns: the journal, the replies that 10 and 20 have still to give, and the users
+-- a replay between two turns: the journal, the replies that each auxiliary has still to give, and the users
 pub record Replay : Type 0 where
   pub journal : Entries
-  pub ten : List PlainArray
-  pub twenty : List PlainArray
+  pub replies : ℕ → List PlainArray
   pub users : List Participant
 
 -- ---- the turn of an auxiliary
@@ -57,12 +58,19 @@ served_by journal party replies due = serving journal party replies (act_of due 
 abbrev pub served : Entries → ℕ → List PlainArray → Served
 served journal party replies = served_by journal party replies (work_of journal party)
 
--- the turn of 10, and that of 20
-abbrev pub turn_of_ten : Replay → Replay
-turn_of_ten replay = let after = served replay.journal clock_party replay.ten in record replay { journal = after.journal; ten = after.replies }
+-- the replies that are left, where a party has these left and others what they had
+abbrev pub with_left : ℕ → List PlainArray → (ℕ → List PlainArray) → ℕ → List PlainArray
+with_left party left replies other = if other == party then left else replies other
 
-abbrev pub turn_of_twenty : Replay → Replay
-turn_of_twenty replay = let after = served replay.journal text_party replay.twenty in record replay { journal = after.journal; twenty = after.replies }
+-- the turn of an auxiliary in a replay
+abbrev pub auxiliary_turn : ℕ → Replay → Replay
+auxiliary_turn party replay =
+    let after = served replay.journal party (replay.replies party) in record replay { journal = after.journal; replies = with_left party after.replies replay.replies }
+
+-- a turn for each of these auxiliaries, in their order
+abbrev pub auxiliary_turns : List AuxiliaryRow → Replay → Replay
+auxiliary_turns [] replay = replay
+auxiliary_turns (row ∷ rows) replay = auxiliary_turns rows (auxiliary_turn row.party replay)
 
 -- ---- the turn of a user
 
@@ -121,20 +129,18 @@ user_turns test replay =
 abbrev pub goes_on : Replay → Bool
 goes_on replay = some_stay (numbers_of replay.users) replay.journal
 
--- the turn of a party by its number
+-- the turn of a party by its number: that of an auxiliary, or of a user
 abbrev pub party_turn : ℕ → Replay → Replay
-party_turn party replay =
-    if party == clock_party then turn_of_ten replay else if party == text_party then turn_of_twenty replay
-    else user_turns (λ user. user.number == party) replay
+party_turn party replay = if is_auxiliary party then auxiliary_turn party replay else user_turns (λ user. user.number == party) replay
 
 -- the turns of an order, one after another; behind the last leave nothing is done
 abbrev pub ordered : List ℕ → Replay → Replay
 ordered [] replay = replay
 ordered (party ∷ order) replay = ordered order (if goes_on replay then party_turn party replay else replay)
 
--- a round: 10, 20 and the users
+-- a round: the auxiliaries, in the order of their table, and the users
 abbrev pub round : Replay → Replay
-round replay = user_turns (λ user. true) (turn_of_twenty (turn_of_ten replay))
+round replay = user_turns (λ user. true) (auxiliary_turns auxiliaries replay)
 
 -- so many rounds; behind the last leave nothing is done
 abbrev pub rounds : ℕ → Replay → Replay
@@ -145,20 +151,18 @@ rounds (suc count) replay = let before = rounds count replay in if goes_on befor
 abbrev pub newcomer : Dealings → PlainUser → Participant
 newcomer dealings user = record { number = user.number; lines = user.lines; replies = replies_in (dealings user.number); answers = [] }
 
--- before the first turn, where the shelves, 10 and 20 will give these replies
-abbrev pub beginning : PlainBundle → Dealings → List PlainArray → List PlainArray → Replay
-beginning bundle dealings ten twenty = record { journal = []; ten = ten; twenty = twenty; users = map (newcomer dealings) bundle.users }
+-- before the first turn, where the shelves and the auxiliaries will give these replies
+abbrev pub beginning : PlainBundle → Dealings → (ℕ → List PlainArray) → Replay
+beginning bundle dealings replies = record { journal = []; replies = replies; users = map (newcomer dealings) bundle.users }
 
--- 10 and 20 have replies left to give
-pub record HasReplies (replay : Replay) : Type 0 where
-  pub ten : replay.ten ≢ []
-  pub twenty : replay.twenty ≢ []
+-- each auxiliary has replies left to give
+abbrev pub HasReplies : Replay → Type 0
+HasReplies replay = (kind : AuxiliaryKind) → replay.replies (party_of kind) ≢ []
 
--- the journal of a bundle's turns with these dealings: with the replies that 10 and 20 gave in it, and some that they never gave, so that no turn wanted one, it is the one after the order and so many rounds that all users have left
+-- the journal of a bundle's turns with these dealings: with the replies that the auxiliaries gave in it, and some that they never gave, so that no turn wanted one, it is the one after the order and so many rounds that all users have left
 pub record IsJournalOfTurns (bundle : PlainBundle) (dealings : Dealings) (journal : Entries) : Type 0 where
-  pub ten : List PlainArray
-  pub twenty : List PlainArray
+  pub replies : ℕ → List PlainArray
   pub count : ℕ
-  pub last : (rounds count (ordered bundle.order (beginning bundle dealings ten twenty))).journal ≡ journal
-  pub enough : HasReplies (rounds count (ordered bundle.order (beginning bundle dealings ten twenty)))
+  pub last : (rounds count (ordered bundle.order (beginning bundle dealings replies))).journal ≡ journal
+  pub enough : HasReplies (rounds count (ordered bundle.order (beginning bundle dealings replies)))
   pub left : All (λ user. IsTrue (has_left journal user.number)) bundle.users

@@ -1,12 +1,14 @@
 -- Worked replays.
-use Rattle.std.specs.Prelude.{ℕ, List, []}
+use Rattle.std.specs.Prelude.{ℕ, List, [], ◌∷◌, codes}
 use Rattle.apl_arrays.specs.Array.{PlainArray}
 use Rattle.apl_meaning.specs.Worked.{texts}
 use Rattle.bundle_text.specs.Rules.{PlainBundle}
 use Rattle.bundle_text.specs.User.{PlainUser}
+use Rattle.sv_events.specs.Answer.{PlainAnswer}
 use Rattle.sv_rules.specs.Entries.{Entries}
 use Rattle.session_rules.specs.Run.{Dealings}
 use Rattle.replay_rules.specs.TurnLaws.{replayed}
+use Rattle.replay_rules.specs.Turns.{Participant, with_left}
 
 -- a user with these lines
 abbrev pub user : ℕ → List (List ℕ) → PlainUser
@@ -20,6 +22,30 @@ bundle_of users order = record { users = users; order = order; files = []; clock
 abbrev pub no_dealings : Dealings
 no_dealings user = []
 
--- the journal after so many rounds, where the clock gives these replies
-abbrev pub journal_of : PlainBundle → List PlainArray → ℕ → Entries
-journal_of bundle ten count = (replayed bundle no_dealings ten [] count).journal
+-- no auxiliary gives a reply
+abbrev pub no_replies : ℕ → List PlainArray
+no_replies party = []
+
+-- one auxiliary gives these replies, and the others none
+abbrev pub gives : ℕ → List PlainArray → ℕ → List PlainArray
+gives party replies = with_left party replies no_replies
+
+-- the journal after so many rounds, where the auxiliaries give these replies
+abbrev pub journal_of : PlainBundle → (ℕ → List PlainArray) → ℕ → Entries
+journal_of bundle replies count = (replayed bundle no_dealings replies count).journal
+
+-- a user of the clock, which sets a value and uses the answer
+abbrev pub clock_bundle : PlainBundle
+clock_bundle = bundle_of (user 1001 (codes "10 ⎕SVO 'C'" ∷ codes "C←0" ∷ codes "C" ∷ []) ∷ []) []
+
+-- a user of the text files, which controls the name, asks for a file and uses the answer
+abbrev pub text_bundle : PlainBundle
+text_bundle = bundle_of (user 1001 (codes "20 ⎕SVO 'T'" ∷ codes "1 1 1 1 ⎕SVC 'T'" ∷ codes "T←'READ GONE'" ∷ codes "T" ∷ []) ∷ []) []
+
+-- one that controls the name, and uses an answer for which it never asked
+abbrev pub stuck_bundle : PlainBundle
+stuck_bundle = bundle_of (user 1001 (codes "20 ⎕SVO 'T'" ∷ codes "1 1 1 1 ⎕SVC 'T'" ∷ codes "T" ∷ []) ∷ []) []
+
+-- a user that offers a name, whose line was given these answers
+abbrev pub offering : List PlainAnswer → Participant
+offering answers = record { number = 1001; lines = texts (codes "1002 ⎕SVO 'X'" ∷ []); replies = []; answers = answers }

@@ -6,7 +6,7 @@ mod serving_laws;
 mod so_far_laws;
 pub mod worked;
 
-pub use laws::one_journal_of_turns;
+pub use laws::{one_journal_of_turns, users_take_turns};
 pub use serving_laws::{
     auxiliaries_serve_their_work, controls_begin, other_work_tells_nothing, replies_answer,
     waiters_are_answered,

@@ -1,11 +1,11 @@
 -- Before each entry of a run some user has not left.
 use Rattle.std.proofs.Common.{◌≡◌, ℕ, ◌==◌, ◌||◌, Bool, true, false, not, List, [], ◌∷◌, IsTrue, inl, inr, sym, ap, subst, ◌∙◌}
 use Rattle.std.proofs.lemmas.Bool.{and_parts, eq-eqb, eqb-true, or_cases, or_left, or_right}
-use Rattle.apl_arrays.specs.Parties.{clock_party, text_party}
 use Rattle.sv_events.specs.Entry.{PlainEntry}
+use Rattle.aux_parties.specs.Auxiliaries.{is_auxiliary, party_of}
 use Rattle.sv_rules.specs.Entries.{Entries, has_left}
 use Rattle.sv_rules.specs.Legal.{is_user}
-use Rattle.sv_rules.specs.Work.{is_auxiliary}
+use Rattle.aux_parties.proofs.TableLemmas.{kind_of_party}
 use Rattle.session_rules.specs.Auxiliaries.{acts_among, some_stay}
 use Rattle.session_rules.specs.RunLaws.{NothingFollowsTheLastLeave}
 
@@ -24,10 +24,7 @@ auxiliary_stays users party journal e own among =
     ap (λ (same : Bool). not same || some_stay users journal) (sym (eq-eqb e.party party own)) ∙ first
 
 pub last_leave : NothingFollowsTheLastLeave
-last_leave users journal e legal clock text = elim (or_cases (is_user users e.party) (is_auxiliary e.party) legal.0.party) [
+last_leave users journal e legal among = elim (or_cases (is_user users e.party) (is_auxiliary e.party) legal.0.party) [
   | inl user ↦ user_stays users journal e.party user legal.0.present
-  | inr auxiliary ↦ elim (or_cases (e.party == clock_party) (e.party == text_party) auxiliary) [
-    | inl ten ↦ auxiliary_stays users clock_party journal e (eqb-true e.party clock_party ten) clock
-    | inr twenty ↦ auxiliary_stays users text_party journal e (eqb-true e.party text_party twenty) text
-  ]
+  | inr auxiliary ↦ let own = kind_of_party e.party auxiliary in auxiliary_stays users (party_of own.0) journal e (sym own.1) (among own.0)
 ]

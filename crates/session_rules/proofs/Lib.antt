@@ -4,6 +4,7 @@ pub mod MoreAnswers
 pub mod OneTranscript
 pub mod Parties
 pub mod Parts
+pub mod ShelfPlaces
 pub mod Shelves
 pub mod Taking
 pub mod Tame

@@ -1,4 +1,5 @@
 pub mod Auxiliaries
+pub mod Behind
 pub mod Commands
 pub mod Course
 pub mod Run

@@ -1,14 +1,16 @@
 -- A run of a bundle: one legal journal, and each party's part of it.
 use Rattle.std.specs.Prelude.{◌≡◌, ℕ, List, [], ◌∷◌, Option, map}
 use Rattle.apl_arrays.specs.Array.{PlainArray}
-use Rattle.apl_arrays.specs.Parties.{clock_party, text_party}
 use Rattle.apl_io.specs.Content.{Told}
+use Rattle.aux_parties.specs.Auxiliaries.{party_of}
 use Rattle.sv_rules.specs.Entries.{Entries}
 use Rattle.sv_rules.specs.Legal.{IsLegal}
+use Rattle.aux_parties.specs.declared.auxiliary.AuxiliaryKind.{AuxiliaryKind}
 use Rattle.bundle_text.specs.Rules.{PlainBundle}
 use Rattle.bundle_text.specs.User.{PlainUser}
 use Rattle.sv_journal.specs.Output.{PlainTranscript}
 use Rattle.session_rules.specs.Auxiliaries.{IsAuxiliaryPart}
+use Rattle.session_rules.specs.Behind.{forgets_of, of_each, replies_of}
 use Rattle.session_rules.specs.Shelf.{Exchange, IsShelfRun}
 use Rattle.session_rules.specs.UserPart.{IsUserPart}
 
@@ -40,10 +42,10 @@ module _ {K : Type 0} (told : K → Option (Told (ℕ × List ℕ))) (faults : K
 module _ {X Y K : Type 0} (forgets_ten : X → ℕ → X → Type 0) (replies_ten : X → ℕ → PlainArray → PlainArray → X → Type 0)
     (forgets_twenty : Y → ℕ → Y → Type 0) (replies_twenty : Y → ℕ → PlainArray → PlainArray → Y → Type 0)
     (told : K → Option (Told (ℕ × List ℕ))) (faults : K → ℕ) where
-  -- a run of a bundle with these dealings: its journal is legal; each user has its part, and its shelf served it; and the auxiliaries 10 and 20 have theirs, which lead what answers behind them from one state to another
+  -- a run of a bundle with these dealings: its journal is legal; each user has its part, and its shelf served it; and each auxiliary has its own, which leads what answers behind it from one state to another
   pub record IsRun (bundle : PlainBundle) (dealings : Dealings) (journal : Entries) (transcripts : List PlainTranscript) (ten ten_then : X) (twenty twenty_then : Y) (shelves shelves_then : List K) : Type 0 where
     pub legal : IsLegal (user_numbers bundle) journal
     pub users : AreUserParts dealings journal bundle.users transcripts
     pub shelves_served : ServeUsers told faults dealings bundle.users shelves shelves_then
-    pub ten_part : IsAuxiliaryPart forgets_ten replies_ten (user_numbers bundle) clock_party journal ten ten_then
-    pub twenty_part : IsAuxiliaryPart forgets_twenty replies_twenty (user_numbers bundle) text_party journal twenty twenty_then
+    pub parts : (kind : AuxiliaryKind) →
+        IsAuxiliaryPart (forgets_of forgets_ten forgets_twenty kind) (replies_of replies_ten replies_twenty kind) (user_numbers bundle) (party_of kind) journal (of_each ten twenty kind) (of_each ten_then twenty_then kind)

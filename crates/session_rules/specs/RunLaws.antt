@@ -1,16 +1,18 @@
 -- What holds of the parts of a run.
-use Rattle.std.specs.Prelude.{◌≡◌, ◌≢◌, ℕ, List, ◌∷◌, IsTrue}
+use Rattle.std.specs.Prelude.{◌≡◌, ◌≢◌, ℕ, List, ◌∷◌, IsTrue, Option}
 use Rattle.apl_arrays.specs.Array.{PlainArray}
-use Rattle.apl_arrays.specs.Parties.{clock_party, text_party}
+use Rattle.apl_io.specs.Content.{KeepsPlaces, Told}
 use Rattle.sv_events.specs.Entry.{PlainEntry}
+use Rattle.aux_parties.specs.Auxiliaries.{party_of}
 use Rattle.sv_rules.specs.Entries.{Entries}
 use Rattle.sv_rules.specs.Legal.{IsLegal}
+use Rattle.aux_parties.specs.declared.auxiliary.AuxiliaryKind.{AuxiliaryKind}
 use Rattle.bundle_text.specs.Rules.{PlainBundle}
 use Rattle.bundle_text.specs.User.{PlainUser}
 use Rattle.sv_journal.specs.Output.{PlainTranscript}
 use Rattle.session_rules.specs.Auxiliaries.{IsAuxiliaryPart, acts_among, some_stay}
 use Rattle.session_rules.specs.Run.{AreUserParts, Dealings}
-use Rattle.session_rules.specs.Shelf.{Exchange}
+use Rattle.session_rules.specs.Shelf.{Exchange, IsShelfRun}
 use Rattle.session_rules.specs.UserPart.{IsUserPart}
 
 -- a user's part stays true when an entry of another party follows
@@ -35,4 +37,9 @@ PartsMakeOneTranscript =
 abbrev pub NothingFollowsTheLastLeave : Type 0
 NothingFollowsTheLastLeave =
     (users : List ℕ) (journal : Entries) (e : PlainEntry) → IsLegal users (e ∷ journal)
-    → IsTrue (acts_among users clock_party (e ∷ journal)) → IsTrue (acts_among users text_party (e ∷ journal)) → IsTrue (some_stay users journal)
+    → ((kind : AuxiliaryKind) → IsTrue (acts_among users (party_of kind) (e ∷ journal))) → IsTrue (some_stay users journal)
+
+-- a shelf that serves a user is given no place
+abbrev pub ShelvesKeepTheirPlaces : {K : Type 0} → (K → Option (Told (ℕ × List ℕ))) → (K → ℕ) → Type 0
+ShelvesKeepTheirPlaces {K = K} told faults =
+    (user : ℕ) (start end : K) (exchanges : List Exchange) → IsShelfRun told faults user start exchanges end → KeepsPlaces (told start) (told end)

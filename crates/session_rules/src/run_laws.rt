@@ -1,5 +1,6 @@
-ghost use Rattle.session_rules.specs.RunLaws.{NothingFollowsTheLastLeave, OthersChangeNoAuxiliaryPart, OthersChangeNoUserPart, PartsMakeOneTranscript};
+ghost use Rattle.session_rules.specs.RunLaws.{NothingFollowsTheLastLeave, OthersChangeNoAuxiliaryPart, OthersChangeNoUserPart, PartsMakeOneTranscript, ShelvesKeepTheirPlaces};
 
+use apl_io::Shelf;
 use auxiliaries::Replier;
 
 /// What others enter behind a user's part leaves that part true. The call does nothing. No memory.
@@ -22,4 +23,10 @@ pub fn one_transcript_of_parts()
 /// memory.
 pub fn nothing_follows_the_last_leave()
     ensures { NothingFollowsTheLastLeave }
+{}
+
+/// Commands give no place to the shelf that they call: where it tells the places that it was given, these stay. The call does
+/// nothing. No memory.
+pub fn shelves_keep_their_places<K: Shelf>()
+    ensures { ShelvesKeepTheirPlaces K.told K.faults }
 {}

@@ -1,2 +1,1 @@
-pub mod RetryLemmas
 pub mod TableLemmas

@@ -3,6 +3,7 @@ ghost use Rattle.std.specs.Prelude.{◌≡◌};
 use crate::retries::try_again;
 use anyhow::{Result, bail};
 use apl_arrays::{Glyph, Name};
+use aux_parties::is_auxiliary;
 use case_fields::zeros;
 use case_tables::Trial;
 use std::alloc::Global;
@@ -10,7 +11,7 @@ use sv_access::Control;
 use sv_core::Core;
 use sv_events::{Act, Answer, AnswerKind, AnswerRow, Retry};
 use sv_plain::is_full;
-use sv_rules::{ENTRY_LIMIT, is_auxiliary, is_leave};
+use sv_rules::{ENTRY_LIMIT, is_leave};
 
 /// Journals that are filled: by the questions of one user, by a list of 64 names, which one of 63 does not, and by values
 /// while a user waits.

@@ -1,23 +1,25 @@
 ghost use Rattle.std.specs.Prelude.{◌≡◌, Bool, None, Some, IsTrue, IfOk, IfSome, not, false, true};
+ghost use Rattle.apl_arrays.specs.Parties.{is_user_number};
 ghost use Rattle.sv_core.specs.Core.{ArePeople};
 ghost use Rattle.sv_events.specs.Row.{act_row};
 ghost use Rattle.sv_events.specs.declared.work.Work.TheVariants.{Reply};
 ghost use Rattle.sv_rules.specs.Entries.{has_left, is_leave};
 ghost use Rattle.sv_rules.specs.Legal.{act_for, is_user};
 ghost use Rattle.sv_rules.specs.Refused.{awaited};
-ghost use Rattle.sv_rules.specs.Work.{is_auxiliary};
+ghost use Rattle.aux_parties.specs.Auxiliaries.{is_auxiliary};
 
 use crate::equal::is_equal;
 use crate::journals::{entries_of, users_of, verdict};
 use crate::retries::{still_held_are_told, try_again};
 use crate::told::is_told;
 use anyhow::{Result, bail};
-use apl_arrays::{Array, Name};
+use apl_arrays::{Array, FIRST_USER, LAST_USER, Name};
+use aux_parties::is_auxiliary;
 use case_tables::Trial;
 use std::alloc::Global;
 use sv_core::Core;
 use sv_events::{Act, Entry, Retry, Work, act_of};
-use sv_rules::{is_auxiliary, is_leave};
+use sv_rules::is_leave;
 
 /// Journals that the processor makes, an entry after another: `legal`, or the number of the first that it makes
 /// otherwise, or not at all. What an auxiliary does is its work, of which it has to be told what the entries say. Before
@@ -133,11 +135,18 @@ fn made_count(alloc: Global, users: &[u32], entries: &[Entry]) -> Result<usize>
     made
 }
 
-// Whether no user is an auxiliary.
+// Whether it is the number of a user.
+fn is_user_number(number: u32) -> bool
+    ensures { result ≡ is_user_number number }
+{
+    FIRST_USER <= number && number <= LAST_USER
+}
+
+// Whether all are.
 fn are_people(users: &[u32]) -> bool
     ensures { IsTrue result → ArePeople users.now }
 {
-    users.iter().all(|user| !is_auxiliary(*user))
+    users.iter().all(|user| is_user_number(*user))
 }
 
 impl Trial for Played {
@@ -152,7 +161,7 @@ impl Trial for Played {
         let users = users_of(alloc, *users)?;
         let entries = entries_of(alloc, *journal)?;
         if !are_people(&users) {
-            bail!("an auxiliary is no user");
+            bail!("users are 1001 to 1999");
         }
         let made = made_count(alloc, &users, &entries)?;
         verdict(alloc, made, entries.len())

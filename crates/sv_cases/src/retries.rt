@@ -9,7 +9,7 @@ use sv_plain::{is_stuck, refused};
 use sv_rules::is_held;
 
 /// A party that waits tries again.
-#[tactic(auto, using(crate::proofs::RetryLemmas::users_stay))]
+#[tactic(auto, using(sv_core::proofs::RetryLemmas::users_stay))]
 pub fn try_again(core: &mut Core, party: u32) -> Result<Retry>
     requires { IsTrue (waits core.old.journal party) }
     ensures { core.new.users ≡ core.old.users }

@@ -5,7 +5,7 @@ use case_fields::{stated, value_text};
 use case_tables::Trial;
 use std::alloc::Global;
 use sv_access::{Side, State};
-use sv_story::Share;
+use sv_kept::Share;
 
 /// Stories of a coupling: what its two sides know, and what they do since. Found are whose set is unseen, the value set
 /// last, and what each side knows, or where going over the story says another state than the share, both.

@@ -1,6 +1,7 @@
 ghost use Rattle.std.specs.Prelude.{◌≡◌, true};
 ghost use Rattle.sv_events.specs.declared.work.Work.TheVariants.{Control, Reply};
-ghost use Rattle.sv_rules.specs.Work.{is_auxiliary, work_of};
+ghost use Rattle.aux_parties.specs.Auxiliaries.{is_auxiliary};
+ghost use Rattle.sv_rules.specs.Work.{work_of};
 
 use apl_arrays::{Array, Name};
 use sv_core::Core;

@@ -7,12 +7,12 @@ use Rattle.sv_access.specs.declared.access.Side.{Side}
 use Rattle.sv_access.specs.declared.access.Side.TheVariants.{A, B}
 use Rattle.sv_access.specs.declared.control.Control.{Control}
 use Rattle.sv_events.specs.Entry.{PlainEntry}
-use Rattle.sv_cells.specs.Cell.{known_alone, answered, holding}
-use Rattle.sv_cells.specs.Cells.{cell_at}
-use Rattle.sv_cells.specs.declared.cell.Cell.{Cell}
-use Rattle.sv_cells.specs.declared.cell.Held.{Held}
-use Rattle.sv_cells.specs.declared.cell.Held.TheVariants.{Alone, Shared}
-use Rattle.sv_cells.specs.declared.cells.Cells.{Cells}
+use Rattle.sv_kept.specs.Cell.{known_alone, answered, holding}
+use Rattle.sv_kept.specs.Cells.{cell_at}
+use Rattle.sv_kept.specs.declared.cell.Cell.{Cell}
+use Rattle.sv_kept.specs.declared.cell.Held.{Held}
+use Rattle.sv_kept.specs.declared.cell.Held.TheVariants.{Alone, Shared}
+use Rattle.sv_kept.specs.declared.cells.Cells.{Cells}
 use Rattle.sv_rules.specs.Control.{control_on, side_at}
 use Rattle.sv_rules.specs.Coupling.{coupling_now}
 use Rattle.sv_rules.specs.Entries.{Entries}
@@ -22,7 +22,7 @@ use Rattle.sv_rules.specs.Story.{GrantedAccess, access_on, known, known_after}
 use Rattle.sv_rules.specs.Work.{gets_value}
 use Rattle.sv_rules.specs.declared.coupling.Coupling.{Coupling}
 use Rattle.sv_rules.specs.declared.standing.Standing.{Standing}
-use Rattle.sv_story.specs.Share.{PlainShare}
+use Rattle.sv_kept.specs.Share.{PlainShare}
 use Rattle.sv_offer_laws.specs.CouplingLaws.{IsCouplingOf}
 use Rattle.sv_offer_laws.proofs.LookupLemmas.{found_as_made}
 use Rattle.sv_cell_laws.specs.Fits.{HoldsShare, has_share, has_none, FitsHeld, is_open, is_coupled, FitsCell, FitCells}

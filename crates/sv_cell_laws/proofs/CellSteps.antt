@@ -6,12 +6,12 @@ use Rattle.std.proofs.lemmas.Option.{none-some, same_Some}
 use Rattle.std.proofs.lemmas.List.Elements.{All-contains}
 use Rattle.sv_access.specs.declared.access.Side.{Side}
 use Rattle.sv_events.specs.Entry.{PlainEntry}
-use Rattle.sv_story.specs.Share.{PlainShare}
-use Rattle.sv_cells.specs.Cell.{known_alone}
-use Rattle.sv_cells.specs.declared.cell.Cell.{Cell}
-use Rattle.sv_cells.specs.declared.cell.Held.{Held}
-use Rattle.sv_cells.specs.declared.cell.Held.TheVariants.{Alone, Shared, Lent}
-use Rattle.sv_cells.specs.declared.cells.Cells.{Cells}
+use Rattle.sv_kept.specs.Share.{PlainShare}
+use Rattle.sv_kept.specs.Cell.{known_alone}
+use Rattle.sv_kept.specs.declared.cell.Cell.{Cell}
+use Rattle.sv_kept.specs.declared.cell.Held.{Held}
+use Rattle.sv_kept.specs.declared.cell.Held.TheVariants.{Alone, Shared, Lent}
+use Rattle.sv_kept.specs.declared.cells.Cells.{Cells}
 use Rattle.sv_rules.specs.Control.{control_on, side_at, vector_of}
 use Rattle.sv_rules.specs.Coupling.{coupling_at, coupling_now, couplings}
 use Rattle.std.specs.Option.{option_map_or}
@@ -24,11 +24,8 @@ use Rattle.sv_rules.specs.Work.{gets_value, lacks_control, owes_reply, tries}
 use Rattle.sv_rules.specs.declared.coupling.Coupling.{Coupling}
 use Rattle.sv_rules.specs.declared.standing.Standing.{Standing}
 use Rattle.sv_offer_laws.specs.CouplingLaws.{IsCouplingOf}
-use Rattle.sv_offer_laws.specs.LegalLaws.{HasMatchingOffers}
-use Rattle.sv_offer_laws.proofs.LegalLemmas.{IsSound-from_legal}
-use Rattle.sv_offer_laws.proofs.MatchLemmas.{match_apart}
 use Rattle.sv_offer_laws.proofs.LookupLemmas.{found_as_made}
-use Rattle.sv_offer_laws.proofs.NowLemmas.{coupling_among, coupling_places, coupling_is_found}
+use Rattle.sv_offer_laws.proofs.NowLemmas.{coupling_is_found, coupling_places, partners_differ}
 use Rattle.sv_offer_laws.proofs.PlaceLemmas.{IsPlaceIn, places_within}
 use Rattle.sv_story_laws.proofs.AnswerLemmas.{uses_get_what_they_find}
 use Rattle.sv_story_laws.proofs.OpeningLemmas.{known_later}
@@ -68,12 +65,6 @@ owes_later e journal offer coupling old =
 coupling_stays : (journal : Entries) (e : PlainEntry) → Stays journal e → (place : ℕ) → coupling_now (e ∷ journal) place ≡ coupling_now journal place
 coupling_stays journal e stays place =
     ap (λ offers. coupling_at offers (couplings (e ∷ journal)) place) stays.offers ∙ ap (λ ms. coupling_at (standing journal) ms place) stays.coupled
-
--- the two offers of a coupling are of different parties
-partners_differ : (users : List ℕ) (journal : Entries) → IsLegal users journal → (place : ℕ) (coupling : Coupling) → IsCouplingOf journal place coupling → coupling.a.party ≡ coupling.b.party → ⊥
-partners_differ users journal legal place coupling is same =
-    let matches = All-contains (HasMatchingOffers (standing journal)) (couplings journal) _ (IsSound-from_legal users journal legal).matching (coupling_among journal place coupling is) in
-    match_apart coupling.a coupling.b (matches coupling.a coupling.b is.has_a is.has_b refl refl) same
 
 -- an offer of another party is not accessed
 no_access : (e : PlainEntry) (offer : Standing) → eqb e.party offer.party ≡ false → access_on offer e ≡ None

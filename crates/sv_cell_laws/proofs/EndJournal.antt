@@ -8,9 +8,9 @@ use Rattle.std.proofs.lemmas.Option.{none-some, same_Some}
 use Rattle.sv_events.specs.Entry.{PlainEntry}
 use Rattle.sv_events.specs.Row.{act_row}
 use Rattle.sv_events.specs.declared.row.Ending.{Ending}
-use Rattle.sv_cells.specs.declared.cell.Cell.{Cell}
-use Rattle.sv_cells.specs.declared.cell.Held.TheVariants.{Alone}
-use Rattle.sv_cells.specs.declared.cells.Cells.{Cells}
+use Rattle.sv_kept.specs.declared.cell.Cell.{Cell}
+use Rattle.sv_kept.specs.declared.cell.Held.TheVariants.{Alone}
+use Rattle.sv_kept.specs.declared.cells.Cells.{Cells}
 use Rattle.sv_rules.specs.Control.{side_at, vector_of}
 use Rattle.sv_rules.specs.Coupling.{couplings, coupling_at, coupling_now}
 use Rattle.sv_rules.specs.Entries.{Entries}
@@ -20,7 +20,7 @@ use Rattle.sv_rules.specs.Story.{known, known_after}
 use Rattle.sv_rules.specs.Work.{gets_value, lacks_control, owes_reply}
 use Rattle.sv_rules.specs.declared.coupling.Coupling.{Coupling}
 use Rattle.sv_rules.specs.declared.standing.Standing.{Standing}
-use Rattle.sv_story.specs.Share.{PlainShare}
+use Rattle.sv_kept.specs.Share.{PlainShare}
 use Rattle.sv_offer_laws.proofs.EndingLemmas.{standing_left}
 use Rattle.sv_offer_laws.proofs.LookupLemmas.{found_as_made}
 use Rattle.sv_offer_laws.proofs.Members.{Contains-filter, Contains-from_filter, filter_passed, list_any_member}
@@ -92,7 +92,8 @@ left_is journal e ending ends o has =
     let stays : Standing → Bool = λ (x : Standing). not (is_ended e.party ending x) in
     (Contains-from_filter stays (standing journal) o among, not-true (is_ended e.party ending o) (filter_passed stays (standing journal) o among))
 
-left_from : (journal : Entries) (e : PlainEntry) (ending : Ending) → (act_row e.act).row.ends ≡ Some ending → (o : Standing) → Contains (standing journal) o → is_ended e.party ending o ≡ false → Contains (standing (e ∷ journal)) o
+-- and one that stood before, and does not end, stands after it
+pub left_from : (journal : Entries) (e : PlainEntry) (ending : Ending) → (act_row e.act).row.ends ≡ Some ending → (o : Standing) → Contains (standing journal) o → is_ended e.party ending o ≡ false → Contains (standing (e ∷ journal)) o
 left_from journal e ending ends o has stays =
     subst (λ os. Contains os o) (sym (standing_left journal e ending ends))
     (Contains-filter (λ (x : Standing). not (is_ended e.party ending x)) (standing journal) o (not_from_false (is_ended e.party ending o) stays) has)

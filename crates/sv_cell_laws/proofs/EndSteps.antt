@@ -6,11 +6,11 @@ use Rattle.std.proofs.lemmas.Bool.{eq-eqb, eqb-true, or_cases, or_left, or_right
 use Rattle.std.proofs.lemmas.List.Folds.{list_any-append}
 use Rattle.std.proofs.lemmas.Option.{none-some, same_Some}
 use Rattle.sv_access.specs.declared.access.Side.TheVariants.{A, B}
-use Rattle.sv_cells.specs.Cell.{holding, share_in}
-use Rattle.sv_cells.specs.Cells.{PartsAt, cell_at}
-use Rattle.sv_cells.specs.declared.cell.Cell.{Cell}
-use Rattle.sv_cells.specs.declared.cell.Held.TheVariants.{Alone, Shared}
-use Rattle.sv_cells.specs.declared.cells.Cells.{Cells}
+use Rattle.sv_kept.specs.Cell.{holding, share_in}
+use Rattle.sv_kept.specs.Cells.{PartsAt, cell_at}
+use Rattle.sv_kept.specs.declared.cell.Cell.{Cell}
+use Rattle.sv_kept.specs.declared.cell.Held.TheVariants.{Alone, Shared}
+use Rattle.sv_kept.specs.declared.cells.Cells.{Cells}
 use Rattle.sv_rules.specs.Control.{side_at}
 use Rattle.sv_rules.specs.Coupling.{coupling_at}
 use Rattle.sv_rules.specs.Entries.{Entries}
@@ -19,7 +19,7 @@ use Rattle.sv_rules.specs.Standing.{is_ended}
 use Rattle.sv_rules.specs.declared.coupling.Coupling.{Coupling}
 use Rattle.sv_rules.specs.declared.coupling.Made.{Made}
 use Rattle.sv_rules.specs.declared.standing.Standing.{Standing}
-use Rattle.sv_story.specs.Share.{PlainShare}
+use Rattle.sv_kept.specs.Share.{PlainShare}
 use Rattle.sv_cell_laws.specs.Ends.{FitsIn, CellsIn, IsTable, Parts, ends_one, share_at, unless_ended, coupled_without}
 use Rattle.sv_cell_laws.specs.Fits.{FitsShare, HoldsShare, has_share, has_none, FitsHeld, is_open, is_coupled}
 use Rattle.sv_cell_laws.proofs.PutSteps.{cells_put}

@@ -9,11 +9,11 @@ use Rattle.sv_access.specs.Control.{no_control}
 use Rattle.sv_access.specs.declared.access.Side.TheVariants.{A, B}
 use Rattle.sv_events.specs.Entry.{PlainEntry}
 use Rattle.sv_events.specs.declared.entry.Pair.{Pair}
-use Rattle.sv_cells.specs.Cell.{coupled_with, known_alone, new_cell}
-use Rattle.sv_cells.specs.Cells.{PutsTwo, cell_at}
-use Rattle.sv_cells.specs.declared.cell.Cell.{Cell}
-use Rattle.sv_cells.specs.declared.cell.Held.TheVariants.{Alone, Shared, Lent}
-use Rattle.sv_cells.specs.declared.cells.Cells.{Cells}
+use Rattle.sv_kept.specs.Cell.{coupled_with, known_alone, new_cell}
+use Rattle.sv_kept.specs.Cells.{PutsTwo, cell_at}
+use Rattle.sv_kept.specs.declared.cell.Cell.{Cell}
+use Rattle.sv_kept.specs.declared.cell.Held.TheVariants.{Alone, Shared, Lent}
+use Rattle.sv_kept.specs.declared.cells.Cells.{Cells}
 use Rattle.sv_rules.specs.Control.{vector_of}
 use Rattle.sv_rules.specs.Coupling.{coupling_now, made_in, pair_of}
 use Rattle.sv_rules.specs.Entries.{Entries, next_place}
@@ -24,7 +24,7 @@ use Rattle.sv_rules.specs.Work.{lacks_control, owes_reply}
 use Rattle.sv_rules.specs.declared.coupling.Coupling.{Coupling}
 use Rattle.sv_rules.specs.declared.coupling.Made.{Made}
 use Rattle.sv_rules.specs.declared.standing.Standing.{Standing}
-use Rattle.sv_story.specs.Share.{PlainShare, share_of}
+use Rattle.sv_kept.specs.Share.{PlainShare, share_of}
 use Rattle.sv_offer_laws.specs.LegalLaws.{IsInOrder, made_at}
 use Rattle.sv_offer_laws.proofs.Members.{Contains-head, Contains-cons_cases}
 use Rattle.sv_offer_laws.proofs.CouplingLemmas.{made_in-from_WasMade, made_at_cases}

@@ -1,10 +1,9 @@
 -- Which entries touch nothing, set a control, or make an access.
-use Rattle.std.proofs.Common.{◌≡◌, refl, sym, ap, ◌∙◌, ℕ, Bool, true, false, ◌&&◌, eqb, leb, List, [], ◌∷◌, ◌++◌, map, filter, cond, Option, Some, None, is_none}
+use Rattle.std.proofs.Common.{◌≡◌, refl, sym, ap, ◌∙◌, ℕ, Bool, true, false, ◌&&◌, eqb, leb, List, [], ◌∷◌, ◌++◌, cond, Option, Some, None, is_none}
 use Rattle.std.specs.Prelude.{Contains, IsTrue}
 use Rattle.std.specs.Option.{option_map_or}
 use Rattle.std.proofs.lemmas.Bool.{eq-eqb, eqb-true, and_parts, and_from}
 use Rattle.std.proofs.lemmas.Cmp.{nat_list_eq_equiv}
-use Rattle.std.proofs.lemmas.List.{append-nil}
 use Rattle.std.proofs.lemmas.Option.{none-some, same_Some}
 use Rattle.apl_arrays.specs.Array.{PlainArray}
 use Rattle.sv_access.specs.declared.access.Kind.{Kind}
@@ -22,7 +21,7 @@ use Rattle.sv_events.specs.declared.row.Ending.TheVariants.{One, All}
 use Rattle.sv_events.specs.declared.row.Opening.{Opening}
 use Rattle.sv_events.specs.declared.row.Question.{Question}
 use Rattle.sv_rules.specs.Control.{control_on, control_to}
-use Rattle.sv_rules.specs.Coupling.{both_stand, coupling_now, couplings, degree_at, made_in, open_match}
+use Rattle.sv_rules.specs.Coupling.{coupling_now, couplings, degree_at, open_match}
 use Rattle.apl_arrays.specs.Name.{same_name}
 use Rattle.sv_events.specs.Fits.{is_degree}
 use Rattle.sv_rules.specs.Entries.{Entries, next_place, kind_of}
@@ -31,10 +30,11 @@ use Rattle.sv_rules.specs.Outcome.{Outcome, outcome, answer_only, joined_to, off
 use Rattle.sv_rules.specs.Refused.{hold_of, hold_on, waits}
 use Rattle.sv_rules.specs.Standing.{standing, own_offer, offer_count, with_offer}
 use Rattle.sv_rules.specs.Story.{GrantedAccess, access_on, granted_on}
-use Rattle.sv_rules.specs.Work.{is_auxiliary, tries}
-use Rattle.sv_rules.specs.declared.coupling.Made.{Made}
+use Rattle.aux_parties.specs.Auxiliaries.{is_auxiliary}
+use Rattle.sv_rules.specs.Work.{tries}
 use Rattle.sv_rules.specs.declared.standing.Standing.{Standing}
 use Rattle.sv_offer_laws.proofs.ChangeLemmas.{none_ends}
+use Rattle.sv_offer_laws.proofs.OfferLemmas.{couplings_stay}
 use Rattle.sv_offer_laws.proofs.OwnLemmas.{same_name-is, own_offer-is, own_offer-parts}
 use Rattle.sv_story_laws.specs.StoryLaws.{IsAccessOn}
 use Rattle.sv_story_laws.proofs.AccessLemmas.{IsAccessOn-from_access, access_on-from_IsAccessOn}
@@ -74,16 +74,7 @@ no_control_by_row e offer none =
 
 -- an entry that makes no pairs, after which the same offers stand, leaves the couplings
 pub stays_of : (journal : Entries) (e : PlainEntry) → standing (e ∷ journal) ≡ standing journal → e.made ≡ [] → Stays journal e
-stays_of journal e same none = record {
-  offers = same;
-  coupled =
-      ap (λ pairs. filter (both (standing (e ∷ journal))) (made_in journal ++ map (λ pair. let m : Made = record { pair = pair; at = next_place journal } in m) pairs)) none
-      ∙ ap (filter (both (standing (e ∷ journal)))) (append-nil (made_in journal))
-      ∙ ap (λ offers. filter (both offers) (made_in journal)) same;
-}
-  where
-    both : List Standing → Made → Bool
-    both offers made = both_stand offers made.pair
+stays_of journal e same none = record { offers = same; coupled = couplings_stay journal e same none }
 
 -- an entry of an act that makes no access and sets no control touches nothing, where it stays so
 untouching : (journal : Entries) (e : PlainEntry) → standing (e ∷ journal) ≡ standing journal → e.made ≡ [] → (act_row e.act).row.accesses ≡ None → (act_row e.act).row.controls ≡ None →

@@ -12,7 +12,7 @@ use Rattle.sv_access.specs.declared.access.Kind.TheVariants as kind
 use Rattle.sv_access.specs.State.{state_after}
 use Rattle.sv_access.specs.Story.{Story}
 use Rattle.sv_events.specs.Entry.{PlainEntry}
-use Rattle.sv_story.specs.Share.{PlainShare, IsShareOf, after_access, after_set, after_use, known_to, share_of, shared_value}
+use Rattle.sv_kept.specs.Share.{PlainShare, IsShareOf, after_access, after_set, after_use, known_to, share_of, shared_value}
 use Rattle.sv_rules.specs.Coupling.{coupling_now}
 use Rattle.sv_rules.specs.Entries.{Entries}
 use Rattle.sv_rules.specs.Legal.{IsLegal}

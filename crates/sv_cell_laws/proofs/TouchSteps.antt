@@ -6,12 +6,12 @@ use Rattle.sv_access.specs.declared.access.Side.{Side}
 use Rattle.sv_access.specs.declared.access.Side.TheVariants.{A, B}
 use Rattle.sv_access.specs.declared.control.Control.{Control}
 use Rattle.sv_events.specs.Entry.{PlainEntry}
-use Rattle.sv_cells.specs.Cell.{known_alone, controlled}
-use Rattle.sv_cells.specs.Cells.{cell_at, ChangesAt}
-use Rattle.sv_cells.specs.declared.cell.Cell.{Cell}
-use Rattle.sv_cells.specs.declared.cell.Held.{Held}
-use Rattle.sv_cells.specs.declared.cell.Held.TheVariants.{Alone, Shared}
-use Rattle.sv_cells.specs.declared.cells.Cells.{Cells}
+use Rattle.sv_kept.specs.Cell.{known_alone, controlled}
+use Rattle.sv_kept.specs.Cells.{cell_at, ChangesAt}
+use Rattle.sv_kept.specs.declared.cell.Cell.{Cell}
+use Rattle.sv_kept.specs.declared.cell.Held.{Held}
+use Rattle.sv_kept.specs.declared.cell.Held.TheVariants.{Alone, Shared}
+use Rattle.sv_kept.specs.declared.cells.Cells.{Cells}
 use Rattle.sv_rules.specs.Control.{side_at}
 use Rattle.sv_rules.specs.Coupling.{coupling_now}
 use Rattle.sv_rules.specs.Entries.{Entries}
@@ -21,7 +21,7 @@ use Rattle.sv_rules.specs.Story.{GrantedAccess, access_on, known, known_after}
 use Rattle.sv_rules.specs.Work.{gets_value}
 use Rattle.sv_rules.specs.declared.coupling.Coupling.{Coupling}
 use Rattle.sv_rules.specs.declared.standing.Standing.{Standing}
-use Rattle.sv_story.specs.Share.{PlainShare}
+use Rattle.sv_kept.specs.Share.{PlainShare}
 use Rattle.sv_offer_laws.proofs.LookupLemmas.{found_as_made}
 use Rattle.sv_offer_laws.proofs.PlaceLemmas.{places_ascend, same_by_place}
 use Rattle.sv_cell_laws.specs.Fits.{HoldsShare, has_share, has_none, FitsHeld, is_open, is_coupled, FitsCell, FitCells}

@@ -1,10 +1,10 @@
 -- What is kept of standing offers while offers end together: by the couplings that are left at the moment.
 use Rattle.std.specs.Prelude.{◌≡◌, ◌<◌, ℕ, ◌==◌, Bool, ◌&&◌, ◌||◌, nat_lt, List, [], ◌∷◌, ◌++◌, length, Contains, IsTrue, Option, Some, None, IsSome, option_and_then, if◌then◌else◌}
 use Rattle.std.specs.List.{list_any}
-use Rattle.sv_cells.specs.Cell.{share_in}
-use Rattle.sv_cells.specs.Cells.{CouplesAt, KeepsCells, PartsAt, cell_at}
-use Rattle.sv_cells.specs.declared.cell.Cell.{Cell}
-use Rattle.sv_cells.specs.declared.cells.Cells.{Cells}
+use Rattle.sv_kept.specs.Cell.{share_in}
+use Rattle.sv_kept.specs.Cells.{CouplesAt, KeepsCells, PartsAt, cell_at}
+use Rattle.sv_kept.specs.declared.cell.Cell.{Cell}
+use Rattle.sv_kept.specs.declared.cells.Cells.{Cells}
 use Rattle.sv_cell_laws.specs.Fits.{FitCells, FitsHeld, FitsWork}
 use Rattle.sv_cell_laws.specs.Steps.{Untouched}
 use Rattle.sv_events.specs.Entry.{PlainEntry}
@@ -16,11 +16,11 @@ use Rattle.sv_rules.specs.Coupling.{coupling_at, coupling_now, couplings}
 use Rattle.sv_rules.specs.Entries.{Entries}
 use Rattle.sv_rules.specs.Legal.{IsLegal}
 use Rattle.sv_rules.specs.Standing.{is_ended, standing}
-use Rattle.sv_rules.specs.Work.{is_auxiliary}
+use Rattle.aux_parties.specs.Auxiliaries.{is_auxiliary}
 use Rattle.sv_rules.specs.declared.coupling.Coupling.{Coupling}
 use Rattle.sv_rules.specs.declared.coupling.Made.{Made}
 use Rattle.sv_rules.specs.declared.standing.Standing.{Standing}
-use Rattle.sv_story.specs.Share.{PlainShare}
+use Rattle.sv_kept.specs.Share.{PlainShare}
 
 -- the cell is that of an offer with this coupling, or with none
 pub record FitsIn (journal : Entries) (offer : Standing) (cell : Cell) (coupling : Option Coupling) : Type 0 where

@@ -1,9 +1,9 @@
 -- What is kept of standing offers goes on with the journal.
 use Rattle.std.specs.Prelude.{◌≡◌, ℕ, List, ◌∷◌, length, Contains, Option, Some, None}
 use Rattle.sv_access.specs.declared.control.Control.{Control}
-use Rattle.sv_cells.specs.Cell.{controlled}
-use Rattle.sv_cells.specs.Cells.{ChangesAt}
-use Rattle.sv_cells.specs.declared.cells.Cells.{Cells}
+use Rattle.sv_kept.specs.Cell.{controlled}
+use Rattle.sv_kept.specs.Cells.{ChangesAt}
+use Rattle.sv_kept.specs.declared.cells.Cells.{Cells}
 use Rattle.sv_cell_laws.specs.Fits.{FitCells, FitsShare}
 use Rattle.sv_cell_laws.specs.Steps.{AnswersOpen, AnswersShared, CellsAfter, MakesAccess, OpensCells, OpensOffer, SetsControl, Stays, TouchesNothing}
 use Rattle.sv_events.specs.Entry.{PlainEntry}
@@ -14,7 +14,7 @@ use Rattle.sv_rules.specs.Standing.{standing}
 use Rattle.sv_rules.specs.Story.{GrantedAccess, handed_in, known}
 use Rattle.sv_rules.specs.declared.coupling.Coupling.{Coupling}
 use Rattle.sv_rules.specs.declared.standing.Standing.{Standing}
-use Rattle.sv_story.specs.Share.{share_of}
+use Rattle.sv_kept.specs.Share.{share_of}
 
 -- the share of two offers that couple, by what their parties know, is that of the coupling's story
 abbrev pub NewSharesFit : Type 0

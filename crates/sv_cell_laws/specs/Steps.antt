@@ -8,12 +8,12 @@ use Rattle.sv_access.specs.declared.control.Control.{Control}
 use Rattle.sv_access.specs.declared.access.Side.TheVariants.{A, B}
 use Rattle.std.specs.Option.{option_map_or}
 use Rattle.sv_access.specs.Access.{is_set}
-use Rattle.sv_cells.specs.Cell.{answered, coupled_with, holding, known_alone, new_cell}
-use Rattle.sv_cells.specs.Cells.{ChangesAt, PutsAt, PutsTwo, cell_at}
-use Rattle.sv_cells.specs.declared.cell.Cell.{Cell}
-use Rattle.sv_cells.specs.declared.cell.Held.{Held}
-use Rattle.sv_cells.specs.declared.cell.Held.TheVariants.{Alone, Shared, Lent}
-use Rattle.sv_cells.specs.declared.cells.Cells.{Cells}
+use Rattle.sv_kept.specs.Cell.{answered, coupled_with, holding, known_alone, new_cell}
+use Rattle.sv_kept.specs.Cells.{ChangesAt, PutsAt, PutsTwo, cell_at}
+use Rattle.sv_kept.specs.declared.cell.Cell.{Cell}
+use Rattle.sv_kept.specs.declared.cell.Held.{Held}
+use Rattle.sv_kept.specs.declared.cell.Held.TheVariants.{Alone, Shared, Lent}
+use Rattle.sv_kept.specs.declared.cells.Cells.{Cells}
 use Rattle.sv_cell_laws.specs.Fits.{FitsCell}
 use Rattle.sv_events.specs.Entry.{PlainEntry}
 use Rattle.sv_events.specs.Row.{act_row}
@@ -23,10 +23,11 @@ use Rattle.sv_rules.specs.Coupling.{coupling_now, couplings, pair_of}
 use Rattle.sv_rules.specs.Entries.{Entries, next_place}
 use Rattle.sv_rules.specs.Standing.{standing}
 use Rattle.sv_rules.specs.Story.{GrantedAccess, access_on, known_after}
-use Rattle.sv_rules.specs.Work.{is_auxiliary, gets_value, tries}
+use Rattle.aux_parties.specs.Auxiliaries.{is_auxiliary}
+use Rattle.sv_rules.specs.Work.{gets_value, tries}
 use Rattle.sv_rules.specs.declared.coupling.Coupling.{Coupling}
 use Rattle.sv_rules.specs.declared.standing.Standing.{Standing}
-use Rattle.sv_story.specs.Share.{PlainShare, after_access, share_of}
+use Rattle.sv_kept.specs.Share.{PlainShare, after_access, share_of}
 
 -- a share after the access of a side, if it made one
 abbrev pub with_access : PlainShare → Side → Option GrantedAccess → PlainShare

@@ -5,12 +5,12 @@ use Rattle.std.specs.Prelude.{Contains, IsSome, option_and_then}
 use Rattle.apl_arrays.specs.Array.{PlainArray}
 use Rattle.sv_cell_laws.specs.Fits.{FitCells, FitsHeld, FitsShare, is_coupled, is_open}
 use Rattle.sv_cell_laws.specs.Steps.{use_of}
-use Rattle.sv_cells.specs.Cell.{known_alone, share_in}
-use Rattle.sv_cells.specs.Cells.{cell_at}
-use Rattle.sv_cells.specs.declared.cell.Cell.{Cell}
-use Rattle.sv_cells.specs.declared.cell.Held.{Held}
-use Rattle.sv_cells.specs.declared.cell.Held.TheVariants.{Alone, Lent, Shared}
-use Rattle.sv_cells.specs.declared.cells.Cells.{Cells}
+use Rattle.sv_kept.specs.Cell.{known_alone, share_in}
+use Rattle.sv_kept.specs.Cells.{cell_at}
+use Rattle.sv_kept.specs.declared.cell.Cell.{Cell}
+use Rattle.sv_kept.specs.declared.cell.Held.{Held}
+use Rattle.sv_kept.specs.declared.cell.Held.TheVariants.{Alone, Lent, Shared}
+use Rattle.sv_kept.specs.declared.cells.Cells.{Cells}
 use Rattle.sv_rules.specs.Coupling.{coupling_now}
 use Rattle.sv_rules.specs.Entries.{Entries}
 use Rattle.sv_rules.specs.Legal.{IsLegal}
@@ -19,7 +19,7 @@ use Rattle.sv_rules.specs.Standing.{standing}
 use Rattle.sv_rules.specs.Story.{GrantedAccess, known}
 use Rattle.sv_rules.specs.declared.coupling.Coupling.{Coupling}
 use Rattle.sv_rules.specs.declared.standing.Standing.{Standing}
-use Rattle.sv_story.specs.Share.{PlainShare, shared_value}
+use Rattle.sv_kept.specs.Share.{PlainShare, shared_value}
 use Rattle.sv_core.proofs.EndingLemmas.{some_cell}
 use Rattle.sv_core.proofs.HoldingLemmas.{a_stands, at_its_a, known_is, share_is}
 use Rattle.sv_core.specs.Invariant.{IsKept, Parts}

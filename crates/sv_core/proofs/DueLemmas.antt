@@ -17,7 +17,8 @@ use Rattle.sv_offer_laws.proofs.Members.{Contains-from_filter, filter_passed, fi
 use Rattle.sv_rules.specs.Coupling.{coupling_now}
 use Rattle.sv_rules.specs.Entries.{Entries}
 use Rattle.sv_rules.specs.Standing.{standing}
-use Rattle.sv_rules.specs.Work.{first_coupled, is_auxiliary, own_offers}
+use Rattle.aux_parties.specs.Auxiliaries.{is_auxiliary}
+use Rattle.sv_rules.specs.Work.{first_coupled, own_offers}
 use Rattle.sv_rules.specs.declared.coupling.Coupling.{Coupling}
 use Rattle.sv_rules.specs.declared.standing.Standing.{Standing}
 use Rattle.sv_core.specs.Due.{is_partners_unseen}

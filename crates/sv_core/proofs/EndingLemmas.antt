@@ -5,9 +5,9 @@ use Rattle.std.specs.List.{filter, list_any}
 use Rattle.std.proofs.lemmas.Bool.{and_parts, or_right}
 use Rattle.std.proofs.lemmas.Map.Views.{any-filter_same}
 use Rattle.apl_arrays.specs.Name.{same_name}
-use Rattle.sv_cells.specs.Cells.{PutsAt, cell_at}
-use Rattle.sv_cells.specs.declared.cell.Cell.{Cell}
-use Rattle.sv_cells.specs.declared.cells.Cells.{Cells}
+use Rattle.sv_kept.specs.Cells.{PutsAt, cell_at}
+use Rattle.sv_kept.specs.declared.cell.Cell.{Cell}
+use Rattle.sv_kept.specs.declared.cells.Cells.{Cells}
 use Rattle.sv_cell_laws.specs.Ends.{IsTable, Joins, MayPart, Parts, coupled_without, ends_one, unless_ended}
 use Rattle.sv_cell_laws.proofs.JoinSteps.{cells_join, pair_coupling}
 use Rattle.sv_cell_laws.proofs.EndSteps.{cells_alike, cells_part, list_any-more, parts_none}

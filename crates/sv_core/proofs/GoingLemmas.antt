@@ -12,11 +12,11 @@ use Rattle.sv_events.specs.declared.event.Act.{Act}
 use Rattle.sv_events.specs.declared.event.Act.TheVariants.{Retract, Leave}
 use Rattle.sv_events.specs.declared.row.Ending.{Ending}
 use Rattle.sv_access.specs.Control.{no_control}
-use Rattle.sv_cells.specs.Cell.{coupled_with, known_alone, new_cell}
-use Rattle.sv_cells.specs.Cells.{CouplesAt, PutsAt, cell_at}
-use Rattle.sv_cells.specs.declared.cell.Cell.{Cell}
-use Rattle.sv_cells.specs.declared.cell.Held.TheVariants.{Shared, Lent}
-use Rattle.sv_cells.specs.declared.cells.Cells.{Cells}
+use Rattle.sv_kept.specs.Cell.{coupled_with, known_alone, new_cell}
+use Rattle.sv_kept.specs.Cells.{CouplesAt, PutsAt, cell_at}
+use Rattle.sv_kept.specs.declared.cell.Cell.{Cell}
+use Rattle.sv_kept.specs.declared.cell.Held.TheVariants.{Shared, Lent}
+use Rattle.sv_kept.specs.declared.cells.Cells.{Cells}
 use Rattle.sv_cell_laws.specs.Fits.{FitCells}
 use Rattle.sv_cell_laws.specs.Steps.{OpensCells}
 use Rattle.sv_cell_laws.proofs.QuietSteps.{no_access_by_row, no_control_by_row, no_tries_by_row}
@@ -29,9 +29,10 @@ use Rattle.sv_rules.specs.Entries.{Entries, has_left, is_full, is_leave, next_pl
 use Rattle.sv_rules.specs.Legal.{IsLegal, MayFollow, act_due, entry_for, is_user, reply_in}
 use Rattle.sv_rules.specs.Refused.{awaited}
 use Rattle.sv_rules.specs.Standing.{own_offer, standing, without_ended}
-use Rattle.sv_rules.specs.Work.{is_auxiliary, work_of}
+use Rattle.aux_parties.specs.Auxiliaries.{is_auxiliary}
+use Rattle.sv_rules.specs.Work.{work_of}
 use Rattle.sv_rules.specs.declared.standing.Standing.{Standing}
-use Rattle.sv_story.specs.Share.{share_of}
+use Rattle.sv_kept.specs.Share.{share_of}
 use Rattle.sv_story_laws.proofs.StepLemmas.{leaves_may_follow, steps_may_follow, work_may_follow}
 use Rattle.sv_offer_laws.proofs.RowLemmas.{outcome_of_ending}
 use Rattle.sv_events.specs.Answer.{done, kept}
@@ -40,11 +41,11 @@ use Rattle.sv_events.specs.declared.row.Ending.TheVariants.{One}
 use Rattle.sv_rules.specs.Outcome.{Outcome, outcome, retraction_outcome}
 use Rattle.sv_rules.specs.Questions.{degree_of}
 use Rattle.sv_rules.specs.Story.{known}
-use Rattle.sv_core.proofs.WaitingLemmas.{people_are}
+use Rattle.sv_core.proofs.People.{people_are}
 use Rattle.std.proofs.lemmas.Bool.{not-true}
 use Rattle.sv_core.specs.Core.{IsSpare, MayMake, PlainCore, present}
 use Rattle.sv_core.specs.Invariant.{Parts, IsKept}
-use Rattle.sv_core.specs.Updating.{IsEnding, Joined}
+use Rattle.sv_core.specs.Updating.{HasNoOther, IsEnding, Joined}
 use Rattle.sv_core.proofs.Kept.{entry_is, whole_core}
 use Rattle.sv_core.proofs.TogetherLemmas.{ending_pairs}
 
@@ -71,12 +72,13 @@ may_step core party act legal member here on due stays room = record { legal = l
 pub end_core : (core new : Parts) → IsKept core → (party : ℕ) (act : Act) (ending : Ending) → MayFollow core.users core.journal (entry_for core.journal party act) → (act_row act).row.ends ≡ Some ending →
     new.users ≡ core.users → new.journal ≡ entry_for core.journal party act ∷ core.journal →
     (let table : PlainOffers = record { offers = new.offers; coupled = new.coupled } in table) ≡ after_ending (next_place core.journal) (record { offers = core.offers; coupled = core.coupled }) party ending →
-    FitCells (entry_for core.journal party act ∷ core.journal) new.cells → present core.users (entry_for core.journal party act ∷ core.journal) ≤ new.room →
+    FitCells (entry_for core.journal party act ∷ core.journal) new.cells → HasNoOther (entry_for core.journal party act ∷ core.journal) new.cells →
+    present core.users (entry_for core.journal party act ∷ core.journal) ≤ new.room →
     present core.users (entry_for core.journal party act ∷ core.journal) ≤ length new.spares → All IsSpare new.spares → IsKept new
-end_core core new k party act ending may ends users journal table fit room count spare =
+end_core core new k party act ending may ends users journal table fit no_other room count spare =
     whole_core core new e k may users journal
     (ap (λ (t : PlainOffers). t.offers) is ∙ sym left)
-    (ap (λ (t : PlainOffers). t.coupled) is ∙ sym coupled) fit room count spare
+    (ap (λ (t : PlainOffers). t.coupled) is ∙ sym coupled) fit no_other room count spare
   where
     e : PlainEntry
     e = entry_for core.journal party act

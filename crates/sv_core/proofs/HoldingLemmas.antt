@@ -6,10 +6,10 @@ use Rattle.std.proofs.lemmas.Bool.{eq-eqb, eqb-true, eqb-false, not_from_false}
 use Rattle.std.proofs.lemmas.Option.{none-some, same_Some}
 use Rattle.sv_access.specs.declared.access.Side.TheVariants.{A, B}
 use Rattle.sv_core.specs.Core.{IsFound}
-use Rattle.sv_cells.specs.Cell.{known_alone, share_in}
-use Rattle.sv_cells.specs.Cells.{cell_at}
-use Rattle.sv_cells.specs.declared.cell.Cell.{Cell}
-use Rattle.sv_cells.specs.declared.cells.Cells.{Cells}
+use Rattle.sv_kept.specs.Cell.{known_alone, share_in}
+use Rattle.sv_kept.specs.Cells.{cell_at}
+use Rattle.sv_kept.specs.declared.cell.Cell.{Cell}
+use Rattle.sv_kept.specs.declared.cells.Cells.{Cells}
 use Rattle.sv_rules.specs.Control.{side_at}
 use Rattle.sv_access.specs.Story.{state_of_story}
 use Rattle.sv_access.specs.declared.state.State.TheVariants.{Quiet}
@@ -20,7 +20,7 @@ use Rattle.sv_rules.specs.Standing.{standing}
 use Rattle.sv_rules.specs.Story.{known, opening}
 use Rattle.sv_rules.specs.declared.coupling.Coupling.{Coupling}
 use Rattle.sv_rules.specs.declared.standing.Standing.{Standing}
-use Rattle.sv_story.specs.Share.{PlainShare, alone}
+use Rattle.sv_kept.specs.Share.{PlainShare, alone}
 use Rattle.sv_offer_laws.specs.CouplingLaws.{IsCouplingOf}
 use Rattle.sv_offer_laws.proofs.LookupLemmas.{found_as_made, found_where_coupled}
 use Rattle.sv_offer_laws.proofs.Members.{Contains-filter}

@@ -1,25 +1,27 @@
 -- What a core keeps is kept by an entry more.
-use Rattle.std.proofs.Common.{◌&&◌, ◌+◌, ◌||◌, ◌∙◌, ◌∷◌, ◌≡◌, ◌≤◌, Bool, Err, List, Ok, OnErr, OnOk, Result, [], ap, arith, false, is_ok, length, not, refl, subst, sym, true, ℕ}
+use Rattle.std.proofs.Common.{◌&&◌, ◌+◌, ◌||◌, ◌∙◌, ◌∷◌, ◌≡◌, ◌≤◌, Bool, Err, List, None, Ok, OnErr, OnOk, Result, [], ap, arith, false, is_ok, length, not, refl, subst, sym, true, ℕ}
 use Rattle.std.proofs.lemmas.List.Elements.{filter_agree}
 use Rattle.std.proofs.lemmas.List.Sums.{count_by-le-length, length-filter}
 use Rattle.std.specs.Prelude.{◌==◌, All, count_by}
 use Rattle.sv_cell_laws.proofs.TouchSteps.{cells_stay}
 use Rattle.sv_cell_laws.specs.Fits.{FitCells}
 use Rattle.sv_cell_laws.specs.Steps.{Stays, TouchesNothing}
-use Rattle.sv_cells.specs.Cells.{KeepsCells}
-use Rattle.sv_cells.specs.declared.cells.Cells.{Cells}
+use Rattle.sv_kept.specs.Cells.{KeepsCells, cell_at}
+use Rattle.sv_kept.specs.declared.cells.Cells.{Cells}
 use Rattle.sv_events.specs.Answer.{PlainAnswer}
 use Rattle.sv_events.specs.Entry.{PlainEntry}
 use Rattle.sv_events.specs.declared.entry.Pair.{Pair}
 use Rattle.sv_events.specs.declared.event.Act.{Act}
-use Rattle.sv_log.specs.Log.{PlainLog}
+use Rattle.sv_kept.specs.Log.{PlainLog}
 use Rattle.sv_rules.specs.Coupling.{couplings}
 use Rattle.sv_rules.specs.Entries.{Entries, has_left, is_leave}
 use Rattle.sv_rules.specs.Legal.{IsLegal, MayFollow, entry_for}
 use Rattle.sv_rules.specs.Outcome.{outcome}
 use Rattle.sv_rules.specs.Standing.{standing}
 use Rattle.sv_core.specs.Core.{ArePeople, IsSpare, PlainCore, core_after, present}
+use Rattle.sv_core.proofs.CellPlaces.{keeps_add_none, no_other_later, no_other_still}
 use Rattle.sv_core.specs.Invariant.{IsKept, Parts}
+use Rattle.sv_core.specs.Updating.{AddsNone, HasNoOther}
 
 and-false : (b : Bool) → (b && false) ≡ false
 and-false true = refl
@@ -82,14 +84,14 @@ core_is core old new party act is users journal =
     ∙ ap (λ (c : PlainCore). core_after c party act) is
 
 -- equal cells fit alike
-pub fit_kept : (journal : Entries) (cells cells' : Cells) → KeepsCells cells cells' → FitCells journal cells → FitCells journal cells'
+fit_kept : (journal : Entries) (cells cells' : Cells) → KeepsCells cells cells' → FitCells journal cells → FitCells journal cells'
 fit_kept journal cells cells' keeps fit offer has = let old = fit offer has in (old.0, keeps offer.place ∙ old.1, old.2)
 
 -- what a core keeps, after an entry more
 pub whole_core : (core new : Parts) (e : PlainEntry) → IsKept core → MayFollow core.users core.journal e → new.users ≡ core.users → new.journal ≡ e ∷ core.journal →
-    new.offers ≡ standing (e ∷ core.journal) → new.coupled ≡ couplings (e ∷ core.journal) → FitCells (e ∷ core.journal) new.cells →
+    new.offers ≡ standing (e ∷ core.journal) → new.coupled ≡ couplings (e ∷ core.journal) → FitCells (e ∷ core.journal) new.cells → HasNoOther (e ∷ core.journal) new.cells →
     present core.users (e ∷ core.journal) ≤ new.room → present core.users (e ∷ core.journal) ≤ length new.spares → All IsSpare new.spares → IsKept new
-whole_core core new e k may users journal stand couple fit room count spare =
+whole_core core new e k may users journal stand couple fit no_other room count spare =
     let here : present new.users new.journal ≡ present core.users (e ∷ core.journal) = ap (λ us. present us new.journal) users ∙ ap (present core.users) journal in
     record {
       people = subst ArePeople (sym users) k.people;
@@ -97,6 +99,7 @@ whole_core core new e k may users journal stand couple fit room count spare =
       stand = stand ∙ ap standing (sym journal);
       couple = couple ∙ ap couplings (sym journal);
       fit = subst (λ j. FitCells j new.cells) (sym journal) fit;
+      no_other = subst (λ j. HasNoOther j new.cells) (sym journal) no_other;
       entries_room = omega (arith, here, room);
       spare_count = omega (arith, here, count);
       spare_room = spare;
@@ -104,10 +107,11 @@ whole_core core new e k may users journal stand couple fit room count spare =
 
 -- after an entry that is no leave, and opens and ends no offers
 pub entry_core : (core new : Parts) (e : PlainEntry) → IsKept core → MayFollow core.users core.journal e → is_leave e.act ≡ false → Stays core.journal e → new.users ≡ core.users → new.journal ≡ e ∷ core.journal →
-    new.offers ≡ core.offers → new.coupled ≡ core.coupled → new.spares ≡ core.spares → FitCells (e ∷ core.journal) new.cells → length core.users ≤ new.room → IsKept new
-entry_core core new e k may leaves stays users journal offers coupled spares fit room =
+    new.offers ≡ core.offers → new.coupled ≡ core.coupled → new.spares ≡ core.spares → FitCells (e ∷ core.journal) new.cells → AddsNone core.cells new.cells → length core.users ≤ new.room → IsKept new
+entry_core core new e k may leaves stays users journal offers coupled spares fit adds room =
     let stay = present-stay core.users core.journal e leaves in
     whole_core core new e k may users journal (offers ∙ k.stand ∙ sym stays.offers) (coupled ∙ k.couple ∙ sym stays.coupled) fit
+    (no_other_later core.journal e core.cells new.cells stays.offers adds k.no_other)
     (omega (arith, stay, present-le-length core.users core.journal, room)) (omega (arith, stay, k.spare_count, ap length spares)) (subst (All IsSpare) (sym spares) k.spare_room)
 
 -- after an entry that touches nothing
@@ -115,33 +119,36 @@ pub quiet_core : (core new : Parts) (e : PlainEntry) → IsKept core → MayFoll
     new.offers ≡ core.offers → new.coupled ≡ core.coupled → new.spares ≡ core.spares → KeepsCells core.cells new.cells → length core.users ≤ new.room → IsKept new
 quiet_core core new e k may leaves nothing users journal offers coupled spares cells room =
     entry_core core new e k may leaves nothing.stays users journal offers coupled spares
-    (cells_stay core.users core.journal e (may, k.legal) nothing new.cells (fit_kept core.journal core.cells new.cells cells k.fit)) room
+    (cells_stay core.users core.journal e (may, k.legal) nothing new.cells (fit_kept core.journal core.cells new.cells cells k.fit))
+    (keeps_add_none core.cells new.cells cells) room
 
 -- where nothing was entered
 pub same_core : (core new : Parts) → IsKept core → new.users ≡ core.users → new.journal ≡ core.journal → new.offers ≡ core.offers → new.coupled ≡ core.coupled → new.spares ≡ core.spares →
-    FitCells core.journal new.cells → core.room ≤ new.room → IsKept new
-same_core core new k users journal offers coupled spares fit room =
+    KeepsCells core.cells new.cells → core.room ≤ new.room → IsKept new
+same_core core new k users journal offers coupled spares cells room =
     let here : present new.users new.journal ≡ present core.users core.journal = ap (λ us. present us new.journal) users ∙ ap (present core.users) journal in
     record {
       people = subst ArePeople (sym users) k.people;
       legal = subst (λ us. IsLegal us new.journal) (sym users) (subst (IsLegal core.users) (sym journal) k.legal);
       stand = offers ∙ k.stand ∙ ap standing (sym journal);
       couple = coupled ∙ k.couple ∙ ap couplings (sym journal);
-      fit = subst (λ j. FitCells j new.cells) (sym journal) fit;
+      fit = subst (λ j. FitCells j new.cells) (sym journal) (fit_kept core.journal core.cells new.cells cells k.fit);
+      no_other = subst (λ j. HasNoOther j new.cells) (sym journal) (no_other_still core.journal core.cells new.cells (keeps_add_none core.cells new.cells cells) k.no_other);
       entries_room = omega (arith, here, k.entries_room, room);
       spare_count = omega (arith, here, k.spare_count, ap length spares);
       spare_room = subst (All IsSpare) (sym spares) k.spare_room;
     }
 
 -- what a core keeps that is new
-pub new_core : (core : Parts) (users : List ℕ) → ArePeople users → core.users ≡ users → core.journal ≡ [] → core.offers ≡ [] → core.coupled ≡ [] → length users ≤ core.room → length users ≤ length core.spares →
-    All IsSpare core.spares → IsKept core
-new_core core users people same none offers coupled room count spare = record {
+pub new_core : (core : Parts) (users : List ℕ) → ArePeople users → core.users ≡ users → core.journal ≡ [] → core.offers ≡ [] → core.coupled ≡ [] → ((at : ℕ) → cell_at core.cells at ≡ None) → length users ≤ core.room →
+    length users ≤ length core.spares → All IsSpare core.spares → IsKept core
+new_core core users people same none offers coupled cells room count spare = record {
   people = subst ArePeople (sym same) people;
   legal = subst (IsLegal core.users) (sym none) tt;
   stand = offers ∙ ap standing (sym none);
   couple = coupled ∙ ap couplings (sym none);
   fit = subst (λ (j : Entries). FitCells j core.cells) (sym none) (λ offer has. absurd (omega (arith, has.1)));
+  no_other = λ at vacant. cells at;
   entries_room = omega (arith, present-le-length core.users core.journal, ap length same, room);
   spare_count = omega (arith, present-le-length core.users core.journal, ap length same, count);
   spare_room = spare;

@@ -1,4 +1,5 @@
 mod AccessingLemmas
+mod CellPlaces
 mod DueLemmas
 mod EndingLemmas
 mod GoingLemmas
@@ -8,7 +9,8 @@ mod MakingLemmas
 pub mod NoControlLemmas
 mod OpeningLemmas
 mod OutcomeLemmas
-mod RetryLemmas
+pub mod People
+pub mod RetryLemmas
 mod ServiceLemmas
 mod TogetherLemmas
 mod UsingLemmas

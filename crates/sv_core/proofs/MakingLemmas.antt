@@ -10,9 +10,9 @@ use Rattle.sv_events.specs.declared.event.Act.{Act}
 use Rattle.sv_events.specs.declared.event.Act.TheVariants.{Offer}
 use Rattle.sv_events.specs.declared.row.Controlling.{Controlling}
 use Rattle.sv_events.specs.declared.row.Opening.{Opening}
-use Rattle.sv_cells.specs.Cell.{controlled}
-use Rattle.sv_cells.specs.Cells.{ChangesAt}
-use Rattle.sv_cells.specs.declared.cells.Cells.{Cells}
+use Rattle.sv_kept.specs.Cell.{controlled}
+use Rattle.sv_kept.specs.Cells.{ChangesAt}
+use Rattle.sv_kept.specs.declared.cells.Cells.{Cells}
 use Rattle.sv_cell_laws.specs.Fits.{FitCells}
 use Rattle.sv_cell_laws.specs.Steps.{MakesAccess, OpensOffer, made_with}
 use Rattle.sv_cell_laws.proofs.AccessSteps.{cells_answered_open, cells_answered_shared}
@@ -32,6 +32,7 @@ use Rattle.sv_rules.specs.declared.coupling.Coupling.{Coupling}
 use Rattle.sv_rules.specs.declared.standing.Standing.{Standing}
 use Rattle.sv_core.specs.Invariant.{Parts, IsKept}
 use Rattle.sv_core.specs.Updating.{Answers}
+use Rattle.sv_core.proofs.CellPlaces.{answers_add_none, changes_add_none}
 use Rattle.sv_core.proofs.Kept.{entry_core}
 
 -- a control that is set
@@ -42,7 +43,8 @@ control_core core new k party act set own may leaves row stands users journal of
     let e : PlainEntry = entry_for core.journal party act in
     let sets = control_of_own core.journal party act set own row stands in
     entry_core core new e k may leaves sets.stays users journal offers coupled spares
-    (cells_controlled core.users core.journal e own set.control (may, k.legal) (own_offer-parts (standing core.journal) party set.local own stands).2 sets core.cells new.cells k.fit changes) room
+    (cells_controlled core.users core.journal e own set.control (may, k.legal) (own_offer-parts (standing core.journal) party set.local own stands).2 sets core.cells new.cells k.fit changes)
+    (changes_add_none core.cells new.cells own.place (λ cell. controlled cell set.control) changes) room
 
 -- the cells after an access, by the coupling of its offer
 cells_answered : (users : List ℕ) (journal : Entries) (e : PlainEntry) (own : Standing) (access : Option GrantedAccess) → IsLegal users (e ∷ journal) → Contains (standing journal) own → MakesAccess journal e own access →
@@ -56,7 +58,8 @@ pub access_core : (core new : Parts) → IsKept core → (e : PlainEntry) (own :
     Answers core.cells new.cells own access (coupling_now core.journal own.place) → length core.users ≤ new.room → IsKept new
 access_core core new k e own access may leaves has makes users journal offers coupled spares answers room =
     entry_core core new e k may leaves makes.stays users journal offers coupled spares
-    (cells_answered core.users core.journal e own access (may, k.legal) has makes (coupling_now core.journal own.place) refl core.cells new.cells k.fit answers) room
+    (cells_answered core.users core.journal e own access (may, k.legal) has makes (coupling_now core.journal own.place) refl core.cells new.cells k.fit answers)
+    (answers_add_none core.cells new.cells own access (coupling_now core.journal own.place) answers) room
 
 -- what becomes of an offer of a new name
 pub opens_out : (journal : Entries) (new : Standing) → leb 64 (offer_count (standing journal) new.party) ≡ false → (match : Option Standing) → open_match (standing journal) (couplings journal) new ≡ match →

@@ -7,9 +7,9 @@ use Rattle.sv_cell_laws.proofs.CellSteps.{placed}
 use Rattle.sv_cell_laws.proofs.OpenSteps.{cells_opened}
 use Rattle.sv_cell_laws.specs.Fits.{FitCells}
 use Rattle.sv_cell_laws.specs.Steps.{OpensOffer, made_with}
-use Rattle.sv_cells.specs.Cell.{new_cell}
-use Rattle.sv_cells.specs.Cells.{PutsAt, cell_at}
-use Rattle.sv_cells.specs.declared.cells.Cells.{Cells}
+use Rattle.sv_kept.specs.Cell.{new_cell}
+use Rattle.sv_kept.specs.Cells.{PutsAt, cell_at}
+use Rattle.sv_kept.specs.declared.cells.Cells.{Cells}
 use Rattle.sv_events.specs.Answer.{degree}
 use Rattle.sv_events.specs.Entry.{PlainEntry}
 use Rattle.sv_events.specs.Row.{act_row}
@@ -26,6 +26,7 @@ use Rattle.sv_rules.specs.Standing.{offer_count, own_offer, standing}
 use Rattle.sv_rules.specs.Story.{handed_in}
 use Rattle.sv_rules.specs.declared.coupling.Made.{Made}
 use Rattle.sv_rules.specs.declared.standing.Standing.{Standing}
+use Rattle.sv_core.proofs.CellPlaces.{joined_add_none, no_other_opened}
 use Rattle.sv_core.proofs.EndingLemmas.{some_cell}
 use Rattle.sv_core.proofs.GoingLemmas.{opens_cells}
 use Rattle.sv_core.proofs.Kept.{entry_is, present-le-length, present-stay, whole_core}
@@ -33,7 +34,7 @@ use Rattle.sv_core.proofs.MakingLemmas.{opens_offer, opens_out}
 use Rattle.sv_core.proofs.OutcomeLemmas.{outcome_of_opening}
 use Rattle.sv_core.specs.Core.{IsSpare, present}
 use Rattle.sv_core.specs.Invariant.{IsKept, Parts}
-use Rattle.sv_core.specs.Updating.{Joined, KeepsElsewhere, MayJoin, degree_with}
+use Rattle.sv_core.specs.Updating.{Joined, MayJoin, degree_with}
 
 -- a standing offer is older than what comes next
 older : (journal : Entries) (offer : Standing) → Contains (standing journal) offer → offer.place < next_place journal
@@ -54,13 +55,6 @@ may_join journal e new (Some other) old between value fit opens puts =
           (puts new.place ∙ ap (λ (b : Bool). if b then Some (new_cell value) else cell_at old new.place) (eq-eqb new.place new.place refl)),
     )
 
--- cells that differ at the next place alone fit alike
-pub fit_elsewhere : (journal : Entries) (old new : Cells) (place : ℕ) → place ≡ next_place journal → KeepsElsewhere old new place → FitCells journal old → FitCells journal new
-fit_elsewhere journal old new place next keeps fit offer has =
-    let cell = fit offer has in
-    let before = older journal offer has in
-    (cell.0, keeps offer.place (λ same. omega (arith, before, next, same)) ∙ cell.1, cell.2)
-
 -- the pair that is made in the table is that of the entry
 pair_made : (at : ℕ) (new : Standing) (match : Option Standing) → new.place ≡ at →
     made_at at (made_with new match) ≡ option_to_list (option_map (λ (other : Standing). let m : Made = record { pair = pair_of other new; at = new.place } in m) match)
@@ -78,6 +72,8 @@ open_core core new k act offer match may leaves opens users journal offers coupl
     (offers ∙ ap (λ (os : List Standing). os ++ offer ∷ []) k.stand ∙ sym opens.offers) (coupled ∙ ap (λ (ms : List Made). ms ++ pairs) k.couple ∙ sym couplings_are)
     (cells_opened core.users core.journal e offer match (may, k.legal) opens core.cells new.cells k.fit
     (opens_cells core.cells between new.cells offer (handed_in act) match (λ other is. let before = older core.journal other (opens.matched other is).0 in omega (arith, before, opens.place)) puts joined))
+    (no_other_opened core.journal e offer core.cells between new.cells (Some (new_cell (handed_in act))) opens.offers puts
+    (joined_add_none between new.cells offer match (may_join core.journal e offer match core.cells between (handed_in act) k.fit opens puts) joined) k.no_other)
     (omega (arith, stay, present-le-length core.users core.journal, room)) (omega (arith, stay, k.spare_count, ap length spares)) (subst (All IsSpare) (sym spares) k.spare_room)
   where
     e : PlainEntry

@@ -17,6 +17,14 @@ use Rattle.sv_core.specs.Retry.{core_retried, journal_retried}
 pub core_itself : (core : PlainCore) → (let c : PlainCore = record { users = core.users; journal = core.journal } in c) ≡ core
 core_itself core = refl
 
+-- the users stay at a retry
+pub users_stay : (core : PlainCore) (party : ℕ) → (core_retried core party).users ≡ core.users
+users_stay core party = by (is_still_held core.users core.journal party)
+  where
+    by : (b : Bool) → (if b then core else (let c : PlainCore = record { users = core.users; journal = journal_retried core.journal party (awaited core.journal party) } in c)).users ≡ core.users
+    by true = refl
+    by false = refl
+
 -- what is there
 pub some_act : (o : Option Act) → is_some o ≡ true → (act : Act) × (o ≡ Some act)
 some_act None h = cc

@@ -8,8 +8,8 @@ use Rattle.std.proofs.lemmas.List.Folds.{Any-from_list_any}
 use Rattle.sv_events.specs.Entry.{PlainEntry}
 use Rattle.sv_events.specs.declared.entry.Pair.{Pair}
 use Rattle.sv_events.specs.declared.row.Ending.{Ending}
-use Rattle.sv_cells.specs.Cells.{cell_at}
-use Rattle.sv_cells.specs.declared.cells.Cells.{Cells}
+use Rattle.sv_kept.specs.Cells.{cell_at}
+use Rattle.sv_kept.specs.declared.cells.Cells.{Cells}
 use Rattle.sv_cell_laws.specs.Ends.{CellsIn, FitsIn, IsTable, coupled_without, taken_now}
 use Rattle.sv_cell_laws.specs.Fits.{FitCells}
 use Rattle.sv_cell_laws.proofs.EndJournal.{cells_later_in, left_is, table_is, without_is_older}

@@ -5,17 +5,17 @@ use Rattle.std.specs.Prelude.{if◌then◌else◌, is_some, option_and_then, opt
 use Rattle.apl_arrays.specs.Array.{PlainArray}
 use Rattle.sv_access.specs.declared.access.Side.{Side}
 use Rattle.sv_cell_laws.specs.Steps.{AnswersOpen, AnswersShared, answered_alone, is_use, shared_at, use_of, with_access, with_access_in}
-use Rattle.sv_cells.specs.Cell.{after_use_in, answered, holding, known_alone, share_in}
-use Rattle.sv_cells.specs.Cells.{ChangesAt, cell_at}
-use Rattle.sv_cells.specs.declared.cell.Cell.{Cell}
-use Rattle.sv_cells.specs.declared.cell.Held.{Held}
-use Rattle.sv_cells.specs.declared.cell.Held.TheVariants.{Alone, Shared}
-use Rattle.sv_cells.specs.declared.cells.Cells.{Cells}
+use Rattle.sv_kept.specs.Cell.{after_use_in, answered, holding, known_alone, share_in}
+use Rattle.sv_kept.specs.Cells.{ChangesAt, cell_at}
+use Rattle.sv_kept.specs.declared.cell.Cell.{Cell}
+use Rattle.sv_kept.specs.declared.cell.Held.{Held}
+use Rattle.sv_kept.specs.declared.cell.Held.TheVariants.{Alone, Shared}
+use Rattle.sv_kept.specs.declared.cells.Cells.{Cells}
 use Rattle.sv_rules.specs.Control.{side_at}
 use Rattle.sv_rules.specs.Story.{known_after}
 use Rattle.sv_rules.specs.declared.coupling.Coupling.{Coupling}
 use Rattle.sv_rules.specs.declared.standing.Standing.{Standing}
-use Rattle.sv_story.specs.Share.{PlainShare, after_get, shared_value}
+use Rattle.sv_kept.specs.Share.{PlainShare, after_get, shared_value}
 use Rattle.sv_core.specs.Updating.{HasShareAt, HoldsAlone, value_at}
 
 -- what an option has, unchanged

@@ -3,7 +3,6 @@ use Rattle.std.proofs.Common.{◌≡◌, refl, sym, ap, ◌∙◌, ℕ, suc, ◌
 use Rattle.std.specs.Prelude.{is_some, if◌then◌else◌}
 use Rattle.std.proofs.lemmas.Bool.{cases_Bool, or_cases, or_from, and_right, both_ways, not-true, eqb-true}
 use Rattle.std.proofs.lemmas.List.{get_or-map, get_or-reverse, length-map, length-reverse}
-use Rattle.std.proofs.lemmas.List.Elements.{All-head, All-tail}
 use Rattle.std.proofs.lemmas.Option.{cond_some, none-some, same_Some}
 use Rattle.sv_events.specs.Answer.{PlainAnswer, held}
 use Rattle.sv_events.specs.Entry.{PlainEntry, plain_entry}
@@ -11,18 +10,19 @@ use Rattle.sv_events.specs.declared.entry.Entry.{Entry}
 use Rattle.sv_events.specs.declared.event.Act.{Act}
 use Rattle.sv_events.specs.declared.event.Act.TheVariants.{Leave}
 use Rattle.sv_events.specs.declared.event.Hold.{Hold}
-use Rattle.sv_log.specs.declared.member.Member.{Member}
-use Rattle.sv_log.specs.Member.{waiting_at}
+use Rattle.sv_kept.specs.declared.member.Member.{Member}
+use Rattle.sv_kept.specs.Member.{waiting_at}
 use Rattle.sv_rules.specs.Entries.{Entries, next_place, has_left, is_leave, kind_of, is_held}
 use Rattle.sv_rules.specs.Journal.{journal_of}
 use Rattle.sv_rules.specs.Legal.{IsLegal, is_user}
 use Rattle.sv_rules.specs.Outcome.{outcome}
 use Rattle.sv_rules.specs.Refused.{awaited, waits}
-use Rattle.sv_rules.specs.Work.{is_auxiliary}
+use Rattle.aux_parties.specs.Auxiliaries.{is_auxiliary}
 use Rattle.sv_story_laws.specs.StepLaws.{IsPresent}
 use Rattle.sv_story_laws.proofs.AnswerLemmas.{holds_are_given_or_given_up}
 use Rattle.sv_story_laws.proofs.AuxiliaryLemmas.{auxiliaries_are_never_refused}
 use Rattle.sv_story_laws.proofs.WaitLemmas.{leave-is, only_users_leave}
+use Rattle.sv_core.proofs.People.{people_are}
 use Rattle.sv_core.specs.Core.{ArePeople}
 
 -- a member that is found is that of its user, and where none is found there is no such user
@@ -174,14 +174,6 @@ waits_within entries party place h =
     let w = waits_there (journal_of entries) party place h in
     let plain : List PlainEntry = map plain_entry entries in
     (w.0, omega (arith, w.1, length-reverse plain, length-map entries plain_entry))
-
--- no user is an auxiliary
-pub people_are : (users : List ℕ) → ArePeople users → (party : ℕ) → is_user users party ≡ true → is_auxiliary party ≡ false
-people_are [] people party is = cc
-people_are (user ∷ users) people party is = elim (or_cases (eqb user party) (is_user users party) is) [
-  | inl now ↦ ap is_auxiliary (sym (eqb-true user party now)) ∙ All-head (λ (u : ℕ). is_auxiliary u ≡ false) user users people
-  | inr later ↦ people_are users (All-tail (λ (u : ℕ). is_auxiliary u ≡ false) user users people) party later
-]
 
 -- whoever waits is a user that has not left
 pub waiters_are_present : (users : List ℕ) (journal : Entries) → IsLegal users journal → ArePeople users → (party : ℕ) → waits journal party ≡ true → IsPresent users journal party

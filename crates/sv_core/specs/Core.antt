@@ -1,6 +1,7 @@
-use Rattle.std.specs.Prelude.{◌≡◌, ◌≤◌, ℕ, false, not, List, [], ◌∷◌, count_by, All, Contains, IsTrue, Some}
+use Rattle.std.specs.Prelude.{◌≡◌, ◌≤◌, ℕ, not, List, [], ◌∷◌, count_by, All, Contains, IsTrue, Some}
 use Rattle.apl_arrays.specs.Limits.{most_offers}
 use Rattle.apl_arrays.specs.List.{Listed}
+use Rattle.apl_arrays.specs.Parties.{is_user_number}
 use Rattle.sv_events.specs.declared.entry.Pair.{Pair}
 use Rattle.sv_events.specs.declared.event.Act.{Act}
 use Rattle.sv_rules.specs.Entries.{Entries, has_left, is_leave}
@@ -8,7 +9,6 @@ use Rattle.sv_rules.specs.Control.{side_at}
 use Rattle.sv_rules.specs.Coupling.{coupling_now}
 use Rattle.sv_rules.specs.Legal.{IsLegal, MayFollow, entry_for}
 use Rattle.sv_rules.specs.Standing.{standing}
-use Rattle.sv_rules.specs.Work.{is_auxiliary}
 use Rattle.sv_rules.specs.declared.coupling.Coupling.{Coupling}
 use Rattle.sv_rules.specs.declared.standing.Standing.{Standing}
 use Rattle.sv_story_laws.specs.StoryLaws.{offer_on}
@@ -18,9 +18,9 @@ pub record PlainCore : Type 0 where
   pub users : List ℕ
   pub journal : Entries
 
--- no user is an auxiliary
+-- each has the number of a user: 1001 to 1999
 abbrev pub ArePeople : List ℕ → Type 0
-ArePeople users = All (λ user. is_auxiliary user ≡ false) users
+ArePeople users = All (λ user. IsTrue (is_user_number user)) users
 
 -- how many users have not left
 abbrev pub present : List ℕ → Entries → ℕ

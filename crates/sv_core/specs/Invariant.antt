@@ -1,8 +1,9 @@
 use Rattle.std.specs.Prelude.{◌≡◌, ◌≤◌, ℕ, List, All, length}
 use Rattle.apl_arrays.specs.List.{Listed}
 use Rattle.sv_cell_laws.specs.Fits.{FitCells}
-use Rattle.sv_cells.specs.declared.cells.Cells.{Cells}
+use Rattle.sv_kept.specs.declared.cells.Cells.{Cells}
 use Rattle.sv_core.specs.Core.{ArePeople, IsSpare, present}
+use Rattle.sv_core.specs.Updating.{HasNoOther}
 use Rattle.sv_core.specs.declared.processor.Core.TheInside.{Inside}
 use Rattle.sv_events.specs.declared.entry.Pair.{Pair}
 use Rattle.sv_rules.specs.Coupling.{couplings}
@@ -23,13 +24,15 @@ pub record Parts : Type 0 where
   pub cells : Cells
   pub spares : List (Listed Pair)
 
--- no user is an auxiliary, the journal is legal, the tables are those of the journal, and there is room for each leave
+-- users have the numbers of users, the journal is legal, the tables are those of the journal, no cell stands where no offer does, and
+-- there is room for each leave
 pub record IsKept (core : Parts) : Type 0 where
   pub people : ArePeople core.users
   pub legal : IsLegal core.users core.journal
   pub stand : core.offers ≡ standing core.journal
   pub couple : core.coupled ≡ couplings core.journal
   pub fit : FitCells core.journal core.cells
+  pub no_other : HasNoOther core.journal core.cells
   pub entries_room : present core.users core.journal ≤ core.room
   pub spare_count : present core.users core.journal ≤ length core.spares
   pub spare_room : All IsSpare core.spares

@@ -2,11 +2,11 @@
 use Rattle.std.specs.Prelude.{◌≡◌, ◌<◌, ℕ, ◌==◌, ◌&&◌, List, [], ◌∷◌, Contains, Option, Some, None, IsSome, option_and_then, if◌then◌else◌}
 use Rattle.std.specs.List.{list_any}
 use Rattle.apl_arrays.specs.Array.{PlainArray}
-use Rattle.sv_cells.specs.Cell.{known_alone, share_in}
-use Rattle.sv_cells.specs.Cells.{CouplesAt, KeepsCells, cell_at}
-use Rattle.sv_cells.specs.declared.cell.Cell.{Cell}
-use Rattle.sv_cells.specs.declared.cell.Held.TheVariants.{Alone, Shared}
-use Rattle.sv_cells.specs.declared.cells.Cells.{Cells}
+use Rattle.sv_kept.specs.Cell.{known_alone, share_in}
+use Rattle.sv_kept.specs.Cells.{CouplesAt, KeepsCells, cell_at}
+use Rattle.sv_kept.specs.declared.cell.Cell.{Cell}
+use Rattle.sv_kept.specs.declared.cell.Held.TheVariants.{Alone, Shared}
+use Rattle.sv_kept.specs.declared.cells.Cells.{Cells}
 use Rattle.sv_cell_laws.specs.Ends.{CellsIn, coupled_without, taken_now}
 use Rattle.sv_cell_laws.specs.Fits.{FitCells}
 use Rattle.sv_cell_laws.specs.Steps.{AnswersOpen, AnswersShared, Untouched}
@@ -23,7 +23,7 @@ use Rattle.sv_rules.specs.declared.coupling.Made.{Made}
 use Rattle.sv_rules.specs.Story.{GrantedAccess}
 use Rattle.sv_rules.specs.declared.coupling.Coupling.{Coupling}
 use Rattle.sv_rules.specs.declared.standing.Standing.{Standing}
-use Rattle.sv_story.specs.Share.{PlainShare, shared_value}
+use Rattle.sv_kept.specs.Share.{PlainShare, shared_value}
 
 -- the cells after an access on an offer, by its coupling
 abbrev pub Answers : Cells → Cells → Standing → Option GrantedAccess → Option Coupling → Type 0
@@ -81,6 +81,18 @@ abbrev pub CouplesAll : List Pair → Cells → Cells → List Pair → Type 0
 CouplesAll pairs old new taken =
     (ready : IsToCouple old pairs) → CellsIn (ready.e ∷ ready.journal) (Contains (standing (ready.e ∷ ready.journal))) (taken_now (ready.e ∷ ready.journal) taken) new
 
+-- no place has a cell now that had none
+abbrev pub AddsNone : Cells → Cells → Type 0
+AddsNone old new = (at : ℕ) → cell_at old at ≡ None → cell_at new at ≡ None
+
+-- no offer stands at a place
+abbrev pub IsVacant : Entries → ℕ → Type 0
+IsVacant journal at = (offer : Standing) → Contains (standing journal) offer → ¬ (offer.place ≡ at)
+
+-- no cell stands where no offer does
+abbrev pub HasNoOther : Entries → Cells → Type 0
+HasNoOther journal cells = (at : ℕ) → IsVacant journal at → cell_at cells at ≡ None
+
 -- an entry ends offers of a party at a place: the table and the cells are those of the journal before it
 pub record IsEnding (offers : PlainOffers) (cells : Cells) (at party : ℕ) (ending : Ending) (users : List ℕ) (journal : Entries) (e : PlainEntry) : Type 0 where
   pub legal : IsLegal users (e ∷ journal)
@@ -101,9 +113,10 @@ abbrev pub EndsAll : PlainOffers → ℕ → ℕ → Ending → Cells → Cells 
 EndsAll offers at party ending old new =
     (users : List ℕ) (journal : Entries) (e : PlainEntry) → IsEnding offers old at party ending users journal e → FitCells (e ∷ journal) new
 
--- the cells are the same but at a place
-abbrev pub KeepsElsewhere : Cells → Cells → ℕ → Type 0
-KeepsElsewhere old new place = (at : ℕ) → ¬ (place ≡ at) → cell_at new at ≡ cell_at old at
+-- and no cell stands where no offer does, if none did before
+abbrev pub ClearsAll : PlainOffers → ℕ → ℕ → Ending → Cells → Cells → Type 0
+ClearsAll offers at party ending old new =
+    (users : List ℕ) (journal : Entries) (e : PlainEntry) → IsEnding offers old at party ending users journal e → HasNoOther journal old → HasNoOther (e ∷ journal) new
 
 -- a new offer may be coupled with its match, if it has one: this is older, and both have cells
 abbrev pub MayJoin : Cells → Standing → Option Standing → Type 0

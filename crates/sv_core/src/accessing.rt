@@ -2,7 +2,7 @@ ghost use Rattle.std.specs.Prelude.{◌≡◌, ◌+◌, ◌≤◌, length, IfOk,
 ghost use Rattle.std.specs.Option.{option_copied};
 ghost use Rattle.apl_arrays.specs.Array.{PlainArray};
 ghost use Rattle.sv_cell_laws.specs.Steps.{set_of, use_of};
-ghost use Rattle.sv_cells.specs.Cells.{KeepsCells};
+ghost use Rattle.sv_kept.specs.Cells.{KeepsCells};
 ghost use Rattle.sv_core.specs.Core.{IsFound, MayMake, core_after};
 ghost use Rattle.sv_core.specs.Updating.{Answers, IsReady, value_at};
 ghost use Rattle.sv_events.specs.Answer.{plain_answer};
@@ -18,9 +18,8 @@ use crate::updating::{note_set, note_use};
 use apl_arrays::{Array, List, WantOfMemory};
 use std::alloc::Global;
 use sv_access::Kind;
-use sv_cells::Cells;
 use sv_events::{Accessing, Act, Answer, Entry, Hold};
-use sv_log::Log;
+use sv_kept::{Cells, Log};
 use sv_rules::{Coupling, Standing, refusal_answer};
 
 impl Core {

@@ -7,21 +7,20 @@ ghost use Rattle.sv_rules.specs.Outcome.{value_for};
 ghost use Rattle.sv_rules.specs.Refused.{hold_on};
 ghost use Rattle.sv_rules.specs.Standing.{standing};
 ghost use Rattle.sv_cell_laws.specs.Fits.{FitsShare};
-ghost use Rattle.sv_cells.specs.Cell.{share_in};
+ghost use Rattle.sv_kept.specs.Cell.{share_in};
 ghost use Rattle.sv_core.specs.Core.{IsFound};
 ghost use Rattle.sv_core.specs.Due.{is_partners_unseen};
 ghost use Rattle.sv_rules.specs.Story.{known, opening, story};
 ghost use Rattle.sv_rules.specs.Work.{has_unseen};
-ghost use Rattle.sv_story.specs.Share.{PlainShare};
+ghost use Rattle.sv_kept.specs.Share.{PlainShare};
 ghost use Rattle.sv_story_laws.specs.StoryLaws.{offer_on};
 
 use crate::Core;
 use apl_arrays::Array;
 use sv_access::{Control, Kind, NO_CONTROL, Side, State, join, view};
-use sv_cells::Held;
 use sv_events::Hold;
+use sv_kept::{Held, Share, alone};
 use sv_rules::{Coupling, Standing, hold_by_state, side_at};
-use sv_story::{Share, alone};
 
 impl Core {
     // The vector of a standing offer, in its party's view.

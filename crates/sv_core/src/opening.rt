@@ -1,9 +1,8 @@
 ghost use Rattle.std.specs.Prelude.{◌≡◌, ◌+◌, ◌<◌, ◌≤◌, [], length, Contains, IfOk, OnOk, OnErr, Some, None};
 ghost use Rattle.apl_arrays.specs.Limits.{most_offers};
-ghost use Rattle.sv_cells.specs.Cell.{new_cell};
-ghost use Rattle.sv_cells.specs.Cells.{PutsAt};
+ghost use Rattle.sv_kept.specs.Cell.{new_cell};
+ghost use Rattle.sv_kept.specs.Cells.{KeepsCells, PutsAt};
 ghost use Rattle.sv_core.specs.Core.{MayMake, core_after};
-ghost use Rattle.sv_core.specs.Updating.{KeepsElsewhere};
 ghost use Rattle.sv_events.specs.Answer.{kept, plain_answer};
 ghost use Rattle.sv_events.specs.Row.{act_row};
 ghost use Rattle.sv_events.specs.declared.row.Ending.TheVariants.{One};
@@ -21,9 +20,8 @@ use crate::telling::{Told, enter, no_act, told_twice};
 use crate::updating::{end_together, join};
 use apl_arrays::{List, Name, WantOfMemory};
 use std::alloc::Global;
-use sv_cells::Cells;
 use sv_events::{Act, Answer, Ending, Opening, PairList, copy_value};
-use sv_log::Log;
+use sv_kept::{Cells, Log};
 use sv_offers::Offers;
 use sv_rules::Standing;
 
@@ -195,8 +193,9 @@ fn room_for_pair(log: &mut Log, made: &mut PairList) -> Result<(), WantOfMemory>
     log.reserve()
 }
 
-// Room for the entry, the pair and the cell of a new offer, with the value that it is handed; then it stands, and is coupled in
-// the table with its match, which is answered. It takes memory; after `WantOfMemory` the table is as before.
+// Room for the entry, the pair and the cell of a new offer, and the value that it is handed; then it stands, is coupled in the
+// table with its match, which is answered, and has its cell. It takes memory; after `WantOfMemory` table and cells are as
+// before.
 fn add_offer(
     alloc: Global,
     log: &mut Log,
@@ -218,10 +217,19 @@ fn add_offer(
     ensures other { IfOk result (λ other. other ≡ open_match offers.old.offers offers.old.coupled new.now) }
     ensures cell { OnOk result (PutsAt cells.old cells.new new.now.place (Some (new_cell (handed_in act.now)))) }
     ensures err { OnErr result (offers.new ≡ offers.old) }
-    ensures kept { KeepsElsewhere cells.old cells.new new.now.place }
+    ensures kept { OnErr result (KeepsCells cells.old cells.new) }
 {
     room_for_pair(log, made)?;
+    cells.reserve()?;
     let value = copy_value(alloc, act.hands_in())?;
-    cells.open(new.place, value)?;
-    offers.add(new)
+    match offers.add(new) {
+        Err(_) => {
+            drop(value);
+            Err(WantOfMemory)
+        }
+        Ok(other) => {
+            cells.open(new.place, value);
+            Ok(other)
+        }
+    }
 }

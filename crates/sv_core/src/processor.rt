@@ -8,18 +8,18 @@ ghost use Rattle.sv_rules.specs.Entries.{has_left, is_full, is_leave};
 ghost use Rattle.sv_rules.specs.Journal.{journal_of};
 ghost use Rattle.sv_rules.specs.Legal.{IsLegal, act_due, answer_to, is_still_held, is_user, journal_after, retried};
 ghost use Rattle.sv_rules.specs.Refused.{awaited, still_refused, waits};
-ghost use Rattle.sv_rules.specs.Work.{is_auxiliary, is_stuck};
-ghost use Rattle.sv_log.specs.Member.{waiting_at};
+ghost use Rattle.aux_parties.specs.Auxiliaries.{is_auxiliary};
+ghost use Rattle.sv_rules.specs.Work.{is_stuck};
+ghost use Rattle.sv_kept.specs.Member.{waiting_at};
 
 use crate::leaves::{spare_lists, take_spare};
 use crate::updating::end_together;
 use apl_arrays::WantOfMemory;
 use std::alloc::Global;
 use std::marker::Model;
-use sv_cells::Cells;
 use sv_delivery_laws::delivery_law;
 use sv_events::{Act, Answer, Ending, Entry, Journal, PairList, Retry};
-use sv_log::{Log, Member};
+use sv_kept::{Cells, Log, Member};
 use sv_offers::Offers;
 
 /// The processor of some users: it has the journal, in which each entry may follow those before it, the standing offers,
@@ -46,8 +46,8 @@ impl Model for Core {
 }
 
 impl Core {
-    /// The processor of these users, with an empty journal. It takes memory for the users and for the room of all their
-    /// leaves.
+    /// The processor of these users, with an empty journal: each has a number from 1001 to 1999. It takes memory for the
+    /// users and for the room of all their leaves.
     pub fn new(alloc: Global, users: &[u32]) -> Result<Core, WantOfMemory>
         requires people { ArePeople users.now }
         ensures { IfOk result (λ core. core ≡ record { users = users.now; journal = [] }) }

@@ -5,7 +5,7 @@ ghost use Rattle.sv_events.specs.Entry.{PlainEntry};
 use apl_arrays::WantOfMemory;
 use std::alloc::Global;
 use sv_events::{Act, Answer, Entry, PairList};
-use sv_log::Log;
+use sv_kept::Log;
 
 /// An answer, for the party and for the journal.
 #[derive(Debug, Drop)]

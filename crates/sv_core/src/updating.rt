@@ -1,19 +1,19 @@
 ghost use Rattle.std.specs.Prelude.{◌≡◌, ◌≢◌, ◌≤◌, ℕ, [], Option, None, Some, IsSome, OnOk, OnErr, length, option_map};
 ghost use Rattle.apl_arrays.specs.Array.{PlainArray};
 ghost use Rattle.sv_cell_laws.specs.Steps.{answered_alone, made_with, set_of, shared_at, use_of};
-ghost use Rattle.sv_cells.specs.declared.cell.Cell.{Cell};
-ghost use Rattle.sv_cells.specs.declared.cell.Held.TheVariants.{Alone, Shared};
-ghost use Rattle.sv_story.specs.Share.{PlainShare, shared_value};
+ghost use Rattle.sv_kept.specs.declared.cell.Cell.{Cell};
+ghost use Rattle.sv_kept.specs.declared.cell.Held.TheVariants.{Alone, Shared};
+ghost use Rattle.sv_kept.specs.Share.{PlainShare, shared_value};
 ghost use Rattle.sv_cell_laws.specs.Ends.{IsTable, MayPart, Parts, share_at};
-ghost use Rattle.sv_cells.specs.Cells.{ChangesAt, CouplesAt, KeepsCells, PartsAt, cell_at};
-ghost use Rattle.sv_core.specs.Updating.{Answers, CouplesAll, EndsAll, FitsSome, IsReady, IsToCouple, IsToEnd, Joined, Closes, MayJoin, PartsAll, degree_with, value_at};
+ghost use Rattle.sv_kept.specs.Cells.{ChangesAt, CouplesAt, KeepsCells, PartsAt, cell_at};
+ghost use Rattle.sv_core.specs.Updating.{AddsNone, Answers, ClearsAll, CouplesAll, EndsAll, FitsSome, IsReady, IsToCouple, IsToEnd, Joined, Closes, MayJoin, PartsAll, degree_with, value_at};
 ghost use Rattle.sv_offers.specs.Table.{after_ending, pairs_made};
 ghost use Rattle.sv_rules.specs.Coupling.{coupling_at, pair_of, reopened_by_ending};
 
 use apl_arrays::{Array, WantOfMemory};
 use sv_access::Side;
-use sv_cells::Cells;
 use sv_events::{Ending, Pair, PairList};
+use sv_kept::Cells;
 use sv_offers::{Offers, is_ended};
 use sv_rules::{Coupling, Standing, pair_of, side_at};
 
@@ -44,7 +44,8 @@ fn part_coupled(cells: &mut Cells, coupling: Option<Coupling>)
 fn part_all(offers: &Offers, cells: &mut Cells, party: u32, ending: &Ending)
     requires table { IsTable offers.now.offers offers.now.coupled }
     requires fit { FitsSome offers.now.offers offers.now.coupled cells.old }
-    ensures { PartsAll offers.now.offers offers.now.coupled party ending.now offers.now.offers cells.old cells.new }
+    ensures parts { PartsAll offers.now.offers offers.now.coupled party ending.now offers.now.offers cells.old cells.new }
+    ensures no_more { AddsNone cells.old cells.new }
 {
     for offer in offers.of(party) {
         if is_ended(party, ending, offer) {
@@ -80,7 +81,8 @@ fn couple_pair(cells: &mut Cells, pair: &Pair)
 // The offers of the pairs that the newest entry makes are coupled. No memory.
 fn couple_all(cells: &mut Cells, made: &[Pair])
     requires { IsToCouple cells.old made.now }
-    ensures { CouplesAll made.now cells.old cells.new made.now }
+    ensures couples { CouplesAll made.now cells.old cells.new made.now }
+    ensures no_more { AddsNone cells.old cells.new }
 {
     for pair in made {
         couple_pair(cells, pair);
@@ -103,6 +105,7 @@ pub fn end_together(
     ensures table { offers.new ≡ after_ending at offers.old party ending }
     ensures made { made.new.items ≡ pairs_made at offers.old party ending }
     ensures cells { EndsAll offers.old at party ending cells.old cells.new }
+    ensures others { ClearsAll offers.old at party ending cells.old cells.new }
 {
     part_all(offers, cells, party, &ending);
     close_all(offers.of(party), cells, party, &ending);

@@ -1,20 +1,22 @@
-ghost use Rattle.std.specs.Prelude.{◌≡◌, true, false, not, find, nat_lt, Contains, IsTrue, Some, is_some, unwrap_or};
+ghost use Rattle.std.specs.Prelude.{◌≡◌, true, false, not, find, nat_lt, All, Contains, IsTrue, Some, is_some, unwrap_or};
 ghost use Rattle.std.specs.List.{list_all, list_any};
 ghost use Rattle.std.specs.Option.{option_copied, option_map_or};
 ghost use Rattle.sv_core.specs.Due.{command_of, customer_of, is_due, is_due_on, is_open, is_reply, is_service, partner_at, partner_of, served_by, work_among};
-ghost use Rattle.sv_log.specs.Member.{waiting_at};
+ghost use Rattle.sv_kept.specs.Member.{waiting_at};
 ghost use Rattle.sv_rules.specs.Coupling.{coupling_now, open_to};
 ghost use Rattle.sv_rules.specs.Entries.{has_left};
 ghost use Rattle.sv_rules.specs.Refused.{hold_of, hold_on, refused, still_refused};
 ghost use Rattle.sv_rules.specs.Standing.{offer_count, own_offer, standing};
 ghost use Rattle.sv_rules.specs.declared.coupling.Coupling.{Coupling};
 ghost use Rattle.sv_rules.specs.declared.standing.Standing.{Standing};
-ghost use Rattle.sv_rules.specs.Work.{first_coupled, has_unseen, is_auxiliary, is_halted, is_idle, is_stuck, lacks_control, most_counters, owes_reply, to_counter, work_due, work_of};
+ghost use Rattle.aux_parties.specs.Auxiliaries.{is_auxiliary, most_counters};
+ghost use Rattle.sv_rules.specs.Work.{first_coupled, has_unseen, is_halted, is_stuck, lacks_control, owes_reply, rests, to_counter, work_due, work_of};
 
 use crate::Core;
 use apl_arrays::Array;
+use aux_parties::{AUXILIARIES, AuxiliaryRow, most_counters};
 use sv_events::{Accessing, Act, Work};
-use sv_rules::{CLOCK_PARTY, Coupling, Standing, TEXT_PARTY, most_counters};
+use sv_rules::{Coupling, Standing};
 
 impl Core {
     /// The work of an auxiliary: none where the journal is full. No memory.
@@ -318,15 +320,12 @@ impl Core {
         member.has_left || self.is_refused_since(user, member.waiting)
     }
 
-    /// Whether nobody can go on: some user stays, whoever stays waits and is refused still, and both auxiliaries are idle. It
+    /// Whether nobody can go on: some user stays, whoever stays waits and is refused still, and no auxiliary has work. It
     /// looks once at what each user waits for. No memory.
     pub fn is_stuck(&self) -> bool
         ensures { result ≡ is_stuck self.now.users self.now.journal }
     {
-        self.some_stays()
-            && self.all_halt()
-            && self.is_idle(CLOCK_PARTY)
-            && self.is_idle(TEXT_PARTY)
+        self.some_stays() && self.all_halt() && self.all_rest(&AUXILIARIES)
     }
 
     // Whether some user has not left.
@@ -354,12 +353,25 @@ impl Core {
         true
     }
 
-    // Whether an auxiliary has no work.
-    fn is_idle(&self, party: u32) -> bool
-        requires { IsTrue (is_auxiliary party) }
-        ensures { result ≡ is_idle (work_of self.now.journal party) }
+    // Whether the parties of these rows have no work.
+    fn all_rest(&self, rows: &[AuxiliaryRow]) -> bool
+        requires { All (λ row. IsTrue (is_auxiliary row.party)) rows.now }
+        ensures { result ≡ list_all (rests self.now.journal) rows.now }
     {
-        matches!(self.work_of(party), Work::Idle)
+        for row in rows {
+            if !self.rests(row) {
+                return false;
+            }
+        }
+        true
+    }
+
+    // Whether the party of a row has no work.
+    fn rests(&self, row: &AuxiliaryRow) -> bool
+        requires { IsTrue (is_auxiliary row.now.party) }
+        ensures { result ≡ rests self.now.journal row.now }
+    {
+        matches!(self.work_of(row.party), Work::Idle)
     }
 }
 

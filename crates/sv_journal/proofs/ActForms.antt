@@ -7,14 +7,14 @@ use Rattle.sv_access.specs.declared.control.Control.{Control}
 use Rattle.sv_access.specs.Control.{four_elements}
 use Rattle.sv_events.specs.declared.event.Act.{Act}
 use Rattle.sv_events.specs.declared.event.Act.TheVariants as act
-use Rattle.sv_text.specs.Reading.{Reader, ◌>>=◌, as_read, literal_at}
+use Rattle.text_reader.specs.Reading.{Reader, ◌>>=◌, as_read, literal_at}
 use Rattle.sv_text.specs.Value.{IsValue, IsValueOrNone}
 use Rattle.sv_text.specs.ValueReading.{array_at, value_at}
 use Rattle.sv_text.specs.ValueText.{array_text, value_text}
 use Rattle.sv_text.proofs.ArrayForms.{reads_array, reads_value, a_value}
-use Rattle.sv_text.proofs.NameForms.{NoName}
-use Rattle.sv_text.proofs.NumberForms.{NoDigit}
-use Rattle.sv_text.proofs.Readers.{SameFirst, Anything, IsReader, reformed, after_text, then_read, made, made_of, nothing_more, no_further}
+use Rattle.text_reader.proofs.NameForms.{NoName}
+use Rattle.text_reader.proofs.NumberForms.{NoDigit}
+use Rattle.text_reader.proofs.Readers.{SameFirst, Anything, IsReader, reformed, after_text, then_read, made, made_of, nothing_more, no_further}
 use Rattle.sv_journal.specs.declared.act_word.ActWord.{ActWord}
 use Rattle.sv_journal.specs.declared.act_word.ActWord.TheVariants.{Offer, Retract, SetControl, AskControl, AskState, AskDegree, AskParties, AskNames, Set, Use, Leave}
 use Rattle.sv_journal.specs.ActReading.{local_at, party_at, OfferParts, make_offer, offer_parts_at, set_control_parts_at, set_parts_at, act_behind, act_at}

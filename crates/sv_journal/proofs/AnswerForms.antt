@@ -12,14 +12,14 @@ use Rattle.sv_events.specs.Row.{answer_row}
 use Rattle.sv_events.specs.declared.event.Hold.{Hold}
 use Rattle.sv_events.specs.declared.row.AnswerKind.{AnswerKind}
 use Rattle.sv_events.specs.declared.row.AnswerKind.TheVariants.{Degree, Granted, Value, NoValue, Held, Abandoned, NotShared, OfferLimit, Full, Vector, Parties, Names, Kept, Done}
-use Rattle.sv_text.specs.Reading.{Reader, ◌>>=◌, as_read, literal_at}
-use Rattle.sv_text.specs.NumberReading.{number_at}
+use Rattle.text_reader.specs.Reading.{Reader, ◌>>=◌, as_read, literal_at}
+use Rattle.text_reader.specs.NumberReading.{number_at}
 use Rattle.sv_text.specs.Value.{IsValue, IsValueOrNone}
 use Rattle.sv_text.specs.ValueReading.{array_at, value_at}
 use Rattle.sv_text.specs.ValueText.{array_text, value_text}
 use Rattle.sv_text.proofs.ArrayForms.{reads_array, reads_value, a_value}
-use Rattle.sv_text.proofs.NumberForms.{InRange, NoDigit, reads_number}
-use Rattle.sv_text.proofs.Readers.{SameFirst, Anything, IsReader, farther, reformed, after_text, then_read, made, made_of, nothing_more, no_further}
+use Rattle.text_reader.proofs.NumberForms.{InRange, NoDigit, reads_number}
+use Rattle.text_reader.proofs.Readers.{SameFirst, Anything, IsReader, farther, reformed, after_text, then_read, made, made_of, nothing_more, no_further}
 use Rattle.sv_journal.specs.AnswerReading.{kind_word, degree_at, told_at, kept_parts_at, parties_at, names_at, answer_behind, answer_at}
 use Rattle.sv_journal.specs.EntryText.{owners_text, hold_text, answer_text}
 use Rattle.sv_journal.specs.HoldReading.{control_at, hold_at}

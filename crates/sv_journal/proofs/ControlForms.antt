@@ -4,10 +4,10 @@ use Rattle.std.proofs.lemmas.Fmt.{decimal_digit}
 use Rattle.std.specs.Fmt.{decimal}
 use Rattle.sv_access.specs.declared.control.Control.{Control}
 use Rattle.sv_access.specs.Control.{four_elements}
-use Rattle.sv_text.specs.Reading.{Reader, ◌>>=◌, as_read, literal_at}
-use Rattle.sv_text.specs.NumberReading.{number_at}
-use Rattle.sv_text.proofs.NumberForms.{InRange, NoDigit, reads_number}
-use Rattle.sv_text.proofs.Readers.{SameFirst, IsReader, reformed, after_text, then_read, made, made_of, no_further}
+use Rattle.text_reader.specs.Reading.{Reader, ◌>>=◌, as_read, literal_at}
+use Rattle.text_reader.specs.NumberReading.{number_at}
+use Rattle.text_reader.proofs.NumberForms.{InRange, NoDigit, reads_number}
+use Rattle.text_reader.proofs.Readers.{SameFirst, IsReader, reformed, after_text, then_read, made, made_of, no_further}
 use Rattle.sv_journal.specs.EntryText.{bit_text, control_text}
 use Rattle.sv_journal.specs.HoldReading.{Bits, control_of, bit_at, bits_at, control_at}
 use Rattle.sv_journal.specs.IsEntry.{IsControl}

@@ -9,11 +9,11 @@ use Rattle.sv_events.specs.declared.entry.Pair.{Pair}
 use Rattle.sv_events.specs.declared.row.AnswerKind.{AnswerKind}
 use Rattle.sv_events.specs.declared.row.AnswerKind.TheVariants as told
 use Rattle.apl_arrays.specs.List.{first_of, others_of}
-use Rattle.sv_text.specs.Reading.{Reader, Reading, ◌>>=◌, as_read, begins_with, literal_at}
-use Rattle.sv_text.specs.NumberReading.{number_at}
-use Rattle.sv_text.proofs.NumberForms.{InRange, NoDigit, reads_number}
-use Rattle.sv_text.proofs.Told.{second_told}
-use Rattle.sv_text.proofs.Readers.{SameFirst, Found, Stopped, Reads, IsReader, AreGlyphs, glyphs_behind, same_behind, same_end, cancelled, reformed, after_text, then_read, then_stopped, made, no_further}
+use Rattle.text_reader.specs.Reading.{Reader, Reading, ◌>>=◌, as_read, begins_with, literal_at}
+use Rattle.text_reader.specs.NumberReading.{number_at}
+use Rattle.text_reader.proofs.NumberForms.{InRange, NoDigit, reads_number}
+use Rattle.text_reader.proofs.Told.{second_told}
+use Rattle.text_reader.proofs.Readers.{SameFirst, Found, Stopped, Reads, IsReader, AreGlyphs, glyphs_behind, same_behind, same_end, cancelled, reformed, after_text, then_read, then_stopped, made, no_further}
 use Rattle.sv_journal.specs.declared.act_word.ActWord.{ActWord}
 use Rattle.sv_journal.specs.declared.act_word.ActWord.TheVariants.{Offer, Retract, SetControl, AskControl, AskState, AskDegree, AskParties, AskNames, Set, Use, Leave}
 use Rattle.sv_journal.specs.ActReading.{act_at, party_at}

@@ -2,11 +2,11 @@
 use Rattle.std.proofs.Common.{ℕ, ◌-◌, ◌^◌, List, [], ◌∷◌, codes, refl, arith}
 use Rattle.std.specs.Fmt.{decimal}
 use Rattle.apl_arrays.specs.Name.{IsName}
-use Rattle.sv_text.specs.Reading.{name_at}
-use Rattle.sv_text.specs.NumberReading.{number_at}
-use Rattle.sv_text.proofs.NameForms.{NoName, itself, reads_name}
-use Rattle.sv_text.proofs.NumberForms.{InRange, NoDigit, reads_number}
-use Rattle.sv_text.proofs.Readers.{SameFirst, IsReader, reformed, after_text}
+use Rattle.text_reader.specs.Reading.{name_at}
+use Rattle.text_reader.specs.NumberReading.{number_at}
+use Rattle.text_reader.proofs.NameForms.{NoName, itself, reads_name}
+use Rattle.text_reader.proofs.NumberForms.{InRange, NoDigit, reads_number}
+use Rattle.text_reader.proofs.Readers.{SameFirst, IsReader, reformed, after_text}
 use Rattle.sv_journal.specs.ActReading.{local_at, party_at}
 use Rattle.sv_journal.specs.IsEntry.{IsPartyNumber}
 

@@ -12,7 +12,7 @@ use Rattle.sv_events.specs.declared.event.Act.{Act}
 use Rattle.sv_events.specs.declared.event.Act.TheVariants as act
 use Rattle.sv_events.specs.declared.row.AnswerKind.{AnswerKind}
 use Rattle.sv_events.specs.declared.row.AnswerKind.TheVariants.{Degree, Granted, Value, NoValue, Held, Abandoned, NotShared, OfferLimit, Full, Vector, Parties, Names, Kept, Done}
-use Rattle.sv_text.proofs.NumberForms.{InRange}
+use Rattle.text_reader.proofs.NumberForms.{InRange}
 use Rattle.sv_journal.specs.ActWord.{word_of, answers_to}
 use Rattle.sv_journal.specs.IsEntry.{IsPartyNumber, IsAnswer, IsPair, IsEntry}
 use Rattle.sv_journal.proofs.AnswerForms.{kind_of, Ranged, Listed}

@@ -9,10 +9,10 @@ use Rattle.apl_arrays.specs.Name.{IsName}
 use Rattle.apl_arrays.specs.Run.{begins}
 use Rattle.line_text.proofs.SameNumbers.{begins_count}
 use Rattle.apl_arrays.specs.List.{first_of, others_of}
-use Rattle.sv_text.specs.Reading.{Reader, begins_with}
-use Rattle.sv_text.proofs.NameForms.{NoName}
-use Rattle.sv_text.proofs.NumberForms.{NoDigit}
-use Rattle.sv_text.proofs.Readers.{SameFirst, Stopped, IsReader, same_behind}
+use Rattle.text_reader.specs.Reading.{Reader, begins_with}
+use Rattle.text_reader.proofs.NameForms.{NoName}
+use Rattle.text_reader.proofs.NumberForms.{NoDigit}
+use Rattle.text_reader.proofs.Readers.{SameFirst, Stopped, IsReader, same_behind}
 use Rattle.sv_journal.specs.ActReading.{local_at, party_at}
 use Rattle.sv_journal.specs.AnswerReading.{goes_on, parties_at, names_at}
 use Rattle.sv_journal.specs.IsEntry.{IsPartyNumber}

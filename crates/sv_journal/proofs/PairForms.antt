@@ -7,10 +7,10 @@ use Rattle.apl_arrays.specs.Glyph.{is_digit}
 use Rattle.apl_arrays.specs.Run.{begins}
 use Rattle.sv_events.specs.declared.entry.Pair.{Pair}
 use Rattle.apl_arrays.specs.List.{first_of}
-use Rattle.sv_text.specs.Reading.{◌>>=◌, as_read, literal_at}
-use Rattle.sv_text.specs.NumberReading.{number_at}
-use Rattle.sv_text.proofs.NumberForms.{InRange, NoDigit, reads_number}
-use Rattle.sv_text.proofs.Readers.{SameFirst, Stopped, IsReader, AreGlyphs, same_end, after_text, then_read, made, no_further}
+use Rattle.text_reader.specs.Reading.{◌>>=◌, as_read, literal_at}
+use Rattle.text_reader.specs.NumberReading.{number_at}
+use Rattle.text_reader.proofs.NumberForms.{InRange, NoDigit, reads_number}
+use Rattle.text_reader.proofs.Readers.{SameFirst, Stopped, IsReader, AreGlyphs, same_end, after_text, then_read, made, no_further}
 use Rattle.sv_journal.specs.EntryReading.{pair_at, is_left, pairs_at}
 use Rattle.sv_journal.specs.EntryText.{pair_text}
 use Rattle.sv_journal.specs.IsEntry.{IsPair}

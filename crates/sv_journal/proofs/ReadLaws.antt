@@ -6,11 +6,11 @@ use Rattle.std.proofs.lemmas.Bool.Decides.{nat_tests}
 use Rattle.std.proofs.lemmas.List.{take-append-drop}
 use Rattle.sv_events.specs.Entry.{PlainEntry}
 use Rattle.apl_arrays.specs.List.{first_of}
-use Rattle.sv_text.specs.declared.unread.Unread.{Unread}
-use Rattle.sv_text.specs.declared.unread.Unread.TheVariants.{Left, WantOfMemory}
-use Rattle.sv_text.specs.Reading.{Reading, Stops}
-use Rattle.sv_text.proofs.Readers.{SameFirst, Found, Stopped, Reads, AreGlyphs, same_behind, again}
-use Rattle.sv_text.proofs.Told.{tell, first_told}
+use Rattle.text_reader.specs.declared.unread.Unread.{Unread}
+use Rattle.text_reader.specs.declared.unread.Unread.TheVariants.{Left, WantOfMemory}
+use Rattle.text_reader.specs.Reading.{Reading, Stops}
+use Rattle.text_reader.proofs.Readers.{SameFirst, Found, Stopped, Reads, AreGlyphs, same_behind, again}
+use Rattle.text_reader.proofs.Told.{tell, first_told}
 use Rattle.sv_journal.specs.EntryReading.{entry_at}
 use Rattle.sv_journal.specs.EntryText.{entry_text}
 use Rattle.sv_journal.specs.IsEntry.{IsEntry, IsEntryText, BeginsEntry, DepartsAt}

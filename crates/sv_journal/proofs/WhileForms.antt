@@ -3,9 +3,9 @@ use Rattle.std.proofs.Common.{◌≡◌, ℕ, zero, suc, ◌+◌, ◌<◌, ◌�
 use Rattle.std.proofs.lemmas.Bool.{false≢true, cases_Bool}
 use Rattle.std.specs.List.{flat_map, AllByRecursion}
 use Rattle.apl_arrays.specs.List.{first_of}
-use Rattle.sv_text.specs.Reading.{Reader, Reading, ◌>>=◌, list_at, read_behind}
-use Rattle.sv_text.proofs.Told.{second_told}
-use Rattle.sv_text.proofs.Readers.{SameFirst, Found, Stopped, Reads, IsReader, AreGlyphs, glyphs_behind, same_behind, cancelled}
+use Rattle.text_reader.specs.Reading.{Reader, Reading, ◌>>=◌, list_at, read_behind}
+use Rattle.text_reader.proofs.Told.{second_told}
+use Rattle.text_reader.proofs.Readers.{SameFirst, Found, Stopped, Reads, IsReader, AreGlyphs, glyphs_behind, same_behind, cancelled}
 
 -- a list of such things, behind which comes what no thing begins with
 pub record GoesOn {A : Type 0} (text : A → List ℕ) (ok : A → Type 0) (follows after : List ℕ → Type 0) (agrees : List ℕ → List ℕ → Type 0) (test : List ℕ → Bool) (item : Reader A) : Type 0 where

@@ -4,8 +4,8 @@ use Rattle.std.proofs.lemmas.Bool.{cases_Bool}
 use Rattle.std.proofs.lemmas.Bool.Decides.{nat_tests}
 use Rattle.std.proofs.lemmas.List.{take-append-drop}
 use Rattle.apl_arrays.specs.List.{first_of}
-use Rattle.sv_text.specs.Reading.{Reader, Reading, ◌>>=◌, literal_at, shared_length}
-use Rattle.sv_text.proofs.Readers.{SameFirst, Anything, Found, Stopped, Reads, IsReader, AreGlyphs}
+use Rattle.text_reader.specs.Reading.{Reader, Reading, ◌>>=◌, literal_at, shared_length}
+use Rattle.text_reader.proofs.Readers.{SameFirst, Anything, Found, Stopped, Reads, IsReader, AreGlyphs}
 use Rattle.sv_journal.specs.WordReading.{word_at}
 
 -- one of these

@@ -4,8 +4,8 @@ use Rattle.apl_arrays.specs.Array.{PlainArray}
 use Rattle.sv_access.specs.declared.control.Control.{Control}
 use Rattle.sv_events.specs.declared.event.Act.{Act}
 use Rattle.sv_events.specs.declared.event.Act.TheVariants as act
-use Rattle.sv_text.specs.Reading.{Reader, Reading, ◌>>=◌, as_read, literal_at, name_at}
-use Rattle.sv_text.specs.NumberReading.{number_at}
+use Rattle.text_reader.specs.Reading.{Reader, Reading, ◌>>=◌, as_read, literal_at, name_at}
+use Rattle.text_reader.specs.NumberReading.{number_at}
 use Rattle.sv_text.specs.ValueReading.{array_at, value_at}
 use Rattle.sv_journal.specs.declared.act_word.ActWord.{ActWord}
 use Rattle.sv_journal.specs.declared.act_word.ActWord.TheVariants.{Offer, Retract, SetControl, AskControl, AskState, AskDegree, AskParties, AskNames, Set, Use, Leave}

@@ -6,8 +6,8 @@ use Rattle.sv_events.specs.Answer.{PlainAnswer, degree, granted, value, no_value
 use Rattle.sv_events.specs.declared.row.AnswerKind.{AnswerKind}
 use Rattle.sv_events.specs.declared.row.AnswerKind.TheVariants.{Degree, Granted, Value, NoValue, Held, Abandoned, NotShared, OfferLimit, Full, Vector, Parties, Names, Kept, Done}
 use Rattle.apl_arrays.specs.List.{others_of}
-use Rattle.sv_text.specs.Reading.{Reader, Reading, ◌>>=◌, as_read, begins_with, list_at, literal_at, name_at}
-use Rattle.sv_text.specs.NumberReading.{number_at}
+use Rattle.text_reader.specs.Reading.{Reader, Reading, ◌>>=◌, as_read, begins_with, list_at, literal_at, name_at}
+use Rattle.text_reader.specs.NumberReading.{number_at}
 use Rattle.sv_text.specs.ValueReading.{array_at, value_at}
 use Rattle.sv_journal.specs.ActReading.{local_at, party_at}
 use Rattle.sv_journal.specs.HoldReading.{control_at, hold_at}

@@ -3,8 +3,8 @@ use Rattle.std.specs.Prelude.{◌^◌, ◌+◌, ◌-◌, ◌∷◌, [], ℕ, Boo
 use Rattle.sv_events.specs.Entry.{PlainEntry}
 use Rattle.sv_events.specs.declared.entry.Pair.{Pair}
 use Rattle.apl_arrays.specs.List.{first_of}
-use Rattle.sv_text.specs.Reading.{Reader, Reading, ◌>>=◌, list_at, literal_at}
-use Rattle.sv_text.specs.NumberReading.{number_at}
+use Rattle.text_reader.specs.Reading.{Reader, Reading, ◌>>=◌, list_at, literal_at}
+use Rattle.text_reader.specs.NumberReading.{number_at}
 use Rattle.sv_journal.specs.ActReading.{act_at, party_at}
 use Rattle.sv_journal.specs.ActWord.{word_of, answers_to}
 use Rattle.sv_journal.specs.AnswerReading.{answer_at}

@@ -5,8 +5,8 @@ use Rattle.sv_access.specs.declared.verdict.Owners.{Owners}
 use Rattle.sv_access.specs.declared.verdict.Owners.TheVariants.{Mine, Partner, Both}
 use Rattle.sv_access.specs.Control.{four_elements}
 use Rattle.sv_events.specs.declared.event.Hold.{Hold}
-use Rattle.sv_text.specs.Reading.{Reader, Reading, ◌>>=◌, as_read, literal_at}
-use Rattle.sv_text.specs.NumberReading.{number_at}
+use Rattle.text_reader.specs.Reading.{Reader, Reading, ◌>>=◌, as_read, literal_at}
+use Rattle.text_reader.specs.NumberReading.{number_at}
 use Rattle.sv_journal.specs.EntryText.{owners_text}
 use Rattle.sv_journal.specs.WordReading.{word_at}
 

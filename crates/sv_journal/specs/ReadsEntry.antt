@@ -2,8 +2,8 @@
 use Rattle.std.specs.Prelude.{◌≡◌, ◌-◌, ℕ, List, Result, Ok, Err}
 use Rattle.sv_events.specs.Entry.{PlainEntry, plain_entry}
 use Rattle.sv_events.specs.declared.entry.Entry.{Entry}
-use Rattle.sv_text.specs.declared.unread.Unread.{Unread}
-use Rattle.sv_text.specs.declared.unread.Unread.TheVariants.{Left, WantOfMemory as NoMemory}
+use Rattle.text_reader.specs.declared.unread.Unread.{Unread}
+use Rattle.text_reader.specs.declared.unread.Unread.TheVariants.{Left, WantOfMemory as NoMemory}
 use Rattle.sv_journal.specs.declared.entry_reading.EntryRefused.{EntryRefused}
 use Rattle.sv_journal.specs.declared.entry_reading.EntryRefused.TheVariants.{BadEntry, WantOfMemory}
 use Rattle.sv_journal.specs.EntryText.{entry_text}

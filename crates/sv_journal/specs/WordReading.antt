@@ -1,6 +1,6 @@
 -- Reading one of several words.
 use Rattle.std.specs.Prelude.{◌-◌, ◌==◌, ◌∷◌, [], ℕ, List, Err, Ok, length, max, if◌then◌else◌}
-use Rattle.sv_text.specs.Reading.{Reader, Reading, ◌>>=◌, literal_at, shared_length}
+use Rattle.text_reader.specs.Reading.{Reader, Reading, ◌>>=◌, literal_at, shared_length}
 
 -- one of these whose word stands at the front; else the reading stops behind the most glyphs that one of the words has
 -- in common with the line, which are at least as many as are told

@@ -1,5 +1,5 @@
 ghost use Rattle.std.specs.Prelude.{◌≡◌, IfErr};
-ghost use Rattle.sv_text.specs.Reading.{Gives, IsLeft};
+ghost use Rattle.text_reader.specs.Reading.{Gives, IsLeft};
 ghost use Rattle.sv_journal.specs.ActReading.{act_at, act_behind, offer_at, set_control_at, set_at, local_at, party_at};
 
 use crate::act_word::{ACT_WORDS, ActWord};
@@ -8,7 +8,8 @@ use crate::word::read_word;
 use apl_arrays::Name;
 use std::alloc::Global;
 use sv_events::Act;
-use sv_text::{Cursor, Unread, read_array, read_value};
+use sv_text::{read_array, read_value};
+use text_reader::{Cursor, Unread};
 
 /// Reads an act. It takes memory for its value.
 #[tactic(auto, unfolding(crate::specs::ActReading::act_at))]

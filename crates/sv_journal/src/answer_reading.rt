@@ -1,6 +1,6 @@
 ghost use Rattle.std.specs.Prelude.{◌≡◌};
 ghost use Rattle.sv_events.specs.Answer.{plain_answer};
-ghost use Rattle.sv_text.specs.Reading.{Gives, step_at};
+ghost use Rattle.text_reader.specs.Reading.{Gives, step_at};
 ghost use Rattle.sv_journal.specs.ActReading.{local_at, party_at};
 ghost use Rattle.sv_journal.specs.AnswerReading.{answer_at, answer_behind, degree_at, kept_at, parties_at, names_at, told_at, goes_on};
 
@@ -10,7 +10,8 @@ use crate::word::{Word, read_word};
 use apl_arrays::{Array, Glyph, List, NameList, PartyList};
 use std::alloc::Global;
 use sv_events::{Answer, AnswerKind};
-use sv_text::{Cursor, Unread, read_array, read_value};
+use sv_text::{read_array, read_value};
+use text_reader::{Cursor, Unread};
 
 impl Word for AnswerKind {
     ghost use Rattle.sv_journal.specs.AnswerReading.{kind_word};

@@ -1,6 +1,6 @@
 ghost use Rattle.std.specs.Prelude.{◌≡◌, ◌-◌, ℕ, length};
 ghost use Rattle.sv_events.specs.Entry.{PlainEntry, plain_entry};
-ghost use Rattle.sv_text.specs.Reading.{Gives, step_at};
+ghost use Rattle.text_reader.specs.Reading.{Gives, step_at};
 ghost use Rattle.sv_journal.specs.EntryReading.{entry_at, is_left, pair_at, pairs_at};
 ghost use Rattle.sv_journal.specs.EntryText.{entry_text};
 ghost use Rattle.sv_journal.specs.IsEntry.{IsEntry};
@@ -14,7 +14,7 @@ use std::alloc::Global;
 use std::error::Error;
 use std::fmt;
 use sv_events::{Entry, Pair, PairList};
-use sv_text::{Cursor, Unread};
+use text_reader::{Cursor, Unread};
 
 /// Why a line is not read as an entry.
 #[derive(Clone, Copy, Debug, PartialEq, Eq)]

@@ -1,11 +1,11 @@
 ghost use Rattle.std.specs.Prelude.{◌≡◌, IfErr};
-ghost use Rattle.sv_text.specs.Reading.{Gives, IsLeft};
+ghost use Rattle.text_reader.specs.Reading.{Gives, IsLeft};
 ghost use Rattle.sv_journal.specs.HoldReading.{bit_at, control_at, hold_at};
 
 use crate::word::{Word, read_word};
 use sv_access::{Control, Owners};
 use sv_events::Hold;
-use sv_text::{Cursor, Unread};
+use text_reader::{Cursor, Unread};
 
 // Whose 1 it may be.
 const OWNERS: [Owners; 3] = [Owners::Mine, Owners::Partner, Owners::Both];

@@ -1,4 +1,5 @@
-ghost use Rattle.std.specs.Prelude.{◌≡◌, All, ◌++◌, List as ListOf, OnOk, map};
+ghost use Rattle.std.specs.Prelude.{◌≡◌, All, ◌++◌, List as ListOf, OnOk, map, OnErr};
+ghost use Rattle.apl_arrays.specs.Front.{KeepsFront};
 ghost use Rattle.sv_events.specs.Entry.{PlainEntry, plain_entry};
 ghost use Rattle.line_text.specs.Lines.{line_text, lines_text};
 ghost use Rattle.sv_journal.specs.EntryText.{entry_text};
@@ -20,6 +21,7 @@ fn add_entry_line(
 ) -> Result<(), WantOfMemory>
     ensures text { OnOk result (bytes.new.items
         ≡ bytes.old.items ++ line_text (entry_text place (plain_entry entry.now))) }
+    ensures front { OnErr result (KeepsFront bytes.old.items bytes.new.items) }
     ensures printable { OnOk result (IsPrintableEntry (plain_entry entry.now)) }
 {
     line.clear();
@@ -31,6 +33,7 @@ fn add_entry_line(
 fn add_entries(alloc: Global, bytes: &mut Vec<u8>, entries: &[Entry]) -> Result<(), WantOfMemory>
     ensures text { OnOk result (bytes.new.items
         ≡ bytes.old.items ++ lines_text (entry_lines 1 (map plain_entry entries.now))) }
+    ensures front { OnErr result (KeepsFront bytes.old.items bytes.new.items) }
     ensures printable { OnOk result (All IsPrintableEntry (map plain_entry entries.now)) }
 {
     let mut line = List::new(alloc);
@@ -41,7 +44,7 @@ fn add_entries(alloc: Global, bytes: &mut Vec<u8>, entries: &[Entry]) -> Result<
 }
 
 /// Adds a journal, its oldest entry first, between its heading and the end. It takes memory for the bytes and for one
-/// line; where that runs out, a part of the journal may stand there.
+/// line; where that runs out, a part of the journal may stand there, behind what stood there before.
 pub fn add_journal(
     alloc: Global,
     bytes: &mut Vec<u8>,
@@ -49,6 +52,7 @@ pub fn add_journal(
 ) -> Result<(), WantOfMemory>
     ensures text { OnOk result (bytes.new.items
         ≡ bytes.old.items ++ lines_text (journal_lines (map plain_entry entries.now))) }
+    ensures front { OnErr result (KeepsFront bytes.old.items bytes.new.items) }
     ensures printable { OnOk result (All IsPrintableEntry (map plain_entry entries.now)) }
 {
     add_word(alloc, bytes, "journal")?;

@@ -1,8 +1,8 @@
 ghost use Rattle.std.specs.Prelude.{◌≡◌, ◌≤◌, IfErr, ℕ, List, length};
-ghost use Rattle.sv_text.specs.Reading.{Gives, IsLeft};
+ghost use Rattle.text_reader.specs.Reading.{Gives, IsLeft};
 ghost use Rattle.sv_journal.specs.WordReading.{word_at};
 
-use sv_text::{Cursor, Unread};
+use text_reader::{Cursor, Unread};
 
 /// What has a word of its own in the texts of entries.
 pub(crate) trait Word: Copy {

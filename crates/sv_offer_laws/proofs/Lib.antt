@@ -13,3 +13,4 @@ pub mod FewLemmas
 pub mod LookupLemmas
 pub mod NowLemmas
 pub mod CouplingLemmas
+pub mod OfferLemmas

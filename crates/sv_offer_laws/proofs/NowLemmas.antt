@@ -14,11 +14,12 @@ use Rattle.sv_rules.specs.Standing.{standing}
 use Rattle.sv_rules.specs.Coupling.{made_in, stands_at, both_stand, couplings, has_place, is_coupled, offer_at, coupling_of, coupling_now}
 use Rattle.sv_rules.specs.Legal.{IsLegal}
 use Rattle.sv_offer_laws.specs.CouplingLaws.{IsCouplingOf}
-use Rattle.sv_offer_laws.specs.LegalLaws.{IsInOrder, made_at}
+use Rattle.sv_offer_laws.specs.LegalLaws.{HasMatchingOffers, IsInOrder, made_at}
 use Rattle.sv_offer_laws.proofs.Members.{Contains-cons_cases, Contains-filter, find_passed, list_any_member}
 use Rattle.sv_offer_laws.proofs.PlaceLemmas.{places_ascend, same_by_place}
 use Rattle.sv_offer_laws.proofs.CouplingLemmas.{made_in-from_WasMade, WasMade-from_made_in, made_at_cases}
 use Rattle.sv_offer_laws.proofs.LegalLemmas.{IsSound-from_legal, stood_before}
+use Rattle.sv_offer_laws.proofs.MatchLemmas.{match_apart}
 use Rattle.sv_offer_laws.proofs.LookupLemmas.{find_is, found_as_made, found_where_coupled}
 
 -- where some passes at least one does
@@ -99,6 +100,12 @@ coupling_is_found users journal legal place coupling is =
       | inl low ↦ or_left (eqb coupling.a.place place) (eqb coupling.b.place place) (eq-eqb coupling.a.place place low)
       | inr high ↦ or_right (eqb coupling.a.place place) (eqb coupling.b.place place) (eq-eqb coupling.b.place place high)
     ]
+
+-- the two offers of a coupling are of different parties
+pub partners_differ : (users : List ℕ) (journal : Entries) → IsLegal users journal → (place : ℕ) (coupling : Coupling) → IsCouplingOf journal place coupling → coupling.a.party ≡ coupling.b.party → ⊥
+partners_differ users journal legal place coupling is same =
+    let matches = All-contains (HasMatchingOffers (standing journal)) (couplings journal) _ (IsSound-from_legal users journal legal).matching (coupling_among journal place coupling is) in
+    match_apart coupling.a coupling.b (matches coupling.a coupling.b is.has_a is.has_b refl refl) same
 
 -- the coupling is at a place of the journal, and not before its offers
 pub coupling_places : (users : List ℕ) (journal : Entries) → IsLegal users journal → (place : ℕ) (coupling : Coupling) → IsCouplingOf journal place coupling →

@@ -2,3 +2,4 @@ pub mod StandingLaws
 pub mod CouplingLaws
 pub mod LegalLaws
 pub mod EndingLaws
+pub mod OfferLaws

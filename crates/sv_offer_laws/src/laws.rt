@@ -2,6 +2,7 @@ ghost use Rattle.std.specs.Prelude.{◌≡◌};
 ghost use Rattle.sv_offer_laws.specs.CouplingLaws.{PairsAreThoseOfEntries, MatchingIsMutual, OldestMatchIsTaken, NoneIsTakenOfNone, CouplingsAreFoundWhereCoupled, CouplingsAreFoundAsMade};
 ghost use Rattle.sv_offer_laws.specs.EndingLaws.{OpenOffersDoNotMatch, EndingsMakeNextPairs, EndingsLeaveNoneOpen, LeavesReopenFew, RetractionsReopenOne, EndingsReopenOneOfAPair};
 ghost use Rattle.sv_offer_laws.specs.LegalLaws.{LegalIsEntryByEntry, OffersAreLimited, PairsAreInOrder, CouplingsGoOn, OffersAreCoupledOnce, CoupledOffersMatch};
+ghost use Rattle.sv_offer_laws.specs.OfferLaws.{NewOffersAreAnswered, OffersAgainTellTheirDegree, RetractionsKeepWhatIsKnown};
 ghost use Rattle.sv_offer_laws.specs.StandingLaws.{StandingOffersAreThoseThatStand, OffersHavePlaces, OffersComeByPlace, OffersAreOneForAName};
 
 /// The law of standing offers, for every journal: which they are, that they come by place, and that a party has
@@ -22,6 +23,14 @@ pub fn coupling_law()
     ensures none { NoneIsTakenOfNone }
     ensures found { CouplingsAreFoundWhereCoupled }
     ensures as_made { CouplingsAreFoundAsMade }
+{}
+
+/// The law of offers in a legal journal: what an offer is answered, once its name stands and before, and which pair it
+/// makes; and what a retraction is answered. The call does nothing.
+pub fn offer_law()
+    ensures again { OffersAgainTellTheirDegree }
+    ensures first { NewOffersAreAnswered }
+    ensures taken_back { RetractionsKeepWhatIsKnown }
 {}
 
 /// The law of legal journals: they are legal entry by entry, and what holds of their offers and couplings. The call

@@ -1,6 +1,6 @@
-//! The laws of standing offers, couplings, legal journals, leaves and retractions. The calls do nothing.
+//! The laws of standing offers, couplings, offers that are made, legal journals, leaves and retractions. The calls do nothing.
 #![tactic(auto)]
 
 mod laws;
 
-pub use laws::{coupling_law, ending_law, legal_law, standing_law};
+pub use laws::{coupling_law, ending_law, legal_law, offer_law, standing_law};

@@ -9,14 +9,15 @@ ghost use Rattle.sv_rules.specs.Entries.{has_left, is_abandoned, is_full, is_lea
 ghost use Rattle.sv_rules.specs.Journal.{journal_of};
 ghost use Rattle.sv_rules.specs.Legal.{act_due, act_for, is_user, may_do, IsStuckIf, MayFollow, IsLegal};
 ghost use Rattle.sv_rules.specs.Outcome.{outcome};
-ghost use Rattle.sv_rules.specs.Work.{is_auxiliary};
+ghost use Rattle.aux_parties.specs.Auxiliaries.{is_auxiliary};
 
 use crate::waiting::awaited;
 use crate::{is_full, is_stuck, outcome_of, work_of};
 use apl_arrays::{Name, WantOfMemory};
+use aux_parties::is_auxiliary;
 use std::alloc::Global;
 use sv_events::{Act, Answer, Entry, PairList, Work, act_of};
-use sv_rules::{has_left, is_abandoned, is_auxiliary, is_leave};
+use sv_rules::{has_left, is_abandoned, is_leave};
 
 fn is_user(users: &[u32], party: u32) -> bool
     ensures { result ≡ is_user users.now party }

@@ -5,14 +5,15 @@ ghost use Rattle.sv_events.specs.Entry.{plain_entry};
 ghost use Rattle.sv_rules.specs.Entries.{has_left};
 ghost use Rattle.sv_rules.specs.Journal.{journal_of};
 ghost use Rattle.sv_rules.specs.Refused.{act_held, awaited, refused, still_refused, waits};
-ghost use Rattle.sv_rules.specs.Work.{is_halted, is_idle, is_stuck};
+ghost use Rattle.sv_rules.specs.Work.{is_halted, is_idle, is_stuck, rests};
 
 use crate::holding::hold_on;
 use crate::{couplings_of, standing_offers, work_of};
 use apl_arrays::WantOfMemory;
+use aux_parties::{AUXILIARIES, AuxiliaryRow};
 use std::alloc::Global;
 use sv_events::{Act, Entry, Hold, Work};
-use sv_rules::{CLOCK_PARTY, TEXT_PARTY, has_left, is_held, own_offer};
+use sv_rules::{has_left, is_held, own_offer};
 
 /// What refuses an act of a party, if anything does. It takes memory for the offers and the couplings of each entry in
 /// turn.
@@ -114,14 +115,33 @@ fn is_idle(work: Work) -> bool
     matches!(work, Work::Idle)
 }
 
-/// Whether nobody can go on: whoever is still there waits for an act that is refused now, somebody is there, and neither
+// Whether the party of a row has no work.
+fn rests(alloc: Global, entries: &[Entry], row: &AuxiliaryRow) -> Result<bool, WantOfMemory>
+    ensures { IfOk result (λ rest. rest ≡ rests (journal_of entries.now) row.now) }
+{
+    let work = work_of(alloc, entries, row.party)?;
+    Ok(is_idle(work))
+}
+
+// Whether the parties of these rows have no work.
+fn all_rest(alloc: Global, rows: &[AuxiliaryRow], entries: &[Entry]) -> Result<bool, WantOfMemory>
+    ensures { IfOk result (λ rest. rest ≡ list_all (rests (journal_of entries.now)) rows.now) }
+{
+    for row in rows {
+        if !rests(alloc, entries, row)? {
+            return Ok(false);
+        }
+    }
+    Ok(true)
+}
+
+/// Whether nobody can go on: whoever is still there waits for an act that is refused now, somebody is there, and no
 /// auxiliary has anything to do.
 /// It takes memory for the offers and the couplings of each entry in turn.
 pub fn is_stuck(alloc: Global, users: &[u32], entries: &[Entry]) -> Result<bool, WantOfMemory>
     ensures { IfOk result (λ stuck. stuck ≡ is_stuck users.now (journal_of entries.now)) }
 {
     let halt = all_halt(alloc, users, entries)?;
-    let clock = work_of(alloc, entries, CLOCK_PARTY)?;
-    let text = work_of(alloc, entries, TEXT_PARTY)?;
-    Ok(some_stays(users, entries) && halt && is_idle(clock) && is_idle(text))
+    let rest = all_rest(alloc, &AUXILIARIES, entries)?;
+    Ok(some_stays(users, entries) && halt && rest)
 }

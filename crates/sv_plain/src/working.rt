@@ -13,12 +13,13 @@ use crate::asking::open_to;
 use crate::stories::story_state;
 use crate::{couplings_of, is_full, standing_offers};
 use apl_arrays::WantOfMemory;
+use aux_parties::most_counters;
 use std::alloc::Global;
 use sv_access::{Kind, Side, State};
 use sv_events::{Entry, Work};
 use sv_rules::{
-    Coupling, Made, Standing, control_on, coupling_at, is_coupled, kind_on, most_counters,
-    offer_count, side_at, tries,
+    Coupling, Made, Standing, control_on, coupling_at, is_coupled, kind_on, offer_count, side_at,
+    tries,
 };
 
 // Whether its party set no control on the offer since the coupling was made.

@@ -1,7 +1,7 @@
 use Rattle.std.specs.Prelude.{ℕ, ◌+◌, Bool, true, false, ◌||◌, ◌&&◌, ◌==◌, not, nat_le, nat_lt, List, [], ◌∷◌, length, count_by, sum_by, Option, None, if◌then◌else◌}
 use Rattle.std.specs.List.{list_any}
 use Rattle.apl_arrays.specs.Array.{PlainArray}
-use Rattle.apl_arrays.specs.Limits.{most_entries, most_journal_elements}
+use Rattle.sv_rules.specs.Limits.{most_entries, most_journal_elements}
 use Rattle.sv_events.specs.Answer.{PlainAnswer}
 use Rattle.sv_events.specs.Entry.{PlainEntry}
 use Rattle.sv_events.specs.Fits.{ends_all}

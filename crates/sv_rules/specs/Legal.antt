@@ -11,7 +11,8 @@ use Rattle.sv_events.specs.declared.work.Work.TheVariants as work
 use Rattle.sv_rules.specs.Entries.{Entries, next_place, is_leave, kind_of, is_abandoned, has_left, is_full}
 use Rattle.sv_rules.specs.Outcome.{outcome}
 use Rattle.sv_rules.specs.Refused.{awaited, still_refused}
-use Rattle.sv_rules.specs.Work.{is_auxiliary, work_of, is_stuck}
+use Rattle.aux_parties.specs.Auxiliaries.{is_auxiliary}
+use Rattle.sv_rules.specs.Work.{work_of, is_stuck}
 
 -- the number is a user's
 abbrev pub is_user : List ℕ → ℕ → Bool

@@ -1,3 +1,4 @@
+pub mod Limits
 pub mod Entries
 pub mod Journal
 pub mod Standing

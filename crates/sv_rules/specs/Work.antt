@@ -1,14 +1,13 @@
 use Rattle.std.specs.Prelude.{ℕ, Bool, true, false, ◌&&◌, ◌||◌, ◌==◌, not, nat_lt, List, filter, find, Option, is_some, option_map, unwrap_or, if◌then◌else◌}
 use Rattle.std.specs.List.{list_any, list_all}
 use Rattle.std.specs.Option.{option_map_or, option_or}
-use Rattle.apl_arrays.specs.Limits.{most_offers}
-use Rattle.apl_arrays.specs.Parties.{clock_party, text_party}
 use Rattle.sv_access.specs.Access.{other_side, is_set}
 use Rattle.sv_access.specs.Story.{is_unseen}
 use Rattle.sv_events.specs.Entry.{PlainEntry}
 use Rattle.sv_events.specs.Row.{act_row}
 use Rattle.sv_events.specs.declared.work.Work.{Work}
 use Rattle.sv_events.specs.declared.work.Work.TheVariants as work
+use Rattle.aux_parties.specs.Auxiliaries.{auxiliaries, most_counters}
 use Rattle.sv_rules.specs.Control.{control_on, side_at}
 use Rattle.sv_rules.specs.Coupling.{couplings, is_coupled, coupling_now, open_to}
 use Rattle.apl_arrays.specs.Name.{same_name}
@@ -16,12 +15,9 @@ use Rattle.sv_rules.specs.Entries.{Entries, since, is_full, has_left}
 use Rattle.sv_rules.specs.Refused.{still_refused}
 use Rattle.sv_rules.specs.Standing.{standing, offer_count}
 use Rattle.sv_rules.specs.Story.{access_on, story}
+use Rattle.aux_parties.specs.declared.auxiliary.AuxiliaryRow.{AuxiliaryRow}
 use Rattle.sv_rules.specs.declared.coupling.Coupling.{Coupling}
 use Rattle.sv_rules.specs.declared.standing.Standing.{Standing}
-
--- the party is the clock or the text files
-abbrev pub is_auxiliary : ℕ → Bool
-is_auxiliary party = party == clock_party || party == text_party
 
 -- the offers of a party that stand, by place
 abbrev pub own_offers : Entries → ℕ → List Standing
@@ -56,10 +52,6 @@ owes_reply journal offer coupling = option_map_or (gets_value offer) (find (trie
 abbrev pub has_unseen : Entries → Standing → Coupling → Bool
 has_unseen journal offer coupling = is_unseen (other_side (side_at coupling offer.place)) (story journal coupling)
 
--- how many offers an auxiliary may have: one for text files
-abbrev pub most_counters : ℕ → ℕ
-most_counters party = if party == text_party then 1 else most_offers
-
 -- the open offer of the lowest place that is made to the auxiliary, where it may have one offer more
 abbrev pub to_counter : Entries → ℕ → Option Standing
 to_counter journal party = find (λ offer. nat_lt (offer_count (standing journal) party) (most_counters party)) (open_to journal party)
@@ -93,8 +85,11 @@ is_idle _ = false
 abbrev pub is_halted : Entries → ℕ → Bool
 is_halted journal user = has_left journal user || is_some (still_refused journal user)
 
--- nobody can go on: some user stays; whoever stays waits, and is refused still; both auxiliaries are idle
+-- the party of a row has no work
+abbrev pub rests : Entries → AuxiliaryRow → Bool
+rests journal row = is_idle (work_of journal row.party)
+
+-- nobody can go on: some user stays; whoever stays waits, and is refused still; no auxiliary has work
 abbrev pub is_stuck : List ℕ → Entries → Bool
 is_stuck users journal =
-    list_any (λ user. not (has_left journal user)) users && list_all (is_halted journal) users
-    && is_idle (work_of journal clock_party) && is_idle (work_of journal text_party)
+    list_any (λ user. not (has_left journal user)) users && list_all (is_halted journal) users && list_all (rests journal) auxiliaries

@@ -18,9 +18,9 @@ pub use coupling::{
     pair_of, rejoined,
 };
 pub use entries::{has_left, is_abandoned, is_degree, is_granted, is_held, is_leave, is_value};
-pub use limits::{CLOCK_PARTY, ENTRY_LIMIT, HELD_LIMIT, TEXT_PARTY, limits_are_as_defined};
+pub use limits::{ENTRY_LIMIT, HELD_LIMIT, limits_are_as_defined};
 pub use listing::{names_of, parties_of};
 pub use standing::{Standing, end_together, is_match, offer_count, own_offer};
 pub use story::{kind_on, known_value, value_on};
 pub use weight::capped_weight;
-pub use work::{is_auxiliary, most_counters, tries};
+pub use work::tries;

@@ -1,6 +1,6 @@
 ghost use Rattle.std.specs.Prelude.{◌≡◌};
-ghost use Rattle.apl_arrays.specs.Parties.{clock_party, text_party};
-ghost use Rattle.apl_arrays.specs.Limits.{most_offers, most_entries, most_journal_elements};
+ghost use Rattle.apl_arrays.specs.Limits.{most_offers};
+ghost use Rattle.sv_rules.specs.Limits.{most_entries, most_journal_elements};
 
 use apl_arrays::OFFER_LIMIT;
 
@@ -10,17 +10,9 @@ pub const ENTRY_LIMIT: usize = 200_000;
 /// As many elements fill a journal.
 pub const HELD_LIMIT: u64 = 4_194_304;
 
-/// The party that answers with readings of the clock.
-pub const CLOCK_PARTY: u32 = 10;
-
-/// The party that reads and writes text files.
-pub const TEXT_PARTY: u32 = 20;
-
-/// The limits and the parties are those of the definitions. The call does nothing.
+/// The limits are those of the definitions. The call does nothing.
 pub fn limits_are_as_defined()
     ensures offers { OFFER_LIMIT ≡ most_offers }
     ensures entries { ENTRY_LIMIT ≡ most_entries }
     ensures elements { HELD_LIMIT ≡ most_journal_elements }
-    ensures clock { CLOCK_PARTY ≡ clock_party }
-    ensures text { TEXT_PARTY ≡ text_party }
 {}

@@ -2,26 +2,11 @@ ghost use Rattle.std.specs.Prelude.{◌≡◌, false};
 ghost use Rattle.std.specs.Option.{option_map_or};
 ghost use Rattle.sv_events.specs.Entry.{plain_entry};
 ghost use Rattle.apl_arrays.specs.Name.{same_name};
-ghost use Rattle.sv_rules.specs.Work.{is_auxiliary, most_counters, tries};
+ghost use Rattle.sv_rules.specs.Work.{tries};
 
 use crate::Standing;
-use crate::limits::{CLOCK_PARTY, TEXT_PARTY};
-use apl_arrays::{Name, OFFER_LIMIT};
+use apl_arrays::Name;
 use sv_events::{Accessing, Entry};
-
-/// Whether the party is the clock or the text files. No memory.
-pub fn is_auxiliary(party: u32) -> bool
-    ensures { result ≡ is_auxiliary party }
-{
-    party == CLOCK_PARTY || party == TEXT_PARTY
-}
-
-/// How many offers an auxiliary may have: one for the text files. No memory.
-pub fn most_counters(party: u32) -> usize
-    ensures { result ≡ most_counters party }
-{
-    if party == TEXT_PARTY { 1 } else { OFFER_LIMIT }
-}
 
 // Whether the access is on a local name.
 fn is_on(local: &Name, access: Option<Accessing>) -> bool

@@ -31,7 +31,8 @@ use Rattle.sv_rules.specs.Legal.{IsLegal, act_due, act_for}
 use Rattle.sv_rules.specs.Refused.{hold_under, hold_on, hold_of, refused}
 use Rattle.sv_rules.specs.Standing.{standing, own_offer, is_own}
 use Rattle.sv_rules.specs.Story.{GrantedAccess, access_on, granted_on, handed_in, story_part, story}
-use Rattle.sv_rules.specs.Work.{is_auxiliary, own_offers, first_open, first_coupled, first_work, lacks_control, owes_reply, has_unseen, to_counter, tries, gets_value, work_of}
+use Rattle.aux_parties.specs.Auxiliaries.{is_auxiliary}
+use Rattle.sv_rules.specs.Work.{own_offers, first_open, first_coupled, first_work, lacks_control, owes_reply, has_unseen, to_counter, tries, gets_value, work_of}
 use Rattle.sv_offer_laws.specs.CouplingLaws.{IsCouplingOf}
 use Rattle.sv_offer_laws.proofs.Members.{Contains-from_filter, filter_passed, find_passed}
 use Rattle.sv_offer_laws.proofs.LegalLemmas.{stood_before}
@@ -180,7 +181,7 @@ uses_only offer e local is got h = by got.kind got.value (IsAccessOn-from_access
     by kind.Set v on = absurd (let no : Use local ≡ Set offer.local v = sym is ∙ on.0 in cc)
 
 -- an entry that does not try to access the offer does not
-untried : (offer : Standing) (e : PlainEntry) → tries offer e ≡ false → access_on offer e ≡ None
+pub untried : (offer : Standing) (e : PlainEntry) → tries offer e ≡ false → access_on offer e ≡ None
 untried offer e h = elim (cases_Bool (eqb e.party offer.party)) [
   | inl own ↦ rw own (by (act_row e.act).row.accesses (rw own at h))
   | inr others ↦ rw others refl

@@ -66,14 +66,14 @@ controls_are_set_by_the_party offer e control = (there, back)
         let own : eqb e.party offer.party ≡ true = eq-eqb _ _ h.0 in rw (own, h.1, nat_list_eq_equiv.refl offer.local) refl
 
 -- entries that set no control on the offer change nothing of its vector
-vector_past : (offer : Standing) (later before : Entries) → offer.place ≤ length before → SetsNoControl offer later → vector_of (later ++ before) offer ≡ vector_of before offer
+pub vector_past : (offer : Standing) (later before : Entries) → offer.place ≤ length before → SetsNoControl offer later → vector_of (later ++ before) offer ≡ vector_of before offer
 vector_past offer [] before early none = refl
 vector_past offer (e ∷ later) before early none =
     let P : PlainEntry → Type 0 = λ (f : PlainEntry). control_on offer f ≡ None in
     let early_later : ltb offer.place (length (later ++ before) + 1) ≡ true = lt-ltb _ _ (omega (arith, length-append later before)) in
     rw (early_later, All-head P e later none) (vector_past offer later before early (All-tail P e later none))
 
-vector_at : (offer : Standing) (e : PlainEntry) (before : Entries) (control : Control) → offer.place ≤ length before → control_on offer e ≡ Some control → vector_of (e ∷ before) offer ≡ control
+pub vector_at : (offer : Standing) (e : PlainEntry) (before : Entries) (control : Control) → offer.place ≤ length before → control_on offer e ≡ Some control → vector_of (e ∷ before) offer ≡ control
 vector_at offer e before control early h =
     let early_now : ltb offer.place (length before + 1) ≡ true = lt-ltb _ _ (omega arith) in rw (early_now, h) refl
 

@@ -1,11 +1,10 @@
 -- Which work is due to an auxiliary first, and which offer it counters.
-use Rattle.std.proofs.Common.{◌≡◌, refl, sym, ap, ◌∙◌, subst, ℕ, Bool, true, false, ◌&&◌, not, eqb, ltb, List, ◌∷◌, Option, Some, None, ◌⊎◌, inl, inr, arith}
+use Rattle.std.proofs.Common.{◌≡◌, refl, sym, ap, ◌∙◌, subst, ℕ, Bool, true, false, ◌&&◌, not, eqb, ltb, List, ◌∷◌, Option, Some, None, inl, inr}
 use Rattle.std.specs.Prelude.{◌↔◌, IsTrue, filter, find, option_map, unwrap_or}
 use Rattle.std.specs.Option.{option_or}
-use Rattle.std.proofs.lemmas.Bool.{cases_Bool, and_parts, and_from, or_cases, not-true, both_ways, eqb-true, eq-eqb, lt-ltb, ltb-true}
+use Rattle.std.proofs.lemmas.Bool.{cases_Bool, and_parts, and_from, not-true, eqb-true, eq-eqb, lt-ltb, ltb-true}
 use Rattle.std.proofs.lemmas.Option.{none-some, same_Some}
 use Rattle.apl_arrays.specs.Array.{PlainArray}
-use Rattle.apl_arrays.specs.Parties.{clock_party, text_party}
 use Rattle.sv_events.specs.Entry.{PlainEntry}
 use Rattle.sv_events.specs.Row.{act_row}
 use Rattle.sv_events.specs.Work.{all_controlled, counter_name}
@@ -13,33 +12,30 @@ use Rattle.sv_events.specs.declared.event.Act.{Act}
 use Rattle.sv_events.specs.declared.event.Act.TheVariants.{Offer, Retract, SetControl, Set, Use}
 use Rattle.sv_events.specs.declared.work.Work.{Work}
 use Rattle.sv_events.specs.declared.work.Work.TheVariants as work
+use Rattle.aux_parties.specs.Auxiliaries.{is_auxiliary, most_counters, party_of, row_of}
 use Rattle.sv_rules.specs.Coupling.{couplings, is_coupled}
 use Rattle.sv_rules.specs.Entries.{Entries, next_place, is_full}
 use Rattle.sv_rules.specs.Legal.{IsLegal, act_due, act_for}
 use Rattle.sv_rules.specs.Standing.{standing, offer_count}
-use Rattle.sv_rules.specs.Work.{is_auxiliary, first_open, first_coupled, lacks_control, owes_reply, has_unseen, most_counters, to_counter, work_due, work_of}
+use Rattle.sv_rules.specs.Work.{first_open, first_coupled, lacks_control, owes_reply, has_unseen, to_counter, work_due, work_of}
+use Rattle.aux_parties.specs.declared.auxiliary.AuxiliaryKind.{AuxiliaryKind}
 use Rattle.sv_rules.specs.declared.standing.Standing.{Standing}
+use Rattle.aux_parties.proofs.TableLemmas.{kind_of_party, rows_allow}
 use Rattle.sv_story_laws.specs.WorkLaws.{HoldsOfNone, IsFirstThatApplies, IsLowest, IsOwnOpen, IsToCounter, MayCounter, LacksControl, OwesReply, HasUnseen}
 use Rattle.sv_story_laws.proofs.WorkLemmas.{find-of_filter, first_is_lowest, lowest_by, first_open_is_lowest, first_coupled_is_lowest}
 
 -- an auxiliary may have one offer more
 may_counter : (journal : Entries) (party : ℕ) → is_auxiliary party ≡ true → (ltb (offer_count (standing journal) party) (most_counters party) ≡ true) ↔ MayCounter journal party
-may_counter journal party aux = elim (cases_Bool (eqb party text_party)) [
-  | inl is_text ↦
-      let by_text = eqb-true party text_party is_text in (
-        (λ h. let few = ltb-true (offer_count (standing journal) party) 1 (rw is_text at h) in record { text = λ _. omega (arith, few); clock = λ is. absurd (omega (arith, by_text, is)) }),
-        (λ may. let none = may.text by_text in rw is_text (lt-ltb (offer_count (standing journal) party) 1 (omega (arith, none)))),
-      )
-  | inr not_text ↦
-      let by_clock = eqb-true party clock_party (by (or_cases (eqb party clock_party) (eqb party text_party) aux) not_text) in (
-        (λ h. let few = ltb-true (offer_count (standing journal) party) 64 (rw not_text at h) in record { text = λ is. absurd (omega (arith, is, by_clock)); clock = λ _. few }),
-        (λ may. rw not_text (lt-ltb (offer_count (standing journal) party) 64 (may.clock by_clock))),
-      )
-]
+may_counter journal party aux = (
+  (λ few kind is. ltb-true count (row_of kind).counters (ap (ltb count) (sym (allowed kind is)) ∙ few)),
+  (λ may. let own = kind_of_party party aux in ap (ltb count) (allowed own.0 (sym own.1)) ∙ lt-ltb count (row_of own.0).counters (may own.0 (sym own.1))),
+)
   where
-    by : (eqb party clock_party ≡ true) ⊎ (eqb party text_party ≡ true) → eqb party text_party ≡ false → eqb party clock_party ≡ true
-    by (inl clock) not_text = clock
-    by (inr text) not_text = absurd (both_ways (eqb party text_party) not_text text)
+    count : ℕ
+    count = offer_count (standing journal) party
+
+    allowed : (kind : AuxiliaryKind) → party ≡ party_of kind → most_counters party ≡ (row_of kind).counters
+    allowed kind is = ap most_counters is ∙ rows_allow kind
 
 -- the offer that is to be countered is the one of the lowest place
 pub first_to_counter_is_lowest : (journal : Entries) (party : ℕ) (offer : Standing) → IsTrue (is_auxiliary party) →

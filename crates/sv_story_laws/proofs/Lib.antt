@@ -10,3 +10,5 @@ pub mod DueLemmas
 pub mod StepLemmas
 pub mod GrantLemmas
 pub mod NameLemmas
+pub mod QuestionLemmas
+pub mod ReplyLemmas

@@ -28,7 +28,7 @@ use Rattle.sv_story_laws.proofs.ControlLemmas.{holds_are_those_of_the_table}
 use Rattle.sv_story_laws.proofs.GrantLemmas.{access_is_answered, there_is}
 
 -- a party has no offer of a name exactly where none is found
-none_found : (journal : Entries) (party : ℕ) (local : List ℕ) → (own_offer (standing journal) party local ≡ None) ↔ HasNoOffer journal party local
+pub none_found : (journal : Entries) (party : ℕ) (local : List ℕ) → (own_offer (standing journal) party local ≡ None) ↔ HasNoOffer journal party local
 none_found journal party local = (
   (λ none offer has own named. none_is_taken_of_none (is_own party local) (standing journal) offer none has (own-from party local offer own named)),
   (λ h. back h (own_offer (standing journal) party local) refl),

@@ -17,7 +17,8 @@ use Rattle.sv_rules.specs.Entries.{Entries, next_place, has_left, is_full, is_le
 use Rattle.sv_rules.specs.Legal.{IsLegal, MayFollow, IsStuckIf, act_due, act_for, may_do, entry_for, is_still_held, is_user}
 use Rattle.sv_rules.specs.Outcome.{outcome}
 use Rattle.sv_rules.specs.Refused.{awaited, refused, still_refused, waits}
-use Rattle.sv_rules.specs.Work.{is_auxiliary, is_stuck, work_of}
+use Rattle.aux_parties.specs.Auxiliaries.{is_auxiliary}
+use Rattle.sv_rules.specs.Work.{is_stuck, work_of}
 use Rattle.sv_story_laws.specs.StepLaws.{IsPresent}
 use Rattle.sv_story_laws.proofs.AnswerLemmas.{Answered, unrefused, held_first, given_up, answered}
 use Rattle.sv_story_laws.proofs.AuxiliaryLemmas.{work_is_in_time}

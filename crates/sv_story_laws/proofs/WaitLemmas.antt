@@ -6,7 +6,6 @@ use Rattle.std.proofs.lemmas.Bool.{eqb-true, eqb-false, eq-eqb, ne_eqb, cases_Bo
 use Rattle.std.proofs.lemmas.List.Folds.{Any-from_list_any}
 use Rattle.std.proofs.lemmas.Option.{cond_some, none-some, same_Some}
 use Rattle.std.proofs.lemmas.List.Elements.{All-nil, All-cons, All-head, All-tail}
-use Rattle.apl_arrays.specs.Parties.{clock_party, text_party}
 use Rattle.sv_events.specs.Answer.{PlainAnswer, held}
 use Rattle.sv_events.specs.Entry.{PlainEntry}
 use Rattle.sv_events.specs.declared.event.Act.{Act}
@@ -14,10 +13,12 @@ use Rattle.sv_events.specs.declared.event.Act.TheVariants.{Leave}
 use Rattle.sv_events.specs.declared.event.Hold.{Hold}
 use Rattle.sv_events.specs.declared.work.Work.{Work}
 use Rattle.sv_events.specs.declared.work.Work.TheVariants as work
+use Rattle.aux_parties.specs.Auxiliaries.{auxiliaries, is_auxiliary, party_of}
 use Rattle.sv_rules.specs.Entries.{Entries, next_place, has_left, is_leave, kind_of, is_held}
 use Rattle.sv_rules.specs.Legal.{IsLegal, act_due, act_for, may_do, is_user}
 use Rattle.sv_rules.specs.Refused.{awaited, still_refused}
-use Rattle.sv_rules.specs.Work.{is_auxiliary, is_halted, is_idle, is_stuck, work_of}
+use Rattle.sv_rules.specs.Work.{is_halted, is_idle, is_stuck, rests, work_of}
+use Rattle.aux_parties.proofs.TableLemmas.{all_pass, each_passes, of_kinds, of_rows}
 use Rattle.sv_story_laws.specs.WaitLaws.{HasNone, IsStuck}
 use Rattle.sv_offer_laws.proofs.Members.{Contains-head, Contains-behind, Contains-cons_cases, list_any_member}
 
@@ -47,11 +48,8 @@ stuck_is users journal = (there, back)
     all_halt : Bool
     all_halt = list_all (is_halted journal) users
 
-    no_clock : Bool
-    no_clock = is_idle (work_of journal clock_party)
-
-    no_text : Bool
-    no_text = is_idle (work_of journal text_party)
+    all_rest : Bool
+    all_rest = list_all (rests journal) auxiliaries
 
     halted : (user : ℕ) → is_halted journal user ≡ true → IsTrue (not (has_left journal user)) → IsTrue (is_some (still_refused journal user))
     halted user h present = elim (or_cases (has_left journal user) (is_some (still_refused journal user)) h) [
@@ -61,28 +59,24 @@ stuck_is users journal = (there, back)
 
     there : IsTrue (is_stuck users journal) → IsStuck users journal
     there h =
-        let one = and_parts (some_stay && all_halt && no_clock) no_text h in
-        let two = and_parts (some_stay && all_halt) no_clock one.0 in
-        let three = and_parts some_stay all_halt two.0 in
-        let found = Any-from_list_any (λ (user : ℕ). not (has_left journal user)) users three.0 in
+        let one = and_parts (some_stay && all_halt) all_rest h in
+        let two = and_parts some_stay all_halt one.0 in
+        let found = Any-from_list_any (λ (user : ℕ). not (has_left journal user)) users two.0 in
         record {
           some = (found.1, (found.0, found.2, found.3), found.4);
-          all = λ user has present. halted user (all_member (is_halted journal) users user three.1 has) present;
-          clock = idle-is (work_of journal clock_party) two.1;
-          text = idle-is (work_of journal text_party) one.1;
+          all = λ user has present. halted user (all_member (is_halted journal) users user two.1 has) present;
+          idle = λ kind. idle-is (work_of journal (party_of kind)) (of_kinds (λ (party : ℕ). is_idle (work_of journal party) ≡ true) (each_passes (rests journal) auxiliaries one.1) kind);
         }
 
     back : IsStuck users journal → IsTrue (is_stuck users journal)
     back h =
         and_from _ _
-        (and_from _ _
         (and_from _ _ (list_any_member (λ (user : ℕ). not (has_left journal user)) users h.some.0 h.some.2 h.some.1)
         (all_from_members (is_halted journal) users (λ user has. elim (cases_Bool (has_left journal user)) [
           | inl gone ↦ or_left _ _ gone
           | inr present ↦ or_right _ _ (h.all user has (not_from_false _ present))
         ])))
-        (ap is_idle h.clock))
-        (ap is_idle h.text)
+        (all_pass (rests journal) auxiliaries (of_rows (λ (party : ℕ). is_idle (work_of journal party) ≡ true) (λ kind. ap is_idle (h.idle kind))))
 
 pub leave-is : (act : Act) → is_leave act ≡ true → act ≡ Leave
 leave-is Leave h = refl

@@ -4,3 +4,4 @@ pub mod WaitLaws
 pub mod WorkLaws
 pub mod StepLaws
 pub mod AnswerLaws
+pub mod QuestionLaws

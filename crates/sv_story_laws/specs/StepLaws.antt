@@ -8,7 +8,8 @@ use Rattle.sv_events.specs.declared.event.Act.TheVariants.{Leave}
 use Rattle.sv_rules.specs.Entries.{Entries, next_place, has_left, is_full, is_leave}
 use Rattle.sv_rules.specs.Legal.{IsLegal, MayFollow, entry_for, is_still_held, is_user}
 use Rattle.sv_rules.specs.Refused.{awaited}
-use Rattle.sv_rules.specs.Work.{is_auxiliary, work_of}
+use Rattle.aux_parties.specs.Auxiliaries.{is_auxiliary}
+use Rattle.sv_rules.specs.Work.{work_of}
 
 -- a user that has not left
 pub record IsPresent (users : List ℕ) (journal : Entries) (party : ℕ) : Type 0 where

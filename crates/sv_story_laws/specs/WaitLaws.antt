@@ -1,5 +1,4 @@
 use Rattle.std.specs.Prelude.{◌≡◌, ◌↔◌, ◌⊎◌, ℕ, List, ◌∷◌, ◌++◌, false, not, All, Contains, Some, None, IsTrue, is_some}
-use Rattle.apl_arrays.specs.Parties.{clock_party, text_party}
 use Rattle.sv_events.specs.Answer.{held, abandoned}
 use Rattle.sv_events.specs.Entry.{PlainEntry}
 use Rattle.sv_events.specs.Row.{act_row}
@@ -7,10 +6,12 @@ use Rattle.sv_events.specs.declared.event.Act.{Act}
 use Rattle.sv_events.specs.declared.event.Act.TheVariants.{Leave}
 use Rattle.sv_events.specs.declared.event.Hold.{Hold}
 use Rattle.sv_events.specs.declared.work.Work.TheVariants.{Idle}
+use Rattle.aux_parties.specs.Auxiliaries.{is_auxiliary, party_of}
 use Rattle.sv_rules.specs.Entries.{Entries, has_left}
 use Rattle.sv_rules.specs.Legal.{IsLegal, is_user}
 use Rattle.sv_rules.specs.Refused.{awaited, refused, waits, still_refused}
-use Rattle.sv_rules.specs.Work.{is_auxiliary, is_stuck, work_of}
+use Rattle.sv_rules.specs.Work.{is_stuck, work_of}
+use Rattle.aux_parties.specs.declared.auxiliary.AuxiliaryKind.{AuxiliaryKind}
 
 -- none of the entries is the party's
 abbrev pub HasNone : ℕ → Entries → Type 0
@@ -39,12 +40,11 @@ pub record IsHeldOrGivenUp (users : List ℕ) (journal : Entries) (e : PlainEntr
 abbrev pub HoldsAreGivenOrGivenUp : Type 0
 HoldsAreGivenOrGivenUp = (users : List ℕ) (journal : Entries) (e : PlainEntry) → IsLegal users (e ∷ journal) → IsHeldOrGivenUp users journal e
 
--- nobody can go on: some user stays; whoever stays waits, and is refused still; both auxiliaries are idle
+-- nobody can go on: some user stays; whoever stays waits, and is refused still; each auxiliary is idle
 pub record IsStuck (users : List ℕ) (journal : Entries) : Type 0 where
   pub some : (user : ℕ) × Contains users user × IsTrue (not (has_left journal user))
   pub all : (user : ℕ) → Contains users user → IsTrue (not (has_left journal user)) → IsTrue (is_some (still_refused journal user))
-  pub clock : work_of journal clock_party ≡ Idle
-  pub text : work_of journal text_party ≡ Idle
+  pub idle : (kind : AuxiliaryKind) → work_of journal (party_of kind) ≡ Idle
 
 abbrev pub StuckIsWhereNobodyCanGoOn : Type 0
 StuckIsWhereNobodyCanGoOn = (users : List ℕ) (journal : Entries) → IsTrue (is_stuck users journal) ↔ IsStuck users journal

@@ -1,20 +1,22 @@
 use Rattle.std.specs.Prelude.{◌≡◌, ◌<◌, ◌≤◌, ◌↔◌, ℕ, Bool, List, ◌∷◌, ◌++◌, not, All, Contains, Option, Some, None, IsTrue, length, unwrap_or}
 use Rattle.apl_arrays.specs.Array.{PlainArray}
 use Rattle.apl_arrays.specs.Ascending.{Ascend}
-use Rattle.apl_arrays.specs.Limits.{most_offers}
-use Rattle.apl_arrays.specs.Parties.{clock_party, text_party}
+use Rattle.sv_events.specs.Answer.{value}
 use Rattle.sv_events.specs.Entry.{PlainEntry}
 use Rattle.sv_events.specs.Work.{counter_name}
-use Rattle.sv_events.specs.declared.event.Act.TheVariants.{Offer}
+use Rattle.sv_events.specs.declared.event.Act.TheVariants.{Offer, Use}
 use Rattle.sv_events.specs.declared.work.Work.{Work}
 use Rattle.sv_events.specs.declared.work.Work.TheVariants as work
+use Rattle.aux_parties.specs.Auxiliaries.{is_auxiliary, party_of, row_of}
 use Rattle.sv_rules.specs.Control.{control_on}
 use Rattle.sv_rules.specs.Coupling.{couplings, coupling_now, is_coupled, open_to}
 use Rattle.sv_rules.specs.Entries.{Entries, next_place, since, is_full}
 use Rattle.sv_rules.specs.Legal.{IsLegal}
 use Rattle.sv_rules.specs.Questions.{parties_to}
 use Rattle.sv_rules.specs.Standing.{standing, offer_count}
-use Rattle.sv_rules.specs.Work.{is_auxiliary, first_coupled, first_open, lacks_control, owes_reply, has_unseen, to_counter, tries, gets_value, work_due, work_of}
+use Rattle.sv_rules.specs.Story.{known}
+use Rattle.sv_rules.specs.Work.{first_coupled, first_open, lacks_control, owes_reply, has_unseen, to_counter, tries, gets_value, work_due, work_of}
+use Rattle.aux_parties.specs.declared.auxiliary.AuxiliaryKind.{AuxiliaryKind}
 use Rattle.sv_rules.specs.declared.coupling.Coupling.{Coupling}
 use Rattle.sv_rules.specs.declared.standing.Standing.{Standing}
 
@@ -48,10 +50,9 @@ FirstCoupledIsLowest =
     (first_coupled journal holds party ≡ Some offer) ↔
     IsLowest (standing journal) (IsOwnCoupled journal party (λ offer coupling. IsTrue (holds offer coupling))) offer
 
--- the auxiliary may have one offer more: the text files where none of theirs stands, the clock where fewer than 64 do
-pub record MayCounter (journal : Entries) (party : ℕ) : Type 0 where
-  pub text : party ≡ text_party → offer_count (standing journal) party ≡ 0
-  pub clock : party ≡ clock_party → offer_count (standing journal) party < most_offers
+-- the auxiliary may have one offer more: fewer stand than its row has
+abbrev pub MayCounter : Entries → ℕ → Type 0
+MayCounter journal party = (kind : AuxiliaryKind) → party ≡ party_of kind → offer_count (standing journal) party < (row_of kind).counters
 
 -- the offer is open and made to the auxiliary by its number, which may have one more
 pub record IsToCounter (journal : Entries) (party : ℕ) (offer : Standing) : Type 0 where
@@ -87,6 +88,23 @@ RepliesAreOwedToUses =
     IsTrue (owes_reply journal offer coupling) ↔
     ((before : Entries) × (e : PlainEntry) × (later : Entries) × (since coupling.at journal ≡ later ++ e ∷ before) × IsTrue (tries offer e)
     × IsTrue (gets_value offer e) × All (λ after. ¬ IsTrue (tries offer after)) later)
+
+-- of these entries the last by which the offer's party set or used its local name is a use that got this value
+pub record LastUseGot (offer : Standing) (entries : Entries) (v : PlainArray) : Type 0 where
+  pub before : Entries
+  pub e : PlainEntry
+  pub later : Entries
+  pub whole : entries ≡ later ++ e ∷ before
+  pub own : e.party ≡ offer.party
+  pub act : e.act ≡ Use offer.local
+  pub got : e.answer ≡ value v
+  pub last : All (λ after. ¬ IsTrue (tries offer after)) later
+
+-- the value to reply to, what is known of the offer on which a reply is owed, is what the last use since the coupling got
+abbrev pub RepliesAreToWhatTheLastUseGot : Type 0
+RepliesAreToWhatTheLastUseGot =
+    (users : List ℕ) (journal : Entries) → IsLegal users journal → (offer : Standing) (coupling : Coupling) → coupling_now journal offer.place ≡ Some coupling → IsTrue (owes_reply journal offer coupling) →
+    (v : PlainArray) × (known journal offer ≡ Some v) × LastUseGot offer (since coupling.at journal) v
 
 -- the entries that follow a place are the newest ones
 abbrev pub SinceAreTheNewest : Type 0

@@ -3,7 +3,7 @@ ghost use Rattle.sv_story_laws.specs.ControlLaws.{ControlOfACoupledOfferIsTheJoi
 ghost use Rattle.sv_story_laws.specs.StepLaws.{StepsMayFollow, LeavesMayFollow, RetriesMayFollow, HeldRetriesMayNotFollow, AuxiliariesDoNotLeave, WorkMayFollow};
 ghost use Rattle.sv_story_laws.specs.StoryLaws.{AccessesAreSetsAndUses, KnownIsTheLastAccess, KnownIsHandedIn, SidesAreOffers, OpeningIsKnownAndAccesses, GiverKnows, StoryIsOpeningAndAccesses, FullIsByEntriesOrElements, OffersOpenWhereCouplingsEnd, OpenOffersTellWhatIsKnown, UsesGetWhatTheyFind, StoriesBeginWithTheGivers};
 ghost use Rattle.sv_story_laws.specs.WaitLaws.{AuxiliariesAreNeverRefused, HoldsAreGivenOrGivenUp, WaitsForTheLast, NothingIsRefusedWithoutControl, OnlyUsersLeave, StuckIsWhereNobodyCanGoOn, WaitersActAgainOrLeave};
-ghost use Rattle.sv_story_laws.specs.WorkLaws.{FirstOpenIsLowest, FirstCoupledIsLowest, FirstToCounterIsLowest, CountersAreMadeToTheLowest, WorkIsTheFirstThatApplies, WorkIsWhatIsDue, ControlIsLackingSinceTheCoupling, RepliesAreOwedToUses, SinceAreTheNewest, FullJournalsLeaveNoWork, QuestionsTellParties};
+ghost use Rattle.sv_story_laws.specs.WorkLaws.{FirstOpenIsLowest, FirstCoupledIsLowest, FirstToCounterIsLowest, CountersAreMadeToTheLowest, WorkIsTheFirstThatApplies, WorkIsWhatIsDue, ControlIsLackingSinceTheCoupling, RepliesAreOwedToUses, RepliesAreToWhatTheLastUseGot, SinceAreTheNewest, FullJournalsLeaveNoWork, QuestionsTellParties};
 
 /// The law of known values and stories, for every journal: what an access is, which one tells the known value, that an
 /// offer's story since it opened is the value known then and the accesses since, and that a coupling's is the giver's
@@ -59,8 +59,8 @@ pub fn wait_law()
 
 /// The law of work, for every journal: that the first offers are those of the lowest place, which ones want a control, a
 /// reply or a counter-offer, which entries follow a coupling, that the work is the first kind that applies, that a full
-/// journal leaves none, and which parties a question tells; and in a legal journal, how offers are countered. The call does
-/// nothing.
+/// journal leaves none, and which parties a question tells; and in a legal journal, how offers are countered, and that the value to
+/// reply to is what the last use got. The call does nothing.
 pub fn work_law()
     ensures opened { FirstOpenIsLowest }
     ensures coupled { FirstCoupledIsLowest }
@@ -68,6 +68,7 @@ pub fn work_law()
     ensures counters { CountersAreMadeToTheLowest }
     ensures lacking { ControlIsLackingSinceTheCoupling }
     ensures owed { RepliesAreOwedToUses }
+    ensures replied { RepliesAreToWhatTheLastUseGot }
     ensures since { SinceAreTheNewest }
     ensures first { WorkIsTheFirstThatApplies }
     ensures due { WorkIsWhatIsDue }

@@ -9,15 +9,15 @@ use Rattle.apl_arrays.specs.Array.{PlainItems, numbers, chars, numbers_in, chars
 use Rattle.apl_arrays.specs.Glyph.{IsGlyph}
 use Rattle.line_text.specs.Spaced.{spaced}
 use Rattle.apl_arrays.specs.List.{first_of}
-use Rattle.sv_text.specs.Reading.{Reader, Reading, ◌>>=◌, as_read, literal_at}
+use Rattle.text_reader.specs.Reading.{Reader, Reading, ◌>>=◌, as_read, literal_at}
 use Rattle.sv_text.specs.Value.{IsValue, IsValueOrNone}
 use Rattle.sv_text.specs.ValueReading.{shape_at, numbers_at, quoted_at, numbers_array_at, chars_array_at, array_at, value_at}
 use Rattle.sv_text.specs.ValueText.{items_text, array_text, value_text}
 use Rattle.line_text.proofs.SameNumbers.{Fits64}
 use Rattle.sv_text.proofs.ItemForms.{numbers_text, chars_text, reads_numbers, reads_quoted, fits_nought, blank_glyph}
-use Rattle.sv_text.proofs.ListForms.{AreSoMany, copies, copies_fit}
-use Rattle.sv_text.proofs.NumberForms.{NoDigit}
-use Rattle.sv_text.proofs.Readers.{SameFirst, Anything, Reads, IsReader, AreGlyphs, reformed, retexted, behind_glyph, stops_here, after_text, then_read, made, widened, nothing_more, no_further}
+use Rattle.text_reader.proofs.ListForms.{AreSoMany, copies, copies_fit}
+use Rattle.text_reader.proofs.NumberForms.{NoDigit}
+use Rattle.text_reader.proofs.Readers.{SameFirst, Anything, Reads, IsReader, AreGlyphs, reformed, retexted, behind_glyph, stops_here, after_text, then_read, made, widened, nothing_more, no_further}
 use Rattle.sv_text.proofs.ShapeForms.{shape_text, reads_shape}
 
 -- arrays of numbers

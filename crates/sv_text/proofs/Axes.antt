@@ -1,9 +1,9 @@
 -- Reading axes, as a recursion does.
 use Rattle.std.proofs.Common.{◌≡◌, ℕ, zero, suc, ◌-◌, ◌+◌, ◌*◌, ◌<◌, ◌≤◌, min, Bool, true, false, eqb, leb, ltb, List, [], ◌∷◌, ◌++◌, Ok, Err, refl, sym, ap, ◌∙◌, append_assoc, arith}
-use Rattle.sv_text.specs.declared.unread.Unread.{Unread}
-use Rattle.sv_text.specs.declared.unread.Unread.TheVariants.{Left, WantOfMemory}
-use Rattle.sv_text.specs.Reading.{Reader, Reading, ◌>>=◌, Stops, read_behind}
-use Rattle.sv_text.specs.NumberReading.{number_at}
+use Rattle.text_reader.specs.declared.unread.Unread.{Unread}
+use Rattle.text_reader.specs.declared.unread.Unread.TheVariants.{Left, WantOfMemory}
+use Rattle.text_reader.specs.Reading.{Reader, Reading, ◌>>=◌, Stops, read_behind}
+use Rattle.text_reader.specs.NumberReading.{number_at}
 use Rattle.sv_text.specs.ValueReading.{capped, greatest_axis, goes_on_behind, more_axes, axes_at}
 
 -- the reading stops at an axis

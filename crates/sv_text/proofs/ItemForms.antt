@@ -12,13 +12,13 @@ use Rattle.line_text.specs.Spaced.{spaced}
 use Rattle.line_text.proofs.SameNumbers.{Fits64, begins_count}
 use Rattle.line_text.proofs.Spaced.{spaced_is}
 use Rattle.apl_arrays.specs.List.{first_of}
-use Rattle.sv_text.specs.Reading.{Reading, ◌>>=◌, always, list_at, literal_at, read_behind}
-use Rattle.sv_text.specs.NumberReading.{number_at}
+use Rattle.text_reader.specs.Reading.{Reading, ◌>>=◌, always, list_at, literal_at, read_behind}
+use Rattle.text_reader.specs.NumberReading.{number_at}
 use Rattle.sv_text.specs.ValueReading.{negative_at, positive_at, integer_at, next_integer_at, numbers_at, char_at, quoted_at}
 use Rattle.sv_text.specs.ValueText.{char_text}
-use Rattle.sv_text.proofs.ListForms.{AreSoMany, head_or, rest_of, copies, copies_fit, no_more, reads_list, list_of_first}
-use Rattle.sv_text.proofs.NumberForms.{InRange, NoDigit, reads_number, begins_same}
-use Rattle.sv_text.proofs.Readers.{SameFirst, Anything, Reads, IsReader, AreGlyphs, reformed, retexted, behind_glyph, after_text, then_read, made, widened, nothing_more, no_further}
+use Rattle.text_reader.proofs.ListForms.{AreSoMany, head_or, rest_of, copies, copies_fit, no_more, reads_list, list_of_first}
+use Rattle.text_reader.proofs.NumberForms.{InRange, NoDigit, reads_number, begins_same}
+use Rattle.text_reader.proofs.Readers.{SameFirst, Anything, Reads, IsReader, AreGlyphs, reformed, retexted, behind_glyph, after_text, then_read, made, widened, nothing_more, no_further}
 
 -- numbers
 

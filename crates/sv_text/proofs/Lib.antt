@@ -1,13 +1,7 @@
 pub mod ArrayForms
 pub mod Axes
 pub mod ItemForms
-pub mod ListForms
-pub mod Lists
-pub mod NameForms
-pub mod NumberForms
-pub mod Readers
 pub mod SameValues
 pub mod ShapeForms
-pub mod Told
 pub mod ValueGlyphs
 pub mod ValueLaws

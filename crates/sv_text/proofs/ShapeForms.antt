@@ -14,14 +14,14 @@ use Rattle.apl_items.proofs.ShapeLemmas.{element_count-cons}
 use Rattle.line_text.specs.Spaced.{spaced}
 use Rattle.line_text.proofs.SameNumbers.{begins_count}
 use Rattle.apl_arrays.specs.List.{first_of}
-use Rattle.sv_text.specs.Reading.{Reader, Reading, ◌>>=◌, as_read, read_behind}
-use Rattle.sv_text.specs.NumberReading.{number_at}
+use Rattle.text_reader.specs.Reading.{Reader, Reading, ◌>>=◌, as_read, read_behind}
+use Rattle.text_reader.specs.NumberReading.{number_at}
 use Rattle.sv_text.specs.ValueReading.{capped, greatest_axis, goes_on_behind, more_axes, axes_at, shape_at}
-use Rattle.sv_text.proofs.ListForms.{head_or, rest_of}
-use Rattle.sv_text.proofs.Lists.{begun}
-use Rattle.sv_text.proofs.NumberForms.{InRange, NoDigit, number_reads, reads_number}
-use Rattle.sv_text.proofs.Told.{tell, first_told, bind_ok}
-use Rattle.sv_text.proofs.Readers.{SameFirst, Anything, Found, Stopped, Reads, IsReader, AreGlyphs, reformed_reading, retexted, respelled, behind_glyph, then_read, made, widened, no_further}
+use Rattle.text_reader.proofs.ListForms.{head_or, rest_of}
+use Rattle.text_reader.proofs.Lists.{begun}
+use Rattle.text_reader.proofs.NumberForms.{InRange, NoDigit, number_reads, reads_number}
+use Rattle.text_reader.proofs.Told.{tell, first_told, bind_ok}
+use Rattle.text_reader.proofs.Readers.{SameFirst, Anything, Found, Stopped, Reads, IsReader, AreGlyphs, reformed_reading, retexted, respelled, behind_glyph, then_read, made, widened, no_further}
 
 product_of : List ℕ → ℕ
 product_of [] = 1

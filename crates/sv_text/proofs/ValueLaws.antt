@@ -4,19 +4,19 @@ use Rattle.std.proofs.lemmas.List.Elements.{recursion_from_All}
 use Rattle.std.specs.List.{All}
 use Rattle.apl_arrays.specs.Array.{PlainArray}
 use Rattle.apl_arrays.specs.Glyph.{IsGlyph}
-use Rattle.sv_text.specs.declared.unread.Unread.{Unread}
-use Rattle.sv_text.specs.declared.unread.Unread.TheVariants.{Left, WantOfMemory}
-use Rattle.sv_text.specs.declared.unread.ValueRefused.{ValueRefused}
-use Rattle.sv_text.specs.declared.unread.ValueRefused.TheVariants.{BadValue, WantOfMemory as NoMemory}
+use Rattle.text_reader.specs.declared.unread.Unread.{Unread}
+use Rattle.text_reader.specs.declared.unread.Unread.TheVariants.{Left, WantOfMemory}
+use Rattle.sv_text.specs.declared.refused.ValueRefused.{ValueRefused}
+use Rattle.sv_text.specs.declared.refused.ValueRefused.TheVariants.{BadValue, WantOfMemory as NoMemory}
 use Rattle.sv_text.specs.ReadsValue.{ReadsValue, HoldsNoValue, ReadsThis, refusal}
-use Rattle.sv_text.specs.Reading.{Stops}
+use Rattle.text_reader.specs.Reading.{Stops}
 use Rattle.sv_text.specs.Value.{IsValue}
 use Rattle.sv_text.specs.ValueReading.{array_at}
 use Rattle.sv_text.specs.ValueText.{array_text}
 use Rattle.sv_text.proofs.ArrayForms.{reads_array}
-use Rattle.sv_text.proofs.NumberForms.{NoDigit}
-use Rattle.sv_text.proofs.Readers.{SameFirst, Found, Stopped, Reads, AreGlyphs, again}
-use Rattle.sv_text.proofs.Told.{tell, first_told, second_told}
+use Rattle.text_reader.proofs.NumberForms.{NoDigit}
+use Rattle.text_reader.proofs.Readers.{SameFirst, Found, Stopped, Reads, AreGlyphs, again}
+use Rattle.text_reader.proofs.Told.{tell, first_told, second_told}
 
 no_items : (line : List ℕ) → length line ≡ 0 → line ≡ []
 no_items [] e = refl

@@ -1,10 +1,10 @@
 -- What a call reads of a line.
 use Rattle.std.specs.Prelude.{◌≡◌, List, ℕ, Result, Ok, Err}
 use Rattle.apl_arrays.specs.Array.{PlainArray}
-use Rattle.sv_text.specs.declared.unread.Unread.{Unread}
-use Rattle.sv_text.specs.declared.unread.Unread.TheVariants.{Left, WantOfMemory as NoMemory}
-use Rattle.sv_text.specs.declared.unread.ValueRefused.{ValueRefused}
-use Rattle.sv_text.specs.declared.unread.ValueRefused.TheVariants.{BadValue, WantOfMemory}
+use Rattle.text_reader.specs.declared.unread.Unread.{Unread}
+use Rattle.text_reader.specs.declared.unread.Unread.TheVariants.{Left, WantOfMemory as NoMemory}
+use Rattle.sv_text.specs.declared.refused.ValueRefused.{ValueRefused}
+use Rattle.sv_text.specs.declared.refused.ValueRefused.TheVariants.{BadValue, WantOfMemory}
 use Rattle.sv_text.specs.Value.{IsValue}
 use Rattle.sv_text.specs.ValueText.{array_text}
 

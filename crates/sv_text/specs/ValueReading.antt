@@ -4,8 +4,8 @@ use Rattle.apl_arrays.specs.Array.{PlainArray, number_array, char_array, element
 use Rattle.apl_arrays.specs.Glyph.{blank, overbar, quote, right_parenthesis}
 use Rattle.apl_arrays.specs.Limits.{most_axes, most_elements}
 use Rattle.apl_arrays.specs.List.{others_of}
-use Rattle.sv_text.specs.Reading.{Reader, Reading, ◌>>=◌, always, as_read, begins_with, list_at, literal_at, read_behind}
-use Rattle.sv_text.specs.NumberReading.{number_at}
+use Rattle.text_reader.specs.Reading.{Reader, Reading, ◌>>=◌, always, as_read, begins_with, list_at, literal_at, read_behind}
+use Rattle.text_reader.specs.NumberReading.{number_at}
 
 -- the magnitude of a negative number
 abbrev pub negative_at : Reader ℤ

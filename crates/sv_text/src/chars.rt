@@ -1,11 +1,10 @@
 ghost use Rattle.std.specs.Prelude.{◌≡◌, IfOk, length};
-ghost use Rattle.sv_text.specs.Reading.{Gives, always, list_at};
+ghost use Rattle.text_reader.specs.Reading.{Gives, always, list_at};
 ghost use Rattle.sv_text.specs.ValueReading.{behind_char, char_at, quoted_at};
 
-use crate::cursor::Cursor;
-use crate::unread::Unread;
 use apl_arrays::{Glyph, Line, List};
 use std::alloc::Global;
+use text_reader::{Cursor, Unread};
 
 /// Reads so many characters between quotes; a quote among them is written twice. It takes memory for them.
 #[tactic(auto, unfolding(crate::specs::ValueReading::quoted_at))]

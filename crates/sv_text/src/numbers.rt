@@ -1,11 +1,10 @@
 ghost use Rattle.std.specs.Prelude.{◌≡◌, ◌≤◌, ◌^◌, ◌+◌, IfOk, OnOk, length, pos, neg_ℤ};
-ghost use Rattle.sv_text.specs.Reading.{Gives, always, list_at, read_behind, step_at};
+ghost use Rattle.text_reader.specs.Reading.{Gives, always, list_at, read_behind, step_at};
 ghost use Rattle.sv_text.specs.ValueReading.{integer_at, negative_at, next_integer_at, numbers_at, positive_at};
 
-use crate::cursor::Cursor;
-use crate::unread::Unread;
 use apl_arrays::{Glyph, List};
 use std::alloc::Global;
+use text_reader::{Cursor, Unread};
 
 /// Reads so many numbers, with one blank between each two. It takes memory for them.
 #[tactic(auto, unfolding(crate::specs::ValueReading::numbers_at))]

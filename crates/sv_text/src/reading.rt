@@ -1,18 +1,18 @@
-ghost use Rattle.std.specs.Prelude.{◌≡◌, length};
+ghost use Rattle.std.specs.Prelude.{◌≡◌, OnErr, length};
 ghost use Rattle.apl_arrays.specs.Array.{PlainArray};
 ghost use Rattle.sv_text.specs.ReadsValue.{ReadsValue, ReadsThis, refusal};
-ghost use Rattle.sv_text.specs.Reading.{Gives};
+ghost use Rattle.text_reader.specs.Reading.{Gives};
 ghost use Rattle.sv_text.specs.Value.{IsValue};
 ghost use Rattle.sv_text.specs.ValueReading.{array_at, value_at, numbers_array_at, chars_array_at};
 ghost use Rattle.sv_text.specs.ValueText.{array_text};
 
 use crate::chars::read_quoted;
-use crate::cursor::Cursor;
 use crate::numbers::read_numbers;
+use crate::refused::ValueRefused;
 use crate::shape::read_shape;
-use crate::unread::{Unread, ValueRefused};
 use apl_arrays::{Array, Items, Line, NumberList, count_of_elements};
 use std::alloc::Global;
+use text_reader::{Cursor, Unread};
 
 /// The array whose text a line is. `BadValue` where it is no array's text, else `WantOfMemory`. It takes memory for the
 /// array.
@@ -21,7 +21,7 @@ pub fn value_of(alloc: Global, line: &Line) -> Result<Array, ValueRefused>
     ensures again { (array : PlainArray) → IsValue array → line.now.items ≡ array_text array → ReadsThis result array }
 {
     let mut cursor = Cursor::new(line.as_slice());
-    match read_array(alloc, &mut cursor) {
+    match array_ahead(alloc, &mut cursor) {
         Ok(array) => whole_value(&cursor, array),
         Err(why) => Err(refused(why)),
     }
@@ -49,9 +49,32 @@ fn whole_value(cursor: &Cursor<'_>, array: Array) -> Result<Array, ValueRefused>
     }
 }
 
-/// Reads a value, which is an array or `none`. It takes memory for the array.
-#[tactic(auto, unfolding(crate::specs::ValueReading::value_at))]
+/// Reads a value, which is an array or `none`. Where it reads none, the cursor stays where it was. It takes memory for the
+/// array.
 pub fn read_value(alloc: Global, cursor: &mut Cursor<'_>) -> Result<Option<Array>, Unread>
+    ensures value { Gives (λ value. (value, cursor.new)) result (value_at cursor.old) }
+    ensures stays { OnErr result (cursor.new ≡ cursor.old) }
+{
+    let mut ahead = cursor.ahead();
+    let value = value_ahead(alloc, &mut ahead)?;
+    *cursor = ahead;
+    Ok(value)
+}
+
+/// Reads an array. Where it reads none, the cursor stays where it was. It takes memory for the array.
+pub fn read_array(alloc: Global, cursor: &mut Cursor<'_>) -> Result<Array, Unread>
+    ensures value { Gives (λ array. (array, cursor.new)) result (array_at cursor.old) }
+    ensures stays { OnErr result (cursor.new ≡ cursor.old) }
+{
+    let mut ahead = cursor.ahead();
+    let array = array_ahead(alloc, &mut ahead)?;
+    *cursor = ahead;
+    Ok(array)
+}
+
+// Reads a value, and moves on as far as it goes.
+#[tactic(auto, unfolding(crate::specs::ValueReading::value_at))]
+fn value_ahead(alloc: Global, cursor: &mut Cursor<'_>) -> Result<Option<Array>, Unread>
     ensures { Gives (λ value. (value, cursor.new)) result (value_at cursor.old) }
 {
     match cursor.first() {
@@ -59,13 +82,13 @@ pub fn read_value(alloc: Global, cursor: &mut Cursor<'_>) -> Result<Option<Array
             cursor.text(b"none")?;
             Ok(None)
         }
-        _ => Ok(Some(read_array(alloc, cursor)?)),
+        _ => Ok(Some(array_ahead(alloc, cursor)?)),
     }
 }
 
-/// Reads an array. It takes memory for it.
+// Reads an array, and moves on as far as it goes.
 #[tactic(auto, unfolding(crate::specs::ValueReading::array_at))]
-pub fn read_array(alloc: Global, cursor: &mut Cursor<'_>) -> Result<Array, Unread>
+fn array_ahead(alloc: Global, cursor: &mut Cursor<'_>) -> Result<Array, Unread>
     ensures { Gives (λ array. (array, cursor.new)) result (array_at cursor.old) }
 {
     match cursor.first() {

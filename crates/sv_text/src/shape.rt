@@ -1,12 +1,11 @@
 ghost use Rattle.std.specs.Prelude.{◌≡◌, ◌≤◌, ◌<◌, ◌-◌, ◌==◌, IfOk};
 ghost use Rattle.apl_arrays.specs.Array.{FitsLimits};
-ghost use Rattle.sv_text.specs.Reading.{Gives, read_behind};
+ghost use Rattle.text_reader.specs.Reading.{Gives, read_behind};
 ghost use Rattle.sv_text.specs.ValueReading.{axes_at, more_axes, goes_on_behind, greatest_axis, shape_at};
 
-use crate::cursor::Cursor;
-use crate::unread::Unread;
 use apl_arrays::{ELEMENT_LIMIT, Glyph, List, RANK_LIMIT};
 use std::alloc::Global;
+use text_reader::{Cursor, Unread};
 
 /// Reads axes, with one blank between each two, and the parenthesis that closes them. Where an axis may follow it may be
 /// 0, so the product is looked at where the shape is closed. It takes memory for the axes.

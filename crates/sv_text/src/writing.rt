@@ -1,6 +1,7 @@
-ghost use Rattle.std.specs.Prelude.{◌≡◌, All, IfOk, IfSome, ◌∷◌, [], ◌++◌, OnOk, length};
+ghost use Rattle.std.specs.Prelude.{◌≡◌, All, IfOk, IfSome, ◌∷◌, [], ◌++◌, OnOk, length, OnErr};
 ghost use Rattle.std.specs.List.{flat_map};
 ghost use Rattle.apl_arrays.specs.Array.{seen_items, PlainArray};
+ghost use Rattle.apl_arrays.specs.Front.{KeepsFront};
 ghost use Rattle.apl_arrays.specs.Glyph.{IsGlyph};
 ghost use Rattle.sv_text.specs.Printable.{ArePrintableItems, IsPrintableArray};
 ghost use Rattle.sv_text.specs.ValueText.{char_text, kind_text, items_text, array_text, value_text};
@@ -12,17 +13,20 @@ use std::alloc::Global;
 // Adds a character as it stands between quotes.
 fn add_char(line: &mut Line, glyph: Glyph) -> Result<(), WantOfMemory>
     ensures text { OnOk result (line.new.items ≡ line.old.items ++ char_text glyph) }
+    ensures front { OnErr result (KeepsFront line.old.items line.new.items) }
     ensures printable { IsGlyph glyph }
 {
     if glyph == Glyph::QUOTE {
-        line.push(glyph)?;
+        add_text(line, "''")
+    } else {
+        line.push(glyph)
     }
-    line.push(glyph)
 }
 
 // Adds characters as they stand between quotes.
 fn add_chars(line: &mut Line, glyphs: &[Glyph]) -> Result<(), WantOfMemory>
     ensures text { OnOk result (line.new.items ≡ line.old.items ++ flat_map char_text glyphs.now) }
+    ensures front { OnErr result (KeepsFront line.old.items line.new.items) }
     ensures printable { OnOk result (All IsGlyph glyphs.now) }
 {
     for glyph in glyphs {
@@ -33,7 +37,8 @@ fn add_chars(line: &mut Line, glyphs: &[Glyph]) -> Result<(), WantOfMemory>
 
 // Adds the letter of the kind.
 fn add_kind(line: &mut Line, items: ItemsRef<'_>) -> Result<(), WantOfMemory>
-    ensures { OnOk result (line.new.items ≡ line.old.items ++ kind_text (seen_items items.entry)) }
+    ensures text { OnOk result (line.new.items ≡ line.old.items ++ kind_text (seen_items items.entry)) }
+    ensures front { OnErr result (KeepsFront line.old.items line.new.items) }
 {
     match items {
         ItemsRef::Numbers(_) => add_text(line, "N"),
@@ -45,6 +50,7 @@ fn add_kind(line: &mut Line, items: ItemsRef<'_>) -> Result<(), WantOfMemory>
 fn add_items(line: &mut Line, items: ItemsRef<'_>) -> Result<(), WantOfMemory>
     ensures text { OnOk result (line.new.items
         ≡ line.old.items ++ items_text (seen_items items.entry)) }
+    ensures front { OnErr result (KeepsFront line.old.items line.new.items) }
     ensures printable { OnOk result (ArePrintableItems (seen_items items.entry)) }
 {
     match items {
@@ -58,9 +64,10 @@ fn add_items(line: &mut Line, items: ItemsRef<'_>) -> Result<(), WantOfMemory>
 }
 
 /// Adds an array at the end of a line: its kind, its axes, its items. It takes memory for them; where that runs out, a
-/// part of the text may stand there.
+/// part of the text may stand there, behind what stood there before.
 pub fn add_array(line: &mut Line, array: &Array) -> Result<(), WantOfMemory>
     ensures text { OnOk result (line.new.items ≡ line.old.items ++ array_text array.now) }
+    ensures front { OnErr result (KeepsFront line.old.items line.new.items) }
     ensures printable { OnOk result (IsPrintableArray array.now) }
 {
     add_kind(line, array.items())?;
@@ -71,9 +78,10 @@ pub fn add_array(line: &mut Line, array: &Array) -> Result<(), WantOfMemory>
 }
 
 /// Adds a value at the end of a line, or that there is none. It takes memory for it; where that runs out, a part of the
-/// text may stand there.
+/// text may stand there, behind what stood there before.
 pub fn add_value(line: &mut Line, value: &Option<Array>) -> Result<(), WantOfMemory>
     ensures text { OnOk result (line.new.items ≡ line.old.items ++ value_text value.now) }
+    ensures front { OnErr result (KeepsFront line.old.items line.new.items) }
     ensures printable { OnOk result (IfSome value.now (λ array. IsPrintableArray array)) }
 {
     match value {

@@ -40,6 +40,6 @@ module _ {K : Type 0} (told : K → Option (Told (ℕ × List ℕ))) (faults : K
   Takes user (removes name next) old todo new = IsCall (λ before answer now. Removes by_user_and_name before (user, name) answer now) next old todo new
   Takes user (lists next) old todo new = IsCall (λ before answer now. ListsInOrder before user answer now) next old todo new
 
--- what a shelf tells is kept, though it may have had one call more
+-- what a shelf tells is kept, its places among it, though it may have had one call more
 abbrev pub KeepsEntries : Option (Told (ℕ × List ℕ)) → Option (Told (ℕ × List ℕ)) → Type 0
-KeepsEntries before now = IfSome before (λ old. IsSomeAnd now (λ new. (new.fails ≡ old.fails) × ((new.calls ≡ old.calls) ⊎ (new.calls ≡ one_more old.calls)) × ((key : ℕ × List ℕ) → entry_of by_user_and_name new key ≡ entry_of by_user_and_name old key)))
+KeepsEntries before now = IfSome before (λ old. IsSomeAnd now (λ new. (new.places ≡ old.places) × (new.fails ≡ old.fails) × ((new.calls ≡ old.calls) ⊎ (new.calls ≡ one_more old.calls)) × ((key : ℕ × List ℕ) → entry_of by_user_and_name new key ≡ entry_of by_user_and_name old key)))

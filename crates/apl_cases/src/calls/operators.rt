@@ -2,8 +2,9 @@ ghost use Rattle.std.specs.Prelude.{◌≡◌, ◌<◌};
 
 use crate::calls::given::{array, ended, lent_both, look_at};
 use anyhow::Result;
-use apl_arrays::{Dyad, Fail, Mix1, Mix2, Monad, Report, Verb, Way};
+use apl_arrays::{Fail, Report, Way};
 use apl_operators::{Steps, apply};
+use apl_verbs::{Dyad, Mix1, Mix2, Monad, Verb};
 use case_tables::{Calls, Looks};
 use std::alloc::Global;
 use std::marker::Brand;

@@ -1,7 +1,8 @@
 use crate::calls::given::{ended, given, lent_both, look_at, vector};
 use anyhow::Result;
-use apl_arrays::{Dyad, Fail, Glyph, Item, Monad, Report};
+use apl_arrays::{Fail, Glyph, Item, Report};
 use apl_scalar::{dyadic, identity_of, item_of, monadic};
+use apl_verbs::{Dyad, Monad};
 use case_tables::{Calls, Looks};
 use std::alloc::Global;
 

@@ -1,5 +1,5 @@
 use anyhow::{Result, bail};
-use apl_arrays::{Dyad, Monad};
+use apl_verbs::{Dyad, Monad};
 
 /// The scalar function of one argument with this sign.
 pub fn monad_of(sign: &str) -> Result<Monad> {

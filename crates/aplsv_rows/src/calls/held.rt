@@ -3,19 +3,19 @@ ghost use Rattle.apl_session.specs.Wants.{MayGoOn};
 ghost use Rattle.apl_session.specs.declared.session.Stage.TheVariants.{Waiting};
 ghost use Rattle.sv_rules.specs.Entries.{has_left, is_leave};
 ghost use Rattle.sv_rules.specs.Legal.{is_user};
-ghost use Rattle.sv_rules.specs.Work.{is_auxiliary};
+ghost use Rattle.aux_parties.specs.Auxiliaries.{is_auxiliary};
 
 use crate::calls::helping::session_of;
 use anyhow::Result;
 use apl_io::MemoryShelf;
 use apl_session::{Session, Stage, Wants};
+use aux_parties::is_auxiliary;
 use case_tables::{Calls, Looks};
 use line_text::add_user_lines;
 use std::alloc::Global;
 use sv_core::Core;
 use sv_events::{Act, Answer, Retry};
 use sv_journal::add_journal;
-use sv_rules::is_auxiliary;
 
 /// Two users in turns, of whom the second is held within a function: it tries its act fifty times before its partner sets
 /// the name. Each time it is still held, and the journal stays.
@@ -93,7 +93,7 @@ fn act(core: &mut Core, session: &mut Session<MemoryShelf>, user: u32, act: Act)
 }
 
 // The answer to a user that tries the act again for which it waits, or none where it waits for none.
-#[tactic(auto, using(crate::proofs::RetryLemmas::users_stay))]
+#[tactic(auto, using(sv_core::proofs::RetryLemmas::users_stay))]
 fn retried(core: &mut Core, user: u32) -> Result<Option<Retry>>
     ensures { core.new.users ≡ core.old.users }
 {

@@ -4,12 +4,13 @@ use crate::calls::samples::{is_equal, letter, number, pairs};
 use crate::retries::try_again;
 use anyhow::{Context, Result, bail};
 use apl_arrays::{Array, Name, PartyList, WantOfMemory};
+use aux_parties::is_auxiliary;
 use case_tables::{Calls, Looks};
 use std::alloc::Global;
 use sv_access::{Control, Owners};
 use sv_core::Core;
 use sv_events::{Act, Answer, Entry, Hold, Journal, Retry};
-use sv_rules::{is_auxiliary, is_leave};
+use sv_rules::is_leave;
 
 /// A journal that three users make, with each call made once more where memory was refused: then the journal is what it was.
 #[derive(Clone, Copy, Debug)]

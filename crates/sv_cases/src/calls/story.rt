@@ -3,7 +3,7 @@ use apl_arrays::Array;
 use case_tables::{Calls, Looks};
 use std::alloc::Global;
 use sv_access::{Side, State};
-use sv_story::Share;
+use sv_kept::Share;
 
 /// A share by which a value goes over, and another back.
 #[derive(Clone, Copy, Debug)]

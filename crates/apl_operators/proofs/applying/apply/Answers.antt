@@ -1,5 +1,5 @@
 use Rattle.std.proofs.Common.{option_copied, rules, sym, subst}
-use Rattle.apl_arrays.specs.declared.verb.Verb.{Verb}
+use Rattle.apl_verbs.specs.declared.verb.Verb.{Verb}
 use Rattle.apl_items.specs.Answers.{Answers}
 use Rattle.apl_items.proofs.AnswerLemmas.{answers_at_all}
 use Rattle.operator_rules.specs.Apply.{applied}

@@ -1,5 +1,5 @@
 use Rattle.std.proofs.Common.{◌∙◌, sym}
-use Rattle.apl_arrays.specs.declared.verb.Dyad.TheVariants.{Plus, Times}
+use Rattle.apl_verbs.specs.declared.verb.Dyad.TheVariants.{Plus, Times}
 use Rattle.apl_scalar.specs.Table.{dyadic_item}
 use Rattle.apl_operators.specs.Running.{factor_weight, term_weight}
 use Rattle.apl_operators.proofs.WeightLemmas.{runs_grouped, runs_of_products, runs_of_sums, some_along}

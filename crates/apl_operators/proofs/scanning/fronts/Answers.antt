@@ -1,5 +1,5 @@
 use Rattle.std.proofs.Common.{length, sym, subst}
-use Rattle.apl_arrays.specs.declared.verb.Dyad.{Dyad}
+use Rattle.apl_verbs.specs.declared.verb.Dyad.{Dyad}
 use Rattle.apl_items.specs.Places.{HasItems, OnWantOfMemory}
 use Rattle.apl_scalar.specs.Table.{dyadic_item}
 use Rattle.apl_operators.specs.Running.{front_at}

@@ -1,5 +1,5 @@
 use Rattle.std.proofs.Common.{length, refl}
-use Rattle.apl_arrays.specs.declared.verb.Dyad.TheVariants.{Plus}
+use Rattle.apl_verbs.specs.declared.verb.Dyad.TheVariants.{Plus}
 use Rattle.apl_items.specs.Places.{HasItems}
 use Rattle.apl_scalar.specs.Table.{dyadic_item}
 use Rattle.apl_selection.proofs.WantLemmas.{on_want}

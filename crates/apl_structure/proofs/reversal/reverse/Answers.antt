@@ -1,6 +1,6 @@
 use Rattle.std.proofs.Common.{◌≡◌, ◌<◌, ◌==◌, ℕ, ℤ, false, Option, Ok, length, get_or, List, ap, sym, subst, ◌∙◌, arith}
 use Rattle.std.proofs.lemmas.Bool.Decides.{nat_tests}
-use Rattle.apl_arrays.specs.declared.verb.Way.{Way}
+use Rattle.apl_arrays.specs.declared.way.Way.{Way}
 use Rattle.apl_arrays.specs.Array.{PlainArray}
 use Rattle.apl_items.specs.Axis.{axis_of, lacks_axis}
 use Rattle.apl_structure.specs.Moves.{moved_on}

@@ -11,5 +11,5 @@ returns-in-Ok-clause-run g c =
     c.args.shelves.items c.over_text.result.shelves.items)
     (λ transcripts journal. NamedRun g.C.Clock.told g.C.Clock.faults g.T.TextStore.told g.T.TextStore.faults g.K.Shelf.told g.K.Shelf.faults (Some c.args.place.now) (asked_by c.args.words.now).clock (asked_by c.args.words.now).library c.args.bundle journal transcripts c.args.clock c.over_text.result.clock c.args.text c.over_text.result.text
     c.args.shelves.items c.over_text.result.shelves.items)
-    (λ transcripts journal clocked. (c.set_place.new.self, (c.set_place.ensures.told, c.set_place.ensures.counted), clocked))
+    (λ transcripts journal clocked. (c.set_place.new.self, (c.in-Ok.ensures.ok, c.set_place.ensures.counted), clocked))
     c.over_text.ensures.run

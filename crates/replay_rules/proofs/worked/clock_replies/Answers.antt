@@ -19,3 +19,11 @@ returns-clause-journal c = refl
 pub returns-clause-events : goal.returns-clause-events
 unfolding digits next_number next_numbers number role_of chars_from front_of scan_from attached built_by built_from marks_from may_end step dyad_of fold_of mix1_of mix2_of monad_of other_sign sign_symbol trees_from header_of locals_in all_differ
 returns-clause-events c = refl
+
+pub returns-clause-fourth_round : goal.returns-clause-fourth_round
+unfolding digits next_number next_numbers number role_of chars_from front_of scan_from attached built_by built_from marks_from may_end step dyad_of fold_of mix1_of mix2_of monad_of other_sign sign_symbol trees_from header_of locals_in all_differ
+returns-clause-fourth_round c = refl
+
+pub returns-clause-still_held : goal.returns-clause-still_held
+unfolding digits next_number next_numbers number role_of chars_from front_of scan_from attached built_by built_from marks_from may_end step dyad_of fold_of mix1_of mix2_of monad_of other_sign sign_symbol trees_from header_of locals_in all_differ
+returns-clause-still_held c = refl

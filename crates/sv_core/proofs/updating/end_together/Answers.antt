@@ -3,6 +3,7 @@ use Rattle.sv_events.specs.declared.entry.Pair.{Pair}
 use Rattle.sv_rules.specs.declared.standing.Standing.{Standing}
 use Rattle.sv_offers.specs.Table.{pairs_made}
 use Rattle.sv_core.specs.Updating.{Closes}
+use Rattle.sv_core.proofs.CellPlaces.{clears_all}
 use Rattle.sv_core.proofs.EndingLemmas.{closes_own}
 use Rattle.sv_core.proofs.TogetherLemmas.{ending_fits, ending_pairs, ending_table, ends_all, next_above, ready_to_couple}
 use Rattle.sv_core.proofs.updating.end_together.Goals.{After-as_slice}
@@ -35,11 +36,17 @@ keeps c =
 pub couple_all-requires : goal.couple_all-requires
 couple_all-requires c =
     let ready = c.requires.ready in
-    ready_to_couple c.args.offers.now c.args.cells.now c.part_all.new.cells c.close_all.new.cells c.args.at c.args.party c.args.ending ready.0 ready.1 ready.2 ready.3 c.part_all.ensures (keeps c)
+    ready_to_couple c.args.offers.now c.args.cells.now c.part_all.new.cells c.close_all.new.cells c.args.at c.args.party c.args.ending ready.0 ready.1 ready.2 ready.3 c.part_all.ensures.parts (keeps c)
     c.as_slice.result.now (ending_pairs c.args.offers.now c.args.cells.now c.args.at c.args.party c.args.ending ready.0 ready.1 ready.2 ready.3 ∙ sym (pairs_are c))
 
 pub returns-clause-cells : goal.returns-clause-cells
 returns-clause-cells c =
     let d = (goal.at.returns-clause-cells c).After-as_slice in
     ends_all c.args.offers.now c.args.cells.now c.part_all.new.cells c.close_all.new.cells c.couple_all.new.cells c.args.at c.args.party c.args.ending c.as_slice.result.now
-    c.part_all.ensures (keeps d) c.couple_all.ensures (pairs_are d)
+    c.part_all.ensures.parts (keeps d) c.couple_all.ensures.couples (pairs_are d)
+
+pub returns-clause-others : goal.returns-clause-others
+returns-clause-others c =
+    let d = (goal.at.returns-clause-others c).After-as_slice in
+    clears_all c.args.offers.now c.args.cells.now c.part_all.new.cells c.close_all.new.cells c.couple_all.new.cells c.args.at c.args.party c.args.ending
+    c.part_all.ensures.no_more (keeps d) c.couple_all.ensures.no_more

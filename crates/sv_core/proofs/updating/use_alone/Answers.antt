@@ -1,9 +1,9 @@
 use Rattle.std.proofs.Common.{◌∙◌, ◌≡◌, Bool, Option, ap, subst}
 use Rattle.std.specs.Prelude.{is_some, option_and_then}
-use Rattle.sv_cells.specs.Cell.{answered, known_alone}
-use Rattle.sv_cells.specs.Cells.{ChangesAt}
-use Rattle.sv_cells.specs.declared.cell.Cell.{Cell}
-use Rattle.sv_cells.specs.declared.cell.Held.{Held}
+use Rattle.sv_kept.specs.Cell.{answered, known_alone}
+use Rattle.sv_kept.specs.Cells.{ChangesAt}
+use Rattle.sv_kept.specs.declared.cell.Cell.{Cell}
+use Rattle.sv_kept.specs.declared.cell.Held.{Held}
 use Rattle.sv_core.proofs.UsingLemmas.{uses_alone}
 use Rattle.sv_core.proofs.updating.use_alone.Goals as goal
 

@@ -1,7 +1,7 @@
 use Rattle.std.proofs.Common.{sym, ap, ◌∙◌, subst}
 use Rattle.std.proofs.lemmas.Result.{err_from_is_err_and}
-use Rattle.sv_text.specs.Reading.{Stops, list_at}
-use Rattle.sv_text.proofs.Lists.{step_more, step_stops, is_done}
+use Rattle.text_reader.specs.Reading.{Stops, list_at}
+use Rattle.text_reader.proofs.Lists.{step_more, step_stops, is_done}
 use Rattle.sv_journal.specs.ActReading.{party_at}
 use Rattle.sv_journal.specs.AnswerReading.{goes_on}
 use Rattle.sv_journal.proofs.answer_reading.read_parties.Goals as goal

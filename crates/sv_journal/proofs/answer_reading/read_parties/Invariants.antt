@@ -1,5 +1,5 @@
 use Rattle.std.proofs.Common.{◌≡◌, ◌-◌}
-use Rattle.sv_text.specs.Reading.{list_at, read_behind}
+use Rattle.text_reader.specs.Reading.{list_at, read_behind}
 use Rattle.sv_journal.specs.ActReading.{party_at}
 use Rattle.sv_journal.specs.AnswerReading.{goes_on}
 use Rattle.sv_journal.proofs.answer_reading.read_parties.Given as goal

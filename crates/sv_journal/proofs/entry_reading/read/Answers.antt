@@ -2,8 +2,8 @@ use Rattle.std.proofs.Common.{◌≡◌, Ok, ◌∙◌, sym, subst}
 use Rattle.std.proofs.lemmas.List.Elements.{recursion_from_All}
 use Rattle.apl_arrays.specs.Glyph.{IsGlyph}
 use Rattle.sv_events.specs.Entry.{plain_entry}
-use Rattle.sv_text.specs.Reading.{Stops}
-use Rattle.sv_text.proofs.Readers.{AreGlyphs}
+use Rattle.text_reader.specs.Reading.{Stops}
+use Rattle.text_reader.proofs.Readers.{AreGlyphs}
 use Rattle.sv_journal.specs.EntryReading.{entry_at}
 use Rattle.sv_journal.specs.ReadsEntry.{Departs}
 use Rattle.sv_journal.proofs.ReadLaws.{entry_found, found_is_this, departs_so, never_so}

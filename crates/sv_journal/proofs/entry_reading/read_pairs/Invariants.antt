@@ -1,5 +1,5 @@
 use Rattle.std.proofs.Common.{◌≡◌, ◌-◌}
-use Rattle.sv_text.specs.Reading.{list_at, read_behind}
+use Rattle.text_reader.specs.Reading.{list_at, read_behind}
 use Rattle.sv_journal.specs.EntryReading.{is_left, pair_at}
 use Rattle.sv_journal.proofs.entry_reading.read_pairs.Given as goal
 

@@ -3,7 +3,7 @@ use Rattle.std.proofs.lemmas.Bool.{lt-ltb, le-ltb}
 use Rattle.sv_rules.specs.Coupling.{open_to}
 use Rattle.sv_rules.specs.Journal.{journal_of}
 use Rattle.sv_rules.specs.Standing.{offer_count, standing}
-use Rattle.sv_rules.specs.Work.{most_counters}
+use Rattle.aux_parties.specs.Auxiliaries.{most_counters}
 use Rattle.sv_rules.specs.declared.standing.Standing.{Standing}
 use Rattle.sv_plain.proofs.WorkLemmas.{first_where}
 use Rattle.sv_plain.proofs.working.to_counter.Goals as goal

@@ -1,5 +1,6 @@
 use Rattle.sv_story_laws.proofs.DueLemmas.{counters_are_made_to_the_lowest, first_to_counter_is_lowest, work_is_the_first_that_applies, work_is_what_is_due}
 use Rattle.sv_story_laws.proofs.WorkLemmas.{first_open_is_lowest, first_coupled_is_lowest, control_is_lacking, replies_are_owed_to_uses, since_are_the_newest, full_journals_leave_no_work, questions_tell_parties}
+use Rattle.sv_story_laws.proofs.ReplyLemmas.{replies_are_to_what_the_last_use_got}
 use Rattle.sv_story_laws.proofs.laws.work_law.Goals as goal
 
 pub returns-clause-opened : goal.returns-clause-opened
@@ -19,6 +20,9 @@ returns-clause-lacking c = control_is_lacking
 
 pub returns-clause-owed : goal.returns-clause-owed
 returns-clause-owed c = replies_are_owed_to_uses
+
+pub returns-clause-replied : goal.returns-clause-replied
+returns-clause-replied c = replies_are_to_what_the_last_use_got
 
 pub returns-clause-since : goal.returns-clause-since
 returns-clause-since c = since_are_the_newest

@@ -1,8 +1,8 @@
 use Rattle.std.proofs.Common.{◌≡◌, ◌++◌, ◌∷◌, [], arith, refl, length-append}
 use Rattle.std.proofs.lemmas.Result.{err_from_is_err_and}
-use Rattle.sv_text.specs.Reading.{always, list_at}
+use Rattle.text_reader.specs.Reading.{always, list_at}
 use Rattle.sv_text.specs.ValueReading.{char_at}
-use Rattle.sv_text.proofs.Lists.{one_more, stops_at, is_done}
+use Rattle.text_reader.proofs.Lists.{one_more, stops_at, is_done}
 use Rattle.sv_text.proofs.chars.read_chars.Goals as goal
 
 pub returns-in_err-char-clause-value : goal.returns-in_err-char-clause-value

@@ -1,5 +1,5 @@
 use Rattle.std.proofs.Common.{◌≡◌, ◌-◌, length}
-use Rattle.sv_text.specs.Reading.{always, list_at, read_behind}
+use Rattle.text_reader.specs.Reading.{always, list_at, read_behind}
 use Rattle.sv_text.specs.ValueReading.{char_at}
 use Rattle.sv_text.proofs.chars.read_chars.Given as goal
 

@@ -1,8 +1,8 @@
 use Rattle.std.proofs.Common.{arith}
 use Rattle.std.proofs.lemmas.Result.{err_from_is_err_and}
-use Rattle.sv_text.specs.Reading.{always, list_at, read_behind}
+use Rattle.text_reader.specs.Reading.{always, list_at, read_behind}
 use Rattle.sv_text.specs.ValueReading.{next_integer_at}
-use Rattle.sv_text.proofs.Lists.{step_more, step_stops, is_done}
+use Rattle.text_reader.proofs.Lists.{step_more, step_stops, is_done}
 use Rattle.sv_text.proofs.numbers.add_numbers.Goals as goal
 
 pub returns-in_err-add_number-clause-value : goal.returns-in_err-add_number-clause-value

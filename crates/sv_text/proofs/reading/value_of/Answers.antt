@@ -1,7 +1,7 @@
 use Rattle.std.proofs.Common.{◌≡◌, Ok, Err, sym, ◌∙◌, subst}
 use Rattle.std.specs.List.{All}
 use Rattle.apl_arrays.specs.Glyph.{IsGlyph}
-use Rattle.sv_text.specs.Reading.{Stops}
+use Rattle.text_reader.specs.Reading.{Stops}
 use Rattle.sv_text.specs.ReadsValue.{HoldsNoValue}
 use Rattle.sv_text.specs.ValueReading.{array_at}
 use Rattle.sv_text.proofs.ValueLaws.{whole_is_read, whole_is_this, stopped_so, never_so}
@@ -21,8 +21,8 @@ pub returns-in-Ok : goal.returns-in-Ok
 returns-in-Ok c =
     let same : c.new-cursor.result ≡ c.args.line.now.items = c.new-cursor.ensures.value ∙ c.as_slice.ensures in
     let glyphs : All IsGlyph c.args.line.now.items = subst (All IsGlyph) c.as_slice.ensures c.new-cursor.ensures.glyphs in
-    let read : array_at c.args.line.now.items ≡ Ok (c.in-Ok.array, c.read_array.new.cursor) = subst (λ line. array_at line ≡ Ok (c.in-Ok.array, c.read_array.new.cursor)) same c.in-Ok.ensures in
+    let read : array_at c.args.line.now.items ≡ Ok (c.in-Ok.array, c.array_ahead.new.cursor) = subst (λ line. array_at line ≡ Ok (c.in-Ok.array, c.array_ahead.new.cursor)) same c.in-Ok.ensures in
     record {
-      value = whole_is_read c.args.line.now.items glyphs c.in-Ok.array c.read_array.new.cursor read c.whole_value.result c.whole_value.ensures.whole c.whole_value.ensures.more;
-      again = λ array fits text. whole_is_this c.args.line.now.items glyphs c.in-Ok.array c.read_array.new.cursor read c.whole_value.result c.whole_value.ensures.whole array fits text;
+      value = whole_is_read c.args.line.now.items glyphs c.in-Ok.array c.array_ahead.new.cursor read c.whole_value.result c.whole_value.ensures.whole c.whole_value.ensures.more;
+      again = λ array fits text. whole_is_this c.args.line.now.items glyphs c.in-Ok.array c.array_ahead.new.cursor read c.whole_value.result c.whole_value.ensures.whole array fits text;
     }

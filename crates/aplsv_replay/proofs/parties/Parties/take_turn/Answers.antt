@@ -1,20 +1,24 @@
-use Rattle.std.proofs.Common.{◌∙◌, sym}
-use Rattle.std.specs.Prelude.{Some}
+use Rattle.std.proofs.Common.{◌≡◌, ◌∙◌, ℕ, Option, Some, ap, subst, sym}
+use Rattle.std.specs.Prelude.{is_some}
+use Rattle.aux_parties.specs.Auxiliaries.{auxiliary_at}
+use Rattle.aux_parties.specs.declared.auxiliary.AuxiliaryRow.{AuxiliaryRow}
+use Rattle.aux_parties.proofs.TableLemmas.{is_found, kind_found}
 use Rattle.aplsv_replay.specs.SeatTurns.{is_due}
+use Rattle.aplsv_replay.specs.Together.{TakesTurns}
 use Rattle.aplsv_replay.proofs.AllTogether.{users_take}
-use Rattle.aplsv_replay.proofs.Taking.{ten_is_party, twenty_is_party, user_is_party}
+use Rattle.aplsv_replay.proofs.Taking.{auxiliary_is_party, user_is_party}
+use Rattle.replay_rules.specs.Turns.{auxiliary_turn}
 use Rattle.aplsv_replay.proofs.parties.Parties.take_turn.Goals as goal
 
-pub returns-then-is_clock : goal.returns-then-is_clock
-returns-then-is_clock g c = ten_is_party g.X.Replier.forgets g.X.Replier.replies g.Y.Replier.forgets g.Y.Replier.replies g.K.Shelf.told g.K.Shelf.faults c.args.party c.args.self.now c.turn_of_ten.new.self (sym c.is_clock.ensures ∙ c.if-is_clock.true) c.turn_of_ten.ensures.turn
-
-pub returns-then-is_text : goal.returns-then-is_text
-returns-then-is_text g c =
-    twenty_is_party g.X.Replier.forgets g.X.Replier.replies g.Y.Replier.forgets g.Y.Replier.replies g.K.Shelf.told g.K.Shelf.faults c.args.party c.args.self.now c.turn_of_twenty.new.self (sym c.is_clock.ensures ∙ c.if-is_clock.false) (sym c.is_text.ensures ∙ c.if-is_text.true) c.turn_of_twenty.ensures.turn
-
-pub returns : goal.returns
-returns g c =
-    user_is_party g.X.Replier.forgets g.X.Replier.replies g.Y.Replier.forgets g.Y.Replier.replies g.K.Shelf.told g.K.Shelf.faults c.args.party c.args.self.now c.user_turns.new.self (sym c.is_clock.ensures ∙ c.if-is_clock.false) (sym c.is_text.ensures ∙ c.if-is_text.false)
+pub returns-in-None : goal.returns-in-None
+returns-in-None g c =
+    user_is_party g.X.Replier.forgets g.X.Replier.replies g.Y.Replier.forgets g.Y.Replier.replies g.K.Shelf.told g.K.Shelf.faults c.args.party c.args.self.now c.user_turns.new.self (sym (is_found c.args.party) ∙ ap (λ (o : Option AuxiliaryRow). is_some o) (sym c.auxiliary_at.ensures ∙ c.in-None.is))
     (λ bundle ten twenty shelves sittings h.
     users_take g.X.Replier.forgets g.X.Replier.replies g.Y.Replier.forgets g.Y.Replier.replies g.K.Shelf.told g.K.Shelf.faults bundle ten twenty shelves c.args.self.now sittings h
     (is_due (Some c.args.party)) c.user_turns.new.self c.user_turns.ensures.ten c.user_turns.ensures.twenty (c.user_turns.ensures.turns sittings h.here h.seated))
+
+pub returns-in-Some : goal.returns-in-Some
+returns-in-Some g c =
+    let found : auxiliary_at c.args.party ≡ Some c.in-Some.row = sym c.auxiliary_at.ensures ∙ c.in-Some.is in
+    auxiliary_is_party g.X.Replier.forgets g.X.Replier.replies g.Y.Replier.forgets g.Y.Replier.replies g.K.Shelf.told g.K.Shelf.faults c.args.party c.args.self.now c.turn_of.new.self (sym (is_found c.args.party) ∙ ap (λ (o : Option AuxiliaryRow). is_some o) found)
+    (subst (λ (party : ℕ). TakesTurns g.X.Replier.forgets g.X.Replier.replies g.Y.Replier.forgets g.Y.Replier.replies g.K.Shelf.told g.K.Shelf.faults (auxiliary_turn party) c.args.self.now c.turn_of.new.self) (kind_found c.args.party c.in-Some.row found) c.turn_of.ensures.turn)

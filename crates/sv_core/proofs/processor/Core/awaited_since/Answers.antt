@@ -1,6 +1,6 @@
 use Rattle.std.proofs.Common.{◌∙◌, ◌≡◌, List, Option, Some, ap, sym, ℕ}
 use Rattle.sv_events.specs.declared.entry.Entry.{Entry}
-use Rattle.sv_log.specs.Member.{waiting_at}
+use Rattle.sv_kept.specs.Member.{waiting_at}
 use Rattle.sv_rules.specs.Entries.{Entries}
 use Rattle.sv_rules.specs.Journal.{journal_of}
 use Rattle.sv_rules.specs.Refused.{awaited}

@@ -12,7 +12,7 @@ use Rattle.sv_core.proofs.processor.Core.enter_quiet.Goals.{After-enter}
 
 pub invariant_of-self : goal.invariant_of-self
 invariant_of-self c =
-    same_core (parts_of c.self.inside) _ c.self.invariant c.reserve.ensures.users c.reserve.ensures.journal refl refl refl c.self.invariant.fit c.reserve.ensures.kept
+    same_core (parts_of c.self.inside) _ c.self.invariant c.reserve.ensures.users c.reserve.ensures.journal refl refl refl (λ at. refl) c.reserve.ensures.kept
 
 -- the act may be made after the journal as it was
 may : (c : After-enter) → MayFollow c.self.inside.log.users c.self.inside.log.journal (entry_for c.self.inside.log.journal c.args.party c.args.act)

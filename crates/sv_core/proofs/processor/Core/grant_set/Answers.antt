@@ -12,7 +12,7 @@ use Rattle.sv_rules.specs.Outcome.{Outcome}
 use Rattle.sv_rules.specs.Refused.{hold_on}
 use Rattle.sv_rules.specs.Standing.{own_offer, standing}
 use Rattle.sv_core.proofs.AccessingLemmas.{answers_with, ready_with}
-use Rattle.sv_core.proofs.Kept.{IsEntered, entered, entry_is, fit_kept, on_failure, on_success, same_core}
+use Rattle.sv_core.proofs.Kept.{IsEntered, entered, entry_is, on_failure, on_success, same_core}
 use Rattle.sv_core.proofs.MakingLemmas.{access_core}
 use Rattle.sv_core.proofs.OutcomeLemmas.{access_granted, outcome_of_access, set_hands_in}
 use Rattle.sv_core.specs.Core.{PlainCore}
@@ -23,7 +23,7 @@ use Rattle.sv_core.proofs.processor.Core.grant_set.Goals.{After-push}
 pub invariant_of-self : goal.invariant_of-self
 invariant_of-self c =
     same_core (parts_of c.self.inside) _ c.self.invariant c.set_handed-set.ensures.users c.set_handed-set.ensures.journal refl refl refl
-    (fit_kept c.self.inside.log.journal c.self.inside.cells c.set_handed-set.new.cells (on_failure c.set_handed-set.result _ c.if-is_err.ensures.negation c.set_handed-set.ensures.err) c.self.invariant.fit) c.set_handed-set.ensures.kept
+    (on_failure c.set_handed-set.result _ c.if-is_err.ensures.negation c.set_handed-set.ensures.err) c.set_handed-set.ensures.kept
 
 pub set_handed-set-requires-clause-hands : goal.set_handed-set-requires-clause-hands
 set_handed-set-requires-clause-hands c = subst (λ (o : Option PlainArray). IsSome o) (sym (set_hands_in c.args.act c.args.access.now c.requires.row c.requires.kind).1) cc

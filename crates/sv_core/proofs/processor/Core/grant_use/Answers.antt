@@ -14,7 +14,7 @@ use Rattle.sv_rules.specs.Outcome.{Outcome, value_answer, value_for}
 use Rattle.sv_rules.specs.Refused.{hold_on}
 use Rattle.sv_rules.specs.Standing.{own_offer, standing}
 use Rattle.sv_core.proofs.AccessingLemmas.{ready_with, uses_with}
-use Rattle.sv_core.proofs.Kept.{IsEntered, entered, entry_is, fit_kept, same_core}
+use Rattle.sv_core.proofs.Kept.{IsEntered, entered, entry_is, same_core}
 use Rattle.sv_core.proofs.MakingLemmas.{access_core}
 use Rattle.sv_core.proofs.OutcomeLemmas.{outcome_of_access, use_granted, value_answered}
 use Rattle.sv_core.specs.Core.{PlainCore}
@@ -28,7 +28,7 @@ value_for-requires-clause-stands c = (own_offer-parts (standing c.args.self.now.
 pub invariant_of-self : goal.invariant_of-self
 invariant_of-self c =
     same_core (parts_of c.self.inside) _ c.self.invariant c.use_given.ensures.users c.use_given.ensures.journal refl refl refl
-    (fit_kept c.self.inside.log.journal c.self.inside.cells c.use_given.new.cells c.in_default-use_given.ensures.err c.self.invariant.fit) c.use_given.ensures.kept
+    c.in_default-use_given.ensures.err c.use_given.ensures.kept
 
 pub use_given-requires : goal.use_given-requires
 use_given-requires c =

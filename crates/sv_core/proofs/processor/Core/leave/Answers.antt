@@ -54,6 +54,7 @@ invariant_of-self c =
     end_core core _ c.self.invariant c.args.user Leave how.All (leave_may core c.self.invariant c.args.user member here) refl c.push.ensures.users (c.push.ensures.journal ∙ ap (λ (x : PlainEntry). x ∷ inside.log.journal) entry)
     (ap (λ (t : PlainOffers). let s : PlainOffers = record { offers = t.offers; coupled = t.coupled } in s) (c.end_together.ensures.table ∙ ap (λ n. after_ending n inside.offers c.args.user how.All) c.next_place-at.ensures))
     (c.end_together.ensures.cells core.users core.journal (entry_for core.journal c.args.user Leave) ends)
+    (c.end_together.ensures.others core.users core.journal (entry_for core.journal c.args.user Leave) ends c.self.invariant.no_other)
     (omega (arith, falls, c.self.invariant.entries_room, c.push.ensures.room)) (omega (arith, falls, c.self.invariant.spare_count, c.take_spare-made.ensures.count)) c.take_spare-made.ensures.rest
 
 pub returns : goal.returns

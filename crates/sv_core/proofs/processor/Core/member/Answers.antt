@@ -1,6 +1,6 @@
 use Rattle.std.proofs.Common.{◌∙◌, ap, sym}
-use Rattle.sv_log.specs.Member.{member_of, waiting_at}
-use Rattle.sv_log.specs.declared.member.Member.{Member}
+use Rattle.sv_kept.specs.Member.{member_of, waiting_at}
+use Rattle.sv_kept.specs.declared.member.Member.{Member}
 use Rattle.sv_rules.specs.Entries.{has_left}
 use Rattle.sv_rules.specs.Legal.{is_user}
 use Rattle.sv_core.proofs.WaitingLemmas.{member_is, no_member, strangers_do_not_leave, strangers_do_not_wait}

@@ -10,7 +10,7 @@ use Rattle.sv_rules.specs.Story.{handed_in}
 use Rattle.sv_rules.specs.declared.coupling.Made.{Made}
 use Rattle.sv_rules.specs.declared.standing.Standing.{Standing}
 use Rattle.sv_core.proofs.Kept.{entered, same_core}
-use Rattle.sv_core.proofs.OpeningLemmas.{fit_elsewhere, may_join, open_core, opening_entry, opens_in}
+use Rattle.sv_core.proofs.OpeningLemmas.{may_join, open_core, opening_entry, opens_in}
 use Rattle.sv_core.proofs.TogetherLemmas.{next_above}
 use Rattle.sv_core.specs.Core.{PlainCore}
 use Rattle.sv_core.specs.Invariant.{parts_of}
@@ -23,10 +23,9 @@ add_offer-added-requires-clause-next c =
 
 pub invariant_of-self : goal.invariant_of-self
 invariant_of-self c =
-    let place = c.requires.place ∙ sym (ap (λ (v : PlainCore). next_place v.journal) c.self.view_is) in
     let table = c.in-Err.ensures.err in
     same_core (parts_of c.self.inside) _ c.self.invariant c.add_offer-added.ensures.users c.add_offer-added.ensures.journal (ap (λ (t : PlainOffers). t.offers) table) (ap (λ (t : PlainOffers). t.coupled) table) refl
-    (fit_elsewhere c.self.inside.log.journal c.self.inside.cells c.add_offer-added.new.cells c.args.new.now.place place c.add_offer-added.ensures.kept c.self.invariant.fit) c.add_offer-added.ensures.entries
+    c.in-Err.ensures.kept c.add_offer-added.ensures.entries
 
 pub join-degree-requires-clause-ready : goal.join-degree-requires-clause-ready
 join-degree-requires-clause-ready c =

@@ -10,7 +10,7 @@ use Rattle.sv_rules.specs.Control.{vector_of}
 use Rattle.sv_rules.specs.Coupling.{coupling_now}
 use Rattle.sv_rules.specs.Standing.{standing}
 use Rattle.sv_rules.specs.Story.{opening}
-use Rattle.sv_story.specs.Share.{alone}
+use Rattle.sv_kept.specs.Share.{alone}
 use Rattle.sv_core.proofs.HoldingLemmas.{cell_fits, cell_is, copied_is, known_is, open_state}
 use Rattle.sv_core.proofs.processor.Core.opened.Goals as goal
 use Rattle.sv_core.proofs.processor.Core.opened.Goals.{After-alone}

@@ -22,7 +22,7 @@ in_force_with-vector-requires c = (own_offer-parts (standing c.args.self.now.jou
 
 pub invariant_of-self : goal.invariant_of-self
 invariant_of-self c =
-    same_core (parts_of c.self.inside) _ c.self.invariant c.reserve.ensures.users c.reserve.ensures.journal refl refl refl c.self.invariant.fit c.reserve.ensures.kept
+    same_core (parts_of c.self.inside) _ c.self.invariant c.reserve.ensures.users c.reserve.ensures.journal refl refl refl (λ at. refl) c.reserve.ensures.kept
 
 pub control-requires : goal.control-requires
 control-requires c =

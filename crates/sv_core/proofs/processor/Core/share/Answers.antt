@@ -3,7 +3,7 @@ use Rattle.std.specs.Prelude.{IfSome}
 use Rattle.std.specs.Option.{option_copied}
 use Rattle.sv_core.specs.Core.{PlainCore}
 use Rattle.sv_rules.specs.Coupling.{coupling_now}
-use Rattle.sv_story.specs.Share.{PlainShare}
+use Rattle.sv_kept.specs.Share.{PlainShare}
 use Rattle.sv_cell_laws.specs.Fits.{FitsShare}
 use Rattle.sv_core.proofs.HoldingLemmas.{a_stands, cell_fits, cell_is, copied_some, share_is}
 use Rattle.sv_core.proofs.processor.Core.share.Goals.{After-share}

@@ -23,7 +23,7 @@ kept-requires c = (own_offer-parts (standing c.args.self.now.journal) c.args.par
 
 pub invariant_of-self : goal.invariant_of-self
 invariant_of-self c =
-    same_core (parts_of c.self.inside) _ c.self.invariant c.room_for_pair.ensures.users c.room_for_pair.ensures.journal refl refl refl c.self.invariant.fit c.room_for_pair.ensures.kept
+    same_core (parts_of c.self.inside) _ c.self.invariant c.room_for_pair.ensures.users c.room_for_pair.ensures.journal refl refl refl (λ at. refl) c.room_for_pair.ensures.kept
 
 pub end_together-requires-clause-ready : goal.end_together-requires-clause-ready
 end_together-requires-clause-ready c =
@@ -61,4 +61,4 @@ invariant_of-self-2 c =
     let some = present-le-length core.users journal in
     end_core core _ c.self.invariant c.args.party c.args.act (One c.args.local) may c.requires.row more.users more.journal
     (ap (λ (t : PlainOffers). let s : PlainOffers = record { offers = t.offers; coupled = t.coupled } in s) (c.end_together.ensures.table ∙ ap (λ n. after_ending n c.self.inside.offers c.args.party (One c.args.local)) place))
-    (c.end_together.ensures.cells core.users journal e ends) (omega (arith, stay, some, more.room)) (omega (arith, stay, c.self.invariant.spare_count)) c.self.invariant.spare_room
+    (c.end_together.ensures.cells core.users journal e ends) (c.end_together.ensures.others core.users journal e ends c.self.invariant.no_other) (omega (arith, stay, some, more.room)) (omega (arith, stay, c.self.invariant.spare_count)) c.self.invariant.spare_room

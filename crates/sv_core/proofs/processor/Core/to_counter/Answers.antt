@@ -2,7 +2,7 @@ use Rattle.std.proofs.Common.{◌≡◌, ◌∙◌, Bool, None, Option, ap, fals
 use Rattle.std.specs.Prelude.{find, if◌then◌else◌}
 use Rattle.sv_rules.specs.Coupling.{open_to}
 use Rattle.sv_rules.specs.Standing.{offer_count, standing}
-use Rattle.sv_rules.specs.Work.{most_counters}
+use Rattle.aux_parties.specs.Auxiliaries.{most_counters}
 use Rattle.sv_rules.specs.declared.standing.Standing.{Standing}
 use Rattle.sv_core.proofs.DueLemmas.{find_where}
 use Rattle.sv_core.proofs.processor.Core.to_counter.Goals as goal

@@ -1,0 +1,32 @@
+-- The text auxiliary gives its store no place.
+use Rattle.std.proofs.Common.{◌≡◌, ℕ, List, [], ◌∷◌, Option, sym, ap, subst}
+use Rattle.apl_arrays.specs.Array.{PlainArray}
+use Rattle.apl_arrays.specs.Name.{name_order}
+use Rattle.apl_io.specs.Content.{Told, KeepsPlaces}
+use Rattle.apl_io.proofs.Places.{both_keep, read_keeps, same_places, write_keeps}
+use Rattle.auxiliaries.specs.Command.{command_of}
+use Rattle.auxiliaries.specs.Protocol.{Step, answers, reads, replaces, step}
+use Rattle.auxiliaries.specs.Run.{Event, began, answered, IsReplierRun}
+use Rattle.auxiliaries.specs.Served.{Served, Takes, Replies, forgotten}
+
+module _ {T : Type 0} (told : T → Option (Told (List ℕ))) (faults : T → ℕ) where
+  -- a step
+  taken_keeps : (s : Step) (old : Served T) (answer : PlainArray) (new : Served T) → Takes told faults s old answer new → KeepsPlaces (told old.store) (told new.store)
+  taken_keeps (answers value state) old answer new takes =
+      subst (λ (store : T). KeepsPlaces (told old.store) (told store)) (sym (ap (λ (served : Served T). served.store) takes.1)) (same_places (told old.store))
+  taken_keeps (reads name) old answer new takes =
+      read_keeps name_order (told old.store) (told new.store) name takes.reply takes.told_reply
+  taken_keeps (replaces name bytes) old answer new takes =
+      write_keeps name_order (told old.store) (told new.store) name bytes takes.reply takes.told_reply
+
+  -- a run
+  pub run_keeps : (start : Served T) (events : List Event) (end : Served T) → IsReplierRun (λ old party new. new ≡ forgotten old) (λ old party value answer new. Replies told faults old value answer new) start events end
+      → KeepsPlaces (told start.store) (told end.store)
+  run_keeps start [] end run =
+      subst (λ (served : Served T). KeepsPlaces (told start.store) (told served.store)) (sym run) (same_places (told start.store))
+  run_keeps start (began party ∷ events) end (before, run, lead) =
+      both_keep (told start.store) (told before.store) (told end.store) (run_keeps start events before run)
+      (subst (λ (served : Served T). KeepsPlaces (told before.store) (told served.store)) (sym lead) (same_places (told before.store)))
+  run_keeps start (answered party value answer ∷ events) end (before, run, lead) =
+      both_keep (told start.store) (told before.store) (told end.store) (run_keeps start events before run)
+      (taken_keeps (step (command_of value) before.state) before answer end lead)

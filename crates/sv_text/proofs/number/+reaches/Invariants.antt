@@ -1,4 +1,0 @@
-use Rattle.sv_text.proofs.number.+reaches.Given as goal
-
-abbrev pub decreases-reaches : goal.decreases-reaches
-decreases-reaches l = l.digits

@@ -1,0 +1,4 @@
+use Rattle.text_reader.proofs.number.+reaches.Given as goal
+
+abbrev pub decreases-reaches : goal.decreases-reaches
+decreases-reaches l = l.digits

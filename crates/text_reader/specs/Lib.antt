@@ -1,0 +1,3 @@
+pub mod NumberReading
+pub mod Numeral
+pub mod Reading
