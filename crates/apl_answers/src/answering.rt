@@ -1,5 +1,7 @@
-ghost use Rattle.std.specs.Prelude.{◌≡◌, ◌≢◌, [], Some, true, IfErr, IfOk, OnOk, length, slice_get, unwrap_or};
+ghost use Rattle.std.specs.Prelude.{◌≡◌, ◌≢◌, [], Some, None, true, IfErr, IfOk, IsSome, OnOk, length, slice_get, unwrap_or};
 ghost use Rattle.apl_arrays.specs.declared.report.Fail.TheVariants as fail;
+ghost use Rattle.apl_items.specs.Places.{OnWantOfMemory};
+ghost use Rattle.apl_meaning.specs.Answers.{report_of_kind};
 ghost use Rattle.sv_events.specs.Answer.{granted, plain_answer};
 ghost use Rattle.sv_events.specs.Row.{answer_row};
 ghost use Rattle.apl_workspace.specs.Meaning.{is_shared_meaning};
@@ -20,7 +22,7 @@ use apl_values::{Deed, Held, Naming, Pending, Row, Rows, report_of, value_in};
 use sv_access::Control;
 use sv_events::{Answer, copy_value};
 
-/// What an answer brings: it ends the line by a report, or the statement that asked goes on.
+/// What an answer brings: it ends the line by a report, also where there is no memory, or the statement that asked goes on.
 pub fn bring(
     interpreter: &mut Interpreter,
     answer: Answer,
@@ -30,6 +32,7 @@ pub fn bring(
     requires sound { IsCaller interpreter.old.workspace e }
     requires pending { IsPending interpreter.old.workspace pending }
     ensures comes { Comes interpreter.old (part_gives interpreter.old e (brought_by (plain_answer answer) (plain_pending pending))) 0 interpreter.new result }
+    ensures memory { OnWantOfMemory result (report_of_kind (answer_row (plain_answer answer)).row.kind ≡ None) }
     ensures sound { IfOk result (IsFlow interpreter.new) }
     ensures within { IfOk result (StaysWithin interpreter.old e interpreter.new) }
 {
@@ -58,6 +61,7 @@ fn bring_value(
     requires sound { IsCaller interpreter.old.workspace e }
     requires seen { is_shared_meaning (look interpreter.old.workspace name) ≡ true }
     ensures comes { Comes interpreter.old (part_gives interpreter.old e (brought (refers name) (plain_answer answer))) 0 interpreter.new result }
+    ensures memory { OnWantOfMemory result (IsSome (answer_row (plain_answer answer)).value) }
     ensures sound { IfOk result (IsFlow interpreter.new) }
     ensures within { IfOk result (StaysWithin interpreter.old e interpreter.new) }
 {
@@ -78,6 +82,7 @@ fn bring_items(
     requires sound { IsCaller interpreter.old.workspace e }
     requires seen { is_shared_meaning (look interpreter.old.workspace name) ≡ true }
     ensures comes { Comes interpreter.old (part_gives interpreter.old e (brought (replaces name subs.items right) (plain_answer answer))) 0 interpreter.new result }
+    ensures memory { OnWantOfMemory result (IsSome (answer_row (plain_answer answer)).value) }
     ensures sound { IfOk result (IsFlow interpreter.new) }
     ensures within { IfOk result (StaysWithin interpreter.old e interpreter.new) }
 {

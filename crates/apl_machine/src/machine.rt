@@ -144,10 +144,11 @@ impl Machine {
         self.stage = Stage::Idle;
     }
 
-    /// Takes the workspace of an idle machine, which has an empty one then. No memory.
+    /// Takes the workspace of an idle machine, which has an empty one then; printed lines that were not taken stay. No memory.
     pub fn take_workspace(&mut self) -> Workspace
         requires { IsIdle self.old }
         ensures taken { result ≡ self.old.interpreter.workspace }
+        ensures lines { self.new.interpreter.output ≡ self.old.interpreter.output }
         ensures idle { IsIdle self.new }
     {
         self.stage = Stage::Idle;

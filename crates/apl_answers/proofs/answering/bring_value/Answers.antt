@@ -1,5 +1,6 @@
-use Rattle.std.proofs.Common.{◌≡◌, ap}
-use Rattle.std.specs.Prelude.{None, Option, Some}
+use Rattle.std.proofs.Common.{◌≡◌, ap, refl, subst, sym}
+use Rattle.std.specs.Prelude.{IsSome, None, Option, Some}
+use Rattle.apl_selection.proofs.WantLemmas.{on_want}
 use Rattle.apl_arrays.specs.Array.{PlainArray}
 use Rattle.apl_arrays.specs.declared.report.Report.TheVariants.{Value}
 use Rattle.sv_events.specs.Answer.{plain_answer}
@@ -37,3 +38,17 @@ returns-clause-comes c =
     (goes_behind m n (renewed c.args.name value m.workspace) c.args.e after (with_copy c.args.name value) (λ s. gives (Some value) s) c.give.result
     c.in_ok-renew.ensures.ok c.in_ok-renew.ensures.done c.in_ok-renew.ensures.settled
     (gets n after (held.Named c.args.name) value c.give.result (given_value n.workspace (parts_of after) c.args.name None value seen) c.give.ensures.comes))
+
+pub returns-in_err-renew-clause-memory : goal.returns-in_err-renew-clause-memory
+returns-in_err-renew-clause-memory c =
+    let value : PlainArray = c.in_ok-value_in.field-0 in
+    let found : Option PlainArray = (answer_row (plain_answer c.args.answer)).value in
+    let is : found ≡ Some value = got_value found Value value c.in_ok-value_in.ensures in
+    on_want c.from_residual-in_err-renew.result (IsSome found) (subst (λ (o : Option PlainArray). IsSome o) (sym is) refl)
+
+pub returns-clause-memory : goal.returns-clause-memory
+returns-clause-memory c =
+    let value : PlainArray = c.in_ok-value_in.field-0 in
+    let found : Option PlainArray = (answer_row (plain_answer c.args.answer)).value in
+    let is : found ≡ Some value = got_value found Value value c.in_ok-value_in.ensures in
+    on_want c.give.result (IsSome found) (subst (λ (o : Option PlainArray). IsSome o) (sym is) refl)
