@@ -1,11 +1,13 @@
 -- What a change of a table does to its weight.
-use Rattle.std.proofs.Common.{◌≡◌, ℕ, ◌+◌, ◌-◌, ◌<◌, ◌≤◌, Bool, cond, min, List, [], ◌∷◌, Ordering, Option, Some, None, refl, sym, ap, ◌∙◌, subst, arith, true, false}
-use Rattle.std.specs.Prelude.{IfSome, IsSome, is_some, unwrap_or}
+use Rattle.std.proofs.Common.{◌≡◌, ℕ, ◌+◌, ◌-◌, ◌<◌, ◌≤◌, Bool, cond, min, List, [], ◌∷◌, Ordering, Option, Some, None, refl, sym, ap, ◌∙◌, subst, ⊎_elim, arith, true, false}
+use Rattle.std.specs.Prelude.{IfSome, IsSome, is_some, nat_le, unwrap_or}
 use Rattle.std.specs.Option.{option_map}
 use Rattle.std.specs.Map.{keys_of, lookup, values_of}
 use Rattle.std.specs.Ordering.{match_ordering}
 use Rattle.std.specs.declared.cmp.Ordering.TheVariants.{Less, Equal, Greater}
 use Rattle.std.specs.List.Sorted.{IsStrictlySortedBy}
+use Rattle.std.proofs.lemmas.Bool.{cases_lt}
+use Rattle.std.proofs.lemmas.Bool.Decides.{nat_tests}
 use Rattle.std.proofs.lemmas.Cmp.{nat_list_cmp_total}
 use Rattle.std.proofs.lemmas.List.Sums.{sum_by-cons}
 use Rattle.std.proofs.lemmas.Map.Entries.{sum_by-insert_entry, sum_by-remove_entry}
@@ -206,3 +208,16 @@ keeps_copy entries names name weight e table =
       put = λ copy. put_twice names name Nothing (Value copy) s;
       as_heavy = λ copy own. omega (arith, weight_with names name (Value copy) s, copy_weighs (meaning_in names name) copy own);
     }
+
+-- ---- whether a table keeps within a weight
+
+over_all : (a b : ℕ) → b < a → nat_le a b ≡ false
+over_all a b e = grind (arith, nat_tests)
+
+-- two numbers that are over a bound alike
+pub over_alike : (a b m : ℕ) → (m < a → m < b) → (a ≤ m → a ≡ b) → nat_le a m ≡ nat_le b m
+over_alike a b m over fits = ⊎_elim (λ lt. over_all a m lt ∙ sym (over_all b m (over lt))) (λ le. ap (λ (n : ℕ). nat_le n m) (fits le)) (cases_lt m a)
+
+-- the weight that is reckoned tells whether the table fits
+pub reckoned_fits : (names : NameTable) (name : List ℕ) (meaning : Meaning) (reckoned most : ℕ) → IsReckoned names name meaning reckoned most → nat_le reckoned most ≡ nat_le (table_weight (with_meaning names name meaning)) most
+reckoned_fits names name meaning reckoned most h = over_alike reckoned (table_weight (with_meaning names name meaning)) most h.over h.fits
