@@ -1,11 +1,14 @@
-ghost use Rattle.std.specs.Prelude.{◌≡◌, ◌≢◌, [], Some, None, true, IfErr, IfOk, IsSome, OnOk, length, slice_get, unwrap_or};
+ghost use Rattle.std.specs.Prelude.{◌≡◌, ◌≢◌, ◌≤◌, [], Some, None, true, IfErr, IfOk, IsSome, OnOk, length, slice_get, unwrap_or};
 ghost use Rattle.apl_arrays.specs.declared.report.Fail.TheVariants as fail;
 ghost use Rattle.apl_items.specs.Places.{OnWantOfMemory};
 ghost use Rattle.apl_meaning.specs.Answers.{report_of_kind};
 ghost use Rattle.sv_events.specs.Answer.{granted, plain_answer};
 ghost use Rattle.sv_events.specs.Row.{answer_row};
+ghost use Rattle.apl_arrays.specs.Array.{PlainArray};
+ghost use Rattle.apl_workspace.specs.Limits.{most_weight};
 ghost use Rattle.apl_workspace.specs.Meaning.{is_shared_meaning};
-ghost use Rattle.apl_workspace.specs.Workspace.{look};
+ghost use Rattle.apl_workspace.specs.Workspace.{look, with_global, workspace_weight};
+ghost use Rattle.apl_workspace.specs.declared.meaning.Meaning.TheVariants as meaning;
 ghost use Rattle.apl_values.specs.Pending.{IsPending, brought, brought_by, plain_pending, refers, replaces, sets};
 ghost use Rattle.apl_values.specs.Rows.{AreRows, FirstAsksAct, HasTold, RowMayBeDone, asks_act, plain_deed, plain_naming, plain_row, row_done, row_numbers, row_zeros, rows_brought, rows_left};
 ghost use Rattle.apl_statements.specs.Moves.{Comes, part_gives};
@@ -51,7 +54,8 @@ pub fn bring(
     }
 }
 
-// The value of a use: it is the own copy too.
+// The value of a use: it is the own copy too. WS FULL where the workspace would weigh too much with it, also where there is
+// no memory.
 fn bring_value(
     interpreter: &mut Interpreter,
     e: Evaluation,
@@ -62,6 +66,7 @@ fn bring_value(
     requires seen { is_shared_meaning (look interpreter.old.workspace name) ≡ true }
     ensures comes { Comes interpreter.old (part_gives interpreter.old e (brought (refers name) (plain_answer answer))) 0 interpreter.new result }
     ensures memory { OnWantOfMemory result (IsSome (answer_row (plain_answer answer)).value) }
+    ensures room { (value : PlainArray) → (answer_row (plain_answer answer)).value ≡ Some value → OnWantOfMemory result (workspace_weight (with_global interpreter.old.workspace name (meaning.Shared (Some value))) ≤ most_weight) }
     ensures sound { IfOk result (IsFlow interpreter.new) }
     ensures within { IfOk result (StaysWithin interpreter.old e interpreter.new) }
 {

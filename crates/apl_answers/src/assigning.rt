@@ -1,7 +1,8 @@
-ghost use Rattle.std.specs.Prelude.{◌≡◌, Some, true, IfOk, IsOk, unwrap_or};
+ghost use Rattle.std.specs.Prelude.{◌≡◌, ◌≤◌, Some, true, false, IfOk, IsOk, unwrap_or};
 ghost use Rattle.std.specs.Option.{option_copied};
+ghost use Rattle.apl_workspace.specs.Limits.{most_weight};
 ghost use Rattle.apl_workspace.specs.Meaning.{is_shared_meaning, shared_copy};
-ghost use Rattle.apl_workspace.specs.Workspace.{is_assignable, look};
+ghost use Rattle.apl_workspace.specs.Workspace.{assigned, is_assignable, look, workspace_weight};
 ghost use Rattle.apl_workspace.specs.declared.meaning.Meaning.TheVariants as meaning;
 ghost use Rattle.apl_arrays.specs.Array.{PlainArray};
 ghost use Rattle.apl_items.specs.Places.{OnWantOfMemory};
@@ -36,7 +37,7 @@ pub fn assign(interpreter: &mut Interpreter, e: Evaluation, name: Name) -> Resul
 }
 
 /// A name gets a value; what the assignment gives is another value where there is one. SYNTAX ERROR for a label or a function,
-/// also where there is no memory.
+/// and WS FULL where the workspace would weigh too much with the value, each also where there is no memory.
 pub fn put(
     interpreter: &mut Interpreter,
     e: Evaluation,
@@ -47,6 +48,7 @@ pub fn put(
     requires sound { IsCaller interpreter.old.workspace e }
     ensures comes { Comes interpreter.old (part_gives interpreter.old e (assigned_giving name value (unwrap_or gives value))) 0 interpreter.new result }
     ensures memory { OnWantOfMemory result (is_assignable (look interpreter.old.workspace name) ≡ true) }
+    ensures room { is_shared_meaning (look interpreter.old.workspace name) ≡ false → OnWantOfMemory result (workspace_weight (assigned interpreter.old.workspace name value) ≤ most_weight) }
     ensures sound { IfOk result (IsFlow interpreter.new) }
     ensures within { IfOk result (StaysWithin interpreter.old e interpreter.new) }
 {

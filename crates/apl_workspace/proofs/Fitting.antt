@@ -1,11 +1,11 @@
 -- Whether a workspace keeps within its weight.
-use Rattle.std.proofs.Common.{◌≡◌, ◌≤◌, ◌+◌, ◌-◌, ℕ, List, reverse, sum_by, sym, ap, ◌∙◌, arith}
-use Rattle.std.specs.Prelude.{nat_le}
+use Rattle.std.proofs.Common.{◌≡◌, ◌≤◌, ◌+◌, ◌-◌, ℕ, List, Option, None, cond, reverse, sum_by, sym, ap, ◌∙◌, arith}
+use Rattle.std.specs.Prelude.{is_some, nat_le}
 use Rattle.apl_workspace.specs.declared.meaning.Meaning.{Meaning}
 use Rattle.apl_workspace.specs.declared.remake.Remake.{Remake}
 use Rattle.apl_workspace.specs.Limits.{most_weight}
 use Rattle.apl_workspace.specs.Meaning.{NameTable, table_weight, with_meaning}
-use Rattle.apl_workspace.specs.Workspace.{IsInnermostAt, PlainWorkspace, given, in_innermost, with_global, workspace_weight}
+use Rattle.apl_workspace.specs.Workspace.{IsInnermostAt, PlainWorkspace, given, in_innermost, innermost, with_global, workspace_weight}
 use Rattle.apl_workspace.proofs.Giving.{given_weight, with_frames}
 use Rattle.apl_workspace.proofs.Innermost.{least_left}
 
@@ -22,3 +22,7 @@ pub given_fit : (globals : NameTable) (offers : List Remake) (printed : ℕ) (fr
     → nat_le (sum_by table_weight (in_innermost (reverse frames) name meaning)) (most_weight - own) ≡ nat_le (workspace_weight (given w name meaning)) most_weight
 given_fit globals offers printed frames items name meaning at own w view e h o bound =
     least_left (sum_by table_weight (in_innermost (reverse frames) name meaning)) (workspace_weight (given w name meaning)) own most_weight bound (given_weight globals offers printed frames items name meaning at w view e h ∙ ap (λ (n : ℕ). n + sum_by table_weight (in_innermost (reverse frames) name meaning)) (sym o))
+
+-- a name that no frame has gets its value as a global
+pub given_global : (w : PlainWorkspace) (name : List ℕ) (meaning : Meaning) → innermost w.frames name ≡ None → given w name meaning ≡ with_global w name meaning
+given_global w name meaning none = ap (λ (found : Option Meaning). cond (is_some found) (record w { frames = in_innermost w.frames name meaning }) (with_global w name meaning)) none

@@ -1,4 +1,4 @@
-ghost use Rattle.std.specs.Prelude.{◌≡◌, ◌≤◌, ◌+◌, min, nat_le};
+ghost use Rattle.std.specs.Prelude.{◌≡◌, ◌≤◌, ◌+◌, Some, min, nat_le};
 ghost use Rattle.apl_workspace.specs.Limits.{most_weight};
 ghost use Rattle.apl_workspace.specs.Meaning.{meaning_weight};
 ghost use Rattle.apl_workspace.specs.Workspace.{assigned, with_global, workspace_weight};
@@ -33,5 +33,12 @@ impl Workspace {
     {
         let most = WEIGHT_LIMIT - self.frames_weight;
         self.globals.fits(name, weight, most)
+    }
+
+    /// Whether the workspace weighs no more than it may once a shared variable keeps this value as its copy. No memory.
+    pub fn takes_copy(&self, name: &Name, value: &Array) -> bool
+        ensures { result ≡ nat_le (workspace_weight (with_global self.now name.now (Meaning.Shared (Some value.now)))) most_weight }
+    {
+        self.has_room(name, value_weight(value))
     }
 }
