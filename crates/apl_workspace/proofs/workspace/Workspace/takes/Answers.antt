@@ -9,7 +9,7 @@ use Rattle.apl_workspace.proofs.Giving.{frames_counted}
 use Rattle.apl_workspace.proofs.workspace.Workspace.takes.Goals as goal
 
 pub fits_innermost-requires-clause-weight : goal.fits_innermost-requires-clause-weight
-fits_innermost-requires-clause-weight c = frames_counted _ _ _ c.self.invariant.counted c.deref-2.ensures.value
+fits_innermost-requires-clause-weight c = frames_counted _ _ _ c.self.invariant.counted c.deref-in-Some.ensures.value
 
 pub returns-in-None : goal.returns-in-None
 returns-in-None c =
@@ -21,6 +21,6 @@ returns-in-None c =
 pub returns-in-Some : goal.returns-in-Some
 returns-in-Some c =
     let name = c.args.name.now in
-    let place = subst (λ (all : List NameTable). IsInnermostAt all name c.in-Some.at) (c.deref.ensures.value ∙ sym c.deref-2.ensures.value) c.in-Some.ensures.place in
+    let place = subst (λ (all : List NameTable). IsInnermostAt all name c.in-Some.at) (c.deref.ensures.value ∙ sym c.deref-in-Some.ensures.value) c.in-Some.ensures.place in
     c.fits_innermost.ensures (Value c.args.value.now) c.value_weight.ensures
-    ∙ given_fit c.self.inside.globals c.self.inside.offers.items c.self.inside.printed c.deref-2.result.now c.self.inside.frames.items name (Value c.args.value.now) c.in-Some.at c.weight-most.result c.args.self.now c.self.view_is c.deref-2.ensures.value place c.weight-most.ensures.value c.weight-most.ensures.within
+    ∙ given_fit c.self.inside.globals c.self.inside.offers.items c.self.inside.printed c.deref-in-Some.result.now c.self.inside.frames.items name (Value c.args.value.now) c.in-Some.at c.weight-most.result c.args.self.now c.self.view_is c.deref-in-Some.ensures.value place c.weight-most.ensures.value c.weight-most.ensures.within
