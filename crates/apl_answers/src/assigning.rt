@@ -1,4 +1,4 @@
-ghost use Rattle.std.specs.Prelude.{◌≡◌, ◌≤◌, Some, true, false, IfOk, IsOk, unwrap_or};
+ghost use Rattle.std.specs.Prelude.{◌≡◌, ◌≢◌, ◌≤◌, Some, true, false, IfOk, IsOk, unwrap_or};
 ghost use Rattle.std.specs.Option.{option_copied};
 ghost use Rattle.apl_workspace.specs.Limits.{most_weight};
 ghost use Rattle.apl_workspace.specs.Meaning.{is_shared_meaning, shared_copy};
@@ -61,8 +61,36 @@ pub fn put(
 }
 
 /// Items of a name are replaced: its value with these items replaced is assigned to it. A shared name is used, and
-/// then set.
+/// then set. VALUE ERROR for a name that stands for nothing, also where there is no memory.
 pub fn assign_items(
+    interpreter: &mut Interpreter,
+    e: Evaluation,
+    name: Name,
+    places: &Places,
+) -> Result<Flow, Fail>
+    requires sound { IsCaller interpreter.old.workspace e }
+    ensures comes { Comes interpreter.old (part_takes interpreter.old e (λ values. items_step name (popped places.now.items values).subs (popped places.now.items values).values)) 0 interpreter.new result }
+    ensures memory { OnWantOfMemory result (look interpreter.old.workspace name ≢ meaning.Nothing) }
+    ensures sound { IfOk result (IsFlow interpreter.new) }
+    ensures within { IfOk result (StaysWithin interpreter.old e interpreter.new) }
+{
+    if stands_for_nothing(interpreter, &name) {
+        drop(e);
+        return Err(Fail::Report(Report::Value));
+    }
+    assign_there(interpreter, e, name, places)
+}
+
+// Whether a name stands for nothing.
+fn stands_for_nothing(interpreter: &Interpreter, name: &Name) -> bool
+    ensures nothing { result ≡ true → look interpreter.now.workspace name.now ≡ meaning.Nothing }
+    ensures other { result ≡ false → look interpreter.now.workspace name.now ≢ meaning.Nothing }
+{
+    matches!(interpreter.workspace.look(name), Seen::Nothing)
+}
+
+// The same, where the subscripts and the right side are taken first.
+fn assign_there(
     interpreter: &mut Interpreter,
     e: Evaluation,
     name: Name,
