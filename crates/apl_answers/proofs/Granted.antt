@@ -100,7 +100,7 @@ module _ {T : Type 0} where
 
   -- a copy was not kept, by whether it would fit
   pub renewed_not : (inside : Inside) (m : PlainInterpreter) (name : List ℕ) (value : PlainArray) (fits : Bool) → plain_interpreter inside ≡ m → IsWorkspace inside.workspace → is_shared_meaning (look m.workspace name) ≡ true
-      → fits ≡ nat_le (workspace_weight (renewed name value inside.workspace)) most_weight → HasDone m (with_copy name value) (plain_interpreter inside) (Err {A = T} (cond fits fail.WantOfMemory (fail.Report WsFull)))
+      → fits ≡ nat_le (workspace_weight (renewed name value inside.workspace)) most_weight → HasDone {T = T} m (with_copy name value) (plain_interpreter inside) (Err (cond fits fail.WantOfMemory (fail.Report WsFull)))
   renewed_not inside m name value true view rules shared is = tt
   renewed_not inside m name value false view rules shared is =
       renewed_done (Err (fail.Report WsFull)) inside m inside.workspace name value view rules shared tt refl tt (kept_heavy (renewed name value inside.workspace) is)
