@@ -16,11 +16,11 @@ returns-in-None c =
     let name = c.args.name.now in
     let none : innermost c.args.self.now.frames name ≡ None =
     ap (λ (w : PlainWorkspace). innermost w.frames name) (sym c.self.view_is) ∙ ap (λ (all : List NameTable). innermost (reverse all) name) (sym c.deref.ensures.value) ∙ c.in-None.ensures.place in
-    c.has_room.ensures (Value c.args.value.now) c.value_weight.ensures ∙ ap (λ (w : PlainWorkspace). nat_le (workspace_weight w) most_weight) (sym (given_global c.args.self.now name (Value c.args.value.now) none))
+    c.has_room.ensures (Value c.args.value.now) c.value_weight-weight.ensures ∙ ap (λ (w : PlainWorkspace). nat_le (workspace_weight w) most_weight) (sym (given_global c.args.self.now name (Value c.args.value.now) none))
 
 pub returns-in-Some : goal.returns-in-Some
 returns-in-Some c =
     let name = c.args.name.now in
     let place = subst (λ (all : List NameTable). IsInnermostAt all name c.in-Some.at) (c.deref.ensures.value ∙ sym c.deref-in-Some.ensures.value) c.in-Some.ensures.place in
-    c.fits_innermost.ensures (Value c.args.value.now) c.value_weight.ensures
+    c.fits_innermost.ensures (Value c.args.value.now) c.value_weight-weight.ensures
     ∙ given_fit c.self.inside.globals c.self.inside.offers.items c.self.inside.printed c.deref-in-Some.result.now c.self.inside.frames.items name (Value c.args.value.now) c.in-Some.at c.weight-most.result c.args.self.now c.self.view_is c.deref-in-Some.ensures.value place c.weight-most.ensures.value c.weight-most.ensures.within
