@@ -1,5 +1,5 @@
 -- Frames from the innermost outwards.
-use Rattle.std.proofs.Common.{◌≡◌, ℕ, suc, ◌+◌, ◌-◌, ◌<◌, ◌≤◌, Bool, true, false, cond, List, [], ◌∷◌, ◌++◌, Option, Some, None, length, take, drop, get_or, set, reverse, sum_by, refl, sym, ap, ◌∙◌, append_assoc, drop-cons, ⊎_elim, arith}
+use Rattle.std.proofs.Common.{◌≡◌, ℕ, suc, ◌+◌, ◌-◌, ◌<◌, ◌≤◌, true, false, cond, List, [], ◌∷◌, ◌++◌, Option, Some, None, length, take, drop, get_or, set, reverse, sum_by, refl, sym, ap, ◌∙◌, append_assoc, drop-cons, ⊎_elim, arith}
 use Rattle.std.specs.Prelude.{IsSome, is_some, nat_le}
 use Rattle.std.specs.Option.{option_or}
 use Rattle.std.proofs.lemmas.Bool.{cases_lt}
