@@ -1,5 +1,5 @@
 -- A query: what is wrong with it, and the act that it asks.
-use Rattle.std.proofs.Common.{◌≡◌, ℕ, suc, Bool, true, false, List, [], ◌∷◌, get_or, length, refl, sym, ap, ◌∙◌, arith}
+use Rattle.std.proofs.Common.{◌≡◌, ℕ, suc, Bool, true, false, List, [], ◌∷◌, get_or, length, refl, sym, ap, subst, ◌∙◌, arith}
 use Rattle.std.specs.Prelude.{◌==◌, ◌&&◌, ◌||◌, ℤ, pos, Option, Some, None, if◌then◌else◌, not, slice_get, unsigned_abs}
 use Rattle.std.specs.List.{list_any}
 use Rattle.std.proofs.lemmas.Bool.{eqb-true, false≢true}
@@ -8,7 +8,7 @@ use Rattle.apl_arrays.specs.declared.report.Report.{Report}
 use Rattle.apl_items.specs.Answers.{Faults, first_report}
 use Rattle.apl_items.specs.Extension.{number_at}
 use Rattle.apl_meaning.specs.Expressions.{Found, valued}
-use Rattle.apl_meaning.specs.Queries.{names_told, queries, query_by, query_faults}
+use Rattle.apl_meaning.specs.Queries.{names_told, parties_told, queries, query_by, query_faults}
 use Rattle.apl_meaning.specs.Sharing.{is_no_addressee, unless_wrong}
 use Rattle.apl_meaning.specs.State.{State, Outcome, refuses}
 use Rattle.apl_meaning.specs.Tasks.{Next}
@@ -18,9 +18,11 @@ use Rattle.apl_statements.specs.Evaluating.{caller_of}
 use Rattle.apl_statements.specs.Interpreter.{PlainInterpreter, here, state_at}
 use Rattle.apl_statements.specs.Moves.{part_gives}
 use Rattle.apl_statements.specs.Stack.{carried_on}
+use Rattle.apl_statements.specs.Wants.{IsNoReport, NoReportIsDue}
+use Rattle.apl_statements.proofs.Wants.{asked_no_report}
 use Rattle.apl_statements.proofs.Opened.{names_open, parties_open}
 use Rattle.apl_statements.proofs.Same.{SameAt}
-use Rattle.apl_acts.proofs.Tested.{NoFaults, nothing_wrong}
+use Rattle.apl_acts.proofs.Tested.{NoFaults, from_valued, nothing_wrong}
 
 -- a query where this is the first report of what is wrong
 query_where : (m : PlainInterpreter) (e : Evaluation) (b : PlainArray) (faults : Faults) (first : Option Report) → faults ≡ query_faults b → first_report faults ≡ first
@@ -83,3 +85,16 @@ query_parties m e b faults are is none asked count taken further =
     query_where m e b faults None are is asked count taken further
     ∙ ap (λ (x : Bool). found (valued (query_by x b s))) empty
     ∙ ap found (parties_open s)
+
+-- ---- a query that is not refused asks an act
+
+asks_free : (empty : Bool) (b : PlainArray) (s : State) → s.answers ≡ [] → IsNoReport (query_by empty b s)
+asks_free true b s none = from_valued (parties_told s) (subst (λ (o : Outcome Found). IsNoReport o) (sym (parties_open s)) (asked_no_report parties_asked s none))
+asks_free false b s none =
+    let party : ℕ = unsigned_abs (number_at (numbers_in b.items) 0) in
+    from_valued (names_told party s) (subst (λ (o : Outcome Found). IsNoReport o) (sym (names_open party s)) (asked_no_report (names_asked party) s none))
+
+pub query_free : (m : PlainInterpreter) (b : PlainArray) → first_report (query_faults b) ≡ None → NoReportIsDue m (queries b)
+query_free m b none asked count taken =
+    subst (λ (r : Option Report). IsNoReport (unless_wrong r (query_by (item_count b.items == 0) b) (state_at m asked count taken []))) (sym none)
+    (asks_free (item_count b.items == 0) b (state_at m asked count taken []) refl)

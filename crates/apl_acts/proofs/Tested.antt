@@ -1,5 +1,5 @@
 -- Rows of names that are tested before the first act, and done where nothing is wrong.
-use Rattle.std.proofs.Common.{◌≡◌, ℕ, zero, suc, ◌+◌, ◌*◌, ◌<◌, Bool, true, false, List, [], ◌∷◌, length, refl, sym, ap, ◌∙◌, arith}
+use Rattle.std.proofs.Common.{◌≡◌, ℕ, zero, suc, ◌+◌, ◌*◌, ◌<◌, Bool, true, false, List, [], ◌∷◌, length, refl, sym, ap, subst, ◌∙◌, arith}
 use Rattle.std.specs.Prelude.{◌||◌, Option, Some, None, Result, All, is_none, map, slice_index_or, if◌then◌else◌}
 use Rattle.std.specs.List.{cons_option, filter_map, list_any, range_with_len, zip}
 use Rattle.std.proofs.lemmas.Bool.{false≢true, or_parts}
@@ -20,7 +20,7 @@ use Rattle.apl_meaning.specs.Deeds.{Deed, offer, ask_degree, set_control, ask_co
 use Rattle.apl_meaning.specs.Expressions.{Found, valued}
 use Rattle.apl_meaning.specs.Naming.{Naming, has_rows, naming_count, naming_in, namings_of, result_shape, rows_of}
 use Rattle.apl_meaning.specs.Sharing.{rows_outcome, unless_wrong}
-use Rattle.apl_meaning.specs.State.{State, Outcome, gives, and_then}
+use Rattle.apl_meaning.specs.State.{State, Outcome, gives, refuses, asks, and_then}
 use Rattle.apl_values.specs.Rows.{MayBeDone, PlainRow, RowMayBeDone, count_told, is_offer, rest_of_rows, row_zeros}
 use Rattle.apl_values.proofs.NamingSteps.{is_unnamed, rows_count}
 use Rattle.apl_statements.specs.declared.evaluation.Evaluation.{Evaluation}
@@ -30,7 +30,9 @@ use Rattle.apl_statements.specs.Interpreter.{PlainInterpreter, here, state_at}
 use Rattle.apl_statements.specs.Moves.{Comes, part_gives}
 use Rattle.apl_statements.specs.Stack.{carried_on}
 use Rattle.apl_statements.proofs.Same.{comes_as}
+use Rattle.apl_statements.specs.Wants.{IsNoReport, NoReportIsDue}
 use Rattle.apl_statements.proofs.Steps.{grouped}
+use Rattle.apl_statements.proofs.Wants.{rows_no_report}
 
 -- ---- nothing is wrong
 
@@ -126,6 +128,18 @@ rows_done faults n each deeds rows s none are =
     ∙ grouped (done_for_all (zip (namings_of n) deeds) s) (λ numbers t. gives (number_array (result_shape n each) numbers) t) (λ v t. gives (Some v) t)
     ∙ ap (λ (list : List PlainRow). rest_of_rows [] list (result_shape n each) s) are
 
+-- what is found is a report where the array is
+pub from_valued : (o : Outcome PlainArray) → IsNoReport (valued o) → IsNoReport o
+from_valued (gives value s) free = tt
+from_valued (refuses report s) free = free
+from_valued (asks act s) free = tt
+
+-- where nothing is wrong, rows that are done give no report as long as no answer comes
+rows_free : (faults : Faults) (n : PlainArray) (each : List ℕ) (deeds : List Deed) (s : State) → first_report faults ≡ None → s.answers ≡ [] → IsNoReport (rows_outcome faults n each deeds s)
+rows_free faults n each deeds s none empty =
+    from_valued (rows_outcome faults n each deeds s)
+    (subst (λ (o : Outcome Found). IsNoReport o) (sym (rows_done faults n each deeds (zip (namings_of n) deeds) s none refl)) (rows_no_report [] (zip (namings_of n) deeds) (result_shape n each) s empty))
+
 -- what is tested and done, at each place where an interpreter is
 abbrev pub IsTested : PlainInterpreter → (State → Outcome PlainArray) → Faults → PlainArray → List ℕ → List Deed → Type 0
 IsTested m part faults n each deeds =
@@ -138,6 +152,10 @@ done_there m e part faults n each deeds rows r tested none are comes =
     comes_as m m (part_gives m e (λ s. valued (part s))) (part_gives m e (rest_of_rows [] rows (result_shape n each))) 0 r (λ asked count taken further.
     ap (λ (found : Outcome PlainArray). carried_on (valued found) (caller_of m.workspace (here m) e) m.stack) (tested asked count taken further)
     ∙ ap (λ (found : Outcome Found). carried_on found (caller_of m.workspace (here m) e) m.stack) (rows_done faults n each deeds rows (state_at m asked count taken further) none are)) comes
+
+pub free_there : (m : PlainInterpreter) (part : State → Outcome PlainArray) (faults : Faults) (n : PlainArray) (each : List ℕ) (deeds : List Deed) → IsTested m part faults n each deeds → first_report faults ≡ None → NoReportIsDue m part
+free_there m part faults n each deeds tested none asked count taken =
+    subst (λ (o : Outcome PlainArray). IsNoReport o) (sym (tested asked count taken [])) (rows_free faults n each deeds (state_at m asked count taken []) none refl)
 
 -- ---- rows that may be done
 

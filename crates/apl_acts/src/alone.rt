@@ -1,11 +1,12 @@
-ghost use Rattle.std.specs.Prelude.{◌≡◌, ◌∷◌, [], ℕ, true, IfOk, IfSome, List, OnErr, map};
+ghost use Rattle.std.specs.Prelude.{◌≡◌, ◌∷◌, [], ℕ, true, None, IfOk, IfSome, IsSome, List, OnErr, map};
 ghost use Rattle.apl_arrays.specs.Array.{plain_items};
 ghost use Rattle.apl_arrays.specs.Glyph.{left_arrow};
+ghost use Rattle.apl_items.specs.Places.{OnWantOfMemory};
 ghost use Rattle.line_scanner.specs.Token as plain;
 ghost use Rattle.line_scanner.specs.Token.{plain_kind, plain_token};
 ghost use Rattle.apl_workspace.specs.Meaning.{is_shared_meaning};
 ghost use Rattle.apl_workspace.specs.Workspace.{look};
-ghost use Rattle.apl_meaning.specs.Answers.{got, with_copy};
+ghost use Rattle.apl_meaning.specs.Answers.{got, report_of_kind, with_copy};
 ghost use Rattle.apl_meaning.specs.Printing.{value_printed};
 ghost use Rattle.apl_meaning.specs.State.{and_then};
 ghost use Rattle.sv_events.specs.Answer.{plain_answer};
@@ -123,7 +124,7 @@ fn array_of(alloc: Global, items: Items) -> Result<Option<Array>, WantOfMemory>
 
 /// Does what the answer to an act does that a line is alone: the own copy of the name is its value from then on, and the
 /// value of a use is printed. The lines that are printed go last in the output; the report by which the line ends is
-/// answered. It takes memory for the value and for the lines.
+/// answered; that of an answer which ends the line also where there is no memory. It takes memory for the value and the lines.
 pub fn hear_alone(
     alloc: Global,
     workspace: &mut Workspace,
@@ -133,6 +134,7 @@ pub fn hear_alone(
 ) -> Result<(), Fail>
     requires { IsOnShared workspace.old act.now }
     ensures led { HasLed workspace.old output.old.items (answer_outcome act.now (plain_answer answer)) workspace.new output.new.items result }
+    ensures memory { OnWantOfMemory result (report_of_kind (answer_row (plain_answer answer)).row.kind ≡ None) }
     ensures frames { workspace.new.frames ≡ workspace.old.frames }
 {
     if let Some(report) = report_of(answer.row().kind) {
@@ -155,6 +157,7 @@ fn hear_value(
 ) -> Result<(), Fail>
     requires { is_shared_meaning (look workspace.old name.now) ≡ true }
     ensures led { HasLed workspace.old output.old.items (λ s. and_then (got name.now (answer_row (plain_answer answer)).value s) value_printed) workspace.new output.new.items result }
+    ensures memory { OnWantOfMemory result (IsSome (answer_row (plain_answer answer)).value) }
     ensures frames { workspace.new.frames ≡ workspace.old.frames }
 {
     let value = value_in(answer)?;

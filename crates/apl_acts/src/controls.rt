@@ -1,12 +1,14 @@
 ghost use Rattle.std.specs.Cmp.Lexicographic.{pointwise};
 ghost use Rattle.std.specs.List.{list_any};
 ghost use Rattle.std.specs.Prelude.{◌≡◌, ◌<◌, ◌+◌, ◌==◌, ◌∷◌, [], IfOk, map, length, not};
+ghost use Rattle.apl_items.specs.Places.{OnWantOfMemory};
 ghost use Rattle.apl_meaning.specs.Expressions.{valued};
 ghost use Rattle.apl_meaning.specs.Sharing.{are_controls, control_faults, controls};
 ghost use Rattle.apl_scalar.specs.Table.{is_truth};
 ghost use Rattle.apl_values.specs.Rows.{plain_naming, plain_row};
 ghost use Rattle.apl_statements.specs.Moves.{Comes, part_gives};
 ghost use Rattle.apl_statements.specs.Sound.{IsCaller, IsFlow};
+ghost use Rattle.apl_statements.specs.Wants.{NoReportIsDue};
 ghost use Rattle.apl_statements.specs.Work.{StaysWithin};
 ghost use Rattle.apl_acts.specs.Faults.{AreElements, control_in, element_in, plain_faults, settings_of};
 
@@ -17,31 +19,32 @@ use apl_values::{Deed, Naming, Row, naming_count, namings_of};
 use std::alloc::Global;
 use sv_access::Control;
 
-/// C ⎕SVC N: each row's control is set, and the result is the one in force.
+/// C ⎕SVC N: each row's control is set, and the result is the one in force. A report comes also where there is no memory.
 pub fn control(interpreter: &Interpreter, e: Evaluation, c: &Array, n: &Array) -> Result<Flow, Fail>
     requires sound { IsCaller interpreter.now.workspace e }
     ensures comes { Comes interpreter.now (part_gives interpreter.now e (λ s. valued (controls c.now n.now s))) 0 interpreter.now result }
+    ensures memory { OnWantOfMemory result (NoReportIsDue interpreter.now (controls c.now n.now)) }
     ensures sound { IfOk result (IsFlow interpreter.now) }
     ensures within { IfOk result (StaysWithin interpreter.now e interpreter.now) }
 {
-    refuse(control_wrong(interpreter.alloc, c, n)?)?;
+    refuse(control_wrong(c, n))?;
     let namings = namings_of(interpreter.alloc, n)?;
     let rows = settings(interpreter.alloc, c.items().numbers(), namings)?;
     do_rows(interpreter, e, rows, n, &[4])
 }
 
 // What is wrong with controls and the names that get them.
-fn control_wrong(alloc: Global, c: &Array, n: &Array) -> Result<Wrong, WantOfMemory>
-    ensures { IfOk result (λ wrong. plain_faults wrong ≡ control_faults c.now n.now) }
+fn control_wrong(c: &Array, n: &Array) -> Wrong
+    ensures { plain_faults result ≡ control_faults c.now n.now }
 {
-    let wrong = naming_wrong(alloc, n, &[4])?;
+    let wrong = naming_wrong(n, &[4]);
     let fit = are_controls(c, n);
-    Ok(Wrong {
+    Wrong {
         rank: wrong.rank || (!fit && c.shape().len() > 2),
         length: !fit,
         domain: wrong.domain || c.is_chars() || some_untruth(c.numbers()),
         ..wrong
-    })
+    }
 }
 
 // Whether a number is neither 0 nor 1.

@@ -1,8 +1,10 @@
-ghost use Rattle.std.specs.Prelude.{◌≡◌, Some, None, false, [], All, IfErr, IfOk, IfSome, OnOk, length, map, option_map};
+ghost use Rattle.std.specs.Prelude.{◌≡◌, ◌<◌, Some, None, false, [], All, IfErr, IfOk, IfSome, OnOk, length, map, option_map};
 ghost use Rattle.std.specs.List.{list_any};
 ghost use Rattle.apl_arrays.specs.Array.{FitsLimits, element_count};
+ghost use Rattle.apl_arrays.specs.Limits.{most_axes};
 ghost use Rattle.apl_arrays.specs.declared.system.SystemName.TheVariants.{Svc, Svo};
 ghost use Rattle.apl_items.specs.Answers.{first_report};
+ghost use Rattle.apl_items.specs.Places.{OnWantOfMemory};
 ghost use Rattle.apl_meaning.specs.Expressions.{valued};
 ghost use Rattle.apl_meaning.specs.Naming.{naming_faults, namings_of, result_shape};
 ghost use Rattle.apl_meaning.specs.Queries.{system_outcome};
@@ -12,17 +14,20 @@ ghost use Rattle.apl_values.specs.Values.{IsHeld, held_value};
 ghost use Rattle.apl_statements.specs.Moves.{Comes, part_gives};
 ghost use Rattle.apl_statements.specs.Sound.{IsCaller, IsFlow};
 ghost use Rattle.apl_statements.specs.Holding.{parts_of};
+ghost use Rattle.apl_statements.specs.Wants.{NoReportIsDue};
 ghost use Rattle.apl_statements.specs.Work.{StaysWithin};
 ghost use Rattle.apl_acts.specs.Faults.{IsOneOrAsMany, offers_of, plain_faults};
 
 use crate::controls::control;
 use crate::queries::query;
-use apl_arrays::{Array, Fail, LAST_USER, Report, SystemName, WantOfMemory, shape_fault};
-use apl_statements::{Evaluation, Flow, Interpreter};
-use apl_values::{
-    Deed, Held, Naming, Row, Rows, names_all, naming_count, namings_of, result_shape,
+use apl_arrays::{
+    Array, Fail, LAST_USER, RANK_LIMIT, Report, SystemName, WantOfMemory, shape_fault,
 };
+use apl_items::joined_shape;
+use apl_statements::{Evaluation, Flow, Interpreter};
+use apl_values::{Deed, Held, Naming, Row, Rows, names_all, naming_count, namings_of};
 use apl_workspace::{Seen, Workspace, is_addressee};
+use arrayvec::ArrayVec;
 use std::alloc::Global;
 
 /// What is wrong with the arguments of a shared variable function. The first report counts: RANK, LENGTH, DOMAIN, WS FULL.
@@ -53,17 +58,30 @@ impl Wrong {
     }
 }
 
-/// What is wrong with rows of names, where the result of a row has this shape. It takes memory for the shape of all.
-pub fn naming_wrong(alloc: Global, n: &Array, each: &[u32]) -> Result<Wrong, WantOfMemory>
-    ensures { IfOk result (λ wrong. plain_faults wrong ≡ naming_faults n.now each.now) }
+/// What is wrong with rows of names, where the result of a row has this shape. No memory.
+pub fn naming_wrong(n: &Array, each: &[u32]) -> Wrong
+    requires { length each.now < most_axes }
+    ensures { plain_faults result ≡ naming_faults n.now each.now }
 {
-    let shape = result_shape(alloc, n, each)?;
-    Ok(Wrong {
+    let shape = result_shape(n, each);
+    Wrong {
         rank: n.shape().len() > 2,
         length: false,
         domain: !n.is_chars() || !names_all(n),
-        too_large: shape_fault(&shape).is_some(),
-    })
+        too_large: shape_fault(shape.as_slice()).is_some(),
+    }
+}
+
+// The shape of the result of all rows, where a row's has this one.
+fn result_shape(n: &Array, each: &[u32]) -> ArrayVec<u32, RANK_LIMIT>
+    requires { length each.now < most_axes }
+    ensures { result.items ≡ result_shape n.now each.now }
+{
+    if n.shape().len() == 2 {
+        joined_shape(&[n.shape()[0]], each)
+    } else {
+        joined_shape(&[], each)
+    }
 }
 
 /// A system function of its arguments.
@@ -135,7 +153,7 @@ fn control_or_ask(
     }
 }
 
-// The same is done for each row.
+// The same is done for each row. A report comes also where there is no memory.
 fn plain_rows(
     interpreter: &Interpreter,
     e: Evaluation,
@@ -147,11 +165,13 @@ fn plain_rows(
     requires plain { is_offer (plain_deed deed) ≡ false }
     requires each { element_count each.now ≡ length (row_zeros (plain_deed deed)) }
     requires small { FitsLimits each.now }
+    requires few { length each.now < most_axes }
     ensures comes { Comes interpreter.now (part_gives interpreter.now e (λ s. valued (plain_rows n.now each.now (plain_deed deed) s))) 0 interpreter.now result }
+    ensures memory { OnWantOfMemory result (NoReportIsDue interpreter.now (plain_rows n.now each.now (plain_deed deed))) }
     ensures sound { IfOk result (IsFlow interpreter.now) }
     ensures within { IfOk result (StaysWithin interpreter.now e interpreter.now) }
 {
-    refuse(naming_wrong(interpreter.alloc, n, each)?)?;
+    refuse(naming_wrong(n, each))?;
     let namings = namings_of(interpreter.alloc, n)?;
     let rows = same_rows(interpreter.alloc, namings, deed)?;
     do_rows(interpreter, e, rows, n, each)
@@ -165,7 +185,7 @@ fn offer(interpreter: &Interpreter, e: Evaluation, p: &Array, n: &Array) -> Resu
     ensures within { IfOk result (StaysWithin interpreter.now e interpreter.now) }
 {
     let namings = namings_of(interpreter.alloc, n)?;
-    refuse(offer_wrong(interpreter.alloc, &interpreter.workspace, p, n, &namings)?)?;
+    refuse(offer_wrong(&interpreter.workspace, p, n, &namings))?;
     let rows = offers(interpreter.alloc, p.numbers(), namings)?;
     do_rows(interpreter, e, rows, n, &[])
 }
@@ -202,19 +222,13 @@ pub fn do_rows(
 }
 
 // What is wrong with the parties and the names of an offer, where these are the names of its rows.
-fn offer_wrong(
-    alloc: Global,
-    workspace: &Workspace,
-    p: &Array,
-    n: &Array,
-    namings: &[Naming],
-) -> Result<Wrong, WantOfMemory>
+fn offer_wrong(workspace: &Workspace, p: &Array, n: &Array, namings: &[Naming]) -> Wrong
     requires { map plain_naming namings.now ≡ namings_of n.now }
-    ensures { IfOk result (λ wrong. plain_faults wrong ≡ offer_faults workspace.now p.now n.now) }
+    ensures { plain_faults result ≡ offer_faults workspace.now p.now n.now }
 {
-    let wrong = naming_wrong(alloc, n, &[])?;
+    let wrong = naming_wrong(n, &[]);
     let count = p.items().len();
-    Ok(Wrong {
+    Wrong {
         rank: wrong.rank || p.shape().len() > 1,
         length: count != 1 && count != naming_count(n),
         domain: wrong.domain
@@ -222,7 +236,7 @@ fn offer_wrong(
             || some_no_addressee(p.numbers())
             || some_not_offered(workspace, namings),
         ..wrong
-    })
+    }
 }
 
 // Whether a number is no party that an offer may be made to.

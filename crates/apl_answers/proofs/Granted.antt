@@ -1,6 +1,6 @@
 -- What a call does that changes the workspace where it is granted.
-use Rattle.std.proofs.Common.{◌≡◌, ◌≤◌, ℕ, Bool, true, false, List, refl, sym, ap, subst, ◌∙◌}
-use Rattle.std.specs.Prelude.{Option, Some, Result, Ok, Err, IfErr, OnErr, OnOk}
+use Rattle.std.proofs.Common.{◌≡◌, ◌≤◌, ℕ, Bool, true, false, cond, List, refl, sym, ap, subst, ◌∙◌}
+use Rattle.std.specs.Prelude.{Option, Some, Result, Ok, Err, IfErr, OnErr, OnOk, nat_le}
 use Rattle.apl_arrays.specs.Array.{PlainArray}
 use Rattle.apl_arrays.specs.declared.report.Fail.{Fail}
 use Rattle.apl_arrays.specs.declared.report.Fail.TheVariants as fail
@@ -26,6 +26,7 @@ use Rattle.apl_statements.proofs.Renewing.{changed, not_changed, seen_if_err, se
 use Rattle.apl_answers.proofs.Brings.{assignment_does, assignment_refuses, renewed_value}
 use Rattle.apl_answers.proofs.KeptByValue.{assigned_keeps_functions}
 use Rattle.apl_answers.proofs.Shares.{share_keeps_functions}
+use Rattle.apl_answers.proofs.Wanting.{kept_heavy}
 
 -- the workspace of an interpreter keeps its rules
 pub inside_rules : (inside : Inside) (m : PlainInterpreter) → plain_interpreter inside ≡ m → IsWorkspace m.workspace → IsWorkspace inside.workspace
@@ -96,6 +97,13 @@ module _ {T : Type 0} where
       subst (λ (x : PlainInterpreter). HasDone x (with_copy name value) after r) view
       (copy_done r before after name value
       (seen_if_ok r inside before u (renewed name value) refl ok (whenever r (renewed_keeps inside.workspace name value rules (inside_shared inside m name view shared)))) (seen_if_err r inside before u refl err) fits full)
+
+  -- a copy was not kept, by whether it would fit
+  pub renewed_not : (inside : Inside) (m : PlainInterpreter) (name : List ℕ) (value : PlainArray) (fits : Bool) → plain_interpreter inside ≡ m → IsWorkspace inside.workspace → is_shared_meaning (look m.workspace name) ≡ true
+      → fits ≡ nat_le (workspace_weight (renewed name value inside.workspace)) most_weight → HasDone {T = T} m (with_copy name value) (plain_interpreter inside) (Err (cond fits fail.WantOfMemory (fail.Report WsFull)))
+  renewed_not inside m name value true view rules shared is = tt
+  renewed_not inside m name value false view rules shared is =
+      renewed_done (Err (fail.Report WsFull)) inside m inside.workspace name value view rules shared tt refl tt (kept_heavy (renewed name value inside.workspace) is)
 
   pub renewed_looks : (r : Result T Fail) (w u : PlainWorkspace) (name : List ℕ) (value : PlainArray) → IsWorkspace w → is_shared_meaning (look w name) ≡ true → OnOk r (u ≡ renewed name value w) → OnOk r (look u name ≡ meaning.Shared (Some value))
   renewed_looks (Ok done) w u name value rules shared ok = ap (λ (x : PlainWorkspace). look x name) ok ∙ renewed_value w name value rules shared

@@ -8,3 +8,4 @@ pub mod KeptByValue
 pub mod Listing
 pub mod Replacing
 pub mod Shares
+pub mod Wanting

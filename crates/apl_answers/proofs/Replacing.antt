@@ -1,24 +1,26 @@
 -- Items of a value are replaced, and values that were got.
-use Rattle.std.proofs.Common.{◌≡◌, ℕ, List, ◌∷◌, ap, ◌∙◌}
+use Rattle.std.proofs.Common.{◌≡◌, ℕ, List, [], ◌∷◌, refl, ap, ◌∙◌}
 use Rattle.std.specs.Prelude.{Option, Some, Ok, Err}
 use Rattle.apl_arrays.specs.Array.{PlainArray}
 use Rattle.apl_arrays.specs.declared.report.Fail.{Fail}
 use Rattle.apl_arrays.specs.declared.report.Fail.TheVariants as fail
+use Rattle.apl_arrays.specs.declared.report.Report.TheVariants.{Value}
 use Rattle.apl_items.specs.Answers.{Answer, Answers}
 use Rattle.apl_selection.specs.Assignment.{assign_of}
 use Rattle.apl_workspace.specs.Workspace.{look}
+use Rattle.apl_workspace.specs.declared.meaning.Meaning.{Meaning}
 use Rattle.apl_workspace.specs.declared.meaning.Meaning.TheVariants as meaning
 use Rattle.apl_meaning.specs.Answers.{got, with_copy}
 use Rattle.apl_meaning.specs.Expressions.{Found, valued}
-use Rattle.apl_meaning.specs.Nodes.{items_step, popped}
+use Rattle.apl_meaning.specs.Nodes.{Values, items_step, leaving_values, popped}
 use Rattle.apl_meaning.specs.State.{State, Outcome, gives, refuses, and_then, outcome_of}
 use Rattle.apl_meaning.specs.Variables.{assignment}
 use Rattle.apl_values.specs.Pending.{asked_for, assigned_giving, replaced, replaces}
 use Rattle.apl_statements.specs.declared.evaluation.Evaluation.{Evaluation}
-use Rattle.apl_statements.specs.Evaluating.{caller_of}
+use Rattle.apl_statements.specs.Evaluating.{caller_of, evaluation_of}
 use Rattle.apl_statements.specs.Interpreter.{PlainInterpreter, here, state_at}
 use Rattle.apl_statements.specs.Moves.{Comes, part_gives, part_takes}
-use Rattle.apl_statements.specs.Stack.{carried_on}
+use Rattle.apl_statements.specs.Stack.{carried_on, onward}
 use Rattle.apl_statements.specs.Holding.{held_values}
 use Rattle.apl_statements.proofs.Opened.{use_opens}
 use Rattle.apl_statements.proofs.Same.{SameAt, at_once}
@@ -61,3 +63,18 @@ got_as m e name found value is asked count taken further =
     let s : State = state_at m asked count taken further in
     ap (λ (o : Option PlainArray). carried_on (valued (got name o s)) (caller_of m.workspace (here m) e) m.stack) is
     ∙ ap (λ (o : Outcome Found). carried_on o (caller_of m.workspace (here m) e) m.stack) (grouped (with_copy name value s) (λ _ t. gives value t) (λ v t. gives (Some v) t))
+
+-- ---- items of a name that stands for nothing
+
+step_of_nothing : (name : List ℕ) (subs : List (Option PlainArray)) (values : List PlainArray) (s : State) → look s.workspace name ≡ meaning.Nothing → items_step name subs values s ≡ refuses Value s
+step_of_nothing name subs [] s is = refl
+step_of_nothing name subs (right ∷ values) s is = ap (λ (seen : Meaning). leaving_values values (items_where seen name subs right s)) is
+
+-- the line ends, whatever the values are
+pub items_of_nothing : (m : PlainInterpreter) (e : Evaluation) (name : List ℕ) (places : List (Option ℕ)) → look m.workspace name ≡ meaning.Nothing
+    → Comes m (part_takes m e (λ values. items_step name (popped places values).subs (popped places values).values)) 0 m (Err (fail.Report Value))
+items_of_nothing m e name places is =
+    at_once m (part_takes m e (λ values. items_step name (popped places values).subs (popped places values).values)) (λ s. refuses Value s) (λ asked count taken further.
+    let all : List PlainArray = held_values m.workspace e in
+    ap (λ (o : Outcome Values). and_then o (λ values t. onward (record (evaluation_of m.workspace e) { values = values }) m.stack t))
+    (step_of_nothing name (popped places all).subs (popped places all).values (state_at m asked count taken further) is))

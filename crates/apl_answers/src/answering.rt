@@ -1,9 +1,14 @@
-ghost use Rattle.std.specs.Prelude.{◌≡◌, ◌≢◌, [], Some, true, IfErr, IfOk, OnOk, length, slice_get, unwrap_or};
+ghost use Rattle.std.specs.Prelude.{◌≡◌, ◌≢◌, ◌≤◌, [], Some, None, true, IfErr, IfOk, IsSome, OnOk, length, slice_get, unwrap_or};
 ghost use Rattle.apl_arrays.specs.declared.report.Fail.TheVariants as fail;
+ghost use Rattle.apl_items.specs.Places.{OnWantOfMemory};
+ghost use Rattle.apl_meaning.specs.Answers.{report_of_kind};
 ghost use Rattle.sv_events.specs.Answer.{granted, plain_answer};
 ghost use Rattle.sv_events.specs.Row.{answer_row};
+ghost use Rattle.apl_arrays.specs.Array.{PlainArray};
+ghost use Rattle.apl_workspace.specs.Limits.{most_weight};
 ghost use Rattle.apl_workspace.specs.Meaning.{is_shared_meaning};
-ghost use Rattle.apl_workspace.specs.Workspace.{look};
+ghost use Rattle.apl_workspace.specs.Workspace.{look, with_global, workspace_weight};
+ghost use Rattle.apl_workspace.specs.declared.meaning.Meaning.TheVariants as meaning;
 ghost use Rattle.apl_values.specs.Pending.{IsPending, brought, brought_by, plain_pending, refers, replaces, sets};
 ghost use Rattle.apl_values.specs.Rows.{AreRows, FirstAsksAct, HasTold, RowMayBeDone, asks_act, plain_deed, plain_naming, plain_row, row_done, row_numbers, row_zeros, rows_brought, rows_left};
 ghost use Rattle.apl_statements.specs.Moves.{Comes, part_gives};
@@ -20,7 +25,7 @@ use apl_values::{Deed, Held, Naming, Pending, Row, Rows, report_of, value_in};
 use sv_access::Control;
 use sv_events::{Answer, copy_value};
 
-/// What an answer brings: it ends the line by a report, or the statement that asked goes on.
+/// What an answer brings: it ends the line by a report, also where there is no memory, or the statement that asked goes on.
 pub fn bring(
     interpreter: &mut Interpreter,
     answer: Answer,
@@ -30,6 +35,7 @@ pub fn bring(
     requires sound { IsCaller interpreter.old.workspace e }
     requires pending { IsPending interpreter.old.workspace pending }
     ensures comes { Comes interpreter.old (part_gives interpreter.old e (brought_by (plain_answer answer) (plain_pending pending))) 0 interpreter.new result }
+    ensures memory { OnWantOfMemory result (report_of_kind (answer_row (plain_answer answer)).row.kind ≡ None) }
     ensures sound { IfOk result (IsFlow interpreter.new) }
     ensures within { IfOk result (StaysWithin interpreter.old e interpreter.new) }
 {
@@ -48,7 +54,8 @@ pub fn bring(
     }
 }
 
-// The value of a use: it is the own copy too.
+// The value of a use: it is the own copy too. WS FULL where the workspace would weigh too much with it, also where there is
+// no memory.
 fn bring_value(
     interpreter: &mut Interpreter,
     e: Evaluation,
@@ -58,6 +65,8 @@ fn bring_value(
     requires sound { IsCaller interpreter.old.workspace e }
     requires seen { is_shared_meaning (look interpreter.old.workspace name) ≡ true }
     ensures comes { Comes interpreter.old (part_gives interpreter.old e (brought (refers name) (plain_answer answer))) 0 interpreter.new result }
+    ensures memory { OnWantOfMemory result (IsSome (answer_row (plain_answer answer)).value) }
+    ensures room { (value : PlainArray) → (answer_row (plain_answer answer)).value ≡ Some value → OnWantOfMemory result (workspace_weight (with_global interpreter.old.workspace name (meaning.Shared (Some value))) ≤ most_weight) }
     ensures sound { IfOk result (IsFlow interpreter.new) }
     ensures within { IfOk result (StaysWithin interpreter.old e interpreter.new) }
 {
@@ -78,6 +87,7 @@ fn bring_items(
     requires sound { IsCaller interpreter.old.workspace e }
     requires seen { is_shared_meaning (look interpreter.old.workspace name) ≡ true }
     ensures comes { Comes interpreter.old (part_gives interpreter.old e (brought (replaces name subs.items right) (plain_answer answer))) 0 interpreter.new result }
+    ensures memory { OnWantOfMemory result (IsSome (answer_row (plain_answer answer)).value) }
     ensures sound { IfOk result (IsFlow interpreter.new) }
     ensures within { IfOk result (StaysWithin interpreter.old e interpreter.new) }
 {

@@ -1,9 +1,12 @@
-ghost use Rattle.std.specs.Prelude.{◌≡◌, Some, true, IfOk, unwrap_or};
+ghost use Rattle.std.specs.Prelude.{◌≡◌, ◌≢◌, ◌≤◌, Some, true, false, IfOk, IsOk, unwrap_or};
 ghost use Rattle.std.specs.Option.{option_copied};
+ghost use Rattle.apl_workspace.specs.Limits.{most_weight};
 ghost use Rattle.apl_workspace.specs.Meaning.{is_shared_meaning, shared_copy};
-ghost use Rattle.apl_workspace.specs.Workspace.{look};
+ghost use Rattle.apl_workspace.specs.Workspace.{assigned, is_assignable, look, workspace_weight};
 ghost use Rattle.apl_workspace.specs.declared.meaning.Meaning.TheVariants as meaning;
 ghost use Rattle.apl_arrays.specs.Array.{PlainArray};
+ghost use Rattle.apl_items.specs.Places.{OnWantOfMemory};
+ghost use Rattle.apl_selection.specs.Assignment.{assign_of};
 ghost use Rattle.apl_meaning.specs.Nodes.{assign_step, items_step, popped};
 ghost use Rattle.apl_values.specs.Pending.{assigned_giving, replaced};
 ghost use Rattle.apl_statements.specs.Moves.{Comes, part_gives, part_takes};
@@ -33,7 +36,8 @@ pub fn assign(interpreter: &mut Interpreter, e: Evaluation, name: Name) -> Resul
     put(interpreter, e, name, right, None)
 }
 
-/// A name gets a value; what the assignment gives is another value where there is one.
+/// A name gets a value; what the assignment gives is another value where there is one. SYNTAX ERROR for a label or a function,
+/// and WS FULL where the workspace would weigh too much with the value, each also where there is no memory.
 pub fn put(
     interpreter: &mut Interpreter,
     e: Evaluation,
@@ -43,6 +47,8 @@ pub fn put(
 ) -> Result<Flow, Fail>
     requires sound { IsCaller interpreter.old.workspace e }
     ensures comes { Comes interpreter.old (part_gives interpreter.old e (assigned_giving name value (unwrap_or gives value))) 0 interpreter.new result }
+    ensures memory { OnWantOfMemory result (is_assignable (look interpreter.old.workspace name) ≡ true) }
+    ensures room { is_shared_meaning (look interpreter.old.workspace name) ≡ false → OnWantOfMemory result (workspace_weight (assigned interpreter.old.workspace name value) ≤ most_weight) }
     ensures sound { IfOk result (IsFlow interpreter.new) }
     ensures within { IfOk result (StaysWithin interpreter.old e interpreter.new) }
 {
@@ -55,8 +61,36 @@ pub fn put(
 }
 
 /// Items of a name are replaced: its value with these items replaced is assigned to it. A shared name is used, and
-/// then set.
+/// then set. VALUE ERROR for a name that stands for nothing, also where there is no memory.
 pub fn assign_items(
+    interpreter: &mut Interpreter,
+    e: Evaluation,
+    name: Name,
+    places: &Places,
+) -> Result<Flow, Fail>
+    requires sound { IsCaller interpreter.old.workspace e }
+    ensures comes { Comes interpreter.old (part_takes interpreter.old e (λ values. items_step name (popped places.now.items values).subs (popped places.now.items values).values)) 0 interpreter.new result }
+    ensures memory { OnWantOfMemory result (look interpreter.old.workspace name ≢ meaning.Nothing) }
+    ensures sound { IfOk result (IsFlow interpreter.new) }
+    ensures within { IfOk result (StaysWithin interpreter.old e interpreter.new) }
+{
+    if stands_for_nothing(interpreter, &name) {
+        drop(e);
+        return Err(Fail::Report(Report::Value));
+    }
+    assign_there(interpreter, e, name, places)
+}
+
+// Whether a name stands for nothing.
+fn stands_for_nothing(interpreter: &Interpreter, name: &Name) -> bool
+    ensures nothing { result ≡ true → look interpreter.now.workspace name.now ≡ meaning.Nothing }
+    ensures other { result ≡ false → look interpreter.now.workspace name.now ≢ meaning.Nothing }
+{
+    matches!(interpreter.workspace.look(name), Seen::Nothing)
+}
+
+// The same, where the subscripts and the right side are taken first.
+fn assign_there(
     interpreter: &mut Interpreter,
     e: Evaluation,
     name: Name,
@@ -82,7 +116,8 @@ pub fn assign_items(
     }
 }
 
-/// Items of a shared name are replaced behind its use, and the name is set.
+/// Items of a shared name are replaced behind its use, and the name is set. A report of the replacement comes also where there
+/// is no memory.
 pub fn replace_items(
     interpreter: &mut Interpreter,
     e: Evaluation,
@@ -93,6 +128,7 @@ pub fn replace_items(
     requires sound { IsCaller interpreter.old.workspace e }
     requires seen { is_shared_meaning (look interpreter.old.workspace name) ≡ true }
     ensures comes { (old : PlainArray) → look interpreter.old.workspace name ≡ meaning.Shared (Some old) → Comes interpreter.old (part_gives interpreter.old e (replaced name subs.items right old)) 0 interpreter.new result }
+    ensures memory { (old : PlainArray) → look interpreter.old.workspace name ≡ meaning.Shared (Some old) → OnWantOfMemory result (IsOk (assign_of old subs.items right)) }
     ensures sound { IfOk result (IsFlow interpreter.new) }
     ensures within { IfOk result (StaysWithin interpreter.old e interpreter.new) }
 {

@@ -1,7 +1,8 @@
 -- A call enters a function: its frame stands before the others, and the statement that called it waits.
-use Rattle.std.proofs.Common.{◌≡◌, ℕ, ◌<◌, ◌≤◌, Bool, true, false, List, ◌∷◌, length, refl, sym, ap, ◌∙◌, leb}
+use Rattle.std.proofs.Common.{◌≡◌, ℕ, ◌<◌, ◌≤◌, Bool, true, false, List, ◌∷◌, length, refl, sym, ap, ◌∙◌, leb, arith}
 use Rattle.std.specs.Prelude.{is_some, map, if◌then◌else◌}
 use Rattle.std.proofs.lemmas.Bool.{and_parts, false≢true, le-leb}
+use Rattle.std.proofs.lemmas.Bool.Decides.{nat_tests}
 use Rattle.apl_arrays.specs.declared.report.Report.TheVariants.{WsFull}
 use Rattle.apl_workspace.specs.Frame.{AreArgumentsOf}
 use Rattle.apl_workspace.specs.Function.{PlainFunction}
@@ -11,7 +12,7 @@ use Rattle.apl_workspace.specs.Workspace.{AreArgumentsFor, PlainWorkspace, empty
 use Rattle.apl_workspace.specs.declared.args.Args.{Args}
 use Rattle.apl_workspace.specs.declared.meaning.Meaning.{Meaning}
 use Rattle.apl_workspace.specs.declared.meaning.Meaning.TheVariants as meaning
-use Rattle.apl_meaning.specs.State.{State, Outcome, gives, refuses, and_then}
+use Rattle.apl_meaning.specs.State.{State, Outcome, gives, refuses, and_then, with_workspace}
 use Rattle.apl_meaning.specs.Tasks.{Next}
 use Rattle.apl_meaning.specs.Calls.{call, entering, takes}
 use Rattle.apl_meaning.specs.Verbs.{both_or_neither}
@@ -24,7 +25,7 @@ use Rattle.apl_statements.specs.Moves.{Does, Moves, part_gives}
 use Rattle.apl_statements.specs.Stack.{PlainCaller, PlainWaiting, at_line, from_line, onward_lines}
 use Rattle.apl_statements.specs.Holding.{IsWithValues}
 use Rattle.apl_statements.proofs.Renewing.{above, settled_caller}
-use Rattle.apl_statements.proofs.Same.{SameAt, behind_done, moves_as, moves_then}
+use Rattle.apl_statements.proofs.Same.{SameAt, at_once, behind_done, moves_as, moves_then}
 use Rattle.apl_statements.proofs.Steps.{call_enters}
 
 -- one that is
@@ -88,3 +89,18 @@ pub settled_enters : (m n : PlainInterpreter) (before e : Evaluation) (name : Li
 settled_enters m n before e name args takes with done stacked =
     let is = takes_function (look m.workspace name) args takes in
     enters_at_line m n before name args (function_by (look m.workspace name)) (caller_of empty_workspace (here m) e) is.0 is.1 done stacked (settled_caller m.workspace empty_workspace (here m) before e with)
+
+-- where as many functions are under way as may be it is not entered
+pub too_deep : (m : PlainInterpreter) (e : Evaluation) (name : List ℕ) (args : Args) → takes_by (look m.workspace name) args ≡ true → leb most_depth (length m.workspace.frames) ≡ true
+    → Moves m (part_gives m e (λ s. call ran name args s)) 0 m (λ s. refuses WsFull s)
+too_deep m e name args takes deep =
+    let is = takes_function (look m.workspace name) args takes in
+    let function : PlainFunction = function_by (look m.workspace name) in
+    let rest : State → Outcome Next = λ t. onward_lines function 1 (caller_of m.workspace (here m) e) m.stack t in
+    moves_as m m (part_gives m e (λ s. call ran name args s)) (λ s. and_then (entering name args s) (λ _ t. rest t)) (λ s. refuses WsFull s) 0 (call_is_to_enter m e name args function is.0 is.1)
+    (at_once m (λ s. and_then (entering name args s) (λ _ t. rest t)) (λ s. refuses WsFull s) (λ asked count taken further.
+    let s : State = state_at m asked count taken further in
+    ap (λ (b : Bool). and_then (if b then refuses WsFull s else with_workspace (with_frame m.workspace name args) s) (λ _ t. rest t)) deep))
+
+pub shallow : (most n : ℕ) → leb most n ≡ false → n < most
+shallow most n e = grind (arith, nat_tests)

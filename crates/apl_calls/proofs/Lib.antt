@@ -8,3 +8,4 @@ pub mod Keeping
 pub mod Leaving
 pub mod Left
 pub mod Lines
+pub mod Looks

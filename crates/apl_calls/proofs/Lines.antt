@@ -15,6 +15,7 @@ use Rattle.apl_statements.specs.Stack.{PlainWaiting, at_line, behind, from_end, 
 use Rattle.apl_statements.proofs.Moving.{comes_after}
 use Rattle.apl_statements.proofs.Same.{comes_as, moves_as, moves_to}
 use Rattle.apl_statements.proofs.Steps.{line_begins, lines_end}
+use Rattle.apl_calls.specs.Ended.{line_behind}
 use Rattle.apl_calls.specs.Waitings.{standing_on}
 use Rattle.apl_calls.proofs.Innermost.{line_within}
 
@@ -75,3 +76,12 @@ follows_comes m n number line next r is leads comes =
     comes_as m n (λ s. behind m.stack next s) (from_line m.stack line) 0 r (λ asked count taken further.
     let s : State = state_at m asked count taken further in
     follows m.stack number next s is ∙ ap (λ (k : ℕ). from_line m.stack k s) (sym leads)) comes
+
+-- the line behind where the innermost function is
+pub behind_is_next : (ws : List PlainWaiting) (number at : ℕ) (next : Next) → Some number ≡ option_map (λ (p : PlainWaiting). p.number) (slice_get ws 0) → at ≡ following number next
+    → IsSome (line_behind ws next) → IsSome (line_of_innermost ws at)
+behind_is_next [] number at next is follows some = absurd (false≢true some)
+behind_is_next (w ∷ ws) number at next is follows some =
+    let first : Some number ≡ Some w.number = is in
+    let same : number ≡ w.number = cc in
+    subst (λ (k : ℕ). IsSome (line_numbered w.function.lines k)) (sym (follows ∙ ap (λ (n : ℕ). following n next) same)) some

@@ -1,16 +1,17 @@
-ghost use Rattle.std.specs.Prelude.{◌≡◌, ◌≢◌, ◌-◌, ◌+◌, ◌^◌, ◌<◌, ◌≤◌, [], ◌∷◌, true, IfErr, IfOk, IfSome, IsSome, OnErr, OnOk, drop, is_some, option_map, slice_get, unwrap_or};
+ghost use Rattle.std.specs.Prelude.{◌≡◌, ◌≢◌, ◌-◌, ◌+◌, ◌<◌, ◌≤◌, [], ◌∷◌, true, false, IfErr, IfOk, IfSome, IsSome, OnErr, OnOk, drop, is_some, length, nat_le, option_map, slice_get, unwrap_or};
 ghost use Rattle.std.specs.Arc.{arc_value};
 ghost use Rattle.std.specs.Option.{option_copied};
 ghost use Rattle.apl_arrays.specs.List.{glyphs_in};
+ghost use Rattle.apl_items.specs.Places.{OnWantOfMemory};
 ghost use Rattle.line_trees.specs.Trees.{line_tree_of};
-ghost use Rattle.apl_workspace.specs.Seen.{plain_seen};
+ghost use Rattle.apl_workspace.specs.Limits.{most_depth};
 ghost use Rattle.apl_workspace.specs.Workspace.{empty_workspace, look};
 ghost use Rattle.apl_arrays.specs.declared.report.Report.TheVariants as report;
-ghost use Rattle.apl_meaning.specs.Calls.{call, entering, local_value, result_of};
+ghost use Rattle.apl_meaning.specs.Calls.{call, entering, result_of};
 ghost use Rattle.apl_meaning.specs.Meaning.{ran};
 ghost use Rattle.apl_meaning.specs.Reading.{read_with};
-ghost use Rattle.apl_meaning.specs.Statements.{line_outcome, text_outcome};
-ghost use Rattle.apl_meaning.specs.Tasks.{begun, following, immediate, in_function, text_at};
+ghost use Rattle.apl_meaning.specs.Statements.{is_misplaced, line_outcome, text_outcome};
+ghost use Rattle.apl_meaning.specs.Tasks.{begun, immediate, in_function, text_at};
 ghost use Rattle.apl_values.specs.Places.{plain_place};
 ghost use Rattle.apl_values.specs.Parts.{IsNotRead, IsReadFrom, IsReading, reading_statement, reading_tree};
 ghost use Rattle.apl_statements.specs.Evaluating.{caller_of, evaluation_of, function_by, innermost_function, line_of_innermost, plain_next, plain_purpose, purpose_in, takes_by};
@@ -20,38 +21,41 @@ ghost use Rattle.apl_statements.specs.Sound.{IsCaller, IsEvaluation, IsFlow};
 ghost use Rattle.apl_statements.specs.Stack.{at_line, behind, from_end, from_line, onward};
 ghost use Rattle.apl_statements.specs.Work.{IsAfresh, StaysWithin, caller_parts, flow_work, machine_work, parts_left};
 ghost use Rattle.apl_statements.specs.declared.flow.Flow.TheVariants as flow;
+ghost use Rattle.apl_calls.specs.Ended.{line_behind};
 ghost use Rattle.apl_calls.specs.Waitings.{standing_on};
 
+use crate::seen::{following, takes, value_seen};
 use crate::waiting::{function_of, header_of, keep, line_numbered, make_room, stand_at};
 use apl_arrays::{Array, Fail, Line, Name, Report, WantOfMemory};
 use apl_statements::{Evaluation, Flow, Interpreter, Next, Purpose, Waiting};
 use apl_values::{Place, Reading, read};
-use apl_workspace::{Args, Function, Seen};
+use apl_workspace::{Args, DEPTH_LIMIT, Function};
 use line_trees::Form;
 use std::alloc::Global;
 use std::sync::Arc;
 
-/// Begins the line as read.
+/// Begins the line as read. INTERRUPT where no statement may be begun, else SYNTAX ERROR where the line may not stand there,
+/// each also where there is no memory.
 pub fn begin_input(interpreter: &mut Interpreter, reading: Reading) -> Result<Flow, Fail>
     requires sound { IsReading reading }
     ensures comes { Comes interpreter.old (statement_leads interpreter.old (λ s. begun (line_outcome ran immediate (line_tree_of (reading_tree reading))) s)) 0 interpreter.new result }
+    ensures memory { OnWantOfMemory result ((0 < interpreter.old.statements) × (is_misplaced immediate (line_tree_of (reading_tree reading)) ≡ false)) }
     ensures sound { IfOk result (IsFlow interpreter.new) }
 {
     count_statement(interpreter)?;
-    let reading = shared(interpreter.alloc, reading)?;
-    begin_reading(interpreter, Place::Immediate, reading)
+    begin_read(interpreter, Place::Immediate, reading)
 }
 
-/// Begins a text at a place.
+/// Begins a text at a place. INTERRUPT where no statement may be begun, also where there is no memory.
 pub fn begin_text(interpreter: &mut Interpreter, place: Place, text: &Line) -> Result<Flow, Fail>
     ensures comes { Comes interpreter.old (statement_leads interpreter.old (λ s. ran (text_at (plain_place place) text.now.items) s)) 0 interpreter.new result }
+    ensures memory { OnWantOfMemory result (0 < interpreter.old.statements) }
     ensures sound { IfOk result (IsFlow interpreter.new) }
     ensures falls { IfOk result (λ next. flow_work interpreter.new next ≤ machine_work interpreter.old) }
 {
     count_statement(interpreter)?;
     let reading = read(interpreter.alloc, &interpreter.workspace, text)?;
-    let reading = shared(interpreter.alloc, reading)?;
-    begin_reading(interpreter, place, reading)
+    begin_read(interpreter, place, reading)
 }
 
 // A statement is begun; INTERRUPT where none may be.
@@ -67,7 +71,23 @@ fn count_statement(interpreter: &mut Interpreter) -> Result<(), Report>
     Ok(())
 }
 
-// Begins a statement that was read.
+// Begins a statement that was read. SYNTAX ERROR where it may not stand there, also where there is no memory to share it.
+fn begin_read(interpreter: &Interpreter, place: Place, reading: Reading) -> Result<Flow, Fail>
+    requires sound { IsReading reading }
+    ensures comes { Comes interpreter.now (statement_leads interpreter.now (λ s. line_outcome ran (plain_place place) (line_tree_of (reading_tree reading)) s)) 0 interpreter.now result }
+    ensures memory { OnWantOfMemory result (is_misplaced (plain_place place) (line_tree_of (reading_tree reading)) ≡ false) }
+    ensures sound { IfOk result (IsFlow interpreter.now) }
+    ensures afresh { IfOk result IsAfresh }
+{
+    if reading.is_misplaced(place) {
+        drop(reading);
+        return Err(Fail::Report(Report::Syntax));
+    }
+    let reading = shared(interpreter.alloc, reading)?;
+    begin_reading(interpreter, place, reading)
+}
+
+// Begins a statement that was read and is shared. No memory.
 fn begin_reading(
     interpreter: &Interpreter,
     place: Place,
@@ -75,6 +95,7 @@ fn begin_reading(
 ) -> Result<Flow, Fail>
     requires sound { IsReading (arc_value reading) }
     ensures comes { Comes interpreter.now (statement_leads interpreter.now (λ s. line_outcome ran (plain_place place) (line_tree_of (reading_tree (arc_value reading))) s)) 0 interpreter.now result }
+    ensures memory { OnWantOfMemory result ⊥ }
     ensures sound { IfOk result (IsFlow interpreter.now) }
     ensures afresh { IfOk result IsAfresh }
 {
@@ -93,7 +114,8 @@ fn begin_reading(
 }
 
 /// Enters a function, and begins its first line; where it has none it is left at once. SYNTAX ERROR where the name is no
-/// function of these arguments, else WS FULL where 100 functions are under way, or its frame would weigh too much.
+/// function of these arguments, else WS FULL where 100 functions are under way, each also where there is no memory; or WS FULL
+/// where its frame would weigh too much.
 pub fn call(
     interpreter: &mut Interpreter,
     caller: Evaluation,
@@ -102,12 +124,16 @@ pub fn call(
 ) -> Result<Flow, Fail>
     requires sound { IsCaller interpreter.old.workspace caller }
     ensures comes { Comes interpreter.old (part_gives interpreter.old caller (λ s. call ran name args s)) 0 interpreter.new result }
+    ensures memory { OnWantOfMemory result ((takes_by (look interpreter.old.workspace name) args ≡ true) × (length interpreter.old.workspace.frames < most_depth)) }
     ensures sound { IfOk result (IsFlow interpreter.new) }
     ensures within { IfOk result (StaysWithin interpreter.old caller interpreter.new) }
 {
     let mut caller = caller;
     if !takes(interpreter.workspace.look(&name), &args) {
         return Err(Fail::Report(Report::Syntax));
+    }
+    if is_too_deep(interpreter) {
+        return Err(Fail::Report(Report::WsFull));
     }
     caller.settle(interpreter.alloc, &interpreter.workspace)?;
     enter(interpreter, caller, name, args)?;
@@ -116,6 +142,13 @@ pub fn call(
     } else {
         Ok(Flow::Evaluates(leave(interpreter)?))
     }
+}
+
+// Whether as many functions are under way as may be.
+fn is_too_deep(interpreter: &Interpreter) -> bool
+    ensures { result ≡ nat_le most_depth (length interpreter.now.workspace.frames) }
+{
+    interpreter.workspace.depth() >= DEPTH_LIMIT
 }
 
 // A function has its frame, and its caller waits under it. There is room for the caller before there is a frame.
@@ -144,8 +177,10 @@ fn enter(
 }
 
 /// A statement led somewhere: the line is over, or a line of the function under way follows, or the function is left.
+/// INTERRUPT where a line follows and no statement may be begun, also where there is no memory.
 pub fn follow(interpreter: &mut Interpreter, next: Next) -> Result<Flow, Fail>
     ensures comes { Comes interpreter.old (λ s. behind interpreter.old.stack (plain_next next) s) 0 interpreter.new result }
+    ensures memory { IsSome (line_behind interpreter.old.stack (plain_next next)) → OnWantOfMemory result (0 < interpreter.old.statements) }
     ensures sound { IfOk result (IsFlow interpreter.new) }
     ensures falls { IfOk result (λ later. flow_work interpreter.new later < flow_work interpreter.old (flow.Leads next)) }
 {
@@ -163,6 +198,7 @@ pub fn follow(interpreter: &mut Interpreter, next: Next) -> Result<Flow, Fail>
 fn begin_line(interpreter: &mut Interpreter, number: usize) -> Result<Flow, Fail>
     requires some { interpreter.old.stack ≢ [] }
     ensures comes { Comes interpreter.old (from_line interpreter.old.stack number) 0 interpreter.new result }
+    ensures memory { IsSome (line_of_innermost interpreter.old.stack number) → OnWantOfMemory result (0 < interpreter.old.statements) }
     ensures sound { IfOk result (IsFlow interpreter.new) }
     ensures afresh { IfOk result IsAfresh }
     ensures falls { IfOk result (λ next. flow_work interpreter.new next ≤ machine_work interpreter.old) }
@@ -187,6 +223,7 @@ fn stand_at_line(interpreter: &mut Interpreter, number: usize)
 fn begin_text_of_line(interpreter: &mut Interpreter, number: usize) -> Result<Flow, Fail>
     requires { IsSome (line_of_innermost interpreter.old.stack number) }
     ensures comes { Comes interpreter.old (statement_leads interpreter.old (λ s. begun (text_outcome ran in_function (unwrap_or (line_of_innermost interpreter.old.stack number) [])) s)) 0 interpreter.new result }
+    ensures memory { OnWantOfMemory result (0 < interpreter.old.statements) }
     ensures sound { IfOk result (IsFlow interpreter.new) }
     ensures afresh { IfOk result IsAfresh }
     ensures falls { IfOk result (λ next. flow_work interpreter.new next + 2 ≤ machine_work interpreter.old) }
@@ -336,47 +373,5 @@ fn purpose_of(reading: &Reading) -> Option<Purpose>
         Form::Branch(_) => Some(Purpose::Branches),
         Form::Value(_) => Some(Purpose::Prints(reading.is_silent())),
         Form::Execute(_) => Some(Purpose::Executes),
-    }
-}
-
-// Whether a name stands for a function of these arguments.
-fn takes(seen: Seen<'_>, args: &Args) -> bool
-    ensures { result ≡ takes_by (plain_seen seen.entry) args.now }
-{
-    match seen {
-        Seen::Function(function) => {
-            let header = header_of(function);
-            header.left.is_some() == args.left.is_some()
-                && header.right.is_some() == args.right.is_some()
-        }
-        _ => false,
-    }
-}
-
-// The value of a local name: a label's is the number of its line.
-fn value_seen(alloc: Global, seen: Seen<'_>) -> Result<Option<Array>, WantOfMemory>
-    ensures { IfOk result (λ found. found ≡ local_value (plain_seen seen.entry)) }
-{
-    match seen {
-        Seen::Value(value) => Ok(Some(value.copy(alloc)?)),
-        Seen::Label(line) => Ok(Some(Array::scalar(alloc, i64::from(line))?)),
-        _ => Ok(None),
-    }
-}
-
-// The number of the line that follows a line; 0 is that of none.
-fn following(number: usize, next: Next) -> usize
-    requires { number < 2 ^ 32 }
-    ensures { result ≡ following number (plain_next next) }
-{
-    match next {
-        Next::GoesOn => number + 1,
-        Next::GoesTo(line) => {
-            if line < 0 {
-                0
-            } else {
-                line.unsigned_abs() as usize
-            }
-        }
     }
 }

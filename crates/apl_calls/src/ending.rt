@@ -1,6 +1,7 @@
 ghost use Rattle.std.specs.Prelude.{◌≡◌, [], Some, None, Ok, Err, true, false, IfErr, IfOk, IfSome, IsSome, OnOk, option_map, reverse};
 ghost use Rattle.std.specs.Option.{option_copied};
 ghost use Rattle.apl_arrays.specs.declared.report.Report.TheVariants as reports;
+ghost use Rattle.apl_items.specs.Places.{OnWantOfMemory};
 ghost use Rattle.apl_workspace.specs.Meaning.{is_function_meaning};
 ghost use Rattle.apl_workspace.specs.Workspace.{PlainWorkspace, global_in};
 ghost use Rattle.apl_meaning.specs.Nodes.{found_in};
@@ -13,8 +14,9 @@ ghost use Rattle.apl_statements.specs.Moves.{Comes, value_put};
 ghost use Rattle.apl_statements.specs.Sound.{IsEvaluation, IsFlow};
 ghost use Rattle.apl_statements.specs.Stack.{branches, executes, prints};
 ghost use Rattle.apl_statements.specs.Holding.{parts_of};
+ghost use Rattle.apl_statements.specs.Wants.{NoReportIsDue};
 ghost use Rattle.apl_statements.specs.Work.{Falls};
-ghost use Rattle.apl_calls.specs.Ended.{ended_by};
+ghost use Rattle.apl_calls.specs.Ended.{ended_by, looked_at};
 
 use crate::calling::begin_text;
 use crate::waiting::{function_of, header_of, line_numbered};
@@ -27,10 +29,12 @@ use apl_values::{Held, array_of};
 use apl_workspace::{Function, Workspace};
 use std::alloc::Global;
 
-/// A statement has its value, or has none: it leads to a line, it is printed, or it is executed.
+/// A statement has its value, or has none: it leads to a line, it is printed, or it is executed. What cannot be executed, or
+/// branched to, ends the line also where there is no memory.
 pub fn end_statement(interpreter: &mut Interpreter, e: Evaluation) -> Result<Flow, Fail>
     requires sound { IsEvaluation interpreter.old.workspace e }
     ensures comes { Comes interpreter.old (value_put interpreter.old e (plain_purpose e.purpose)) 0 interpreter.new result }
+    ensures memory { OnWantOfMemory result (NoReportIsDue interpreter.old (looked_at (plain_purpose e.purpose) (found_in (evaluation_of interpreter.old.workspace e).values))) }
     ensures sound { IfOk result (IsFlow interpreter.new) }
     ensures falls { IfOk result (Falls interpreter.old interpreter.new) }
 {
@@ -46,6 +50,7 @@ pub fn end_statement(interpreter: &mut Interpreter, e: Evaluation) -> Result<Flo
 fn branch(interpreter: &Interpreter, e: Evaluation) -> Result<Flow, Fail>
     requires sound { IsEvaluation interpreter.now.workspace e }
     ensures comes { Comes interpreter.now (value_put interpreter.now e branches) 0 interpreter.now result }
+    ensures memory { OnWantOfMemory result ⊥ }
     ensures sound { IfOk result (IsFlow interpreter.now) }
     ensures falls { IfOk result (Falls interpreter.now interpreter.now) }
 {
@@ -76,6 +81,7 @@ fn show(interpreter: &mut Interpreter, e: Evaluation) -> Result<Flow, Fail>
 fn execute(interpreter: &mut Interpreter, e: Evaluation) -> Result<Flow, Fail>
     requires sound { IsEvaluation interpreter.old.workspace e }
     ensures comes { Comes interpreter.old (value_put interpreter.old e executes) 0 interpreter.new result }
+    ensures memory { OnWantOfMemory result (NoReportIsDue interpreter.old (looked_at executes (found_in (evaluation_of interpreter.old.workspace e).values))) }
     ensures sound { IfOk result (IsFlow interpreter.new) }
     ensures falls { IfOk result (Falls interpreter.old interpreter.new) }
 {

@@ -3,6 +3,7 @@
 
 mod calling;
 mod ending;
+mod seen;
 mod waiting;
 
 pub use calling::{begin_input, call, follow};

@@ -1,25 +1,31 @@
 -- Names that are gone, and come one after another.
-use Rattle.std.proofs.Common.{◌≡◌, ℕ, suc, ◌+◌, ◌≤◌, ◌<◌, Bool, true, false, cond, ◌||◌, List, [], ◌∷◌, Option, Some, None, length, drop, get_or, sym, ap, subst, ◌∙◌, arith, add-one}
-use Rattle.std.specs.Prelude.{unwrap_or}
+use Rattle.std.proofs.Common.{◌≡◌, ℕ, suc, ◌+◌, ◌≤◌, ◌<◌, Bool, true, false, cond, ◌||◌, List, [], ◌∷◌, Option, Some, None, length, drop, get_or, refl, sym, ap, subst, ◌∙◌, arith, add-one}
+use Rattle.std.specs.Prelude.{is_some, nat_le, unwrap_or}
 use Rattle.std.specs.List.{list_any}
 use Rattle.std.specs.Option.{option_map}
 use Rattle.std.specs.List.Sorted.{IsStrictlySortedBy}
 use Rattle.std.specs.Map.{keys_of}
 use Rattle.std.proofs.Math.Seq.{drop-cons}
 use Rattle.std.proofs.lemmas.Bool.{or_parts}
+use Rattle.std.proofs.lemmas.Bool.Decides.{nat_tests}
 use Rattle.apl_workspace.specs.Meaning.{NameTable, meaning_in, meaning_weight, table_weight, weight_in, with_meaning, without_name, without_names}
 use Rattle.apl_arrays.specs.Name.{name_order, same_name}
 use Rattle.apl_workspace.specs.Names.{all_differ}
-use Rattle.apl_workspace.specs.Workspace.{IsFull, IsWorkspace, PlainWorkspace, without_globals, workspace_weight}
+use Rattle.apl_workspace.specs.Workspace.{IsFull, IsWorkspace, PlainWorkspace, assigned, in_innermost, innermost, with_global, without_globals, workspace_weight}
 use Rattle.apl_arrays.specs.declared.report.Fail.{Fail}
 use Rattle.apl_arrays.specs.declared.report.Fail.TheVariants.{Report, WantOfMemory}
+use Rattle.apl_arrays.specs.declared.report.Report.TheVariants.{WsFull}
+use Rattle.apl_workspace.specs.Limits.{most_weight}
+use Rattle.apl_arrays.specs.Array.{PlainArray}
+use Rattle.apl_workspace.specs.Function.{PlainFunction}
 use Rattle.apl_workspace.specs.declared.meaning.Meaning.{Meaning}
+use Rattle.apl_workspace.specs.declared.meaning.Meaning.TheVariants.{Value, Function}
 use Rattle.apl_workspace.proofs.Ascending.{found_with, with_ascends, without_ascends}
 use Rattle.apl_workspace.proofs.NameLaw.{first_differs, own_name}
 use Rattle.apl_workspace.proofs.Tables.{weight_with}
 use Rattle.apl_workspace.proofs.Without.{found_without_all, still_ascends}
 use Rattle.apl_execute.specs.Copying.{AreAbsent, MayCome}
-use Rattle.apl_execute.specs.Merge.{copy_in, with_copies, with_copy}
+use Rattle.apl_execute.specs.Merge.{IsNotMerged, copy_in, with_copies, with_copy}
 
 -- ---- names that go
 
@@ -87,8 +93,39 @@ weighs : (start ws : PlainWorkspace) (globals : NameTable) → ws ≡ record sta
 weighs start ws globals same = ap (λ (w : PlainWorkspace). workspace_weight (record w { globals = globals })) same
 
 -- where one name is refused, all are
-pub full_later : (start ws : PlainWorkspace) (some all : NameTable) (fail : Fail) → ws ≡ record start { globals = ws.globals } → table_weight some ≤ table_weight all → IsFull (record ws { globals = some }) fail → IsFull (record start { globals = all }) fail
+pub full_later : (start ws : PlainWorkspace) (some all : NameTable) (fail : Fail) → ws ≡ record start { globals = ws.globals } → table_weight some ≤ table_weight all → IsFull (record ws { globals = some }) fail → IsNotMerged (record start { globals = all }) fail
 full_later start ws some all (Report report) same rises full =
     let w : workspace_weight (record ws { globals = some }) ≡ workspace_weight (record start { globals = some }) = weighs start ws some same in
     (full.0, omega (arith, full.1, w, rises))
 full_later start ws some all WantOfMemory same rises full = tt
+
+within : (a b : ℕ) → nat_le a b ≡ true → a ≤ b
+within a b e = grind (arith, nat_tests)
+
+above : (a b : ℕ) → nat_le a b ≡ false → b < a
+above a b e = grind (arith, nat_tests)
+
+-- why there is no copy, by whether the workspace would weigh no more than it may
+pub full_or : (w : PlainWorkspace) (fits : Bool) → fits ≡ nat_le (workspace_weight w) most_weight → IsFull w (cond fits WantOfMemory (Report WsFull))
+full_or w true is = within (workspace_weight w) most_weight (sym is)
+full_or w false is = (refl, above (workspace_weight w) most_weight (sym is))
+
+-- ---- what may not be copied for want of memory
+
+given_as_global : (ws : PlainWorkspace) (name : List ℕ) (value : PlainArray) → ws.frames ≡ [] → assigned ws name value ≡ with_global ws name (Value value)
+given_as_global ws name value none =
+    ap (λ (frames : List NameTable). cond (is_some (innermost frames name)) (record ws { frames = in_innermost ws.frames name (Value value) }) (with_global ws name (Value value))) none
+
+-- a value would fit, or not
+pub value_fits : (ws from : PlainWorkspace) (name : List ℕ) (value : PlainArray) (fits : Bool) → ws.frames ≡ [] → copy_in from name ≡ Some (Value value) → fits ≡ nat_le (workspace_weight (assigned ws name value)) most_weight
+    → IsFull (record ws { globals = with_copy ws.globals name (copy_in from name) }) (cond fits WantOfMemory (Report WsFull))
+value_fits ws from name value fits none copy is =
+    full_or (record ws { globals = with_copy ws.globals name (copy_in from name) }) fits
+    (is ∙ ap (λ (w : PlainWorkspace). nat_le (workspace_weight w) most_weight) (given_as_global ws name value none ∙ ap (λ (o : Option Meaning). record ws { globals = with_copy ws.globals name o }) (sym copy)))
+
+-- and so a function
+pub function_fits : (ws from : PlainWorkspace) (name : List ℕ) (function : PlainFunction) (fits : Bool) → copy_in from name ≡ Some (Function function) → fits ≡ nat_le (workspace_weight (with_global ws name (Function function))) most_weight
+    → IsFull (record ws { globals = with_copy ws.globals name (copy_in from name) }) (cond fits WantOfMemory (Report WsFull))
+function_fits ws from name function fits copy is =
+    full_or (record ws { globals = with_copy ws.globals name (copy_in from name) }) fits
+    (is ∙ ap (λ (w : PlainWorkspace). nat_le (workspace_weight w) most_weight) (ap (λ (o : Option Meaning). record ws { globals = with_copy ws.globals name o }) (sym copy)))

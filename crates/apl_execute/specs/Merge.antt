@@ -1,10 +1,14 @@
 -- Names of one workspace that are copied into another.
-use Rattle.std.specs.Prelude.{◌&&◌, ◌++◌, ℕ, Bool, not, List, [], ◌∷◌, Option, Some, None, filter, fold, is_some, if◌then◌else◌}
+use Rattle.std.specs.Prelude.{◌≡◌, ◌<◌, ◌&&◌, ◌++◌, ℕ, Bool, not, List, [], ◌∷◌, Option, Some, None, filter, fold, is_some, if◌then◌else◌}
 use Rattle.std.specs.List.{list_any}
+use Rattle.apl_arrays.specs.declared.report.Fail.{Fail}
+use Rattle.apl_arrays.specs.declared.report.Fail.TheVariants as fail
+use Rattle.apl_arrays.specs.declared.report.Report.TheVariants.{WsFull}
+use Rattle.apl_workspace.specs.Limits.{most_weight}
 use Rattle.apl_workspace.specs.Listing.{all_names}
 use Rattle.apl_workspace.specs.Meaning.{NameTable, with_meaning, without_names}
 use Rattle.apl_arrays.specs.Name.{same_name}
-use Rattle.apl_workspace.specs.Workspace.{PlainWorkspace, global_in, is_shared}
+use Rattle.apl_workspace.specs.Workspace.{PlainWorkspace, global_in, is_shared, workspace_weight}
 use Rattle.apl_workspace.specs.declared.meaning.Meaning.{Meaning}
 use Rattle.apl_workspace.specs.declared.meaning.Meaning.TheVariants.{Nothing, Value, Function, Label, Shared}
 
@@ -67,3 +71,8 @@ copied_names into from names = filter (is_copied into from) (asked from names)
 -- the workspace with the names copied; its marks, offers and all other names are as they were
 abbrev pub merged : PlainWorkspace → PlainWorkspace → Option (List (List ℕ)) → PlainWorkspace
 merged into from names = with_names into from (copied_names into from names)
+
+-- why names were not copied: the workspace would weigh more than it may, or memory ran out before that was known
+abbrev pub IsNotMerged : PlainWorkspace → Fail → Type 0
+IsNotMerged w (fail.Report report) = (report ≡ WsFull) × (most_weight < workspace_weight w)
+IsNotMerged w fail.WantOfMemory = Unit {0}

@@ -6,9 +6,9 @@ ghost use Rattle.apl_execute.specs.Copying.{MayCome};
 ghost use Rattle.apl_workspace.specs.Names.{all_differ};
 ghost use Rattle.apl_workspace.specs.Seen.{plain_seen};
 ghost use Rattle.apl_workspace.specs.Workspace.{IsFull, is_shared, workspace_weight};
-ghost use Rattle.apl_execute.specs.Merge.{asked, copied_as, copy_in, each_once, is_copied, is_kept, is_missing, merged, with_copies, with_copy, with_names};
+ghost use Rattle.apl_execute.specs.Merge.{IsNotMerged, asked, copied_as, copy_in, each_once, is_copied, is_kept, is_missing, merged, with_copies, with_copy, with_names};
 
-use apl_arrays::{Fail, List, Name, NameList, WantOfMemory};
+use apl_arrays::{Fail, List, Name, NameList, Report, WantOfMemory};
 use apl_workspace::{Seen, Workspace};
 use std::alloc::Global;
 use std::collections::BTreeSet;
@@ -37,7 +37,7 @@ pub fn merge(
     ensures fits { OnOk result (workspace_weight (merged into.now from.now (option_map (λ asked. asked.now.items) names.entry)) ≤ most_weight) }
     ensures missing { IfOk result (λ done. done.missing.items ≡ filter (is_missing from.now) (asked from.now (option_map (λ asked. asked.now.items) names.entry))) }
     ensures shared { IfOk result (λ done. done.shared.items ≡ filter (is_kept into.now from.now) (asked from.now (option_map (λ asked. asked.now.items) names.entry))) }
-    ensures full { IfErr result (IsFull (merged into.now from.now (option_map (λ asked. asked.now.items) names.entry))) }
+    ensures full { IfErr result (IsNotMerged (merged into.now from.now (option_map (λ asked. asked.now.items) names.entry))) }
 {
     let asked = asked(alloc, from, names)?;
     let copied = copied(alloc, into, from, asked.as_slice())?;
@@ -164,7 +164,7 @@ fn with_names(
     requires differ { all_differ names.now ≡ true }
     ensures ok { IfOk result (λ workspace. workspace ≡ with_names into.now from.now names.now) }
     ensures fits { OnOk result (workspace_weight (with_names into.now from.now names.now) ≤ most_weight) }
-    ensures full { IfErr result (IsFull (with_names into.now from.now names.now)) }
+    ensures full { IfErr result (IsNotMerged (with_names into.now from.now names.now)) }
 {
     let mut workspace = into.copy_without(names)?;
     put_all(alloc, &mut workspace, from, names)?;
@@ -177,7 +177,7 @@ fn put_all(alloc: Global, ws: &mut Workspace, from: &Workspace, names: &[Name]) 
     requires frames { ws.old.frames ≡ [] }
     requires may { MayCome ws.old.globals names.now }
     ensures ok { OnOk result (ws.new ≡ record ws.old { globals = with_copies from.now ws.old.globals names.now }) }
-    ensures full { IfErr result (IsFull (record ws.old { globals = with_copies from.now ws.old.globals names.now })) }
+    ensures full { IfErr result (IsNotMerged (record ws.old { globals = with_copies from.now ws.old.globals names.now })) }
 {
     for name in names {
         match put_copy(alloc, ws, from, name) {
@@ -188,7 +188,7 @@ fn put_all(alloc: Global, ws: &mut Workspace, from: &Workspace, names: &[Name]) 
     Ok(())
 }
 
-// Puts a name in that is not there, as another workspace has it.
+// Puts a name in that is not there, as another workspace has it. `WsFull` also where there is no memory.
 fn put_copy(alloc: Global, ws: &mut Workspace, from: &Workspace, name: &Name) -> Result<(), Fail>
     requires frames { ws.old.frames ≡ [] }
     requires absent { meaning_in ws.old.globals name.now ≡ None }
@@ -197,8 +197,25 @@ fn put_copy(alloc: Global, ws: &mut Workspace, from: &Workspace, name: &Name) ->
     ensures full { IfErr result (IsFull (record ws.old { globals = with_copy ws.old.globals name.now (copy_in from.now name.now) })) }
 {
     match from.global(name) {
-        Seen::Value(value) | Seen::Shared(Some(value)) => ws.assign(name, value.copy(alloc)?),
-        Seen::Function(function) => ws.define(function.copy(alloc)?),
+        Seen::Value(value) | Seen::Shared(Some(value)) => match value.copy(alloc) {
+            Ok(copy) => ws.assign(name, copy),
+            Err(WantOfMemory) => Err(no_copy(ws.takes(name, value))),
+        },
+        Seen::Function(function) => match function.copy(alloc) {
+            Ok(copy) => ws.define(copy),
+            Err(WantOfMemory) => Err(no_copy(ws.has_room(name, function.weight()))),
+        },
         Seen::Nothing | Seen::Label(_) | Seen::Shared(None) => Ok(()),
+    }
+}
+
+// Why there is no copy of what would fit, or would not.
+fn no_copy(fits: bool) -> Fail
+    ensures { result ≡ (if fits then Fail.WantOfMemory else Fail.Report Report.WsFull) }
+{
+    if fits {
+        Fail::WantOfMemory
+    } else {
+        Fail::Report(Report::WsFull)
     }
 }

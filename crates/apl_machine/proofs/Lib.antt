@@ -5,4 +5,5 @@ pub mod Performs
 pub mod Standing
 pub mod StepParts
 pub mod Stopping
+pub mod WantParts
 pub use Rattle.apl_statements.proofs.Steps

@@ -1,11 +1,13 @@
 -- A machine as plain data, what is still to come of it, and what its calls change.
-use Rattle.std.specs.Prelude.{◌≡◌, ℕ, List, []}
+use Rattle.std.specs.Prelude.{◌≡◌, ℕ, List, [], None}
 use Rattle.apl_arrays.specs.declared.report.Report.{Report}
 use Rattle.apl_workspace.specs.Workspace.{PlainWorkspace}
 use Rattle.line_trees.specs.Parsing.{PlainTree}
 use Rattle.line_trees.specs.Trees.{line_tree_of}
 use Rattle.sv_events.specs.Answer.{PlainAnswer, plain_answer}
+use Rattle.sv_events.specs.Row.{answer_row}
 use Rattle.sv_events.specs.declared.event.Act.{Act}
+use Rattle.apl_meaning.specs.Answers.{report_of_kind}
 use Rattle.apl_meaning.specs.State.{State, Outcome, gives, and_then}
 use Rattle.apl_meaning.specs.Tasks.{Next, goes_on, immediate, begun}
 use Rattle.apl_meaning.specs.Statements.{line_outcome}
@@ -73,6 +75,14 @@ IsOpenIn w lost asked = ⊥
 -- this act of a machine is open
 abbrev pub IsOpenAct : PlainMachine → Act → Type 0
 IsOpenAct m asked = IsOpenIn m.interpreter.workspace m.stage asked
+
+-- memory may run out in a stage before a report is told: not where an answer ends the line
+abbrev pub MayWantMemory : PlainStage → Type 0
+MayWantMemory idle = Unit {0}
+MayWantMemory (begins tree) = Unit {0}
+MayWantMemory (is_open for_this caller) = Unit {0}
+MayWantMemory (has_answer answer for_this caller) = report_of_kind (answer_row answer).row.kind ≡ None
+MayWantMemory lost = Unit {0}
 
 -- a machine may run: a line is to begin, or an act has its answer; one that is lost may too, and answers so
 abbrev pub MayRun : PlainStage → Type 0

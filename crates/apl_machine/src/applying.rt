@@ -1,15 +1,18 @@
-ghost use Rattle.std.specs.Prelude.{◌≡◌, ◌-◌, ◌≤◌, ◌&&◌, ◌||◌, Some, IfErr, IfOk, IfSome, not, option_map};
+ghost use Rattle.std.specs.Prelude.{◌≡◌, ◌-◌, ◌≤◌, ◌&&◌, ◌||◌, false, Some, IfErr, IfOk, IfSome, not, option_map};
 ghost use Rattle.std.specs.Option.{option_copied};
 ghost use Rattle.apl_arrays.specs.declared.report.Fail.TheVariants as fail;
+ghost use Rattle.apl_items.specs.Places.{OnWantOfMemory};
 ghost use Rattle.apl_meaning.specs.Expressions.{valued};
 ghost use Rattle.apl_meaning.specs.Meaning.{ran};
 ghost use Rattle.apl_meaning.specs.Nodes.{apply_step};
 ghost use Rattle.apl_meaning.specs.Verbs.{application, both_or_neither, named_axis};
+ghost use Rattle.operator_rules.specs.Apply.{wants_memory_first};
 ghost use Rattle.apl_verbs.specs.Arguments.{is_dyadic, verb_takes_axis};
 ghost use Rattle.apl_values.specs.Values.{IsHeld, held_value};
 ghost use Rattle.apl_statements.specs.Moves.{Comes, if_there, part_gives, part_takes};
 ghost use Rattle.apl_statements.specs.Sound.{IsCaller, IsFlow};
 ghost use Rattle.apl_statements.specs.Holding.{parts_of};
+ghost use Rattle.apl_statements.specs.Wants.{NoReportIsDue};
 ghost use Rattle.apl_statements.specs.Work.{StaysWithin};
 ghost use Rattle.apl_machine.specs.Axes.{IsAxis, IsNoAxis};
 
@@ -91,7 +94,8 @@ fn args_of(
     })
 }
 
-// A primitive function, or an operator with its operands, through the one door. It counts one application.
+// A primitive function, or an operator with its operands, through the one door. It counts one application. A report comes
+// also where there is no memory, but for that of ⍕.
 fn apply_verb<L: Ledger>(
     interpreter: &Interpreter,
     e: Evaluation,
@@ -106,6 +110,7 @@ fn apply_verb<L: Ledger>(
     requires right { IsHeld interpreter.now.workspace (parts_of e) right }
     ensures rises { steps.old ≤ steps.new }
     ensures comes { Comes interpreter.now (part_gives interpreter.now e (λ s. valued (application verb (option_map (held_value interpreter.now.workspace (parts_of e)) left) (held_value interpreter.now.workspace (parts_of e) right) axis s))) (steps.new - steps.old) interpreter.now result }
+    ensures memory { wants_memory_first verb ≡ false → OnWantOfMemory result (NoReportIsDue interpreter.now (application verb (option_map (held_value interpreter.now.workspace (parts_of e)) left) (held_value interpreter.now.workspace (parts_of e) right) axis)) }
     ensures sound { IfOk result (IsFlow interpreter.now) }
     ensures within { IfOk result (StaysWithin interpreter.now e interpreter.now) }
 {

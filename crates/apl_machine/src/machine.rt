@@ -1,12 +1,13 @@
 ghost use Rattle.std.specs.Prelude.{◌≡◌, ◌-◌, ◌≤◌, [], ◌∷◌, Err, IfOk, IsErr, IsOk, OnErr, OnOk};
 ghost use Rattle.apl_arrays.specs.declared.report.Fail.TheVariants as fail;
+ghost use Rattle.apl_items.specs.Places.{OnWantOfMemory};
 ghost use Rattle.line_trees.specs.Parsing.{plain_tree};
 ghost use Rattle.line_trees.specs.Trees.{line_tree_of};
 ghost use Rattle.sv_events.specs.Answer.{plain_answer};
 ghost use Rattle.apl_values.specs.Parts.{IsTreeOf};
 ghost use Rattle.apl_statements.specs.Moves.{Comes, ComesToPause};
 ghost use Rattle.apl_statements.specs.Sound.{IsFlow, IsPause};
-ghost use Rattle.apl_machine.specs.Machine.{IsIdle, IsOpenStage, MayRun, idle_on, lost, machine_before, silent, still_to_come};
+ghost use Rattle.apl_machine.specs.Machine.{IsIdle, IsOpenStage, MayRun, MayWantMemory, idle_on, lost, machine_before, silent, still_to_come};
 ghost use Rattle.apl_machine.specs.Runs.{Stands, StandsOn, StopsAs};
 ghost use Rattle.apl_machine.specs.Stops.{EndsAs, PausesAs};
 
@@ -144,10 +145,11 @@ impl Machine {
         self.stage = Stage::Idle;
     }
 
-    /// Takes the workspace of an idle machine, which has an empty one then. No memory.
+    /// Takes the workspace of an idle machine, which has an empty one then; printed lines that were not taken stay. No memory.
     pub fn take_workspace(&mut self) -> Workspace
         requires { IsIdle self.old }
         ensures taken { result ≡ self.old.interpreter.workspace }
+        ensures lines { self.new.interpreter.output ≡ self.old.interpreter.output }
         ensures idle { IsIdle self.new }
     {
         self.stage = Stage::Idle;
@@ -175,11 +177,13 @@ impl Machine {
         run_from(&mut self.interpreter, flow, steps)
     }
 
-    // What is done first: the line is begun, or an act has its answer.
+    // What is done first: the line is begun, or an act has its answer. The report of an answer that ends the line comes also where
+    // there is no memory.
     fn first_flow(&mut self) -> Result<Flow, Fail>
         requires { MayRun self.old.stage }
         ensures comes { Comes self.old.interpreter (still_to_come self.old) 0 self.new.interpreter result }
         ensures sound { IfOk result (IsFlow self.new.interpreter) }
+        ensures memory { OnWantOfMemory result (MayWantMemory self.old.stage) }
         ensures stays_lost { self.old.stage ≡ lost → result ≡ Err fail.WantOfMemory }
         ensures lost { self.new.stage ≡ lost }
     {

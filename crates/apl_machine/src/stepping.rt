@@ -1,6 +1,7 @@
 ghost use Rattle.std.specs.Prelude.{◌≡◌, ◌+◌, ◌-◌, ◌<◌, ◌≤◌, None, true, false, IfErr, IfOk, IfSome, OnOk, length, option_map, slice_get};
 ghost use Rattle.apl_arrays.specs.declared.report.Fail.TheVariants as fail;
 ghost use Rattle.apl_arrays.specs.declared.report.Report.TheVariants as report;
+ghost use Rattle.apl_items.specs.Places.{OnWantOfMemory};
 ghost use Rattle.apl_workspace.specs.Workspace.{look};
 ghost use Rattle.apl_meaning.specs.Expressions.{valued};
 ghost use Rattle.apl_meaning.specs.Nodes.{indexed_step};
@@ -11,6 +12,7 @@ ghost use Rattle.apl_statements.specs.Moves.{Comes, ComesToPause, Moves, flow_to
 ghost use Rattle.apl_statements.specs.Sound.{IsCaller, IsEvaluation, IsFlow, IsPause};
 ghost use Rattle.apl_statements.specs.Stack.{assignment_step, onward};
 ghost use Rattle.apl_statements.specs.Holding.{parts_of};
+ghost use Rattle.apl_statements.specs.Wants.{NoReportIsDue};
 ghost use Rattle.apl_statements.specs.Work.{Falls, StaysWithin, TakesAStep};
 ghost use Rattle.apl_statements.specs.declared.flow.Flow.TheVariants as flow;
 ghost use Rattle.apl_machine.specs.Nexts.{HasPassed, IsNextHeld, IsValueSeen};
@@ -213,10 +215,12 @@ fn assign_to(
     }
 }
 
-// A reference to a name: VALUE ERROR where it stands for nothing, SYNTAX ERROR for a function; a shared name is used.
+// A reference to a name: VALUE ERROR where it stands for nothing, SYNTAX ERROR for a function, each also where there is no
+// memory; a shared name is used.
 fn refer(interpreter: &Interpreter, e: Evaluation, name: Name) -> Result<Flow, Fail>
     requires sound { IsCaller interpreter.now.workspace e }
     ensures comes { Comes interpreter.now (part_gives interpreter.now e (λ s. valued (reference name s))) 0 interpreter.now result }
+    ensures memory { OnWantOfMemory result (NoReportIsDue interpreter.now (reference name)) }
     ensures sound { IfOk result (IsFlow interpreter.now) }
     ensures within { IfOk result (StaysWithin interpreter.now e interpreter.now) }
 {

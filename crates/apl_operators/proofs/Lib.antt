@@ -16,3 +16,4 @@ mod ShapeLemmas
 mod SmallLemmas
 mod TakesAllLemmas
 mod WeightLemmas
+mod WantLemmas

@@ -2,7 +2,7 @@
 use Rattle.std.proofs.Common.{◌≡◌, ℕ, ℤ, zero, suc, ◌+◌, ◌<◌, ◌≤◌, ◌==◌, ◌&&◌, ◌||◌, Bool, true, false, not, cond, List, [], ◌∷◌, ◌++◌, map, Option, Some, None, length, get_or, refl, sym, ap, subst, ◌∙◌, arith}
 use Rattle.std.specs.List.{filter, list_any, range_with_len}
 use Rattle.std.proofs.lemmas.Bool.Decides.{nat_tests}
-use Rattle.std.proofs.lemmas.List.{append-nil, length-map, map-append}
+use Rattle.std.proofs.lemmas.List.{append-nil, length-map, length_push, map-append}
 use Rattle.std.proofs.lemmas.List.Elements.{filter-append}
 use Rattle.std.proofs.lemmas.List.FromFn.{length-range_with_len}
 use Rattle.std.proofs.lemmas.List.Sums.{count_by-le-length, length-filter}
@@ -45,6 +45,14 @@ kept_yes flags long n before place one so_far is test e =
 -- or is not
 pub kept_no : (flags : List ℤ) (long n : ℕ) (before : List (Option ℕ)) (one : Bool) → before ≡ kept_of flags long n → one ≡ is_one (number_at flags n) → one ≡ false → before ≡ kept_of flags long (n + 1)
 kept_no flags long n before one so_far test e = so_far ∙ sym (append-nil (kept_of flags long n)) ∙ sym (kept_more flags long n false (sym test ∙ e))
+
+-- so many are kept, and one more where the flag is 1
+pub one_more_kept : (flags : List ℤ) (long n total : ℕ) (one : Bool) → total ≡ length (kept_of flags long n) → one ≡ is_one (number_at flags n) → one ≡ true → total + 1 ≡ length (kept_of flags long (n + 1))
+one_more_kept flags long n total one so_far test e =
+    ap (λ (m : ℕ). m + 1) so_far ∙ sym (length_push (kept_of flags long n) (Some (place_in long n))) ∙ ap (λ (xs : List (Option ℕ)). length xs) (sym (kept_more flags long n true (sym test ∙ e)))
+
+pub no_more_kept : (flags : List ℤ) (long n total : ℕ) (one : Bool) → total ≡ length (kept_of flags long n) → one ≡ is_one (number_at flags n) → one ≡ false → total ≡ length (kept_of flags long (n + 1))
+no_more_kept flags long n total one so_far test e = so_far ∙ ap (λ (xs : List (Option ℕ)). length xs) (kept_no flags long n (kept_of flags long n) one refl test e)
 
 -- ---- what is kept is on the axis
 

@@ -87,6 +87,10 @@ spread_inside flags long fills along place e = by_test (nat_lt along (length fla
         let none : get_or (spread flags long) along None ≡ None = get_or_past (spread flags long) along None (omega arith) in
         absurd (cc)
 
+-- there is a place, or none, for each flag
+pub spread_count : (flags : List ℤ) (long : ℕ) → length (spread flags long) ≡ length flags
+spread_count flags long = length-map-range_with_len (spread_at flags long) 0 (length flags)
+
 pub few_spread : (flags : List ℤ) (long : ℕ) → length flags ≤ 16384 → length (spread flags long) ≤ 16384
 few_spread flags long p = let whole = length-map-range_with_len (spread_at flags long) 0 (length flags) in omega arith
 

@@ -72,6 +72,14 @@ few_by (chars list) count e few = omega arith
 pub few_numbers : (a : PlainArray) → IsArray a → length (numbers_in a.items) ≤ 16384
 few_numbers a array = few_by a.items _ array.whole array.fits.elements
 
+no_more_by : (items : PlainItems) → length (numbers_in items) ≤ item_count items
+no_more_by (numbers list) = omega arith
+no_more_by (chars list) = omega arith
+
+-- no more numbers than items
+pub no_more_numbers : (a : PlainArray) → length (numbers_in a.items) ≤ item_count a.items
+no_more_numbers a = no_more_by a.items
+
 -- as many as items, where the kind is numbers
 pub count_of_numbers : (items : PlainItems) → is_chars items ≡ false → item_count items ≡ length (numbers_in items)
 count_of_numbers (numbers list) e = refl
@@ -85,6 +93,9 @@ none_from (Some fault) e = absurd (cc)
 -- numbers that are told the same are
 pub same_number : (m n : ℕ) → (m == n) ≡ true → m ≡ n
 same_number m n e = grind (arith, nat_tests)
+
+pub not_over : (most n : ℕ) → nat_lt most n ≡ false → n ≤ most
+not_over most n e = grind (arith, nat_tests)
 
 -- no more axes than there may be
 pub few_axes : (n : ℕ) → n ≤ 8 → nat_lt 8 n ≡ false

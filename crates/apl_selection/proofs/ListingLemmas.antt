@@ -1,7 +1,7 @@
 -- Items of listed places.
-use Rattle.std.proofs.Common.{◌≡◌, ℕ, ◌+◌, ◌*◌, ◌<◌, ◌==◌, Bool, true, false, cond, nat_lt, List, [], ◌∷◌, Option, Some, None, length, take, drop, get_or, set, refl, sym, ap, ◌∙◌, arith}
+use Rattle.std.proofs.Common.{append_assoc, ◌≡◌, ℕ, ◌+◌, ◌-◌, ◌*◌, ◌<◌, ◌==◌, Bool, true, false, cond, nat_lt, List, [], ◌∷◌, Option, Some, None, ◌++◌, length, take, drop, get_or, set, add-one, refl, sym, ap, ◌∙◌, arith}
 use Rattle.std.proofs.lemmas.Bool.Decides.{nat_tests}
-use Rattle.std.proofs.lemmas.List.{drop-set-lt, nil_from_length, take-set}
+use Rattle.std.proofs.lemmas.List.{drop-set-lt, length-drop, nil_from_length, set_split, take-set, take_all}
 use Rattle.apl_arrays.specs.Array.{PlainArray, PlainItems, IsArray, element_count, item_count}
 use Rattle.apl_items.specs.Along.{source_along, source_at, source_count}
 use Rattle.apl_items.specs.Moves.{moved, moved_items}
@@ -10,6 +10,20 @@ use Rattle.apl_items.proofs.ShapeLemmas.{split_count_lem}
 use Rattle.apl_selection.specs.Listing.{listed, listed_shape, on_axis, vector_shape}
 use Rattle.apl_selection.proofs.MoveLemmas.{array_of, same_moved}
 use Rattle.apl_selection.proofs.FaultLemmas.{same_number}
+
+rest_whole : (shape : List ℕ) (n : ℕ) → take (length shape - n) (drop n shape) ≡ drop n shape
+rest_whole shape n = take_all (length shape - n) (drop n shape) (omega (arith, length-drop n shape))
+
+-- a list with another element is what stands before it, the element, and what stands behind it
+pub set_between : (shape front whole : List ℕ) (axis long : ℕ) → axis < length shape → front ≡ take axis shape ++ long ∷ [] → whole ≡ front ++ take (length shape - (axis + 1)) (drop (axis + 1) shape) → whole ≡ set shape axis long
+set_between shape front whole axis long inside first all =
+    all ∙ ap (λ (xs : List ℕ). front ++ xs) (rest_whole shape (axis + 1)) ∙ ap (λ (xs : List ℕ). xs ++ drop (axis + 1) shape) first ∙ append_assoc (take axis shape) (long ∷ []) (drop (axis + 1) shape)
+    ∙ ap (λ (n : ℕ). take axis shape ++ long ∷ drop n shape) (add-one axis) ∙ sym (set_split shape axis long inside)
+
+-- the shape of so many listed places
+pub listing_shape : (b : PlainArray) (axis count : ℕ) (source shape : List ℕ) (list : List (Option ℕ)) → source ≡ vector_shape b.shape → shape ≡ set source axis count → length list ≡ count
+    → shape ≡ listed_shape (vector_shape b.shape) axis list
+listing_shape b axis count source shape list s e many = e ∙ ap (λ (xs : List ℕ). set xs axis count) s ∙ ap (set (vector_shape b.shape) axis) (sym many)
 
 -- another length of an axis leaves the rows before it and the items behind it
 pub source_of_relength : (shape : List ℕ) (axis n long : ℕ) → source_count (split_at (set shape axis n) axis) long ≡ element_count (take axis shape) * long * element_count (drop (axis + 1) shape)

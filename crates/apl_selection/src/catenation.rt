@@ -1,7 +1,7 @@
-ghost use Rattle.std.specs.Prelude.{◌≡◌, ◌+◌, ◌*◌, ◌<◌, ◌≤◌, ◌++◌, ◌&&◌, ◌||◌, ◌==◌, false, not, Some, None, IfOk, is_some, length, slice_index, take, vec_len, vec_capacity};
+ghost use Rattle.std.specs.Prelude.{◌≡◌, ◌+◌, ◌*◌, ◌<◌, ◌≤◌, ◌++◌, ◌&&◌, ◌||◌, ◌==◌, false, not, Some, None, IfOk, IsOk, is_some, length, slice_index, take, vec_len, vec_capacity};
 ghost use Rattle.apl_arrays.specs.Array.{FitsLimits, IsArray, chars_in, element_count, is_chars, item_count, plain_items};
 ghost use Rattle.apl_items.specs.Along.{source_count};
-ghost use Rattle.apl_items.specs.Answers.{Answers, first_report};
+ghost use Rattle.apl_items.specs.Answers.{Answers, AnswersFirst, first_report};
 ghost use Rattle.apl_items.specs.Extension.{Reaches, place_in};
 ghost use Rattle.apl_items.specs.Moves.{moved_list};
 ghost use Rattle.apl_items.specs.Places.{OnWantOfMemory};
@@ -13,20 +13,21 @@ ghost use Rattle.apl_selection.specs.Listing.{vector_shape};
 use crate::listing::{item_in, vector_shape, with_axis};
 use crate::strides::length_of;
 use apl_arrays::{
-    Array, Fail, Glyph, Items, ItemsRef, List, NumberList, Report, WantOfMemory, Way,
+    Array, Fail, Glyph, Items, ItemsRef, List, NumberList, RANK_LIMIT, Report, WantOfMemory, Way,
     count_of_elements, shape_fault,
 };
 use apl_items::{Split, axis_of, lacks_axis, room_for};
+use arrayvec::ArrayVec;
 use std::alloc::Global;
 
 /// A and B joined along an axis, the last where none is named. A scalar takes one place along it, and so does an array whose
 /// rank is one less than the other's; two scalars give a vector. RANK where the ranks differ by more than 1 or an axis of two
 /// scalars is named, else LENGTH where the other axes differ, else DOMAIN where the kinds differ and neither array is empty,
-/// else INDEX where the axis is not from 1 to the greater rank, else WS FULL. Where there is no report but WS FULL it takes
-/// memory for a shape, and then for the result.
+/// else INDEX where the axis is not from 1 to the greater rank, else WS FULL, each also where there is no memory. It takes memory
+/// for the result.
 pub fn catenate(alloc: Global, a: &Array, b: &Array, axis: Option<i64>) -> Result<Array, Fail>
     ensures answer { Answers result (catenate_of a.now b.now axis) }
-    ensures memory { OnWantOfMemory result (first_report (catenate_faults a.now b.now axis) ≡ None) }
+    ensures memory { OnWantOfMemory result (IsOk (catenate_of a.now b.now axis)) }
 {
     match catenate_report(a, b, axis) {
         Some(report) => Err(Fail::Report(report)),
@@ -160,10 +161,10 @@ fn catenated(alloc: Global, a: &Array, b: &Array, axis: Option<i64>) -> Result<A
     requires none { None ≡ first_report (catenate_faults a.now b.now axis) }
     requires left { IsArray a.now }
     requires right { IsArray b.now }
-    ensures { Answers result (catenate_of a.now b.now axis) }
+    ensures { AnswersFirst result (catenate_of a.now b.now axis) }
 {
     let along = catenated_axis(a, b, axis);
-    let axes = catenated_shape(alloc, a, b, along)?;
+    let axes = catenated_shape(a, b, along);
     let shape = axes.as_slice();
     if shape_fault(shape).is_some() {
         return Err(Fail::Report(Report::WsFull));
@@ -173,18 +174,13 @@ fn catenated(alloc: Global, a: &Array, b: &Array, axis: Option<i64>) -> Result<A
 }
 
 /// The shape of a join along an axis.
-fn catenated_shape(
-    alloc: Global,
-    a: &Array,
-    b: &Array,
-    axis: usize,
-) -> Result<Vec<u32>, WantOfMemory>
+fn catenated_shape(a: &Array, b: &Array, axis: usize) -> ArrayVec<u32, RANK_LIMIT>
     requires { axis < catenated_rank a.now b.now }
-    ensures { IfOk result (λ axes. axes.items ≡ catenated_shape a.now b.now axis) }
+    ensures { result.items ≡ catenated_shape a.now b.now axis }
 {
     let rank = catenated_rank(a, b);
     let long = span_of(a, rank, axis) + span_of(b, rank, axis);
-    with_axis(alloc, greater_shape(a.shape(), b.shape()), axis, long)
+    with_axis(greater_shape(a.shape(), b.shape()), axis, long)
 }
 
 /// The items of a join of a shape along an axis, row by row those of A and those of B. The kind is chosen once.

@@ -1,11 +1,11 @@
-ghost use Rattle.std.specs.Prelude.{◌≡◌, ◌≤◌, None, IfOk, length};
+ghost use Rattle.std.specs.Prelude.{◌≡◌, ◌≤◌, None, IfOk, IsOk, length};
 ghost use Rattle.apl_arrays.specs.Array.{IsArray, item_count};
-ghost use Rattle.apl_items.specs.Answers.{Answers, first_report};
+ghost use Rattle.apl_items.specs.Answers.{Answers, AnswersFirst, first_report};
 ghost use Rattle.apl_items.specs.Places.{OnWantOfMemory};
 ghost use Rattle.apl_selection.specs.Compression.{compress_faults, compress_of, flagged_length, flags_meet, kept};
 
 use crate::flags::{flags_report, is_one};
-use crate::listing::{listed_of, meant_axis, meant_length, place_in};
+use crate::listing::{listed_of, listing_fail, meant_axis, meant_length, place_in};
 use apl_arrays::{Array, Fail, WantOfMemory, Way};
 use apl_items::{number_at, room_for};
 use std::alloc::Global;
@@ -13,8 +13,8 @@ use std::alloc::Global;
 /// The items of B along an axis, the last or the first where none is named, where A has 1. A lone flag is for each place of
 /// the axis, a lone place is for each flag, and a scalar B is a vector of one item. RANK where A is of rank over 1, else
 /// LENGTH where A has not as many flags as the axis has places, else DOMAIN where it holds something else than 0 and 1, else
-/// INDEX where the axis is not from 1 to the rank, else WS FULL. Where there is no report but WS FULL it takes memory for a
-/// list of places and a shape, and then for the result.
+/// INDEX where the axis is not from 1 to the rank, else WS FULL, each also where there is no memory. It takes memory for a list
+/// of places and the result.
 pub fn compress(
     alloc: Global,
     a: &Array,
@@ -23,7 +23,7 @@ pub fn compress(
     axis: Option<i64>,
 ) -> Result<Array, Fail>
     ensures answer { Answers result (compress_of a.now b.now way axis) }
-    ensures memory { OnWantOfMemory result (first_report (compress_faults a.now b.now way axis) ≡ None) }
+    ensures memory { OnWantOfMemory result (IsOk (compress_of a.now b.now way axis)) }
 {
     let fit = flags_meet(a, meant_length(b, way, axis) as usize);
     match flags_report(a, b, axis, fit) {
@@ -50,10 +50,15 @@ fn compressed(
 ) -> Result<Array, Fail>
     requires none { None ≡ first_report (compress_faults a.now b.now way axis) }
     requires array { IsArray a.now }
-    ensures { Answers result (compress_of a.now b.now way axis) }
+    ensures { AnswersFirst result (compress_of a.now b.now way axis) }
 {
-    let list = kept(alloc, a.numbers(), meant_length(b, way, axis))?;
-    listed_of(alloc, b, meant_axis(b, way, axis), list.as_slice())
+    let flags = a.numbers();
+    let long = meant_length(b, way, axis);
+    let along = meant_axis(b, way, axis);
+    match kept(alloc, flags, long) {
+        Ok(list) => listed_of(alloc, b, along, list.as_slice()),
+        Err(WantOfMemory) => Err(listing_fail(b, along, kept_count(flags, long))),
+    }
 }
 
 /// The places along an axis whose flag is 1.
@@ -70,6 +75,22 @@ fn kept(alloc: Global, flags: &[i64], long: u32) -> Result<Vec<Option<u16>>, Wan
         }
     }
     Ok(list)
+}
+
+/// How many places along an axis have a flag that is 1.
+fn kept_count(flags: &[i64], long: u32) -> usize
+    requires flags { length flags.now ≤ 16384 }
+    requires long { long ≤ 16384 }
+    ensures { result ≡ length (kept flags.now long) }
+{
+    let count = flagged_length(flags.len(), long as usize);
+    let mut total = 0;
+    for at in 0..count {
+        if is_one(number_at(flags, at)) {
+            total += 1;
+        }
+    }
+    total
 }
 
 /// How many places flags and an axis have together.

@@ -1,11 +1,11 @@
-ghost use Rattle.std.specs.Prelude.{◌≡◌, ◌≤◌, None, IfOk, length};
+ghost use Rattle.std.specs.Prelude.{◌≡◌, ◌≤◌, None, IfOk, IsOk, length};
 ghost use Rattle.apl_arrays.specs.Array.{IsArray};
-ghost use Rattle.apl_items.specs.Answers.{Answers, first_report};
+ghost use Rattle.apl_items.specs.Answers.{Answers, AnswersFirst, first_report};
 ghost use Rattle.apl_items.specs.Places.{OnWantOfMemory};
 ghost use Rattle.apl_selection.specs.Expansion.{expand_faults, expand_of, ones, ones_meet, spread};
 
 use crate::flags::{flags_report, is_one};
-use crate::listing::{listed_of, meant_axis, meant_length, place_in};
+use crate::listing::{listed_of, listing_fail, meant_axis, meant_length, place_in};
 use apl_arrays::{Array, Fail, WantOfMemory, Way};
 use apl_items::room_for;
 use std::alloc::Global;
@@ -13,8 +13,8 @@ use std::alloc::Global;
 /// The items of B along an axis, the last or the first where none is named, where A has 1, and the fill where it has 0. A lone
 /// place of the axis is for each 1, and a scalar B is a vector of one item. RANK where A is of rank over 1, else LENGTH where
 /// it has not as many ones as the axis has places, else DOMAIN where it holds something else than 0 and 1, else INDEX where
-/// the axis is not from 1 to the rank, else WS FULL. Where there is no report but WS FULL it takes memory for a list of
-/// places and a shape, and then for the result.
+/// the axis is not from 1 to the rank, else WS FULL, each also where there is no memory. It takes memory for a list of places
+/// and the result.
 pub fn expand(
     alloc: Global,
     a: &Array,
@@ -23,7 +23,7 @@ pub fn expand(
     axis: Option<i64>,
 ) -> Result<Array, Fail>
     ensures answer { Answers result (expand_of a.now b.now way axis) }
-    ensures memory { OnWantOfMemory result (first_report (expand_faults a.now b.now way axis) ≡ None) }
+    ensures memory { OnWantOfMemory result (IsOk (expand_of a.now b.now way axis)) }
 {
     let fit = ones_meet(a.numbers(), meant_length(b, way, axis) as usize);
     match flags_report(a, b, axis, fit) {
@@ -50,10 +50,15 @@ fn ones(flags: &[i64]) -> usize
 fn expanded(alloc: Global, a: &Array, b: &Array, way: Way, axis: Option<i64>) -> Result<Array, Fail>
     requires none { None ≡ first_report (expand_faults a.now b.now way axis) }
     requires array { IsArray a.now }
-    ensures { Answers result (expand_of a.now b.now way axis) }
+    ensures { AnswersFirst result (expand_of a.now b.now way axis) }
 {
-    let list = spread(alloc, a.numbers(), meant_length(b, way, axis))?;
-    listed_of(alloc, b, meant_axis(b, way, axis), list.as_slice())
+    let flags = a.numbers();
+    let long = meant_length(b, way, axis);
+    let along = meant_axis(b, way, axis);
+    match spread(alloc, flags, long) {
+        Ok(list) => listed_of(alloc, b, along, list.as_slice()),
+        Err(WantOfMemory) => Err(listing_fail(b, along, flags.len())),
+    }
 }
 
 /// For each flag a place along an axis, or none.

@@ -1,14 +1,16 @@
-ghost use Rattle.std.specs.Prelude.{◌≡◌, ◌<◌, ◌≤◌, ℕ, false, Some, None, IfOk, IfSome, length, slice_index, slice_index_or, slice_set};
+ghost use Rattle.std.specs.Prelude.{◌≡◌, ◌<◌, ◌≤◌, ℕ, false, List, Option, Some, None, Err, IfOk, IfSome, length, slice_index, slice_index_or, slice_set};
 ghost use Rattle.apl_arrays.specs.Array.{FitsLimits};
-ghost use Rattle.apl_items.specs.Answers.{Answers, Faults, first_report};
+ghost use Rattle.apl_arrays.specs.Limits.{most_axes};
+ghost use Rattle.apl_items.specs.Answers.{AnswersFirst, Faults, first_report};
 ghost use Rattle.apl_items.specs.Extension.{place_in};
 ghost use Rattle.apl_items.specs.Moves.{item_or};
 ghost use Rattle.apl_items.specs.Axis.{lacks_axis};
 ghost use Rattle.apl_selection.specs.Listing.{listed, listed_of, listed_shape, meant_axis, meant_length, on_axis, vector_shape};
 
 use crate::strides::length_of;
-use apl_arrays::{Array, Fail, Report, WantOfMemory, Way, shape_fault};
-use apl_items::{Along, axis_of, moved_along};
+use apl_arrays::{Array, Fail, RANK_LIMIT, Report, WantOfMemory, Way, shape_fault};
+use apl_items::{Along, axis_of, joined_shape, moved_along};
+use arrayvec::ArrayVec;
 use std::alloc::Global;
 
 /// The axes, where a scalar is a vector of one item.
@@ -53,23 +55,34 @@ pub(crate) fn item_in<T: Copy + Drop>(list: &[T], place: usize, fill: T) -> T
     }
 }
 
-/// The shape with another length of an axis. It takes memory for it.
-pub(crate) fn with_axis(
-    alloc: Global,
-    shape: &[u32],
-    axis: usize,
-    long: u32,
-) -> Result<Vec<u32>, WantOfMemory>
-    requires { axis < length shape.now }
-    ensures { IfOk result (λ axes. axes.items ≡ slice_set shape.now axis long) }
+/// The shape with another length of an axis. No memory.
+pub(crate) fn with_axis(shape: &[u32], axis: usize, long: u32) -> ArrayVec<u32, RANK_LIMIT>
+    requires few { length shape.now ≤ most_axes }
+    requires axis { axis < length shape.now }
+    ensures { result.items ≡ slice_set shape.now axis long }
 {
-    let mut axes = Vec::from_slice(alloc, shape)?;
-    axes[axis] = long;
-    Ok(axes)
+    let mut axes = joined_shape(&shape[..axis], &[long]);
+    axes.try_extend_from_slice(&shape[axis + 1..]).unwrap();
+    axes
+}
+
+/// Why so many places along an axis were not listed where there is no memory for the list: the items at them are too many,
+/// else memory ran out. No memory.
+pub(crate) fn listing_fail(b: &Array, axis: usize, count: usize) -> Fail
+    requires axis { axis < length (vector_shape b.now.shape) }
+    requires few { count ≤ 16384 }
+    ensures { (faults : Faults) (list : List (Option ℕ)) → None ≡ first_report faults → length list ≡ count → AnswersFirst (Err result) (listed_of faults b.now axis list) }
+{
+    let axes = with_axis(vector_shape(b.shape()), axis, count as u32);
+    if shape_fault(axes.as_slice()).is_some() {
+        Fail::Report(Report::WsFull)
+    } else {
+        Fail::WantOfMemory
+    }
 }
 
 /// The items of B at the listed places along an axis, and the fill where none is listed, or WS FULL where they are too many.
-/// It takes memory for a shape and the result.
+/// Where they are not, it takes memory for the result.
 pub(crate) fn listed_of(
     alloc: Global,
     b: &Array,
@@ -79,10 +92,10 @@ pub(crate) fn listed_of(
     requires axis { axis < length (vector_shape b.now.shape) }
     requires inside { (along place : ℕ) → slice_index_or list.now along None ≡ Some place → place < slice_index (vector_shape b.now.shape) axis }
     requires few { length list.now ≤ 16384 }
-    ensures { (faults : Faults) → None ≡ first_report faults → Answers result (listed_of faults b.now axis list.now) }
+    ensures { (faults : Faults) → None ≡ first_report faults → AnswersFirst result (listed_of faults b.now axis list.now) }
 {
     let source = vector_shape(b.shape());
-    let axes = with_axis(alloc, source, axis, list.len() as u32)?;
+    let axes = with_axis(source, axis, list.len() as u32);
     let shape = axes.as_slice();
     if shape_fault(shape).is_some() {
         return Err(Fail::Report(Report::WsFull));

@@ -13,3 +13,4 @@ pub mod Same
 pub mod Steps
 pub mod Subs
 pub mod Taken
+pub mod Wants

@@ -1,11 +1,13 @@
 -- An interpreter whose output grew is one still, and lines that are printed one after another.
 use Rattle.std.proofs.Common.{◌≡◌, ℕ, suc, ◌+◌, ◌<◌, ◌≤◌, Bool, true, false, List, [], ◌∷◌, ◌++◌, length, take, drop, get_or, refl, sym, ap, subst, ◌∙◌, append_assoc, arith, leb, drop-cons}
 use Rattle.std.specs.Prelude.{Result, Ok, Err, if◌then◌else◌, map}
+use Rattle.std.proofs.lemmas.List.Sums.{sum_by_push}
 use Rattle.std.proofs.lemmas.List.{map-id, take-append-drop}
 use Rattle.std.proofs.lemmas.Bool.{le-leb, leb-true}
 use Rattle.apl_arrays.specs.declared.report.Fail.{Fail}
 use Rattle.apl_arrays.specs.declared.report.Fail.TheVariants as fail
 use Rattle.apl_arrays.specs.declared.report.Report.{Report}
+use Rattle.apl_items.specs.Places.{OnWantOfMemory}
 use Rattle.apl_arrays.specs.declared.report.Report.TheVariants.{Interrupt}
 use Rattle.apl_workspace.specs.Limits.{most_printed}
 use Rattle.apl_workspace.specs.Workspace.{PlainWorkspace, with_printed}
@@ -14,6 +16,7 @@ use Rattle.apl_meaning.specs.Printing.{line_printed, lines_printed}
 use Rattle.apl_statements.specs.Led.{EndsThere, HasLed, Leads}
 use Rattle.apl_statements.specs.Interpreter.{PlainInterpreter, state_at}
 use Rattle.apl_statements.specs.Moves.{HasDone, IsNotPrinted}
+use Rattle.apl_statements.specs.Wants.{StopsAtLine, glyph_count}
 use Rattle.apl_statements.proofs.Kept.{KeepsFunctions}
 use Rattle.apl_statements.proofs.Steps.{grouped, then_same}
 
@@ -92,6 +95,17 @@ line_ends w v u before after last lines done line more (fail.Report report) led 
     (subst (λ (list : List (List ℕ)). EndsThere w before (lines_printed list) report v after) (sym are)
     (subst (λ (r : Report). EndsThere w before (lines_printed (done ++ line ∷ more)) r v after) (sym many.0) (too_many_led w v before after done more line led many.1))))
 line_ends w v u before after last lines done line more fail.WantOfMemory led same left are many = tt
+
+-- the glyphs of one line more are counted
+pub one_counted : (before was now : ℕ) (done lines : List (List ℕ)) (line : List ℕ) → was ≡ before + glyph_count done → now ≡ was + length line → lines ≡ done ++ line ∷ [] → now ≡ before + glyph_count lines
+one_counted before was now done lines line so_far more are =
+    let all : glyph_count lines ≡ glyph_count done + length line = ap glyph_count are ∙ sum_by_push (λ (one : List ℕ). length one) done line in omega (arith, all, so_far, more)
+
+-- where memory ran out for a line, those before it were printed, and it may be too
+pub stops_there : (T : Type 0) (why : Fail) (before was now : ℕ) (lines done others : List (List ℕ)) (line : List ℕ) → lines ≡ done ++ line ∷ others → was ≡ before + glyph_count done → now ≡ was
+    → IsNotPrinted (was + length line) why → OnWantOfMemory {T = T} (Err why) (StopsAtLine lines before now)
+stops_there T (fail.Report report) before was now lines done others line are counted same fits = tt
+stops_there T fail.WantOfMemory before was now lines done others line are counted same fits = record { printed = done; line = line; others = others; whole = are; counted = same ∙ counted; fits = omega (arith, same, fits) }
 
 -- what a `?` hands out is why they ended it
 pub led_exit : (w v : PlainWorkspace) (before after : List (List ℕ)) (part : State → Effect) (r : Result (Unit {0}) Fail) (y why : Fail) → r ≡ Err y → y ≡ why → HasLed {T = Unit {0}} w before part v after (Err why) → HasLed w before part v after r

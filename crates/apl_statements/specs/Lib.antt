@@ -6,4 +6,5 @@ pub mod Moves
 pub mod Operands
 pub mod Sound
 pub mod Stack
+pub mod Wants
 pub mod Work

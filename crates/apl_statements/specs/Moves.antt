@@ -1,5 +1,5 @@
 -- What a step owes: what is still to come before it is still to come behind it.
-use Rattle.std.specs.Prelude.{◌≡◌, ◌<◌, ◌+◌, ℕ, Bool, true, false, List, Option, Some, None, Result, Ok, Err}
+use Rattle.std.specs.Prelude.{◌≡◌, ◌<◌, ◌≤◌, ◌+◌, ℕ, Bool, true, false, List, Option, Some, None, Result, Ok, Err}
 use Rattle.apl_arrays.specs.Array.{PlainArray}
 use Rattle.apl_arrays.specs.declared.report.Fail.{Fail}
 use Rattle.apl_arrays.specs.declared.report.Fail.TheVariants as fail
@@ -72,10 +72,10 @@ HasDone m part n (Ok value) = Does m part n
 HasDone m part n (Err (fail.Report report)) = Refuses m part report n
 HasDone m part n (Err fail.WantOfMemory) = Unit {0}
 
--- why a line was not printed: more glyphs than this may not be, or memory ran out
+-- why a line was not printed: more glyphs than this may not be, or memory ran out where so many may
 abbrev pub IsNotPrinted : ℕ → Fail → Type 0
 IsNotPrinted glyphs (fail.Report report) = (report ≡ Interrupt) × (most_printed < glyphs)
-IsNotPrinted glyphs fail.WantOfMemory = Unit {0}
+IsNotPrinted glyphs fail.WantOfMemory = glyphs ≤ most_printed
 
 -- ---- what is still to come where a statement is in the middle of a step
 

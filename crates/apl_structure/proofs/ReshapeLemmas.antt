@@ -1,5 +1,5 @@
 -- Items over and over.
-use Rattle.std.proofs.Common.{◌≡◌, ℕ, ℤ, pos, ◌+◌, ◌*◌, ◌%◌, ◌==◌, ◌&&◌, ◌||◌, Bool, true, false, not, List, [], ◌∷◌, Option, Some, None, Ok, Err, is_some, unsigned_abs, refl, sym, ap, ◌∙◌, arith}
+use Rattle.std.proofs.Common.{◌≡◌, ◌≤◌, ℕ, ℤ, pos, length, nat_lt, ◌+◌, ◌*◌, ◌%◌, ◌==◌, ◌&&◌, ◌||◌, Bool, true, false, not, List, [], ◌∷◌, Option, Some, None, Ok, Err, is_some, unsigned_abs, refl, sym, ap, ◌∙◌, arith}
 use Rattle.std.proofs.lemmas.Bool.Decides.{Decides-int_eq, nat_tests}
 use Rattle.std.specs.Int.{is_negative}
 use Rattle.std.specs.List.{list_any}
@@ -13,7 +13,11 @@ use Rattle.apl_items.proofs.ShapeLemmas.{element_count-cons}
 use Rattle.apl_structure.specs.Lengths.{lengths}
 use Rattle.apl_structure.specs.Reshaping.{is_hollow, reshape_faults, reshape_of, reshaped}
 use Rattle.apl_selection.proofs.MoveLemmas.{array_of, same_moved}
-use Rattle.apl_selection.proofs.FaultLemmas.{answer_fits, answer_too_large, nothing_is_wrong}
+use Rattle.apl_selection.proofs.FaultLemmas.{answer_fits, answer_too_large, no_more_numbers, not_over, nothing_is_wrong}
+
+or_last : (x y : Bool) → (x || y) ≡ false → y ≡ false
+or_last true y e = absurd (cc)
+or_last false y e = e
 
 no_items_asked : (kind negative empty hollow : Bool) → (kind || negative || empty && not hollow) ≡ false → empty ≡ true → hollow ≡ true
 no_items_asked true negative empty hollow e is = absurd (cc)
@@ -45,6 +49,13 @@ none_asked a b numbers shape none n e empty =
     ap element_count (e ∙ ap lengths n)
     ∙ hollow_count (numbers_in a.items)
     (no_items_asked (is_chars a.items) (list_any is_negative (numbers_in a.items)) (item_count b.items == 0) (is_hollow (numbers_in a.items)) sound.domain (is_zero (item_count b.items) empty))
+
+-- where nothing is wrong with a shape it has no more axes than there may be
+pub few_lengths : (a b : PlainArray) → None ≡ first_report (reshape_faults a b) → length (numbers_in a.items) ≤ 8
+few_lengths a b none =
+    let sound = nothing_is_wrong (reshape_faults a b) none in
+    let few = not_over 8 (item_count a.items) (or_last (nat_lt 1 (length a.shape)) (nat_lt 8 (item_count a.items)) sound.rank) in
+    omega (arith, few, no_more_numbers a)
 
 pub reshape_too_large : (a b : PlainArray) (numbers : List ℤ) (large : Bool) → None ≡ first_report (reshape_faults a b) → numbers ≡ numbers_in a.items
     → large ≡ is_some (shape_fault (lengths numbers)) → large ≡ true → reshape_of a b ≡ Err WsFull

@@ -17,7 +17,7 @@ use Rattle.apl_selection.specs.Picks.{picked}
 use Rattle.apl_structure.specs.Taking.{axes_faults, axes_for, remaining, remaining_from, take_of, taken, taken_from, taken_shape}
 use Rattle.apl_selection.specs.Listing.{is_scalar}
 use Rattle.apl_selection.proofs.PickLemmas.{axes_small, some_same}
-use Rattle.apl_selection.proofs.FaultLemmas.{answer_fits, answer_too_large, same_number}
+use Rattle.apl_selection.proofs.FaultLemmas.{answer_fits, answer_too_large, no_more_numbers, same_number}
 
 -- ---- the axes of the source
 
@@ -58,6 +58,12 @@ pub source_fits : (a b : PlainArray) → IsArray b → None ≡ first_report (ax
 source_fits a b array none =
     let tests = by_tests (nat_lt 1 (length a.shape)) (is_scalar b) (nat_lt 8 (item_count a.items)) (item_count a.items == length b.shape) (is_chars a.items) none in
     source_by b (item_count a.items) (is_scalar b) array refl tests.0 tests.1
+
+-- A has no more numbers than there may be axes
+pub few_taken : (a b : PlainArray) → IsArray b → None ≡ first_report (axes_faults a b) → length (numbers_in a.items) ≤ 8
+few_taken a b array none =
+    let parts = source_fits a b array none in
+    omega (arith, parts.0.rank, parts.2, no_more_numbers a)
 
 pub source_of : (a b : PlainArray) (count : ℕ) (source : List ℕ) → count ≡ item_count a.items → source ≡ axes_for count b → source ≡ axes_for (item_count a.items) b
 source_of a b count source is e = e ∙ ap (λ (n : ℕ). axes_for n b) is

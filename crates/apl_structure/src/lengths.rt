@@ -1,21 +1,22 @@
-ghost use Rattle.std.specs.Prelude.{◌≡◌, IfOk, is_some, map, min, unsigned_abs};
+ghost use Rattle.std.specs.Prelude.{◌≡◌, ◌≤◌, is_some, length, min, unsigned_abs};
+ghost use Rattle.apl_arrays.specs.Limits.{most_axes};
 ghost use Rattle.apl_arrays.specs.Shape.{shape_fault};
 ghost use Rattle.apl_structure.specs.Lengths.{capped, lengths};
 
-use apl_arrays::{ELEMENT_LIMIT, WantOfMemory, shape_fault};
-use std::alloc::Global;
+use apl_arrays::{ELEMENT_LIMIT, RANK_LIMIT, shape_fault};
+use arrayvec::ArrayVec;
 
 /// The magnitudes of numbers as the lengths of axes, but of those that no axis may have the least, which is too long too.
-/// It takes memory for them.
-pub(crate) fn capped(alloc: Global, numbers: &[i64]) -> Result<Vec<u32>, WantOfMemory>
-    ensures { IfOk result (λ shape. shape.items ≡ capped numbers.now) }
+/// No memory.
+pub(crate) fn capped(numbers: &[i64]) -> ArrayVec<u32, RANK_LIMIT>
+    requires { length numbers.now ≤ most_axes }
+    ensures { result.items ≡ capped numbers.now }
 {
-    Ok(
-        numbers
-            .iter()
-            .map(|number| capped_length(*number))
-            .collect(alloc)?,
-    )
+    let mut shape = ArrayVec::new();
+    for number in numbers {
+        shape.push(capped_length(*number));
+    }
+    shape
 }
 
 /// The magnitude of a number, but of those that no axis may have the least.

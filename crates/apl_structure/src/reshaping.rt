@@ -1,8 +1,8 @@
-ghost use Rattle.std.specs.Prelude.{◌≡◌, ◌+◌, ◌%◌, ◌<◌, None, IfOk};
+ghost use Rattle.std.specs.Prelude.{◌≡◌, ◌+◌, ◌%◌, ◌<◌, None, IfOk, IsOk};
 ghost use Rattle.std.specs.Int.{is_negative};
 ghost use Rattle.std.specs.List.{list_any};
 ghost use Rattle.apl_arrays.specs.Array.{FitsLimits, element_count, item_count};
-ghost use Rattle.apl_items.specs.Answers.{Answers, first_report};
+ghost use Rattle.apl_items.specs.Answers.{Answers, AnswersFirst, first_report};
 ghost use Rattle.apl_items.specs.Places.{OnWantOfMemory};
 ghost use Rattle.apl_structure.specs.Reshaping.{is_hollow, reshape_faults, reshape_of, reshaped};
 
@@ -14,11 +14,10 @@ use std::alloc::Global;
 
 /// An array of the shape A, of B's items, from the first again where they end. RANK where A is of rank over 1 or has
 /// over eight numbers, else DOMAIN where it is of characters, has a negative number, or asks for items where B has
-/// none, else WS FULL where the result is too large. Where there is no report but WS FULL it takes memory for the shape,
-/// and then for the result.
+/// none, else WS FULL where the result is too large, each also where there is no memory. It takes memory for the result.
 pub fn reshape(alloc: Global, a: &Array, b: &Array) -> Result<Array, Fail>
     ensures answer { Answers result (reshape_of a.now b.now) }
-    ensures memory { OnWantOfMemory result (first_report (reshape_faults a.now b.now) ≡ None) }
+    ensures memory { OnWantOfMemory result (IsOk (reshape_of a.now b.now)) }
 {
     match reshape_report(a, b) {
         Some(report) => Err(Fail::Report(report)),
@@ -57,10 +56,10 @@ fn is_hollow(numbers: &[i64]) -> bool
 /// B's items in the shape A, or WS FULL where that is too large.
 fn shaped_by(alloc: Global, a: &Array, b: &Array) -> Result<Array, Fail>
     requires { None ≡ first_report (reshape_faults a.now b.now) }
-    ensures { Answers result (reshape_of a.now b.now) }
+    ensures { AnswersFirst result (reshape_of a.now b.now) }
 {
     let numbers = a.numbers();
-    let lengths = capped(alloc, numbers)?;
+    let lengths = capped(numbers);
     let shape = lengths.as_slice();
     if pass_limits(numbers, shape) {
         return Err(Fail::Report(Report::WsFull));

@@ -1,5 +1,5 @@
-ghost use Rattle.std.specs.Prelude.{◌≡◌, ◌-◌, ◌<◌, None, pos, IfOk, length, map, slice_index, slice_index_or, unsigned_abs};
-ghost use Rattle.apl_items.specs.Answers.{Answers, first_report};
+ghost use Rattle.std.specs.Prelude.{◌≡◌, ◌-◌, ◌<◌, None, pos, IfOk, IsOk, length, map, slice_index, slice_index_or, unsigned_abs};
+ghost use Rattle.apl_items.specs.Answers.{Answers, AnswersFirst, first_report};
 ghost use Rattle.apl_items.specs.Places.{OnWantOfMemory, places};
 ghost use Rattle.apl_structure.specs.Taking.{axes_faults, axes_for, drop_of, remaining, remaining_from, take_of, taken_from};
 
@@ -10,11 +10,11 @@ use std::alloc::Global;
 
 /// Along each axis of B as many items as A says, from its end where that is negative, and the fill beyond them. RANK
 /// where A is of rank over 1 or asks a scalar for over eight axes, else LENGTH where A has not one number for each
-/// axis, else DOMAIN where A is of characters, else WS FULL where the result is too large. Where there is no report but
-/// WS FULL it takes memory for a shape, and then for strides and the result.
+/// axis, else DOMAIN where A is of characters, else WS FULL where the result is too large, each also where there is no memory.
+/// It takes memory for the axes of B, for strides and for the result.
 pub fn take(alloc: Global, a: &Array, b: &Array) -> Result<Array, Fail>
     ensures answer { Answers result (take_of a.now b.now) }
-    ensures memory { OnWantOfMemory result (first_report (axes_faults a.now b.now) ≡ None) }
+    ensures memory { OnWantOfMemory result (IsOk (take_of a.now b.now)) }
 {
     match axes_report(a, b) {
         Some(report) => Err(Fail::Report(report)),
@@ -55,10 +55,11 @@ fn axes_report(a: &Array, b: &Array) -> Option<Report>
 /// Per axis of B the first items or the last, or WS FULL where they are too many.
 fn taken(alloc: Global, a: &Array, b: &Array) -> Result<Array, Fail>
     requires { None ≡ first_report (axes_faults a.now b.now) }
-    ensures { Answers result (take_of a.now b.now) }
+    ensures { AnswersFirst result (take_of a.now b.now) }
 {
+    let items = b.items();
     let numbers = a.numbers();
-    let lengths = capped(alloc, numbers)?;
+    let lengths = capped(numbers);
     let shape = lengths.as_slice();
     if pass_limits(numbers, shape) {
         return Err(Fail::Report(Report::WsFull));
@@ -66,7 +67,7 @@ fn taken(alloc: Global, a: &Array, b: &Array) -> Result<Array, Fail>
     let axes = axes_for(alloc, a.items().len(), b)?;
     let source = axes.as_slice();
     let picks = TakePlaces { numbers, source };
-    Ok(picked(alloc, b.items(), source, shape, &picks)?)
+    Ok(picked(alloc, items, source, shape, &picks)?)
 }
 
 /// Per axis of B the items without the first or the last.

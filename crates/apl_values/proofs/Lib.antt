@@ -5,6 +5,7 @@ pub mod Locals
 pub mod MadeRows
 pub mod NamingSteps
 pub mod ReadLaw
+pub mod Refusals
 pub mod RowSteps
 pub mod Seen
 pub mod SilentLaw

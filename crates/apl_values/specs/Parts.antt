@@ -3,11 +3,15 @@ use Rattle.std.specs.Prelude.{◌≡◌, ℕ, Bool, true, false, List, Some, Non
 use Rattle.apl_arrays.specs.Array.{PlainArray}
 use Rattle.apl_arrays.specs.declared.report.Fail.{Fail}
 use Rattle.apl_arrays.specs.declared.report.Fail.TheVariants as fail
-use Rattle.apl_arrays.specs.declared.report.Report.TheVariants.{Syntax, WsFull}
+use Rattle.apl_arrays.specs.declared.report.Report.TheVariants.{Character, Syntax, WsFull}
 use Rattle.apl_items.specs.Answers.{first_report, shape_faults}
 use Rattle.line_trees.specs.Nodes as node
 use Rattle.line_trees.specs.Nodes.{PlainNode, plain_node}
 use Rattle.line_scanner.specs.Scanning.{Scanned, reading_of}
+use Rattle.line_scanner.specs.declared.refused.ScanRefused.{ScanRefused}
+use Rattle.line_scanner.specs.declared.refused.ScanRefused.TheVariants as scan_refused
+use Rattle.line_trees.specs.declared.refused.ParseRefused.{ParseRefused}
+use Rattle.line_trees.specs.declared.refused.ParseRefused.TheVariants as parse_refused
 use Rattle.line_trees.specs.Parsing.{Parsed, PlainTree, parsed}
 use Rattle.line_trees.specs.Trees.{Statement, nothing, branch, whole, execute, as_nodes, line_tree_of}
 use Rattle.apl_workspace.specs.Workspace.{PlainWorkspace}
@@ -83,6 +87,17 @@ abbrev pub IsNotParsed : Parsed → Fail → Type 0
 IsNotParsed (Ok tree) (fail.Report report) = ⊥
 IsNotParsed (Err at) (fail.Report report) = report ≡ Syntax
 IsNotParsed parsed fail.WantOfMemory = Unit {0}
+
+-- the answer of a call for which a text was not scanned
+abbrev pub scan_failure : ScanRefused → Fail
+scan_failure (scan_refused.CharacterError at) = fail.Report Character
+scan_failure (scan_refused.SyntaxError at) = fail.Report Syntax
+scan_failure scan_refused.WantOfMemory = fail.WantOfMemory
+
+-- the answer of a call for which tokens are no tree
+abbrev pub parse_failure : ParseRefused → Fail
+parse_failure (parse_refused.SyntaxError at) = fail.Report Syntax
+parse_failure parse_refused.WantOfMemory = fail.WantOfMemory
 
 -- a statement has an expression that begins with a target and an arrow
 abbrev pub begins_silent : Statement → Bool

@@ -6,7 +6,7 @@ ghost use Rattle.line_trees.specs.Trees.{line_tree_of};
 ghost use Rattle.apl_meaning.specs.Reading.{classes_of, read_with};
 ghost use Rattle.apl_meaning.specs.Statements.{is_misplaced};
 ghost use Rattle.apl_values.specs.Places.{plain_place};
-ghost use Rattle.apl_values.specs.Parts.{IsTreeOf, IsNotParsed, IsNotRead, IsNotScanned, IsPart, IsReadFrom, IsReading, begins_silent, is_assignment_node, plain_part, plain_parts, reading_statement, reading_tree};
+ghost use Rattle.apl_values.specs.Parts.{IsTreeOf, IsNotParsed, IsNotRead, IsNotScanned, IsPart, IsReadFrom, IsReading, begins_silent, is_assignment_node, parse_failure, plain_part, plain_parts, reading_statement, reading_tree, scan_failure};
 
 use crate::classing::classes_for;
 use crate::part::Part;
@@ -111,9 +111,18 @@ pub fn scanned(alloc: Global, text: &Line) -> Result<Tokens, Fail>
 {
     match scan(alloc, text) {
         Ok(tokens) => Ok(tokens),
-        Err(ScanRefused::CharacterError(_)) => Err(Fail::Report(Report::Character)),
-        Err(ScanRefused::SyntaxError(_)) => Err(Fail::Report(Report::Syntax)),
-        Err(ScanRefused::WantOfMemory) => Err(Fail::WantOfMemory),
+        Err(refused) => Err(scan_failure(refused)),
+    }
+}
+
+// Why a text has no tokens, as the answer of a call.
+fn scan_failure(refused: ScanRefused) -> Fail
+    ensures { result ≡ scan_failure refused }
+{
+    match refused {
+        ScanRefused::CharacterError(_) => Fail::Report(Report::Character),
+        ScanRefused::SyntaxError(_) => Fail::Report(Report::Syntax),
+        ScanRefused::WantOfMemory => Fail::WantOfMemory,
     }
 }
 
@@ -134,7 +143,16 @@ fn parsed(alloc: Global, tokens: &Tokens, classes: &Classes) -> Result<Tree, Fai
 {
     match parse(alloc, tokens, classes) {
         Ok(tree) => Ok(tree),
-        Err(ParseRefused::SyntaxError(_)) => Err(Fail::Report(Report::Syntax)),
-        Err(ParseRefused::WantOfMemory) => Err(Fail::WantOfMemory),
+        Err(refused) => Err(parse_failure(refused)),
+    }
+}
+
+// Why tokens are no tree, as the answer of a call.
+fn parse_failure(refused: ParseRefused) -> Fail
+    ensures { result ≡ parse_failure refused }
+{
+    match refused {
+        ParseRefused::SyntaxError(_) => Fail::Report(Report::Syntax),
+        ParseRefused::WantOfMemory => Fail::WantOfMemory,
     }
 }

@@ -53,7 +53,7 @@ given_local globals offers printed frames items made name meaning at w view e h 
     ∙ ap (λ (all : List NameTable). given (with_frames globals offers printed (reverse all)) name meaning) e ∙ ap (λ (x : PlainWorkspace). given x name meaning) view
 
 -- what the workspace weighs then
-given_weight : (globals : NameTable) (offers : List Remake) (printed : ℕ) (frames items : List NameTable) (name : List ℕ) (meaning : Meaning) (at : ℕ) (w : PlainWorkspace) → with_frames globals offers printed (reverse items) ≡ w → frames ≡ items
+pub given_weight : (globals : NameTable) (offers : List Remake) (printed : ℕ) (frames items : List NameTable) (name : List ℕ) (meaning : Meaning) (at : ℕ) (w : PlainWorkspace) → with_frames globals offers printed (reverse items) ≡ w → frames ≡ items
     → IsInnermostAt frames name at → workspace_weight (given w name meaning) ≡ table_weight globals + sum_by table_weight (in_innermost (reverse frames) name meaning)
 given_weight globals offers printed frames items name meaning at w view e h =
     sym (ap workspace_weight (sym (given_here globals offers printed frames name meaning at h) ∙ ap (λ (all : List NameTable). given (with_frames globals offers printed (reverse all)) name meaning) e ∙ ap (λ (x : PlainWorkspace). given x name meaning) view))
@@ -65,4 +65,4 @@ given_fits globals offers printed frames items name meaning at w weight own view
 pub given_full : (globals : NameTable) (offers : List Remake) (printed : ℕ) (frames items : List NameTable) (name : List ℕ) (meaning : Meaning) (at : ℕ) (w : PlainWorkspace) (own : ℕ) (fail : Fail) → with_frames globals offers printed (reverse items) ≡ w → frames ≡ items
     → IsInnermostAt frames name at → own ≡ table_weight globals → own ≤ most_weight → AreTooHeavy (most_weight - own) (in_innermost (reverse frames) name meaning) fail → IsFull (given w name meaning) fail
 given_full globals offers printed frames items name meaning at w own (Report report) view e h o bound full = (cc (full.0), omega (arith, given_weight globals offers printed frames items name meaning at w view e h, full.1, o, bound))
-given_full globals offers printed frames items name meaning at w own WantOfMemory view e h o bound full = tt
+given_full globals offers printed frames items name meaning at w own WantOfMemory view e h o bound full = absurd (cc (full.0))

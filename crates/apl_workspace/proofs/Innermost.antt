@@ -1,7 +1,9 @@
 -- Frames from the innermost outwards.
-use Rattle.std.proofs.Common.{◌≡◌, ℕ, suc, ◌+◌, ◌-◌, ◌<◌, ◌≤◌, true, false, cond, List, [], ◌∷◌, ◌++◌, Option, Some, None, length, take, drop, get_or, set, reverse, sum_by, refl, sym, ap, ◌∙◌, append_assoc, drop-cons, arith}
-use Rattle.std.specs.Prelude.{IsSome, is_some}
+use Rattle.std.proofs.Common.{◌≡◌, ℕ, suc, ◌+◌, ◌-◌, ◌<◌, ◌≤◌, true, false, cond, List, [], ◌∷◌, ◌++◌, Option, Some, None, length, take, drop, get_or, set, reverse, sum_by, refl, sym, ap, ◌∙◌, append_assoc, drop-cons, ⊎_elim, arith}
+use Rattle.std.specs.Prelude.{IsSome, is_some, nat_le}
 use Rattle.std.specs.Option.{option_or}
+use Rattle.std.proofs.lemmas.Bool.{cases_lt}
+use Rattle.std.proofs.lemmas.Bool.Decides.{nat_tests}
 use Rattle.std.proofs.lemmas.List.{take_more, take-append-drop, length-take-le, get_or-append_right, reverse-append}
 use Rattle.std.proofs.lemmas.List.Sums.{sum_by-append, sum_by-cons}
 use Rattle.std.proofs.Math.Seq.{set-append_seam}
@@ -157,3 +159,21 @@ full_frames frames found name meaning at before weight most WantOfMemory h withi
 -- the frame at the place has the name
 pub has_it : (frames : List NameTable) (name : List ℕ) (at : ℕ) (found : NameTable) → IsInnermostAt frames name at → found ≡ get_or frames at found → IsSome (meaning_in found name)
 has_it frames name at found h e = ap (λ (t : NameTable). is_some (meaning_in t name)) (frame_at frames name at found h e) ∙ h.has
+
+-- ---- whether frames keep within a weight
+
+is_within : (a b : ℕ) → a ≤ b → nat_le a b ≡ true
+is_within a b e = grind (arith, nat_tests)
+
+not_within : (a b : ℕ) → b < a → nat_le a b ≡ false
+not_within a b e = grind (arith, nat_tests)
+
+pub least_left : (a b others most : ℕ) → others ≤ most → b ≡ others + a → nat_le a (most - others) ≡ nat_le b most
+least_left a b others most within is =
+    ⊎_elim (λ lt. not_within a (most - others) (omega (arith, lt, within, is)) ∙ sym (not_within b most lt)) (λ le. is_within a (most - others) (omega (arith, le, within, is)) ∙ sym (is_within b most le)) (cases_lt most b)
+
+-- whether a table fits into what is left for it tells whether all frames fit
+pub frames_fit : (frames : List NameTable) (found : NameTable) (name : List ℕ) (meaning : Meaning) (at before weight most : ℕ) → IsPut frames found name meaning at before weight → weight ≤ most
+    → nat_le (table_weight (with_meaning found name meaning)) (most - (weight - before)) ≡ nat_le (sum_by table_weight (in_innermost (reverse frames) name meaning)) most
+frames_fit frames found name meaning at before weight most h within =
+    least_left (table_weight (with_meaning found name meaning)) (sum_by table_weight (in_innermost (reverse frames) name meaning)) (weight - before) most (omega (arith, within)) h.weighs

@@ -1,6 +1,7 @@
 pub mod Ascending
 pub mod Comments
 pub mod Entering
+pub mod Fitting
 pub mod FrameLaw
 pub mod Giving
 pub mod HeaderLaw

@@ -1,21 +1,25 @@
 -- What a change of a table does to its weight.
-use Rattle.std.proofs.Common.{◌≡◌, ℕ, ◌+◌, ◌-◌, ◌<◌, ◌≤◌, Bool, cond, min, List, [], ◌∷◌, Ordering, Option, Some, None, refl, sym, ap, ◌∙◌, subst, arith, true, false}
-use Rattle.std.specs.Prelude.{IfSome, IsSome, is_some, unwrap_or}
+use Rattle.std.proofs.Common.{◌≡◌, ℕ, ◌+◌, ◌-◌, ◌<◌, ◌≤◌, Bool, cond, min, List, [], ◌∷◌, Ordering, Option, Some, None, refl, sym, ap, ◌∙◌, subst, ⊎_elim, arith, true, false}
+use Rattle.std.specs.Prelude.{IfErr, IfSome, IsSome, Err, Result, is_some, nat_le, unwrap_or}
 use Rattle.std.specs.Option.{option_map}
 use Rattle.std.specs.Map.{keys_of, lookup, values_of}
 use Rattle.std.specs.Ordering.{match_ordering}
 use Rattle.std.specs.declared.cmp.Ordering.TheVariants.{Less, Equal, Greater}
 use Rattle.std.specs.List.Sorted.{IsStrictlySortedBy}
+use Rattle.std.proofs.lemmas.Bool.{cases_lt}
+use Rattle.std.proofs.lemmas.Bool.Decides.{nat_tests}
 use Rattle.std.proofs.lemmas.Cmp.{nat_list_cmp_total}
 use Rattle.std.proofs.lemmas.List.Sums.{sum_by-cons}
 use Rattle.std.proofs.lemmas.Map.Entries.{sum_by-insert_entry, sum_by-remove_entry}
 use Rattle.apl_arrays.specs.Array.{PlainArray}
+use Rattle.apl_arrays.specs.declared.report.Fail.{Fail}
+use Rattle.apl_arrays.specs.declared.report.Fail.TheVariants.{WantOfMemory}
 use Rattle.apl_workspace.specs.declared.meaning.Meaning.{Meaning}
 use Rattle.apl_workspace.specs.declared.meaning.Meaning.TheVariants.{Nothing, Value, Function, Label, Shared}
 use Rattle.apl_workspace.specs.Sorted.{sorted}
 use Rattle.apl_arrays.specs.Name.{name_order, same_name}
 use Rattle.apl_workspace.specs.Limits.{most_weight}
-use Rattle.apl_workspace.specs.Meaning.{NameTable, IsTable, IsWhole, shared_copy, meaning_in, meaning_weight, own_copy_in, table_weight, value_weight, weight_in, with_meaning, without_name}
+use Rattle.apl_workspace.specs.Meaning.{IsFullFor, NameTable, IsTable, IsWhole, shared_copy, meaning_in, meaning_weight, own_copy_in, table_weight, value_weight, weight_in, with_meaning, without_name}
 use Rattle.apl_workspace.proofs.Ascending.{by_order_all, found, found_with, found_without, none_ascend, told_by_look_ups, with_ascends, without_ascends}
 use Rattle.apl_workspace.proofs.InOrder.{Entries, looked_up}
 use Rattle.apl_workspace.proofs.NameLaw.{own_name, equal_names}
@@ -206,3 +210,21 @@ keeps_copy entries names name weight e table =
       put = λ copy. put_twice names name Nothing (Value copy) s;
       as_heavy = λ copy own. omega (arith, weight_with names name (Value copy) s, copy_weighs (meaning_in names name) copy own);
     }
+
+-- ---- whether a table keeps within a weight
+
+over_all : (a b : ℕ) → b < a → nat_le a b ≡ false
+over_all a b e = grind (arith, nat_tests)
+
+-- two numbers that are over a bound alike
+pub over_alike : (a b m : ℕ) → (m < a → m < b) → (a ≤ m → a ≡ b) → nat_le a m ≡ nat_le b m
+over_alike a b m over fits = ⊎_elim (λ lt. over_all a m lt ∙ sym (over_all b m (over lt))) (λ le. ap (λ (n : ℕ). nat_le n m) (fits le)) (cases_lt m a)
+
+-- the weight that is reckoned tells whether the table fits
+pub reckoned_fits : (names : NameTable) (name : List ℕ) (meaning : Meaning) (reckoned most : ℕ) → IsReckoned names name meaning reckoned most → nat_le reckoned most ≡ nat_le (table_weight (with_meaning names name meaning)) most
+reckoned_fits names name meaning reckoned most h = over_alike reckoned (table_weight (with_meaning names name meaning)) most h.over h.fits
+
+-- where memory ran out, the table with the name would keep within the limit
+pub wanted_within : {T : Type 0} (r : Result T Fail) (why : Fail) (names : NameTable) (most : ℕ) → r ≡ Err why → why ≡ WantOfMemory → table_weight names ≤ most → IfErr r (λ fail. IsFullFor most names fail)
+wanted_within {T} r why names most is same fits =
+    subst (λ (x : Result T Fail). IfErr x (λ fail. IsFullFor most names fail)) (sym is) (subst (λ (fail : Fail). IsFullFor most names fail) (sym same) fits)

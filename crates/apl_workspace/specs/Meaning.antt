@@ -136,7 +136,7 @@ pub record IsTable (weight : ℕ) (names : NameTable) : Type 0 where
 abbrev pub weight_in : NameTable → List ℕ → ℕ
 weight_in names name = unwrap_or (option_map meaning_weight (meaning_in names name)) 0
 
--- why a table was not made: it would weigh more than it may, or memory ran out
+-- why a table was not made: it would weigh more than it may, or it may weigh so much and memory ran out
 abbrev pub IsFullFor : ℕ → NameTable → Fail → Type 0
 IsFullFor most names (Report report) = (report ≡ WsFull) × (most < table_weight names)
-IsFullFor most names WantOfMemory = Unit {0}
+IsFullFor most names WantOfMemory = table_weight names ≤ most

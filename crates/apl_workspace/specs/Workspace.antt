@@ -154,10 +154,10 @@ is_assignable (Function function) = false
 is_assignable (Label line) = false
 is_assignable (Shared copy) = true
 
--- why a workspace was not made: it would weigh more than it may, or memory ran out
+-- why a workspace was not made: it would weigh more than it may, or it may weigh so much and memory ran out
 abbrev pub IsFull : PlainWorkspace → Fail → Type 0
 IsFull w (Report report) = (report ≡ WsFull) × (most_weight < workspace_weight w)
-IsFull w WantOfMemory = Unit {0}
+IsFull w WantOfMemory = workspace_weight w ≤ most_weight
 
 -- why a workspace was not changed where that takes no memory: it would weigh more than it may
 abbrev pub IsTooHeavy : PlainWorkspace → Fail → Type 0
@@ -179,10 +179,10 @@ without_global w name = record w { globals = without_name w.globals name }
 abbrev pub is_there : PlainWorkspace → List ℕ → Bool
 is_there w name = is_local w name || is_some (meaning_in w.globals name)
 
--- why an assignment was refused: the name is a label or a function, else the workspace would weigh more than it may, or memory ran out for a name that was not there
+-- why an assignment was refused: the name is a label or a function, else the workspace would weigh more than it may, else memory ran out for a name that was not there
 abbrev pub IsNotAssigned : Bool → Bool → PlainWorkspace → Fail → Type 0
 IsNotAssigned there assignable w (Report report) = MatchBool assignable ((report ≡ WsFull) × (most_weight < workspace_weight w)) (report ≡ Syntax)
-IsNotAssigned there assignable w WantOfMemory = (assignable ≡ true) × (there ≡ false)
+IsNotAssigned there assignable w WantOfMemory = (assignable ≡ true) × (there ≡ false) × (workspace_weight w ≤ most_weight)
 
 -- the innermost table that has a name stands behind so many outer ones
 pub record IsInnermostAt (frames : List NameTable) (name : List ℕ) (at : ℕ) : Type 0 where

@@ -1,8 +1,8 @@
-ghost use Rattle.std.specs.Prelude.{◌≡◌, ◌<◌, ◌≤◌, None, MatchOption, OnOk, OnErr, IfOk, IfErr, IfSome, length, reverse, sum_by};
+ghost use Rattle.std.specs.Prelude.{◌≡◌, ◌<◌, ◌≤◌, ◌+◌, None, MatchOption, OnOk, OnErr, IfOk, IfErr, IfSome, length, min, nat_le, reverse, sum_by};
 ghost use Rattle.std.specs.Option.{option_copied};
 ghost use Rattle.apl_workspace.specs.Workspace.{AreTooHeavy, IsInnermostAt, in_innermost, innermost};
 ghost use Rattle.apl_workspace.specs.Limits.{most_weight};
-ghost use Rattle.apl_workspace.specs.Meaning.{IsWhole, table_weight};
+ghost use Rattle.apl_workspace.specs.Meaning.{IsWhole, meaning_weight, table_weight};
 
 use crate::Meaning;
 use crate::table::Table;
@@ -70,4 +70,27 @@ pub fn put_innermost(
         Ok(()) => Ok(others + table.weight()),
         Err(fail) => Err(fail),
     }
+}
+
+/// Whether all frames weigh at most `most` once a name stands for something of this weight in the frame at a place, the
+/// innermost that has the name. No memory.
+pub fn fits_innermost(
+    frames: &[Table],
+    at: usize,
+    weight: usize,
+    name: &Name,
+    after: usize,
+    most: usize,
+) -> bool
+    requires place { IsInnermostAt frames.now name.now at }
+    requires inside { at < length frames.now }
+    requires weight { weight ≡ sum_by table_weight frames.now }
+    requires within { weight ≤ most }
+    requires limit { most ≤ most_weight }
+    requires after { after ≤ most_weight + 1 }
+    ensures { (meaning : Meaning) → after ≡ min (meaning_weight meaning) (most_weight + 1) → result ≡ nat_le (sum_by table_weight (in_innermost (reverse frames.now) name.now meaning)) most }
+{
+    let table = &frames[at];
+    let others = weight - table.weight();
+    table.fits(name, after, most - others)
 }

@@ -45,8 +45,8 @@ impl Meaning {
     }
 }
 
-/// What a value weighs: one, and its items.
-fn value_weight(value: &Array) -> usize
+/// What a value weighs: one, and its items. No memory.
+pub fn value_weight(value: &Array) -> usize
     ensures { result ≡ min (value_weight value.now) (most_weight + 1) }
 {
     value.items().len() + 1

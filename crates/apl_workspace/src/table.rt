@@ -1,4 +1,4 @@
-ghost use Rattle.std.specs.Prelude.{◌≡◌, ◌==◌, ◌+◌, ◌<◌, ◌≤◌, ◌++◌, ◌∷◌, ℕ, List as ListOf, [], Some, None, filter, min, if◌then◌else◌, true, length, slice_get, unwrap_or, IsOk, IsSome, OnOk, OnErr, IfErr, IfOk, IfSome};
+ghost use Rattle.std.specs.Prelude.{◌≡◌, ◌==◌, ◌+◌, ◌<◌, ◌≤◌, ◌++◌, ◌∷◌, ℕ, List as ListOf, [], Some, None, filter, min, if◌then◌else◌, true, length, nat_le, slice_get, unwrap_or, IsOk, IsSome, OnOk, OnErr, IfErr, IfOk, IfSome};
 ghost use Rattle.std.specs.List.{IsDistinct};
 ghost use Rattle.std.specs.List.Sorted.{IsStrictlySortedBy};
 ghost use Rattle.apl_arrays.specs.Name.{name_order, same_name};
@@ -67,9 +67,9 @@ impl Table {
         self.weight
     }
 
-    /// The name stands for this, in place of what it stood for. `WsFull` where the table would weigh more than `most`;
-    /// it leaves the table as it was, and so does `WantOfMemory`. It takes memory for a name that is not there yet, and
-    /// for no other.
+    /// The name stands for this, in place of what it stood for. `WsFull` where the table would weigh more than `most`,
+    /// also where there is no memory; it leaves the table as it was, and so does `WantOfMemory`. It takes memory for a
+    /// name that is not there yet, and for no other.
     pub fn put(&mut self, name: Name, meaning: Meaning, most: usize) -> Result<(), Fail>
         requires limit { most ≤ most_weight }
         requires whole { IsWhole name meaning }
@@ -235,6 +235,15 @@ impl Table {
         let mut names = collected(alloc, &self.names, None)?;
         names.sort()?;
         Ok(List::from(names))
+    }
+
+    /// Whether the table weighs at most `most` once a name stands for something of this weight. No memory.
+    pub fn fits(&self, name: &Name, weight: usize, most: usize) -> bool
+        requires limit { most ≤ most_weight }
+        requires weight { weight ≤ most_weight + 1 }
+        ensures { (meaning : Meaning) → weight ≡ min (meaning_weight meaning) (most_weight + 1) → result ≡ nat_le (table_weight (with_meaning self.now name.now meaning)) most }
+    {
+        self.weight - self.weight_at(name) + weight <= most
     }
 
     #[tactic(auto, using(crate::proofs::InOrder::looked_up, crate::proofs::Tables::weight_without))]

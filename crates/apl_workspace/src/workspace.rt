@@ -7,6 +7,7 @@ ghost use Rattle.apl_workspace.specs.Workspace.{IsWorkspace, empty_workspace, gl
 
 mod calls;
 mod changes;
+mod fitting;
 mod offers;
 
 use crate::frames::innermost;

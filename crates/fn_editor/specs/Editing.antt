@@ -1,5 +1,5 @@
 -- What a line does to an open definition.
-use Rattle.std.specs.Prelude.{◌≡◌, ◌+◌, ◌&&◌, ◌||◌, ℕ, Bool, List, [], Option, Some, None, length, nat_le, nat_lt, if◌then◌else◌}
+use Rattle.std.specs.Prelude.{◌≡◌, ◌+◌, ◌&&◌, ◌||◌, ℕ, Bool, true, false, List, [], Option, Some, None, is_some, length, nat_le, nat_lt, if◌then◌else◌}
 use Rattle.std.specs.Option.{option_map}
 use Rattle.apl_arrays.specs.Glyph.{left_bracket}
 use Rattle.apl_arrays.specs.Limits.{most_line_glyphs}
@@ -87,7 +87,28 @@ then_closed closed result = record result { editor = record result.editor { clos
 abbrev pub fed : PlainEditor → List ℕ → Option Edited
 fed editor line = option_map (then_closed (closes_definition line)) (edited editor (body line))
 
--- why nothing was done: DEFN ERROR, where the rules give nothing, or memory ran out
-abbrev pub IsRefused : {A : Type 0} → Option A → Fail → Type 0
-IsRefused result (Report report) = (report ≡ Defn) × (result ≡ None)
-IsRefused result WantOfMemory = Unit {0}
+-- a bracket behind which a header is read
+abbrev pub is_header_bracket : Bracket → Bool
+is_header_bracket Show = false
+is_header_bracket (Delete number) = false
+is_header_bracket Header = true
+is_header_bracket (At number) = false
+
+-- a header is read behind a bracket, where it is one
+abbrev pub bracket_reads : Option (Bracket × List ℕ) → Bool
+bracket_reads None = false
+bracket_reads (Some found) = is_header_bracket found.0
+
+-- a header is read of a line that begins with a bracket, or does not
+abbrev pub line_reads : Option (List ℕ) → Bool
+line_reads None = false
+line_reads (Some rest) = bracket_reads (bracket_in rest)
+
+-- a header is read of a line without a closing ∇: memory is taken before it is known whether the rules give something
+abbrev pub reads_header : List ℕ → Bool
+reads_header line = line_reads (behind_glyph left_bracket (without_blanks line))
+
+-- why nothing was done: DEFN ERROR, where the rules give nothing; or memory ran out where they give something, or where memory is taken before that is known
+abbrev pub IsRefused : {A : Type 0} → Bool → Option A → Fail → Type 0
+IsRefused early result (Report report) = (report ≡ Defn) × (result ≡ None)
+IsRefused early result WantOfMemory = (early || is_some result) ≡ true

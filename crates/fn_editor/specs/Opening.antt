@@ -1,11 +1,12 @@
 -- How a definition is opened.
-use Rattle.std.specs.Prelude.{◌&&◌, ℕ, Bool, false, not, List, [], Option, Some, None, length, drop, is_some, nat_le, if◌then◌else◌}
+use Rattle.std.specs.Prelude.{◌&&◌, ℕ, Bool, true, false, not, List, [], Option, Some, None, length, drop, is_some, nat_le, if◌then◌else◌}
 use Rattle.std.specs.Option.{option_map}
 use Rattle.apl_arrays.specs.Glyph.{del, left_bracket}
 use Rattle.apl_arrays.specs.Limits.{most_line_glyphs}
 use Rattle.apl_arrays.specs.Name.{longest_name}
 use Rattle.apl_workspace.specs.Blanks.{without_blanks}
 use Rattle.apl_workspace.specs.Header.{PlainHeader, header_of}
+use Rattle.apl_workspace.specs.Meaning.{is_function_meaning}
 use Rattle.apl_workspace.specs.Workspace.{PlainWorkspace, global_in}
 use Rattle.apl_workspace.specs.declared.meaning.Meaning.{Meaning}
 use Rattle.apl_workspace.specs.declared.meaning.Meaning.TheVariants.{Nothing, Value, Function, Label, Shared}
@@ -70,3 +71,17 @@ opened_behind w (Some rest) = option_map (then_closed (closes_definition rest)) 
 -- what a line opens: none is DEFN ERROR, and nothing is opened
 abbrev pub opened : PlainWorkspace → List ℕ → Option Edited
 opened w line = opened_behind w (behind_glyph del (without_blanks line))
+
+-- memory is taken before it is known whether something is opened: a function is copied before its bracket is looked at, and a header is read
+abbrev pub takes_memory_first : PlainWorkspace → Option (List ℕ × List ℕ) → Bool
+takes_memory_first w None = true
+takes_memory_first w (Some found) = is_function_meaning (global_in w found.0)
+
+-- the same of what stands behind the ∇ that opens
+abbrev pub behind_takes_first : PlainWorkspace → Option (List ℕ) → Bool
+behind_takes_first w None = false
+behind_takes_first w (Some rest) = takes_memory_first w (name_with_bracket (body rest))
+
+-- the same of a whole line
+abbrev pub line_takes_first : PlainWorkspace → List ℕ → Bool
+line_takes_first w line = behind_takes_first w (behind_glyph del (without_blanks line))

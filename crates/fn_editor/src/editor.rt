@@ -1,19 +1,19 @@
-ghost use Rattle.std.specs.Prelude.{◌≡◌, ◌+◌, ◌<◌, ◌≤◌, false, true, Some, IfOk, IfErr, OnOk, OnErr, length, map, if◌then◌else◌};
+ghost use Rattle.std.specs.Prelude.{◌≡◌, ◌+◌, ◌<◌, ◌≤◌, false, true, Some, IfOk, IfErr, OnOk, OnErr, length, map, min, if◌then◌else◌};
 ghost use Rattle.apl_arrays.specs.Limits.{most_line_glyphs};
 ghost use Rattle.apl_arrays.specs.List.{glyphs_in};
 ghost use Rattle.std.specs.Option.{option_map};
 ghost use Rattle.std.specs.BTreeMap.{btree_map_len, is_at};
 ghost use Rattle.std.specs.Map.{lookup};
 ghost use Rattle.std.specs.Ordering.{nat_cmp};
-ghost use Rattle.apl_workspace.specs.Function.{IsFunction};
+ghost use Rattle.apl_workspace.specs.Function.{IsFunction, function_weight};
 ghost use Rattle.apl_workspace.specs.Header.{header_of};
 ghost use Rattle.apl_workspace.specs.Limits.{most_function_lines, most_weight};
 ghost use Rattle.apl_workspace.specs.Meaning.{is_variable_meaning};
 ghost use Rattle.apl_workspace.specs.declared.meaning.Meaning.{Meaning};
 ghost use Rattle.apl_workspace.specs.Workspace.{IsFull, global_in, with_global, workspace_weight};
 ghost use Rattle.fn_editor.specs.Bracket.{bracket_in};
-ghost use Rattle.fn_editor.specs.Closing.{behind_glyph};
-ghost use Rattle.fn_editor.specs.Editing.{IsRefused, by_bracket, commanded, deleted, edited, fed, is_in_reach, may_enter, quietly, with_current_number, with_header, with_text};
+ghost use Rattle.fn_editor.specs.Closing.{behind_glyph, body};
+ghost use Rattle.fn_editor.specs.Editing.{IsRefused, bracket_reads, by_bracket, commanded, deleted, edited, fed, is_header_bracket, is_in_reach, may_enter, quietly, reads_header, with_current_number, with_header, with_text};
 ghost use Rattle.fn_editor.specs.Editor.{defined_function, editor_of, has_line, numbered, shown, with_line_at, without_line};
 ghost use Rattle.fn_editor.specs.Number.{line_number};
 ghost use Rattle.fn_editor.specs.Opening.{new_editor};
@@ -21,12 +21,14 @@ ghost use Rattle.fn_editor.specs.Prompt.{prompt_text};
 
 use crate::bracket::{Bracket, bracket_in};
 use crate::closing::{behind_glyph, is_blank_text, split_close};
-use crate::content::{LineText, copied_line};
+use crate::content::{LineText, copied_line, lines_weight};
 use crate::number::{LineNumber, WHOLE_LIMIT};
 use crate::prompt::Prompt;
 use crate::showing::shown;
 use apl_arrays::{Fail, Glyph, LINE_GLYPH_LIMIT, Line, LineList, Name, Report, WantOfMemory};
-use apl_workspace::{FUNCTION_LINE_LIMIT, Function, Header, Workspace, without_blanks};
+use apl_workspace::{
+    FUNCTION_LINE_LIMIT, Function, Header, WEIGHT_LIMIT, Workspace, without_blanks,
+};
 use std::alloc::Global;
 use std::collections::BTreeMap;
 use std::marker::Model;
@@ -86,14 +88,14 @@ impl Editor {
 
     /// Does what a line asks: a bracket at its start, or text that enters at the current number; then a closing `∇`
     /// closes the definition. The answer tells what is shown; the name stays. `Defn` where the rules have nothing for the
-    /// line; it leaves the definition as it was, and so does `WantOfMemory`. It takes memory for a text or a header that
-    /// enters, and for lines that are shown.
+    /// line, also where there is no memory, unless a header is to be read; it leaves the definition as it was, and so does
+    /// `WantOfMemory`. It takes memory for a text or a header that enters, and for lines that are shown.
     pub fn feed(&mut self, line: &Line) -> Result<Fed, Fail>
         requires { self.old.closed ≡ false }
         ensures ok { IfOk result (λ done. fed self.old line.now.items ≡ Some (record { editor = self.new; shown = done.shown.items })) }
         ensures closed { IfOk result (λ done. done.closed ≡ self.new.closed) }
         ensures name { self.new.header.name ≡ self.old.header.name }
-        ensures refused { IfErr result (λ fail. IsRefused (fed self.old line.now.items) fail) }
+        ensures refused { IfErr result (λ fail. IsRefused (reads_header (body line.now.items)) (fed self.old line.now.items) fail) }
         ensures err { OnErr result (self.new ≡ self.old) }
     {
         let (body, closes) = split_close(line.as_slice());
@@ -106,8 +108,8 @@ impl Editor {
     }
 
     /// Defines the function in a workspace, its lines renumbered from 1, in place of one that is there. `WsFull` where
-    /// the workspace would weigh more than it may; it leaves the workspace as it was, and so does `WantOfMemory`. The
-    /// definition is gone in any case.
+    /// the workspace would weigh more than it may, also where there is no memory; it leaves the workspace as it was, and so
+    /// does `WantOfMemory`. The definition is gone in any case.
     pub fn close(self, ws: &mut Workspace) -> Result<(), Fail>
         requires closed { self.closed ≡ true }
         requires no_variable { is_variable_meaning (global_in ws.old self.header.name) ≡ false }
@@ -116,6 +118,12 @@ impl Editor {
         ensures err { OnErr result (ws.new ≡ ws.old) }
         ensures full { IfErr result (IsFull (with_global ws.old self.header.name (Meaning.Function (defined_function self)))) }
     {
+        let name = self.name();
+        let weight = self.weight();
+        if !ws.has_room(&name, weight) {
+            drop(self);
+            return Err(Fail::Report(Report::WsFull));
+        }
         let function = self.into_function()?;
         ws.define(function)
     }
@@ -162,7 +170,7 @@ impl Editor {
     /// Does what a line without a closing `∇` asks.
     pub(crate) fn edit(&mut self, line: &[Glyph]) -> Result<LineList, Fail>
         ensures ok { IfOk result (λ shown. edited self.old line.now ≡ Some (record { editor = self.new; shown = shown.items })) }
-        ensures refused { IfErr result (λ fail. IsRefused (edited self.old line.now) fail) }
+        ensures refused { IfErr result (λ fail. IsRefused (reads_header line.now) (edited self.old line.now) fail) }
         ensures err { OnErr result (self.new ≡ self.old) }
     {
         match behind_glyph(without_blanks(line), Glyph::LEFT_BRACKET) {
@@ -178,7 +186,7 @@ impl Editor {
     /// Does what a bracket asks, behind its `[`.
     pub(crate) fn bracketed(&mut self, rest: &[Glyph]) -> Result<LineList, Fail>
         ensures ok { IfOk result (λ shown. by_bracket self.old (bracket_in rest.now) ≡ Some (record { editor = self.new; shown = shown.items })) }
-        ensures refused { IfErr result (λ fail. IsRefused (by_bracket self.old (bracket_in rest.now)) fail) }
+        ensures refused { IfErr result (λ fail. IsRefused (bracket_reads (bracket_in rest.now)) (by_bracket self.old (bracket_in rest.now)) fail) }
         ensures err { OnErr result (self.new ≡ self.old) }
     {
         match bracket_in(rest) {
@@ -189,7 +197,7 @@ impl Editor {
 
     fn command(&mut self, bracket: Bracket, text: &[Glyph]) -> Result<LineList, Fail>
         ensures ok { IfOk result (λ shown. commanded self.old bracket text.now ≡ Some (record { editor = self.new; shown = shown.items })) }
-        ensures refused { IfErr result (λ fail. IsRefused (commanded self.old bracket text.now) fail) }
+        ensures refused { IfErr result (λ fail. IsRefused (is_header_bracket bracket) (commanded self.old bracket text.now) fail) }
         ensures err { OnErr result (self.new ≡ self.old) }
     {
         match bracket {
@@ -212,7 +220,7 @@ impl Editor {
     // Shows the definition, where no text follows.
     fn show(&self, text: &[Glyph]) -> Result<LineList, Fail>
         ensures ok { IfOk result (λ lines. commanded self.now Bracket.Show text.now ≡ Some (record { editor = self.now; shown = lines.items })) }
-        ensures refused { IfErr result (λ fail. IsRefused (commanded self.now Bracket.Show text.now) fail) }
+        ensures refused { IfErr result (λ fail. IsRefused false (commanded self.now Bracket.Show text.now) fail) }
     {
         if !is_blank_text(text) {
             return Err(Fail::Report(Report::Defn));
@@ -223,7 +231,7 @@ impl Editor {
     // Text enters at a number, and the number moves on; blank text only moves the number there.
     fn enter(&mut self, number: LineNumber, text: &[Glyph]) -> Result<(), Fail>
         ensures ok { OnOk result (with_text (with_current_number self.old number) text.now ≡ Some self.new) }
-        ensures refused { IfErr result (λ fail. IsRefused (with_text (with_current_number self.old number) text.now) fail) }
+        ensures refused { IfErr result (λ fail. IsRefused false (with_text (with_current_number self.old number) text.now) fail) }
         ensures err { OnErr result (self.new ≡ self.old) }
     {
         if is_blank_text(text) {
@@ -250,7 +258,7 @@ impl Editor {
     // Goes to a number that is in reach, and enters the text there.
     fn enter_at(&mut self, number: LineNumber, text: &[Glyph]) -> Result<(), Fail>
         ensures ok { OnOk result (commanded self.old (Bracket.At number) text.now ≡ Some (quietly self.new)) }
-        ensures refused { IfErr result (λ fail. IsRefused (commanded self.old (Bracket.At number) text.now) fail) }
+        ensures refused { IfErr result (λ fail. IsRefused false (commanded self.old (Bracket.At number) text.now) fail) }
         ensures err { OnErr result (self.new ≡ self.old) }
     {
         if !self.is_in_reach(number) {
@@ -272,7 +280,7 @@ impl Editor {
     // Deletes the line at a number, where there is one and no text follows, and goes there.
     fn delete(&mut self, number: LineNumber, text: &[Glyph]) -> Result<(), Fail>
         ensures ok { OnOk result (commanded self.old (Bracket.Delete number) text.now ≡ Some (quietly self.new)) }
-        ensures refused { IfErr result (λ fail. IsRefused (commanded self.old (Bracket.Delete number) text.now) fail) }
+        ensures refused { IfErr result (λ fail. IsRefused false (commanded self.old (Bracket.Delete number) text.now) fail) }
         ensures err { OnErr result (self.new ≡ self.old) }
     {
         if !is_blank_text(text) || !self.lines.contains_key(&number) {
@@ -286,11 +294,22 @@ impl Editor {
     // Takes a header of the same name in place of the one there is.
     fn replace_header(&mut self, text: &[Glyph]) -> Result<(), Fail>
         ensures ok { OnOk result (option_map quietly (with_header self.old text.now (header_of text.now)) ≡ Some (quietly self.new)) }
-        ensures refused { IfErr result (λ fail. IsRefused (option_map quietly (with_header self.old text.now (header_of text.now))) fail) }
+        ensures refused { IfErr result (λ fail. IsRefused true (option_map quietly (with_header self.old text.now (header_of text.now))) fail) }
         ensures err { OnErr result (self.new ≡ self.old) }
     {
         let text = copied_line(self.alloc, text)?;
-        match Header::read(self.alloc, &text)? {
+        let header = Header::read(self.alloc, &text)?;
+        self.take_read(text, header)
+    }
+
+    // Takes a header that was read, where the text is one. No memory.
+    fn take_read(&mut self, text: Line, header: Option<Header>) -> Result<(), Fail>
+        requires { header ≡ header_of text.items }
+        ensures ok { OnOk result (with_header self.old text.items header ≡ Some self.new) }
+        ensures refused { IfErr result (λ fail. IsRefused false (with_header self.old text.items header) fail) }
+        ensures err { OnErr result (self.new ≡ self.old) }
+    {
+        match header {
             None => Err(Fail::Report(Report::Defn)),
             Some(header) => self.take_header(text, header),
         }
@@ -299,7 +318,7 @@ impl Editor {
     fn take_header(&mut self, text: Line, header: Header) -> Result<(), Fail>
         requires { header_of text.items ≡ Some header }
         ensures ok { OnOk result (with_header self.old text.items (Some header) ≡ Some self.new) }
-        ensures refused { IfErr result (λ fail. IsRefused (with_header self.old text.items (Some header)) fail) }
+        ensures refused { IfErr result (λ fail. IsRefused false (with_header self.old text.items (Some header)) fail) }
         ensures err { OnErr result (self.new ≡ self.old) }
     {
         if text.as_slice().len() > LINE_GLYPH_LIMIT || self.header.name != header.name {
@@ -308,6 +327,14 @@ impl Editor {
         self.text = text;
         self.header = header;
         Ok(())
+    }
+
+    // What the function of the definition weighs, or one more than a workspace may weigh where that is less. No memory.
+    fn weight(&self) -> usize
+        ensures { result ≡ min (function_weight (defined_function self.now)) (most_weight + 1) }
+    {
+        let text = self.text.as_slice().len().min(WEIGHT_LIMIT);
+        (text + 1 + lines_weight(&self.lines)).min(WEIGHT_LIMIT + 1)
     }
 
     // The function of the definition.

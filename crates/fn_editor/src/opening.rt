@@ -1,12 +1,12 @@
-ghost use Rattle.std.specs.Prelude.{◌≡◌, false, Some, IfOk, IfErr};
+ghost use Rattle.std.specs.Prelude.{◌≡◌, false, true, Some, IfOk, IfErr};
 ghost use Rattle.std.specs.Option.{option_map};
 ghost use Rattle.apl_workspace.specs.Header.{header_of};
-ghost use Rattle.apl_workspace.specs.Meaning.{is_variable_meaning};
+ghost use Rattle.apl_workspace.specs.Meaning.{is_function_meaning, is_variable_meaning};
 ghost use Rattle.apl_workspace.specs.Workspace.{global_in};
 ghost use Rattle.apl_workspace.specs.declared.meaning.Meaning.{Meaning};
 ghost use Rattle.fn_editor.specs.Editing.{IsRefused, by_bracket, quietly};
 ghost use Rattle.fn_editor.specs.Bracket.{bracket_in};
-ghost use Rattle.fn_editor.specs.Opening.{is_bare, name_with_bracket, opened, opened_as, opened_at, opened_by, opened_by_header};
+ghost use Rattle.fn_editor.specs.Opening.{is_bare, line_takes_first, name_with_bracket, opened, opened_as, opened_at, opened_by, opened_by_header, takes_memory_first};
 
 use crate::Editor;
 use crate::closing::{behind_glyph, split_close};
@@ -26,13 +26,14 @@ pub struct Opened {
 impl Editor {
     /// Opens a definition by a line that begins with `∇`, blanks aside: by a header whose name stands for nothing, or by
     /// the bare name of a function, which one bracket may follow; then a closing `∇` closes it. The answer tells what is
-    /// shown. `Defn` where the rules open nothing: the name of what is opened is no variable. It takes memory for the texts
-    /// of the function, and for lines that are shown.
+    /// shown. `Defn` where the rules open nothing: the name of what is opened is no variable. Where a name with a bracket
+    /// behind it stands for no function, it comes also where there is no memory. It takes memory for the texts of the
+    /// function or of a header, and for lines that are shown.
     pub fn start(alloc: Global, line: &Line, ws: &Workspace) -> Result<Opened, Fail>
         ensures ok { IfOk result (λ done. opened ws.now line.now.items ≡ Some (record { editor = done.editor; shown = done.shown.items })) }
         ensures no_variable { IfOk result (λ done. is_variable_meaning (global_in ws.now done.editor.header.name) ≡ false) }
         ensures closed { IfOk result (λ done. done.closed ≡ done.editor.closed) }
-        ensures refused { IfErr result (λ fail. IsRefused (opened ws.now line.now.items) fail) }
+        ensures refused { IfErr result (λ fail. IsRefused (line_takes_first ws.now line.now.items) (opened ws.now line.now.items) fail) }
     {
         match behind_glyph(without_blanks(line.as_slice()), Glyph::DEL) {
             None => Err(Fail::Report(Report::Defn)),
@@ -53,7 +54,7 @@ impl Editor {
 fn open(alloc: Global, text: &[Glyph], ws: &Workspace) -> Result<(Editor, LineList), Fail>
     ensures ok { IfOk result (λ done. opened_by ws.now text.now ≡ Some (record { editor = done.0; shown = done.1.items })) }
     ensures no_variable { IfOk result (λ done. is_variable_meaning (global_in ws.now done.0.header.name) ≡ false) }
-    ensures refused { IfErr result (λ fail. IsRefused (opened_by ws.now text.now) fail) }
+    ensures refused { IfErr result (λ fail. IsRefused (takes_memory_first ws.now (name_with_bracket text.now)) (opened_by ws.now text.now) fail) }
 {
     match name_with_bracket(text) {
         None => open_by_header(alloc, text, ws),
@@ -81,7 +82,7 @@ fn open_at(
 ) -> Result<(Editor, LineList), Fail>
     ensures ok { IfOk result (λ done. opened_at rest.now (global_in ws.now name.now) ≡ Some (record { editor = done.0; shown = done.1.items })) }
     ensures no_variable { IfOk result (λ done. is_variable_meaning (global_in ws.now done.0.header.name) ≡ false) }
-    ensures refused { IfErr result (λ fail. IsRefused (opened_at rest.now (global_in ws.now name.now)) fail) }
+    ensures refused { IfErr result (λ fail. IsRefused (is_function_meaning (global_in ws.now name.now)) (opened_at rest.now (global_in ws.now name.now)) fail) }
 {
     match ws.global(name) {
         Seen::Function(function) => {
@@ -97,15 +98,29 @@ fn open_at(
 fn open_by_header(alloc: Global, text: &[Glyph], ws: &Workspace) -> Result<(Editor, LineList), Fail>
     ensures ok { IfOk result (λ done. opened_by_header ws.now text.now (header_of text.now) ≡ Some (record { editor = done.0; shown = done.1.items })) }
     ensures no_variable { IfOk result (λ done. is_variable_meaning (global_in ws.now done.0.header.name) ≡ false) }
-    ensures refused { IfErr result (λ fail. IsRefused (opened_by_header ws.now text.now (header_of text.now)) fail) }
+    ensures refused { IfErr result (λ fail. IsRefused true (opened_by_header ws.now text.now (header_of text.now)) fail) }
 {
     let text = copied_line(alloc, text)?;
-    match Header::read(alloc, &text)? {
+    let header = Header::read(alloc, &text)?;
+    let editor = open_read(alloc, text, header, ws)?;
+    Ok((editor, LineList::new(alloc)))
+}
+
+// Opens a definition by a header that was read, where the text is one.
+fn open_read(
+    alloc: Global,
+    text: Line,
+    header: Option<Header>,
+    ws: &Workspace,
+) -> Result<Editor, Fail>
+    requires { header ≡ header_of text.items }
+    ensures ok { IfOk result (λ editor. opened_by_header ws.now text.items header ≡ Some (quietly editor)) }
+    ensures no_variable { IfOk result (λ editor. is_variable_meaning (global_in ws.now editor.header.name) ≡ false) }
+    ensures refused { IfErr result (λ fail. IsRefused false (opened_by_header ws.now text.items header) fail) }
+{
+    match header {
         None => Err(Fail::Report(Report::Defn)),
-        Some(header) => {
-            let editor = open_as(alloc, text, header, ws)?;
-            Ok((editor, LineList::new(alloc)))
-        }
+        Some(header) => open_as(alloc, text, header, ws),
     }
 }
 
@@ -115,7 +130,7 @@ fn open_as(alloc: Global, text: Line, header: Header, ws: &Workspace) -> Result<
     requires { header_of text.items ≡ Some header }
     ensures ok { IfOk result (λ editor. opened_as text.items header (global_in ws.now header.name) ≡ Some (quietly editor)) }
     ensures no_variable { IfOk result (λ editor. is_variable_meaning (global_in ws.now editor.header.name) ≡ false) }
-    ensures refused { IfErr result (λ fail. IsRefused (opened_as text.items header (global_in ws.now header.name)) fail) }
+    ensures refused { IfErr result (λ fail. IsRefused false (opened_as text.items header (global_in ws.now header.name)) fail) }
 {
     match ws.global(&header.name) {
         Seen::Nothing => open_new(alloc, text, header),
@@ -129,7 +144,7 @@ fn open_new(alloc: Global, text: Line, header: Header) -> Result<Editor, Fail>
     requires { header_of text.items ≡ Some header }
     ensures ok { IfOk result (λ editor. opened_as text.items header Meaning.Nothing ≡ Some (quietly editor)) }
     ensures name { IfOk result (λ editor. editor.header.name ≡ header.name) }
-    ensures refused { IfErr result (λ fail. IsRefused (opened_as text.items header Meaning.Nothing) fail) }
+    ensures refused { IfErr result (λ fail. IsRefused false (opened_as text.items header Meaning.Nothing) fail) }
 {
     if text.as_slice().len() > LINE_GLYPH_LIMIT {
         return Err(Fail::Report(Report::Defn));

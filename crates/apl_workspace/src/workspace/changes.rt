@@ -11,8 +11,8 @@ use apl_arrays::{Array, Fail, Name, Report};
 
 impl Workspace {
     /// Gives a name a value where a look-up finds the name: in a frame, or as a global. `Syntax` where the name is a
-    /// label or a function, else `WsFull` where the workspace would weigh more than it may; a refusal leaves the
-    /// workspace as it was. It takes memory for a new global name.
+    /// label or a function, else `WsFull` where the workspace would weigh more than it may, each also where there is
+    /// no memory; a refusal leaves the workspace as it was. It takes memory for a new global name.
     pub fn assign(&mut self, name: &Name, value: Array) -> Result<(), Fail>
         requires { is_shared_meaning (look self.old name.now) ≡ false }
         ensures ok { OnOk result (self.new ≡ assigned self.old name.now value) }
@@ -29,8 +29,8 @@ impl Workspace {
     }
 
     /// Defines a function under its name, in place of one that is there. `WsFull` where the workspace would weigh more
-    /// than it may; it leaves the workspace as it was, and so does `WantOfMemory`. It takes memory for a name that is not
-    /// there yet.
+    /// than it may, also where there is no memory; it leaves the workspace as it was, and so does `WantOfMemory`. It takes
+    /// memory for a name that is not there yet.
     pub fn define(&mut self, function: Function) -> Result<(), Fail>
         requires whole { IsFunction function }
         requires no_variable { is_variable_meaning (global_in self.old function.header.name) ≡ false }

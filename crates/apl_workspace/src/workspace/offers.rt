@@ -11,8 +11,8 @@ use apl_arrays::{Array, Fail, Name, OFFER_LIMIT, Report};
 impl Workspace {
     /// Marks a global name as shared with its own copy of the value, and lists its offer last. A name that was shared
     /// before keeps the offer that it has, and a list of 64 offers takes no more. `WsFull` where the workspace would
-    /// weigh more than it may; it leaves the workspace as it was, and so does `WantOfMemory`. It takes memory for a name
-    /// that is not there yet, and for an offer that is listed.
+    /// weigh more than it may, also where there is no memory; it leaves the workspace as it was, and so does
+    /// `WantOfMemory`. It takes memory for a name that is not there yet, and for an offer that is listed.
     pub fn mark(
         &mut self,
         name: &Name,
@@ -29,12 +29,17 @@ impl Workspace {
         ensures there { takes_offer self.old name.now ≡ false → IsSome (meaning_in self.old.globals name.now) → IfErr result (λ fail. fail ≡ Fail.Report Report.WsFull) }
     {
         let local = *name;
+        let shared = Meaning::Shared(value);
         let most = WEIGHT_LIMIT - self.frames_weight;
         if !self.takes_offer(name) {
-            return self.globals.put(local, Meaning::Shared(value), most);
+            return self.globals.put(local, shared, most);
+        }
+        if !self.globals.fits(name, shared.weight(), most) {
+            drop(shared);
+            return Err(Fail::Report(Report::WsFull));
         }
         reserve_one(&mut self.offers)?;
-        self.globals.put(local, Meaning::Shared(value), most)?;
+        self.globals.put(local, shared, most)?;
         self.offers.push_reserved(Remake {
             local,
             surrogate,

@@ -5,6 +5,7 @@ use Rattle.sv_events.specs.declared.event.Act.{Act}
 use Rattle.sv_events.specs.declared.event.Act.TheVariants as act
 use Rattle.sv_events.specs.declared.row.AnswerRow.{AnswerRow}
 use Rattle.apl_meaning.specs.Answers.{report_of_kind, with_copy}
+use Rattle.apl_selection.proofs.WantLemmas.{on_want}
 use Rattle.apl_acts.specs.Alone.{answer_outcome}
 use Rattle.apl_acts.proofs.HeardLaw.{led_as, told_on}
 use Rattle.apl_acts.proofs.alone.hear_alone.Goals as goal
@@ -19,3 +20,12 @@ returns-in_ok-copy-in-Set-clause-led c =
     ∙ told_on (act.Set c.in-Set.name c.in-Set.value) answer s (ap (λ (row : AnswerRow). report_of_kind row.kind) (sym c.row.ensures) ∙ sym c.report_of.ensures ∙ c.in_default.is)
     ∙ ap (λ (value : PlainArray). with_copy c.in-Set.name value s) (sym c.in_ok-copy-in-Set.ensures.array))
     (c.renew.ensures.led before)
+
+pub returns-in-Use-clause-memory : goal.returns-in-Use-clause-memory
+returns-in-Use-clause-memory c = on_want c.hear_value.result _ (ap (λ (row : AnswerRow). report_of_kind row.kind) (sym c.row.ensures) ∙ sym c.report_of.ensures ∙ c.in_default.is)
+
+pub returns-in_err-copy-in-Set-clause-memory : goal.returns-in_err-copy-in-Set-clause-memory
+returns-in_err-copy-in-Set-clause-memory c = on_want c.from_residual.result _ (ap (λ (row : AnswerRow). report_of_kind row.kind) (sym c.row.ensures) ∙ sym c.report_of.ensures ∙ c.in_default.is)
+
+pub returns-in_ok-copy-in-Set-clause-memory : goal.returns-in_ok-copy-in-Set-clause-memory
+returns-in_ok-copy-in-Set-clause-memory c = on_want c.renew.result _ (ap (λ (row : AnswerRow). report_of_kind row.kind) (sym c.row.ensures) ∙ sym c.report_of.ensures ∙ c.in_default.is)

@@ -1,5 +1,6 @@
-use Rattle.std.proofs.Common.{◌≡◌, ℕ, List, subst, ◌∙◌}
-use Rattle.std.specs.Prelude.{Err, Option, Some, map}
+use Rattle.std.proofs.Common.{◌≡◌, ℕ, List, refl, subst, sym, ◌∙◌}
+use Rattle.std.specs.Prelude.{Err, IsSome, Option, Some, map}
+use Rattle.apl_selection.proofs.WantLemmas.{on_want}
 use Rattle.std.proofs.lemmas.Result.{err_from_is_err_and}
 use Rattle.apl_arrays.specs.Array.{PlainArray}
 use Rattle.apl_arrays.specs.List.{glyphs_in}
@@ -49,3 +50,24 @@ returns-clause-led c =
     led_as c.print_lines.result w u before after (λ s. and_then (got name found s) value_printed) (λ s. and_then (with_copy name value s) (λ _ t. value_printed value t)) (λ s at. use_told name found value s got_it)
     (leads_then c.print_lines.result w v u before before after (with_copy name value) (value_printed value) (c.in_ok-renew.ensures.led before)
     (subst (λ (lines : List (List ℕ)). HasLed v before (lines_printed lines) u after c.print_lines.result) shown c.print_lines.ensures.led))
+
+pub returns-in_err-lines-clause-memory : goal.returns-in_err-lines-clause-memory
+returns-in_err-lines-clause-memory c =
+    let value : PlainArray = c.in_ok-value.value in
+    let found : Option PlainArray = (answer_row (plain_answer c.args.answer)).value in
+    let got_it : found ≡ Some value = got_value found Value value c.in_ok-value.ensures in
+    on_want c.from_residual-in_err-lines.result (IsSome found) (subst (λ (o : Option PlainArray). IsSome o) (sym got_it) refl)
+
+pub returns-in_err-renew-clause-memory : goal.returns-in_err-renew-clause-memory
+returns-in_err-renew-clause-memory c =
+    let value : PlainArray = c.in_ok-value.value in
+    let found : Option PlainArray = (answer_row (plain_answer c.args.answer)).value in
+    let got_it : found ≡ Some value = got_value found Value value c.in_ok-value.ensures in
+    on_want c.from_residual-in_err-renew.result (IsSome found) (subst (λ (o : Option PlainArray). IsSome o) (sym got_it) refl)
+
+pub returns-clause-memory : goal.returns-clause-memory
+returns-clause-memory c =
+    let value : PlainArray = c.in_ok-value.value in
+    let found : Option PlainArray = (answer_row (plain_answer c.args.answer)).value in
+    let got_it : found ≡ Some value = got_value found Value value c.in_ok-value.ensures in
+    on_want c.print_lines.result (IsSome found) (subst (λ (o : Option PlainArray). IsSome o) (sym got_it) refl)

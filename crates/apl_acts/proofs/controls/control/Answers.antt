@@ -8,10 +8,12 @@ use Rattle.apl_meaning.specs.Deeds.{set_control}
 use Rattle.apl_meaning.specs.Naming.{Naming, naming_count, namings_of}
 use Rattle.apl_meaning.specs.Sharing.{control_at, control_faults, controls}
 use Rattle.apl_values.specs.Rows.{PlainRow, RowMayBeDone, count_told, plain_naming, plain_row}
+use Rattle.apl_selection.proofs.WantLemmas.{on_want}
 use Rattle.apl_statements.specs.Interpreter.{PlainInterpreter}
+use Rattle.apl_statements.specs.Wants.{NoReportIsDue}
 use Rattle.apl_acts.specs.Faults.{AreElements, control_in, settings_of}
 use Rattle.apl_acts.proofs.Controlled.{controlled, controls_by_row}
-use Rattle.apl_acts.proofs.Tested.{done_there, each_may, room_for_each, told_for_each}
+use Rattle.apl_acts.proofs.Tested.{done_there, each_may, free_there, room_for_each, told_for_each}
 use Rattle.apl_acts.proofs.controls.control.Goals as goal
 
 -- the rows that are made of numbers and names
@@ -22,7 +24,7 @@ pub settings-requires : goal.settings-requires
 settings-requires c =
     let given : PlainArray = c.args.c.now in
     let n : PlainArray = c.args.n.now in
-    let none : first_report (control_faults given n) ≡ None = ap first_report (sym c.in_ok-control_wrong.ensures) ∙ c.in_ok-refuse.ensures.ok in
+    let none : first_report (control_faults given n) ≡ None = ap first_report (sym c.control_wrong.ensures) ∙ c.in_ok-refuse.ensures.ok in
     let count : length c.in_ok-namings.namings.items ≡ length (namings_of n) = sym (length-map c.in_ok-namings.namings.items plain_naming) ∙ ap length c.in_ok-namings.ensures in
     let numbers : c.numbers.result.now ≡ numbers_in given.items = c.numbers.ensures ∙ ap numbers_in c.items.ensures.value in
     subst (λ (list : List ℤ). AreElements list (length c.in_ok-namings.namings.items)) (sym numbers) (subst (AreElements (numbers_in given.items)) (sym count) (controlled given n c.items.ensures.array none).enough)
@@ -38,7 +40,7 @@ pub do_rows-requires-clause-count : goal.do_rows-requires-clause-count
 do_rows-requires-clause-count c =
     let given : PlainArray = c.args.c.now in
     let n : PlainArray = c.args.n.now in
-    let none : first_report (control_faults given n) ≡ None = ap first_report (sym c.in_ok-control_wrong.ensures) ∙ c.in_ok-refuse.ensures.ok in
+    let none : first_report (control_faults given n) ≡ None = ap first_report (sym c.control_wrong.ensures) ∙ c.in_ok-refuse.ensures.ok in
     room_for_each n (4 ∷ []) 4 refl
     ∙ ap (λ (k : ℕ). k * 4) (sym (controlled given n c.items.ensures.array none).named)
     ∙ sym (told_for_each (λ row. set_control (control_in (numbers_in given.items) row)) 4 (namings_of n) (λ row. refl))
@@ -49,7 +51,31 @@ returns-clause-comes c =
     let m : PlainInterpreter = c.args.interpreter.now in
     let given : PlainArray = c.args.c.now in
     let n : PlainArray = c.args.n.now in
-    let none : first_report (control_faults given n) ≡ None = ap first_report (sym c.in_ok-control_wrong.ensures) ∙ c.in_ok-refuse.ensures.ok in
+    let none : first_report (control_faults given n) ≡ None = ap first_report (sym c.control_wrong.ensures) ∙ c.in_ok-refuse.ensures.ok in
     let rows : List PlainRow = map plain_row c.in_ok-rows.rows.items in
     done_there m c.args.e (controls given n) (control_faults given n) n (4 ∷ []) (map (λ row. set_control (control_at given row)) (places (naming_count n))) rows c.do_rows.result (λ asked count taken further. refl) none
     (controls_by_row given n (controlled given n c.items.ensures.array none) ∙ sym (made_of given n _ _ _ c.in_ok-rows.ensures (c.numbers.ensures ∙ ap numbers_in c.items.ensures.value) c.in_ok-namings.ensures)) c.do_rows.ensures.comes
+
+pub returns-in_err-namings-clause-memory : goal.returns-in_err-namings-clause-memory
+returns-in_err-namings-clause-memory c =
+    let m : PlainInterpreter = c.args.interpreter.now in
+    let given : PlainArray = c.args.c.now in
+    let n : PlainArray = c.args.n.now in
+    let none : first_report (control_faults given n) ≡ None = ap first_report (sym c.control_wrong.ensures) ∙ c.in_ok-refuse.ensures.ok in
+    on_want c.from_residual-in_err-namings.result (NoReportIsDue m (controls given n)) (free_there m (controls given n) (control_faults given n) n (4 ∷ []) (map (λ row. set_control (control_at given row)) (places (naming_count n))) (λ asked count taken further. refl) none)
+
+pub returns-in_err-rows-clause-memory : goal.returns-in_err-rows-clause-memory
+returns-in_err-rows-clause-memory c =
+    let m : PlainInterpreter = c.args.interpreter.now in
+    let given : PlainArray = c.args.c.now in
+    let n : PlainArray = c.args.n.now in
+    let none : first_report (control_faults given n) ≡ None = ap first_report (sym c.control_wrong.ensures) ∙ c.in_ok-refuse.ensures.ok in
+    on_want c.from_residual-in_err-rows.result (NoReportIsDue m (controls given n)) (free_there m (controls given n) (control_faults given n) n (4 ∷ []) (map (λ row. set_control (control_at given row)) (places (naming_count n))) (λ asked count taken further. refl) none)
+
+pub returns-clause-memory : goal.returns-clause-memory
+returns-clause-memory c =
+    let m : PlainInterpreter = c.args.interpreter.now in
+    let given : PlainArray = c.args.c.now in
+    let n : PlainArray = c.args.n.now in
+    let none : first_report (control_faults given n) ≡ None = ap first_report (sym c.control_wrong.ensures) ∙ c.in_ok-refuse.ensures.ok in
+    on_want c.do_rows.result (NoReportIsDue m (controls given n)) (free_there m (controls given n) (control_faults given n) n (4 ∷ []) (map (λ row. set_control (control_at given row)) (places (naming_count n))) (λ asked count taken further. refl) none)

@@ -3,7 +3,9 @@ use Rattle.std.specs.Prelude.{ℤ, slice_get, unsigned_abs}
 use Rattle.std.proofs.lemmas.Int.{to_z-of_z}
 use Rattle.std.proofs.lemmas.Result.{err_from_is_err_and}
 use Rattle.apl_arrays.specs.declared.report.Fail.TheVariants as fail
+use Rattle.apl_items.specs.Answers.{first_report}
 use Rattle.apl_meaning.specs.Expressions.{valued}
+use Rattle.apl_selection.proofs.WantLemmas.{on_want}
 use Rattle.apl_meaning.specs.Queries.{queries}
 use Rattle.apl_meaning.specs.State.{refuses}
 use Rattle.apl_values.specs.Pending.{asked_for, names_asked, parties_asked}
@@ -11,7 +13,7 @@ use Rattle.apl_statements.specs.Interpreter.{PlainInterpreter, state_at}
 use Rattle.apl_statements.specs.Moves.{Coming, part_gives}
 use Rattle.apl_statements.proofs.Same.{at_once, comes_as, comes_exit}
 use Rattle.apl_acts.specs.Faults.{plain_faults}
-use Rattle.apl_acts.proofs.Queried.{query_names, query_parties, query_refused}
+use Rattle.apl_acts.proofs.Queried.{query_free, query_names, query_parties, query_refused}
 use Rattle.apl_acts.proofs.queries.query.Goals as goal
 
 pub returns-in_err-refuse-clause-comes : goal.returns-in_err-refuse-clause-comes
@@ -40,3 +42,9 @@ returns-in-None-clause-comes c =
     comes_as m m (part_gives m c.args.e (λ s. valued (queries c.args.b.now s))) (part_gives m c.args.e (asked_for parties_asked)) 0 c.open-in-None.result
     (query_parties m c.args.e c.args.b.now (plain_faults c.query_wrong.result) c.query_wrong.ensures c.in_ok-refuse.ensures.ok
     (ap (λ (list : List ℤ). slice_get list 0) (sym c.numbers.ensures) ∙ sym c.in-None.ensures.value)) c.open-in-None.ensures.comes
+
+pub returns-in-Some-clause-memory : goal.returns-in-Some-clause-memory
+returns-in-Some-clause-memory c = on_want c.open.result _ (query_free c.args.interpreter.now c.args.b.now (ap first_report (sym c.query_wrong.ensures) ∙ c.in_ok-refuse.ensures.ok))
+
+pub returns-in-None-clause-memory : goal.returns-in-None-clause-memory
+returns-in-None-clause-memory c = on_want c.open-in-None.result _ (query_free c.args.interpreter.now c.args.b.now (ap first_report (sym c.query_wrong.ensures) ∙ c.in_ok-refuse.ensures.ok))

@@ -30,14 +30,14 @@ pub offers-requires-clause-addressees : goal.offers-requires-clause-addressees
 offers-requires-clause-addressees c =
     let m : PlainInterpreter = c.args.interpreter.now in
     let p : PlainArray = c.args.p.now in
-    let none : first_report (offer_faults m.workspace p c.args.n.now) ≡ None = tested m (plain_interpreter c.interpreter.inside) p c.args.n.now _ c.interpreter.view_is c.in_ok-offer_wrong.ensures c.in_ok-refuse.ensures.ok in
+    let none : first_report (offer_faults m.workspace p c.args.n.now) ≡ None = tested m (plain_interpreter c.interpreter.inside) p c.args.n.now _ c.interpreter.view_is c.offer_wrong.ensures c.in_ok-refuse.ensures.ok in
     subst (λ (list : List ℤ). All (λ number. is_no_addressee number ≡ false) list) (sym c.numbers.ensures) (none_passes is_no_addressee (numbers_in p.items) (offered m.workspace p c.args.n.now none).parties)
 
 pub offers-requires-clause-enough : goal.offers-requires-clause-enough
 offers-requires-clause-enough c =
     let m : PlainInterpreter = c.args.interpreter.now in
     let p : PlainArray = c.args.p.now in
-    let none : first_report (offer_faults m.workspace p c.args.n.now) ≡ None = tested m (plain_interpreter c.interpreter.inside) p c.args.n.now _ c.interpreter.view_is c.in_ok-offer_wrong.ensures c.in_ok-refuse.ensures.ok in
+    let none : first_report (offer_faults m.workspace p c.args.n.now) ≡ None = tested m (plain_interpreter c.interpreter.inside) p c.args.n.now _ c.interpreter.view_is c.offer_wrong.ensures c.in_ok-refuse.ensures.ok in
     let count : length c.in_ok-namings.namings.items ≡ length (namings_of c.args.n.now) = sym (length-map c.in_ok-namings.namings.items plain_naming) ∙ ap length c.in_ok-namings.ensures in
     subst (λ (list : List ℤ). IsOneOrAsMany list (length c.in_ok-namings.namings.items)) (sym c.numbers.ensures) (subst (IsOneOrAsMany (numbers_in p.items)) (sym count) (offered m.workspace p c.args.n.now none).many)
 
@@ -47,7 +47,7 @@ do_rows-requires-clause-may c =
     let w : PlainWorkspace = m.workspace in
     let p : PlainArray = c.args.p.now in
     let n : PlainArray = c.args.n.now in
-    let none : first_report (offer_faults w p n) ≡ None = tested m (plain_interpreter c.interpreter.inside) p n _ c.interpreter.view_is c.in_ok-offer_wrong.ensures c.in_ok-refuse.ensures.ok in
+    let none : first_report (offer_faults w p n) ≡ None = tested m (plain_interpreter c.interpreter.inside) p n _ c.interpreter.view_is c.offer_wrong.ensures c.in_ok-refuse.ensures.ok in
     let is : IsOffered w p n = offered w p n none in
     subst (All (RowMayBeDone w)) (sym (made_of p n _ _ _ c.in_ok-rows.ensures c.numbers.ensures c.in_ok-namings.ensures))
     (each_may w (λ row. offer (unsigned_abs (number_at (numbers_in p.items) row))) (λ names. is_function_meaning (global_in w names.local) ≡ false) (namings_of n) (offer_may w (numbers_in p.items) (length (namings_of n)) is.many is.parties) is.names)
@@ -57,7 +57,7 @@ do_rows-requires-clause-count c =
     let m : PlainInterpreter = c.args.interpreter.now in
     let p : PlainArray = c.args.p.now in
     let n : PlainArray = c.args.n.now in
-    let none : first_report (offer_faults m.workspace p n) ≡ None = tested m (plain_interpreter c.interpreter.inside) p n _ c.interpreter.view_is c.in_ok-offer_wrong.ensures c.in_ok-refuse.ensures.ok in
+    let none : first_report (offer_faults m.workspace p n) ≡ None = tested m (plain_interpreter c.interpreter.inside) p n _ c.interpreter.view_is c.offer_wrong.ensures c.in_ok-refuse.ensures.ok in
     room_for_each n [] 1 refl
     ∙ ap (λ (k : ℕ). k * 1) (sym (offered m.workspace p n none).named)
     ∙ sym (told_for_each (λ row. offer (unsigned_abs (number_at (numbers_in p.items) row))) 1 (namings_of n) (λ row. refl))
@@ -68,7 +68,7 @@ returns-clause-comes c =
     let m : PlainInterpreter = c.args.interpreter.now in
     let p : PlainArray = c.args.p.now in
     let n : PlainArray = c.args.n.now in
-    let none : first_report (offer_faults m.workspace p n) ≡ None = tested m (plain_interpreter c.interpreter.inside) p n _ c.interpreter.view_is c.in_ok-offer_wrong.ensures c.in_ok-refuse.ensures.ok in
+    let none : first_report (offer_faults m.workspace p n) ≡ None = tested m (plain_interpreter c.interpreter.inside) p n _ c.interpreter.view_is c.offer_wrong.ensures c.in_ok-refuse.ensures.ok in
     let rows : List PlainRow = map plain_row c.in_ok-rows.rows.items in
     done_there m c.args.e (offers p n) (offer_faults m.workspace p n) n [] (map (λ row. offer (addressee_at p row)) (places (naming_count n))) rows c.do_rows.result (λ asked count taken further. refl) none
     (offers_by_row m.workspace p n (offered m.workspace p n none) ∙ sym (made_of p n _ _ _ c.in_ok-rows.ensures c.numbers.ensures c.in_ok-namings.ensures)) c.do_rows.ensures.comes

@@ -9,8 +9,10 @@ use Rattle.apl_meaning.specs.Naming.{Naming, naming_count, naming_faults, naming
 use Rattle.apl_meaning.specs.Sharing.{for_each_row, plain_rows}
 use Rattle.apl_values.specs.Rows.{PlainRow, RowMayBeDone, count_told, plain_deed, plain_row, row_zeros}
 use Rattle.apl_values.proofs.NamingSteps.{is_unnamed}
+use Rattle.apl_selection.proofs.WantLemmas.{on_want}
 use Rattle.apl_statements.specs.Interpreter.{PlainInterpreter}
-use Rattle.apl_acts.proofs.Tested.{alike, alike_may, done_there, named_count, nothing_wrong, room_for_each, told_for_each}
+use Rattle.apl_statements.specs.Wants.{NoReportIsDue}
+use Rattle.apl_acts.proofs.Tested.{alike, alike_may, done_there, free_there, named_count, nothing_wrong, room_for_each, told_for_each}
 use Rattle.apl_acts.proofs.sharing.plain_rows.Goals as goal
 
 -- the rows that are made of names where nothing is wrong
@@ -30,7 +32,7 @@ pub do_rows-requires-clause-count : goal.do_rows-requires-clause-count
 do_rows-requires-clause-count c =
     let n : PlainArray = c.args.n.now in
     let deed : Deed = plain_deed c.args.deed in
-    let none : first_report (naming_faults n c.args.each.now) ≡ None = ap first_report (sym c.in_ok-naming_wrong.ensures) ∙ c.in_ok-refuse.ensures.ok in
+    let none : first_report (naming_faults n c.args.each.now) ≡ None = ap first_report (sym c.naming_wrong.ensures) ∙ c.in_ok-refuse.ensures.ok in
     let width : ℕ = length (row_zeros deed) in
     room_for_each n c.args.each.now width c.requires.each
     ∙ ap (λ (k : ℕ). k * width) (sym (all_named n c.args.each.now none))
@@ -43,7 +45,34 @@ returns-clause-comes c =
     let n : PlainArray = c.args.n.now in
     let each : List ℕ = c.args.each.now in
     let deed : Deed = plain_deed c.args.deed in
-    let none : first_report (naming_faults n each) ≡ None = ap first_report (sym c.in_ok-naming_wrong.ensures) ∙ c.in_ok-refuse.ensures.ok in
+    let none : first_report (naming_faults n each) ≡ None = ap first_report (sym c.naming_wrong.ensures) ∙ c.in_ok-refuse.ensures.ok in
     let rows : List PlainRow = map plain_row c.in_ok-rows.rows.items in
     done_there m c.args.e (plain_rows n each deed) (naming_faults n each) n each (for_each_row n deed) rows c.do_rows.result (λ asked count taken further. refl) none
     (alike deed (namings_of n) (naming_count n) (all_named n each none) ∙ sym (made_of n deed _ _ c.in_ok-rows.ensures c.in_ok-namings.ensures)) c.do_rows.ensures.comes
+
+pub returns-in_err-namings-clause-memory : goal.returns-in_err-namings-clause-memory
+returns-in_err-namings-clause-memory c =
+    let m : PlainInterpreter = c.args.interpreter.now in
+    let n : PlainArray = c.args.n.now in
+    let each : List ℕ = c.args.each.now in
+    let deed : Deed = plain_deed c.args.deed in
+    let none : first_report (naming_faults n each) ≡ None = ap first_report (sym c.naming_wrong.ensures) ∙ c.in_ok-refuse.ensures.ok in
+    on_want c.from_residual-in_err-namings.result (NoReportIsDue m (plain_rows n each deed)) (free_there m (plain_rows n each deed) (naming_faults n each) n each (for_each_row n deed) (λ asked count taken further. refl) none)
+
+pub returns-in_err-rows-clause-memory : goal.returns-in_err-rows-clause-memory
+returns-in_err-rows-clause-memory c =
+    let m : PlainInterpreter = c.args.interpreter.now in
+    let n : PlainArray = c.args.n.now in
+    let each : List ℕ = c.args.each.now in
+    let deed : Deed = plain_deed c.args.deed in
+    let none : first_report (naming_faults n each) ≡ None = ap first_report (sym c.naming_wrong.ensures) ∙ c.in_ok-refuse.ensures.ok in
+    on_want c.from_residual-in_err-rows.result (NoReportIsDue m (plain_rows n each deed)) (free_there m (plain_rows n each deed) (naming_faults n each) n each (for_each_row n deed) (λ asked count taken further. refl) none)
+
+pub returns-clause-memory : goal.returns-clause-memory
+returns-clause-memory c =
+    let m : PlainInterpreter = c.args.interpreter.now in
+    let n : PlainArray = c.args.n.now in
+    let each : List ℕ = c.args.each.now in
+    let deed : Deed = plain_deed c.args.deed in
+    let none : first_report (naming_faults n each) ≡ None = ap first_report (sym c.naming_wrong.ensures) ∙ c.in_ok-refuse.ensures.ok in
+    on_want c.do_rows.result (NoReportIsDue m (plain_rows n each deed)) (free_there m (plain_rows n each deed) (naming_faults n each) n each (for_each_row n deed) (λ asked count taken further. refl) none)

@@ -1,5 +1,6 @@
-use Rattle.std.proofs.Common.{List}
-use Rattle.std.specs.Prelude.{Option}
+use Rattle.std.proofs.Common.{◌≡◌, List, refl, subst, sym}
+use Rattle.std.specs.Prelude.{IsSome, Option, Some}
+use Rattle.apl_selection.proofs.WantLemmas.{on_want}
 use Rattle.apl_arrays.specs.Array.{PlainArray}
 use Rattle.apl_arrays.specs.declared.report.Report.TheVariants.{Value}
 use Rattle.sv_events.specs.Answer.{plain_answer}
@@ -31,3 +32,17 @@ returns-clause-comes c =
     (items_got m c.args.e c.args.name subs c.args.right value (plain_answer c.args.answer) (got_value found Value value c.in_ok-value_in.ensures))
     (goes_far m n o (renewed c.args.name value m.workspace) c.args.e c.renew.new.e (with_copy c.args.name value) (λ s. replaced c.args.name subs c.args.right value s) c.replace_items.result
     c.in_ok-renew.ensures.ok c.in_ok-renew.ensures.done c.in_ok-renew.ensures.settled (c.replace_items.ensures.comes value c.in_ok-renew.ensures.seen))
+
+pub returns-in_err-renew-clause-memory : goal.returns-in_err-renew-clause-memory
+returns-in_err-renew-clause-memory c =
+    let value : PlainArray = c.in_ok-value_in.field-0 in
+    let found : Option PlainArray = (answer_row (plain_answer c.args.answer)).value in
+    let is : found ≡ Some value = got_value found Value value c.in_ok-value_in.ensures in
+    on_want c.from_residual-in_err-renew.result (IsSome found) (subst (λ (o : Option PlainArray). IsSome o) (sym is) refl)
+
+pub returns-clause-memory : goal.returns-clause-memory
+returns-clause-memory c =
+    let value : PlainArray = c.in_ok-value_in.field-0 in
+    let found : Option PlainArray = (answer_row (plain_answer c.args.answer)).value in
+    let is : found ≡ Some value = got_value found Value value c.in_ok-value_in.ensures in
+    on_want c.replace_items.result (IsSome found) (subst (λ (o : Option PlainArray). IsSome o) (sym is) refl)

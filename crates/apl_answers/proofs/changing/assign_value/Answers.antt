@@ -1,7 +1,14 @@
-use Rattle.std.specs.Prelude.{reverse}
-use Rattle.apl_workspace.specs.Workspace.{IsWorkspace, PlainWorkspace, assigned, is_there}
+use Rattle.std.proofs.Common.{◌≡◌, ◌≤◌, true, false, refl, subst}
+use Rattle.std.specs.Prelude.{Err, OnOk, reverse}
+use Rattle.apl_items.specs.Places.{OnWantOfMemory}
+use Rattle.apl_meaning.specs.Variables.{assignment}
+use Rattle.apl_workspace.specs.Limits.{most_weight}
+use Rattle.apl_workspace.specs.Workspace.{IsWorkspace, PlainWorkspace, assigned, is_assignable, is_there, look, workspace_weight}
+use Rattle.apl_statements.specs.Interpreter.{PlainInterpreter}
+use Rattle.apl_statements.specs.Moves.{HasDone}
 use Rattle.apl_statements.proofs.Renewing.{seen_if_ok, way_if}
 use Rattle.apl_answers.proofs.Granted.{assigned_done, assigned_keeps, inside_rules}
+use Rattle.apl_answers.proofs.Wanting.{assigned_room, assigned_want}
 use Rattle.apl_answers.proofs.changing.assign_value.Goals as goal
 
 pub invariant_of-interpreter : goal.invariant_of-interpreter
@@ -11,16 +18,52 @@ invariant_of-interpreter c =
     way_if c.assign.result w (assigned w c.args.name.now c.args.value) c.assign.new.self (reverse c.interpreter.inside.callers.items) c.assign.ensures.ok c.assign.ensures.err
     (assigned_keeps c.assign.result w c.args.name.now c.args.value rules c.assign.ensures.assignable) c.interpreter.invariant
 
-pub returns-clause-ok : goal.returns-clause-ok
-returns-clause-ok c =
+pub returns-in-Ok-clause-ok : goal.returns-in-Ok-clause-ok
+returns-in-Ok-clause-ok c =
     let w : PlainWorkspace = c.interpreter.inside.workspace in
     let rules : IsWorkspace w = inside_rules c.interpreter.inside c.args.interpreter.now c.interpreter.view_is c.rules.ensures in
     seen_if_ok c.assign.result c.interpreter.inside c.args.interpreter.now c.assign.new.self (λ (v : PlainWorkspace). assigned v c.args.name.now c.args.value) c.interpreter.view_is c.assign.ensures.ok
     (assigned_keeps c.assign.result w c.args.name.now c.args.value rules c.assign.ensures.assignable)
 
-pub returns-clause-done : goal.returns-clause-done
-returns-clause-done c =
+pub returns-in-Ok-clause-done : goal.returns-in-Ok-clause-done
+returns-in-Ok-clause-done c =
     let w : PlainWorkspace = c.interpreter.inside.workspace in
     let rules : IsWorkspace w = inside_rules c.interpreter.inside c.args.interpreter.now c.interpreter.view_is c.rules.ensures in
     assigned_done c.assign.result c.interpreter.inside c.args.interpreter.now c.assign.new.self c.args.name.now c.args.value (is_there w c.args.name.now) c.interpreter.view_is rules c.requires.unshared
     c.assign.ensures.ok c.assign.ensures.err c.assign.ensures.assignable c.assign.ensures.fits c.assign.ensures.refused
+
+pub returns-in-Ok-clause-memory : goal.returns-in-Ok-clause-memory
+returns-in-Ok-clause-memory c =
+    let w : PlainWorkspace = c.interpreter.inside.workspace in
+    subst (λ (x : PlainInterpreter). OnWantOfMemory c.assign.result (is_assignable (look x.workspace c.args.name.now) ≡ true)) c.interpreter.view_is
+    (assigned_want c.assign.result (is_there w c.args.name.now) (is_assignable (look w c.args.name.now)) (assigned w c.args.name.now c.args.value) c.assign.ensures.refused)
+
+pub returns-in-Ok-clause-room : goal.returns-in-Ok-clause-room
+returns-in-Ok-clause-room c =
+    let w : PlainWorkspace = c.interpreter.inside.workspace in
+    subst (λ (x : PlainInterpreter). OnWantOfMemory c.assign.result (workspace_weight (assigned x.workspace c.args.name.now c.args.value) ≤ most_weight)) c.interpreter.view_is
+    (assigned_room c.assign.result (is_there w c.args.name.now) (is_assignable (look w c.args.name.now)) (assigned w c.args.name.now c.args.value) c.assign.ensures.refused)
+
+pub returns-in-Ok-clause-fits : goal.returns-in-Ok-clause-fits
+returns-in-Ok-clause-fits c =
+    subst (λ (x : PlainInterpreter). OnOk c.assign.result (workspace_weight (assigned x.workspace c.args.name.now c.args.value) ≤ most_weight)) c.interpreter.view_is c.assign.ensures.fits
+
+pub returns-in-Err-clause-memory : goal.returns-in-Err-clause-memory
+returns-in-Err-clause-memory c =
+    let w : PlainWorkspace = c.interpreter.inside.workspace in
+    subst (λ (x : PlainInterpreter). OnWantOfMemory {T = Unit {0}} (Err c.not_assigned.result) (is_assignable (look x.workspace c.args.name.now) ≡ true)) c.interpreter.view_is
+    (assigned_want {T = Unit {0}} (Err c.not_assigned.result) false (is_assignable (look w c.args.name.now)) (assigned w c.args.name.now c.args.value) c.not_assigned.ensures)
+
+pub returns-in-Err-clause-room : goal.returns-in-Err-clause-room
+returns-in-Err-clause-room c =
+    let w : PlainWorkspace = c.interpreter.inside.workspace in
+    subst (λ (x : PlainInterpreter). OnWantOfMemory {T = Unit {0}} (Err c.not_assigned.result) (workspace_weight (assigned x.workspace c.args.name.now c.args.value) ≤ most_weight)) c.interpreter.view_is
+    (assigned_room {T = Unit {0}} (Err c.not_assigned.result) false (is_assignable (look w c.args.name.now)) (assigned w c.args.name.now c.args.value) c.not_assigned.ensures)
+
+pub returns-in-Err-clause-done : goal.returns-in-Err-clause-done
+returns-in-Err-clause-done c =
+    let w : PlainWorkspace = c.interpreter.inside.workspace in
+    let rules : IsWorkspace w = inside_rules c.interpreter.inside c.args.interpreter.now c.interpreter.view_is c.rules.ensures in
+    subst (λ (x : PlainInterpreter). HasDone {T = Unit {0}} c.args.interpreter.now (assignment c.args.name.now c.args.value) x (Err c.not_assigned.result)) c.interpreter.view_is
+    (assigned_done {T = Unit {0}} (Err c.not_assigned.result) c.interpreter.inside c.args.interpreter.now w c.args.name.now c.args.value false c.interpreter.view_is rules c.requires.unshared tt refl tt tt
+    c.not_assigned.ensures)

@@ -1,7 +1,7 @@
-use Rattle.std.proofs.Common.{ℕ, List, sym, subst}
+use Rattle.std.proofs.Common.{ℕ, List, subst}
 use Rattle.std.proofs.lemmas.Result.{err_from_is_err_and}
-use Rattle.std.specs.Arc.{arc_value}
 use Rattle.apl_arrays.specs.declared.report.Fail.{Fail}
+use Rattle.apl_selection.proofs.WantLemmas.{on_want}
 use Rattle.apl_meaning.specs.Meaning.{ran}
 use Rattle.apl_meaning.specs.Reading.{read_with}
 use Rattle.apl_meaning.specs.Statements.{text_outcome}
@@ -43,8 +43,14 @@ returns-clause-comes c =
     let n : PlainInterpreter = c.count_statement.new.interpreter in
     let place : Place = plain_place c.args.place in
     let text : List ℕ = c.args.text.now.items in
-    let read : IsReadFrom n.workspace text (arc_value c.in_ok-reading-2.reading) =
-    subst (IsReadFrom n.workspace text) (sym c.in_ok-reading-2.ensures) (subst (λ (x : PlainInterpreter). IsReadFrom x.workspace text c.in_ok-reading.reading) c.interpreter.view_is c.in_ok-reading.ensures.read) in
-    text_comes m n place text c.begin_reading.result
-    (counted_comes m n n (text_outcome ran place text) c.begin_reading.result c.in_ok-count_statement.ensures.ok.0 c.in_ok-count_statement.ensures.ok.1
-    (read_comes n place text (arc_value c.in_ok-reading-2.reading) c.begin_reading.result read c.begin_reading.ensures.comes))
+    let read : IsReadFrom n.workspace text c.in_ok-reading.reading =
+    subst (λ (x : PlainInterpreter). IsReadFrom x.workspace text c.in_ok-reading.reading) c.interpreter.view_is c.in_ok-reading.ensures.read in
+    text_comes m n place text c.begin_read.result
+    (counted_comes m n n (text_outcome ran place text) c.begin_read.result c.in_ok-count_statement.ensures.ok.0 c.in_ok-count_statement.ensures.ok.1
+    (read_comes n place text c.in_ok-reading.reading c.begin_read.result read c.begin_read.ensures.comes))
+
+pub returns-in_err-reading-clause-memory : goal.returns-in_err-reading-clause-memory
+returns-in_err-reading-clause-memory c = on_want c.from_residual-in_err-reading.result _ c.in_ok-count_statement.ensures.ok.0
+
+pub returns-clause-memory : goal.returns-clause-memory
+returns-clause-memory c = on_want c.begin_read.result _ c.in_ok-count_statement.ensures.ok.0

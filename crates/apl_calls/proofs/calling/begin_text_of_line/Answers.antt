@@ -3,6 +3,7 @@ use Rattle.std.specs.Prelude.{unwrap_or}
 use Rattle.std.proofs.lemmas.Result.{err_from_is_err_and}
 use Rattle.std.specs.Arc.{arc_value}
 use Rattle.apl_arrays.specs.declared.report.Fail.{Fail}
+use Rattle.apl_selection.proofs.WantLemmas.{on_want}
 use Rattle.apl_meaning.specs.Meaning.{ran}
 use Rattle.apl_meaning.specs.Reading.{read_with}
 use Rattle.apl_meaning.specs.Statements.{text_outcome}
@@ -40,3 +41,9 @@ returns-clause-comes c =
     (subst (λ (x : PlainInterpreter). IsReadFrom x.workspace (unwrap_or (line_of_innermost x.stack c.args.number) []) (arc_value c.in_ok-reading.reading)) c.in_ok-count_statement.ensures.ok.1 c.in_ok-reading.ensures.read) in
     counted_comes m n n (text_outcome ran in_function text) c.begin_reading.result c.in_ok-count_statement.ensures.ok.0 is
     (read_comes n in_function text (arc_value c.in_ok-reading.reading) c.begin_reading.result read c.begin_reading.ensures.comes)
+
+pub returns-in_err-reading-clause-memory : goal.returns-in_err-reading-clause-memory
+returns-in_err-reading-clause-memory c = on_want c.from_residual-in_err-reading.result _ c.in_ok-count_statement.ensures.ok.0
+
+pub returns-clause-memory : goal.returns-clause-memory
+returns-clause-memory c = on_want c.begin_reading.result _ c.in_ok-count_statement.ensures.ok.0

@@ -1,5 +1,7 @@
-use Rattle.std.proofs.Common.{◌≡◌, true, sym, ap, subst, ◌∙◌}
+use Rattle.std.proofs.Common.{◌≡◌, ◌<◌, true, length, sym, ap, subst, ◌∙◌}
 use Rattle.std.specs.Prelude.{Ok, map}
+use Rattle.apl_selection.proofs.WantLemmas.{on_want}
+use Rattle.apl_workspace.specs.Limits.{most_depth}
 use Rattle.apl_workspace.specs.Workspace.{empty_workspace, look}
 use Rattle.apl_workspace.specs.declared.meaning.Meaning.{Meaning}
 use Rattle.apl_meaning.specs.Calls.{call}
@@ -15,7 +17,7 @@ use Rattle.apl_statements.specs.Holding.{IsWithValues}
 use Rattle.apl_statements.specs.Work.{parts_left}
 use Rattle.apl_statements.proofs.Moving.{comes_after}
 use Rattle.apl_statements.proofs.Renewing.{settled_sound}
-use Rattle.apl_calls.proofs.Enters.{settled_enters}
+use Rattle.apl_calls.proofs.Enters.{settled_enters, shallow, too_deep}
 use Rattle.apl_calls.proofs.Falling.{falls_entered}
 use Rattle.apl_calls.proofs.Lines.{left_there}
 use Rattle.apl_calls.proofs.calling.call.Goals as goal
@@ -60,3 +62,38 @@ returns-in_ok-leave-clause-comes c =
     comes_after m mid n (part_gives m before (λ s. call ran c.args.name c.args.args s)) (from_line mid.stack 1) 0 (Ok (flow.Evaluates e))
     (settled_enters m mid before c.settle.new.self c.args.name c.args.args takes with c.in_ok-enter.ensures.done c.in_ok-enter.ensures.stack)
     (left_there mid n 1 (λ s. onward (evaluation_of n.workspace e) n.stack s) (sym c.has_line.ensures ∙ c.if-has_line.false) c.in_ok-leave.ensures.comes)
+
+pub returns-then-is_too_deep-clause-comes : goal.returns-then-is_too_deep-clause-comes
+returns-then-is_too_deep-clause-comes c =
+    let m : PlainInterpreter = c.args.interpreter.now in
+    let takes : takes_by (look m.workspace c.args.name) c.args.args ≡ true =
+    ap (λ (x : PlainInterpreter). takes_by (look x.workspace c.args.name) c.args.args) (sym c.interpreter.view_is) ∙ ap (λ (seen : Meaning). takes_by seen c.args.args) (sym c.look.ensures.value) ∙ sym c.takes.ensures ∙ c.if-not-takes.false in
+    too_deep m c.args.caller c.args.name c.args.args takes (sym c.is_too_deep.ensures ∙ c.if-is_too_deep.true)
+
+pub returns-in_err-settle-clause-memory : goal.returns-in_err-settle-clause-memory
+returns-in_err-settle-clause-memory c =
+    let m : PlainInterpreter = c.args.interpreter.now in
+    let takes : takes_by (look m.workspace c.args.name) c.args.args ≡ true =
+    ap (λ (x : PlainInterpreter). takes_by (look x.workspace c.args.name) c.args.args) (sym c.interpreter.view_is) ∙ ap (λ (seen : Meaning). takes_by seen c.args.args) (sym c.look.ensures.value) ∙ sym c.takes.ensures ∙ c.if-not-takes.false in
+    on_want c.from_residual.result ((takes_by (look m.workspace c.args.name) c.args.args ≡ true) × (length m.workspace.frames < most_depth)) (takes, shallow most_depth (length m.workspace.frames) (sym c.is_too_deep.ensures ∙ c.if-is_too_deep.false))
+
+pub returns-in_err-enter-clause-memory : goal.returns-in_err-enter-clause-memory
+returns-in_err-enter-clause-memory c =
+    let m : PlainInterpreter = c.args.interpreter.now in
+    let takes : takes_by (look m.workspace c.args.name) c.args.args ≡ true =
+    ap (λ (x : PlainInterpreter). takes_by (look x.workspace c.args.name) c.args.args) (sym c.interpreter.view_is) ∙ ap (λ (seen : Meaning). takes_by seen c.args.args) (sym c.look.ensures.value) ∙ sym c.takes.ensures ∙ c.if-not-takes.false in
+    on_want c.from_residual-in_err-enter.result ((takes_by (look m.workspace c.args.name) c.args.args ≡ true) × (length m.workspace.frames < most_depth)) (takes, shallow most_depth (length m.workspace.frames) (sym c.is_too_deep.ensures ∙ c.if-is_too_deep.false))
+
+pub returns-then-has_line-clause-memory : goal.returns-then-has_line-clause-memory
+returns-then-has_line-clause-memory c =
+    let m : PlainInterpreter = c.args.interpreter.now in
+    let takes : takes_by (look m.workspace c.args.name) c.args.args ≡ true =
+    ap (λ (x : PlainInterpreter). takes_by (look x.workspace c.args.name) c.args.args) (sym c.interpreter.view_is) ∙ ap (λ (seen : Meaning). takes_by seen c.args.args) (sym c.look.ensures.value) ∙ sym c.takes.ensures ∙ c.if-not-takes.false in
+    on_want c.begin_line.result ((takes_by (look m.workspace c.args.name) c.args.args ≡ true) × (length m.workspace.frames < most_depth)) (takes, shallow most_depth (length m.workspace.frames) (sym c.is_too_deep.ensures ∙ c.if-is_too_deep.false))
+
+pub returns-in_err-leave-clause-memory : goal.returns-in_err-leave-clause-memory
+returns-in_err-leave-clause-memory c =
+    let m : PlainInterpreter = c.args.interpreter.now in
+    let takes : takes_by (look m.workspace c.args.name) c.args.args ≡ true =
+    ap (λ (x : PlainInterpreter). takes_by (look x.workspace c.args.name) c.args.args) (sym c.interpreter.view_is) ∙ ap (λ (seen : Meaning). takes_by seen c.args.args) (sym c.look.ensures.value) ∙ sym c.takes.ensures ∙ c.if-not-takes.false in
+    on_want c.from_residual-in_err-leave.result ((takes_by (look m.workspace c.args.name) c.args.args ≡ true) × (length m.workspace.frames < most_depth)) (takes, shallow most_depth (length m.workspace.frames) (sym c.is_too_deep.ensures ∙ c.if-is_too_deep.false))

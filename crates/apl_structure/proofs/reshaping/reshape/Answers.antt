@@ -1,6 +1,10 @@
-use Rattle.std.proofs.Common.{sym, ◌∙◌}
-use Rattle.apl_selection.proofs.WantLemmas.{on_want}
+use Rattle.apl_items.proofs.AnswerLemmas.{answers_at_all}
+use Rattle.apl_selection.proofs.WantLemmas.{first_on_want}
+use Rattle.apl_structure.specs.Reshaping.{reshape_of}
 use Rattle.apl_structure.proofs.reshaping.reshape.Goals as goal
 
+pub returns-in-None-clause-answer : goal.returns-in-None-clause-answer
+returns-in-None-clause-answer c = answers_at_all c.shaped_by.result (reshape_of c.args.a.now c.args.b.now) c.shaped_by.ensures
+
 pub returns-in-None-clause-memory : goal.returns-in-None-clause-memory
-returns-in-None-clause-memory c = on_want c.shaped_by.result _ (sym c.reshape_report.ensures ∙ c.in-None.is)
+returns-in-None-clause-memory c = first_on_want c.shaped_by.result (reshape_of c.args.a.now c.args.b.now) c.shaped_by.ensures

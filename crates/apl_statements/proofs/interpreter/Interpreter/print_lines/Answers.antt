@@ -3,9 +3,11 @@ use Rattle.std.specs.Prelude.{map, reverse}
 use Rattle.apl_arrays.specs.List.{glyphs_in}
 use Rattle.apl_workspace.specs.Workspace.{PlainWorkspace}
 use Rattle.apl_meaning.specs.Printing.{lines_printed}
+use Rattle.apl_items.specs.Places.{OnWantOfMemory}
 use Rattle.apl_statements.specs.Led.{HasLed}
 use Rattle.apl_statements.specs.Interpreter.{PlainInterpreter}
 use Rattle.apl_statements.specs.Sound.{plain_interpreter}
+use Rattle.apl_statements.specs.Wants.{StopsAtLine}
 use Rattle.apl_statements.specs.declared.interpreter.Interpreter.TheInside.{Inside}
 use Rattle.apl_statements.proofs.Printed.{done_as_led, keeps_functions}
 use Rattle.apl_statements.proofs.Renewing.{seen_changed, way_changed}
@@ -39,3 +41,7 @@ returns-clause-printed c =
 pub returns-clause-beside : goal.returns-clause-beside
 returns-clause-beside c =
     after c ∙ ap (λ (x : PlainInterpreter). record c.args.self.now { output = c.print_lines.new.output.items; workspace = record x.workspace { printed = c.print_lines.new.workspace.printed } }) c.self.view_is
+
+pub returns-clause-memory : goal.returns-clause-memory
+returns-clause-memory c =
+    subst (λ (x : PlainInterpreter). OnWantOfMemory c.print_lines.result (StopsAtLine (map glyphs_in c.args.lines.items) x.workspace.printed c.print_lines.new.workspace.printed)) c.self.view_is c.print_lines.ensures.memory

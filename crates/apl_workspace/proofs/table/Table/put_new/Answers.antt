@@ -1,5 +1,8 @@
-use Rattle.std.proofs.Common.{refl, arith}
-use Rattle.apl_workspace.proofs.Tables.{is_table_with, new_is_reckoned}
+use Rattle.std.proofs.Common.{◌≡◌, refl, arith}
+use Rattle.std.proofs.lemmas.Result.{err_from_is_err_and}
+use Rattle.apl_arrays.specs.declared.report.Fail.TheVariants.{WantOfMemory}
+use Rattle.apl_workspace.proofs.Tables.{is_table_with, new_is_reckoned, wanted_within}
+use Rattle.apl_workspace.specs.Meaning.{with_meaning}
 use Rattle.apl_workspace.proofs.table.Table.put_new.Goals as goal
 
 pub returns-then-weight-most-clause-full : goal.returns-then-weight-most-clause-full
@@ -14,3 +17,10 @@ pub returns-clause-fits : goal.returns-clause-fits
 returns-clause-fits c =
     let same = (new_is_reckoned _ _ c.args.name c.args.meaning _ _ _ c.args.most c.self.view_is c.self.invariant c.requires.limit c.requires.new c.requires.after refl).fits c.if-weight-most.false in
     omega (arith, same, c.if-weight-most.false)
+
+pub returns-in_err-put_in-clause-full : goal.returns-in_err-put_in-clause-full
+returns-in_err-put_in-clause-full c =
+    let same = (new_is_reckoned _ _ c.args.name c.args.meaning _ _ _ c.args.most c.self.view_is c.self.invariant c.requires.limit c.requires.new c.requires.after refl).fits c.if-weight-most.false in
+    let exit = err_from_is_err_and c.from_residual.result c.from_residual.ensures.1 in
+    let why : exit.0 ≡ WantOfMemory = cc exit.2 in
+    wanted_within c.from_residual.result exit.0 (with_meaning c.args.self.now c.args.name c.args.meaning) c.args.most exit.1 why (omega (arith, same, c.if-weight-most.false))

@@ -1,0 +1,97 @@
+-- Where memory ran out for an assignment no report was due that comes without it.
+use Rattle.std.proofs.Common.{◌≡◌, ◌≤◌, ◌<◌, Bool, true, false, cond, List, [], refl, sym, ap, subst, ◌∙◌, arith}
+use Rattle.std.specs.Prelude.{ℕ, Option, Some, None, Result, Ok, Err, IfErr, IsOk, nat_le}
+use Rattle.apl_arrays.specs.Array.{PlainArray}
+use Rattle.apl_arrays.specs.declared.report.Fail.{Fail}
+use Rattle.apl_arrays.specs.declared.report.Fail.TheVariants as fail
+use Rattle.apl_arrays.specs.declared.report.Report.{Report}
+use Rattle.apl_arrays.specs.declared.report.Report.TheVariants.{Syntax, WsFull}
+use Rattle.apl_items.specs.Answers.{first_report, unless}
+use Rattle.apl_items.specs.Places.{OnWantOfMemory}
+use Rattle.apl_selection.specs.Assignment.{assign_faults, assign_of, overlaid_array}
+use Rattle.apl_workspace.specs.Limits.{most_weight}
+use Rattle.apl_workspace.specs.Meaning.{is_shared_meaning}
+use Rattle.apl_workspace.specs.Workspace.{IsNotAssigned, IsTooHeavy, PlainWorkspace, is_assignable, look, workspace_weight}
+use Rattle.apl_workspace.specs.declared.meaning.Meaning.{Meaning}
+use Rattle.apl_workspace.specs.declared.meaning.Meaning.TheVariants as meaning
+use Rattle.std.proofs.lemmas.Bool.{false≢true}
+use Rattle.std.proofs.lemmas.Bool.Decides.{nat_tests}
+use Rattle.apl_meaning.specs.State.{State, Outcome}
+use Rattle.apl_meaning.specs.Variables.{assignment, assignment_by}
+use Rattle.apl_statements.specs.declared.flow.Flow.{Flow}
+use Rattle.apl_statements.specs.Interpreter.{PlainInterpreter, state_at}
+use Rattle.apl_statements.specs.Moves.{Does}
+use Rattle.apl_statements.specs.Wants.{IsNoReport}
+
+-- a name for whose value there is no memory takes one
+pub assigned_want : {T : Type 0} (r : Result T Fail) (there takes : Bool) (w : PlainWorkspace) → IfErr r (IsNotAssigned there takes w) → OnWantOfMemory r (takes ≡ true)
+assigned_want (Ok done) there takes w refused = tt
+assigned_want (Err (fail.Report report)) there takes w refused = tt
+assigned_want (Err fail.WantOfMemory) there takes w refused = refused.0
+
+-- a shared name takes a value
+pub shared_takes : (m : Meaning) → is_shared_meaning m ≡ true → is_assignable m ≡ true
+shared_takes meaning.Nothing shared = refl
+shared_takes (meaning.Value value) shared = refl
+shared_takes (meaning.Function function) shared = absurd (false≢true shared)
+shared_takes (meaning.Label line) shared = absurd (false≢true shared)
+shared_takes (meaning.Shared copy) shared = refl
+
+-- and so does a name that got one
+pub given_takes : (m n : PlainInterpreter) (name : List ℕ) (value : PlainArray) (seen : Meaning) → look m.workspace name ≡ seen → Does m (assignment name value) n → is_assignable seen ≡ true
+given_takes m n name value meaning.Nothing is done = refl
+given_takes m n name value (meaning.Value old) is done = refl
+given_takes m n name value (meaning.Function function) is done =
+    let s : State = state_at m [] 0 [] [] in
+    absurd (subst (λ (o : Outcome (Unit {0})). IsNoReport o) (sym (ap (λ (x : Meaning). assignment_by x name value s) (sym is) ∙ done.same [] 0 [] [])) (tt {0}))
+given_takes m n name value (meaning.Label line) is done =
+    let s : State = state_at m [] 0 [] [] in
+    absurd (subst (λ (o : Outcome (Unit {0})). IsNoReport o) (sym (ap (λ (x : Meaning). assignment_by x name value s) (sym is) ∙ done.same [] 0 [] [])) (tt {0}))
+given_takes m n name value (meaning.Shared copy) is done = refl
+
+unless_none : (report : Option Report) (array : PlainArray) → report ≡ None → IsOk (unless report array)
+unless_none None array none = refl
+unless_none (Some report) array none = absurd (let no : Some report ≡ None = none in cc)
+
+-- items that are replaced are there
+pub items_there : (why : Fail) (old : PlainArray) (subs : List (Option PlainArray)) (right : PlainArray) → OnWantOfMemory {T = PlainArray} (Err why) (first_report (assign_faults old subs right) ≡ None)
+    → OnWantOfMemory {T = Flow} (Err why) (IsOk (assign_of old subs right))
+items_there (fail.Report report) old subs right none = tt
+items_there fail.WantOfMemory old subs right none = unless_none (first_report (assign_faults old subs right)) (overlaid_array old subs right) none
+
+-- a value for which there is no memory would fit
+pub assigned_room : {T : Type 0} (r : Result T Fail) (there takes : Bool) (w : PlainWorkspace) → IfErr r (IsNotAssigned there takes w) → OnWantOfMemory r (workspace_weight w ≤ most_weight)
+assigned_room (Ok done) there takes w refused = tt
+assigned_room (Err (fail.Report report)) there takes w refused = tt
+assigned_room (Err fail.WantOfMemory) there takes w refused = refused.2
+
+within : (a b : ℕ) → nat_le a b ≡ true → a ≤ b
+within a b e = grind (arith, nat_tests)
+
+above : (a b : ℕ) → nat_le a b ≡ false → b < a
+above a b e = grind (arith, nat_tests)
+
+-- why a value was not taken, by whether it would fit
+pub taken_where : (takes : Bool) (w : PlainWorkspace) (fits : Bool) → takes ≡ true → fits ≡ nat_le (workspace_weight w) most_weight → IsNotAssigned false takes w (cond fits fail.WantOfMemory (fail.Report WsFull))
+taken_where true w true takes is = (refl, refl, within (workspace_weight w) most_weight (sym is))
+taken_where true w false takes is = (refl, above (workspace_weight w) most_weight (sym is))
+taken_where false w fits takes is = absurd (false≢true takes)
+
+pub takes_none : (takes : Bool) (w : PlainWorkspace) → takes ≡ false → IsNotAssigned false takes w (fail.Report Syntax)
+takes_none false w takes = refl
+takes_none true w takes = absurd (false≢true (sym takes))
+
+-- a renewal that takes no memory is never refused for want of it
+pub renewed_room : {T : Type 0} (r : Result T Fail) (w : PlainWorkspace) (fact : Type 0) → IfErr r (IsTooHeavy w) → OnWantOfMemory r fact
+renewed_room (Ok done) w fact heavy = tt
+renewed_room (Err (fail.Report report)) w fact heavy = tt
+renewed_room (Err fail.WantOfMemory) w fact heavy = absurd (cc (heavy.0))
+
+-- a copy for which there is no memory would fit, by whether it would
+pub kept_room : {T : Type 0} (w : PlainWorkspace) (fits : Bool) → fits ≡ nat_le (workspace_weight w) most_weight → OnWantOfMemory {T = T} (Err (cond fits fail.WantOfMemory (fail.Report WsFull))) (workspace_weight w ≤ most_weight)
+kept_room w true is = within (workspace_weight w) most_weight (sym is)
+kept_room w false is = tt
+
+-- a copy that would not fit is too heavy
+pub kept_heavy : (w : PlainWorkspace) → false ≡ nat_le (workspace_weight w) most_weight → IsTooHeavy w (fail.Report WsFull)
+kept_heavy w is = (refl, above (workspace_weight w) most_weight (sym is))
