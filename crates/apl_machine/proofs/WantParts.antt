@@ -5,7 +5,7 @@ use Rattle.std.proofs.lemmas.Bool.{false≢true}
 use Rattle.apl_arrays.specs.Array.{PlainArray}
 use Rattle.apl_arrays.specs.declared.report.Report.{Report}
 use Rattle.apl_arrays.specs.declared.report.Report.TheVariants.{Syntax}
-use Rattle.apl_arrays.specs.declared.verb.Verb.{Verb}
+use Rattle.apl_verbs.specs.declared.verb.Verb.{Verb}
 use Rattle.operator_rules.specs.Apply.{applied}
 use Rattle.apl_workspace.specs.Workspace.{look}
 use Rattle.apl_workspace.specs.declared.meaning.Meaning.{Meaning}

@@ -1,5 +1,5 @@
 use Rattle.std.proofs.Common.{IsOk, length, refl, subst, sym}
-use Rattle.apl_arrays.specs.declared.verb.Mix2.{Mix2}
+use Rattle.apl_verbs.specs.declared.verb.Mix2.{Mix2}
 use Rattle.apl_items.specs.Places.{OnWantOfMemory}
 use Rattle.apl_search.specs.Decode.{decode_faults}
 use Rattle.apl_search.specs.Encode.{encode_faults}

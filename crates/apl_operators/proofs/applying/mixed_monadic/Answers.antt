@@ -1,5 +1,5 @@
 use Rattle.std.proofs.Common.{◌≡◌, IsOk, false, length, refl, subst, sym}
-use Rattle.apl_arrays.specs.declared.verb.Mix1.{Mix1}
+use Rattle.apl_verbs.specs.declared.verb.Mix1.{Mix1}
 use Rattle.apl_items.specs.Axis.{lacks_axis}
 use Rattle.apl_items.specs.Places.{OnWantOfMemory}
 use Rattle.apl_search.specs.Grade.{grade_faults}
