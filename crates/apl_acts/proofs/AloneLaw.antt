@@ -19,7 +19,7 @@ use Rattle.line_trees.specs.declared.symbol.Symbol.TheVariants as symbol
 use Rattle.line_trees.specs.declared.tree.Form.TheVariants as form
 use Rattle.line_trees.specs.declared.tree.Mark.TheVariants as mark
 use Rattle.line_trees.specs.Building.{attached, built_by, built_from, items_of, nothing_built}
-use Rattle.line_trees.specs.Marks.{changed, marked_by, marks_from, may_end, step, with_mark}
+use Rattle.line_trees.specs.Marks.{open_after, marked_by, marks_from, may_end, step, with_mark}
 use Rattle.line_trees.specs.Nodes as node
 use Rattle.line_trees.specs.Parsing.{PlainTree, parsed, parsed_by, tree_of}
 use Rattle.line_trees.specs.Signs.{dyad_of, fold_of, mix1_of, mix2_of, monad_of}
@@ -45,7 +45,7 @@ use Rattle.apl_values.proofs.EnoughClasses.{all_tell}
 use Rattle.apl_values.proofs.ReadLaw.{read_so}
 use Rattle.apl_values.proofs.Constants.{constant_gives}
 use Rattle.apl_statements.proofs.Steps.{grouped}
-use Rattle.apl_acts.specs.Alone.{HasItems, IsActOf, IsAlone, IsOnShared, IsSetTo, act_outcome, kinds_of}
+use Rattle.apl_acts.specs.Alone.{IsConstantOf, IsActOf, IsAlone, IsOnShared, IsSetTo, act_outcome, kinds_of}
 
 -- ---- the trees of the tokens
 
@@ -60,7 +60,7 @@ set_tree n items = record { label = None; form = form.Value 1; nodes = node.cons
 name_parsed : (classes : List Class) (one : PlainToken) (n : List ℕ) (long : ℕ) → symbol_of classes one.kind ≡ symbol.Value n → parsed classes (one ∷ []) long ≡ Ok (name_tree n)
 unfolding name_tree marks_from may_end step built_from built_by attached
 name_parsed classes one n long is =
-    ap (λ (s : Symbol). parsed_by classes (marked_by (step (Begins before.Line) (first_of []) s) one.at (λ mode change. marks_from classes long mode (changed change []) [])) (one ∷ [])) is
+    ap (λ (s : Symbol). parsed_by classes (marked_by (step (Begins before.Line) (first_of []) s) one.at (λ mode change. marks_from classes long mode (open_after change []) [])) (one ∷ [])) is
     ∙ ap (λ (s : Symbol). Ok (tree_of (built_by mark.Name s one.kind nothing_built))) is
 
 arrow_symbol : sign_symbol left_arrow ≡ symbol.LeftArrow
@@ -72,9 +72,9 @@ set_parsed : (classes : List Class) (target arrow one : PlainToken) (n : List �
     → symbol_of classes one.kind ≡ symbol.Constant → items_of one.kind ≡ items → parsed classes (target ∷ arrow ∷ one ∷ []) long ≡ Ok (set_tree n items)
 unfolding set_tree marks_from may_end step built_from built_by attached
 set_parsed classes target arrow one n items long named arrowed constant_is has =
-    ap (λ (s : Symbol). parsed_by classes (marked_by (step (Begins before.Line) (first_of []) s) target.at (λ mode change. marks_from classes long mode (changed change []) (arrow ∷ one ∷ []))) (target ∷ arrow ∷ one ∷ [])) named
-    ∙ ap (λ (s : Symbol). parsed_by classes (with_mark mark.Name (marked_by (step (Ends operand.First) (first_of []) s) arrow.at (λ mode change. marks_from classes long mode (changed change []) (one ∷ [])))) (target ∷ arrow ∷ one ∷ [])) arrowed
-    ∙ ap (λ (s : Symbol). parsed_by classes (with_mark mark.Name (with_mark mark.Gets (marked_by (step (Begins before.Plain) (first_of []) s) one.at (λ mode change. marks_from classes long mode (changed change []) [])))) (target ∷ arrow ∷ one ∷ [])) constant_is
+    ap (λ (s : Symbol). parsed_by classes (marked_by (step (Begins before.Line) (first_of []) s) target.at (λ mode change. marks_from classes long mode (open_after change []) (arrow ∷ one ∷ []))) (target ∷ arrow ∷ one ∷ [])) named
+    ∙ ap (λ (s : Symbol). parsed_by classes (with_mark mark.Name (marked_by (step (Ends operand.First) (first_of []) s) arrow.at (λ mode change. marks_from classes long mode (open_after change []) (one ∷ [])))) (target ∷ arrow ∷ one ∷ [])) arrowed
+    ∙ ap (λ (s : Symbol). parsed_by classes (with_mark mark.Name (with_mark mark.Gets (marked_by (step (Begins before.Plain) (first_of []) s) one.at (λ mode change. marks_from classes long mode (open_after change []) [])))) (target ∷ arrow ∷ one ∷ [])) constant_is
     ∙ ap (λ (s : Symbol). Ok (tree_of (built_by mark.Name s target.kind (built_by mark.Gets (symbol_of classes arrow.kind) arrow.kind (built_by mark.Constant (symbol_of classes one.kind) one.kind nothing_built))))) named
     ∙ ap (λ (i : PlainItems). Ok (set_tree n i)) has
 
@@ -139,7 +139,7 @@ use_read w line (one ∷ []) n copy rules scanned kinds is =
 use_read w line (one ∷ other ∷ more) n copy rules scanned kinds is = absurd cc
 
 -- the symbol and the items of a constant
-constant_symbol : (classes : List Class) (kind : PlainKind) (items : PlainItems) → HasItems kind items → (symbol_of classes kind ≡ symbol.Constant) × (items_of kind ≡ items)
+constant_symbol : (classes : List Class) (kind : PlainKind) (items : PlainItems) → IsConstantOf kind items → (symbol_of classes kind ≡ symbol.Constant) × (items_of kind ≡ items)
 constant_symbol classes (token.numbers list) items is = (refl, sym is)
 constant_symbol classes (token.chars list) items is = (refl, sym is)
 constant_symbol classes (token.name n) items is = absurd is

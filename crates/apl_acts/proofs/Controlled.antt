@@ -17,7 +17,7 @@ use Rattle.sv_access.specs.declared.control.Control.{Control}
 use Rattle.apl_meaning.specs.Deeds.{set_control}
 use Rattle.apl_meaning.specs.Naming.{naming_count, naming_faults, namings_of, rows_of}
 use Rattle.apl_meaning.specs.Sharing.{are_controls, control_at, control_faults, is_one_control}
-use Rattle.apl_values.specs.Rows.{PlainRow}
+use Rattle.apl_values.specs.Rows.{PlainNameRow}
 use Rattle.apl_values.proofs.NamingSteps.{is_unnamed}
 use Rattle.apl_acts.specs.Faults.{AreElements, settings_of}
 use Rattle.apl_acts.proofs.Tested.{named_count, nothing_wrong}
@@ -73,5 +73,5 @@ control_of list count row =
 -- the controls of names are those by the count of rows
 pub controls_by_row : (c n : PlainArray) → IsControlled c n → zip (namings_of n) (map (λ row. set_control (control_at c row)) (places (naming_count n))) ≡ settings_of (numbers_in c.items) (namings_of n)
 controls_by_row c n is =
-    let made : ℕ → ℕ → List PlainRow = λ count rows. zip (namings_of n) (map (λ row. set_control (control_of (numbers_in c.items) count row)) (places rows)) in
+    let made : ℕ → ℕ → List PlainNameRow = λ count rows. zip (namings_of n) (map (λ row. set_control (control_of (numbers_in c.items) count row)) (places rows)) in
     ap (λ (count : ℕ). made count (naming_count n)) (counted c.items is.plain) ∙ ap (made (length (numbers_in c.items))) (sym is.named)

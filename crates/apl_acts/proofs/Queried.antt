@@ -12,7 +12,7 @@ use Rattle.apl_meaning.specs.Queries.{names_told, parties_told, queries, query_b
 use Rattle.apl_meaning.specs.Sharing.{is_no_addressee, unless_wrong}
 use Rattle.apl_meaning.specs.State.{State, Outcome, refuses}
 use Rattle.apl_meaning.specs.Tasks.{Next}
-use Rattle.apl_values.specs.Pending.{asked_for, names_asked, parties_asked}
+use Rattle.apl_values.specs.Pending.{act_asked_for, names_asked, parties_asked}
 use Rattle.apl_statements.specs.declared.evaluation.Evaluation.{Evaluation}
 use Rattle.apl_statements.specs.Evaluating.{caller_of}
 use Rattle.apl_statements.specs.Interpreter.{PlainInterpreter, here, state_at}
@@ -56,7 +56,7 @@ asks_party (chars list) party is = absurd (let no : None ≡ Some party = is in 
 
 -- the names of a party are asked
 pub query_names : (m : PlainInterpreter) (e : Evaluation) (b : PlainArray) (faults : Faults) (party : ℤ) → faults ≡ query_faults b → first_report faults ≡ None → slice_get (numbers_in b.items) 0 ≡ Some party
-    → SameAt m (part_gives m e (λ s. valued (queries b s))) (part_gives m e (asked_for (names_asked (unsigned_abs party))))
+    → SameAt m (part_gives m e (λ s. valued (queries b s))) (part_gives m e (act_asked_for (names_asked (unsigned_abs party))))
 query_names m e b faults party are is first asked count taken further =
     let s : State = state_at m asked count taken further in
     let found : Outcome Found → Outcome Next = λ o. carried_on o (caller_of m.workspace (here m) e) m.stack in
@@ -76,7 +76,7 @@ asks_none (chars (x ∷ list)) none clean = absurd (false≢true (sym clean ∙ 
 
 -- the parties with open offers are asked
 pub query_parties : (m : PlainInterpreter) (e : Evaluation) (b : PlainArray) (faults : Faults) → faults ≡ query_faults b → first_report faults ≡ None → slice_get (numbers_in b.items) 0 ≡ None
-    → SameAt m (part_gives m e (λ s. valued (queries b s))) (part_gives m e (asked_for parties_asked))
+    → SameAt m (part_gives m e (λ s. valued (queries b s))) (part_gives m e (act_asked_for parties_asked))
 query_parties m e b faults are is none asked count taken further =
     let s : State = state_at m asked count taken further in
     let found : Outcome Found → Outcome Next = λ o. carried_on o (caller_of m.workspace (here m) e) m.stack in

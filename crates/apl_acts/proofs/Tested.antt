@@ -21,7 +21,7 @@ use Rattle.apl_meaning.specs.Expressions.{Found, valued}
 use Rattle.apl_meaning.specs.Naming.{Naming, has_rows, naming_count, naming_in, namings_of, result_shape, rows_of}
 use Rattle.apl_meaning.specs.Sharing.{rows_outcome, unless_wrong}
 use Rattle.apl_meaning.specs.State.{State, Outcome, gives, refuses, asks, and_then}
-use Rattle.apl_values.specs.Rows.{MayBeDone, PlainRow, RowMayBeDone, count_told, is_offer, rest_of_rows, row_zeros}
+use Rattle.apl_values.specs.Rows.{MayBeDone, PlainNameRow, RowMayBeDone, count_told, is_offer, rest_of_rows, row_zeros}
 use Rattle.apl_values.proofs.NamingSteps.{is_unnamed, rows_count}
 use Rattle.apl_statements.specs.declared.evaluation.Evaluation.{Evaluation}
 use Rattle.apl_statements.specs.declared.flow.Flow.{Flow}
@@ -100,7 +100,7 @@ told_from : (f : ℕ → Deed) (width : ℕ) (list : List Naming) (first : ℕ) 
 told_from f width [] first each = let none : 0 ≡ 0 * width = omega arith in none
 told_from f width (names ∷ list) first each =
     let more : count_told ((names, f first) ∷ zip list (map f (range_with_len (first + 1) (length list)))) ≡ length (row_zeros (f first)) + count_told (zip list (map f (range_with_len (first + 1) (length list)))) =
-    sum_by-cons (λ (r : PlainRow). length (row_zeros r.1)) (names, f first) (zip list (map f (range_with_len (first + 1) (length list)))) in
+    sum_by-cons (λ (r : PlainNameRow). length (row_zeros r.1)) (names, f first) (zip list (map f (range_with_len (first + 1) (length list)))) in
     let rest : count_told (zip list (map f (range_with_len (first + 1) (length list)))) ≡ length list * width = told_from f width list (first + 1) each in
     let one : length (row_zeros (f first)) ≡ width = each first in
     let times : suc (length list) * width ≡ length list * width + width = suc-mul (length list) width in
@@ -121,12 +121,12 @@ room_for_each n each width is = by (has_rows n)
 
 -- ---- rows that are refused, and rows that are done
 
-pub rows_done : (faults : Faults) (n : PlainArray) (each : List ℕ) (deeds : List Deed) (rows : List PlainRow) (s : State) → first_report faults ≡ None → zip (namings_of n) deeds ≡ rows
+pub rows_done : (faults : Faults) (n : PlainArray) (each : List ℕ) (deeds : List Deed) (rows : List PlainNameRow) (s : State) → first_report faults ≡ None → zip (namings_of n) deeds ≡ rows
     → valued (rows_outcome faults n each deeds s) ≡ rest_of_rows [] rows (result_shape n each) s
 rows_done faults n each deeds rows s none are =
     ap (λ (r : Option Report). valued (unless_wrong r (λ s. and_then (done_for_all (zip (namings_of n) deeds) s) (λ numbers s. gives (number_array (result_shape n each) numbers) s)) s)) none
     ∙ grouped (done_for_all (zip (namings_of n) deeds) s) (λ numbers t. gives (number_array (result_shape n each) numbers) t) (λ v t. gives (Some v) t)
-    ∙ ap (λ (list : List PlainRow). rest_of_rows [] list (result_shape n each) s) are
+    ∙ ap (λ (list : List PlainNameRow). rest_of_rows [] list (result_shape n each) s) are
 
 -- what is found is a report where the array is
 pub from_valued : (o : Outcome PlainArray) → IsNoReport (valued o) → IsNoReport o
@@ -145,7 +145,7 @@ abbrev pub IsTested : PlainInterpreter → (State → Outcome PlainArray) → Fa
 IsTested m part faults n each deeds =
     (asked : List Act) (count : ℕ) (taken : List (List ℕ)) (further : List PlainAnswer) → part (state_at m asked count taken further) ≡ rows_outcome faults n each deeds (state_at m asked count taken further)
 
-pub done_there : (m : PlainInterpreter) (e : Evaluation) (part : State → Outcome PlainArray) (faults : Faults) (n : PlainArray) (each : List ℕ) (deeds : List Deed) (rows : List PlainRow) (r : Result Flow Fail)
+pub done_there : (m : PlainInterpreter) (e : Evaluation) (part : State → Outcome PlainArray) (faults : Faults) (n : PlainArray) (each : List ℕ) (deeds : List Deed) (rows : List PlainNameRow) (r : Result Flow Fail)
     → IsTested m part faults n each deeds → first_report faults ≡ None → zip (namings_of n) deeds ≡ rows → Comes m (part_gives m e (rest_of_rows [] rows (result_shape n each))) 0 m r
     → Comes m (part_gives m e (λ s. valued (part s))) 0 m r
 done_there m e part faults n each deeds rows r tested none are comes =

@@ -46,18 +46,18 @@ abbrev pub kinds_of : List PlainToken → List PlainKind
 kinds_of tokens = map (λ (one : PlainToken). one.kind) tokens
 
 -- a token is a constant of these items
-abbrev pub HasItems : PlainKind → array.PlainItems → Type 0
-HasItems (token.numbers list) items = items ≡ array.numbers list
-HasItems (token.chars list) items = items ≡ array.chars list
-HasItems (token.name n) items = ⊥
-HasItems (token.system s) items = ⊥
-HasItems (token.sign g) items = ⊥
+abbrev pub IsConstantOf : PlainKind → array.PlainItems → Type 0
+IsConstantOf (token.numbers list) items = items ≡ array.numbers list
+IsConstantOf (token.chars list) items = items ≡ array.chars list
+IsConstantOf (token.name n) items = ⊥
+IsConstantOf (token.system s) items = ⊥
+IsConstantOf (token.sign g) items = ⊥
 
 -- the kinds are those of a name, an arrow and a constant, which is this array
 pub record IsSetTo (name : List ℕ) (value : PlainArray) (kinds : List PlainKind) : Type 0 where
   pub kind : PlainKind
   pub kinds_are : kinds ≡ token.name name ∷ token.sign left_arrow ∷ kind ∷ []
-  pub items : HasItems kind value.items
+  pub items : IsConstantOf kind value.items
   pub constant : IsConstant value
 
 -- tokens are this act alone

@@ -9,7 +9,7 @@ use Rattle.sv_access.specs.Control.{four_elements}
 use Rattle.sv_access.specs.declared.control.Control.{Control}
 use Rattle.apl_meaning.specs.Deeds.{offer, set_control}
 use Rattle.apl_meaning.specs.Naming.{Naming}
-use Rattle.apl_values.specs.Rows.{PlainRow}
+use Rattle.apl_values.specs.Rows.{PlainNameRow}
 use Rattle.apl_acts.specs.declared.sharing.Wrong.{Wrong}
 
 -- what is wrong with arguments; no index is
@@ -21,7 +21,7 @@ abbrev pub IsOneOrAsMany : List ℤ → ℕ → Type 0
 IsOneOrAsMany numbers count = (length numbers ≡ 1) ⊎ (count ≤ length numbers)
 
 -- these names are offered, to the party of all or to their own
-abbrev pub offers_of : List ℤ → List Naming → List PlainRow
+abbrev pub offers_of : List ℤ → List Naming → List PlainNameRow
 offers_of parties namings = zip namings (map (λ row. offer (unsigned_abs (number_at parties row))) (places (length namings)))
 
 -- one number for all, four for all, or four for each of so many
@@ -37,5 +37,5 @@ abbrev pub control_in : List ℤ → ℕ → Control
 control_in numbers row = four_elements (element_in numbers row 0) (element_in numbers row 1) (element_in numbers row 2) (element_in numbers row 3)
 
 -- the controls of these names are set
-abbrev pub settings_of : List ℤ → List Naming → List PlainRow
+abbrev pub settings_of : List ℤ → List Naming → List PlainNameRow
 settings_of numbers namings = zip namings (map (λ row. set_control (control_in numbers row)) (places (length namings)))

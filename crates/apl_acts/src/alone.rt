@@ -13,7 +13,7 @@ ghost use Rattle.sv_events.specs.Answer.{plain_answer};
 ghost use Rattle.sv_events.specs.Row.{answer_row};
 ghost use Rattle.apl_values.specs.Parts.{IsConstant};
 ghost use Rattle.apl_statements.specs.Led.{HasLed};
-ghost use Rattle.apl_acts.specs.Alone.{HasItems, IsActOf, IsOnShared, answer_outcome, kinds_of};
+ghost use Rattle.apl_acts.specs.Alone.{IsConstantOf, IsActOf, IsOnShared, answer_outcome, kinds_of};
 
 use apl_arrays::{Array, Fail, Glyph, Items, LineList, Name, WantOfMemory};
 use apl_display::lines_of;
@@ -101,7 +101,7 @@ fn is_arrow(token: &Token) -> bool
 
 // The array of a constant, unless it would be too large. It takes memory for its items.
 fn constant_of(alloc: Global, token: &Token) -> Result<Option<Array>, WantOfMemory>
-    ensures items { IfOk result (λ found. IfSome found (λ value. HasItems (plain_kind token.now.kind) value.items)) }
+    ensures items { IfOk result (λ found. IfSome found (λ value. IsConstantOf (plain_kind token.now.kind) value.items)) }
     ensures constant { IfOk result (λ found. IfSome found IsConstant) }
 {
     match &token.kind {

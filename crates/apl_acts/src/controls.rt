@@ -5,7 +5,7 @@ ghost use Rattle.apl_items.specs.Places.{OnWantOfMemory};
 ghost use Rattle.apl_meaning.specs.Expressions.{valued};
 ghost use Rattle.apl_meaning.specs.Sharing.{are_controls, control_faults, controls};
 ghost use Rattle.apl_scalar.specs.Table.{is_truth};
-ghost use Rattle.apl_values.specs.Rows.{plain_naming, plain_row};
+ghost use Rattle.apl_values.specs.Rows.{plain_naming, plain_name_row};
 ghost use Rattle.apl_statements.specs.Moves.{Comes, part_gives};
 ghost use Rattle.apl_statements.specs.Sound.{IsCaller, IsFlow};
 ghost use Rattle.apl_statements.specs.Wants.{NoReportIsDue};
@@ -15,7 +15,7 @@ ghost use Rattle.apl_acts.specs.Faults.{AreElements, control_in, element_in, pla
 use crate::sharing::{Wrong, do_rows, naming_wrong, refuse};
 use apl_arrays::{Array, Fail, WantOfMemory};
 use apl_statements::{Evaluation, Flow, Interpreter};
-use apl_values::{Deed, Naming, Row, naming_count, namings_of};
+use apl_values::{Deed, NameRow, Naming, naming_count, namings_of};
 use std::alloc::Global;
 use sv_access::Control;
 
@@ -80,14 +80,18 @@ fn is_truth(number: i64) -> bool
 }
 
 // The control of each row is set.
-fn settings(alloc: Global, elements: &[i64], namings: Vec<Naming>) -> Result<Vec<Row>, WantOfMemory>
+fn settings(
+    alloc: Global,
+    elements: &[i64],
+    namings: Vec<Naming>,
+) -> Result<Vec<NameRow>, WantOfMemory>
     requires { AreElements elements.now (length namings.items) }
-    ensures { IfOk result (λ rows. map plain_row rows.items ≡ settings_of elements.now (map plain_naming namings.items)) }
+    ensures { IfOk result (λ rows. map plain_name_row rows.items ≡ settings_of elements.now (map plain_naming namings.items)) }
 {
     let mut rows = Vec::new(alloc);
     let mut at = 0;
     for names in namings {
-        rows.push(Row {
+        rows.push(NameRow {
             names,
             deed: Deed::SetControl(control_at(elements, at)),
         })?;

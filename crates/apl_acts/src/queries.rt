@@ -13,7 +13,7 @@ ghost use Rattle.apl_acts.specs.Faults.{plain_faults};
 use crate::sharing::{Wrong, is_no_addressee, refuse};
 use apl_arrays::{Array, Fail};
 use apl_statements::{Evaluation, Flow, Interpreter};
-use apl_values::Pending;
+use apl_values::ActPurpose;
 
 /// ⎕SVQ B: the parties with open offers where B is empty, else the names that a party offers. A report comes also where there
 /// is no memory.
@@ -26,8 +26,8 @@ pub fn query(interpreter: &Interpreter, e: Evaluation, b: &Array) -> Result<Flow
 {
     refuse(query_wrong(b))?;
     match b.numbers().first() {
-        Some(party) => interpreter.open(Pending::Names(party.unsigned_abs() as u32), e),
-        None => interpreter.open(Pending::Parties, e),
+        Some(party) => interpreter.open(ActPurpose::Names(party.unsigned_abs() as u32), e),
+        None => interpreter.open(ActPurpose::Parties, e),
     }
 }
 

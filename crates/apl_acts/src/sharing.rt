@@ -9,8 +9,8 @@ ghost use Rattle.apl_meaning.specs.Expressions.{valued};
 ghost use Rattle.apl_meaning.specs.Naming.{naming_faults, namings_of, result_shape};
 ghost use Rattle.apl_meaning.specs.Queries.{system_outcome};
 ghost use Rattle.apl_meaning.specs.Sharing.{cannot_be_offered, is_no_addressee, offer_faults, offers, plain_rows};
-ghost use Rattle.apl_values.specs.Rows.{RowMayBeDone, count_told, is_offer, plain_deed, plain_naming, plain_row, rest_of_rows, row_zeros};
-ghost use Rattle.apl_values.specs.Values.{IsHeld, held_value};
+ghost use Rattle.apl_values.specs.Rows.{RowMayBeDone, count_told, is_offer, plain_deed, plain_naming, plain_name_row, rest_of_rows, row_zeros};
+ghost use Rattle.apl_values.specs.Values.{IsStackValue, stack_value};
 ghost use Rattle.apl_statements.specs.Moves.{Comes, part_gives};
 ghost use Rattle.apl_statements.specs.Sound.{IsCaller, IsFlow};
 ghost use Rattle.apl_statements.specs.Holding.{parts_of};
@@ -25,7 +25,7 @@ use apl_arrays::{
 };
 use apl_items::joined_shape;
 use apl_statements::{Evaluation, Flow, Interpreter};
-use apl_values::{Deed, Held, Naming, Row, Rows, names_all, naming_count, namings_of};
+use apl_values::{Deed, NameRow, Naming, Rows, StackValue, names_all, naming_count, namings_of};
 use apl_workspace::{Seen, Workspace, is_addressee};
 use arrayvec::ArrayVec;
 use std::alloc::Global;
@@ -40,7 +40,7 @@ pub struct Wrong {
 }
 
 impl Wrong {
-    /// The first report, if anything is wrong. No memory.
+    /// The first report, if anything is wrong.
     pub fn report(self) -> Option<Report>
         ensures { result ≡ first_report (plain_faults self) }
     {
@@ -58,7 +58,7 @@ impl Wrong {
     }
 }
 
-/// What is wrong with rows of names, where the result of a row has this shape. No memory.
+/// What is wrong with rows of names, where the result of a row has this shape.
 pub fn naming_wrong(n: &Array, each: &[u32]) -> Wrong
     requires { length each.now < most_axes }
     ensures { plain_faults result ≡ naming_faults n.now each.now }
@@ -89,13 +89,13 @@ pub fn system(
     interpreter: &Interpreter,
     e: Evaluation,
     name: SystemName,
-    left: Option<Held>,
-    right: Held,
+    left: Option<StackValue>,
+    right: StackValue,
 ) -> Result<Flow, Fail>
     requires sound { IsCaller interpreter.now.workspace e }
-    requires left { IfSome left (IsHeld interpreter.now.workspace (parts_of e)) }
-    requires right { IsHeld interpreter.now.workspace (parts_of e) right }
-    ensures comes { Comes interpreter.now (part_gives interpreter.now e (λ s. valued (system_outcome name (option_map (held_value interpreter.now.workspace (parts_of e)) left) (held_value interpreter.now.workspace (parts_of e) right) s))) 0 interpreter.now result }
+    requires left { IfSome left (IsStackValue interpreter.now.workspace (parts_of e)) }
+    requires right { IsStackValue interpreter.now.workspace (parts_of e) right }
+    ensures comes { Comes interpreter.now (part_gives interpreter.now e (λ s. valued (system_outcome name (option_map (stack_value interpreter.now.workspace (parts_of e)) left) (stack_value interpreter.now.workspace (parts_of e) right) s))) 0 interpreter.now result }
     ensures sound { IfOk result (IsFlow interpreter.now) }
     ensures within { IfOk result (StaysWithin interpreter.now e interpreter.now) }
 {
@@ -113,12 +113,12 @@ pub fn system(
 fn offer_or_ask(
     interpreter: &Interpreter,
     e: Evaluation,
-    left: Option<Held>,
+    left: Option<StackValue>,
     n: &Array,
 ) -> Result<Flow, Fail>
     requires sound { IsCaller interpreter.now.workspace e }
-    requires left { IfSome left (IsHeld interpreter.now.workspace (parts_of e)) }
-    ensures comes { Comes interpreter.now (part_gives interpreter.now e (λ s. valued (system_outcome Svo (option_map (held_value interpreter.now.workspace (parts_of e)) left) n.now s))) 0 interpreter.now result }
+    requires left { IfSome left (IsStackValue interpreter.now.workspace (parts_of e)) }
+    ensures comes { Comes interpreter.now (part_gives interpreter.now e (λ s. valued (system_outcome Svo (option_map (stack_value interpreter.now.workspace (parts_of e)) left) n.now s))) 0 interpreter.now result }
     ensures sound { IfOk result (IsFlow interpreter.now) }
     ensures within { IfOk result (StaysWithin interpreter.now e interpreter.now) }
 {
@@ -135,12 +135,12 @@ fn offer_or_ask(
 fn control_or_ask(
     interpreter: &Interpreter,
     e: Evaluation,
-    left: Option<Held>,
+    left: Option<StackValue>,
     n: &Array,
 ) -> Result<Flow, Fail>
     requires sound { IsCaller interpreter.now.workspace e }
-    requires left { IfSome left (IsHeld interpreter.now.workspace (parts_of e)) }
-    ensures comes { Comes interpreter.now (part_gives interpreter.now e (λ s. valued (system_outcome Svc (option_map (held_value interpreter.now.workspace (parts_of e)) left) n.now s))) 0 interpreter.now result }
+    requires left { IfSome left (IsStackValue interpreter.now.workspace (parts_of e)) }
+    ensures comes { Comes interpreter.now (part_gives interpreter.now e (λ s. valued (system_outcome Svc (option_map (stack_value interpreter.now.workspace (parts_of e)) left) n.now s))) 0 interpreter.now result }
     ensures sound { IfOk result (IsFlow interpreter.now) }
     ensures within { IfOk result (StaysWithin interpreter.now e interpreter.now) }
 {
@@ -190,7 +190,7 @@ fn offer(interpreter: &Interpreter, e: Evaluation, p: &Array, n: &Array) -> Resu
     do_rows(interpreter, e, rows, n, &[])
 }
 
-/// The report of what is wrong. No memory.
+/// The report of what is wrong.
 pub fn refuse(wrong: Wrong) -> Result<(), Report>
     ensures ok { OnOk result (first_report (plain_faults wrong) ≡ None) }
     ensures err { IfErr result (λ why. first_report (plain_faults wrong) ≡ Some why) }
@@ -205,15 +205,15 @@ pub fn refuse(wrong: Wrong) -> Result<(), Report>
 pub fn do_rows(
     interpreter: &Interpreter,
     e: Evaluation,
-    rows: Vec<Row>,
+    rows: Vec<NameRow>,
     n: &Array,
     each: &[u32],
 ) -> Result<Flow, Fail>
     requires sound { IsCaller interpreter.now.workspace e }
-    requires may { All (RowMayBeDone interpreter.now.workspace) (map plain_row rows.items) }
+    requires may { All (RowMayBeDone interpreter.now.workspace) (map plain_name_row rows.items) }
     requires fits { FitsLimits (result_shape n.now each.now) }
-    requires count { element_count (result_shape n.now each.now) ≡ count_told (map plain_row rows.items) }
-    ensures comes { Comes interpreter.now (part_gives interpreter.now e (rest_of_rows [] (map plain_row rows.items) (result_shape n.now each.now))) 0 interpreter.now result }
+    requires count { element_count (result_shape n.now each.now) ≡ count_told (map plain_name_row rows.items) }
+    ensures comes { Comes interpreter.now (part_gives interpreter.now e (rest_of_rows [] (map plain_name_row rows.items) (result_shape n.now each.now))) 0 interpreter.now result }
     ensures sound { IfOk result (IsFlow interpreter.now) }
     ensures within { IfOk result (StaysWithin interpreter.now e interpreter.now) }
 {
@@ -256,21 +256,25 @@ fn some_not_offered(workspace: &Workspace, namings: &[Naming]) -> bool
 }
 
 // The same is done for each of these names.
-fn same_rows(alloc: Global, namings: Vec<Naming>, deed: Deed) -> Result<Vec<Row>, WantOfMemory>
-    ensures { IfOk result (λ rows. map plain_row rows.items ≡ map (λ names. (names, plain_deed deed)) (map plain_naming namings.items)) }
+fn same_rows(alloc: Global, namings: Vec<Naming>, deed: Deed) -> Result<Vec<NameRow>, WantOfMemory>
+    ensures { IfOk result (λ rows. map plain_name_row rows.items ≡ map (λ names. (names, plain_deed deed)) (map plain_naming namings.items)) }
 {
     let mut rows = Vec::new(alloc);
     for names in namings {
-        rows.push(Row { names, deed })?;
+        rows.push(NameRow { names, deed })?;
     }
     Ok(rows)
 }
 
 // Each name is offered to its party, of which there is one for all or one for each.
-fn offers(alloc: Global, parties: &[i64], namings: Vec<Naming>) -> Result<Vec<Row>, WantOfMemory>
+fn offers(
+    alloc: Global,
+    parties: &[i64],
+    namings: Vec<Naming>,
+) -> Result<Vec<NameRow>, WantOfMemory>
     requires addressees { All (λ number. is_no_addressee number ≡ false) parties.now }
     requires enough { IsOneOrAsMany parties.now (length namings.items) }
-    ensures { IfOk result (λ rows. map plain_row rows.items ≡ offers_of parties.now (map plain_naming namings.items)) }
+    ensures { IfOk result (λ rows. map plain_name_row rows.items ≡ offers_of parties.now (map plain_naming namings.items)) }
 {
     let mut rows = Vec::new(alloc);
     let mut at = 0;
@@ -280,7 +284,7 @@ fn offers(alloc: Global, parties: &[i64], namings: Vec<Naming>) -> Result<Vec<Ro
         } else {
             parties[at]
         };
-        rows.push(Row {
+        rows.push(NameRow {
             names,
             deed: Deed::Offer(party.unsigned_abs() as u32),
         })?;
@@ -289,7 +293,7 @@ fn offers(alloc: Global, parties: &[i64], namings: Vec<Naming>) -> Result<Vec<Ro
     Ok(rows)
 }
 
-/// Whether a number is no party that an offer may be made to: to any, which is 0, to an auxiliary, or to a user. No memory.
+/// Whether a number is no party that an offer may be made to: to any, which is 0, to an auxiliary, or to a user.
 pub fn is_no_addressee(number: i64) -> bool
     ensures { result ≡ is_no_addressee number }
 {

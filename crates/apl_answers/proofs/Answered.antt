@@ -14,7 +14,7 @@ use Rattle.sv_events.specs.Answer.{PlainAnswer}
 use Rattle.sv_events.specs.Row.{answer_row}
 use Rattle.apl_values.specs.declared.rows.Rows.{Rows}
 use Rattle.apl_values.specs.Pending.{brought, replaced, replaces}
-use Rattle.apl_values.specs.Rows.{HasTold, MayBeDone, PlainRow, asks_act, rest_of_rows, row_done, row_numbers, rows_brought, rows_left}
+use Rattle.apl_values.specs.Rows.{HasTold, MayBeDone, PlainNameRow, asks_act, rest_of_rows, row_done, row_numbers, rows_brought, rows_left}
 use Rattle.apl_values.specs.Values.{settled}
 use Rattle.apl_statements.specs.declared.evaluation.Evaluation.{Evaluation}
 use Rattle.apl_statements.specs.declared.flow.Flow.{Flow}
@@ -53,12 +53,12 @@ items_got m e name subs right value answer is asked count taken further =
 -- ---- rows
 
 -- a row was answered, and the rows that follow go on
-pub row_goes_on : (m n o : PlainInterpreter) (e after : Evaluation) (rows told : Rows) (row : PlainRow) (answer : PlainAnswer) (r : Result Flow Fail) → rows_left rows ≡ row ∷ drop 1 (rows_left rows)
+pub row_goes_on : (m n o : PlainInterpreter) (e after : Evaluation) (rows told : Rows) (row : PlainNameRow) (answer : PlainAnswer) (r : Result Flow Fail) → rows_left rows ≡ row ∷ drop 1 (rows_left rows)
     → IsWithValues e (map (settled m.workspace) e.values.items) after → HasTold rows (row_numbers row.1 answer) told → n ≡ on m (row_done row.1 row.0 answer m.workspace)
     → Comes n (part_gives n after (rest_of_rows told.numbers.items (rows_left told) told.shape.items)) 0 o r → Comes m (part_gives m e (rows_brought rows.numbers.items (rows_left rows) rows.shape.items answer)) 0 o r
 row_goes_on m n o e after rows told row answer r left with has is comes =
     let v : PlainWorkspace = row_done row.1 row.0 answer m.workspace in
-    let others : List PlainRow = drop 1 (rows_left rows) in
+    let others : List PlainNameRow = drop 1 (rows_left rows) in
     let coming : Coming = part_gives m e (rows_brought rows.numbers.items (rows_left rows) rows.shape.items answer) in
     let rest : State → Outcome Found = rest_of_rows told.numbers.items (rows_left told) told.shape.items in
     comes_after m n o coming (part_gives n after rest) 0 r
@@ -66,9 +66,9 @@ row_goes_on m n o e after rows told row answer r left with has is comes =
     (moves_to m (on m v) coming (part_gives (on m v) after rest) (λ asked count taken further.
     let t : State = state_at (on m v) asked count taken further in
     let under : PlainCaller = caller_of m.workspace (here m) e in
-    ap (λ (list : List PlainRow). carried_on (rows_brought rows.numbers.items list rows.shape.items answer (state_at m asked count taken further)) under m.stack) left
+    ap (λ (list : List PlainNameRow). carried_on (rows_brought rows.numbers.items list rows.shape.items answer (state_at m asked count taken further)) under m.stack) left
     ∙ ap (λ (numbers : List ℤ). carried_on (rest_of_rows numbers others rows.shape.items t) under m.stack) (sym has.numbers)
-    ∙ ap (λ (list : List PlainRow). carried_on (rest_of_rows told.numbers.items list rows.shape.items t) under m.stack) (sym has.rows)
+    ∙ ap (λ (list : List PlainNameRow). carried_on (rest_of_rows told.numbers.items list rows.shape.items t) under m.stack) (sym has.rows)
     ∙ ap (λ (shape : List ℕ). carried_on (rest_of_rows told.numbers.items (rows_left told) shape t) under m.stack) (sym has.shape)
     ∙ ap (λ (c : PlainCaller). carried_on (rest t) c m.stack) (sym (settled_caller m.workspace v (here m) e after with))))) comes
 

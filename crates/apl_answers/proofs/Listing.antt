@@ -10,7 +10,7 @@ use Rattle.apl_arrays.specs.Limits.{most_elements}
 use Rattle.std.proofs.lemmas.Bool.Decides.{nat_tests}
 use Rattle.apl_arrays.specs.Shape.{is_small}
 use Rattle.apl_arrays.specs.declared.array.ShapeFault.TheVariants.{Size}
-use Rattle.apl_items.specs.Answers.{Answer, answer_of, faults_of_fault, shape_faults}
+use Rattle.apl_items.specs.Answers.{ArrayResult, answer_of, faults_of_fault, shape_faults}
 use Rattle.apl_meaning.specs.Queries.{filled, longest, name_matrix}
 
 -- the length of an axis that is cut, but stays over the limit
@@ -64,7 +64,7 @@ filled_count width names wide = upto names 0 wide
 -- ---- names in a matrix, whose axes are cut
 
 -- an array of this shape, unless it would be too large
-abbrev listed_as : ℕ → ℕ → List ℕ → Answer
+abbrev listed_as : ℕ → ℕ → List ℕ → ArrayResult
 listed_as a b glyphs = answer_of (shape_faults (a ∷ b ∷ [])) (shaped (a ∷ b ∷ []) (chars glyphs))
 
 -- where the matrix fits, its glyphs are those of the names

@@ -5,7 +5,7 @@ use Rattle.apl_arrays.specs.Array.{PlainArray}
 use Rattle.apl_arrays.specs.declared.report.Fail.{Fail}
 use Rattle.apl_arrays.specs.declared.report.Fail.TheVariants as fail
 use Rattle.apl_arrays.specs.declared.report.Report.TheVariants.{Value}
-use Rattle.apl_items.specs.Answers.{Answer, Answers}
+use Rattle.apl_items.specs.Answers.{ArrayResult, Answers}
 use Rattle.apl_selection.specs.Assignment.{assign_of}
 use Rattle.apl_workspace.specs.Workspace.{look}
 use Rattle.apl_workspace.specs.declared.meaning.Meaning.{Meaning}
@@ -15,13 +15,13 @@ use Rattle.apl_meaning.specs.Expressions.{Found, valued}
 use Rattle.apl_meaning.specs.Nodes.{Values, items_step, leaving_values, popped}
 use Rattle.apl_meaning.specs.State.{State, Outcome, gives, refuses, and_then, outcome_of}
 use Rattle.apl_meaning.specs.Variables.{assignment}
-use Rattle.apl_values.specs.Pending.{asked_for, assigned_giving, replaced, replaces}
+use Rattle.apl_values.specs.Pending.{act_asked_for, assigned_giving, replaced, replaces}
 use Rattle.apl_statements.specs.declared.evaluation.Evaluation.{Evaluation}
 use Rattle.apl_statements.specs.Evaluating.{caller_of, evaluation_of}
 use Rattle.apl_statements.specs.Interpreter.{PlainInterpreter, here, state_at}
 use Rattle.apl_statements.specs.Moves.{Comes, part_gives, part_takes}
 use Rattle.apl_statements.specs.Stack.{carried_on, onward}
-use Rattle.apl_statements.specs.Holding.{held_values}
+use Rattle.apl_statements.specs.Holding.{stack_values}
 use Rattle.apl_statements.proofs.Opened.{use_opens}
 use Rattle.apl_statements.proofs.Same.{SameAt, at_once}
 use Rattle.apl_statements.proofs.Steps.{grouped}
@@ -37,19 +37,19 @@ value_replaced m e name subs right old asked count taken further =
 pub replaced_as : (m : PlainInterpreter) (e : Evaluation) (name : List ℕ) (subs : List (Option PlainArray)) (right old new : PlainArray) → assign_of old subs right ≡ Ok new → SameAt m (part_gives m e (replaced name subs right old)) (part_gives m e (assigned_giving name new right))
 replaced_as m e name subs right old new is asked count taken further =
     let s : State = state_at m asked count taken further in
-    ap (λ (a : Answer). carried_on (and_then (outcome_of a s) (λ new t. assigned_giving name new right t)) (caller_of m.workspace (here m) e) m.stack) is
+    ap (λ (a : ArrayResult). carried_on (and_then (outcome_of a s) (λ new t. assigned_giving name new right t)) (caller_of m.workspace (here m) e) m.stack) is
 
 -- items that are not replaced end the line
 pub replaced_ends : (m : PlainInterpreter) (e : Evaluation) (name : List ℕ) (subs : List (Option PlainArray)) (right old : PlainArray) (why : Fail) → Answers (Err why) (assign_of old subs right) → Comes m (part_gives m e (replaced name subs right old)) 0 m (Err why)
 replaced_ends m e name subs right old (fail.Report report) is =
     at_once m (part_gives m e (replaced name subs right old)) (λ s. refuses report s) (λ asked count taken further.
-    ap (λ (a : Answer). carried_on (and_then (outcome_of a (state_at m asked count taken further)) (λ new t. assigned_giving name new right t)) (caller_of m.workspace (here m) e) m.stack) is)
+    ap (λ (a : ArrayResult). carried_on (and_then (outcome_of a (state_at m asked count taken further)) (λ new t. assigned_giving name new right t)) (caller_of m.workspace (here m) e) m.stack) is)
 replaced_ends m e name subs right old fail.WantOfMemory is = tt
 
 -- items of a shared name: its use is open
 pub items_open : (m : PlainInterpreter) (e after : Evaluation) (name : List ℕ) (places : List (Option ℕ)) (subs : List (Option PlainArray)) (right : PlainArray) (copy : Option PlainArray) → after ≡ record e { values = after.values }
-    → subs ≡ (popped places (held_values m.workspace e)).subs → (popped places (held_values m.workspace e)).values ≡ right ∷ held_values m.workspace after → look m.workspace name ≡ meaning.Shared copy
-    → SameAt m (part_takes m e (λ values. items_step name (popped places values).subs (popped places values).values)) (part_gives m after (asked_for (replaces name subs right)))
+    → subs ≡ (popped places (stack_values m.workspace e)).subs → (popped places (stack_values m.workspace e)).values ≡ right ∷ stack_values m.workspace after → look m.workspace name ≡ meaning.Shared copy
+    → SameAt m (part_takes m e (λ values. items_step name (popped places values).subs (popped places values).values)) (part_gives m after (act_asked_for (replaces name subs right)))
 items_open m e after name places subs right copy same subs_are rest is asked count taken further =
     let s : State = state_at m asked count taken further in
     items_take m e after name places subs right s same subs_are rest
@@ -75,6 +75,6 @@ pub items_of_nothing : (m : PlainInterpreter) (e : Evaluation) (name : List ℕ)
     → Comes m (part_takes m e (λ values. items_step name (popped places values).subs (popped places values).values)) 0 m (Err (fail.Report Value))
 items_of_nothing m e name places is =
     at_once m (part_takes m e (λ values. items_step name (popped places values).subs (popped places values).values)) (λ s. refuses Value s) (λ asked count taken further.
-    let all : List PlainArray = held_values m.workspace e in
+    let all : List PlainArray = stack_values m.workspace e in
     ap (λ (o : Outcome Values). and_then o (λ values t. onward (record (evaluation_of m.workspace e) { values = values }) m.stack t))
     (step_of_nothing name (popped places all).subs (popped places all).values (state_at m asked count taken further) is))

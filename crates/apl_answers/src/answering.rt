@@ -9,8 +9,8 @@ ghost use Rattle.apl_workspace.specs.Limits.{most_weight};
 ghost use Rattle.apl_workspace.specs.Meaning.{is_shared_meaning};
 ghost use Rattle.apl_workspace.specs.Workspace.{look, with_global, workspace_weight};
 ghost use Rattle.apl_workspace.specs.declared.meaning.Meaning.TheVariants as meaning;
-ghost use Rattle.apl_values.specs.Pending.{IsPending, brought, brought_by, plain_pending, refers, replaces, sets};
-ghost use Rattle.apl_values.specs.Rows.{AreRows, FirstAsksAct, HasTold, RowMayBeDone, asks_act, plain_deed, plain_naming, plain_row, row_done, row_numbers, row_zeros, rows_brought, rows_left};
+ghost use Rattle.apl_values.specs.Pending.{IsPending, brought, brought_by, plain_act_purpose, refers, replaces, sets};
+ghost use Rattle.apl_values.specs.Rows.{AreRows, FirstAsksAct, HasTold, RowMayBeDone, asks_act, plain_deed, plain_naming, plain_name_row, row_done, row_numbers, row_zeros, rows_brought, rows_left};
 ghost use Rattle.apl_statements.specs.Moves.{Comes, part_gives};
 ghost use Rattle.apl_statements.specs.Sound.{IsCaller, IsFlow};
 ghost use Rattle.apl_statements.specs.Work.{StaysWithin};
@@ -21,7 +21,7 @@ use crate::lists::{list_names, list_parties};
 use apl_arrays::{Array, Fail, Name, Report, WantOfMemory};
 use apl_selection::Subs;
 use apl_statements::{Evaluation, Flow, Interpreter};
-use apl_values::{Deed, Held, Naming, Pending, Row, Rows, report_of, value_in};
+use apl_values::{ActPurpose, Deed, NameRow, Naming, Rows, StackValue, report_of, value_in};
 use sv_access::Control;
 use sv_events::{Answer, copy_value};
 
@@ -29,12 +29,12 @@ use sv_events::{Answer, copy_value};
 pub fn bring(
     interpreter: &mut Interpreter,
     answer: Answer,
-    pending: Pending,
+    pending: ActPurpose,
     e: Evaluation,
 ) -> Result<Flow, Fail>
     requires sound { IsCaller interpreter.old.workspace e }
     requires pending { IsPending interpreter.old.workspace pending }
-    ensures comes { Comes interpreter.old (part_gives interpreter.old e (brought_by (plain_answer answer) (plain_pending pending))) 0 interpreter.new result }
+    ensures comes { Comes interpreter.old (part_gives interpreter.old e (brought_by (plain_answer answer) (plain_act_purpose pending))) 0 interpreter.new result }
     ensures memory { OnWantOfMemory result (report_of_kind (answer_row (plain_answer answer)).row.kind ≡ None) }
     ensures sound { IfOk result (IsFlow interpreter.new) }
     ensures within { IfOk result (StaysWithin interpreter.old e interpreter.new) }
@@ -43,14 +43,14 @@ pub fn bring(
         return Err(Fail::Report(report));
     }
     match pending {
-        Pending::Refers(name) => bring_value(interpreter, e, name, answer),
-        Pending::Sets { name, value, gives } => bring_grant(interpreter, e, name, value, gives),
-        Pending::Replaces { name, subs, right } => {
+        ActPurpose::Refers(name) => bring_value(interpreter, e, name, answer),
+        ActPurpose::Sets { name, value, gives } => bring_grant(interpreter, e, name, value, gives),
+        ActPurpose::Replaces { name, subs, right } => {
             bring_items(interpreter, e, name, subs, right, answer)
         }
-        Pending::Row(rows) => bring_row(interpreter, e, rows, answer),
-        Pending::Parties => list_parties(interpreter, e, parties_in(&answer)),
-        Pending::Names(_) => list_names(interpreter, e, names_in(&answer)),
+        ActPurpose::Row(rows) => bring_row(interpreter, e, rows, answer),
+        ActPurpose::Parties => list_parties(interpreter, e, parties_in(&answer)),
+        ActPurpose::Names(_) => list_names(interpreter, e, names_in(&answer)),
     }
 }
 
@@ -72,7 +72,7 @@ fn bring_value(
 {
     let mut e = e;
     renew(interpreter, &mut e, &name, value_in(answer)?)?;
-    interpreter.give(e, Held::Named(name))
+    interpreter.give(e, StackValue::Named(name))
 }
 
 // The value of a use whose items are replaced: it is the own copy too.
@@ -133,7 +133,7 @@ fn bring_row(
     let mut e = e;
     e.settle(interpreter.alloc, &interpreter.workspace)?;
     let mut rows = rows;
-    let Row { names, deed } = first_of(&rows);
+    let NameRow { names, deed } = first_of(&rows);
     tell_row(&mut rows, deed, &answer)?;
     finish_row(interpreter, names, deed, &answer)?;
     interpreter.next_row(e, rows)
@@ -180,9 +180,9 @@ fn tell_row(rows: &mut Rows, deed: Deed, answer: &Answer) -> Result<(), WantOfMe
 }
 
 // The row that is next.
-fn first_of(rows: &Rows) -> Row
+fn first_of(rows: &Rows) -> NameRow
     requires { rows_left rows.now ≢ [] }
-    ensures { Some (plain_row result) ≡ slice_get (rows_left rows.now) 0 }
+    ensures { Some (plain_name_row result) ≡ slice_get (rows_left rows.now) 0 }
 {
     match rows.next() {
         Some(row) => row,

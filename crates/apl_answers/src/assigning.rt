@@ -11,14 +11,14 @@ ghost use Rattle.apl_meaning.specs.Nodes.{assign_step, items_step, popped};
 ghost use Rattle.apl_values.specs.Pending.{assigned_giving, replaced};
 ghost use Rattle.apl_statements.specs.Moves.{Comes, part_gives, part_takes};
 ghost use Rattle.apl_statements.specs.Sound.{IsCaller, IsFlow};
-ghost use Rattle.apl_statements.specs.Holding.{held_given};
+ghost use Rattle.apl_statements.specs.Holding.{stack_value_given};
 ghost use Rattle.apl_statements.specs.Work.{StaysWithin};
 
 use crate::changing::assign_value;
 use apl_arrays::{Array, Fail, Name, Report};
 use apl_selection::{Subs, index_assign};
 use apl_statements::{Evaluation, Flow, Interpreter};
-use apl_values::{Held, Pending};
+use apl_values::{ActPurpose, StackValue};
 use apl_workspace::Seen;
 use line_trees::Places;
 
@@ -54,7 +54,7 @@ pub fn put(
 {
     let mut e = e;
     if is_seen_shared(interpreter, &name) {
-        return interpreter.open(Pending::Sets { name, value, gives }, e);
+        return interpreter.open(ActPurpose::Sets { name, value, gives }, e);
     }
     assign_value(interpreter, &mut e, &name, value)?;
     interpreter.give(e, given(name, gives))
@@ -112,7 +112,7 @@ fn assign_there(
             put(interpreter, e, name, new, Some(right))
         }
         Seen::Function(_) | Seen::Label(_) => Err(Fail::Report(Report::Syntax)),
-        Seen::Shared(_) => interpreter.open(Pending::Replaces { name, subs, right }, e),
+        Seen::Shared(_) => interpreter.open(ActPurpose::Replaces { name, subs, right }, e),
     }
 }
 
@@ -159,11 +159,11 @@ fn is_seen_shared(interpreter: &Interpreter, name: &Name) -> bool
 }
 
 /// What an assignment to a name gives: another value, or the value that the name has now.
-pub fn given(name: Name, gives: Option<Array>) -> Held
-    ensures { result ≡ held_given name gives }
+pub fn given(name: Name, gives: Option<Array>) -> StackValue
+    ensures { result ≡ stack_value_given name gives }
 {
     match gives {
-        None => Held::Named(name),
-        Some(array) => Held::Made(array),
+        None => StackValue::Named(name),
+        Some(array) => StackValue::Made(array),
     }
 }

@@ -117,7 +117,7 @@ pub fn mark(interpreter: &mut Interpreter, names: Naming, to: u32) -> Result<(),
         .mark(&names.local, value, names.surrogate, to)
 }
 
-/// A name is shared no more, and has this value. No memory.
+/// A name is shared no more, and has this value.
 pub fn unmark(interpreter: &mut Interpreter, name: &Name, value: Option<Array>)
     requires { is_shared interpreter.old.workspace name.now ≡ true }
     ensures { interpreter.new ≡ record interpreter.old { workspace = unmarked interpreter.old.workspace name.now value } }

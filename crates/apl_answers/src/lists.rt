@@ -14,7 +14,7 @@ use apl_arrays::{
     shape_fault,
 };
 use apl_statements::{Evaluation, Flow, Interpreter};
-use apl_values::Held;
+use apl_values::StackValue;
 use line_text::{add_blanks, add_glyphs};
 use std::alloc::Global;
 
@@ -34,7 +34,7 @@ pub fn list_parties(interpreter: &Interpreter, e: Evaluation, parties: &[u32]) -
         &[capped(parties.len())],
         Items::Numbers(NumberList::from(numbers)),
     )?;
-    interpreter.give(e, Held::Made(array))
+    interpreter.give(e, StackValue::Made(array))
 }
 
 /// The names that are listed are the value, a row each, filled with blanks to the longest.
@@ -51,7 +51,7 @@ pub fn list_names(interpreter: &Interpreter, e: Evaluation, names: &[Name]) -> R
         &[capped(names.len()), capped(width)],
         Items::Chars(glyphs),
     )?;
-    interpreter.give(e, Held::Made(array))
+    interpreter.give(e, StackValue::Made(array))
 }
 
 // The length of the longest of names.

@@ -4,6 +4,6 @@ use Rattle.apl_arrays.specs.declared.numbers.Kept.{Kept}
 use Rattle.apl_arrays.specs.declared.numbers.Kept.TheVariants.{One, List}
 
 -- kept numbers as a list and the room that is left in it: a lone number that stands in place leaves none
-abbrev pub listed : Kept → Listed ℤ
-listed (One number) = record { items = number ∷ []; room = 0 }
-listed (List list) = list
+abbrev pub listed_numbers : Kept → Listed ℤ
+listed_numbers (One number) = record { items = number ∷ []; room = 0 }
+listed_numbers (List list) = list

@@ -128,7 +128,7 @@ impl Array {
         })
     }
 
-    /// The scalar of a number. ISO 8485. No memory.
+    /// The scalar of a number. ISO 8485.
     pub fn of_number(number: i64) -> Array
         ensures { result ≡ scalar number }
     {
@@ -173,7 +173,7 @@ impl Array {
         }
     }
 
-    /// The lengths of the axes. No memory. ISO 8485.
+    /// The lengths of the axes. ISO 8485.
     pub fn shape(&self) -> &[u32]
         ensures value { result.now ≡ self.now.shape }
         ensures array { IsArray self.now }
@@ -184,7 +184,7 @@ impl Array {
         }
     }
 
-    /// The items. No memory. ISO 8485.
+    /// The items. ISO 8485.
     pub fn items(&self) -> ItemsRef<'_>
         ensures value { seen_items result ≡ self.now.items }
         ensures array { IsArray self.now }
@@ -195,7 +195,7 @@ impl Array {
         }
     }
 
-    /// The item at a place, in row-major order from 0. No memory. ISO 8485.
+    /// The item at a place, in row-major order from 0. ISO 8485.
     pub fn item(&self, at: usize) -> Item
         requires { at < item_count self.now.items }
         ensures { IsItemOf self.now.items at result }
@@ -206,14 +206,14 @@ impl Array {
         }
     }
 
-    /// The numbers; none where the kind is characters. No memory.
+    /// The numbers; none where the kind is characters.
     pub fn numbers(&self) -> &[i64]
         ensures { result.now ≡ numbers_in self.now.items }
     {
         self.items().numbers()
     }
 
-    /// Whether it holds characters, or is empty and of their kind. No memory. ISO 8485.
+    /// Whether it holds characters, or is empty and of their kind. ISO 8485.
     pub fn is_chars(&self) -> bool
         ensures { result ≡ is_chars self.now.items }
     {
@@ -276,7 +276,7 @@ fn capped_count(shape: &[u32]) -> usize
 }
 
 /// Why an array of this shape would pass the limits, if it would: `Rank` where there are over eight axes, else `Size`
-/// where an axis or the product of all is over 16,384. ISO 8485, with limits. No memory.
+/// where an axis or the product of all is over 16,384. ISO 8485, with limits.
 pub fn shape_fault(shape: &[u32]) -> Option<ShapeFault>
     ensures { result ≡ shape_fault shape.now }
 {
@@ -289,7 +289,7 @@ pub fn shape_fault(shape: &[u32]) -> Option<ShapeFault>
     }
 }
 
-/// How many elements an array of this shape has. ISO 8485. No memory.
+/// How many elements an array of this shape has. ISO 8485.
 pub fn count_of_elements(shape: &[u32]) -> usize
     requires { FitsLimits shape.now }
     ensures { result ≡ element_count shape.now }
@@ -298,7 +298,7 @@ pub fn count_of_elements(shape: &[u32]) -> usize
 }
 
 /// A shape is faulty exactly where it passes the limits: by `Rank` where it has over eight axes, else by `Size`. The
-/// call does nothing. No memory.
+/// call does nothing.
 #[tactic(auto, using(crate::proofs::Shapes::no_fault_fits, crate::proofs::Shapes::what_fits_has_no_fault, crate::proofs::Shapes::size_is_too_large, crate::proofs::Shapes::too_large_by_size))]
 pub fn faulty_shapes_pass_the_limits()
     ensures none { (shape : ListOf ℕ) → (shape_fault shape ≡ None) ↔ FitsLimits shape }

@@ -36,7 +36,7 @@ impl Model for FileName {
 }
 
 impl FileName {
-    /// The name that the text is, or `None` where it is no file name. No memory.
+    /// The name that the text is, or `None` where it is no file name.
     pub fn of(text: &str) -> Option<FileName>
         ensures known { IsSome result ↔ IsFileName text.now }
         ensures value { IfSome result (λ name. name ≡ text.now) }
@@ -44,7 +44,7 @@ impl FileName {
         FileName::of_bytes(text.as_bytes())
     }
 
-    /// The name that these bytes are, or `None` where they are no file name. No memory.
+    /// The name that these bytes are, or `None` where they are no file name.
     pub fn of_bytes(text: &[u8]) -> Option<FileName>
         ensures known { IsSome result ↔ IsFileName text.now }
         ensures value { IfSome result (λ name. name ≡ text.now) }
@@ -60,7 +60,7 @@ impl FileName {
         })
     }
 
-    /// The bytes of its text. No memory.
+    /// The bytes of its text.
     pub fn as_bytes(&self) -> &[u8]
         ensures value { result.now ≡ self.now }
         ensures name { IsFileName self.now }

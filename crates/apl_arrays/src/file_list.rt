@@ -31,7 +31,7 @@ impl Model for FileList {
 }
 
 impl FileList {
-    /// No files. No memory.
+    /// No files.
     pub fn new(alloc: Global) -> Self
         ensures { result.items ≡ [] }
     {
@@ -40,7 +40,7 @@ impl FileList {
         }
     }
 
-    /// The files, their names ascending. No memory.
+    /// The files, their names ascending.
     pub fn as_slice(&self) -> &[File]
         ensures value { map plain_file result.now ≡ self.now.items }
         ensures ascending { IsAscending self.now.items }
@@ -48,7 +48,7 @@ impl FileList {
         self.files.as_slice()
     }
 
-    /// The files as a `Vec`. No memory.
+    /// The files as a `Vec`.
     pub fn into_vec(self) -> Vec<File>
         ensures value { map plain_file result.items ≡ self.items }
         ensures ascending { IsAscending self.items }

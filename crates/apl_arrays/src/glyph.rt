@@ -32,7 +32,7 @@ impl Model for Glyph {
 }
 
 impl Glyph {
-    /// The glyph of a code, or `None` where the table has no such code. No memory.
+    /// The glyph of a code, or `None` where the table has no such code.
     pub fn of_code(code: u8) -> Option<Glyph>
         ensures known { IsSome result ↔ IsGlyph code }
         ensures value { IfSome result (λ g. g ≡ code) }
@@ -44,7 +44,7 @@ impl Glyph {
         }
     }
 
-    /// The glyph of a code that the table has. No memory.
+    /// The glyph of a code that the table has.
     pub fn with_code(code: u8) -> Glyph
         requires { IsGlyph code }
         ensures { result ≡ code }
@@ -52,7 +52,7 @@ impl Glyph {
         Glyph { code }
     }
 
-    /// The code. No memory.
+    /// The code.
     pub fn code(self) -> u8
         ensures value { result ≡ self }
         ensures glyph { IsGlyph result }
@@ -60,7 +60,7 @@ impl Glyph {
         self.code
     }
 
-    /// The digit of a value below ten. No memory.
+    /// The digit of a value below ten.
     pub fn digit(value: u8) -> Glyph
         requires { value < 10 }
         ensures { result ≡ digit value }
@@ -68,7 +68,7 @@ impl Glyph {
         Glyph { code: b'0' + value }
     }
 
-    /// The value of a digit, or `None` where the glyph is none. No memory.
+    /// The value of a digit, or `None` where the glyph is none.
     pub fn digit_value(self) -> Option<u8>
         ensures { result ≡ digit_value self }
     {
@@ -79,28 +79,28 @@ impl Glyph {
         }
     }
 
-    /// Whether it is a digit, `0` to `9`. No memory.
+    /// Whether it is a digit, `0` to `9`.
     pub fn is_digit(self) -> bool
         ensures { result ≡ is_digit self }
     {
         self.code.is_ascii_digit()
     }
 
-    /// Whether it is a letter, with which a name begins: `A` to `Z`, `a` to `z`, or `∆`. No memory.
+    /// Whether it is a letter, with which a name begins: `A` to `Z`, `a` to `z`, or `∆`.
     pub fn is_letter(self) -> bool
         ensures { result ≡ is_letter self }
     {
         self.code.is_ascii_alphabetic() || self == Glyph::DELTA
     }
 
-    /// Whether a name goes on with it: a letter, a digit, or `_`. No memory.
+    /// Whether a name goes on with it: a letter, a digit, or `_`.
     pub fn goes_on(self) -> bool
         ensures { result ≡ goes_on self }
     {
         self.is_letter() || self.is_digit() || self == Glyph::UNDERSCORE
     }
 
-    /// Whether it is a blank. No memory.
+    /// Whether it is a blank.
     pub fn is_blank(self) -> bool
         ensures { result ≡ is_blank self }
     {

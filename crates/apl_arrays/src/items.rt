@@ -27,7 +27,7 @@ pub enum Item {
 }
 
 impl Items {
-    /// The items, to be looked at. No memory.
+    /// The items, to be looked at.
     pub fn view(&self) -> ItemsRef<'_>
         ensures { seen_items result ≡ plain_items self.now }
     {
@@ -37,7 +37,7 @@ impl Items {
         }
     }
 
-    /// How many items there are. No memory. ISO 8485.
+    /// How many items there are. ISO 8485.
     pub fn len(&self) -> usize
         ensures { result ≡ item_count (plain_items self.now) }
     {
@@ -81,7 +81,7 @@ impl Items {
 }
 
 impl<'a> ItemsRef<'a> {
-    /// How many items there are. No memory. ISO 8485.
+    /// How many items there are. ISO 8485.
     pub fn len(self) -> usize
         ensures { result ≡ item_count (seen_items self.entry) }
     {
@@ -91,14 +91,14 @@ impl<'a> ItemsRef<'a> {
         }
     }
 
-    /// Whether there are none. No memory. ISO 8485.
+    /// Whether there are none. ISO 8485.
     pub fn is_empty(self) -> bool
         ensures { IsTrue result ↔ (item_count (seen_items self.entry) ≡ 0) }
     {
         self.len() == 0
     }
 
-    /// The numbers; none where the kind is characters. No memory.
+    /// The numbers; none where the kind is characters.
     pub fn numbers(self) -> &'a [i64]
         ensures { result.now ≡ numbers_in (seen_items self.entry) }
     {

@@ -12,7 +12,7 @@ use crate::name::NAME_LIMIT;
 use crate::party::{FIRST_USER, LAST_USER, OFFER_LIMIT, USER_LIMIT};
 use crate::system::SystemName;
 
-/// The glyphs of ASCII that have a name, in the order of their codes. No memory.
+/// The glyphs of ASCII that have a name, in the order of their codes.
 pub fn named_glyphs_of_ascii() -> [Glyph; 22]
     ensures { result ≡ glyph.blank ∷ glyph.exclamation ∷ glyph.quote ∷ glyph.left_parenthesis
         ∷ glyph.right_parenthesis ∷ glyph.star ∷ glyph.plus ∷ glyph.comma ∷ glyph.minus ∷ glyph.period ∷ glyph.slash
@@ -45,7 +45,7 @@ pub fn named_glyphs_of_ascii() -> [Glyph; 22]
     ]
 }
 
-/// The glyphs of APL, in the order of their codes, which are 128 to 162. No memory.
+/// The glyphs of APL, in the order of their codes, which are 128 to 162.
 pub fn named_glyphs_of_apl() -> [Glyph; 35]
     ensures { result ≡ glyph.rho ∷ glyph.iota ∷ glyph.epsilon ∷ glyph.up_arrow ∷ glyph.down_arrow
         ∷ glyph.grade_up ∷ glyph.grade_down ∷ glyph.reverse ∷ glyph.reverse_first ∷ glyph.transpose ∷ glyph.ceiling
@@ -93,7 +93,7 @@ pub fn named_glyphs_of_apl() -> [Glyph; 35]
     ]
 }
 
-/// The tables and the limits of the code are those of the definitions. The call does nothing. No memory.
+/// The tables and the limits of the code are those of the definitions. The call does nothing.
 pub fn numbers_are_as_defined()
     ensures scalars { SCALARS ≡ glyph.scalars }
     ensures axes { RANK_LIMIT ≡ most_axes }

@@ -24,7 +24,7 @@ impl Model for LineList {
 }
 
 impl LineList {
-    /// No lines. No memory.
+    /// No lines.
     pub fn new(alloc: Global) -> Self
         ensures { result.items ≡ [] }
     {
@@ -33,14 +33,14 @@ impl LineList {
         }
     }
 
-    /// The lines, in order. No memory.
+    /// The lines, in order.
     pub fn as_slice(&self) -> &[Line]
         ensures { map glyphs_in result.now ≡ self.now.items }
     {
         self.lines.as_slice()
     }
 
-    /// The lines as a `Vec`. No memory.
+    /// The lines as a `Vec`.
     pub fn into_vec(self) -> Vec<Line>
         ensures { map glyphs_in result.items ≡ self.items }
     {
@@ -92,7 +92,7 @@ impl LineList {
         self.lines.insert(at, line)
     }
 
-    /// Puts a line in place of another, and hands out that one. No memory.
+    /// Puts a line in place of another, and hands out that one.
     pub fn replace(&mut self, at: usize, line: Line) -> Line
         requires { at < length self.old.items }
         ensures items { self.new.items ≡ slice_set self.old.items at line.items }
@@ -102,7 +102,7 @@ impl LineList {
         self.lines.replace(at, line)
     }
 
-    /// Takes the line at a place out, and hands it out. No memory.
+    /// Takes the line at a place out, and hands it out.
     pub fn remove(&mut self, at: usize) -> Line
         requires { at < length self.old.items }
         ensures items { self.new.items ≡ remove self.old.items at }

@@ -19,7 +19,7 @@ impl<T> Model for List<T> {
 }
 
 impl<T> List<T> {
-    /// An empty list. No memory.
+    /// An empty list.
     pub fn new(alloc: Global) -> Self
         ensures { result.items ≡ [] }
     {
@@ -28,14 +28,14 @@ impl<T> List<T> {
         }
     }
 
-    /// The items, in order. No memory.
+    /// The items, in order.
     pub fn as_slice(&self) -> &[T]
         ensures { result.now ≡ self.now.items }
     {
         &self.items
     }
 
-    /// The items as a `Vec`. No memory.
+    /// The items as a `Vec`.
     pub fn into_vec(self) -> Vec<T>
         ensures { result.items ≡ self.items }
     {
@@ -109,7 +109,7 @@ impl<T> List<T> {
         Ok(())
     }
 
-    /// Adds an item at the end, where there is room. No memory.
+    /// Adds an item at the end, where there is room.
     pub fn push_reserved(&mut self, item: T)
         requires { 0 < self.old.room }
         ensures items { self.new.items ≡ self.old.items ++ item ∷ [] }
@@ -118,7 +118,7 @@ impl<T> List<T> {
         self.items.push_reserved(item);
     }
 
-    /// Takes all items out. What they took is room again. No memory.
+    /// Takes all items out. What they took is room again.
     pub fn clear(&mut self)
     where
         T: Drop,
@@ -148,7 +148,7 @@ impl<T> List<T> {
         }
     }
 
-    /// Puts an item in place of another, and hands out that one. No memory.
+    /// Puts an item in place of another, and hands out that one.
     pub fn replace(&mut self, at: usize, item: T) -> T
         requires { at < length self.old.items }
         ensures items { self.new.items ≡ slice_set self.old.items at item }
@@ -158,7 +158,7 @@ impl<T> List<T> {
         mem::replace(&mut self.items[at], item)
     }
 
-    /// Takes the item at a place out, and hands it out. No memory.
+    /// Takes the item at a place out, and hands it out.
     pub fn remove(&mut self, at: usize) -> T
         requires { at < length self.old.items }
         ensures items { self.new.items ≡ remove self.old.items at }

@@ -38,7 +38,7 @@ impl Model for Name {
 }
 
 impl Name {
-    /// The name of these glyphs, or `None` where they are no name. No memory.
+    /// The name of these glyphs, or `None` where they are no name.
     pub fn of(glyphs: &[Glyph]) -> Option<Name>
         ensures known { IsSome result ↔ IsName glyphs.now }
         ensures value { IfSome result (λ name. name ≡ glyphs.now) }
@@ -54,7 +54,7 @@ impl Name {
         })
     }
 
-    /// How many glyphs at the front go on as a name does. No memory.
+    /// How many glyphs at the front go on as a name does.
     #[tactic(auto, using(crate::proofs::Runs::run_fits))]
     pub fn run_length(line: &[Glyph]) -> usize
         ensures value { result ≡ prefix_len goes_on line.now }
@@ -64,7 +64,7 @@ impl Name {
     }
 
     /// The longest name at the front, and how many glyphs it has: all that go on as a name does. `None` where they are
-    /// no name: there are none or over 32, or the first is no letter. No memory.
+    /// no name: there are none or over 32, or the first is no letter.
     pub fn longest(line: &[Glyph]) -> Option<(Name, usize)>
         ensures value { result ≡ longest_name line.now }
         ensures within { IfSome result (λ found. found.1 ≤ length line.now) }
@@ -74,7 +74,7 @@ impl Name {
         Some((name, length))
     }
 
-    /// Its glyphs. No memory.
+    /// Its glyphs.
     pub fn glyphs(&self) -> &[Glyph]
         ensures value { result.now ≡ self.now }
         ensures name { IsName self.now }
@@ -171,7 +171,7 @@ fn is_name(glyphs: &[Glyph]) -> bool
 }
 
 /// The longest name of a line is the name at its front behind which nothing goes on as a name does. The call does
-/// nothing. No memory.
+/// nothing.
 pub fn longest_names_end()
     ensures found { (line name rest : ListOf ℕ) → IsLongestName line name rest → longest_name line ≡ Some (name, length name) }
     ensures ends { (line name : ListOf ℕ) (count : ℕ) → longest_name line ≡ Some (name, count) → (count ≡ length name) × IsLongestName line name (drop count line) }

@@ -21,15 +21,15 @@ pub struct NumberList {
 impl Model for NumberList {
     ghost use Rattle.std.specs.Prelude.{ℤ};
     ghost use Rattle.apl_arrays.specs.List.{Listed};
-    ghost use Rattle.apl_arrays.specs.Numbers.{listed};
+    ghost use Rattle.apl_arrays.specs.Numbers.{listed_numbers};
 
     ghost Value = { Listed ℤ };
 
-    ghost view = { λ l. listed l.kept };
+    ghost view = { λ l. listed_numbers l.kept };
 }
 
 impl NumberList {
-    /// One number. No memory.
+    /// One number.
     pub fn one(number: i64) -> Self
         ensures { result.items ≡ number ∷ [] }
     {
@@ -49,7 +49,7 @@ impl NumberList {
         }
     }
 
-    /// The numbers, in order. No memory.
+    /// The numbers, in order.
     pub fn as_slice(&self) -> &[i64]
         ensures { result.now ≡ self.now.items }
     {

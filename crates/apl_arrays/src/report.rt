@@ -24,7 +24,7 @@ pub enum Report {
 }
 
 impl Report {
-    /// The name in a transcript. No memory.
+    /// The name in a transcript.
     pub fn text(self) -> &'static str
         ensures { result.now ≡ report_text self }
     {

@@ -25,7 +25,7 @@ impl Model for Shaped {
 }
 
 impl Shaped {
-    /// A shape within the limits, and as many items. No memory.
+    /// A shape within the limits, and as many items.
     pub(crate) fn of(shape: &[u32], items: Items) -> Shaped
         requires fits { FitsLimits shape.now }
         requires whole { element_count shape.now ≡ item_count (plain_items items) }
@@ -63,7 +63,7 @@ impl Shaped {
         Ok(())
     }
 
-    /// The lengths of the axes. No memory.
+    /// The lengths of the axes.
     pub(crate) fn shape(&self) -> &[u32]
         ensures value { result.now ≡ self.now.shape }
         ensures array { IsArray self.now }
@@ -71,7 +71,7 @@ impl Shaped {
         &self.axes[..self.rank as usize]
     }
 
-    /// The items. No memory.
+    /// The items.
     pub(crate) fn items(&self) -> ItemsRef<'_>
         ensures value { seen_items result ≡ self.now.items }
         ensures array { IsArray self.now }

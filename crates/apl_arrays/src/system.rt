@@ -24,7 +24,7 @@ impl SystemName {
         SystemName::Svs,
     ];
 
-    /// How it is written: `⎕` and three letters. No memory.
+    /// How it is written: `⎕` and three letters.
     pub fn glyphs(self) -> [Glyph; 4]
         ensures { result ≡ system_text self }
     {

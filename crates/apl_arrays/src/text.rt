@@ -112,7 +112,7 @@ fn glyph_of_scalar(scalar: u16) -> Option<Glyph>
     Glyph::of_code(0x80 + place as u8)
 }
 
-/// The glyph at the front, and how many bytes it takes; or `None` where no glyph stands there. No memory.
+/// The glyph at the front, and how many bytes it takes; or `None` where no glyph stands there.
 #[tactic(auto, using(crate::proofs::Glyphs::glyph_at_front, crate::proofs::Glyphs::no_glyph_of_scalar, crate::proofs::Glyphs::no_glyph_where_no_scalar))]
 pub fn glyph_at(bytes: &[u8]) -> Option<(Glyph, usize)>
     ensures { MatchOption result (StartsWithNoGlyph bytes.now)

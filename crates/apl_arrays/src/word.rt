@@ -5,7 +5,7 @@ ghost use Rattle.apl_arrays.specs.Word.{IsNextWord, is_no_blank, next_word};
 
 use crate::Glyph;
 
-/// How many blanks stand at the front. No memory.
+/// How many blanks stand at the front.
 #[tactic(auto, using(crate::proofs::Runs::run_fits))]
 pub fn blank_count(line: &[Glyph]) -> usize
     ensures value { result ≡ prefix_len is_blank line.now }
@@ -14,7 +14,7 @@ pub fn blank_count(line: &[Glyph]) -> usize
     line.iter().take_while(|glyph| glyph.is_blank()).count()
 }
 
-/// How many digits stand at the front. No memory.
+/// How many digits stand at the front.
 #[tactic(auto, using(crate::proofs::Runs::run_fits))]
 pub fn digit_count(line: &[Glyph]) -> usize
     ensures value { result ≡ prefix_len is_digit line.now }
@@ -32,7 +32,6 @@ fn word_length(line: &[Glyph]) -> usize
 }
 
 /// The next word, which ends before a blank or with the line, and what follows it. `None` where only blanks are left.
-/// No memory.
 pub fn next_word(line: &[Glyph]) -> Option<(&[Glyph], &[Glyph])>
     ensures { MatchOption result (next_word line.now ≡ None) (λ found. next_word line.now ≡ Some (found.0.now, found.1.now)) }
 {
@@ -44,7 +43,7 @@ pub fn next_word(line: &[Glyph]) -> Option<(&[Glyph], &[Glyph])>
 }
 
 /// The next word of a line is what stands behind its blanks up to a blank or the end, and a line has none exactly
-/// where it is blank. The call does nothing. No memory.
+/// where it is blank. The call does nothing.
 pub fn words_stand_between_blanks()
     ensures word { (line word rest : List ℕ) → (next_word line ≡ Some (word, rest)) ↔ IsNextWord line word rest }
     ensures none { (line : List ℕ) → (next_word line ≡ None) ↔ IsTrue (list_all is_blank line) }

@@ -19,11 +19,11 @@ use Rattle.apl_meaning.specs.Reading.{Read, read_with}
 use Rattle.apl_meaning.specs.Statements.{is_misplaced, is_silent, line_by, line_outcome, read_outcome, statement_outcome, text_outcome}
 use Rattle.apl_meaning.proofs.Ran.{ran_text}
 use Rattle.apl_values.specs.declared.place.Place.{Place as CodePlace}
-use Rattle.apl_values.specs.declared.reading.Reading.{Reading}
-use Rattle.apl_values.specs.declared.values.Held.{Held}
+use Rattle.apl_values.specs.declared.reading.LineReading.{LineReading}
+use Rattle.apl_values.specs.declared.values.StackValue.{StackValue}
 use Rattle.apl_values.specs.Places.{plain_place}
-use Rattle.apl_values.specs.Parts.{IsNotRead, IsReadFrom, IsReading, plain_parts, reading_statement, reading_tree}
-use Rattle.apl_values.specs.Values.{held_value}
+use Rattle.apl_values.specs.Parts.{IsNotRead, IsReadFrom, IsLineReading, plain_parts, reading_statement, reading_tree}
+use Rattle.apl_values.specs.Values.{stack_value}
 use Rattle.apl_statements.specs.declared.evaluation.Evaluation.{Evaluation}
 use Rattle.apl_statements.specs.declared.evaluation.Purpose.{Purpose}
 use Rattle.apl_statements.specs.declared.flow.Flow.{Flow}
@@ -81,7 +81,7 @@ text_comes m n place text r comes =
     comes_as m n (statement_leads m (λ s. ran (text_at place text) s)) (statement_leads m (λ s. begun (text_outcome ran place text) s)) 0 r (λ asked count taken further. text_is_begun m place text (state_at m asked count taken further)) comes
 
 -- a text that was read
-pub text_read : (m : PlainInterpreter) (place : Place) (text : List ℕ) (reading : Reading) → IsReadFrom m.workspace text reading
+pub text_read : (m : PlainInterpreter) (place : Place) (text : List ℕ) (reading : LineReading) → IsReadFrom m.workspace text reading
     → SameAt m (statement_leads m (text_outcome ran place text)) (statement_leads m (line_outcome ran place (line_tree_of (reading_tree reading))))
 text_read m place text reading is asked count taken further =
     ap (λ (r : Read). and_then (read_outcome ran place r (state_at m asked count taken further)) (λ next t. behind m.stack next t)) is.tree
@@ -92,7 +92,7 @@ text_not_read m place text report is asked count taken further =
     ap (λ (r : Read). and_then (read_outcome ran place r (state_at m asked count taken further)) (λ next t. behind m.stack next t)) is
 
 -- what comes of a text that was read, and of one that was not
-pub read_comes : (m : PlainInterpreter) (place : Place) (text : List ℕ) (reading : Reading) (r : Result Flow Fail) → IsReadFrom m.workspace text reading → Comes m (statement_leads m (line_outcome ran place (line_tree_of (reading_tree reading)))) 0 m r → Comes m (statement_leads m (text_outcome ran place text)) 0 m r
+pub read_comes : (m : PlainInterpreter) (place : Place) (text : List ℕ) (reading : LineReading) (r : Result Flow Fail) → IsReadFrom m.workspace text reading → Comes m (statement_leads m (line_outcome ran place (line_tree_of (reading_tree reading)))) 0 m r → Comes m (statement_leads m (text_outcome ran place text)) 0 m r
 read_comes m place text reading r is comes = comes_as m m (statement_leads m (text_outcome ran place text)) (statement_leads m (line_outcome ran place (line_tree_of (reading_tree reading)))) 0 r (text_read m place text reading is) comes
 
 pub not_read_comes : (m : PlainInterpreter) (place : Place) (text : List ℕ) (why : Fail) → IsNotRead (read_with m.workspace text) why → Comes m (statement_leads m (text_outcome ran place text)) 0 m (Err why)
@@ -124,13 +124,13 @@ begins_by (execute e) label place purpose nodes s are is =
     ap (λ (p : PlainPurpose). rest_of_statement (first_of place p nodes) s) (sym same) ∙ ap (λ (list : List PlainNode). rest_of_statement (first_of place executes list) s) (sym are) ∙ execute_begins place e s
 
 -- a statement that was read is what it means from its first node on
-pub reading_begins : (reading : Reading) (place : Place) (purpose : PlainPurpose) (s : State) → IsReading reading → purpose_in (reading_statement reading) ≡ Some purpose
+pub reading_begins : (reading : LineReading) (place : Place) (purpose : PlainPurpose) (s : State) → IsLineReading reading → purpose_in (reading_statement reading) ≡ Some purpose
     → rest_of_statement (first_of place purpose (plain_parts reading.parts.items)) s ≡ statement_outcome ran place (reading_statement reading) s
 reading_begins reading place purpose s is put = begins_by (reading_statement reading) reading.label place purpose (plain_parts reading.parts.items) s (ap (λ (t : PlainTree). t.nodes) is.tree) put
 
 -- what is to come of a statement that begins at its first node
-pub begins_comes : (m : PlainInterpreter) (at : CodePlace) (for_this : Purpose) (reading : Reading) (e : Evaluation) → e.place ≡ at → e.purpose ≡ for_this → arc_value e.reading ≡ reading → e.at ≡ 0 → e.values.items ≡ [] → e.is_wanting ≡ false
-    → IsReading reading → is_misplaced (plain_place at) (line_tree_of (reading_tree reading)) ≡ false → purpose_in (reading_statement reading) ≡ Some (plain_purpose for_this)
+pub begins_comes : (m : PlainInterpreter) (at : CodePlace) (for_this : Purpose) (reading : LineReading) (e : Evaluation) → e.place ≡ at → e.purpose ≡ for_this → arc_value e.reading ≡ reading → e.at ≡ 0 → e.values.items ≡ [] → e.is_wanting ≡ false
+    → IsLineReading reading → is_misplaced (plain_place at) (line_tree_of (reading_tree reading)) ≡ false → purpose_in (reading_statement reading) ≡ Some (plain_purpose for_this)
     → Moves m (statement_leads m (line_outcome ran (plain_place at) (line_tree_of (reading_tree reading)))) 0 m (flow_to_come m (flow.Begins e))
 begins_comes m at for_this reading e stands put read first none there is may meant =
     let line : LineTree = line_tree_of (reading_tree reading) in
@@ -138,8 +138,8 @@ begins_comes m at for_this reading e stands put read first none there is may mea
     ap (λ p. record (evaluation_of m.workspace e) { place = plain_place p }) stands
     ∙ ap (λ p. record (evaluation_of m.workspace e) { place = plain_place at; purpose = plain_purpose p }) put
     ∙ ap (λ (k : ℕ). record (evaluation_of m.workspace e) { place = plain_place at; purpose = plain_purpose for_this; nodes = drop k (plain_parts (parts_of e)) }) first
-    ∙ ap (λ (r : Reading). record (evaluation_of m.workspace e) { place = plain_place at; purpose = plain_purpose for_this; nodes = plain_parts r.parts.items }) read
-    ∙ ap (λ (hs : List Held). record (first_of (plain_place at) (plain_purpose for_this) (plain_parts reading.parts.items)) { values = values_where e.is_wanting (reverse (map (held_value m.workspace (parts_of e)) hs)) }) none
+    ∙ ap (λ (r : LineReading). record (evaluation_of m.workspace e) { place = plain_place at; purpose = plain_purpose for_this; nodes = plain_parts r.parts.items }) read
+    ∙ ap (λ (hs : List StackValue). record (first_of (plain_place at) (plain_purpose for_this) (plain_parts reading.parts.items)) { values = values_where e.is_wanting (reverse (map (stack_value m.workspace (parts_of e)) hs)) }) none
     ∙ ap (λ (b : Bool). record (first_of (plain_place at) (plain_purpose for_this) (plain_parts reading.parts.items)) { values = values_where b [] }) there in
     at_once m (statement_leads m (line_outcome ran (plain_place at) line)) (flow_to_come m (flow.Begins e)) (λ asked count taken further.
     let s : State = state_at m asked count taken further in

@@ -20,13 +20,13 @@ use Rattle.apl_workspace.proofs.Ascending.{found_with}
 use Rattle.apl_workspace.proofs.Looks.{header_found, seen_globally}
 use Rattle.apl_workspace.proofs.NameLaw.{own_name}
 use Rattle.apl_meaning.specs.Calls.{entering}
-use Rattle.apl_values.specs.declared.reading.Reading.{Reading}
+use Rattle.apl_values.specs.declared.reading.LineReading.{LineReading}
 use Rattle.apl_statements.specs.declared.waiting.Waiting.{Waiting}
 use Rattle.apl_statements.specs.declared.interpreter.Interpreter.TheInside.{Inside}
 use Rattle.apl_statements.specs.Evaluating.{caller_of, function_by, here_of, stack_of, takes_by, waiting_of}
 use Rattle.apl_statements.specs.Interpreter.{PlainInterpreter, here}
 use Rattle.apl_statements.specs.Moves.{Does}
-use Rattle.apl_statements.specs.Sound.{AreUnderWay, IsCaller, IsKeptLine, IsUnderWay, plain_interpreter}
+use Rattle.apl_statements.specs.Sound.{AreUnderWay, IsCaller, IsKeptLine, IsFunctionUnderWay, plain_interpreter}
 use Rattle.apl_statements.specs.Stack.{PlainCaller, PlainWaiting, at_line}
 use Rattle.apl_statements.proofs.Kept.{same_stack}
 use Rattle.apl_calls.proofs.Enters.{entered_by, enters, takes_function}
@@ -64,7 +64,7 @@ result_if function args frames (Some name) is = alone (meaning_in (frame_of func
     alone (Some m) there = refl
 
 -- nothing is kept of its lines yet
-none_kept : {A : Type 0} (w : PlainWorkspace) (line : Option (List ℕ)) (read : A → Reading) (list : List (Option A)) (at : ℕ) → list ≡ [] → IfSome (slice_get list at) (λ kept. IfSome kept (λ reading. IsKeptLine w line (read reading)))
+none_kept : {A : Type 0} (w : PlainWorkspace) (line : Option (List ℕ)) (read : A → LineReading) (list : List (Option A)) (at : ℕ) → list ≡ [] → IfSome (slice_get list at) (λ kept. IfSome kept (λ reading. IsKeptLine w line (read reading)))
 none_kept w line read list at none = subst (λ list. IfSome (slice_get list at) (λ kept. IfSome kept (λ reading. IsKeptLine w line (read reading)))) (sym none) tt
 
 -- the function is under way, and those under it as they were
@@ -72,7 +72,7 @@ pub entered : (w : PlainWorkspace) (args : Args) (function : PlainFunction) (wai
     → waiting.readings.items ≡ [] → IsCaller empty_workspace waiting.caller → AreUnderWay w others → AreUnderWay (with_frame w waiting.name args) (waiting ∷ others)
 entered w args function waiting others seen is first fresh caller are =
     let v : PlainWorkspace = record w { frames = frame_of function args ∷ w.frames } in
-    let here : IsUnderWay v waiting = record {
+    let here : IsFunctionUnderWay v waiting = record {
       frame = λ none. let wrong : suc (length w.frames) ≡ 0 = ap length none in absurd (omega arith);
       function = ap is_function_meaning is;
       number = let e : waiting.number ≡ 0 = first in omega arith;

@@ -14,14 +14,14 @@ use Rattle.apl_workspace.specs.Workspace.{IsWorkspace, PlainWorkspace, global_in
 use Rattle.apl_workspace.specs.declared.meaning.Meaning.{Meaning}
 use Rattle.apl_workspace.specs.declared.meaning.Meaning.TheVariants as meaning
 use Rattle.apl_meaning.specs.Tasks.{line_numbered}
-use Rattle.apl_values.specs.declared.reading.Reading.{Reading}
+use Rattle.apl_values.specs.declared.reading.LineReading.{LineReading}
 use Rattle.apl_values.specs.Parts.{IsReadFrom}
 use Rattle.apl_values.proofs.Found.{found_at, last_first}
 use Rattle.apl_statements.specs.declared.waiting.Waiting.{Waiting}
 use Rattle.apl_statements.specs.Evaluating.{function_by, innermost_function, line_of_innermost, stack_of}
-use Rattle.apl_statements.specs.Sound.{AreUnderWay, IsKeptLine, IsUnderWay}
+use Rattle.apl_statements.specs.Sound.{AreUnderWay, IsKeptLine, IsFunctionUnderWay}
 use Rattle.apl_statements.specs.Stack.{PlainWaiting}
-use Rattle.apl_calls.specs.Waitings.{IsKept, IsStandingAt}
+use Rattle.apl_calls.specs.Waitings.{AreKeptOrRead, IsStandingAt}
 
 -- ---- lines by their numbers
 
@@ -100,7 +100,7 @@ kept_is_read w input callers waiting number at are is there before =
     (subst (λ (line : Option (List ℕ)). IfSome (slice_get waiting.readings.items at) (λ kept. IfSome kept (λ reading. IsKeptLine w line (arc_value reading)))) (line_before f.lines number at some before) (under.0.lines at))
 
 -- one reading more is kept
-still_kept : {A : Type 0} (w : PlainWorkspace) (lines : List (List ℕ)) (read : A → Reading) (before after : List (Option A)) (at : ℕ) (reading : Reading) (line : List ℕ) → IsKept read at reading before after → slice_get lines at ≡ Some line → IsReadFrom w line reading
+still_kept : {A : Type 0} (w : PlainWorkspace) (lines : List (List ℕ)) (read : A → LineReading) (before after : List (Option A)) (at : ℕ) (reading : LineReading) (line : List ℕ) → AreKeptOrRead read at reading before after → slice_get lines at ≡ Some line → IsReadFrom w line reading
     → ((k : ℕ) → IfSome (slice_get before k) (λ kept. IfSome kept (λ r. IsKeptLine w (slice_get lines k) (read r)))) → (k : ℕ) → IfSome (slice_get after k) (λ kept. IfSome kept (λ r. IsKeptLine w (slice_get lines k) (read r)))
 still_kept {A = A} w lines read before after at reading line kept there is were k = by (slice_get after k) refl
   where
@@ -113,8 +113,8 @@ still_kept {A = A} w lines read before after at reading line kept there is were 
           | inr now ↦ subst (IsKeptLine w (slice_get lines k)) (sym now.1) (subst (λ (found : Option (List ℕ)). IsKeptLine w found reading) (sym (ap (slice_get lines) now.0 ∙ there)) is)
         ]
 
-pub keeps_soundly : (w : PlainWorkspace) (input : List ℕ) (callers others : List Waiting) (waiting after : Waiting) (number at : ℕ) (reading : Reading) → callers ≡ others ++ waiting ∷ [] → after ≡ record waiting { readings = after.readings }
-    → IsKept arc_value at reading waiting.readings.items after.readings.items → at ≡ number - 1 → IsSome (line_of_innermost (stack_of w input (reverse callers)) number)
+pub keeps_soundly : (w : PlainWorkspace) (input : List ℕ) (callers others : List Waiting) (waiting after : Waiting) (number at : ℕ) (reading : LineReading) → callers ≡ others ++ waiting ∷ [] → after ≡ record waiting { readings = after.readings }
+    → AreKeptOrRead arc_value at reading waiting.readings.items after.readings.items → at ≡ number - 1 → IsSome (line_of_innermost (stack_of w input (reverse callers)) number)
     → IsReadFrom w (unwrap_or (line_of_innermost (stack_of w input (reverse callers)) number) []) reading → AreUnderWay w (reverse callers) → AreUnderWay w (reverse (others ++ after ∷ []))
 keeps_soundly w input callers others waiting after number at reading are_these same kept before there is are =
     let f : PlainFunction = function_by (global_in w waiting.name) in
@@ -122,7 +122,7 @@ keeps_soundly w input callers others waiting after number at reading are_these s
     let innermost : innermost_function (stack_of w input (reverse callers)) ≡ f = ap (λ (list : List Waiting). innermost_function (stack_of w input (reverse list))) are_these ∙ innermost_last w input others waiting in
     let some : IsSome (line_numbered f.lines number) = subst (λ (g : PlainFunction). IsSome (line_numbered g.lines number)) innermost there in
     let read : IsReadFrom w (unwrap_or (line_numbered f.lines number) []) reading = subst (λ (g : PlainFunction). IsReadFrom w (unwrap_or (line_numbered g.lines number) []) reading) innermost is in
-    let with : IsUnderWay w (record waiting { readings = after.readings }) = record {
+    let with : IsFunctionUnderWay w (record waiting { readings = after.readings }) = record {
       frame = was.0.frame;
       function = was.0.function;
       number = was.0.number;
@@ -130,7 +130,7 @@ keeps_soundly w input callers others waiting after number at reading are_these s
       result = was.0.result;
       lines = still_kept w f.lines arc_value waiting.readings.items after.readings.items at reading (unwrap_or (line_numbered f.lines number) []) kept (line_before f.lines number at some before) read was.0.lines;
     } in
-    under_way_last w others after (subst (IsUnderWay w) (sym same) with, was.1)
+    under_way_last w others after (subst (IsFunctionUnderWay w) (sym same) with, was.1)
 
 -- the number of its line
 pub number_of_last : (w : PlainWorkspace) (input : List ℕ) (callers : List Waiting) (waiting : Waiting) → slice_get callers (length callers - 1) ≡ Some waiting → Some waiting.number ≡ option_map (λ (p : PlainWaiting). p.number) (slice_get (stack_of w input (reverse callers)) 0)

@@ -9,9 +9,9 @@ use Rattle.apl_meaning.specs.State.{State}
 use Rattle.apl_meaning.specs.Calls.{result_of}
 use Rattle.apl_meaning.specs.Expressions.{Found}
 use Rattle.apl_values.specs.declared.part.Part.{Part}
-use Rattle.apl_values.specs.declared.values.Held.{Held}
-use Rattle.apl_values.specs.declared.values.Held.TheVariants as held
-use Rattle.apl_values.specs.Values.{IsHeld, held_value}
+use Rattle.apl_values.specs.declared.values.StackValue.{StackValue}
+use Rattle.apl_values.specs.declared.values.StackValue.TheVariants as held
+use Rattle.apl_values.specs.Values.{IsStackValue, stack_value}
 use Rattle.apl_statements.specs.declared.evaluation.Evaluation.{Evaluation}
 use Rattle.apl_statements.specs.Evaluating.{caller_of, evaluation_of, here_of}
 use Rattle.apl_statements.specs.Interpreter.{PlainInterpreter, state_at}
@@ -24,19 +24,19 @@ use Rattle.apl_statements.proofs.Held.{pushed}
 use Rattle.apl_statements.proofs.Same.{moves_to}
 
 -- a value that is no name's is the same on any workspace
-pub held_anywhere : (w : PlainWorkspace) (parts : List Part) (h : Held) → IsHeld empty_workspace parts h → IsHeld w parts h × (held_value w parts h ≡ held_value empty_workspace parts h)
+pub held_anywhere : (w : PlainWorkspace) (parts : List Part) (h : StackValue) → IsStackValue empty_workspace parts h → IsStackValue w parts h × (stack_value w parts h ≡ stack_value empty_workspace parts h)
 held_anywhere w parts (held.Made array) is = (is, refl)
 held_anywhere w parts (held.Constant at) is = (is, refl)
 held_anywhere w parts (held.Named name) is = absurd (false≢true is)
 
-pub all_held_anywhere : (w : PlainWorkspace) (parts : List Part) (hs : List Held) → All (IsHeld empty_workspace parts) hs → All (IsHeld w parts) hs
+pub all_held_anywhere : (w : PlainWorkspace) (parts : List Part) (hs : List StackValue) → All (IsStackValue empty_workspace parts) hs → All (IsStackValue w parts) hs
 all_held_anywhere w parts hs are k d lt = (held_anywhere w parts _ (are k d lt)).0
 
-pub values_anywhere : (w : PlainWorkspace) (parts : List Part) (hs : List Held) → All (IsHeld empty_workspace parts) hs → map (held_value w parts) hs ≡ map (held_value empty_workspace parts) hs
+pub values_anywhere : (w : PlainWorkspace) (parts : List Part) (hs : List StackValue) → All (IsStackValue empty_workspace parts) hs → map (stack_value w parts) hs ≡ map (stack_value empty_workspace parts) hs
 values_anywhere w parts [] are = refl
 values_anywhere w parts (h ∷ hs) are =
-    ap (λ (a : PlainArray). a ∷ map (held_value w parts) hs) (held_anywhere w parts h (All-head (IsHeld empty_workspace parts) h hs are)).1
-    ∙ ap (λ (list : List PlainArray). held_value empty_workspace parts h ∷ list) (values_anywhere w parts hs (All-tail (IsHeld empty_workspace parts) h hs are))
+    ap (λ (a : PlainArray). a ∷ map (stack_value w parts) hs) (held_anywhere w parts h (All-head (IsStackValue empty_workspace parts) h hs are)).1
+    ∙ ap (λ (list : List PlainArray). stack_value empty_workspace parts h ∷ list) (values_anywhere w parts hs (All-tail (IsStackValue empty_workspace parts) h hs are))
 
 -- a caller that waits is one on any workspace
 pub caller_anywhere : (w : PlainWorkspace) (e : Evaluation) → IsCaller empty_workspace e → IsCaller w e
@@ -57,7 +57,7 @@ pub resumed_sound : (w : PlainWorkspace) (found : Found) (e after : Evaluation) 
 resumed_sound w None e after is with = subst (IsEvaluation w) (sym with) (record { reading = is.evaluation.reading; at = is.evaluation.at; values = (caller_anywhere w e is).evaluation.values })
 resumed_sound w (Some array) e after is with =
     with_values_sound w e after (e.values.items ++ held.Made array ∷ []) (caller_anywhere w e is).evaluation
-    (All-push (IsHeld w (parts_of e)) e.values.items (held.Made array) (caller_anywhere w e is).evaluation.values refl) with
+    (All-push (IsStackValue w (parts_of e)) e.values.items (held.Made array) (caller_anywhere w e is).evaluation.values refl) with
 
 -- an interpreter without its innermost function
 abbrev pub left_one : PlainInterpreter → PlainInterpreter

@@ -9,7 +9,7 @@ use Rattle.apl_workspace.specs.Meaning.{NameTable, meaning_in}
 use Rattle.apl_workspace.specs.Workspace.{PlainWorkspace, innermost, look, seen_by, without_frame}
 use Rattle.apl_workspace.specs.declared.meaning.Meaning.{Meaning}
 use Rattle.apl_workspace.specs.declared.meaning.Meaning.TheVariants as meaning
-use Rattle.apl_meaning.specs.Calls.{local_value, result_in, result_of}
+use Rattle.apl_meaning.specs.Calls.{local_value, result_value_in, result_of}
 use Rattle.apl_meaning.specs.Expressions.{Found}
 use Rattle.apl_values.specs.Parts.{plain_part, plain_parts}
 use Rattle.apl_statements.specs.declared.evaluation.Evaluation.{Evaluation}
@@ -32,7 +32,7 @@ pub innermost_at : (ws : List PlainWaiting) (f : PlainFunction) → Some f ≡ o
 innermost_at [] f e = absurd (let no : Some f ≡ None = e in cc)
 innermost_at (w ∷ ws) f e = let some : Some f ≡ Some w.function = e in let same : w.function ≡ f = cc in same
 
-result_by : (frames : List NameTable) (globals : NameTable) (name : List ℕ) → is_some (innermost (take 1 frames) name) ≡ true → local_value (seen_by (innermost frames name) (meaning_in globals name)) ≡ result_in frames name
+result_by : (frames : List NameTable) (globals : NameTable) (name : List ℕ) → is_some (innermost (take 1 frames) name) ≡ true → local_value (seen_by (innermost frames name) (meaning_in globals name)) ≡ result_value_in frames name
 result_by [] globals name is = absurd (false≢true is)
 result_by (frame ∷ frames) globals name is = by (meaning_in frame name) is
   where
@@ -45,7 +45,7 @@ pub result_is : (w : PlainWorkspace) (input : List ℕ) (callers : List Waiting)
 result_is w input [] name are is = absurd (let no : None ≡ Some name = is in cc)
 result_is w input (waiting ∷ others) name are is =
     result_by w.frames w.globals name (subst (λ (result : Option (List ℕ)). IfSome result (λ name. is_some (innermost (take 1 w.frames) name) ≡ true)) is are.0.result)
-    ∙ sym (ap (λ (result : Option (List ℕ)). option_and_then (result_in w.frames) result) is)
+    ∙ sym (ap (λ (result : Option (List ℕ)). option_and_then (result_value_in w.frames) result) is)
 
 -- ---- the interpreter without its innermost function
 

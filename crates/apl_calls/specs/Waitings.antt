@@ -1,6 +1,6 @@
 -- Functions that wait, where the innermost goes to another line, or keeps what was read of one.
 use Rattle.std.specs.Prelude.{◌≡◌, ◌++◌, ◌⊎◌, ℕ, List, [], ◌∷◌, Option, Some, slice_get}
-use Rattle.apl_values.specs.declared.reading.Reading.{Reading}
+use Rattle.apl_values.specs.declared.reading.LineReading.{LineReading}
 use Rattle.apl_statements.specs.declared.waiting.Waiting.{Waiting}
 use Rattle.apl_statements.specs.Stack.{PlainWaiting, at_line}
 
@@ -17,5 +17,5 @@ pub record IsStandingAt (number : ℕ) (before after : List Waiting) : Type 0 wh
   pub is : after ≡ others ++ record waiting { number = number } ∷ []
 
 -- what is kept of lines was kept before, or is this reading at its place
-abbrev pub IsKept : {A : Type 0} → (A → Reading) → ℕ → Reading → List (Option A) → List (Option A) → Type 0
-IsKept {A = A} read at reading before after = (k : ℕ) (kept : A) → slice_get after k ≡ Some (Some kept) → (slice_get before k ≡ Some (Some kept)) ⊎ ((k ≡ at) × (read kept ≡ reading))
+abbrev pub AreKeptOrRead : {A : Type 0} → (A → LineReading) → ℕ → LineReading → List (Option A) → List (Option A) → Type 0
+AreKeptOrRead {A = A} read at reading before after = (k : ℕ) (kept : A) → slice_get after k ≡ Some (Some kept) → (slice_get before k ≡ Some (Some kept)) ⊎ ((k ≡ at) × (read kept ≡ reading))

@@ -13,7 +13,7 @@ ghost use Rattle.apl_meaning.specs.Reading.{read_with};
 ghost use Rattle.apl_meaning.specs.Statements.{is_misplaced, line_outcome, text_outcome};
 ghost use Rattle.apl_meaning.specs.Tasks.{begun, immediate, in_function, text_at};
 ghost use Rattle.apl_values.specs.Places.{plain_place};
-ghost use Rattle.apl_values.specs.Parts.{IsNotRead, IsReadFrom, IsReading, reading_statement, reading_tree};
+ghost use Rattle.apl_values.specs.Parts.{IsNotRead, IsReadFrom, IsLineReading, reading_statement, reading_tree};
 ghost use Rattle.apl_statements.specs.Evaluating.{caller_of, evaluation_of, function_by, innermost_function, line_of_innermost, plain_next, plain_purpose, purpose_in, takes_by};
 ghost use Rattle.apl_statements.specs.Interpreter.{here};
 ghost use Rattle.apl_statements.specs.Moves.{Comes, HasDone, Moves, part_gives, statement_leads};
@@ -28,7 +28,7 @@ use crate::seen::{following, takes, value_seen};
 use crate::waiting::{function_of, header_of, keep, line_numbered, make_room, stand_at};
 use apl_arrays::{Array, Fail, Line, Name, Report, WantOfMemory};
 use apl_statements::{Evaluation, Flow, Interpreter, Next, Purpose, Waiting};
-use apl_values::{Place, Reading, read};
+use apl_values::{LineReading, Place, read};
 use apl_workspace::{Args, DEPTH_LIMIT, Function};
 use line_trees::Form;
 use std::alloc::Global;
@@ -36,8 +36,8 @@ use std::sync::Arc;
 
 /// Begins the line as read. INTERRUPT where no statement may be begun, else SYNTAX ERROR where the line may not stand there,
 /// each also where there is no memory.
-pub fn begin_input(interpreter: &mut Interpreter, reading: Reading) -> Result<Flow, Fail>
-    requires sound { IsReading reading }
+pub fn begin_input(interpreter: &mut Interpreter, reading: LineReading) -> Result<Flow, Fail>
+    requires sound { IsLineReading reading }
     ensures comes { Comes interpreter.old (statement_leads interpreter.old (λ s. begun (line_outcome ran immediate (line_tree_of (reading_tree reading))) s)) 0 interpreter.new result }
     ensures memory { OnWantOfMemory result ((0 < interpreter.old.statements) × (is_misplaced immediate (line_tree_of (reading_tree reading)) ≡ false)) }
     ensures sound { IfOk result (IsFlow interpreter.new) }
@@ -72,8 +72,8 @@ fn count_statement(interpreter: &mut Interpreter) -> Result<(), Report>
 }
 
 // Begins a statement that was read. SYNTAX ERROR where it may not stand there, also where there is no memory to share it.
-fn begin_read(interpreter: &Interpreter, place: Place, reading: Reading) -> Result<Flow, Fail>
-    requires sound { IsReading reading }
+fn begin_read(interpreter: &Interpreter, place: Place, reading: LineReading) -> Result<Flow, Fail>
+    requires sound { IsLineReading reading }
     ensures comes { Comes interpreter.now (statement_leads interpreter.now (λ s. line_outcome ran (plain_place place) (line_tree_of (reading_tree reading)) s)) 0 interpreter.now result }
     ensures memory { OnWantOfMemory result (is_misplaced (plain_place place) (line_tree_of (reading_tree reading)) ≡ false) }
     ensures sound { IfOk result (IsFlow interpreter.now) }
@@ -87,13 +87,13 @@ fn begin_read(interpreter: &Interpreter, place: Place, reading: Reading) -> Resu
     begin_reading(interpreter, place, reading)
 }
 
-// Begins a statement that was read and is shared. No memory.
+// Begins a statement that was read and is shared. It takes no memory.
 fn begin_reading(
     interpreter: &Interpreter,
     place: Place,
-    reading: Arc<Reading>,
+    reading: Arc<LineReading>,
 ) -> Result<Flow, Fail>
-    requires sound { IsReading (arc_value reading) }
+    requires sound { IsLineReading (arc_value reading) }
     ensures comes { Comes interpreter.now (statement_leads interpreter.now (λ s. line_outcome ran (plain_place place) (line_tree_of (reading_tree (arc_value reading))) s)) 0 interpreter.now result }
     ensures memory { OnWantOfMemory result ⊥ }
     ensures sound { IfOk result (IsFlow interpreter.now) }
@@ -256,7 +256,7 @@ fn function_under_way(interpreter: &Interpreter) -> Option<&Function>
 }
 
 // The reading of a line, which is read once a call.
-fn reading_of_line(interpreter: &mut Interpreter, number: usize) -> Result<Arc<Reading>, Fail>
+fn reading_of_line(interpreter: &mut Interpreter, number: usize) -> Result<Arc<LineReading>, Fail>
     requires there { IsSome (line_of_innermost interpreter.old.stack number) }
     ensures read { IfOk result (λ reading. IsReadFrom interpreter.old.workspace (unwrap_or (line_of_innermost interpreter.old.stack number) []) (arc_value reading)) }
     ensures refused { IfErr result (IsNotRead (read_with interpreter.old.workspace (unwrap_or (line_of_innermost interpreter.old.stack number) []))) }
@@ -271,7 +271,7 @@ fn reading_of_line(interpreter: &mut Interpreter, number: usize) -> Result<Arc<R
 }
 
 // The reading that is kept of a line.
-fn kept_reading(interpreter: &Interpreter, number: usize) -> Option<&Arc<Reading>>
+fn kept_reading(interpreter: &Interpreter, number: usize) -> Option<&Arc<LineReading>>
     requires there { IsSome (line_of_innermost interpreter.now.stack number) }
     ensures { IfSome result (λ kept. IsReadFrom interpreter.now.workspace (unwrap_or (line_of_innermost interpreter.now.stack number) []) (arc_value kept.now)) }
 {
@@ -280,7 +280,7 @@ fn kept_reading(interpreter: &Interpreter, number: usize) -> Option<&Arc<Reading
 }
 
 // Reads a line of the function under way.
-fn read_line(interpreter: &Interpreter, number: usize) -> Result<Arc<Reading>, Fail>
+fn read_line(interpreter: &Interpreter, number: usize) -> Result<Arc<LineReading>, Fail>
     requires there { IsSome (line_of_innermost interpreter.now.stack number) }
     ensures read { IfOk result (λ reading. IsReadFrom interpreter.now.workspace (unwrap_or (line_of_innermost interpreter.now.stack number) []) (arc_value reading)) }
     ensures refused { IfErr result (IsNotRead (read_with interpreter.now.workspace (unwrap_or (line_of_innermost interpreter.now.stack number) []))) }
@@ -298,7 +298,7 @@ fn read_line(interpreter: &Interpreter, number: usize) -> Result<Arc<Reading>, F
 fn keep_reading(
     interpreter: &mut Interpreter,
     number: usize,
-    reading: Arc<Reading>,
+    reading: Arc<LineReading>,
 ) -> Result<(), WantOfMemory>
     requires there { IsSome (line_of_innermost interpreter.old.stack number) }
     requires read { IsReadFrom interpreter.old.workspace (unwrap_or (line_of_innermost interpreter.old.stack number) []) (arc_value reading) }
@@ -350,22 +350,22 @@ fn result_under_way(interpreter: &Interpreter) -> Result<Option<Array>, WantOfMe
 }
 
 // A reading that may be shared.
-fn shared(alloc: Global, reading: Reading) -> Result<Arc<Reading>, WantOfMemory>
+fn shared(alloc: Global, reading: LineReading) -> Result<Arc<LineReading>, WantOfMemory>
     ensures { IfOk result (λ shared. arc_value shared ≡ reading) }
 {
     Ok(Arc::new(alloc, reading)?)
 }
 
 // The same reading once more.
-fn twin(reading: &Arc<Reading>) -> Result<Arc<Reading>, WantOfMemory>
+fn twin(reading: &Arc<LineReading>) -> Result<Arc<LineReading>, WantOfMemory>
     ensures { IfOk result (λ twin. arc_value twin ≡ arc_value reading.now) }
 {
     Ok(reading.clone()?)
 }
 
 // What becomes of the value of a statement; none where it is empty.
-fn purpose_of(reading: &Reading) -> Option<Purpose>
-    requires { IsReading reading.now }
+fn purpose_of(reading: &LineReading) -> Option<Purpose>
+    requires { IsLineReading reading.now }
     ensures { option_map plain_purpose result ≡ purpose_in (reading_statement reading.now) }
 {
     match reading.form {

@@ -7,7 +7,7 @@ ghost use Rattle.apl_workspace.specs.Workspace.{PlainWorkspace, global_in};
 ghost use Rattle.apl_meaning.specs.Nodes.{found_in};
 ghost use Rattle.apl_meaning.specs.Tasks.{line_numbered};
 ghost use Rattle.apl_meaning.specs.Statements.{branch_to, next_of};
-ghost use Rattle.apl_values.specs.Values.{IsHeld, held_value};
+ghost use Rattle.apl_values.specs.Values.{IsStackValue, stack_value};
 ghost use Rattle.apl_statements.specs.Evaluating.{evaluation_of, function_by, innermost_begun, line_shown_of, plain_next, plain_purpose, waiting_shown};
 ghost use Rattle.apl_statements.specs.Interpreter.{here};
 ghost use Rattle.apl_statements.specs.Moves.{Comes, value_put};
@@ -25,7 +25,7 @@ use apl_display::lines_of;
 use apl_execute::text_of;
 use apl_meaning::{function_line_shown, input_shown, report_line};
 use apl_statements::{Evaluation, Flow, Interpreter, Next, Purpose, Waiting};
-use apl_values::{Held, array_of};
+use apl_values::{StackValue, array_of};
 use apl_workspace::{Function, Workspace};
 use std::alloc::Global;
 
@@ -160,18 +160,18 @@ fn shown_of(alloc: Global, function: &Function, number: usize) -> Result<Line, W
 }
 
 // The value of a statement, if it has one.
-fn found(e: &mut Evaluation) -> Option<Held>
-    ensures found { (w : PlainWorkspace) → option_map (held_value w (parts_of e.old)) result ≡ found_in (evaluation_of w e.old).values }
-    ensures held { (w : PlainWorkspace) → IsEvaluation w e.old → IfSome result (IsHeld w (parts_of e.old)) }
+fn found(e: &mut Evaluation) -> Option<StackValue>
+    ensures found { (w : PlainWorkspace) → option_map (stack_value w (parts_of e.old)) result ≡ found_in (evaluation_of w e.old).values }
+    ensures held { (w : PlainWorkspace) → IsEvaluation w e.old → IfSome result (IsStackValue w (parts_of e.old)) }
     ensures same { e.new ≡ record e.old { values = e.new.values } }
 {
     if e.is_wanting { None } else { e.values.pop() }
 }
 
 // The value of a statement; VALUE ERROR where it has none.
-fn needed(e: &mut Evaluation) -> Result<Held, Report>
-    ensures found { IfOk result (λ held. (w : PlainWorkspace) → found_in (evaluation_of w e.old).values ≡ Some (held_value w (parts_of e.old) held)) }
-    ensures held { (w : PlainWorkspace) → IsEvaluation w e.old → IfOk result (IsHeld w (parts_of e.old)) }
+fn needed(e: &mut Evaluation) -> Result<StackValue, Report>
+    ensures found { IfOk result (λ held. (w : PlainWorkspace) → found_in (evaluation_of w e.old).values ≡ Some (stack_value w (parts_of e.old) held)) }
+    ensures held { (w : PlainWorkspace) → IsEvaluation w e.old → IfOk result (IsStackValue w (parts_of e.old)) }
     ensures none { IfErr result (λ why. (why ≡ reports.Value) × ((w : PlainWorkspace) → found_in (evaluation_of w e.old).values ≡ None)) }
     ensures same { e.new ≡ record e.old { values = e.new.values } }
 {

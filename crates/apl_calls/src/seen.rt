@@ -10,7 +10,7 @@ use apl_statements::Next;
 use apl_workspace::{Args, Seen};
 use std::alloc::Global;
 
-/// Whether a name stands for a function of these arguments. No memory.
+/// Whether a name stands for a function of these arguments.
 pub fn takes(seen: Seen<'_>, args: &Args) -> bool
     ensures { result ≡ takes_by (plain_seen seen.entry) args.now }
 {
@@ -35,7 +35,7 @@ pub fn value_seen(alloc: Global, seen: Seen<'_>) -> Result<Option<Array>, WantOf
     }
 }
 
-/// The number of the line that follows a line; 0 is that of none. No memory.
+/// The number of the line that follows a line; 0 is that of none.
 pub fn following(number: usize, next: Next) -> usize
     requires { number < 2 ^ 32 }
     ensures { result ≡ following number (plain_next next) }

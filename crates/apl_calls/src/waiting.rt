@@ -5,15 +5,15 @@ ghost use Rattle.apl_arrays.specs.List.{glyphs_in};
 ghost use Rattle.apl_workspace.specs.Workspace.{global_in};
 ghost use Rattle.apl_meaning.specs.Tasks.{line_numbered};
 ghost use Rattle.apl_statements.specs.Evaluating.{function_in};
-ghost use Rattle.apl_calls.specs.Waitings.{IsKept, IsStandingAt};
+ghost use Rattle.apl_calls.specs.Waitings.{AreKeptOrRead, IsStandingAt};
 
 use apl_arrays::{Line, Name, WantOfMemory};
 use apl_statements::Waiting;
-use apl_values::Reading;
+use apl_values::LineReading;
 use apl_workspace::{Function, Header, Seen, Workspace};
 use std::sync::Arc;
 
-/// The function that a global name stands for. No memory.
+/// The function that a global name stands for.
 pub fn function_of<'a>(workspace: &'a Workspace, name: &Name) -> Option<&'a Function>
     ensures { option_copied result ≡ function_in (global_in workspace.now name.now) }
 {
@@ -23,21 +23,21 @@ pub fn function_of<'a>(workspace: &'a Workspace, name: &Name) -> Option<&'a Func
     }
 }
 
-/// A line of a function by its number; the first has number 1. No memory.
+/// A line of a function by its number; the first has number 1.
 pub fn line_numbered(function: &Function, number: usize) -> Option<&Line>
     ensures { option_map glyphs_in (option_copied result) ≡ line_numbered function.now.lines number }
 {
     function.lines().get(number.checked_sub(1)?)
 }
 
-/// The header of a function. No memory.
+/// The header of a function.
 pub fn header_of(function: &Function) -> &Header
     ensures { result.now ≡ function.now.header }
 {
     function.header()
 }
 
-/// The innermost function is at this line. No memory.
+/// The innermost function is at this line.
 pub fn stand_at(callers: &mut Vec<Waiting>, number: usize)
     requires { callers.old.items ≢ [] }
     ensures { IsStandingAt number callers.old.items callers.new.items }
@@ -48,11 +48,11 @@ pub fn stand_at(callers: &mut Vec<Waiting>, number: usize)
 
 /// A reading at its place among those that are kept; places before it may be empty. It takes memory for them.
 pub fn keep(
-    readings: &mut Vec<Option<Arc<Reading>>>,
+    readings: &mut Vec<Option<Arc<LineReading>>>,
     at: usize,
-    reading: Arc<Reading>,
+    reading: Arc<LineReading>,
 ) -> Result<(), WantOfMemory>
-    ensures { IsKept arc_value at (arc_value reading) readings.old.items readings.new.items }
+    ensures { AreKeptOrRead arc_value at (arc_value reading) readings.old.items readings.new.items }
 {
     'places: while readings.len() <= at {
         readings.push(None)?;

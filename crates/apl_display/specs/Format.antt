@@ -4,7 +4,7 @@ use Rattle.apl_arrays.specs.Array.{PlainArray, chars, is_chars, FitsLimits}
 use Rattle.apl_arrays.specs.declared.report.Fail.{Fail}
 use Rattle.apl_arrays.specs.declared.report.Fail.TheVariants.{Report, WantOfMemory}
 use Rattle.apl_arrays.specs.declared.report.Report.TheVariants.{WsFull}
-use Rattle.apl_items.specs.Answers.{Answer, answer_of, shape_faults}
+use Rattle.apl_items.specs.Answers.{ArrayResult, answer_of, shape_faults}
 use Rattle.apl_display.specs.Display.{display_lines}
 
 -- how wide lines are: as the longest; 0 where there is none
@@ -28,5 +28,5 @@ IsFormatRefusal shape (Report report) = (report ≡ WsFull) × ¬ FitsLimits sha
 IsFormatRefusal shape WantOfMemory = Unit {0}
 
 -- what format gives: the array as characters, or the report of its shape
-abbrev pub format_of : PlainArray → Answer
+abbrev pub format_of : PlainArray → ArrayResult
 format_of array = answer_of (shape_faults (formatted array).shape) (formatted array)

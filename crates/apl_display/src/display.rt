@@ -6,7 +6,7 @@ ghost use Rattle.apl_display.specs.Matrices.{extent_of, matrices_lines};
 ghost use Rattle.line_text.specs.Number.{number_text};
 
 use crate::matrices::extent_of;
-use crate::table::{Table, matrices_lines, widths_of};
+use crate::table::{DisplayTable, matrices_lines, widths_of};
 use apl_arrays::{Array, ItemsRef, Line, LineList, List, WantOfMemory};
 use line_text::add_numbers;
 use std::alloc::Global;
@@ -39,7 +39,7 @@ fn table_lines(alloc: Global, b: &Array) -> Result<LineList, WantOfMemory>
     let items = b.items();
     let extent = extent_of(b.shape(), items.len());
     let widths = widths_of(alloc, items, extent)?;
-    let table = Table {
+    let table = DisplayTable {
         items,
         widths: &widths,
         extent,

@@ -10,7 +10,7 @@ use std::alloc::Global;
 
 /// The matrices of an array, and how wide each column of numbers is.
 #[derive(Drop)]
-pub struct Table<'a> {
+pub struct DisplayTable<'a> {
     pub items: ItemsRef<'a>,
     pub widths: &'a [usize],
     pub extent: Extent,
@@ -38,7 +38,7 @@ pub fn widths_of(
 
 // The line of a row.
 #[tactic(auto, using(std::proofs::lemmas::Nat::rows, crate::proofs::WidthLemmas::length_of_widths))]
-fn row_line(alloc: Global, table: &Table, row: usize) -> Result<Line, WantOfMemory>
+fn row_line(alloc: Global, table: &DisplayTable, row: usize) -> Result<Line, WantOfMemory>
     requires { row < row_count table.now.extent }
     ensures { IfOk result (λ line. line.items ≡ row_line (seen_items table.now.items) table.now.extent row) }
 {
@@ -64,7 +64,7 @@ fn push_empty_line(alloc: Global, lines: &mut LineList, matrix: usize) -> Result
 // Adds the lines of a matrix.
 fn push_matrix(
     alloc: Global,
-    table: &Table,
+    table: &DisplayTable,
     lines: &mut LineList,
     matrix: usize,
 ) -> Result<(), WantOfMemory>
@@ -80,7 +80,7 @@ fn push_matrix(
 }
 
 /// The lines of all matrices.
-pub fn matrices_lines(alloc: Global, table: &Table) -> Result<LineList, WantOfMemory>
+pub fn matrices_lines(alloc: Global, table: &DisplayTable) -> Result<LineList, WantOfMemory>
     ensures { IfOk result (λ lines. lines.items ≡ matrices_lines (seen_items table.now.items) table.now.extent) }
 {
     let mut lines = LineList::new(alloc);

@@ -25,7 +25,7 @@ use Rattle.apl_workspace.proofs.NameLaw.{first_differs, own_name}
 use Rattle.apl_workspace.proofs.Tables.{weight_with}
 use Rattle.apl_workspace.proofs.Without.{found_without_all, still_ascends}
 use Rattle.apl_execute.specs.Copying.{AreAbsent, MayCome}
-use Rattle.apl_execute.specs.Merge.{IsNotMerged, copy_in, with_copies, with_copy}
+use Rattle.apl_execute.specs.Merge.{IsNotMerged, copy_in, with_copies, with_name_copied}
 
 -- ---- names that go
 
@@ -51,7 +51,7 @@ absent_on globals name meaning (other ∷ names) others absent =
     let parts = or_parts (same_name name other) (list_any (same_name name) names) others in
     (absent_by globals name other meaning parts.0 absent.0, absent_on globals name meaning names parts.1 absent.1)
 
-comes_by : (globals : NameTable) (name : List ℕ) (names : List (List ℕ)) (copy : Option Meaning) → MayCome globals (name ∷ names) → MayCome (with_copy globals name copy) names
+comes_by : (globals : NameTable) (name : List ℕ) (names : List (List ℕ)) (copy : Option Meaning) → MayCome globals (name ∷ names) → MayCome (with_name_copied globals name copy) names
 comes_by globals name names None h = record { ascend = h.ascend; absent = h.absent.1; differ = (first_differs name names h.differ).1 }
 comes_by globals name names (Some meaning) h = record {
   ascend = with_ascends globals name meaning h.ascend;
@@ -59,10 +59,10 @@ comes_by globals name names (Some meaning) h = record {
   differ = (first_differs name names h.differ).1;
 }
 
-pub comes_on : (from : PlainWorkspace) (globals : NameTable) (name : List ℕ) (names : List (List ℕ)) → MayCome globals (name ∷ names) → MayCome (with_copy globals name (copy_in from name)) names
+pub comes_on : (from : PlainWorkspace) (globals : NameTable) (name : List ℕ) (names : List (List ℕ)) → MayCome globals (name ∷ names) → MayCome (with_name_copied globals name (copy_in from name)) names
 comes_on from globals name names h = comes_by globals name names (copy_in from name) h
 
-heavier_by : (globals : NameTable) (name : List ℕ) (copy : Option Meaning) → IsStrictlySortedBy name_order (keys_of globals) → meaning_in globals name ≡ None → table_weight globals ≤ table_weight (with_copy globals name copy)
+heavier_by : (globals : NameTable) (name : List ℕ) (copy : Option Meaning) → IsStrictlySortedBy name_order (keys_of globals) → meaning_in globals name ≡ None → table_weight globals ≤ table_weight (with_name_copied globals name copy)
 heavier_by globals name None s none = omega arith
 heavier_by globals name (Some meaning) s none =
     let nothing : weight_in globals name ≡ 0 = ap (λ (found : Option Meaning). unwrap_or (option_map meaning_weight found) 0) none in
@@ -73,7 +73,7 @@ pub heavier : (from : PlainWorkspace) (globals : NameTable) (names : List (List 
 heavier from globals [] h = omega arith
 heavier from globals (name ∷ names) h =
     let one = heavier_by globals name (copy_in from name) h.ascend h.absent.0 in
-    let more = heavier from (with_copy globals name (copy_in from name)) names (comes_on from globals name names h) in
+    let more = heavier from (with_name_copied globals name (copy_in from name)) names (comes_on from globals name names h) in
     omega (arith, one, more)
 
 -- ---- the names that are left at a place
@@ -118,14 +118,14 @@ given_as_global ws name value none =
 
 -- a value would fit, or not
 pub value_fits : (ws from : PlainWorkspace) (name : List ℕ) (value : PlainArray) (fits : Bool) → ws.frames ≡ [] → copy_in from name ≡ Some (Value value) → fits ≡ nat_le (workspace_weight (assigned ws name value)) most_weight
-    → IsFull (record ws { globals = with_copy ws.globals name (copy_in from name) }) (cond fits WantOfMemory (Report WsFull))
+    → IsFull (record ws { globals = with_name_copied ws.globals name (copy_in from name) }) (cond fits WantOfMemory (Report WsFull))
 value_fits ws from name value fits none copy is =
-    full_or (record ws { globals = with_copy ws.globals name (copy_in from name) }) fits
-    (is ∙ ap (λ (w : PlainWorkspace). nat_le (workspace_weight w) most_weight) (given_as_global ws name value none ∙ ap (λ (o : Option Meaning). record ws { globals = with_copy ws.globals name o }) (sym copy)))
+    full_or (record ws { globals = with_name_copied ws.globals name (copy_in from name) }) fits
+    (is ∙ ap (λ (w : PlainWorkspace). nat_le (workspace_weight w) most_weight) (given_as_global ws name value none ∙ ap (λ (o : Option Meaning). record ws { globals = with_name_copied ws.globals name o }) (sym copy)))
 
 -- and so a function
 pub function_fits : (ws from : PlainWorkspace) (name : List ℕ) (function : PlainFunction) (fits : Bool) → copy_in from name ≡ Some (Function function) → fits ≡ nat_le (workspace_weight (with_global ws name (Function function))) most_weight
-    → IsFull (record ws { globals = with_copy ws.globals name (copy_in from name) }) (cond fits WantOfMemory (Report WsFull))
+    → IsFull (record ws { globals = with_name_copied ws.globals name (copy_in from name) }) (cond fits WantOfMemory (Report WsFull))
 function_fits ws from name function fits copy is =
-    full_or (record ws { globals = with_copy ws.globals name (copy_in from name) }) fits
-    (is ∙ ap (λ (w : PlainWorkspace). nat_le (workspace_weight w) most_weight) (ap (λ (o : Option Meaning). record ws { globals = with_copy ws.globals name o }) (sym copy)))
+    full_or (record ws { globals = with_name_copied ws.globals name (copy_in from name) }) fits
+    (is ∙ ap (λ (w : PlainWorkspace). nat_le (workspace_weight w) most_weight) (ap (λ (o : Option Meaning). record ws { globals = with_name_copied ws.globals name o }) (sym copy)))

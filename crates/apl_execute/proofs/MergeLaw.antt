@@ -15,22 +15,22 @@ use Rattle.apl_workspace.specs.declared.meaning.Meaning.TheVariants.{Nothing, Va
 use Rattle.apl_workspace.proofs.Ascending.{found_with}
 use Rattle.apl_workspace.proofs.NameLaw.{differ_push, from_not, name_flips, none_differ, own_name, equal_names}
 use Rattle.apl_workspace.proofs.Without.{found_without_all}
-use Rattle.apl_execute.specs.Merge.{asked, copied_as, copied_names, copy_in, each_once, is_copied, merged, with_copies, with_copy, with_mention}
+use Rattle.apl_execute.specs.Merge.{asked, copied_as, copied_names, copy_in, each_once, is_copied, merged, with_copies, with_name_copied, with_mention}
 
 -- ---- names that are put in
 
-own_copy_found : (globals : NameTable) (name : List ℕ) (copy : Option Meaning) → meaning_in (with_copy globals name copy) name ≡ cond (is_some copy) copy (meaning_in globals name)
+own_copy_found : (globals : NameTable) (name : List ℕ) (copy : Option Meaning) → meaning_in (with_name_copied globals name copy) name ≡ cond (is_some copy) copy (meaning_in globals name)
 own_copy_found globals name None = refl
 own_copy_found globals name (Some meaning) = found_with globals name meaning name ∙ ap (λ (b : Bool). cond b (Some meaning) (meaning_in globals name)) (own_name name)
 
-other_copy_found : (globals : NameTable) (name other : List ℕ) (copy : Option Meaning) → same_name name other ≡ false → meaning_in (with_copy globals name copy) other ≡ meaning_in globals other
+other_copy_found : (globals : NameTable) (name other : List ℕ) (copy : Option Meaning) → same_name name other ≡ false → meaning_in (with_name_copied globals name copy) other ≡ meaning_in globals other
 other_copy_found globals name other None apart = refl
 other_copy_found globals name other (Some meaning) apart = found_with globals name meaning other ∙ ap (λ (b : Bool). cond b (Some meaning) (meaning_in globals other)) apart
 
-copy_found : (from : PlainWorkspace) (globals : NameTable) (name other : List ℕ) (b : Bool) → same_name other name ≡ b → meaning_in (with_copy globals name (copy_in from name)) other ≡ cond (b && is_some (copy_in from other)) (copy_in from other) (meaning_in globals other)
+copy_found : (from : PlainWorkspace) (globals : NameTable) (name other : List ℕ) (b : Bool) → same_name other name ≡ b → meaning_in (with_name_copied globals name (copy_in from name)) other ≡ cond (b && is_some (copy_in from other)) (copy_in from other) (meaning_in globals other)
 copy_found from globals name other true e =
     let same : other ≡ name = equal_names other name e in
-    subst (λ (n : List ℕ). meaning_in (with_copy globals n (copy_in from n)) other ≡ cond (is_some (copy_in from other)) (copy_in from other) (meaning_in globals other)) same (own_copy_found globals other (copy_in from other))
+    subst (λ (n : List ℕ). meaning_in (with_name_copied globals n (copy_in from n)) other ≡ cond (is_some (copy_in from other)) (copy_in from other) (meaning_in globals other)) same (own_copy_found globals other (copy_in from other))
 copy_found from globals name other false e = other_copy_found globals name other (copy_in from name) (name_flips name other ∙ e)
 
 either : (first later there : Bool) (copy was : Option Meaning) → cond (later && there) copy (cond (first && there) copy was) ≡ cond ((first || later) && there) copy was
@@ -46,7 +46,7 @@ either false false false copy was = refl
 copies_found : (from : PlainWorkspace) (globals : NameTable) (names : List (List ℕ)) (other : List ℕ) → meaning_in (with_copies from globals names) other ≡ cond (list_any (same_name other) names && is_some (copy_in from other)) (copy_in from other) (meaning_in globals other)
 copies_found from globals [] other = refl
 copies_found from globals (name ∷ names) other =
-    copies_found from (with_copy globals name (copy_in from name)) names other
+    copies_found from (with_name_copied globals name (copy_in from name)) names other
     ∙ ap (λ (o : Option Meaning). cond (list_any (same_name other) names && is_some (copy_in from other)) (copy_in from other) o) (copy_found from globals name other (same_name other name) refl)
     ∙ either (same_name other name) (list_any (same_name other) names) (is_some (copy_in from other)) (copy_in from other) (meaning_in globals other)
 

@@ -6,7 +6,7 @@ use Rattle.apl_arrays.specs.Array.{PlainArray, PlainItems, chars, numbers}
 use Rattle.apl_arrays.specs.declared.report.Report.{Report}
 use Rattle.apl_arrays.specs.declared.report.Report.TheVariants.{Domain, Length, Rank}
 use Rattle.apl_execute.specs.Text.{text_of, text_of_items}
-use Rattle.apl_execute.specs.TextLaws.{HasNumbers, HasTooMany, IsText}
+use Rattle.apl_execute.specs.TextLaws.{HasNumbers, HasTooMany, IsTextOfValue}
 
 -- characters, by whether they are few
 abbrev if_few : Bool → List ℕ → Result (List ℕ) Report
@@ -27,15 +27,15 @@ text_by true (chars glyphs) text h = by (leb (length glyphs) 1000) refl h
     by true e k = let same : glyphs ≡ text = cc in (refl, ap chars same, ap (λ (t : List ℕ). leb (length t) 1000) (sym same) ∙ e)
     by false e k = absurd cc
 
-pub texts_are : (value : PlainArray) (text : List ℕ) → (text_of value ≡ Ok text) ↔ IsText value text
+pub texts_are : (value : PlainArray) (text : List ℕ) → (text_of value ≡ Ok text) ↔ IsTextOfValue value text
 texts_are value text = (there, back)
   where
-    there : text_of value ≡ Ok text → IsText value text
+    there : text_of value ≡ Ok text → IsTextOfValue value text
     there h =
         let parts = text_by (leb (length value.shape) 1) value.items text h in
         record { axes = leb-true (length value.shape) 1 parts.0; characters = parts.1; few = leb-true (length text) 1000 parts.2 }
 
-    back : IsText value text → text_of value ≡ Ok text
+    back : IsTextOfValue value text → text_of value ≡ Ok text
     back is =
         ap (λ (flat : Bool). if_flat flat value.items) (le-leb (length value.shape) 1 is.axes)
         ∙ ap text_of_items is.characters

@@ -51,14 +51,14 @@ abbrev pub is_copied : PlainWorkspace → PlainWorkspace → List ℕ → Bool
 is_copied into from name = is_some (copy_in from name) && not (is_shared into name)
 
 -- the names with one that stands for this, where there is something
-abbrev pub with_copy : NameTable → List ℕ → Option Meaning → NameTable
-with_copy globals name None = globals
-with_copy globals name (Some meaning) = with_meaning globals name meaning
+abbrev pub with_name_copied : NameTable → List ℕ → Option Meaning → NameTable
+with_name_copied globals name None = globals
+with_name_copied globals name (Some meaning) = with_meaning globals name meaning
 
 -- the names with these as another workspace has them
 abbrev pub with_copies : PlainWorkspace → NameTable → List (List ℕ) → NameTable
 with_copies from globals [] = globals
-with_copies from globals (name ∷ names) = with_copies from (with_copy globals name (copy_in from name)) names
+with_copies from globals (name ∷ names) = with_copies from (with_name_copied globals name (copy_in from name)) names
 
 -- a workspace with these names as another has them: they go, and then come from there
 abbrev pub with_names : PlainWorkspace → PlainWorkspace → List (List ℕ) → PlainWorkspace

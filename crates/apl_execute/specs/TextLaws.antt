@@ -3,7 +3,7 @@ use Rattle.std.specs.Prelude.{◌≡◌, ◌<◌, ◌≤◌, ℕ, ℤ, List, len
 use Rattle.apl_arrays.specs.Array.{PlainArray, chars, numbers}
 
 -- the value is this text: it has at most one axis, and these characters, at most 1,000
-pub record IsText (value : PlainArray) (text : List ℕ) : Type 0 where
+pub record IsTextOfValue (value : PlainArray) (text : List ℕ) : Type 0 where
   pub axes : length value.shape ≤ 1
   pub characters : value.items ≡ chars text
   pub few : length text ≤ 1000

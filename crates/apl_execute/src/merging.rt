@@ -6,7 +6,7 @@ ghost use Rattle.apl_execute.specs.Copying.{MayCome};
 ghost use Rattle.apl_workspace.specs.Names.{all_differ};
 ghost use Rattle.apl_workspace.specs.Seen.{plain_seen};
 ghost use Rattle.apl_workspace.specs.Workspace.{IsFull, is_shared, workspace_weight};
-ghost use Rattle.apl_execute.specs.Merge.{IsNotMerged, asked, copied_as, copy_in, each_once, is_copied, is_kept, is_missing, merged, with_copies, with_copy, with_names};
+ghost use Rattle.apl_execute.specs.Merge.{IsNotMerged, asked, copied_as, copy_in, each_once, is_copied, is_kept, is_missing, merged, with_copies, with_name_copied, with_names};
 
 use apl_arrays::{Fail, List, Name, NameList, Report, WantOfMemory};
 use apl_workspace::{Seen, Workspace};
@@ -192,9 +192,9 @@ fn put_all(alloc: Global, ws: &mut Workspace, from: &Workspace, names: &[Name]) 
 fn put_copy(alloc: Global, ws: &mut Workspace, from: &Workspace, name: &Name) -> Result<(), Fail>
     requires frames { ws.old.frames ≡ [] }
     requires absent { meaning_in ws.old.globals name.now ≡ None }
-    ensures ok { OnOk result (ws.new ≡ record ws.old { globals = with_copy ws.old.globals name.now (copy_in from.now name.now) }) }
+    ensures ok { OnOk result (ws.new ≡ record ws.old { globals = with_name_copied ws.old.globals name.now (copy_in from.now name.now) }) }
     ensures err { OnErr result (ws.new ≡ ws.old) }
-    ensures full { IfErr result (IsFull (record ws.old { globals = with_copy ws.old.globals name.now (copy_in from.now name.now) })) }
+    ensures full { IfErr result (IsFull (record ws.old { globals = with_name_copied ws.old.globals name.now (copy_in from.now name.now) })) }
 {
     match from.global(name) {
         Seen::Value(value) | Seen::Shared(Some(value)) => match value.copy(alloc) {

@@ -17,7 +17,7 @@ use Rattle.std.proofs.lemmas.Bool.Decides.{nat_tests}
 use Rattle.apl_arrays.specs.List.{Listed}
 use Rattle.apl_arrays.specs.Name.{name_order}
 use Rattle.apl_io.specs.Content.{by_user_and_name, has_name}
-use Rattle.apl_io.specs.Kept.{shelf_entry, names_in}
+use Rattle.apl_io.specs.Kept.{shelf_entry, kept_names_of}
 use Rattle.apl_io.specs.Replies.{plain_bytes}
 
 -- two orders one after the other answer equal where both do
@@ -61,10 +61,10 @@ names_of_choice f true x xs = refl
 names_of_choice f false x xs = refl
 
 -- the names of a user are those that may be listed
-pub listed : (user : ℕ) (entries : List ((ℕ × List ℕ) × Option (Listed ℕ))) (name : List ℕ) → ListedAs (lookup (is_at (by_user_and_name (user, name))) (map shelf_entry entries)) name (names_in user entries)
+pub listed : (user : ℕ) (entries : List ((ℕ × List ℕ) × Option (Listed ℕ))) (name : List ℕ) → ListedAs (lookup (is_at (by_user_and_name (user, name))) (map shelf_entry entries)) name (kept_names_of user entries)
 listed user [] name = refl
 listed user (entry ∷ entries) name =
-    rw (same_key user entry.0.0 name entry.0.1, names_of_choice) (one_more_entry (eqb user entry.0.0) (bytes_eq name entry.0.1) entry.1 (lookup (is_at (by_user_and_name (user, name))) (map shelf_entry entries)) entry.0.1 name (names_in user entries) refl (listed user entries name))
+    rw (same_key user entry.0.0 name entry.0.1, names_of_choice) (one_more_entry (eqb user entry.0.0) (bytes_eq name entry.0.1) entry.1 (lookup (is_at (by_user_and_name (user, name))) (map shelf_entry entries)) entry.0.1 name (kept_names_of user entries) refl (listed user entries name))
 
 -- of one user the names alone are compared
 one_user : (user other : ℕ) (a b : List ℕ) → eqb user other ≡ true → by_user_and_name (user, a) (other, b) ≡ Less → name_order a b ≡ Less
@@ -79,10 +79,10 @@ all_of_choice P true false first names holds all = all
 all_of_choice P true true first names holds all = (holds refl, all)
 
 -- a name below all keys is below the names
-below_names : (user : ℕ) (name : List ℕ) (entries : List ((ℕ × List ℕ) × Option (Listed ℕ))) → AllByRecursion (λ key. by_user_and_name (user, name) key ≡ Less) (keys_of entries) → AllByRecursion (λ other. name_order name other ≡ Less) (names_in user entries)
+below_names : (user : ℕ) (name : List ℕ) (entries : List ((ℕ × List ℕ) × Option (Listed ℕ))) → AllByRecursion (λ key. by_user_and_name (user, name) key ≡ Less) (keys_of entries) → AllByRecursion (λ other. name_order name other ≡ Less) (kept_names_of user entries)
 below_names user name [] all = tt
 below_names user name (entry ∷ entries) all =
-    rw names_of_choice (all_of_choice (λ other. name_order name other ≡ Less) (eqb user entry.0.0) (is_some entry.1) entry.0.1 (names_in user entries) (λ same. one_user user entry.0.0 name entry.0.1 same all.0) (below_names user name entries all.1))
+    rw names_of_choice (all_of_choice (λ other. name_order name other ≡ Less) (eqb user entry.0.0) (is_some entry.1) entry.0.1 (kept_names_of user entries) (λ same. one_user user entry.0.0 name entry.0.1 same all.0) (below_names user name entries all.1))
 
 -- one more name before others, where it counts
 sorted_choice : (same some : Bool) (first : List ℕ) (names : List (List ℕ)) → (same ≡ true → AllByRecursion (λ other. name_order first other ≡ Less) names) → IsStrictlySortedBy name_order names → IsStrictlySortedBy name_order (cond (same && some) (first ∷ names) names)
@@ -92,14 +92,14 @@ sorted_choice true false first names below sorted = sorted
 sorted_choice true true first names below sorted = (below refl, sorted)
 
 -- the first key is below the names of its user
-below_own : (user other : ℕ) (name : List ℕ) (entries : List ((ℕ × List ℕ) × Option (Listed ℕ))) → AllByRecursion (λ key. by_user_and_name (other, name) key ≡ Less) (keys_of entries) → eqb user other ≡ true → AllByRecursion (λ next. name_order name next ≡ Less) (names_in user entries)
+below_own : (user other : ℕ) (name : List ℕ) (entries : List ((ℕ × List ℕ) × Option (Listed ℕ))) → AllByRecursion (λ key. by_user_and_name (other, name) key ≡ Less) (keys_of entries) → eqb user other ≡ true → AllByRecursion (λ next. name_order name next ≡ Less) (kept_names_of user entries)
 below_own user other name entries all same =
     let P : ℕ → Type 0 = λ u. AllByRecursion (λ key. by_user_and_name (u, name) key ≡ Less) (keys_of entries) in
     below_names user name entries (subst P (sym (eqb-true user other same)) all)
 
 -- the names of a user ascend where the keys do
-pub ascending : (user : ℕ) (entries : List ((ℕ × List ℕ) × Option (Listed ℕ))) → IsStrictlySortedBy by_user_and_name (keys_of entries) → IsStrictlySortedBy name_order (names_in user entries)
+pub ascending : (user : ℕ) (entries : List ((ℕ × List ℕ) × Option (Listed ℕ))) → IsStrictlySortedBy by_user_and_name (keys_of entries) → IsStrictlySortedBy name_order (kept_names_of user entries)
 unfolding IsStrictlySortedBy
 ascending user [] sorted = tt
 ascending user (entry ∷ entries) sorted =
-    rw names_of_choice (sorted_choice (eqb user entry.0.0) (is_some entry.1) entry.0.1 (names_in user entries) (below_own user entry.0.0 entry.0.1 entries sorted.0) (ascending user entries sorted.1))
+    rw names_of_choice (sorted_choice (eqb user entry.0.0) (is_some entry.1) entry.0.1 (kept_names_of user entries) (below_own user entry.0.0 entry.0.1 entries sorted.0) (ascending user entries sorted.1))

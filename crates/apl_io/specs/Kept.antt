@@ -36,5 +36,5 @@ abbrev pub new_keeper : {K : Type 0} → List (K × Option (List ℕ)) → List 
 new_keeper entries fails = record { told = record { places = []; entries = entries; calls = 0; fails = fails }; faults = 0 }
 
 -- the names of a user's entries whose bytes are there
-abbrev pub names_in : ℕ → List ((ℕ × List ℕ) × Option (Listed ℕ)) → List (List ℕ)
-names_in user entries = map (λ entry. entry.0.1) (filter (λ entry. user == entry.0.0 && is_some entry.1) entries)
+abbrev pub kept_names_of : ℕ → List ((ℕ × List ℕ) × Option (Listed ℕ)) → List (List ℕ)
+kept_names_of user entries = map (λ entry. entry.0.1) (filter (λ entry. user == entry.0.0 && is_some entry.1) entries)

@@ -26,7 +26,7 @@ impl Model for CallNumbers {
 }
 
 impl CallNumbers {
-    /// No numbers. It takes no memory.
+    /// No numbers.
     pub fn new(alloc: Global) -> Self
         ensures { result.items ≡ [] }
     {
@@ -35,7 +35,7 @@ impl CallNumbers {
         }
     }
 
-    /// The numbers, ascending. It takes no memory.
+    /// The numbers, ascending.
     pub fn as_slice(&self) -> &[u64]
         ensures items { result.now ≡ self.now.items }
         ensures ascending { IsStrictlyIncreasing result.now }
@@ -43,7 +43,7 @@ impl CallNumbers {
         self.numbers.as_slice()
     }
 
-    /// The numbers as a `Vec`. It takes no memory.
+    /// The numbers as a `Vec`.
     pub fn into_vec(self) -> Vec<u64>
         ensures items { result.items ≡ self.items }
         ensures ascending { IsStrictlyIncreasing result.items }
@@ -74,14 +74,14 @@ impl CallNumbers {
         self.numbers.push(number)
     }
 
-    /// Whether the number is one of them. It takes no memory.
+    /// Whether the number is one of them.
     pub(crate) fn contains(&self, number: u64) -> bool
         ensures { IsTrue result ↔ Contains self.now.items number }
     {
         self.as_slice().binary_search(&number).is_ok()
     }
 
-    /// Counts a call, and says whether its number is one of them. It takes no memory.
+    /// Counts a call, and says whether its number is one of them.
     pub(crate) fn counts(&self, calls: &mut u64) -> bool
         ensures counted { calls.new ≡ one_more calls.old }
         ensures listed { result ≡ fails_after calls.old self.now.items }

@@ -28,7 +28,7 @@ impl Model for MemoryClock {
 
 impl MemoryClock {
     /// A clock of these readings. `fails` has the numbers of the calls that are to fail: the first call is 1, and past
-    /// the greatest `u64` numbers go no further. No memory.
+    /// the greatest `u64` numbers go no further.
     pub fn new(readings: Readings, fails: CallNumbers) -> Self
         ensures { result ≡ record { told = record { left = readings.items; calls = 0; fails = fails.items }; faults = 0 } }
     {

@@ -3,7 +3,7 @@ ghost use Rattle.std.specs.BTreeMap.{is_at};
 ghost use Rattle.std.specs.Map.{lookup, keys_of};
 ghost use Rattle.std.specs.List.Sorted.{IsStrictlySortedBy};
 ghost use Rattle.apl_io.specs.Content.{by_user_and_name, MayRemove};
-ghost use Rattle.apl_io.specs.Kept.{names_in, shelf_entry};
+ghost use Rattle.apl_io.specs.Kept.{kept_names_of, shelf_entry};
 ghost use Rattle.apl_io.specs.Replies.{plain_bytes};
 
 use crate::kept::{copy_bytes, copy_kept};
@@ -40,7 +40,7 @@ impl MemoryShelf {
     ghost use Rattle.apl_io.specs.Kept.{new_keeper};
 
     /// An empty shelf, given no place. `fails` has the numbers of the calls that are to fail: the first call is 1, and
-    /// past the greatest `u64` numbers go no further. No memory.
+    /// past the greatest `u64` numbers go no further.
     pub fn new(alloc: Global, fails: CallNumbers) -> Self
         ensures { result ≡ new_keeper [] fails.items }
     {
@@ -112,7 +112,7 @@ fn names_of(
     kept: &BTreeMap<(u32, Name), Option<Bytes>>,
     user: u32,
 ) -> Result<NameList, WantOfMemory>
-    ensures names { IfOk result (λ names. names.items ≡ names_in user kept.now.entries) }
+    ensures names { IfOk result (λ names. names.items ≡ kept_names_of user kept.now.entries) }
     ensures ascending { OnOk result (IsStrictlySortedBy by_user_and_name (keys_of kept.now.entries)) }
 {
     let mut names = NameList::new(alloc);

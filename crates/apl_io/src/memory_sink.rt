@@ -57,7 +57,7 @@ impl MemorySink {
         })
     }
 
-    /// The bytes that it holds. It takes no memory.
+    /// The bytes that it holds.
     pub fn bytes(&self) -> &[u8]
         ensures { result.now ≡ self.now.held }
     {

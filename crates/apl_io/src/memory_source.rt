@@ -32,7 +32,7 @@ impl MemorySource {
     ghost use Rattle.apl_io.specs.Memory.{new_supply};
 
     /// A source of these bytes. A call gives at most `piece` of them. `fails` has the numbers of the calls that are
-    /// to fail: the first call is 1, and past the greatest `u64` numbers go no further. It takes no memory.
+    /// to fail: the first call is 1, and past the greatest `u64` numbers go no further.
     pub fn new(bytes: Bytes, piece: usize, fails: CallNumbers) -> Self
         requires { 1 ≤ piece }
         ensures { result ≡ new_supply bytes.items piece fails.items }

@@ -42,7 +42,7 @@ impl MemoryText {
     ghost use Rattle.apl_io.specs.Kept.{new_keeper};
 
     /// A store of these files, given no place. `fails` has the numbers of the calls that are to fail: the first call is
-    /// 1, and past the greatest `u64` numbers go no further. No memory.
+    /// 1, and past the greatest `u64` numbers go no further.
     pub fn new(alloc: Global, files: FileList, fails: CallNumbers) -> Self
         ensures { result ≡ new_keeper (map file_entry files.items) fails.items }
     {

@@ -20,7 +20,7 @@ impl Model for Places {
 }
 
 impl Places {
-    /// No place. No memory.
+    /// No place.
     pub fn new(alloc: Global) -> Self
         ensures { result ≡ [] }
     {

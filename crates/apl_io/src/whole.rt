@@ -121,7 +121,7 @@ pub fn read_all<S: Source>(
 }
 
 /// Writes all the bytes, in order. It returns for every sink, since each turn writes a byte or is the last. `WriteFault`
-/// where the sink failed, which then has taken a front part of them, perhaps none, not all. It takes no memory.
+/// where the sink failed, which then has taken a front part of them, perhaps none, not all.
 pub fn write_all<W: Sink>(sink: &mut W, bytes: &[u8]) -> Result<(), WriteFault>
     ensures ok { OnOk result (Appends (W.held sink.old) (W.held sink.new) bytes.now) }
     ensures fault { OnErr result (Rose (W.faults sink.old) (W.faults sink.new)) }

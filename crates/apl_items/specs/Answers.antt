@@ -9,8 +9,8 @@ use Rattle.apl_arrays.specs.Array.{PlainArray}
 use Rattle.apl_arrays.specs.Shape.{shape_fault}
 
 -- what a call gives: an array, or the report that refuses it
-abbrev pub Answer : Type 0
-Answer = Result PlainArray Report
+abbrev pub ArrayResult : Type 0
+ArrayResult = Result PlainArray Report
 
 -- what is wrong with the arguments of a call, each kind of fault by itself
 pub record Faults : Type 0 where
@@ -41,22 +41,22 @@ first_report faults =
     else if faults.bad_index then Some Index else if faults.too_large then Some WsFull else None
 
 -- the report, where there is one, else the array
-abbrev pub unless : Option Report → PlainArray → Answer
+abbrev pub unless : Option Report → PlainArray → ArrayResult
 unless None array = Ok array
 unless (Some report) array = Err report
 
 -- the answer of a call that has this array where nothing is wrong
-abbrev pub answer_of : Faults → PlainArray → Answer
+abbrev pub answer_of : Faults → PlainArray → ArrayResult
 answer_of faults array = unless (first_report faults) array
 
 -- a call gave this answer, or memory ran out
-abbrev pub Answers : Result PlainArray Fail → Answer → Type 0
+abbrev pub Answers : Result PlainArray Fail → ArrayResult → Type 0
 Answers (Ok array) answer = answer ≡ Ok array
 Answers (Err (fail.Report report)) answer = answer ≡ Err report
 Answers (Err fail.WantOfMemory) answer = ⊤
 
 -- a call gave this answer, and memory ran out only where there is no report
-abbrev pub AnswersFirst : Result PlainArray Fail → Answer → Type 0
+abbrev pub AnswersFirst : Result PlainArray Fail → ArrayResult → Type 0
 AnswersFirst (Ok array) answer = answer ≡ Ok array
 AnswersFirst (Err (fail.Report report)) answer = answer ≡ Err report
 AnswersFirst (Err fail.WantOfMemory) answer = IsOk answer

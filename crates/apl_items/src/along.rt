@@ -18,11 +18,11 @@ pub trait Along {
     // Where along the source's axis a place along a line comes from, or none where it is filled.
     ghost from: { Self → ℕ → ℕ → Option ℕ };
 
-    /// How long the axis of the source is. No memory.
+    /// How long the axis of the source is.
     fn length(&self) -> usize
         ensures { result ≡ length self.now };
 
-    /// Where along the source's axis a place along a line comes from, or `None` where it is filled. No memory.
+    /// Where along the source's axis a place along a line comes from, or `None` where it is filled.
     fn from(&self, line: usize, along: usize) -> Option<usize>
         ensures value { result ≡ from self.now line along }
         ensures inside { IfSome result (λ place. place < length self.now) };

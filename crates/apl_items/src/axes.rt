@@ -18,7 +18,7 @@ pub trait Axes {
     // The offset of a place along an axis, or none where it is filled.
     ghost offset: { Self → ℕ → ℕ → Option ℕ };
 
-    /// The offset of a place along an axis, of 32 bits, or `None` where it is filled. No memory.
+    /// The offset of a place along an axis, of 32 bits, or `None` where it is filled.
     fn offset(&self, axis: usize, along: usize) -> Option<usize>
         requires { along < length_of self.now axis }
         ensures value { result ≡ offset self.now axis along }

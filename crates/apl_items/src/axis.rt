@@ -3,7 +3,7 @@ ghost use Rattle.apl_items.specs.Axis.{axis_of, end_axis, lacks_axis};
 
 use apl_arrays::Way;
 
-/// Whether a number is given that names no axis of an array of this rank. No memory.
+/// Whether a number is given that names no axis of an array of this rank.
 pub fn lacks_axis(rank: usize, axis: Option<i64>) -> bool
     ensures { result ≡ lacks_axis rank axis }
 {
@@ -20,7 +20,7 @@ fn names_none(rank: usize, number: i64) -> bool
     number < 0 || number.unsigned_abs() == 0 || number.unsigned_abs() > rank as u64
 }
 
-/// The axis that a function works along: the one that a number names, else the last or the first. No memory.
+/// The axis that a function works along: the one that a number names, else the last or the first.
 pub fn axis_of(rank: usize, way: Way, axis: Option<i64>) -> usize
     ensures value { result ≡ axis_of rank way axis }
     ensures inside { 0 < rank → lacks_axis rank axis ≡ false → result < rank }

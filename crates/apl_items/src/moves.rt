@@ -14,7 +14,7 @@ pub trait Walk {
     // The source place for the n-th place from here on, or none where that place is filled.
     ghost source: { Self → ℕ → Option ℕ };
 
-    /// The source place for the next place. No memory.
+    /// The source place for the next place.
     fn advance(&mut self) -> Option<usize>
         requires { 0 < left self.old }
         ensures value { result ≡ source self.old 0 }
@@ -66,7 +66,7 @@ fn moved_list<T: Copy + Drop, W: Walk + Drop>(
     Ok(List::from(made))
 }
 
-/// The item at a source place, or the fill. No memory.
+/// The item at a source place, or the fill.
 pub fn item_at_source<T: Copy + Drop>(list: &[T], source: Option<usize>, fill: T) -> T
     requires { (from : ℕ) → source ≡ Some from → from < length list.now }
     ensures { result ≡ item_or fill list.now source }

@@ -63,7 +63,7 @@ fn stored<T: Drop, F: Fn(usize, usize) -> Option<T>>(
 }
 
 /// Whether a rule gives no item in some place of some row, which is DOMAIN. It stores no item, and serves results that are
-/// too large to be made. No memory.
+/// too large to be made.
 pub fn lacks_by_rows<T: Drop, F: Fn(usize, usize) -> Option<T>>(
     rows: usize,
     columns: usize,

@@ -18,7 +18,7 @@ pub struct Split {
 impl Split {
     ghost use Rattle.apl_items.specs.Shapes.{place_along, split_at, split_count};
 
-    /// A shape that has elements, seen from one of its axes. No memory.
+    /// A shape that has elements, seen from one of its axes.
     pub fn at(shape: &[u32], axis: usize) -> Split
         requires fits { FitsLimits shape.now }
         requires elements { 0 < element_count shape.now }
@@ -32,7 +32,7 @@ impl Split {
         }
     }
 
-    /// The place of a row, of a place along the axis, and of an item there. No memory.
+    /// The place of a row, of a place along the axis, and of an item there.
     pub fn place(self, outer: usize, along: usize, inner: usize) -> usize
         requires outer { outer < self.outer }
         requires along { along < self.along }
@@ -46,7 +46,7 @@ impl Split {
     }
 }
 
-/// The report of a result of this shape: RANK where it has too many axes, WS FULL where it is too large. No memory.
+/// The report of a result of this shape: RANK where it has too many axes, WS FULL where it is too large.
 pub fn shape_report(shape: &[u32]) -> Option<Report>
     ensures { result ≡ first_report (shape_faults shape.now) }
 {
@@ -57,7 +57,7 @@ pub fn shape_report(shape: &[u32]) -> Option<Report>
     }
 }
 
-/// The axes of one shape, and then those of another. No memory.
+/// The axes of one shape, and then those of another.
 pub fn joined_shape(front: &[u32], back: &[u32]) -> ArrayVec<u32, RANK_LIMIT>
     requires { length front.now + length back.now ≤ most_axes }
     ensures { result.items ≡ front.now ++ back.now }

@@ -12,10 +12,10 @@ use Rattle.apl_meaning.specs.Variables.{reference}
 use Rattle.apl_arrays.specs.Array.{PlainArray}
 use Rattle.apl_values.specs.declared.part.Part.{Part}
 use Rattle.apl_values.specs.declared.part.Part.TheVariants as part
-use Rattle.apl_values.specs.declared.values.Held.{Held}
-use Rattle.apl_values.specs.declared.values.Held.TheVariants as held
+use Rattle.apl_values.specs.declared.values.StackValue.{StackValue}
+use Rattle.apl_values.specs.declared.values.StackValue.TheVariants as held
 use Rattle.apl_values.specs.Parts.{IsConstant}
-use Rattle.apl_values.specs.Values.{constant_of, held_value, no_array}
+use Rattle.apl_values.specs.Values.{constant_of, stack_value, no_array}
 use Rattle.apl_statements.specs.declared.evaluation.Evaluation.{Evaluation}
 use Rattle.apl_statements.specs.Evaluating.{caller_of}
 use Rattle.apl_statements.specs.Interpreter.{PlainInterpreter, here, state_at}
@@ -23,26 +23,26 @@ use Rattle.apl_statements.specs.Moves.{part_gives}
 use Rattle.apl_statements.specs.Stack.{carried_on}
 use Rattle.apl_statements.specs.Holding.{parts_of}
 use Rattle.apl_statements.proofs.Same.{at_once}
-use Rattle.apl_machine.specs.Nexts.{IsNextHeld, IsValueSeen}
+use Rattle.apl_machine.specs.Nexts.{IsNextStackValue, IsValueSeen}
 use Rattle.apl_machine.proofs.StepParts.{IsNext, next_constant, next_gives, passed, refers_to, to_come}
 
 -- a constant
-pub constant_next : (m : PlainInterpreter) (e : Evaluation) (array : PlainArray) → slice_get (parts_of e) e.at ≡ Some (part.Constant array) → e.is_wanting ≡ false → IsConstant array → IsNextHeld m e (held.Constant e.at)
+pub constant_next : (m : PlainInterpreter) (e : Evaluation) (array : PlainArray) → slice_get (parts_of e) e.at ≡ Some (part.Constant array) → e.is_wanting ≡ false → IsConstant array → IsNextStackValue m e (held.Constant e.at)
 constant_next m e array is there constant = record {
   there = there;
   is_held = subst (λ (found : Option Part). IsSome (constant_of found)) (sym is) refl;
-  moves = at_once m (to_come m e) (part_gives m (passed e) (λ s. gives (Some (held_value m.workspace (parts_of e) (held.Constant e.at))) s)) (next_constant m e array is there constant);
+  moves = at_once m (to_come m e) (part_gives m (passed e) (λ s. gives (Some (stack_value m.workspace (parts_of e) (held.Constant e.at))) s)) (next_constant m e array is there constant);
 }
 
 -- a name that has a value
-pub name_next : (m : PlainInterpreter) (e : Evaluation) (name : List ℕ) (found : Option Held) → IsNext e (node.value name) → e.is_wanting ≡ false → IfSome found (λ one. (one ≡ held.Named name) × IsValueSeen (look m.workspace name)) → IfSome found (IsNextHeld m e)
+pub name_next : (m : PlainInterpreter) (e : Evaluation) (name : List ℕ) (found : Option StackValue) → IsNext e (node.value name) → e.is_wanting ≡ false → IfSome found (λ one. (one ≡ held.Named name) × IsValueSeen (look m.workspace name)) → IfSome found (IsNextStackValue m e)
 name_next m e name None next there is = tt
 name_next m e name (Some one) next there is =
     let seen : look m.workspace name ≡ meaning.Value is.1.0 = is.1.1 in
-    subst (IsNextHeld m e) (sym is.0) (record {
+    subst (IsNextStackValue m e) (sym is.0) (record {
       there = there;
       is_held = subst (λ (found : Meaning). IsSome (value_of found)) (sym seen) refl;
-      moves = at_once m (to_come m e) (part_gives m (passed e) (λ s. gives (Some (held_value m.workspace (parts_of e) (held.Named name))) s)) (λ asked count taken further.
+      moves = at_once m (to_come m e) (part_gives m (passed e) (λ s. gives (Some (stack_value m.workspace (parts_of e) (held.Named name))) s)) (λ asked count taken further.
           next_gives m e (node.value name) (λ s. valued (reference name s)) next there (λ values t. refl) asked count taken further
           ∙ refers_to m (passed e) name (meaning.Value is.1.0) seen asked count taken further
           ∙ ap (λ (found : Meaning). carried_on (gives (Some (unwrap_or (value_of found) no_array)) (state_at m asked count taken further)) (caller_of m.workspace (here m) (passed e)) m.stack) (sym seen));

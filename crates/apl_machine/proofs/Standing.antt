@@ -13,13 +13,13 @@ use Rattle.apl_meaning.specs.Statements.{line_outcome}
 use Rattle.apl_meaning.specs.Meaning.{closed, ran, run_below}
 use Rattle.apl_meaning.proofs.Enough.{RunsAgree, begun_agrees, enough, line_agrees}
 use Rattle.apl_meaning.proofs.Lines.{runs}
-use Rattle.apl_values.specs.Pending.{PlainPending, act_of}
+use Rattle.apl_values.specs.Pending.{PlainActPurpose, act_for_purpose}
 use Rattle.apl_statements.specs.Interpreter.{PlainInterpreter, here, state_at}
 use Rattle.apl_statements.specs.Moves.{Moves}
 use Rattle.apl_statements.specs.Stack.{PlainCaller, PlainWaiting, behind}
 use Rattle.apl_calls.specs.Ended.{ended_by}
 use Rattle.apl_machine.specs.Machine.{PlainStage, idle, begins, is_open, has_answer, lost, PlainMachine, IsOpenIn, machine_after, machine_before, stage_to_come, still_to_come}
-use Rattle.apl_machine.specs.Runs.{ComesTo, Stands, StandsOn, mean_behind}
+use Rattle.apl_machine.specs.Runs.{ComesTo, MachineStands, StandsOn, mean_behind}
 
 -- nothing more behind a part
 then_nothing : (o : Outcome Next) → and_then o (λ next t. gives next t) ≡ o
@@ -73,10 +73,10 @@ comes_to_report m n counted report moves tree line w earlier answers count taken
 )
 
 -- an answer to the open act
-pub stands_with_answer : (m : PlainMachine) (for_this : PlainPending) (caller : PlainCaller) (answer : PlainAnswer) → m.stage ≡ is_open for_this caller → StandsOn m 0 (answer ∷ []) [] (record m { stage = has_answer answer for_this caller })
+pub stands_with_answer : (m : PlainMachine) (for_this : PlainActPurpose) (caller : PlainCaller) (answer : PlainAnswer) → m.stage ≡ is_open for_this caller → StandsOn m 0 (answer ∷ []) [] (record m { stage = has_answer answer for_this caller })
 stands_with_answer m for_this caller answer waits tree line w earlier answers count taken stands =
     let n : PlainMachine = record m { stage = has_answer answer for_this caller } in
-    let asked : List Act = stands.asked ++ act_of for_this m.interpreter.workspace ∷ [] in
+    let asked : List Act = stands.asked ++ act_for_purpose for_this m.interpreter.workspace ∷ [] in
     record {
       asked = asked;
       comes = λ further.
@@ -98,7 +98,7 @@ unbounded tree s =
     (line_agrees s.statements (run_below s.statements) ran (runs s.statements) (bounded s.statements) immediate tree) s.statements s (omega arith)
 
 -- a line that is to begin
-pub stands_at_its_beginning : (m : PlainMachine) (line : List ℕ) (tree : PlainTree) → m.interpreter.stack ≡ [] → Stands (machine_before line tree m) (line_tree_of tree) line m.interpreter.workspace m.interpreter.output [] 0 []
+pub stands_at_its_beginning : (m : PlainMachine) (line : List ℕ) (tree : PlainTree) → m.interpreter.stack ≡ [] → MachineStands (machine_before line tree m) (line_tree_of tree) line m.interpreter.workspace m.interpreter.output [] 0 []
 stands_at_its_beginning m line tree none =
     let n : PlainMachine = machine_before line tree m in
     let first : State → Outcome Next = λ s. begun (line_outcome ran immediate (line_tree_of tree)) s in

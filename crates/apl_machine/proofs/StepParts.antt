@@ -24,10 +24,10 @@ use Rattle.apl_meaning.specs.Meaning.{ran}
 use Rattle.apl_meaning.specs.Variables.{reference, reference_by}
 use Rattle.apl_values.specs.declared.part.Part.{Part}
 use Rattle.apl_values.specs.declared.part.Part.TheVariants as part
-use Rattle.apl_values.specs.declared.reading.Reading.{Reading}
-use Rattle.apl_values.specs.declared.values.Held.TheVariants as held
+use Rattle.apl_values.specs.declared.reading.LineReading.{LineReading}
+use Rattle.apl_values.specs.declared.values.StackValue.TheVariants as held
 use Rattle.apl_values.specs.Parts.{IsConstant, IsPart, is_paren, plain_part, plain_parts}
-use Rattle.apl_values.specs.Values.{constant_of, held_value, no_array}
+use Rattle.apl_values.specs.Values.{constant_of, stack_value, no_array}
 use Rattle.apl_values.proofs.Constants.{constant_gives}
 use Rattle.apl_statements.specs.declared.evaluation.Evaluation.{Evaluation}
 use Rattle.apl_statements.specs.declared.flow.Flow.{Flow}
@@ -36,7 +36,7 @@ use Rattle.apl_statements.specs.Evaluating.{caller_of, evaluation_of, values_whe
 use Rattle.apl_statements.specs.Interpreter.{PlainInterpreter, here, state_at}
 use Rattle.apl_statements.specs.Moves.{Coming, Comes, flow_to_come, if_there, part_gives, part_takes}
 use Rattle.apl_statements.specs.Stack.{assignment_step, carried_on, onward}
-use Rattle.apl_statements.specs.Holding.{held_values, parts_of}
+use Rattle.apl_statements.specs.Holding.{stack_values, parts_of}
 use Rattle.apl_statements.proofs.Parts.{next_around_none, next_part, next_wants, part_leaves}
 use Rattle.apl_statements.proofs.Same.{SameAt, at_once}
 
@@ -60,7 +60,7 @@ steps_to m e part s is there = next_part m e (plain_part part) s (part_next (par
 
 -- a part that takes none
 pub takes_none : (m : PlainInterpreter) (e : Evaluation) (found : State → Outcome Found) (s : State) → part_takes m e (λ values s. leaving_values values (found s)) s ≡ part_gives m e found s
-takes_none m e found s = part_leaves m e (held_values m.workspace e) (found s)
+takes_none m e found s = part_leaves m e (stack_values m.workspace e) (found s)
 
 -- one that would be too large
 pub constant_refused : (items : PlainItems) (s : State) → first_report (shape_faults (constant_array items).shape) ≡ Some WsFull → valued (constant_outcome items s) ≡ refuses WsFull s
@@ -68,7 +68,7 @@ constant_refused items s is = ap (λ (report : Option Report). valued (outcome_o
 
 -- parentheses change nothing
 pub paren_stays : (m : PlainInterpreter) (e : Evaluation) (s : State) → e.is_wanting ≡ false → part_takes m e (λ values t. gives (ready values) t) s ≡ onward (evaluation_of m.workspace e) m.stack s
-paren_stays m e s there = ap (λ (wanted : Bool). onward (record (evaluation_of m.workspace e) { values = values_where wanted (held_values m.workspace e) }) m.stack s) (sym there)
+paren_stays m e s there = ap (λ (wanted : Bool). onward (record (evaluation_of m.workspace e) { values = values_where wanted (stack_values m.workspace e) }) m.stack s) (sym there)
 
 -- a reference where the name stands for this
 pub refers_to : (m : PlainInterpreter) (e : Evaluation) (name : List ℕ) (seen : Meaning) → look m.workspace name ≡ seen → SameAt m (part_gives m e (λ s. valued (reference name s))) (part_gives m e (λ s. valued (reference_by seen name s)))
@@ -103,12 +103,12 @@ pub next_gives : (m : PlainInterpreter) (e : Evaluation) (n : PlainNode) (found 
 next_gives m e n found next there none asked count taken further =
     let s : State = state_at m asked count taken further in
     next_takes m e n next there asked count taken further
-    ∙ ap (λ (o : Outcome Values). and_then o (λ values t. onward (record (evaluation_of m.workspace (passed e)) { values = values }) m.stack t)) (none (held_values m.workspace e) s)
+    ∙ ap (λ (o : Outcome Values). and_then o (λ values t. onward (record (evaluation_of m.workspace (passed e)) { values = values }) m.stack t)) (none (stack_values m.workspace e) s)
     ∙ takes_none m (passed e) found s
 
 -- a constant
 pub next_constant : (m : PlainInterpreter) (e : Evaluation) (array : PlainArray) → slice_get (parts_of e) e.at ≡ Some (part.Constant array) → e.is_wanting ≡ false → IsConstant array
-    → SameAt m (to_come m e) (part_gives m (passed e) (λ s. gives (Some (held_value m.workspace (parts_of (passed e)) (held.Constant e.at))) s))
+    → SameAt m (to_come m e) (part_gives m (passed e) (λ s. gives (Some (stack_value m.workspace (parts_of (passed e)) (held.Constant e.at))) s))
 next_constant m e array is there constant asked count taken further =
     let s : State = state_at m asked count taken further in
     let found : Outcome Found → Outcome Next = λ o. carried_on o (caller_of m.workspace (here m) (passed e)) m.stack in
@@ -138,7 +138,7 @@ pub next_apply : (m : PlainInterpreter) (e : Evaluation) (f : Fun) (left : Optio
     → SameAt m (to_come m e) (part_takes m (passed e) (apply_step ran f (if_there (is_some left)) (if_there (is_some axis))))
 next_apply m e f left right axis next there asked count taken further =
     next_takes m e (node.apply f left right axis) next there asked count taken further
-    ∙ ap (λ (o : Outcome Values). and_then o (λ values t. onward (record (evaluation_of m.workspace (passed e)) { values = values }) m.stack t)) (apply_there f left axis (held_values m.workspace e) (state_at m asked count taken further))
+    ∙ ap (λ (o : Outcome Values). and_then o (λ values t. onward (record (evaluation_of m.workspace (passed e)) { values = values }) m.stack t)) (apply_there f left axis (stack_values m.workspace e) (state_at m asked count taken further))
 
 assign_there : (target : List ℕ) (subs : Option (Listed (Option ℕ))) (right : ℕ) (values : List PlainArray) (s : State) → node_step ran (plain_node (coded.Assign target subs right)) values s ≡ assignment_step target (option_map (λ places. places.items) subs) values s
 assign_there target None right values s = refl
@@ -149,13 +149,13 @@ pub next_assign : (m : PlainInterpreter) (e : Evaluation) (target : List ℕ) (s
     → SameAt m (to_come m e) (part_takes m (passed e) (assignment_step target (option_map (λ places. places.items) subs)))
 next_assign m e target subs right next there asked count taken further =
     next_takes m e (plain_node (coded.Assign target subs right)) next there asked count taken further
-    ∙ ap (λ (o : Outcome Values). and_then o (λ values t. onward (record (evaluation_of m.workspace (passed e)) { values = values }) m.stack t)) (assign_there target subs right (held_values m.workspace e) (state_at m asked count taken further))
+    ∙ ap (λ (o : Outcome Values). and_then o (λ values t. onward (record (evaluation_of m.workspace (passed e)) { values = values }) m.stack t)) (assign_there target subs right (stack_values m.workspace e) (state_at m asked count taken further))
 
 -- ---- the part that was read
 
 -- the next part is the one that was read
-pub read_part : (e : Evaluation) (reading : Reading) (one : Part) → reading ≡ arc_value e.reading → one ≡ get_or reading.parts.items e.at one → e.at < length (parts_of e) → slice_get (parts_of e) e.at ≡ Some one
-read_part e reading one same is lt = slice_get_read (parts_of e) (length (parts_of e)) e.at one refl lt (is ∙ ap (λ (r : Reading). get_or r.parts.items e.at one) same)
+pub read_part : (e : Evaluation) (reading : LineReading) (one : Part) → reading ≡ arc_value e.reading → one ≡ get_or reading.parts.items e.at one → e.at < length (parts_of e) → slice_get (parts_of e) e.at ≡ Some one
+read_part e reading one same is lt = slice_get_read (parts_of e) (length (parts_of e)) e.at one refl lt (is ∙ ap (λ (r : LineReading). get_or r.parts.items e.at one) same)
 
 -- it is this node
 pub read_next : (e : Evaluation) (one : Part) (n : PlainNode) → slice_get (parts_of e) e.at ≡ Some one → plain_part one ≡ n → IsNext e n

@@ -4,7 +4,7 @@ use Rattle.std.specs.Prelude.{Ok, Err}
 use Rattle.apl_arrays.specs.declared.report.Fail.{Fail}
 use Rattle.apl_arrays.specs.declared.report.Fail.TheVariants as fail
 use Rattle.sv_events.specs.declared.event.Act.{Act}
-use Rattle.apl_values.specs.Pending.{act_of, plain_pending}
+use Rattle.apl_values.specs.Pending.{act_for_purpose, plain_act_purpose}
 use Rattle.apl_statements.specs.declared.flow.Pause.{Pause}
 use Rattle.apl_statements.specs.declared.flow.Pause.TheVariants as pause
 use Rattle.apl_statements.specs.Evaluating.{caller_of}
@@ -24,8 +24,8 @@ stops_at_pause before counted m pause.Ends after stopped comes sound so =
     let done : EndsDone before counted n = record { comes = comes_to_end before m counted idle comes; idle = record { stage = refl; stack = sound.0; frames = sound.1 } } in
     subst (λ (after : PlainMachine). StopsAs before counted after stopped) (sym so.1) (subst (λ (stopped : Stop). StopsAs before counted n stopped) (sym so.0) done)
 stops_at_pause before counted m (pause.Opens for_this e) after stopped comes sound so =
-    let n : PlainMachine = record { interpreter = m; stage = is_open (plain_pending for_this.value) (caller_of m.workspace (here m) e) } in
-    let asked : Act = act_of (plain_pending for_this.value) m.workspace in
+    let n : PlainMachine = record { interpreter = m; stage = is_open (plain_act_purpose for_this.value) (caller_of m.workspace (here m) e) } in
+    let asked : Act = act_for_purpose (plain_act_purpose for_this.value) m.workspace in
     let asks : AsksThere asked before counted n = record { comes = comes_to_act before n counted asked comes refl; stands = stands_on before n counted comes; is_open = refl } in
     subst (λ (after : PlainMachine). StopsAs before counted after stopped) (sym so.1) (subst (λ (stopped : Stop). StopsAs before counted n stopped) (sym so.0) asks)
 

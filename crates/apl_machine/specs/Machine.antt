@@ -13,7 +13,7 @@ use Rattle.apl_meaning.specs.Tasks.{Next, goes_on, immediate, begun}
 use Rattle.apl_meaning.specs.Statements.{line_outcome}
 use Rattle.apl_meaning.specs.Meaning.{most_statements, ran}
 use Rattle.apl_values.specs.Parts.{reading_tree}
-use Rattle.apl_values.specs.Pending.{PlainPending, act_of, asked_for, brought_by, plain_pending}
+use Rattle.apl_values.specs.Pending.{PlainActPurpose, act_for_purpose, act_asked_for, brought_by, plain_act_purpose}
 use Rattle.apl_statements.specs.Evaluating.{caller_of}
 use Rattle.apl_statements.specs.Interpreter.{PlainInterpreter, at_rest_on}
 use Rattle.apl_statements.specs.Stack.{PlainCaller, PlainWaiting, behind, carried_on}
@@ -25,8 +25,8 @@ use Rattle.apl_machine.specs.declared.machine.Stage.TheVariants as stage
 pub data PlainStage : Type 0 where
   idle : PlainStage
   begins : PlainTree → PlainStage
-  is_open : PlainPending → PlainCaller → PlainStage
-  has_answer : PlainAnswer → PlainPending → PlainCaller → PlainStage
+  is_open : PlainActPurpose → PlainCaller → PlainStage
+  has_answer : PlainAnswer → PlainActPurpose → PlainCaller → PlainStage
   lost : PlainStage
 
 -- a machine: what is under way, and what the machine does
@@ -38,15 +38,15 @@ pub record PlainMachine : Type 0 where
 abbrev pub plain_stage : PlainWorkspace → List ℕ → Stage → PlainStage
 plain_stage w shown stage.Idle = idle
 plain_stage w shown (stage.Begins reading) = begins (reading_tree reading)
-plain_stage w shown (stage.Open for_this e) = is_open (plain_pending for_this.value) (caller_of w shown e)
-plain_stage w shown (stage.Answered answer for_this e) = has_answer (plain_answer answer) (plain_pending for_this.value) (caller_of w shown e)
+plain_stage w shown (stage.Open for_this e) = is_open (plain_act_purpose for_this.value) (caller_of w shown e)
+plain_stage w shown (stage.Answered answer for_this e) = has_answer (plain_answer answer) (plain_act_purpose for_this.value) (caller_of w shown e)
 plain_stage w shown stage.Lost = lost
 
 -- what is still to come of a stage over what waits; of a machine that is idle or lost nothing is asked
 abbrev pub stage_to_come : PlainStage → List PlainWaiting → State → Outcome Next
 stage_to_come idle ws s = gives goes_on s
 stage_to_come (begins tree) ws s = and_then (begun (line_outcome ran immediate (line_tree_of tree)) s) (λ next t. behind ws next t)
-stage_to_come (is_open for_this caller) ws s = carried_on (asked_for for_this s) caller ws
+stage_to_come (is_open for_this caller) ws s = carried_on (act_asked_for for_this s) caller ws
 stage_to_come (has_answer answer for_this caller) ws s = carried_on (brought_by answer for_this s) caller ws
 stage_to_come lost ws s = gives goes_on s
 
@@ -68,7 +68,7 @@ pub record IsIdle (m : PlainMachine) : Type 0 where
 abbrev pub IsOpenIn : PlainWorkspace → PlainStage → Act → Type 0
 IsOpenIn w idle asked = ⊥
 IsOpenIn w (begins tree) asked = ⊥
-IsOpenIn w (is_open for_this caller) asked = act_of for_this w ≡ asked
+IsOpenIn w (is_open for_this caller) asked = act_for_purpose for_this w ≡ asked
 IsOpenIn w (has_answer answer for_this caller) asked = ⊥
 IsOpenIn w lost asked = ⊥
 

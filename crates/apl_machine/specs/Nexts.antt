@@ -4,8 +4,8 @@ use Rattle.apl_arrays.specs.Array.{PlainArray}
 use Rattle.apl_workspace.specs.declared.meaning.Meaning.{Meaning}
 use Rattle.apl_workspace.specs.declared.meaning.Meaning.TheVariants as meaning
 use Rattle.apl_meaning.specs.State.{gives}
-use Rattle.apl_values.specs.declared.values.Held.{Held}
-use Rattle.apl_values.specs.Values.{IsHeld, held_value}
+use Rattle.apl_values.specs.declared.values.StackValue.{StackValue}
+use Rattle.apl_values.specs.Values.{IsStackValue, stack_value}
 use Rattle.apl_statements.specs.declared.evaluation.Evaluation.{Evaluation}
 use Rattle.apl_statements.specs.Evaluating.{evaluation_of}
 use Rattle.apl_statements.specs.Interpreter.{PlainInterpreter}
@@ -19,10 +19,10 @@ abbrev pub IsValueSeen : Meaning → Type 0
 IsValueSeen m = (value : PlainArray) × (m ≡ meaning.Value value)
 
 -- no value is wanting, and the next part gives this one
-pub record IsNextHeld (m : PlainInterpreter) (e : Evaluation) (held : Held) : Type 0 where
+pub record IsNextStackValue (m : PlainInterpreter) (e : Evaluation) (held : StackValue) : Type 0 where
   pub there : e.is_wanting ≡ false
-  pub is_held : IsHeld m.workspace (parts_of e) held
-  pub moves : Moves m (λ s. onward (evaluation_of m.workspace e) m.stack s) 0 m (part_gives m (record e { at = e.at + 1 }) (λ s. gives (Some (held_value m.workspace (parts_of e) held)) s))
+  pub is_held : IsStackValue m.workspace (parts_of e) held
+  pub moves : Moves m (λ s. onward (evaluation_of m.workspace e) m.stack s) 0 m (part_gives m (record e { at = e.at + 1 }) (λ s. gives (Some (stack_value m.workspace (parts_of e) held)) s))
 
 -- a part was done, or the statement is as it was
 abbrev pub HasPassed : Evaluation → Evaluation → Bool → Type 0

@@ -21,21 +21,21 @@ abbrev pub mean_behind : List (List ℕ) → LineTree → List ℕ → PlainWork
 mean_behind earlier tree line w answers = closed (begun (λ s. line_outcome (run_below most_statements) immediate tree s) (record (start_of line w answers most_statements) { printed = earlier }))
 
 -- a machine stands where a line, begun on a workspace when these lines were printed, has come with these answers, this count and these lines taken: whatever answers follow, what is still to come of it is what is still to come of the line
-pub record Stands (m : PlainMachine) (tree : LineTree) (line : List ℕ) (w : PlainWorkspace) (earlier : List (List ℕ)) (answers : List PlainAnswer) (count : ℕ) (taken : List (List ℕ)) : Type 0 where
+pub record MachineStands (m : PlainMachine) (tree : LineTree) (line : List ℕ) (w : PlainWorkspace) (earlier : List (List ℕ)) (answers : List PlainAnswer) (count : ℕ) (taken : List (List ℕ)) : Type 0 where
   pub asked : List Act
   pub comes : (further : List PlainAnswer) → mean_behind earlier tree line w (answers ++ further) ≡ closed (still_to_come m (state_at m.interpreter asked count taken further))
 
 -- whichever line a machine stood in, with the answers so far that line comes to this where the machine is now
 abbrev pub ComesTo : PlainMachine → ℕ → PlainMachine → (State → Effect) → Type 0
 ComesTo before counted after end =
-    (tree : LineTree) (line : List ℕ) (w : PlainWorkspace) (earlier : List (List ℕ)) (answers : List PlainAnswer) (count : ℕ) (taken : List (List ℕ)) → Stands before tree line w earlier answers count taken
+    (tree : LineTree) (line : List ℕ) (w : PlainWorkspace) (earlier : List (List ℕ)) (answers : List PlainAnswer) (count : ℕ) (taken : List (List ℕ)) → MachineStands before tree line w earlier answers count taken
     → (asked : List Act) × (mean_behind earlier tree line w answers ≡ end (state_at after.interpreter asked (count + counted) taken []))
 
 -- whichever line a machine stood in, another stands there too, behind so many applications, so many answers and so many lines taken
 abbrev pub StandsOn : PlainMachine → ℕ → List PlainAnswer → List (List ℕ) → PlainMachine → Type 0
 StandsOn before counted more lines after =
-    (tree : LineTree) (line : List ℕ) (w : PlainWorkspace) (earlier : List (List ℕ)) (answers : List PlainAnswer) (count : ℕ) (taken : List (List ℕ)) → Stands before tree line w earlier answers count taken
-    → Stands after tree line w earlier (answers ++ more) (count + counted) (taken ++ lines)
+    (tree : LineTree) (line : List ℕ) (w : PlainWorkspace) (earlier : List (List ℕ)) (answers : List PlainAnswer) (count : ℕ) (taken : List (List ℕ)) → MachineStands before tree line w earlier answers count taken
+    → MachineStands after tree line w earlier (answers ++ more) (count + counted) (taken ++ lines)
 
 -- the line is over, as it is meant to end
 pub record EndsDone (before : PlainMachine) (counted : ℕ) (after : PlainMachine) : Type 0 where

@@ -1,6 +1,6 @@
 -- What holds of every machine, and the machine as plain data.
 use Rattle.apl_workspace.specs.Workspace.{PlainWorkspace}
-use Rattle.apl_values.specs.Parts.{IsReading}
+use Rattle.apl_values.specs.Parts.{IsLineReading}
 use Rattle.apl_values.specs.Pending.{IsPending}
 use Rattle.apl_statements.specs.Interpreter.{here}
 use Rattle.apl_statements.specs.Sound.{IsCaller}
@@ -12,7 +12,7 @@ use Rattle.apl_machine.specs.Machine.{PlainMachine, plain_stage}
 -- what holds of a stage
 abbrev pub IsStage : PlainWorkspace → Stage → Type 0
 IsStage w stage.Idle = Unit {0}
-IsStage w (stage.Begins reading) = IsReading reading
+IsStage w (stage.Begins reading) = IsLineReading reading
 IsStage w (stage.Open for_this e) = IsPending w for_this.value × IsCaller w e
 IsStage w (stage.Answered answer for_this e) = IsPending w for_this.value × IsCaller w e
 IsStage w stage.Lost = Unit {0}

@@ -2,7 +2,7 @@
 use Rattle.std.specs.Prelude.{◌≡◌}
 use Rattle.apl_arrays.specs.declared.report.Fail.{Fail}
 use Rattle.apl_arrays.specs.declared.report.Fail.TheVariants as fail
-use Rattle.apl_values.specs.Pending.{act_of, plain_pending}
+use Rattle.apl_values.specs.Pending.{act_for_purpose, plain_act_purpose}
 use Rattle.apl_statements.specs.declared.flow.Pause.{Pause}
 use Rattle.apl_statements.specs.declared.flow.Pause.TheVariants as pause
 use Rattle.apl_statements.specs.Evaluating.{caller_of}
@@ -15,7 +15,7 @@ use Rattle.apl_machine.specs.Machine.{PlainMachine, idle, is_open, machine_after
 abbrev pub PausesAs : PlainInterpreter → Pause → PlainMachine → Stop → Type 0
 PausesAs m pause.Ends after stopped = (stopped ≡ stop.Done) × (after ≡ record { interpreter = m; stage = idle })
 PausesAs m (pause.Opens for_this e) after stopped =
-    (stopped ≡ stop.Asks (act_of (plain_pending for_this.value) m.workspace)) × (after ≡ record { interpreter = m; stage = is_open (plain_pending for_this.value) (caller_of m.workspace (here m) e) })
+    (stopped ≡ stop.Asks (act_for_purpose (plain_act_purpose for_this.value) m.workspace)) × (after ≡ record { interpreter = m; stage = is_open (plain_act_purpose for_this.value) (caller_of m.workspace (here m) e) })
 
 -- a line ended so: by a report; where memory ran out it is not ended
 abbrev pub EndsAs : PlainInterpreter → Fail → PlainMachine → Stop → Type 0

@@ -8,7 +8,7 @@ ghost use Rattle.apl_meaning.specs.Nodes.{apply_step};
 ghost use Rattle.apl_meaning.specs.Verbs.{application, both_or_neither, named_axis};
 ghost use Rattle.operator_rules.specs.Apply.{wants_memory_first};
 ghost use Rattle.apl_verbs.specs.Arguments.{is_dyadic, verb_takes_axis};
-ghost use Rattle.apl_values.specs.Values.{IsHeld, held_value};
+ghost use Rattle.apl_values.specs.Values.{IsStackValue, stack_value};
 ghost use Rattle.apl_statements.specs.Moves.{Comes, if_there, part_gives, part_takes};
 ghost use Rattle.apl_statements.specs.Sound.{IsCaller, IsFlow};
 ghost use Rattle.apl_statements.specs.Holding.{parts_of};
@@ -21,7 +21,7 @@ use apl_arrays::{Array, Fail, ItemsRef, Report};
 use apl_calls::call;
 use apl_operators::{Steps, apply};
 use apl_statements::{Evaluation, Flow, Interpreter, Operands};
-use apl_values::{Held, array_of};
+use apl_values::{StackValue, array_of};
 use apl_verbs::{Verb, is_dyadic, verb_takes_axis};
 use apl_workspace::Args;
 use line_trees::Fun;
@@ -59,11 +59,11 @@ pub fn perform<L: Ledger>(
 fn axis_of(
     interpreter: &Interpreter,
     e: &Evaluation,
-    axis: Option<Held>,
+    axis: Option<StackValue>,
 ) -> Result<Option<i64>, Fail>
-    requires { IfSome axis (IsHeld interpreter.now.workspace (parts_of e.now)) }
-    ensures ok { IfOk result (IsAxis (option_map (held_value interpreter.now.workspace (parts_of e.now)) axis)) }
-    ensures refused { IfErr result (IsNoAxis (option_map (held_value interpreter.now.workspace (parts_of e.now)) axis)) }
+    requires { IfSome axis (IsStackValue interpreter.now.workspace (parts_of e.now)) }
+    ensures ok { IfOk result (IsAxis (option_map (stack_value interpreter.now.workspace (parts_of e.now)) axis)) }
+    ensures refused { IfErr result (IsNoAxis (option_map (stack_value interpreter.now.workspace (parts_of e.now)) axis)) }
 {
     match axis {
         None => Ok(None),
@@ -75,12 +75,12 @@ fn axis_of(
 fn args_of(
     interpreter: &Interpreter,
     e: &Evaluation,
-    left: Option<Held>,
-    right: Held,
+    left: Option<StackValue>,
+    right: StackValue,
 ) -> Result<Args, Fail>
-    requires left { IfSome left (IsHeld interpreter.now.workspace (parts_of e.now)) }
-    requires right { IsHeld interpreter.now.workspace (parts_of e.now) right }
-    ensures ok { IfOk result (λ args. args ≡ record { left = option_map (held_value interpreter.now.workspace (parts_of e.now)) left; right = Some (held_value interpreter.now.workspace (parts_of e.now) right) }) }
+    requires left { IfSome left (IsStackValue interpreter.now.workspace (parts_of e.now)) }
+    requires right { IsStackValue interpreter.now.workspace (parts_of e.now) right }
+    ensures ok { IfOk result (λ args. args ≡ record { left = option_map (stack_value interpreter.now.workspace (parts_of e.now)) left; right = Some (stack_value interpreter.now.workspace (parts_of e.now) right) }) }
     ensures refused { IfErr result (λ why. why ≡ fail.WantOfMemory) }
 {
     let right = interpreter.owned(e, right)?;
@@ -100,17 +100,17 @@ fn apply_verb<L: Ledger>(
     interpreter: &Interpreter,
     e: Evaluation,
     verb: Verb,
-    left: Option<Held>,
-    right: Held,
+    left: Option<StackValue>,
+    right: StackValue,
     axis: Option<i64>,
     steps: &mut Steps<L>,
 ) -> Result<Flow, Fail>
     requires sound { IsCaller interpreter.now.workspace e }
-    requires left { IfSome left (IsHeld interpreter.now.workspace (parts_of e)) }
-    requires right { IsHeld interpreter.now.workspace (parts_of e) right }
+    requires left { IfSome left (IsStackValue interpreter.now.workspace (parts_of e)) }
+    requires right { IsStackValue interpreter.now.workspace (parts_of e) right }
     ensures rises { steps.old ≤ steps.new }
-    ensures comes { Comes interpreter.now (part_gives interpreter.now e (λ s. valued (application verb (option_map (held_value interpreter.now.workspace (parts_of e)) left) (held_value interpreter.now.workspace (parts_of e) right) axis s))) (steps.new - steps.old) interpreter.now result }
-    ensures memory { wants_memory_first verb ≡ false → OnWantOfMemory result (NoReportIsDue interpreter.now (application verb (option_map (held_value interpreter.now.workspace (parts_of e)) left) (held_value interpreter.now.workspace (parts_of e) right) axis)) }
+    ensures comes { Comes interpreter.now (part_gives interpreter.now e (λ s. valued (application verb (option_map (stack_value interpreter.now.workspace (parts_of e)) left) (stack_value interpreter.now.workspace (parts_of e) right) axis s))) (steps.new - steps.old) interpreter.now result }
+    ensures memory { wants_memory_first verb ≡ false → OnWantOfMemory result (NoReportIsDue interpreter.now (application verb (option_map (stack_value interpreter.now.workspace (parts_of e)) left) (stack_value interpreter.now.workspace (parts_of e) right) axis)) }
     ensures sound { IfOk result (IsFlow interpreter.now) }
     ensures within { IfOk result (StaysWithin interpreter.now e interpreter.now) }
 {
@@ -125,17 +125,17 @@ fn apply_verb<L: Ledger>(
         axis,
         steps,
     )?;
-    interpreter.give(e, Held::Made(array))
+    interpreter.give(e, StackValue::Made(array))
 }
 
 // A value that is lent, where there is one.
 fn lent<'a>(
     interpreter: &'a Interpreter,
     e: &'a Evaluation,
-    held: Option<&'a Held>,
+    held: Option<&'a StackValue>,
 ) -> Option<&'a Array>
-    requires { IfSome (option_copied held) (IsHeld interpreter.now.workspace (parts_of e.now)) }
-    ensures { option_copied result ≡ option_map (held_value interpreter.now.workspace (parts_of e.now)) (option_copied held.entry) }
+    requires { IfSome (option_copied held) (IsStackValue interpreter.now.workspace (parts_of e.now)) }
+    ensures { option_copied result ≡ option_map (stack_value interpreter.now.workspace (parts_of e.now)) (option_copied held.entry) }
 {
     match held {
         None => None,

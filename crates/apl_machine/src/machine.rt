@@ -8,7 +8,7 @@ ghost use Rattle.apl_values.specs.Parts.{IsTreeOf};
 ghost use Rattle.apl_statements.specs.Moves.{Comes, ComesToPause};
 ghost use Rattle.apl_statements.specs.Sound.{IsFlow, IsPause};
 ghost use Rattle.apl_machine.specs.Machine.{IsIdle, IsOpenStage, MayRun, MayWantMemory, idle_on, lost, machine_before, silent, still_to_come};
-ghost use Rattle.apl_machine.specs.Runs.{Stands, StandsOn, StopsAs};
+ghost use Rattle.apl_machine.specs.Runs.{MachineStands, StandsOn, StopsAs};
 ghost use Rattle.apl_machine.specs.Stops.{EndsAs, PausesAs};
 
 use crate::flow::Stop;
@@ -18,7 +18,7 @@ use apl_arrays::{Fail, Line, LineList, WantOfMemory};
 use apl_calls::{begin_input, end_by};
 use apl_operators::Steps;
 use apl_statements::{Evaluation, Flow, Interpreter, Pause};
-use apl_values::{Pending, Reading};
+use apl_values::{ActPurpose, LineReading};
 use apl_workspace::Workspace;
 use line_trees::Tree;
 use std::alloc::Global;
@@ -35,9 +35,9 @@ pub const STATEMENT_LIMIT: u32 = 100_000;
 #[derive(Debug, Drop)]
 pub enum Stage {
     Idle,
-    Begins(Reading),
-    Open(Box<Pending>, Evaluation),
-    Answered(Answer, Box<Pending>, Evaluation),
+    Begins(LineReading),
+    Open(Box<ActPurpose>, Evaluation),
+    Answered(Answer, Box<ActPurpose>, Evaluation),
     Lost,
 }
 
@@ -61,7 +61,7 @@ impl Model for Machine {
 }
 
 impl Machine {
-    /// An idle machine. No memory.
+    /// An idle machine.
     pub fn new(alloc: Global, workspace: Workspace) -> Machine
         requires { workspace.frames ≡ [] }
         ensures { result ≡ idle_on workspace }
@@ -78,10 +78,10 @@ impl Machine {
         requires idle { IsIdle self.old }
         requires tree { IsTreeOf self.old.interpreter.workspace line.now.items (plain_tree tree) }
         ensures ok { OnOk result (self.new ≡ machine_before line.now.items (plain_tree tree) self.old) }
-        ensures stands { OnOk result (Stands self.new (line_tree_of (plain_tree tree)) line.now.items self.old.interpreter.workspace self.old.interpreter.output [] 0 []) }
+        ensures stands { OnOk result (MachineStands self.new (line_tree_of (plain_tree tree)) line.now.items self.old.interpreter.workspace self.old.interpreter.output [] 0 []) }
         ensures err { OnErr result (self.new ≡ self.old) }
     {
-        let reading = Reading::of(self.interpreter.alloc, tree)?;
+        let reading = LineReading::of(self.interpreter.alloc, tree)?;
         match self.interpreter.begin(line, STATEMENT_LIMIT) {
             Ok(()) => {
                 self.stage = Stage::Begins(reading);
@@ -109,7 +109,7 @@ impl Machine {
         }
     }
 
-    /// Puts the answer to the open act on the stack. Nothing is evaluated. No memory.
+    /// Puts the answer to the open act on the stack. Nothing is evaluated. It takes no memory.
     pub fn resume(&mut self, answer: Answer) -> Result<(), WantOfMemory>
         requires { IsOpenStage self.old.stage }
         ensures granted { IsOk result }
@@ -126,7 +126,7 @@ impl Machine {
         }
     }
 
-    /// The lines printed since the last call. No memory.
+    /// The lines printed since the last call.
     pub fn take_output(&mut self) -> LineList
         ensures lines { result.items ≡ self.old.interpreter.output }
         ensures rest { self.new ≡ silent self.old }
@@ -135,7 +135,7 @@ impl Machine {
         self.interpreter.take_output()
     }
 
-    /// An idle machine is on this workspace from now on, as a new one would be; what it had goes. No memory.
+    /// An idle machine is on this workspace from now on, as a new one would be; what it had goes.
     pub fn renew(&mut self, workspace: Workspace)
         requires idle { IsIdle self.old }
         requires frames { workspace.frames ≡ [] }
@@ -145,7 +145,7 @@ impl Machine {
         self.stage = Stage::Idle;
     }
 
-    /// Takes the workspace of an idle machine, which has an empty one then; printed lines that were not taken stay. No memory.
+    /// Takes the workspace of an idle machine, which has an empty one then; printed lines that were not taken stay.
     pub fn take_workspace(&mut self) -> Workspace
         requires { IsIdle self.old }
         ensures taken { result ≡ self.old.interpreter.workspace }
@@ -156,7 +156,7 @@ impl Machine {
         self.interpreter.take_workspace()
     }
 
-    /// The workspace. No memory.
+    /// The workspace.
     pub fn into_workspace(self) -> Workspace
         requires { IsIdle self }
         ensures { result ≡ self.interpreter.workspace }

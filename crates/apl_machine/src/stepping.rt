@@ -15,7 +15,7 @@ ghost use Rattle.apl_statements.specs.Holding.{parts_of};
 ghost use Rattle.apl_statements.specs.Wants.{NoReportIsDue};
 ghost use Rattle.apl_statements.specs.Work.{Falls, StaysWithin, TakesAStep};
 ghost use Rattle.apl_statements.specs.declared.flow.Flow.TheVariants as flow;
-ghost use Rattle.apl_machine.specs.Nexts.{HasPassed, IsNextHeld, IsValueSeen};
+ghost use Rattle.apl_machine.specs.Nexts.{HasPassed, IsNextStackValue, IsValueSeen};
 
 use crate::applying::perform;
 use apl_answers::{assign, assign_items};
@@ -24,7 +24,7 @@ use apl_calls::{call, end_statement, follow};
 use apl_operators::Steps;
 use apl_selection::index;
 use apl_statements::{Evaluation, Flow, Interpreter, Pause};
-use apl_values::{Held, Part, Pending, array_of};
+use apl_values::{ActPurpose, Part, StackValue, array_of};
 use apl_workspace::{Args, Seen};
 use line_trees::{Node, Places};
 use std::alloc::Global;
@@ -97,16 +97,16 @@ fn pass_plain(interpreter: &Interpreter, e: &mut Evaluation) -> Result<bool, Wan
 }
 
 // The value that the next part gives, where it is a constant, or a name that has one.
-fn next_held(interpreter: &Interpreter, e: &Evaluation) -> Option<Held>
+fn next_held(interpreter: &Interpreter, e: &Evaluation) -> Option<StackValue>
     requires sound { IsEvaluation interpreter.now.workspace e.now }
     requires next { e.now.at < length (parts_of e.now) }
-    ensures { IfSome result (IsNextHeld interpreter.now e.now) }
+    ensures { IfSome result (IsNextStackValue interpreter.now e.now) }
 {
     if e.is_wanting {
         return None;
     }
     match &e.reading.parts[e.at] {
-        Part::Constant(_) => Some(Held::Constant(e.at)),
+        Part::Constant(_) => Some(StackValue::Constant(e.at)),
         Part::Other(node) => match node {
             Node::Value(name) => held_of(interpreter, *name),
             _ => None,
@@ -115,11 +115,11 @@ fn next_held(interpreter: &Interpreter, e: &Evaluation) -> Option<Held>
 }
 
 // A name as a value, where it has one.
-fn held_of(interpreter: &Interpreter, name: Name) -> Option<Held>
-    ensures { IfSome result (λ held. (held ≡ Held.Named name) × IsValueSeen (look interpreter.now.workspace name)) }
+fn held_of(interpreter: &Interpreter, name: Name) -> Option<StackValue>
+    ensures { IfSome result (λ held. (held ≡ StackValue.Named name) × IsValueSeen (look interpreter.now.workspace name)) }
 {
     match interpreter.workspace.look(&name) {
-        Seen::Value(_) => Some(Held::Named(name)),
+        Seen::Value(_) => Some(StackValue::Named(name)),
         _ => None,
     }
 }
@@ -161,7 +161,7 @@ fn step<L: Ledger>(
     let at = e.at;
     e.at += 1;
     match &e.reading.parts[at] {
-        Part::Constant(_) => interpreter.give(e, Held::Constant(at)),
+        Part::Constant(_) => interpreter.give(e, StackValue::Constant(at)),
         Part::Other(node) => match node {
             Node::Constant(_) => Err(Fail::Report(Report::WsFull)),
             Node::Value(name) => {
@@ -226,13 +226,13 @@ fn refer(interpreter: &Interpreter, e: Evaluation, name: Name) -> Result<Flow, F
 {
     match interpreter.workspace.look(&name) {
         Seen::Nothing => Err(Fail::Report(Report::Value)),
-        Seen::Value(_) => interpreter.give(e, Held::Named(name)),
+        Seen::Value(_) => interpreter.give(e, StackValue::Named(name)),
         Seen::Function(_) => Err(Fail::Report(Report::Syntax)),
         Seen::Label(line) => {
             let number = Array::scalar(interpreter.alloc, i64::from(line))?;
-            interpreter.give(e, Held::Made(number))
+            interpreter.give(e, StackValue::Made(number))
         }
-        Seen::Shared(_) => interpreter.open(Pending::Refers(name), e),
+        Seen::Shared(_) => interpreter.open(ActPurpose::Refers(name), e),
     }
 }
 
@@ -251,7 +251,7 @@ fn index_value(interpreter: &Interpreter, e: Evaluation, places: &Places) -> Res
         array_of(&held, e.parts(), &interpreter.workspace),
         &subs,
     )?;
-    interpreter.give(e, Held::Made(array))
+    interpreter.give(e, StackValue::Made(array))
 }
 
 // No arguments.

@@ -25,7 +25,7 @@ use Rattle.apl_meaning.specs.Variables.{assignment, assignment_by, items_assignm
 use Rattle.operator_rules.specs.Apply.{applied}
 use Rattle.apl_meaning.specs.Verbs.{application, may_be_applied}
 use Rattle.apl_meaning.specs.Naming.{Naming, naming_faults, naming_count}
-use Rattle.apl_meaning.specs.Deeds.{Deed, offer, ask_degree, set_control, ask_control, ask_state, retract, degree_in, vector_in, question, offering, retraction, where_shared, if_shared, done_for, done_for_all}
+use Rattle.apl_meaning.specs.Deeds.{Deed, offer, ask_degree, set_control, ask_control, ask_state, retract, degree_in, vector_in, asked_and_told, offering, retraction, where_shared, if_shared, done_for, done_for_all}
 use Rattle.apl_meaning.specs.Sharing.{addressee_at, control_at, control_faults, for_each_row, offer_faults, rows_outcome, unless_wrong}
 use Rattle.apl_meaning.specs.Queries.{list_outcome, name_matrix, party_vector, query_by, query_faults, system_outcome}
 use Rattle.apl_meaning.proofs.Steady.{IsSteady, as_before, quiet, given, refused, resulting, changed, by_bool, by_workspace, weighed, both, answered}
@@ -87,7 +87,7 @@ applies f left right axis = by_bool (may_be_applied f left axis) (counted (appli
 
 -- ---- rows
 
-questioned : (told : PlainAnswer → List ℤ) (asked : Act) → ends_all (act_row asked).row.ends ≡ false → IsSteady (question told asked)
+questioned : (told : PlainAnswer → List ℤ) (asked : Act) → ends_all (act_row asked).row.ends ≡ false → IsSteady (asked_and_told told asked)
 questioned told asked stays = both (answered asked stays) (λ answer. given (told answer))
 
 offered : (to : ℕ) (names : Naming) (value : Option PlainArray) → IsSteady (offering to names value)

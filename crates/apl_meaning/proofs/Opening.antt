@@ -25,7 +25,7 @@ use Rattle.sv_events.specs.Row.{act_row, answer_row}
 use Rattle.sv_events.specs.declared.event.Act.{Act}
 use Rattle.sv_events.specs.declared.event.Act.TheVariants as act
 use Rattle.apl_meaning.specs.State.{State, Outcome, gives, refuses, asks, and_then, state_of, outcome_of, with_workspace}
-use Rattle.apl_meaning.specs.Answers.{answer_to, report_of_kind, taken_from, unless_ended}
+use Rattle.apl_meaning.specs.Answers.{answered_act, report_of_kind, answer_taken_from, unless_ended}
 use Rattle.apl_meaning.specs.Laws.{IsAfter, IsOpening, NoneShared, NoneSharedIn, SharesNothing}
 use Rattle.apl_meaning.proofs.Steady.{IsSteady, answered, both, by_workspace, given as steady_given, refused}
 
@@ -219,7 +219,7 @@ surely_by : (ended : Option Report) (answer : PlainAnswer) (s : State) (a : Act)
 surely_by None answer s a list h = record { first = a; acts = []; asked = refl; opening = h }
 surely_by (Some report) answer s a list h = record { first = a; acts = []; asked = refl; opening = h }
 
-surely : (list : List PlainAnswer) (s : State) (a : Act) → IsOpening a → OpensSurely s (and_then (taken_from list a s) (λ answer t. unless_ended (report_of_kind (answer_row answer).row.kind) answer t))
+surely : (list : List PlainAnswer) (s : State) (a : Act) → IsOpening a → OpensSurely s (and_then (answer_taken_from list a s) (λ answer t. unless_ended (report_of_kind (answer_row answer).row.kind) answer t))
 surely [] s a h = (refl, h)
 surely (answer ∷ list) s a h = surely_by (report_of_kind (answer_row answer).row.kind) answer s a list h
 
@@ -264,8 +264,8 @@ opening_stays (act.Use name) h = absurd h
 opening_stays act.Leave h = absurd h
 
 -- an opening act, and whatever follows
-pub good_opening : {B : Type 0} {g : PlainAnswer → State → Outcome B} (a : Act) → IsOpening a → ((v : PlainAnswer) → IsSteady (g v)) → IsGood (λ (s : State). and_then (answer_to a s) g)
-good_opening {B} {g} a h steady = record { steady = both (answered a (opening_stays a h)) steady; opens = λ s none. surely_joined s (answer_to a s) g steady (surely s.answers s a h) }
+pub good_opening : {B : Type 0} {g : PlainAnswer → State → Outcome B} (a : Act) → IsOpening a → ((v : PlainAnswer) → IsSteady (g v)) → IsGood (λ (s : State). and_then (answered_act a s) g)
+good_opening {B} {g} a h steady = record { steady = both (answered a (opening_stays a h)) steady; opens = λ s none. surely_joined s (answered_act a s) g steady (surely s.answers s a h) }
 
 pub good_by_workspace : {T : Type 0} {f : PlainWorkspace → State → Outcome T} → ((w : PlainWorkspace) → IsSteady (f w)) → ((w : PlainWorkspace) → SharesNothing w → Opens (f w)) → IsGood (λ (s : State). f s.workspace s)
 good_by_workspace {T} {f} steady opens = record { steady = by_workspace steady; opens = λ s h. opens s.workspace h s h }

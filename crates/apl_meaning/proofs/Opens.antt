@@ -34,7 +34,7 @@ use Rattle.apl_meaning.specs.Variables.{assignment, assignment_by, items_assignm
 use Rattle.operator_rules.specs.Apply.{applied}
 use Rattle.apl_meaning.specs.Verbs.{application, may_be_applied, named_axis}
 use Rattle.apl_meaning.specs.Naming.{Naming, naming_count, naming_faults}
-use Rattle.apl_meaning.specs.Deeds.{Deed, offer, ask_degree, set_control, ask_control, ask_state, retract, degree_in, vector_in, value_of, zeros, question, retraction, where_shared, if_shared, done_for, done_for_all}
+use Rattle.apl_meaning.specs.Deeds.{Deed, offer, ask_degree, set_control, ask_control, ask_state, retract, degree_in, vector_in, value_of, zeros, asked_and_told, retraction, where_shared, if_shared, done_for, done_for_all}
 use Rattle.apl_meaning.specs.Sharing.{addressee_at, control_at, control_faults, for_each_row, offer_faults, rows_outcome, unless_wrong}
 use Rattle.apl_meaning.specs.Queries.{name_matrix, party_vector, query_by, query_faults, system_outcome}
 use Rattle.apl_meaning.specs.Tasks.{Next, goes_on, Place, immediate, in_function, Task, lines_from, text_at, Run, begun, begun_by, following, line_numbered}
@@ -110,10 +110,10 @@ opens_deed : (deed : Deed) (names : Naming) → Opens (done_for deed names)
 opens_deed (offer to) names s h =
     (good_opening (act.Offer to names.local names.surrogate (value_of (global_in s.workspace names.local))) tt (λ answer.
     changed (degree_in answer) (λ w. marked w (record { local = names.local; surrogate = names.surrogate; to = to }) (value_of (global_in s.workspace names.local))))).opens s h
-opens_deed ask_degree names s h = opens_if_shared names.local (pos 0 ∷ []) (question degree_in (act.AskDegree names.local)) s h
-opens_deed (set_control control) names s h = opens_if_shared names.local zeros (question vector_in (act.SetControl names.local control)) s h
-opens_deed ask_control names s h = opens_if_shared names.local zeros (question vector_in (act.AskControl names.local)) s h
-opens_deed ask_state names s h = opens_if_shared names.local zeros (question vector_in (act.AskState names.local)) s h
+opens_deed ask_degree names s h = opens_if_shared names.local (pos 0 ∷ []) (asked_and_told degree_in (act.AskDegree names.local)) s h
+opens_deed (set_control control) names s h = opens_if_shared names.local zeros (asked_and_told vector_in (act.SetControl names.local control)) s h
+opens_deed ask_control names s h = opens_if_shared names.local zeros (asked_and_told vector_in (act.AskControl names.local)) s h
+opens_deed ask_state names s h = opens_if_shared names.local zeros (asked_and_told vector_in (act.AskState names.local)) s h
 opens_deed retract names s h = opens_if_shared names.local (pos 0 ∷ []) (retraction names.local) s h
 
 good_deed : (deed : Deed) (names : Naming) → IsGood (done_for deed names)

@@ -10,7 +10,7 @@ use Rattle.apl_workspace.specs.Workspace.{PlainWorkspace, workspace_weight}
 use Rattle.sv_events.specs.Answer.{PlainAnswer}
 use Rattle.sv_events.specs.declared.event.Act.{Act}
 use Rattle.apl_meaning.specs.State.{State, Outcome, gives, refuses, asks, and_then, state_of, outcome_of, with_workspace}
-use Rattle.apl_meaning.specs.Answers.{answer_to, report_of_kind, taken_from, unless_ended}
+use Rattle.apl_meaning.specs.Answers.{answered_act, report_of_kind, answer_taken_from, unless_ended}
 use Rattle.sv_events.specs.Fits.{ends_all}
 use Rattle.sv_events.specs.Row.{act_row, answer_row}
 use Rattle.apl_meaning.specs.Laws.{with_more, IsOver, and_more, IsAfter, GoesOnIn, Takes, WaitsInNeed, is_reported}
@@ -220,17 +220,17 @@ both {A} {B} {f} {g} hf hg = record {
 
 -- ---- an act and its answer
 
-taken_back : (list : List PlainAnswer) (act : Act) (s : State) (more : List PlainAnswer) → IsOver (taken_from list act s) → taken_from (list ++ more) act (with_more more s) ≡ and_more more (taken_from list act s)
+taken_back : (list : List PlainAnswer) (act : Act) (s : State) (more : List PlainAnswer) → IsOver (answer_taken_from list act s) → answer_taken_from (list ++ more) act (with_more more s) ≡ and_more more (answer_taken_from list act s)
 taken_back [] act s more over = absurd over
 taken_back (answer ∷ list) act s more over = refl
 
-taken_after : (list : List PlainAnswer) (act : Act) (s : State) → IsAfter s (state_of (taken_from list act s))
+taken_after : (list : List PlainAnswer) (act : Act) (s : State) → IsAfter s (state_of (answer_taken_from list act s))
 taken_after [] act s = itself s
 taken_after (answer ∷ list) act s = record { lines = []; printed = sym (append-nil s.printed); acts = act ∷ []; asked = refl; applications = omega arith; statements = omega arith }
 
-taken_further : (list : List PlainAnswer) (act : Act) (s : State) (more : List PlainAnswer) → IsAfter (state_of (taken_from list act s)) (state_of (taken_from (list ++ more) act (with_more more s)))
-taken_further [] act s more = without_more s (state_of (taken_from more act (with_more more s))) more (taken_after more act (with_more more s))
-taken_further (answer ∷ list) act s more = as_before (state_of (taken_from (answer ∷ list) act s)) (state_of (taken_from (answer ∷ list ++ more) act (with_more more s))) refl refl (omega arith) (omega arith)
+taken_further : (list : List PlainAnswer) (act : Act) (s : State) (more : List PlainAnswer) → IsAfter (state_of (answer_taken_from list act s)) (state_of (answer_taken_from (list ++ more) act (with_more more s)))
+taken_further [] act s more = without_more s (state_of (answer_taken_from more act (with_more more s))) more (taken_after more act (with_more more s))
+taken_further (answer ∷ list) act s more = as_before (state_of (answer_taken_from (answer ∷ list) act s)) (state_of (answer_taken_from (answer ∷ list ++ more) act (with_more more s))) refl refl (omega arith) (omega arith)
 
 unended : (ended : Option Report) (answer : PlainAnswer) → IsSteady (unless_ended ended answer)
 unended None answer = given answer
@@ -262,7 +262,7 @@ answer_takes act s answer list (Some report) e is = record {
   in_need = tt;
 }
 
-act_takes : (list : List PlainAnswer) (act : Act) (s : State) → ends_all (act_row act).row.ends ≡ false → s.answers ≡ list → Takes s (and_then (taken_from list act s) ended_by)
+act_takes : (list : List PlainAnswer) (act : Act) (s : State) → ends_all (act_row act).row.ends ≡ false → s.answers ≡ list → Takes s (and_then (answer_taken_from list act s) ended_by)
 act_takes [] act s stays is = record {
   taken = [];
   acts = [];
@@ -283,16 +283,16 @@ over_then None answer s = tt
 over_then (Some report) answer s = tt
 
 act_goes_on : (list : List PlainAnswer) (act : Act) (s : State) (answer : PlainAnswer) (more : List PlainAnswer)
-    → GoesOnIn (and_then (taken_from list act s) ended_by) (and_then (taken_from (list ++ answer ∷ more) act (with_more (answer ∷ more) s)) ended_by)
+    → GoesOnIn (and_then (answer_taken_from list act s) ended_by) (and_then (answer_taken_from (list ++ answer ∷ more) act (with_more (answer ∷ more) s)) ended_by)
 act_goes_on [] act s answer more = answered_next act s (record s { asked = s.asked ++ act ∷ []; answers = more }) answer (report_of_kind (answer_row answer).row.kind) refl
 act_goes_on (first ∷ list) act s answer more =
     over_goes_on (ended_by first (record s { asked = s.asked ++ act ∷ []; answers = list })) (ended_by first (record s { asked = s.asked ++ act ∷ []; answers = list ++ answer ∷ more })) (over_then (report_of_kind (answer_row first).row.kind) first (record s { asked = s.asked ++ act ∷ []; answers = list }))
 
-pub answered : (act : Act) → ends_all (act_row act).row.ends ≡ false → IsSteady (answer_to act)
+pub answered : (act : Act) → ends_all (act_row act).row.ends ≡ false → IsSteady (answered_act act)
 answered act stays = record {
-  back = λ s more over. back_joined ended_by (λ answer. unended _ answer) more (taken_from s.answers act s) (taken_from (s.answers ++ more) act (with_more more s)) (taken_back s.answers act s more) over;
-  after = λ s. after_joined ended_by (λ answer. unended _ answer) s (taken_from s.answers act s) (taken_after s.answers act s);
-  further = λ s more. further_joined ended_by (λ answer. unended _ answer) more (taken_from s.answers act s) (taken_from (s.answers ++ more) act (with_more more s)) (taken_back s.answers act s more) (taken_further s.answers act s more);
+  back = λ s more over. back_joined ended_by (λ answer. unended _ answer) more (answer_taken_from s.answers act s) (answer_taken_from (s.answers ++ more) act (with_more more s)) (taken_back s.answers act s more) over;
+  after = λ s. after_joined ended_by (λ answer. unended _ answer) s (answer_taken_from s.answers act s) (taken_after s.answers act s);
+  further = λ s more. further_joined ended_by (λ answer. unended _ answer) more (answer_taken_from s.answers act s) (answer_taken_from (s.answers ++ more) act (with_more more s)) (taken_back s.answers act s more) (taken_further s.answers act s more);
   takes = λ s. act_takes s.answers act s stays refl;
   next = λ s answer more. act_goes_on s.answers act s answer more;
 }

@@ -14,9 +14,9 @@ use Rattle.sv_events.specs.declared.row.AnswerKind.TheVariants as kind
 use Rattle.apl_meaning.specs.State.{State, Outcome, gives, refuses, asks, Effect, and_then, with_workspace}
 
 -- an act takes the first of these answers; where there is none, it is asked
-abbrev pub taken_from : List PlainAnswer → Act → State → Outcome PlainAnswer
-taken_from [] asked s = asks asked s
-taken_from (answer ∷ answers) asked s = gives answer (record s { asked = s.asked ++ asked ∷ []; answers = answers })
+abbrev pub answer_taken_from : List PlainAnswer → Act → State → Outcome PlainAnswer
+answer_taken_from [] asked s = asks asked s
+answer_taken_from (answer ∷ answers) asked s = gives answer (record s { asked = s.asked ++ asked ∷ []; answers = answers })
 
 -- the report by which an answer ends the line, if it does
 abbrev pub report_of_kind : AnswerKind → Option Report
@@ -41,8 +41,8 @@ unless_ended None answer s = gives answer s
 unless_ended (Some ended) answer s = refuses ended s
 
 -- an act and its answer; some answers end the line
-abbrev pub answer_to : Act → State → Outcome PlainAnswer
-answer_to asked s = and_then (taken_from s.answers asked s) (λ answer s. unless_ended (report_of_kind (answer_row answer).row.kind) answer s)
+abbrev pub answered_act : Act → State → Outcome PlainAnswer
+answered_act asked s = and_then (answer_taken_from s.answers asked s) (λ answer s. unless_ended (report_of_kind (answer_row answer).row.kind) answer s)
 
 -- the own copy of a shared name is this value; where the workspace would weigh too much with it, the old copy stays
 abbrev pub with_copy : List ℕ → PlainArray → State → Effect
@@ -55,8 +55,8 @@ got name (Some value) s = and_then (with_copy name value s) (λ _ s. gives value
 
 -- a shared name is used
 abbrev pub use_of : List ℕ → State → Outcome PlainArray
-use_of name s = and_then (answer_to (act.Use name) s) (λ answer s. got name (answer_row answer).value s)
+use_of name s = and_then (answered_act (act.Use name) s) (λ answer s. got name (answer_row answer).value s)
 
 -- a shared name is set
 abbrev pub set_of : List ℕ → PlainArray → State → Effect
-set_of name value s = and_then (answer_to (act.Set name value) s) (λ _ s. with_copy name value s)
+set_of name value s = and_then (answered_act (act.Set name value) s) (λ _ s. with_copy name value s)

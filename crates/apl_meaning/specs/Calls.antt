@@ -29,13 +29,13 @@ local_value (meaning.Label line) = Some (scalar (pos line))
 local_value (meaning.Shared copy) = None
 
 -- the value of a result in the innermost frame
-abbrev pub result_in : List NameTable → List ℕ → Option PlainArray
-result_in [] result = None
-result_in (frame ∷ frames) result = local_value (unwrap_or (meaning_in frame result) meaning.Nothing)
+abbrev pub result_value_in : List NameTable → List ℕ → Option PlainArray
+result_value_in [] result = None
+result_value_in (frame ∷ frames) result = local_value (unwrap_or (meaning_in frame result) meaning.Nothing)
 
 -- the result of a function under way, if it has one
 abbrev pub result_of : PlainFunction → PlainWorkspace → Option PlainArray
-result_of function w = option_and_then (result_in w.frames) function.header.result
+result_of function w = option_and_then (result_value_in w.frames) function.header.result
 
 -- a function is left with its result, and the statement that called it goes on
 abbrev pub leaving : PlainFunction → List ℕ → State → Outcome (Option PlainArray)

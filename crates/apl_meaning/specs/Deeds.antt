@@ -11,7 +11,7 @@ use Rattle.sv_events.specs.Row.{answer_row}
 use Rattle.sv_events.specs.declared.event.Act.{Act}
 use Rattle.sv_events.specs.declared.event.Act.TheVariants as act
 use Rattle.apl_meaning.specs.State.{State, Outcome, gives, and_then}
-use Rattle.apl_meaning.specs.Answers.{answer_to}
+use Rattle.apl_meaning.specs.Answers.{answered_act}
 use Rattle.apl_meaning.specs.Naming.{Naming}
 
 -- what is done for a row
@@ -48,19 +48,19 @@ abbrev pub vector_in : PlainAnswer → List ℤ
 vector_in answer = unwrap_or (option_map control_elements (answer_row answer).row.vector) zeros
 
 -- a question and what its answer tells
-abbrev pub question : (PlainAnswer → List ℤ) → Act → State → Outcome (List ℤ)
-question told asked s = and_then (answer_to asked s) (λ answer s. gives (told answer) s)
+abbrev pub asked_and_told : (PlainAnswer → List ℤ) → Act → State → Outcome (List ℤ)
+asked_and_told told asked s = and_then (answered_act asked s) (λ answer s. gives (told answer) s)
 
 -- a name is offered with the value that the global has, and is shared from then on
 abbrev pub offering : ℕ → Naming → Option PlainArray → State → Outcome (List ℤ)
 offering to names value s =
-    and_then (answer_to (act.Offer to names.local names.surrogate value) s) (λ answer s.
+    and_then (answered_act (act.Offer to names.local names.surrogate value) s) (λ answer s.
     gives (degree_in answer) (record s { workspace = marked s.workspace (record { local = names.local; surrogate = names.surrogate; to = to }) value }))
 
 -- a name is shared no more, and has the value that the answer tells
 abbrev pub retraction : List ℕ → State → Outcome (List ℤ)
 retraction name s =
-    and_then (answer_to (act.Retract name) s) (λ answer s.
+    and_then (answered_act (act.Retract name) s) (λ answer s.
     gives (degree_in answer) (record s { workspace = unmarked s.workspace name (answer_row answer).value }))
 
 -- what is done for a name, where it is shared; a name that is not makes no act, and its result is zeros
@@ -75,10 +75,10 @@ if_shared name none next s = where_shared (is_shared s.workspace name) none next
 -- what is done for a row, and the numbers of its result
 abbrev pub done_for : Deed → Naming → State → Outcome (List ℤ)
 done_for (offer to) names s = offering to names (value_of (global_in s.workspace names.local)) s
-done_for ask_degree names s = if_shared names.local (pos 0 ∷ []) (question degree_in (act.AskDegree names.local)) s
-done_for (set_control control) names s = if_shared names.local zeros (question vector_in (act.SetControl names.local control)) s
-done_for ask_control names s = if_shared names.local zeros (question vector_in (act.AskControl names.local)) s
-done_for ask_state names s = if_shared names.local zeros (question vector_in (act.AskState names.local)) s
+done_for ask_degree names s = if_shared names.local (pos 0 ∷ []) (asked_and_told degree_in (act.AskDegree names.local)) s
+done_for (set_control control) names s = if_shared names.local zeros (asked_and_told vector_in (act.SetControl names.local control)) s
+done_for ask_control names s = if_shared names.local zeros (asked_and_told vector_in (act.AskControl names.local)) s
+done_for ask_state names s = if_shared names.local zeros (asked_and_told vector_in (act.AskState names.local)) s
 done_for retract names s = if_shared names.local (pos 0 ∷ []) (retraction names.local) s
 
 -- rows are done first to last; the numbers of their results follow one another

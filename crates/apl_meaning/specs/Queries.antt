@@ -10,7 +10,7 @@ use Rattle.apl_arrays.specs.declared.system.SystemName.TheVariants.{Svo, Svc, Sv
 use Rattle.sv_events.specs.Row.{answer_row}
 use Rattle.sv_events.specs.declared.event.Act.TheVariants as act
 use Rattle.apl_meaning.specs.State.{State, Outcome, and_then, outcome_of}
-use Rattle.apl_meaning.specs.Answers.{answer_to}
+use Rattle.apl_meaning.specs.Answers.{answered_act}
 use Rattle.apl_meaning.specs.Sharing.{controls, controls_in_force, degrees, is_no_addressee, offers, retractions, states, unless_wrong}
 
 -- an array of this shape, unless it would be too large
@@ -35,11 +35,11 @@ name_matrix names = char_array (length names ∷ longest names ∷ []) (flat_map
 
 -- the parties with open offers to this user
 abbrev pub parties_told : State → Outcome PlainArray
-parties_told s = and_then (answer_to act.AskParties s) (λ answer s. list_outcome (party_vector (unwrap_or (answer_row answer).parties [])) s)
+parties_told s = and_then (answered_act act.AskParties s) (λ answer s. list_outcome (party_vector (unwrap_or (answer_row answer).parties [])) s)
 
 -- the surrogates that a party offers to this user
 abbrev pub names_told : ℕ → State → Outcome PlainArray
-names_told party s = and_then (answer_to (act.AskNames party) s) (λ answer s. list_outcome (name_matrix (unwrap_or (answer_row answer).names [])) s)
+names_told party s = and_then (answered_act (act.AskNames party) s) (λ answer s. list_outcome (name_matrix (unwrap_or (answer_row answer).names [])) s)
 
 -- what is wrong with B: it has at most one element, and that is the number of a party; 0 is none
 abbrev pub query_faults : PlainArray → Faults

@@ -20,7 +20,7 @@ abbrev pub glyphs : List ℕ → List ℕ
 glyphs text = map glyph_of text
 
 -- what came of lines: the workspace, what was printed, the acts that were asked and answered, the answers left, how many applications were counted, and the act that waits, if one does
-pub record Account : Type 0 where
+pub record LinesAccount : Type 0 where
   pub workspace : PlainWorkspace
   pub printed : List (List ℕ)
   pub asked : List Act
@@ -29,11 +29,11 @@ pub record Account : Type 0 where
   pub waits : Option Act
 
 -- nothing came yet
-abbrev pub account_on : PlainWorkspace → List PlainAnswer → Account
+abbrev pub account_on : PlainWorkspace → List PlainAnswer → LinesAccount
 account_on w answers = record { workspace = w; printed = []; asked = []; answers = answers; applications = 0; waits = None }
 
 -- one line more, which came so far
-abbrev pub account_with : Account → State → Option Act → Account
+abbrev pub account_with : LinesAccount → State → Option Act → LinesAccount
 account_with account s waits = record {
   workspace = s.workspace;
   printed = account.printed ++ s.printed;
@@ -44,7 +44,7 @@ account_with account s waits = record {
 }
 
 -- one line more, by how it ended
-abbrev pub account_by : Account → Effect → Account
+abbrev pub account_by : LinesAccount → Effect → LinesAccount
 account_by account (gives nothing s) = account_with account s None
 account_by account (refuses report s) = account_with account s None
 account_by account (asks act s) = account_with account s (Some act)
@@ -54,12 +54,12 @@ abbrev pub worked_statements : ℕ
 worked_statements = 40
 
 -- a line more, unless an act waits
-abbrev pub line_account : Option Act → List ℕ → Account → Account
+abbrev pub line_account : Option Act → List ℕ → LinesAccount → LinesAccount
 line_account (Some act) line account = account
 line_account None line account = account_by account (mean_of_line line account.workspace account.answers worked_statements)
 
 -- what comes of lines
-abbrev pub lines_account : List (List ℕ) → Account → Account
+abbrev pub lines_account : List (List ℕ) → LinesAccount → LinesAccount
 lines_account [] account = account
 lines_account (line ∷ lines) account = lines_account lines (line_account account.waits (glyphs line) account)
 
@@ -68,7 +68,7 @@ abbrev pub word : List ℕ → PlainArray
 word text = char_array (length text ∷ []) text
 
 -- what comes of lines on a workspace, with these answers
-abbrev pub account_of : PlainWorkspace → List (List ℕ) → List PlainAnswer → Account
+abbrev pub account_of : PlainWorkspace → List (List ℕ) → List PlainAnswer → LinesAccount
 account_of w lines answers = lines_account lines (account_on w answers)
 
 -- what lines print on a workspace, with these answers
@@ -97,12 +97,12 @@ abbrev pub defining : List ℕ → List (List ℕ) → PlainWorkspace → PlainW
 defining text lines w = with_function (function_of (glyphs text) (map glyphs lines)) w
 
 -- a workspace with a name that is shared, and its own copy
-abbrev pub sharing : List ℕ → Option PlainArray → PlainWorkspace → PlainWorkspace
-sharing name copy w = marked w (record { local = name; surrogate = name; to = 1002 }) copy
+abbrev pub sharing_workspace : List ℕ → Option PlainArray → PlainWorkspace → PlainWorkspace
+sharing_workspace name copy w = marked w (record { local = name; surrogate = name; to = 1002 }) copy
 
 -- the scalar of a number
-abbrev pub number : ℕ → PlainArray
-number n = scalar (pos n)
+abbrev pub number_value : ℕ → PlainArray
+number_value n = scalar (pos n)
 
 -- the vector of numbers
 abbrev pub vector : List ℕ → PlainArray
@@ -115,4 +115,4 @@ texts lines = map glyphs lines
 -- an empty workspace in which these names are shared, without values
 abbrev pub sharing_all : List (List ℕ) → PlainWorkspace
 sharing_all [] = empty_workspace
-sharing_all (name ∷ names) = sharing name None (sharing_all names)
+sharing_all (name ∷ names) = sharing_workspace name None (sharing_all names)

@@ -55,7 +55,7 @@ fn class_seen(name: Name, seen: Seen<'_>) -> Option<Class>
     }
 }
 
-/// How many arguments a function takes. No memory.
+/// How many arguments a function takes.
 pub fn argument_count(function: &Function) -> u8
     ensures { result ≡ argument_count function.now.header }
 {

@@ -12,7 +12,7 @@ use Rattle.apl_verbs.specs.declared.verb.Dyad.{Dyad}
 use Rattle.apl_arrays.specs.declared.way.Way.{Way}
 use Rattle.apl_arrays.specs.Array.{FitsLimits, PlainArray, PlainItems, chars, element_count, item_count, numbers}
 use Rattle.apl_arrays.proofs.Shapes.{what_fits_has_no_fault}
-use Rattle.apl_items.specs.Answers.{Answer, AnswersFirst}
+use Rattle.apl_items.specs.Answers.{ArrayResult, AnswersFirst}
 use Rattle.apl_items.specs.declared.shapes.Split.{Split}
 use Rattle.apl_items.specs.Shapes.{place_along, split_at, split_count}
 use Rattle.apl_items.proofs.ShapeLemmas.{element_count-append, split_count_lem}
@@ -115,7 +115,7 @@ pub lone_chars : (f : Dyad) (items : PlainItems) (list copied : List ℕ) (split
     → FitsLimits shape → split_count split ≡ item_count items → split.outer * split.inner ≡ element_count shape → 0 < split_count split
     → made ≡ record { shape = shape; items = chars copied } → gathered shape (reduced_line f items split) ≡ Ok made
 lone_chars f items list copied split shape made is same e fits whole lines some is_made =
-    let given : PlainArray → Answer = λ array. Ok array in
+    let given : PlainArray → ArrayResult = λ array. Ok array in
     let array : List ℕ → PlainArray = λ xs. record { shape = shape; items = chars xs } in
     let count : split_count split ≡ length list = whole ∙ ap item_count is in
     let all : split_count split ≡ split.outer * split.inner = lines_of_one split.outer split.along split.inner e in
@@ -173,7 +173,7 @@ no_lines axis shape inside some none =
 pub no_lines_made : (f : Dyad) (b made : PlainArray) (axis : ℕ) (shape : List ℕ) → shape ≡ without axis b.shape → FitsLimits shape → element_count shape ≡ 0
     → made ≡ record { shape = shape; items = numbers [] } → reduced f b axis ≡ Ok made
 no_lines_made f b made axis shape is fits none is_made =
-    let given : PlainArray → Answer = λ array. Ok array in
+    let given : PlainArray → ArrayResult = λ array. Ok array in
     ap (λ (s : List ℕ). gathered s (reduced_line f b.items (split_at b.shape axis))) (sym is)
     ∙ gathered_none shape (reduced_line f b.items (split_at b.shape axis)) (what_fits_has_no_fault shape fits) none ∙ ap given (sym is_made)
 

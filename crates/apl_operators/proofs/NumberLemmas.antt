@@ -14,7 +14,7 @@ use Rattle.apl_arrays.specs.declared.report.Report.{Report}
 use Rattle.apl_arrays.specs.declared.report.Report.TheVariants.{Domain, WsFull}
 use Rattle.apl_arrays.specs.Array.{FitsLimits, PlainArray, chars, element_count, numbers}
 use Rattle.apl_arrays.specs.Shape.{shape_fault}
-use Rattle.apl_items.specs.Answers.{Answer, AnswersFirst, answer_of, faults_of_fault, shape_faults}
+use Rattle.apl_items.specs.Answers.{ArrayResult, AnswersFirst, answer_of, faults_of_fault, shape_faults}
 use Rattle.apl_items.specs.Places.{Follows, GivesEach, HasItems, IsByPlace, LacksItem, OnDomain, OnWantOfMemory, items_by, lacks_item, numbers_by, places}
 use Rattle.apl_items.proofs.PlaceLemmas.{made, nothing_lacks, nothing_lacks_at, something_lacks}
 use Rattle.apl_scalar.proofs.MemoryLemmas.{has_as_told}
@@ -25,20 +25,20 @@ none_is None e = refl
 none_is (Some x) e = cc
 
 -- a report as an answer
-abbrev refusal : Report → Answer
+abbrev refusal : Report → ArrayResult
 refusal report = Err report
 
 -- a failure that is handed on
-pub answers_through : (result : Result PlainArray Fail) (why other : Fail) (answer : Answer) → result ≡ Err other → other ≡ why → AnswersFirst (Err why) answer → AnswersFirst result answer
+pub answers_through : (result : Result PlainArray Fail) (why other : Fail) (answer : ArrayResult) → result ≡ Err other → other ≡ why → AnswersFirst (Err why) answer → AnswersFirst result answer
 answers_through result why other answer is same answers =
     subst (λ (r : Result PlainArray Fail). AnswersFirst r answer) (sym is) (subst (λ (w : Fail). AnswersFirst (Err w) answer) (sym same) answers)
 
 -- want of memory that is handed on, where there is no report
-pub out_of_memory : (result : Result PlainArray Fail) (other : Fail) (answer : Answer) → result ≡ Err other → other ≡ fail.WantOfMemory → IsOk answer → AnswersFirst result answer
+pub out_of_memory : (result : Result PlainArray Fail) (other : Fail) (answer : ArrayResult) → result ≡ Err other → other ≡ fail.WantOfMemory → IsOk answer → AnswersFirst result answer
 out_of_memory result other answer is same fine = answers_through result fail.WantOfMemory other answer is same fine
 
 -- an answer that is an array has no report
-pub given_there : (answer : Answer) (made : PlainArray) → answer ≡ Ok made → IsOk answer
+pub given_there : (answer : ArrayResult) (made : PlainArray) → answer ≡ Ok made → IsOk answer
 given_there answer made is = rw is refl
 
 -- the numbers of a shape within the limits
@@ -107,12 +107,12 @@ abbrev of_numbers : (ℕ → Option ℤ) → ℕ → Option Item
 of_numbers given place = option_map Number (given place)
 
 -- an array of either kind, by what is lacking
-abbrev either : List ℕ → Bool → Bool → List ℤ → List ℕ → Answer
+abbrev either : List ℕ → Bool → Bool → List ℤ → List ℕ → ArrayResult
 either shape no_number no_char xs ys =
     answer_of (record (shape_faults shape) { bad_domain = no_number && no_char }) (record { shape = shape; items = if no_number then chars ys else numbers xs })
 
 -- an array of numbers, by whether one is lacking
-abbrev only : List ℕ → Bool → List ℤ → Answer
+abbrev only : List ℕ → Bool → List ℤ → ArrayResult
 only shape lacks xs = answer_of (record (shape_faults shape) { bad_domain = lacks }) (record { shape = shape; items = numbers xs })
 
 by_lack : (shape : List ℕ) (given : ℕ → Option ℤ) (lacks : Bool) → lacks_item (element_count shape) given ≡ lacks → gathered shape (of_numbers given) ≡ numbers_answer shape given
@@ -199,5 +199,5 @@ pub identities_made : (shape : List ℕ) (identity : Option ℤ) (list : List �
     → length list ≡ count → ((place : ℕ) → place < count → slice_get list place ≡ identity) → made ≡ record { shape = shape; items = numbers list }
     → numbers_answer shape (λ place. identity) ≡ Ok made
 identities_made shape identity list made fits count whole long each is =
-    let given : PlainArray → Answer = λ array. Ok array in
+    let given : PlainArray → ArrayResult = λ array. Ok array in
     numbers_made shape count (λ place. identity) list fits whole (record { whole = long; each = each }) ∙ ap given (sym is)

@@ -6,7 +6,7 @@ use Rattle.apl_verbs.specs.declared.verb.Dyad.{Dyad}
 use Rattle.apl_arrays.specs.Array.{PlainArray, PlainItems, chars, numbers}
 use Rattle.apl_items.specs.Answers.{AnswersFirst}
 use Rattle.apl_scalar.specs.Table.{item_of_chars}
-use Rattle.apl_operators.specs.declared.products.Extent.{Extent}
+use Rattle.apl_operators.specs.declared.products.ProductExtent.{ProductExtent}
 use Rattle.operator_rules.specs.Gathering.{numbers_answer}
 use Rattle.operator_rules.specs.Inner.{inner_at}
 use Rattle.apl_operators.specs.Products.{IsExtent, products_at}
@@ -20,7 +20,7 @@ some_reduced join identity item zero some = absurd (omega arith)
 some_reduced join identity item (suc count) some = let one : suc count - 1 ≡ count = omega arith in ap (λ (n : ℕ). reduction join item 0 n) one
 
 -- the places of a pair stand within the arrays, whose sizes are small
-pub pair_places : (extent : Extent) (row column along : ℕ) → IsExtent extent → row < extent.rows → column < extent.columns → along < extent.paired
+pub pair_places : (extent : ProductExtent) (row column along : ℕ) → IsExtent extent → row < extent.rows → column < extent.columns → along < extent.paired
     → (row * extent.paired + along < extent.rows * extent.paired) × (along * extent.columns + column < extent.paired * extent.columns)
     × (extent.rows * extent.paired ≤ 268435456) × (extent.paired * extent.columns ≤ 268435456)
 pair_places extent row column along is p q r = (

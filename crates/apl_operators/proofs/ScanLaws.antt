@@ -12,7 +12,7 @@ use Rattle.apl_arrays.specs.declared.way.Way.{Way}
 use Rattle.apl_arrays.specs.declared.way.Way.TheVariants.{First, Last}
 use Rattle.apl_arrays.specs.Array.{PlainArray, element_count, number_array, numbers, numbers_in, scalar}
 use Rattle.apl_arrays.specs.Shape.{shape_fault}
-use Rattle.apl_items.specs.Answers.{Answer, answer_of, faults_of_fault}
+use Rattle.apl_items.specs.Answers.{ArrayResult, answer_of, faults_of_fault}
 use Rattle.apl_items.specs.Axis.{axis_of, lacks_axis}
 use Rattle.apl_items.specs.declared.shapes.Split.{Split}
 use Rattle.apl_items.specs.Places.{items_by, lacks_item, numbers_by}
@@ -122,7 +122,7 @@ axis_below rank way (Some (pos zero)) named some = absurd (cc)
 axis_below rank way (Some (pos (suc n))) named some = grind (arith, nat_tests)
 axis_below rank way (Some (negsuc n)) named some = absurd (cc)
 
-named_axis : (t : Bool) (other : Answer) (r : PlainArray) → (if t then Err Index else other) ≡ Ok r → t ≡ false
+named_axis : (t : Bool) (other : ArrayResult) (r : PlainArray) → (if t then Err Index else other) ≡ Ok r → t ≡ false
 named_axis true other r e = absurd (cc)
 named_axis false other r e = refl
 

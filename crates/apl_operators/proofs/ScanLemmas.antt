@@ -15,7 +15,7 @@ use Rattle.apl_arrays.specs.Array.{IsArray, PlainArray, PlainItems, chars, eleme
 use Rattle.apl_arrays.specs.Shape.{shape_fault}
 use Rattle.apl_arrays.proofs.Shapes.{what_fits_has_no_fault}
 use Rattle.apl_arrays.specs.declared.way.Way.{Way}
-use Rattle.apl_items.specs.Answers.{Answer, AnswersFirst, answer_of, faults_of_fault}
+use Rattle.apl_items.specs.Answers.{ArrayResult, AnswersFirst, answer_of, faults_of_fault}
 use Rattle.apl_items.specs.Axis.{axis_of, lacks_axis}
 use Rattle.apl_items.specs.declared.shapes.Split.{Split}
 use Rattle.apl_items.specs.Places.{HasItems, IsByPlace, MakesItems, OnWantOfMemory}
@@ -64,7 +64,7 @@ scanned_as f b axis list split is is_split =
 pub scan_made : (f : Dyad) (b result : PlainArray) (axis : ℕ) (list made : List ℤ) (split : Split) → IsArray b → b.items ≡ numbers list → split ≡ split_at b.shape axis
     → IsByPlace (length list) (front_at (dyadic_item f) list split) made → result ≡ record { shape = b.shape; items = numbers made } → scanned f b axis ≡ Ok result
 scan_made f b result axis list made split is_b is is_split by_place is_result =
-    let given : PlainArray → Answer = λ array. Ok array in
+    let given : PlainArray → ArrayResult = λ array. Ok array in
     let whole : length list ≡ element_count b.shape = sym (is_b.whole ∙ ap item_count is) in
     scanned_as f b axis list split is is_split
     ∙ numbers_made b.shape (length list) (front_at (dyadic_item f) list split) made (what_fits_has_no_fault b.shape is_b.fits) whole by_place ∙ ap given (sym is_result)
@@ -75,7 +75,7 @@ pub scan_there : (f : Dyad) (b : PlainArray) (axis : ℕ) (list made : List ℤ)
 scan_there f b axis list made split is_b is is_split by_place =
     rw (scan_made f b (record { shape = b.shape; items = numbers made }) axis list made split is_b is is_split by_place refl) refl
 
-refusal : Report → Answer
+refusal : Report → ArrayResult
 refusal report = Err report
 
 pub scan_refused : (f : Dyad) (b : PlainArray) (axis : ℕ) (list : List ℤ) (split : Split) (why : Fail) → IsArray b → b.items ≡ numbers list → split ≡ split_at b.shape axis
@@ -94,7 +94,7 @@ scan_refused f b axis list split fail.WantOfMemory is_b is is_split refused want
 pub lone_chars_stay : (f : Dyad) (b result : PlainArray) (axis : ℕ) (list : List ℕ) (split : Split) → IsArray b → b.items ≡ chars list → split ≡ split_at b.shape axis
     → split.along ≡ 1 → 0 < item_count b.items → result ≡ b → scanned f b axis ≡ Ok result
 lone_chars_stay f b result axis list split is_b is is_split e some is_result =
-    let given : PlainArray → Answer = λ array. Ok array in
+    let given : PlainArray → ArrayResult = λ array. Ok array in
     let array : PlainItems → PlainArray = λ items. record { shape = b.shape; items = items } in
     ap (λ (s : Split). gathered b.shape (scanned_at f b.items s)) (sym is_split) ∙ ap (λ (i : PlainItems). gathered b.shape (scanned_at f i split)) is
     ∙ gathered_chars b.shape (length list) (scanned_at f (chars list) split) list (what_fits_has_no_fault b.shape is_b.fits) (sym (is_b.whole ∙ ap item_count is))

@@ -21,13 +21,13 @@ use Rattle.apl_scalar.proofs.Quotients.{residue_above, residue_below, residue_fr
 use Rattle.operator_rules.specs.Inner.{inner_at, pair_at}
 use Rattle.operator_rules.specs.Outer.{outer_at}
 use Rattle.operator_rules.specs.Reduction.{item_in, joined, reduction, reduction_of}
-use Rattle.apl_operators.specs.Rows.{TakesAll, is_small, refuses_none, takes_all}
+use Rattle.apl_operators.specs.Rows.{TakesAll, is_number_of_64_bits, refuses_none, takes_all}
 use Rattle.apl_operators.proofs.FrontLemmas.{Fits, greater_fits, lesser_fits, where_fits}
 
 -- ---- two numbers
 
-small_where : (value : ℤ) → Fits value → is_small (item_where true value) ≡ true
-small_where value e = ap is_small (where_fits value e) ∙ e
+small_where : (value : ℤ) → Fits value → is_number_of_64_bits (item_where true value) ≡ true
+small_where value e = ap is_number_of_64_bits (where_fits value e) ∙ e
 
 truth_fits : (t : Bool) → Fits (truth t)
 truth_fits true = refl
@@ -49,7 +49,7 @@ residue_fits (pos (suc d)) b p q =
     from_0_fits (suc d) (residue (pos (suc d)) b) p (residue_from_0 (pos (suc d)) b (omega (arith, ints))) (residue_below (pos (suc d)) b (omega (arith, ints)))
 residue_fits (negsuc d) b p q = to_0_fits d (residue (negsuc d) b) p (residue_to_0 (negsuc d) b (omega (arith, ints))) (residue_above (negsuc d) b (omega (arith, ints)))
 
-numbers_small : (f : Dyad) (a b : ℤ) → refuses_none f ≡ true → Fits a → Fits b → is_small (dyadic_item f a b) ≡ true
+numbers_small : (f : Dyad) (a b : ℤ) → refuses_none f ≡ true → Fits a → Fits b → is_number_of_64_bits (dyadic_item f a b) ≡ true
 numbers_small Maximum a b e p q = small_where (int_max a b) (greater_fits a b p q)
 numbers_small Minimum a b e p q = small_where (int_min a b) (lesser_fits a b p q)
 numbers_small Residue a b e p q = small_where (residue a b) (residue_fits a b p q)
@@ -61,7 +61,7 @@ numbers_small Greater a b e p q = small_where (truth (int_lt b a)) (truth_fits (
 numbers_small NotEqual a b e p q = small_where (truth (not (int_eq a b))) (truth_fits (not (int_eq a b)))
 numbers_small _ a b e p q = absurd (false≢true e)
 
-chars_small : (f : Dyad) (alike : Bool) → takes_chars f ≡ true → is_small (item_of_chars f alike) ≡ true
+chars_small : (f : Dyad) (alike : Bool) → takes_chars f ≡ true → is_number_of_64_bits (item_of_chars f alike) ≡ true
 chars_small Equal true e = refl
 chars_small Equal false e = refl
 chars_small NotEqual true e = refl
@@ -84,7 +84,7 @@ taken f (chars xs) (numbers ys) p q e = λ x y. chars_small f false e
 taken f (chars xs) (chars ys) p q e = λ x y. chars_small f (slice_index xs x == slice_index ys y) e
 
 -- what is small is there
-small_is_there : (item : Option ℤ) → is_small item ≡ true → is_none item ≡ false
+small_is_there : (item : Option ℤ) → is_number_of_64_bits item ≡ true → is_none item ≡ false
 small_is_there None e = absurd (false≢true e)
 small_is_there (Some n) e = refl
 
@@ -98,16 +98,16 @@ item_extends : (items : PlainItems) (place : ℕ) → item_at items place ≡ it
 item_extends (numbers list) place = refl
 item_extends (chars list) place = refl
 
-joined_small : (f : Dyad) (a b : Option ℤ) → refuses_none f ≡ true → is_small a ≡ true → is_small b ≡ true → is_small (joined (dyadic_item f) a b) ≡ true
+joined_small : (f : Dyad) (a b : Option ℤ) → refuses_none f ≡ true → is_number_of_64_bits a ≡ true → is_number_of_64_bits b ≡ true → is_number_of_64_bits (joined (dyadic_item f) a b) ≡ true
 joined_small f None b e p q = absurd (false≢true p)
 joined_small f (Some a) None e p q = absurd (false≢true q)
 joined_small f (Some a) (Some b) e p q = numbers_small f a b e p q
 
-reduction_small : (f : Dyad) (item : ℕ → Option ℤ) → refuses_none f ≡ true → ((k : ℕ) → is_small (item k) ≡ true) → (from more : ℕ) → is_small (reduction (dyadic_item f) item from more) ≡ true
+reduction_small : (f : Dyad) (item : ℕ → Option ℤ) → refuses_none f ≡ true → ((k : ℕ) → is_number_of_64_bits (item k) ≡ true) → (from more : ℕ) → is_number_of_64_bits (reduction (dyadic_item f) item from more) ≡ true
 reduction_small f item e each from zero = each from
 reduction_small f item e each from (suc more) = joined_small f (item from) (reduction (dyadic_item f) item (from + 1) more) e (each from) (reduction_small f item e each (from + 1) more)
 
-some_small : (f : Dyad) (item : ℕ → Option ℤ) (count : ℕ) → 0 < count → refuses_none f ≡ true → ((k : ℕ) → is_small (item k) ≡ true) → is_small (reduction_of (dyadic_item f) (row_of_dyad f).identity item count) ≡ true
+some_small : (f : Dyad) (item : ℕ → Option ℤ) (count : ℕ) → 0 < count → refuses_none f ≡ true → ((k : ℕ) → is_number_of_64_bits (item k) ≡ true) → is_number_of_64_bits (reduction_of (dyadic_item f) (row_of_dyad f).identity item count) ≡ true
 some_small f item zero some e each = absurd (omega arith)
 some_small f item (suc more) some e each = reduction_small f item e each 0 more
 
@@ -119,5 +119,5 @@ products_there f g a b count columns place some e all =
     (λ along.
     let x : ℕ = place / columns * count + along in
     let y : ℕ = along * columns + place % columns in
-    ap (λ (i : Item). is_small (pair_item g i (item_at b y))) (item_extends a x) ∙ ap (λ (i : Item). is_small (pair_item g (item_in a (place_in (item_count a) x)) i)) (item_extends b y)
+    ap (λ (i : Item). is_number_of_64_bits (pair_item g i (item_at b y))) (item_extends a x) ∙ ap (λ (i : Item). is_number_of_64_bits (pair_item g (item_in a (place_in (item_count a) x)) i)) (item_extends b y)
     ∙ all (place_in (item_count a) x) (place_in (item_count b) y)))

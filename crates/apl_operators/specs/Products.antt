@@ -1,11 +1,11 @@
 use Rattle.std.specs.Prelude.{◌≡◌, ◌+◌, ◌*◌, ◌/◌, ◌%◌, ◌<◌, ◌≤◌, ℕ, ℤ, Option}
-use Rattle.apl_operators.specs.declared.products.Extent.{Extent}
+use Rattle.apl_operators.specs.declared.products.ProductExtent.{ProductExtent}
 use Rattle.apl_verbs.specs.declared.verb.Dyad.{Dyad}
 use Rattle.apl_scalar.specs.Table.{dyadic_item, row_of_dyad}
 use Rattle.operator_rules.specs.Reduction.{reduction_of}
 
 -- there are pairs, and no side is longer than an array may be
-pub record IsExtent (extent : Extent) : Type 0 where
+pub record IsExtent (extent : ProductExtent) : Type 0 where
   pub some : 0 < extent.paired
   pub rows : extent.rows ≤ 16384
   pub paired : extent.paired ≤ 16384

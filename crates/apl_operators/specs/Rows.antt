@@ -27,10 +27,10 @@ takes_all f (chars a) (numbers b) = takes_chars f
 takes_all f (chars a) (chars b) = takes_chars f
 
 -- there is a number, and it has 64 bits
-abbrev pub is_small : Option ℤ → Bool
-is_small None = false
-is_small (Some number) = fits number
+abbrev pub is_number_of_64_bits : Option ℤ → Bool
+is_number_of_64_bits None = false
+is_number_of_64_bits (Some number) = fits number
 
 -- the function has a value of 64 bits at each item of the one with each of the other
 abbrev pub TakesAll : Dyad → PlainItems → PlainItems → Type 0
-TakesAll f a b = (x y : ℕ) → is_small (pair_item f (item_in a x) (item_in b y)) ≡ true
+TakesAll f a b = (x y : ℕ) → is_number_of_64_bits (pair_item f (item_in a x) (item_in b y)) ≡ true

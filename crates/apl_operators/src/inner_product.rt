@@ -11,7 +11,7 @@ ghost use Rattle.operator_rules.specs.Reduction.{Joins, Tells};
 
 use crate::identities::identities;
 use crate::items::{refuses_none, takes_all};
-use crate::products::{Extent, all_products};
+use crate::products::{ProductExtent, all_products};
 use apl_arrays::{
     Array, Fail, Glyph, ItemsRef, RANK_LIMIT, Report, count_of_elements, shape_fault,
 };
@@ -115,7 +115,7 @@ fn products(
     if paired == 0 {
         return identities(alloc, f, shape);
     }
-    let extent = Extent {
+    let extent = ProductExtent {
         rows: count_of_elements(without_last(a.shape())),
         paired,
         columns: count_of_elements(without_first(b.shape())),
@@ -132,7 +132,7 @@ fn products_of_items(
     shape: &[u32],
     a: ItemsRef<'_>,
     b: ItemsRef<'_>,
-    extent: Extent,
+    extent: ProductExtent,
 ) -> Result<Array, Fail>
     requires rank { length shape.now ≤ most_axes }
     requires count { extent.rows * extent.columns ≡ element_count shape.now }
@@ -164,7 +164,7 @@ fn number_products(
     shape: &[u32],
     a: &[i64],
     b: &[i64],
-    extent: Extent,
+    extent: ProductExtent,
 ) -> Result<Array, Fail>
     requires rank { length shape.now ≤ most_axes }
     requires count { extent.rows * extent.columns ≡ element_count shape.now }
@@ -202,7 +202,7 @@ fn products_by_pairs<G: Fn(i64, i64) -> Option<i64>>(
     shape: &[u32],
     a: &[i64],
     b: &[i64],
-    extent: Extent,
+    extent: ProductExtent,
     rule: G,
 ) -> Result<Array, Fail>
     requires callable { G.IsAlwaysCallable rule }
@@ -236,7 +236,7 @@ fn glyph_products(
     shape: &[u32],
     a: &[Glyph],
     b: &[Glyph],
-    extent: Extent,
+    extent: ProductExtent,
 ) -> Result<Array, Fail>
     requires rank { length shape.now ≤ most_axes }
     requires count { extent.rows * extent.columns ≡ element_count shape.now }
@@ -271,7 +271,7 @@ fn glyph_products_by<G: Fn(bool) -> Option<i64>>(
     shape: &[u32],
     a: &[Glyph],
     b: &[Glyph],
-    extent: Extent,
+    extent: ProductExtent,
     rule: G,
 ) -> Result<Array, Fail>
     requires callable { G.IsAlwaysCallable rule }
@@ -303,7 +303,7 @@ fn unlike_products(
     f: Dyad,
     g: Dyad,
     shape: &[u32],
-    extent: Extent,
+    extent: ProductExtent,
 ) -> Result<Array, Fail>
     requires rank { length shape.now ≤ most_axes }
     requires count { extent.rows * extent.columns ≡ element_count shape.now }

@@ -28,7 +28,7 @@ pub(crate) fn refuses_none(f: Dyad) -> bool
     )
 }
 
-/// Whether a dyadic function has a value of 64 bits at each item of the one list with each of the other. No memory.
+/// Whether a dyadic function has a value of 64 bits at each item of the one list with each of the other.
 pub(crate) fn takes_all(f: Dyad, a: ItemsRef<'_>, b: ItemsRef<'_>) -> bool
     ensures value { result ≡ takes_all f (seen_items a.entry) (seen_items b.entry) }
     ensures all { result ≡ true → TakesAll f (seen_items a.entry) (seen_items b.entry) }

@@ -16,8 +16,7 @@ use apl_items::Split;
 use apl_verbs::Dyad;
 
 /// Reductions: `-/1 2 3` is 2, since it goes from the right; no items give the identity, numbers or characters, or
-/// DOMAIN where there is none; one item and a scalar are unchanged; a scalar has no axis. The call does nothing. No
-/// memory.
+/// DOMAIN where there is none; one item and a scalar are unchanged; a scalar has no axis. The call does nothing.
 pub fn reductions_go_from_the_right()
     ensures minus { reduce_of Dyad.Minus (record { shape = 3 ∷ []; items = numbers (pos 1 ∷ pos 2 ∷ pos 3 ∷ []) }) Way.Last None ≡ Ok (scalar (pos 2)) }
     ensures no_numbers { reduce_of Dyad.Plus (record { shape = 0 ∷ []; items = numbers [] }) Way.Last None ≡ Ok (scalar (pos 0)) }
@@ -31,7 +30,7 @@ pub fn reductions_go_from_the_right()
 {}
 
 /// Reductions of a matrix of two rows and three columns: along its rows, along its columns, and along no axis of it; and
-/// of matrices that give no items, which are numbers. The call does nothing. No memory.
+/// of matrices that give no items, which are numbers. The call does nothing.
 pub fn reductions_go_along_an_axis()
     ensures rows { reduce_of Dyad.Plus (record { shape = 2 ∷ 3 ∷ []; items = numbers (pos 1 ∷ pos 2 ∷ pos 3 ∷ pos 4 ∷ pos 5 ∷ pos 6 ∷ []) }) Way.Last None
         ≡ Ok (record { shape = 2 ∷ []; items = numbers (pos 6 ∷ pos 15 ∷ []) }) }
@@ -45,7 +44,7 @@ pub fn reductions_go_along_an_axis()
 {}
 
 /// Scans: `-\1 2 3` is `1 ¯1 2`, each item a reduction from the right; so a product may leave 64 bits although 0 stands
-/// before it. Items of both kinds are DOMAIN; no items keep their kind. The call does nothing. No memory.
+/// before it. Items of both kinds are DOMAIN; no items keep their kind. The call does nothing.
 pub fn scans_are_reductions()
     ensures minus { scan_of Dyad.Minus (record { shape = 3 ∷ []; items = numbers (pos 1 ∷ pos 2 ∷ pos 3 ∷ []) }) Way.Last None
         ≡ Ok (record { shape = 3 ∷ []; items = numbers (pos 1 ∷ negsuc 0 ∷ pos 2 ∷ []) }) }
@@ -59,7 +58,7 @@ pub fn scans_are_reductions()
 {}
 
 /// Outer products: `1 2∘.+1 2` is a matrix; no items are numbers, whatever is paired; a pair without a value is DOMAIN.
-/// The call does nothing. No memory.
+/// The call does nothing.
 pub fn outer_products_pair_all()
     ensures sums { outer_product_of Dyad.Plus (record { shape = 2 ∷ []; items = numbers (pos 1 ∷ pos 2 ∷ []) }) (record { shape = 2 ∷ []; items = numbers (pos 1 ∷ pos 2 ∷ []) })
         ≡ Ok (record { shape = 2 ∷ 2 ∷ []; items = numbers (pos 2 ∷ pos 3 ∷ pos 3 ∷ pos 4 ∷ []) }) }
@@ -73,7 +72,7 @@ pub fn outer_products_pair_all()
 {}
 
 /// Inner products: `1 2+.×3 4` is 11; a matrix by a column, and by a matrix; one element extends, but an axis of length 1 does not; no
-/// pairs give the identity of the first function. The call does nothing. No memory.
+/// pairs give the identity of the first function. The call does nothing.
 pub fn inner_products_reduce_pairs()
     ensures sum { inner_product_of Dyad.Plus Dyad.Times (record { shape = 2 ∷ []; items = numbers (pos 1 ∷ pos 2 ∷ []) }) (record { shape = 2 ∷ []; items = numbers (pos 3 ∷ pos 4 ∷ []) }) ≡ Ok (scalar (pos 11)) }
     ensures rows { inner_product_of Dyad.Minus Dyad.Times (record { shape = 2 ∷ 2 ∷ []; items = numbers (pos 1 ∷ pos 2 ∷ pos 3 ∷ pos 4 ∷ []) }) (record { shape = 2 ∷ 1 ∷ []; items = numbers (pos 5 ∷ pos 1 ∷ []) })
@@ -88,7 +87,7 @@ pub fn inner_products_reduce_pairs()
 {}
 
 /// At each of its places a scan of a vector has what a reduction gives of the vector cut off behind that place. The call
-/// does nothing. No memory.
+/// does nothing.
 #[tactic(auto, using(crate::proofs::ScanLaws::scan_item))]
 pub fn each_item_of_a_scan_is_a_reduction()
     ensures { (f : Dyad) (list : List ℤ) (k : ℕ) (r : PlainArray) → k < length list → scan_of f (number_array (length list ∷ []) list) Way.Last None ≡ Ok r
@@ -96,7 +95,7 @@ pub fn each_item_of_a_scan_is_a_reduction()
 {}
 
 /// Each item of a scan along an axis is the reduction of the vector of the numbers of its line, from the first up to its own.
-/// The call does nothing. No memory.
+/// The call does nothing.
 #[tactic(auto, using(crate::proofs::ScanLaws::scan_item_on_line))]
 pub fn each_item_of_a_scan_reduces_its_line()
     ensures { (f : Dyad) (shape : List ℕ) (list : List ℤ) (way : Way) (axis : Option ℤ) (split : Split) (outer along inner : ℕ) (r : PlainArray) → 0 < length shape
@@ -105,7 +104,7 @@ pub fn each_item_of_a_scan_reduces_its_line()
 {}
 
 /// An inner product of two vectors is the reduction by the one function of what the other gives of their items, pair by pair:
-/// `A f.g B` is `f/A g B`. The call does nothing. No memory.
+/// `A f.g B` is `f/A g B`. The call does nothing.
 #[tactic(auto, using(crate::proofs::InnerLaws::products_of_vectors))]
 pub fn an_inner_product_of_vectors_is_a_reduction()
     ensures { (f g : Dyad) (xs ys zs : List ℤ) (n : ℕ) → length xs ≡ n → length ys ≡ n → ((k : ℕ) → k < n → dyadic_item g (slice_index_or xs k (pos 0)) (slice_index_or ys k (pos 0)) ≡ Some (slice_index_or zs k (pos 0)))

@@ -15,7 +15,7 @@ pub(crate) struct LineAt {
 }
 
 /// The reduction of the numbers on a line by the rule of a function, from the first up to one, or `None` where two have no
-/// value. No memory.
+/// value.
 pub(crate) fn front_of_line<F: Fn(i64, i64) -> Option<i64>>(
     f: Dyad,
     list: &[i64],
@@ -42,7 +42,7 @@ pub(crate) fn front_of_line<F: Fn(i64, i64) -> Option<i64>>(
     reduced(along, &number, join)
 }
 
-/// The reduction of all numbers on a line by the rule of a function, or `None` where two have no value. No memory.
+/// The reduction of all numbers on a line by the rule of a function, or `None` where two have no value.
 pub(crate) fn last_front<F: Fn(i64, i64) -> Option<i64>>(
     f: Dyad,
     list: &[i64],

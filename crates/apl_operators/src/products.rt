@@ -16,7 +16,7 @@ use std::alloc::Global;
 
 /// How many rows the first argument has, how many items are paired in each product, and how many columns the second has.
 #[derive(Clone, Copy)]
-pub(crate) struct Extent {
+pub(crate) struct ProductExtent {
     pub rows: usize,
     pub paired: usize,
     pub columns: usize,
@@ -28,7 +28,7 @@ pub(crate) fn all_products<P: Fn(usize, usize) -> Option<i64>>(
     alloc: Global,
     f: Dyad,
     shape: &[u32],
-    extent: Extent,
+    extent: ProductExtent,
     pair: &P,
 ) -> Result<Array, Fail>
     requires rank { length shape.now ≤ most_axes }
@@ -61,7 +61,7 @@ fn products_by<P: Fn(usize, usize) -> Option<i64>, F: Fn(i64, i64) -> Option<i64
     alloc: Global,
     f: Dyad,
     shape: &[u32],
-    extent: Extent,
+    extent: ProductExtent,
     pair: &P,
     rule: F,
 ) -> Result<Array, Fail>
@@ -93,7 +93,7 @@ fn products_by<P: Fn(usize, usize) -> Option<i64>, F: Fn(i64, i64) -> Option<i64
 /// The product of a row and a column.
 fn row_by_column<P: Fn(usize, usize) -> Option<i64>, F: Fn(i64, i64) -> Option<i64>>(
     f: Dyad,
-    extent: Extent,
+    extent: ProductExtent,
     row: usize,
     column: usize,
     pair: &P,
@@ -107,7 +107,7 @@ fn row_by_column<P: Fn(usize, usize) -> Option<i64>, F: Fn(i64, i64) -> Option<i
     requires callable { (x y : ℕ) → x < extent.rows * extent.paired → y < extent.paired * extent.columns → P.pre pair.now x y }
     ensures { (item : ℕ → ℕ → Option ℤ) → FollowsPairs (P.post pair.now) (extent.rows * extent.paired) (extent.paired * extent.columns) item → result ≡ product_of f item extent.paired extent.columns row column }
 {
-    let Extent {
+    let ProductExtent {
         paired,
         columns,
         ..

@@ -3,7 +3,7 @@ ghost use Rattle.apl_items.specs.Places.{Follows};
 ghost use Rattle.operator_rules.specs.Reduction.{Joins, reduction};
 
 /// The reduction of an item and of so many after it, from the right, or `None` where an item is lacking or two items
-/// have no value. No memory.
+/// have no value.
 pub(crate) fn reduced<T: Copy + Drop, G: Fn(usize) -> Option<T>, F: Fn(T, T) -> Option<T>>(
     more: usize,
     item: &G,

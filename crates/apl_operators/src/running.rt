@@ -12,7 +12,7 @@ use apl_scalar::{read_all, rules};
 use apl_verbs::Dyad;
 
 /// Whether the reduction of each front of each line follows from the one before it: by `⌈`, `⌊`, `∧` and `∨`, and by `+` and
-/// `×` where no sum or product of neighbours leaves 64 bits. No memory.
+/// `×` where no sum or product of neighbours leaves 64 bits.
 pub(crate) fn runs(f: Dyad, list: &[i64], split: Split) -> bool
     requires whole { split_count split ≡ length list.now }
     requires some { 0 < split_count split }
@@ -108,7 +108,7 @@ fn weight_of_line<W: Fn(i64) -> Option<i64>, F: Fn(i64, i64) -> Option<i64>>(
 }
 
 /// The items that follow from the ones before them, in one pass over all rows, in a list that has room for them, or `None`
-/// where one does not follow. No memory.
+/// where one does not follow.
 pub(crate) fn running<T: Copy + Drop, F: Fn(T, T) -> Option<T>>(
     room: Vec<T>,
     list: &[T],

@@ -21,7 +21,7 @@ impl<L: Ledger> Model for Steps<L> {
 impl<L: Ledger> Steps<L> {
     ghost use Rattle.std.specs.Prelude.{◌≡◌, ◌+◌, ◌<◌};
 
-    /// No step yet, in a ledger of its own. No memory.
+    /// No step yet, in a ledger of its own.
     pub fn new(blank: Blank) -> Steps<L>
         requires name { blank.name ≡ L.name }
         requires parts { blank.parts ≡ L.parts }
@@ -32,7 +32,7 @@ impl<L: Ledger> Steps<L> {
         Steps { book, share }
     }
 
-    /// One step more. No memory.
+    /// One step more.
     pub(crate) fn tick(&mut self)
         ensures { self.new ≡ self.old + 1 }
     {

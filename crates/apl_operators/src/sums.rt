@@ -10,7 +10,7 @@ use apl_arrays::{Fail, List, Report};
 use apl_items::{Split, room_for};
 use std::alloc::Global;
 
-/// Whether the magnitudes of the numbers have so few bits that the sum of so many of them has at most 63. No memory.
+/// Whether the magnitudes of the numbers have so few bits that the sum of so many of them has at most 63.
 pub(crate) fn are_small(list: &[i64], count: usize) -> bool
     requires { 0 < count }
     ensures { result ≡ true → AreSmall list.now count }

@@ -4,7 +4,7 @@ ghost use Rattle.apl_scalar.specs.Table.{monadic_item, dyadic_item, item_where};
 
 use apl_verbs::{Dyad, Monad};
 
-/// The power. No memory.
+/// The power.
 pub fn power(a: i64, b: i64) -> Option<i64>
     ensures { result ≡ dyadic_item Dyad.Power a b }
 {
@@ -32,7 +32,7 @@ fn high_power(base: i64, exponent: i64) -> Option<i64>
     }
 }
 
-/// The factorial. No memory.
+/// The factorial.
 #[tactic(auto, using(crate::proofs::Factorials::factorials))]
 pub fn factorial(b: i64) -> Option<i64>
     ensures { result ≡ monadic_item Monad.Factorial b }
@@ -58,7 +58,7 @@ fn small_factorial(number: u64) -> u64
     product
 }
 
-/// The ways to take so many things. No memory.
+/// The ways to take so many things.
 pub fn binomial(a: i64, b: i64) -> Option<i64>
     ensures { result ≡ dyadic_item Dyad.Binomial a b }
 {

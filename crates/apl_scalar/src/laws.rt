@@ -2,7 +2,7 @@ ghost use Rattle.std.specs.Prelude.{◌≡◌, ℤ, pos, ◌+ℤ◌, ◌*ℤ◌,
 ghost use Rattle.apl_scalar.specs.Counting.{floor_quotient, residue};
 
 /// The floor of a quotient is the greatest number that, times the divisor, does not pass the number; where the divisor
-/// is negative, the greatest that, times the divisor, does not stay below the number. The call does nothing. No memory.
+/// is negative, the greatest that, times the divisor, does not stay below the number. The call does nothing.
 #[tactic(auto, using(crate::proofs::Quotients::quotients))]
 pub fn floor_quotients_are_the_greatest()
     ensures below { (a b : ℤ) → pos 0 <ℤ a → (floor_quotient a b *ℤ a) ≤ℤ b }
@@ -12,7 +12,7 @@ pub fn floor_quotients_are_the_greatest()
 {}
 
 /// A residue is what is left of the number, and all of it where the divisor is 0. By a positive divisor it is from 0 to
-/// below the divisor, by a negative one from above the divisor to 0. The call does nothing. No memory.
+/// below the divisor, by a negative one from above the divisor to 0. The call does nothing.
 #[tactic(auto, using(crate::proofs::Quotients::quotients))]
 pub fn residues_have_the_sign_of_the_divisor()
     ensures left { (a b : ℤ) → residue a b +ℤ a *ℤ floor_quotient a b ≡ b }

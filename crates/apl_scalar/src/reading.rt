@@ -2,7 +2,7 @@ ghost use Rattle.std.specs.Prelude.{◌≡◌, ◌<◌, pos, true, length, slice
 ghost use Rattle.apl_scalar.specs.Reading.{AllFit};
 ghost use Rattle.apl_arrays.specs.Number.{fits};
 
-/// Each number of a list is in 64 bits, as it is read. The call does nothing else. No memory.
+/// Each number of a list is in 64 bits, as it is read. The call does nothing else.
 pub fn read_all(list: &[i64])
     ensures { AllFit list.now }
 {

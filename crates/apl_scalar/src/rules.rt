@@ -4,28 +4,28 @@ ghost use Rattle.apl_scalar.specs.Table.{dyadic_item, item_of_chars, is_truth, t
 
 use apl_verbs::Dyad;
 
-/// The sum. No memory.
+/// The sum.
 pub fn plus(a: i64, b: i64) -> Option<i64>
     ensures { result ≡ dyadic_item Dyad.Plus a b }
 {
     a.checked_add(b)
 }
 
-/// The difference. No memory.
+/// The difference.
 pub fn minus(a: i64, b: i64) -> Option<i64>
     ensures { result ≡ dyadic_item Dyad.Minus a b }
 {
     a.checked_sub(b)
 }
 
-/// The product. No memory.
+/// The product.
 pub fn times(a: i64, b: i64) -> Option<i64>
     ensures { result ≡ dyadic_item Dyad.Times a b }
 {
     a.checked_mul(b)
 }
 
-/// The exact quotient. No memory.
+/// The exact quotient.
 pub fn divide(a: i64, b: i64) -> Option<i64>
     ensures { result ≡ dyadic_item Dyad.Divide a b }
 {
@@ -38,21 +38,21 @@ pub fn divide(a: i64, b: i64) -> Option<i64>
     }
 }
 
-/// The greater one. No memory.
+/// The greater one.
 pub fn maximum(a: i64, b: i64) -> Option<i64>
     ensures { result ≡ dyadic_item Dyad.Maximum a b }
 {
     Some(a.max(b))
 }
 
-/// The lesser one. No memory.
+/// The lesser one.
 pub fn minimum(a: i64, b: i64) -> Option<i64>
     ensures { result ≡ dyadic_item Dyad.Minimum a b }
 {
     Some(a.min(b))
 }
 
-/// The residue of the second by the first. No memory.
+/// The residue of the second by the first.
 pub fn residue(a: i64, b: i64) -> Option<i64>
     ensures { result ≡ dyadic_item Dyad.Residue a b }
 {
@@ -79,7 +79,7 @@ fn floor_remainder(number: i64, divisor: i64) -> i64
     }
 }
 
-/// 1 where both are 1. No memory.
+/// 1 where both are 1.
 pub fn and(a: i64, b: i64) -> Option<i64>
     ensures { result ≡ dyadic_item Dyad.And a b }
 {
@@ -90,7 +90,7 @@ pub fn and(a: i64, b: i64) -> Option<i64>
     }
 }
 
-/// 1 where one of them is 1. No memory.
+/// 1 where one of them is 1.
 pub fn or(a: i64, b: i64) -> Option<i64>
     ensures { result ≡ dyadic_item Dyad.Or a b }
 {
@@ -101,7 +101,7 @@ pub fn or(a: i64, b: i64) -> Option<i64>
     }
 }
 
-/// 0 where both are 1. No memory.
+/// 0 where both are 1.
 pub fn nand(a: i64, b: i64) -> Option<i64>
     ensures { result ≡ dyadic_item Dyad.Nand a b }
 {
@@ -112,7 +112,7 @@ pub fn nand(a: i64, b: i64) -> Option<i64>
     }
 }
 
-/// 0 where one of them is 1. No memory.
+/// 0 where one of them is 1.
 pub fn nor(a: i64, b: i64) -> Option<i64>
     ensures { result ≡ dyadic_item Dyad.Nor a b }
 {
@@ -123,63 +123,63 @@ pub fn nor(a: i64, b: i64) -> Option<i64>
     }
 }
 
-/// Whether the first is less. No memory.
+/// Whether the first is less.
 pub fn less(a: i64, b: i64) -> Option<i64>
     ensures { result ≡ dyadic_item Dyad.Less a b }
 {
     Some(truth(a < b))
 }
 
-/// Whether the first is not greater. No memory.
+/// Whether the first is not greater.
 pub fn not_greater(a: i64, b: i64) -> Option<i64>
     ensures { result ≡ dyadic_item Dyad.NotGreater a b }
 {
     Some(truth(a <= b))
 }
 
-/// Whether they are equal. No memory.
+/// Whether they are equal.
 pub fn equal(a: i64, b: i64) -> Option<i64>
     ensures { result ≡ dyadic_item Dyad.Equal a b }
 {
     Some(truth(a == b))
 }
 
-/// Whether the first is not less. No memory.
+/// Whether the first is not less.
 pub fn not_less(a: i64, b: i64) -> Option<i64>
     ensures { result ≡ dyadic_item Dyad.NotLess a b }
 {
     Some(truth(a >= b))
 }
 
-/// Whether the first is greater. No memory.
+/// Whether the first is greater.
 pub fn greater(a: i64, b: i64) -> Option<i64>
     ensures { result ≡ dyadic_item Dyad.Greater a b }
 {
     Some(truth(a > b))
 }
 
-/// Whether they differ. No memory.
+/// Whether they differ.
 pub fn not_equal(a: i64, b: i64) -> Option<i64>
     ensures { result ≡ dyadic_item Dyad.NotEqual a b }
 {
     Some(truth(a != b))
 }
 
-/// Whether two characters are the same. No memory.
+/// Whether two characters are the same.
 pub fn same(alike: bool) -> Option<i64>
     ensures { result ≡ item_of_chars Dyad.Equal alike }
 {
     Some(truth(alike))
 }
 
-/// Whether two characters differ. No memory.
+/// Whether two characters differ.
 pub fn different(alike: bool) -> Option<i64>
     ensures { result ≡ item_of_chars Dyad.NotEqual alike }
 {
     Some(truth(!alike))
 }
 
-/// 1 for true, 0 for false. No memory.
+/// 1 for true, 0 for false.
 pub fn truth(holds: bool) -> i64
     ensures { result ≡ truth holds }
 {

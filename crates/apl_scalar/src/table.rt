@@ -141,21 +141,21 @@ fn pairs_by<F: Fn(i64, i64) -> Option<i64>>(
     pairs(alloc, count, a, b, rule)
 }
 
-/// The item of a dyadic function at two numbers, or `None`, which is DOMAIN. No memory.
+/// The item of a dyadic function at two numbers, or `None`, which is DOMAIN.
 pub fn item_of_numbers(f: Dyad, a: i64, b: i64) -> Option<i64>
     ensures { result ≡ dyadic_item f a b }
 {
     dyadic_table!(f, call_of(a, b))
 }
 
-/// The identity of a dyadic function, if it has one. No memory.
+/// The identity of a dyadic function, if it has one.
 pub fn identity_of(f: Dyad) -> Option<i64>
     ensures { result ≡ (row_of_dyad f).identity }
 {
     dyadic_table!(f, identity_of())
 }
 
-/// The item at two characters that are the same or not, or `None`, which is DOMAIN. No memory.
+/// The item at two characters that are the same or not, or `None`, which is DOMAIN.
 pub fn character_of(f: Dyad, alike: bool) -> Option<i64>
     ensures { result ≡ item_of_chars f alike }
 {
@@ -166,7 +166,7 @@ pub fn character_of(f: Dyad, alike: bool) -> Option<i64>
     }
 }
 
-/// The item of a dyadic function at two items, or `None`, which is DOMAIN. No memory.
+/// The item of a dyadic function at two items, or `None`, which is DOMAIN.
 pub fn item_of(f: Dyad, a: &Item, b: &Item) -> Option<i64>
     ensures { result ≡ pair_item f a.now b.now }
 {

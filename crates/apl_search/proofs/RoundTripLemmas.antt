@@ -23,7 +23,7 @@ use Rattle.apl_scalar.specs.Table.{item_where}
 use Rattle.apl_scalar.proofs.Quotients.{residue_is_left}
 use Rattle.apl_search.specs.Decode.{decode_of, taken_on, value_after}
 use Rattle.apl_search.specs.Encode.{digit_at, digit_for, encode_of, rest_by, rest_by_all}
-use Rattle.apl_search.specs.RoundTrip.{AreBases, GivesBack, vector_of}
+use Rattle.apl_search.specs.RoundTrip.{AreBases, GivesBack, vector_of_bases}
 use Rattle.apl_search.proofs.DigitLemmas.{digit_fits, digit_of_place, fits_small, rest_more, rests_no_greater}
 use Rattle.apl_search.proofs.EncodeLemmas.{large_by_count, within_limit}
 
@@ -169,14 +169,14 @@ digits_by_place bases number are small = record { whole = length-digit_list base
         ∙ ap (λ (p : ℕ). digit_for (map pos bases) (pos number ∷ []) p) same
 
 encodes : (bases : List ℕ) (number : ℕ) → AreBases bases → number < 2 ^ 63
-    → encode_of (vector_of bases) (scalar (pos number)) ≡ Ok (record { shape = length bases ∷ []; items = numbers (digit_list bases number) })
+    → encode_of (vector_of_bases bases) (scalar (pos number)) ≡ Ok (record { shape = length bases ∷ []; items = numbers (digit_list bases number) })
 encodes bases number are small =
     let by_place = digits_by_place bases number are small in
     encoded _ _ _ (nothing_lacks (element_count (length bases ∷ [])) (digit_for (map pos bases) (pos number ∷ [])) (digit_list bases number) by_place) (not_large (length bases) are.few)
     ∙ ap (λ (xs : List ℤ). Ok (record { shape = length bases ∷ []; items = numbers xs })) (made (element_count (length bases ∷ [])) (digit_for (map pos bases) (pos number ∷ [])) (digit_list bases number) by_place)
 
 decodes : (bases : List ℕ) (number : ℕ) → AreBases bases → number < product bases → number < 2 ^ 63
-    → decode_of (vector_of bases) (record { shape = length bases ∷ []; items = numbers (digit_list bases number) }) ≡ Ok (scalar (pos number))
+    → decode_of (vector_of_bases bases) (record { shape = length bases ∷ []; items = numbers (digit_list bases number) }) ≡ Ok (scalar (pos number))
 decodes bases number are below small =
     let count = length-map bases pos in
     let len = length-digit_list bases number in
@@ -191,6 +191,6 @@ decodes bases number are below small =
     shared false = length-map bases pos
 
 -- the value of the digits of a number is the number
-pub gives_back : (bases : List ℕ) (number : ℕ) → AreBases bases → number < product bases → number < 2 ^ 63 → GivesBack (vector_of bases) (scalar (pos number))
+pub gives_back : (bases : List ℕ) (number : ℕ) → AreBases bases → number < product bases → number < 2 ^ 63 → GivesBack (vector_of_bases bases) (scalar (pos number))
 gives_back bases number are below small =
     (record { shape = length bases ∷ []; items = numbers (digit_list bases number) }, encodes bases number are small, decodes bases number are below small)

@@ -1,6 +1,6 @@
 use Rattle.std.specs.Prelude.{◌&&◌, ◌||◌, ◌==◌, ℕ, zero, suc, ℤ, pos, ◌+ℤ◌, ◌*ℤ◌, Bool, true, not, List, Option, Some, None, length, nat_lt, is_none, unwrap_or, if◌then◌else◌}
 use Rattle.apl_arrays.specs.Array.{PlainArray, is_chars, item_count, numbers_in, scalar}
-use Rattle.apl_items.specs.Answers.{Answer, Faults, no_faults, answer_of}
+use Rattle.apl_items.specs.Answers.{ArrayResult, Faults, no_faults, answer_of}
 use Rattle.apl_items.specs.Extension.{are_whole, is_single, number_at}
 use Rattle.apl_scalar.specs.Table.{item_where}
 
@@ -23,8 +23,8 @@ abbrev pub counts_differ : PlainArray → PlainArray → Bool
 counts_differ a b = are_whole a b && not (item_count a.items == item_count b.items)
 
 -- the value of all digits B by bases A
-abbrev pub value_of : PlainArray → PlainArray → Option ℤ
-value_of a b = value_after (numbers_in a.items) (numbers_in b.items) (shared_count a b)
+abbrev pub decoded_value : PlainArray → PlainArray → Option ℤ
+decoded_value a b = value_after (numbers_in a.items) (numbers_in b.items) (shared_count a b)
 
 -- what is wrong with bases and digits as such: they are vectors or scalars, as many, and of numbers
 abbrev pub decode_misfit : PlainArray → PlainArray → Faults
@@ -36,8 +36,8 @@ decode_misfit a b = record no_faults {
 
 -- what is wrong with them; no value leaves 64 bits
 abbrev pub decode_faults : PlainArray → PlainArray → Faults
-decode_faults a b = record (decode_misfit a b) { bad_domain = (decode_misfit a b).bad_domain || is_none (value_of a b) }
+decode_faults a b = record (decode_misfit a b) { bad_domain = (decode_misfit a b).bad_domain || is_none (decoded_value a b) }
 
 -- the value of digits B by bases A
-abbrev pub decode_of : PlainArray → PlainArray → Answer
-decode_of a b = answer_of (decode_faults a b) (scalar (unwrap_or (value_of a b) (pos 0)))
+abbrev pub decode_of : PlainArray → PlainArray → ArrayResult
+decode_of a b = answer_of (decode_faults a b) (scalar (unwrap_or (decoded_value a b) (pos 0)))

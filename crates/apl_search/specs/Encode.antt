@@ -3,7 +3,7 @@ use Rattle.std.specs.Ordering.{int_eq}
 use Rattle.apl_arrays.specs.Array.{PlainArray, is_chars, element_count, numbers_in}
 use Rattle.apl_arrays.specs.Limits.{most_axes}
 use Rattle.apl_arrays.specs.Shape.{shape_fault}
-use Rattle.apl_items.specs.Answers.{Answer, Faults, no_faults, answer_of}
+use Rattle.apl_items.specs.Answers.{ArrayResult, Faults, no_faults, answer_of}
 use Rattle.apl_items.specs.Places.{lacks_item, numbers_by}
 use Rattle.apl_scalar.specs.Counting.{floor_quotient, residue}
 use Rattle.apl_scalar.specs.Table.{item_where}
@@ -51,7 +51,7 @@ abbrev pub digits_of : PlainArray → PlainArray → PlainArray
 digits_of a b = numbers_by (encode_shape a b) (digit_for (numbers_in a.items) (numbers_in b.items))
 
 -- the digits, or the report on bases and numbers
-abbrev pub encode_of : PlainArray → PlainArray → Answer
+abbrev pub encode_of : PlainArray → PlainArray → ArrayResult
 encode_of a b = answer_of (encode_faults a b) (digits_of a b)
 
 -- ---- digits that are put in column by column

@@ -4,7 +4,7 @@ use Rattle.std.specs.List.{list_any, position_or_len}
 use Rattle.std.specs.List.Sorted.{IsPermutation, IsSorted}
 use Rattle.std.specs.Ordering.{int_eq}
 use Rattle.apl_arrays.specs.Array.{PlainArray, PlainItems, numbers, chars, number_array}
-use Rattle.apl_items.specs.Answers.{Answer, no_faults, answer_of}
+use Rattle.apl_items.specs.Answers.{ArrayResult, no_faults, answer_of}
 use Rattle.apl_scalar.specs.Table.{truth}
 use Rattle.apl_search.specs.Grade.{by_item, with_places}
 
@@ -26,7 +26,7 @@ first_places a (numbers list) = map (λ n. pos (place_of_number a n + 1)) list
 first_places a (chars list) = map (λ c. pos (place_of_char a c + 1)) list
 
 -- the first place in a vector A of each item of B
-abbrev pub index_of_of : PlainArray → PlainArray → Answer
+abbrev pub index_of_of : PlainArray → PlainArray → ArrayResult
 index_of_of a b =
     answer_of (record no_faults { bad_rank = nat_lt 1 (length a.shape) }) (number_array b.shape (first_places a.items b.items))
 
@@ -48,7 +48,7 @@ memberships (numbers list) b = map (λ n. truth (has_number b n)) list
 memberships (chars list) b = map (λ c. truth (has_char b c)) list
 
 -- for each item of A, as 1 or 0, whether B has it
-abbrev pub member_of : PlainArray → PlainArray → Answer
+abbrev pub member_of : PlainArray → PlainArray → ArrayResult
 member_of a b = answer_of no_faults (number_array a.shape (memberships a.items b.items))
 
 -- ---- items in order, to be searched by halves

@@ -9,8 +9,8 @@ pub record AreBases (bases : List ℕ) : Type 0 where
   pub each : All (λ base. (0 < base) × (base < 2 ^ 63)) bases
 
 -- the vector of bases
-abbrev pub vector_of : List ℕ → PlainArray
-vector_of bases = number_array (length bases ∷ []) (map pos bases)
+abbrev pub vector_of_bases : List ℕ → PlainArray
+vector_of_bases bases = number_array (length bases ∷ []) (map pos bases)
 
 -- B has digits by the bases A, and these have B as their value: A⊥A⊤B gives B back
 abbrev pub GivesBack : PlainArray → PlainArray → Type 0

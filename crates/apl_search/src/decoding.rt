@@ -2,7 +2,7 @@ ghost use Rattle.std.specs.Prelude.{◌≡◌, ◌+ℤ◌, ◌*ℤ◌, None, len
 ghost use Rattle.apl_items.specs.Answers.{Answers, first_report};
 ghost use Rattle.apl_items.specs.Extension.{Reaches};
 ghost use Rattle.apl_items.specs.Places.{OnWantOfMemory};
-ghost use Rattle.apl_search.specs.Decode.{counts_differ, decode_faults, decode_of, decode_misfit, shared_count, taken_on, value_after, value_of};
+ghost use Rattle.apl_search.specs.Decode.{counts_differ, decode_faults, decode_of, decode_misfit, shared_count, taken_on, value_after, decoded_value};
 
 use crate::numbers::small;
 use apl_arrays::{Array, Fail, Report};
@@ -11,7 +11,7 @@ use std::alloc::Global;
 
 /// The value of digits by bases: of the first digit, and then always times the next base, plus the next digit. One element
 /// extends, and no digits have the value 0. RANK where an argument is of rank over 1, else LENGTH where there are not as
-/// many digits as bases, else DOMAIN where an argument is of characters or a value leaves 64 bits. No memory.
+/// many digits as bases, else DOMAIN where an argument is of characters or a value leaves 64 bits. It takes no memory.
 pub fn decode(alloc: Global, a: &Array, b: &Array) -> Result<Array, Fail>
     ensures answer { Answers result (decode_of a.now b.now) }
     ensures memory { OnWantOfMemory result (first_report (decode_faults a.now b.now) ≡ None) }
@@ -61,7 +61,7 @@ fn shared_count(a: &Array, b: &Array) -> usize
 /// The value of all digits, or `None` where one leaves 64 bits.
 fn value_of(a: &Array, b: &Array) -> Option<i64>
     requires { first_report (decode_misfit a.now b.now) ≡ None }
-    ensures { result ≡ value_of a.now b.now }
+    ensures { result ≡ decoded_value a.now b.now }
 {
     value_after(a.items().numbers(), b.items().numbers(), shared_count(a, b))
 }

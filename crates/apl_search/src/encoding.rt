@@ -28,7 +28,7 @@ pub fn encode(alloc: Global, a: &Array, b: &Array) -> Result<Array, Fail>
     }
 }
 
-/// The report on bases and numbers, if there is one. No memory.
+/// The report on bases and numbers, if there is one.
 fn encode_report(a: &Array, b: &Array) -> Option<Report>
     ensures { result ≡ first_report (encode_faults a.now b.now) }
 {

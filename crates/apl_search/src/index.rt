@@ -29,7 +29,7 @@ pub fn index_for<T: Ord + Copy + Drop>(
     Ok(pairs)
 }
 
-/// Whether a list has an item, by its index. No memory.
+/// Whether a list has an item, by its index.
 pub fn has<T: Ord>(list: &[T], index: &[(T, u32)], item: &T) -> bool
     requires { IsIndexOf T.cmp list.now index.now }
     ensures { result ≡ list_any (T.eq item.now) list.now }
@@ -37,7 +37,7 @@ pub fn has<T: Ord>(list: &[T], index: &[(T, u32)], item: &T) -> bool
     first_place(list, index, item) < list.len()
 }
 
-/// The first place in a list of an item, from 0, or the length of the list, by its index. No memory.
+/// The first place in a list of an item, from 0, or the length of the list, by its index.
 pub fn first_place<T: Ord>(list: &[T], index: &[(T, u32)], item: &T) -> usize
     requires { IsIndexOf T.cmp list.now index.now }
     ensures value { result ≡ position_or_len (T.eq item.now) list.now }

@@ -14,7 +14,7 @@ use Rattle.apl_items.specs.Shapes.{AreWithin, coordinates_of}
 use Rattle.apl_items.proofs.ShapeLemmas.{coordinates_are_within, coordinates_of_row, element_count-cons}
 use Rattle.apl_items.proofs.PlaceLemmas.{places_more}
 use Rattle.apl_selection.specs.Assignment.{last_place, put_over}
-use Rattle.apl_selection.specs.Naming.{AreSmall, AreSmallTogether, scaled_place}
+use Rattle.apl_selection.specs.Naming.{PlacesAreSmall, AreSmallTogether, scaled_place}
 use Rattle.apl_selection.specs.Subscripts.{is_outside, named_by}
 use Rattle.apl_selection.proofs.IndexLemmas.{none_first, number_inside}
 use Rattle.apl_selection.proofs.FaultLemmas.{same_number}
@@ -229,7 +229,7 @@ no_more_from (x ∷ xs) (suc axis) some = by_first x (element_count xs) (element
         omega (arith, low (omega arith))
 
 -- what is told of one axis and of the axes after it is small together
-pub small_together : (shape : List ℕ) (offset : ℕ → ℕ → Option ℕ) (axis : ℕ) (here after : List (Option ℕ)) → axis < length shape → AreSmall shape offset
+pub small_together : (shape : List ℕ) (offset : ℕ → ℕ → Option ℕ) (axis : ℕ) (here after : List (Option ℕ)) → axis < length shape → PlacesAreSmall shape offset
     → here ≡ map (offset axis) (places (get_or shape axis 0))
     → after ≡ map (λ place. offset_at offset (axis + 1) (coordinates_of (drop (axis + 1) shape) place)) (places (element_count (drop (axis + 1) shape)))
     → AreSmallTogether here after

@@ -12,7 +12,7 @@ use Rattle.apl_items.specs.Answers.{first_report}
 use Rattle.apl_items.specs.Extension.{number_at, place_in}
 use Rattle.apl_items.specs.Places.{places}
 use Rattle.apl_items.specs.Axis.{lacks_axis}
-use Rattle.apl_selection.specs.Compression.{compress_faults, compress_of, flagged_length, flags_meet, kept, kept_of}
+use Rattle.apl_selection.specs.Compression.{compress_faults, compress_of, flagged_length, flags_meet, kept_places, kept_of}
 use Rattle.apl_arrays.specs.Number.{is_one}
 use Rattle.apl_selection.specs.Flags.{is_no_flag}
 use Rattle.apl_selection.specs.Listing.{listed_of, meant_axis, meant_length, vector_shape}
@@ -84,7 +84,7 @@ on_by false false false flags long place p q r meet low = absurd (let never = me
 pub record Meets (flags long : ℕ) : Type 0 where
   pub same : (flags == 1) ≡ false → (long == 1) ≡ false → (flags == long) ≡ true
 
-pub kept_inside : (flags : List ℤ) (long : ℕ) → Meets (length flags) long → (along place : ℕ) → get_or (kept flags long) along None ≡ Some place → place < long
+pub kept_inside : (flags : List ℤ) (long : ℕ) → Meets (length flags) long → (along place : ℕ) → get_or (kept_places flags long) along None ≡ Some place → place < long
 kept_inside flags long meets along place e =
     inside_from (λ at. is_one (number_at flags at)) long 0 (flagged_length (length flags) long)
     (λ k h. let same : k ≡ 0 + k = omega arith in
@@ -107,7 +107,7 @@ few_flagged true flags long p q = q
 few_flagged false flags long p q = p
 
 -- what is kept is not too long for an axis
-pub few_kept : (flags : List ℤ) (long : ℕ) → length flags ≤ 16384 → long ≤ 16384 → length (kept flags long) ≤ 16384
+pub few_kept : (flags : List ℤ) (long : ℕ) → length flags ≤ 16384 → long ≤ 16384 → length (kept_places flags long) ≤ 16384
 few_kept flags long p q =
     let test : ℕ → Bool = λ place. is_one (number_at flags place) in
     let count = flagged_length (length flags) long in
@@ -118,20 +118,20 @@ few_kept flags long p q =
 
 -- what is kept is on the axis that is meant
 pub kept_inside_of : (a b : PlainArray) (way : Way) (axis : Option ℤ) (used long : ℕ) (flags : List ℤ) (list : List (Option ℕ)) → None ≡ first_report (compress_faults a b way axis)
-    → flags ≡ numbers_in a.items → long ≡ meant_length b way axis → used ≡ meant_axis b way axis → list ≡ kept flags long
+    → flags ≡ numbers_in a.items → long ≡ meant_length b way axis → used ≡ meant_axis b way axis → list ≡ kept_places flags long
     → (along place : ℕ) → get_or list along None ≡ Some place → place < get_or (vector_shape b.shape) used 0
 kept_inside_of a b way axis used long flags list none f l u is along place e =
     let sound = nothing_is_wrong (compress_faults a b way axis) none in
     let counted = count_of_numbers a.items (or_first (is_chars a.items) (list_any is_no_flag (numbers_in a.items)) sound.domain) in
     let meets = meet_from (lacks_axis (length b.shape) axis) (length (numbers_in a.items)) (meant_length b way axis) (item_count a.items) counted sound.index sound.long in
-    let all : list ≡ kept (numbers_in a.items) (meant_length b way axis) = is ∙ ap (λ (xs : List ℤ). kept xs long) f ∙ ap (kept (numbers_in a.items)) l in
+    let all : list ≡ kept_places (numbers_in a.items) (meant_length b way axis) = is ∙ ap (λ (xs : List ℤ). kept_places xs long) f ∙ ap (kept_places (numbers_in a.items)) l in
     subst (λ (n : ℕ). place < get_or (vector_shape b.shape) n 0) (sym u)
     (kept_inside (numbers_in a.items) (meant_length b way axis) meets along place (ap (λ (xs : List (Option ℕ)). get_or xs along None) (sym all) ∙ e))
 
 -- its answer, by what is kept
 pub compress_is : (a b : PlainArray) (way : Way) (axis : Option ℤ) (used long : ℕ) (flags : List ℤ) (list : List (Option ℕ))
-    → flags ≡ numbers_in a.items → long ≡ meant_length b way axis → used ≡ meant_axis b way axis → list ≡ kept flags long
+    → flags ≡ numbers_in a.items → long ≡ meant_length b way axis → used ≡ meant_axis b way axis → list ≡ kept_places flags long
     → listed_of (compress_faults a b way axis) b used list ≡ compress_of a b way axis
 compress_is a b way axis used long flags list f l u is =
-    let all : list ≡ kept (numbers_in a.items) (meant_length b way axis) = is ∙ ap (λ (xs : List ℤ). kept xs long) f ∙ ap (kept (numbers_in a.items)) l in
+    let all : list ≡ kept_places (numbers_in a.items) (meant_length b way axis) = is ∙ ap (λ (xs : List ℤ). kept_places xs long) f ∙ ap (kept_places (numbers_in a.items)) l in
     ap (λ (n : ℕ). listed_of (compress_faults a b way axis) b n list) u ∙ ap (listed_of (compress_faults a b way axis) b (meant_axis b way axis)) all

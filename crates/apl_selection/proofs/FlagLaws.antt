@@ -19,7 +19,7 @@ use Rattle.apl_items.specs.Moves.{moved, moved_items}
 use Rattle.apl_items.specs.Places.{places}
 use Rattle.apl_items.specs.Shapes.{along_of, inner_of, outer_of, split_at, stride_of}
 use Rattle.apl_items.proofs.ShapeLemmas.{place_along_parts, split_count_lem}
-use Rattle.apl_selection.specs.Compression.{compress_faults, compress_of, flagged_length, flags_meet, kept, kept_of}
+use Rattle.apl_selection.specs.Compression.{compress_faults, compress_of, flagged_length, flags_meet, kept_places, kept_of}
 use Rattle.apl_selection.specs.Expansion.{expand_faults, expand_of, ones, spread, spread_at}
 use Rattle.apl_arrays.specs.Number.{is_one}
 use Rattle.apl_selection.specs.Flags.{is_no_flag, lacks_flags}
@@ -107,7 +107,7 @@ kept_count flags long (suc n) h =
         ap (λ (xs : List (Option ℕ)). length xs) (none_kept flags long n (omega arith) e) ∙ ones_no flags n false (length (kept_of flags long n)) (omega arith) (sym e) refl so_far
 
 -- of all places as many as there are ones
-ones_kept : (flags : List ℤ) (long : ℕ) → length flags ≡ long → length (kept flags long) ≡ ones flags
+ones_kept : (flags : List ℤ) (long : ℕ) → length flags ≡ long → length (kept_places flags long) ≡ ones flags
 ones_kept flags long e =
     ap (λ (n : ℕ). length (kept_of flags long n)) (own_length (length flags) long e) ∙ kept_count flags long long (omega arith) ∙ ap ones (take_all long flags (omega arith))
 
@@ -116,7 +116,7 @@ pub kept_shape : (a b made : PlainArray) (way : Way) (axis : Option ℤ) → ite
     → made.shape ≡ set (vector_shape b.shape) (meant_axis b way axis) (ones (numbers_in a.items))
 kept_shape a b made way axis many e =
     let used : ℕ = meant_axis b way axis in
-    let list : List (Option ℕ) = kept (numbers_in a.items) (meant_length b way axis) in
+    let list : List (Option ℕ) = kept_places (numbers_in a.items) (meant_length b way axis) in
     let faults : Faults = record (compress_faults a b way axis) { too_large = is_some (shape_fault (listed_shape (vector_shape b.shape) used list)) } in
     let done = no_report (first_report faults) (listed (vector_shape b.shape) b.items used list) made e in
     let sound = nothing_is_wrong faults (sym done.0) in
@@ -138,7 +138,7 @@ all_pass test first (suc n) pass =
     rw here (ap (λ (xs : List ℕ). first ∷ xs) (all_pass test (first + 1) n
     (λ k h. let next : (first + 1) + k ≡ first + suc k = omega arith in ap test next ∙ pass (suc k) (omega arith))))
 
-all_kept : (n : ℕ) → kept (replicate n (pos 1)) n ≡ map (λ place. Some place) (places n)
+all_kept : (n : ℕ) → kept_places (replicate n (pos 1)) n ≡ map (λ place. Some place) (places n)
 all_kept n =
     let flags : List ℤ = replicate n (pos 1) in
     let many = length-replicate {A = ℤ} n (pos 1) in
@@ -172,7 +172,7 @@ ones_keep_all b way axis array some has =
     let used : ℕ = meant_axis b way axis in
     let n : ℕ = meant_length b way axis in
     let a : PlainArray = as_vector (numbers (replicate n (pos 1))) in
-    let list : List (Option ℕ) = kept (replicate n (pos 1)) n in
+    let list : List (Option ℕ) = kept_places (replicate n (pos 1)) n in
     let told : list ≡ map (λ place. Some place) (places n) = all_kept n in
     let rank = ap (λ (xs : List ℕ). length xs) own in
     let inside : used < length source = axis_inside (length source) way axis (omega arith) (ap (λ (m : ℕ). lacks_axis m axis) rank ∙ has) in
@@ -235,7 +235,7 @@ nth_kept flags long (suc n) at h low =
 
 -- the place that a flag's place was spread from is the one that is kept there
 leads_back : (flags : List ℤ) (long line along : ℕ) → ones flags ≡ long → along < long
-    → LeadsBack (length flags) (λ line along. get_or (spread flags long) along None) (λ line along. get_or (kept flags (length flags)) along None) line along
+    → LeadsBack (length flags) (λ line along. get_or (spread flags long) along None) (λ line along. get_or (kept_places flags (length flags)) along None) line along
 leads_back flags long line along all below =
     let wide : ℕ = length flags in
     let whole = ap ones (take_all wide flags (omega arith)) in
@@ -251,12 +251,12 @@ leads_back flags long line along all below =
 
 -- items that are spread and kept stay
 spread_and_kept : (source : List ℕ) (items : PlainItems) (axis : ℕ) (flags : List ℤ) → axis < length source → element_count source ≡ item_count items → ones flags ≡ get_or source axis 0
-    → listed (listed_shape source axis (spread flags (get_or source axis 0))) (listed source items axis (spread flags (get_or source axis 0))).items axis (kept flags (length flags)) ≡ array_of source items
+    → listed (listed_shape source axis (spread flags (get_or source axis 0))) (listed source items axis (spread flags (get_or source axis 0))).items axis (kept_places flags (length flags)) ≡ array_of source items
 spread_and_kept source items axis flags inside whole all =
     let long : ℕ = get_or source axis 0 in
     let wide : ℕ = length flags in
     let away : List (Option ℕ) = spread flags long in
-    let back : List (Option ℕ) = kept flags wide in
+    let back : List (Option ℕ) = kept_places flags wide in
     let between : List ℕ = set source axis (length away) in
     let rows : ℕ = element_count (take axis source) in
     let inners : ℕ = stride_of source axis in
@@ -302,8 +302,8 @@ spread_is_kept a b spread_out way axis array some all e =
     let used_again : meant_axis made way axis ≡ used = ap (λ (xs : List ℕ). axis_of (length xs) way axis) own_made ∙ ap (λ (n : ℕ). axis_of n way axis) relength in
     let long_again : meant_length made way axis ≡ length flags =
     ap (λ (n : ℕ). get_or (vector_shape made.shape) n 0) used_again ∙ ap (λ (xs : List ℕ). get_or xs used 0) own_made ∙ get_or-set_same source used (length away) 0 inside ∙ many in
-    let list : List (Option ℕ) = kept flags (meant_length made way axis) in
-    let kept_again : list ≡ kept flags (length flags) = ap (kept flags) long_again in
+    let list : List (Option ℕ) = kept_places flags (meant_length made way axis) in
+    let kept_again : list ≡ kept_places flags (length flags) = ap (kept_places flags) long_again in
     let same_listed : listed (vector_shape made.shape) made.items (meant_axis made way axis) list ≡ b =
     ap (λ (xs : List ℕ). listed xs made.items (meant_axis made way axis) list) own_made
     ∙ ap (λ (n : ℕ). listed made.shape made.items n list) used_again

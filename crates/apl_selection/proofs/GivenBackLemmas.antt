@@ -15,7 +15,7 @@ use Rattle.apl_items.specs.Moves.{item_or, moved_items, moved_list}
 use Rattle.apl_items.specs.Places.{places}
 use Rattle.apl_items.specs.Shapes.{AreWithin, coordinates_of, place_of}
 use Rattle.apl_items.proofs.ShapeLemmas.{coordinates_are_within, element_count-append, element_count-cons, place_of_below}
-use Rattle.apl_selection.specs.Assignment.{assign_faults, assign_of, naming, overlaid, overlaid_array, overlaid_list, put_over}
+use Rattle.apl_selection.specs.Assignment.{assign_faults, assign_of, place_naming, overlaid, overlaid_array, overlaid_list, put_over}
 use Rattle.apl_selection.specs.Indexing.{selection_of, indexed, named_place}
 use Rattle.apl_selection.specs.Subscripts.{axes_by, is_miscounted, is_of_chars, named_by, named_counts, named_on, point_outside, selection_shape, sub_on}
 use Rattle.apl_selection.specs.SelectionLaws.{AreArrays, NamesOnce}
@@ -46,25 +46,25 @@ pub record IsTaken (shape : List ℕ) (subs : List (Option PlainArray)) (at : �
   pub place : ℕ
   pub below : place < element_count shape
   pub named : named_place shape subs at ≡ Some place
-  pub taken : naming shape subs place ≡ Some at
+  pub taken : place_naming shape subs place ≡ Some at
 
 given_at : {T : Type 0} (fill : T) (old new : List T) (shape : List ℕ) (subs : List (Option PlainArray)) (at : ℕ) → at < length new → element_count shape ≡ length old → IsTaken shape subs at
-    → get_or new at fill ≡ item_or fill (overlaid_list old new (naming shape subs)) (named_place shape subs at)
+    → get_or new at fill ≡ item_or fill (overlaid_list old new (place_naming shape subs)) (named_place shape subs at)
 given_at fill old new shape subs at below whole taken =
-    sym (ap (item_or fill (overlaid_list old new (naming shape subs))) taken.named
-    ∙ over_at fill old new (naming shape subs) taken.place (let low = taken.below in omega arith)
+    sym (ap (item_or fill (overlaid_list old new (place_naming shape subs))) taken.named
+    ∙ over_at fill old new (place_naming shape subs) taken.place (let low = taken.below in omega arith)
     ∙ ap (put_over (get_or old taken.place fill) new) taken.taken
     ∙ ap (λ (n : ℕ). get_or new n (get_or old taken.place fill)) (lone_place (length new) at below)
     ∙ get_or_default new at (get_or old taken.place fill) fill below)
 
 given_list : {T : Type 0} (fill : T) (old new : List T) (shape : List ℕ) (subs : List (Option PlainArray)) → element_count shape ≡ length old
-    → ((at : ℕ) → at < length new → IsTaken shape subs at) → moved_list fill (overlaid_list old new (naming shape subs)) (length new) (named_place shape subs) ≡ new
+    → ((at : ℕ) → at < length new → IsTaken shape subs at) → moved_list fill (overlaid_list old new (place_naming shape subs)) (length new) (named_place shape subs) ≡ new
 given_list fill old new shape subs whole taken =
-    sym (fill_by_all (λ at. item_or fill (overlaid_list old new (naming shape subs)) (named_place shape subs at)) new (length new) fill refl
+    sym (fill_by_all (λ at. item_or fill (overlaid_list old new (place_naming shape subs)) (named_place shape subs at)) new (length new) fill refl
     (λ at below. given_at fill old new shape subs at below whole (taken at below)))
 
 given_items : (old new : PlainItems) (shape : List ℕ) (subs : List (Option PlainArray)) → beq (is_chars old) (is_chars new) ≡ true → element_count shape ≡ item_count old
-    → ((at : ℕ) → at < item_count new → IsTaken shape subs at) → moved_items (overlaid old new (naming shape subs)) (item_count new) (named_place shape subs) ≡ new
+    → ((at : ℕ) → at < item_count new → IsTaken shape subs at) → moved_items (overlaid old new (place_naming shape subs)) (item_count new) (named_place shape subs) ≡ new
 given_items (numbers old) (numbers new) shape subs kind whole taken = ap numbers (given_list (pos 0) old new shape subs whole taken)
 given_items (chars old) (chars new) shape subs kind whole taken = ap chars (given_list blank old new shape subs whole taken)
 given_items (numbers old) (chars new) shape subs kind whole taken = absurd (cc)
@@ -161,5 +161,5 @@ given_back a v after subs array v_array arrays shape once e =
     ap (λ (x : PlainArray). selection_of x subs) (sym done.1)
     ∙ ap (λ (report : Option Report). unless report (indexed (overlaid_array a subs v) subs)) is_fine
     ∙ ap (λ (x : PlainArray). Ok x)
-    (ap (λ (n : ℕ). array_of selection (moved_items (overlaid a.items v.items (naming a.shape subs)) n (named_place a.shape subs))) count
+    (ap (λ (n : ℕ). array_of selection (moved_items (overlaid a.items v.items (place_naming a.shape subs)) n (named_place a.shape subs))) count
     ∙ ap (array_of selection) items ∙ ap (λ (xs : List ℕ). array_of xs v.items) (sym shape))

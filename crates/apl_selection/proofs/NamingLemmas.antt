@@ -14,8 +14,8 @@ use Rattle.apl_items.specs.Extension.{is_single}
 use Rattle.apl_items.specs.Places.{places}
 use Rattle.apl_items.specs.Shapes.{coordinates_of, stride_of}
 use Rattle.apl_items.proofs.ShapeLemmas.{coordinates_are_within}
-use Rattle.apl_selection.specs.Assignment.{assign_faults, has_other_rank, has_other_shape, last_place, naming, overlaid, overlaid_array, overlaid_list, put_over}
-use Rattle.apl_selection.specs.Naming.{AreSmall, AreStridesFor, naming_by, scaled_place}
+use Rattle.apl_selection.specs.Assignment.{assign_faults, has_other_rank, has_other_shape, last_place, place_naming, overlaid, overlaid_array, overlaid_list, put_over}
+use Rattle.apl_selection.specs.Naming.{PlacesAreSmall, AreStridesFor, naming_by, scaled_place}
 use Rattle.apl_selection.specs.Picks.{strided}
 use Rattle.apl_selection.specs.Subscripts.{is_miscounted, is_of_chars, named_by, named_counts, named_on, point_outside, selection_shape, sub_on}
 use Rattle.apl_selection.proofs.AssignLemmas.{last_below, naming_more, no_more_from}
@@ -47,7 +47,7 @@ zero_offsets offset zeros axis [] from e = sym (some_same 0 from e)
 zero_offsets offset zeros axis (first ∷ rest) from e =
     zeros_added (offset axis first) (offset_at offset (axis + 1) rest) from (zeros axis first) (zero_offsets offset zeros (axis + 1) rest) e
 
-pub small_by_zeros : (shape strides : List ℕ) (subs : List (Option PlainArray)) → strides ≡ replicate (length shape) 0 → AreSmall shape (naming_by shape subs strides)
+pub small_by_zeros : (shape strides : List ℕ) (subs : List (Option PlainArray)) → strides ≡ replicate (length shape) 0 → PlacesAreSmall shape (naming_by shape subs strides)
 small_by_zeros shape strides subs e = λ axis coordinates from inside within is.
     let none = zero_offsets (naming_by shape subs strides)
     (λ axis along v at. scaled_zero (last_place along (named_on shape subs axis)) (get_or strides axis 0) v
@@ -74,7 +74,7 @@ scaled_alike None m n = refl
 scaled_alike (Some place) m n = refl
 
 -- the same places are named, whatever the strides
-pub named_alike : (shape strides : List ℕ) (subs : List (Option PlainArray)) (place : ℕ) → is_some (source_by_axes shape (naming_by shape subs strides) place) ≡ is_some (naming shape subs place)
+pub named_alike : (shape strides : List ℕ) (subs : List (Option PlainArray)) (place : ℕ) → is_some (source_by_axes shape (naming_by shape subs strides) place) ≡ is_some (place_naming shape subs place)
 named_alike shape strides subs place =
     some_alike (naming_by shape subs strides) (strided (named_counts shape subs) (λ axis along. last_place along (named_on shape subs axis)))
     (λ axis along. scaled_alike (last_place along (named_on shape subs axis)) (get_or strides axis 0) (stride_of (named_counts shape subs) axis)) 0 (coordinates_of shape place)
@@ -89,7 +89,7 @@ naming_at shape strides subs each axis coordinates many =
     (λ k h. ap (λ (stride : ℕ). scaled_place stride (last_place (get_or coordinates k 0) (named_on shape subs (axis + k)))) (each (axis + k) (omega arith)))
 
 pub small_by_strides : (shape strides : List ℕ) (subs : List (Option PlainArray)) → element_count (named_counts shape subs) ≤ 16384 → 0 < element_count (named_counts shape subs)
-    → ((axis : ℕ) → axis < length shape → get_or strides axis 0 ≡ stride_of (named_counts shape subs) axis) → AreSmall shape (naming_by shape subs strides)
+    → ((axis : ℕ) → axis < length shape → get_or strides axis 0 ≡ stride_of (named_counts shape subs) axis) → PlacesAreSmall shape (naming_by shape subs strides)
 small_by_strides shape strides subs few some each = λ axis coordinates from inside within is.
     let counts = named_counts shape subs in
     let rank = counts_length shape subs counts refl in
@@ -101,7 +101,7 @@ small_by_strides shape strides subs few some each = λ axis coordinates from ins
     omega (arith, no_more_from counts axis some)
 
 pub naming_same : (shape strides : List ℕ) (subs : List (Option PlainArray)) → ((axis : ℕ) → axis < length shape → get_or strides axis 0 ≡ stride_of (named_counts shape subs) axis)
-    → (place : ℕ) → place < element_count shape → source_by_axes shape (naming_by shape subs strides) place ≡ naming shape subs place
+    → (place : ℕ) → place < element_count shape → source_by_axes shape (naming_by shape subs strides) place ≡ place_naming shape subs place
 naming_same shape strides subs each place below =
     naming_at shape strides subs each 0 (coordinates_of shape place) (omega (arith, as_many_within shape (coordinates_of shape place) (coordinates_are_within shape place below)))
 
@@ -284,11 +284,11 @@ are_strides a v subs counts strides whole c count each = record {
 }
 
 pub small_for : (a v : PlainArray) (subs : List (Option PlainArray)) (shape strides : List ℕ) → AreStridesFor a subs v strides → IsArray v → 0 < item_count v.items → shape ≡ a.shape
-    → AreSmall shape (naming_by shape subs strides)
+    → PlacesAreSmall shape (naming_by shape subs strides)
 small_for a v subs shape strides are v_array some s =
-    subst (λ (xs : List ℕ). AreSmall xs (naming_by xs subs strides)) (sym s) (by_test (is_single v) refl)
+    subst (λ (xs : List ℕ). PlacesAreSmall xs (naming_by xs subs strides)) (sym s) (by_test (is_single v) refl)
   where
-    by_test : (b : Bool) → is_single v ≡ b → AreSmall a.shape (naming_by a.shape subs strides)
+    by_test : (b : Bool) → is_single v ≡ b → PlacesAreSmall a.shape (naming_by a.shape subs strides)
     by_test true e = small_by_zeros a.shape strides subs (are.lone e)
     by_test false e =
         small_by_strides a.shape strides subs (let count = are.count e in omega (arith, v_array.fits.elements, v_array.whole)) (let count = are.count e in omega arith) (are.each e)
@@ -308,12 +308,12 @@ assigned_is a v subs shape last strides sources old new made array are s l o n t
         ap (λ (xs : List (Option ℕ)). get_or xs place None) (told ∙ ap (λ (xs : List ℕ). map (source_by_axes xs (naming_by xs subs strides)) (places (element_count xs))) s)
         ∙ get_or-map-range_with_len (source_by_axes a.shape (naming_by a.shape subs strides)) 0 (element_count a.shape) place place None (let whole = array.whole in omega arith) (omega arith)
 
-    by_test : (b : Bool) → is_single v ≡ b → overlaid a.items v.items (λ place. slice_index_or sources place None) ≡ overlaid a.items v.items (naming a.shape subs)
+    by_test : (b : Bool) → is_single v ≡ b → overlaid a.items v.items (λ place. slice_index_or sources place None) ≡ overlaid a.items v.items (place_naming a.shape subs)
     by_test true e =
-        overlaid_alike a.items v.items (λ place. slice_index_or sources place None) (naming a.shape subs) (same_number (item_count v.items) 1 e)
+        overlaid_alike a.items v.items (λ place. slice_index_or sources place None) (place_naming a.shape subs) (same_number (item_count v.items) 1 e)
         (λ place below. ap is_some (at_place place below) ∙ named_alike a.shape strides subs place)
     by_test false e =
-        overlaid_same a.items v.items (λ place. slice_index_or sources place None) (naming a.shape subs)
+        overlaid_same a.items v.items (λ place. slice_index_or sources place None) (place_naming a.shape subs)
         (λ place below. at_place place below ∙ naming_same a.shape strides subs (are.each e) place (let whole = array.whole in omega arith))
 
 -- ---- where there is nothing to do
@@ -323,9 +323,9 @@ pub idle_is : (a v array : PlainArray) (subs : List (Option PlainArray)) (old ne
 idle_is a v array subs old new idle o n is e same =
     same ∙ ap (array_of a.shape) (sym (by_tests (item_count old == 0) (item_count new == 0) refl refl (sym is ∙ e)))
   where
-    by_tests : (none_old none_new : Bool) → (item_count old == 0) ≡ none_old → (item_count new == 0) ≡ none_new → (none_old || none_new) ≡ true → overlaid a.items v.items (naming a.shape subs) ≡ a.items
-    by_tests true none_new p q e = put_on_nothing a.items v.items (naming a.shape subs) (ap item_count (sym o) ∙ same_number (item_count old) 0 p)
-    by_tests false true p q e = nothing_put a.items v.items (naming a.shape subs) (ap item_count (sym n) ∙ same_number (item_count new) 0 q)
+    by_tests : (none_old none_new : Bool) → (item_count old == 0) ≡ none_old → (item_count new == 0) ≡ none_new → (none_old || none_new) ≡ true → overlaid a.items v.items (place_naming a.shape subs) ≡ a.items
+    by_tests true none_new p q e = put_on_nothing a.items v.items (place_naming a.shape subs) (ap item_count (sym o) ∙ same_number (item_count old) 0 p)
+    by_tests false true p q e = nothing_put a.items v.items (place_naming a.shape subs) (ap item_count (sym n) ∙ same_number (item_count new) 0 q)
     by_tests false false p q e = absurd (cc)
 
 some_items : (n : ℕ) → (n == 0) ≡ false → 0 < n

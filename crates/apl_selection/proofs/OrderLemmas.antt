@@ -8,7 +8,7 @@ use Rattle.apl_arrays.specs.Array.{PlainArray, element_count}
 use Rattle.apl_items.specs.Axes.{added, offset_at}
 use Rattle.apl_items.specs.Shapes.{AreWithin, coordinates_of, place_of, stride_of}
 use Rattle.apl_items.proofs.ShapeLemmas.{coordinates_are_within, coordinates_of_place, place_of_below, place_of_coordinates}
-use Rattle.apl_selection.specs.Assignment.{last_place, naming}
+use Rattle.apl_selection.specs.Assignment.{last_place, place_naming}
 use Rattle.apl_selection.specs.Indexing.{named_place}
 use Rattle.apl_selection.specs.Picks.{strided}
 use Rattle.apl_selection.specs.Subscripts.{named_counts, named_on, point_outside, sub_on}
@@ -114,7 +114,7 @@ turned f g back axis (k ∷ ks) (c ∷ cs) leads = (back axis k c leads.0, turne
 -- ---- named and naming
 
 -- the place of the selection that names a place does name it
-pub naming_names : (shape : List ℕ) (subs : List (Option PlainArray)) (place at : ℕ) → place < element_count shape → naming shape subs place ≡ Some at → named_place shape subs at ≡ Some place
+pub naming_names : (shape : List ℕ) (subs : List (Option PlainArray)) (place at : ℕ) → place < element_count shape → place_naming shape subs place ≡ Some at → named_place shape subs at ≡ Some place
 naming_names shape subs place at below e =
     let counts = named_counts shape subs in
     let last : ℕ → ℕ → Option ℕ = λ axis along. last_place along (named_on shape subs axis) in
@@ -132,7 +132,7 @@ naming_names shape subs place at below e =
     ∙ ap (λ (n : ℕ). Some n) (place_of_coordinates shape place below)
 
 -- and it is a place of the selection
-pub naming_below : (shape : List ℕ) (subs : List (Option PlainArray)) (place at : ℕ) → place < element_count shape → naming shape subs place ≡ Some at → at < element_count (named_counts shape subs)
+pub naming_below : (shape : List ℕ) (subs : List (Option PlainArray)) (place at : ℕ) → place < element_count shape → place_naming shape subs place ≡ Some at → at < element_count (named_counts shape subs)
 naming_below shape subs place at below e =
     let counts = named_counts shape subs in
     let last : ℕ → ℕ → Option ℕ = λ axis along. last_place along (named_on shape subs axis) in
@@ -174,7 +174,7 @@ no_later (axis ∷ counts) (k ∷ ks) (j ∷ js) up =
 
 -- where a place of the selection names a place, the one that is taken for it is no earlier
 pub named_is_taken : (shape : List ℕ) (subs : List (Option PlainArray)) (place at : ℕ) → at < element_count (named_counts shape subs) → point_outside shape subs ≡ false
-    → named_place shape subs at ≡ Some place → (later : ℕ) × (naming shape subs place ≡ Some later) × (at ≤ later)
+    → named_place shape subs at ≡ Some place → (later : ℕ) × (place_naming shape subs place ≡ Some later) × (at ≤ later)
 named_is_taken shape subs place at below none e =
     let counts = named_counts shape subs in
     let last : ℕ → ℕ → Option ℕ = λ axis along. last_place along (named_on shape subs axis) in

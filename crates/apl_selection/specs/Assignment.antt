@@ -4,7 +4,7 @@ use Rattle.std.specs.Bool.{beq}
 use Rattle.std.specs.List.{zip}
 use Rattle.std.specs.Option.{option_or}
 use Rattle.apl_arrays.specs.Array.{PlainArray, PlainItems, numbers, chars, is_chars}
-use Rattle.apl_items.specs.Answers.{Answer, Faults, answer_of}
+use Rattle.apl_items.specs.Answers.{ArrayResult, Faults, answer_of}
 use Rattle.apl_items.specs.Axes.{source_by_axes}
 use Rattle.apl_items.specs.Extension.{is_single, place_in}
 use Rattle.apl_items.specs.Places.{places}
@@ -20,8 +20,8 @@ last_place number (first ∷ rest) =
     option_or (option_map (λ place. place + 1) (last_place number rest)) (if first == number then Some 0 else None)
 
 -- the place of the selection that names a place of A, the last of those that do; none where no one does
-abbrev pub naming : List ℕ → List (Option PlainArray) → ℕ → Option ℕ
-naming shape subs = source_by_axes shape (strided (named_counts shape subs) (λ axis along. last_place along (named_on shape subs axis)))
+abbrev pub place_naming : List ℕ → List (Option PlainArray) → ℕ → Option ℕ
+place_naming shape subs = source_by_axes shape (strided (named_counts shape subs) (λ axis along. last_place along (named_on shape subs axis)))
 
 -- the item of V at a place of the selection, where a lone item stands at each; else the one that stood there
 abbrev pub put_over : {T : Type 0} → T → List T → Option ℕ → T
@@ -41,7 +41,7 @@ overlaid (chars old) (numbers new) source = chars old
 
 -- A with the items of V in the places that the subscripts name
 abbrev pub overlaid_array : PlainArray → List (Option PlainArray) → PlainArray → PlainArray
-overlaid_array a subs v = record { shape = a.shape; items = overlaid a.items v.items (naming a.shape subs) }
+overlaid_array a subs v = record { shape = a.shape; items = overlaid a.items v.items (place_naming a.shape subs) }
 
 -- ---- what is wrong
 
@@ -64,5 +64,5 @@ assign_faults a subs v =
     }
 
 -- A[I;J]←V: the array that A is afterwards
-abbrev pub assign_of : PlainArray → List (Option PlainArray) → PlainArray → Answer
+abbrev pub assign_of : PlainArray → List (Option PlainArray) → PlainArray → ArrayResult
 assign_of a subs v = answer_of (assign_faults a subs v) (overlaid_array a subs v)

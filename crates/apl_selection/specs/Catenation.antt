@@ -5,7 +5,7 @@ use Rattle.apl_arrays.specs.declared.way.Way.TheVariants.{Last}
 use Rattle.apl_arrays.specs.Array.{PlainArray, PlainItems, numbers, chars, chars_in, is_chars, item_count, numbers_in}
 use Rattle.apl_arrays.specs.Shape.{shape_fault}
 use Rattle.apl_items.specs.declared.shapes.Split.{Split}
-use Rattle.apl_items.specs.Answers.{Answer, Faults, no_faults, answer_of}
+use Rattle.apl_items.specs.Answers.{ArrayResult, Faults, no_faults, answer_of}
 use Rattle.apl_items.specs.Extension.{place_in}
 use Rattle.apl_items.specs.Moves.{moved}
 use Rattle.apl_items.specs.Shapes.{along_of, inner_of, outer_of, split_at}
@@ -104,7 +104,7 @@ catenate_faults a b axis =
     }
 
 -- B behind A along an axis: the one of K, or the last
-abbrev pub catenate_of : PlainArray → PlainArray → Option ℤ → Answer
+abbrev pub catenate_of : PlainArray → PlainArray → Option ℤ → ArrayResult
 catenate_of a b axis =
     let along = catenated_axis a b axis in
     answer_of (record (catenate_faults a b axis) { too_large = is_some (shape_fault (catenated_shape a b along)) }) (catenated a b along)

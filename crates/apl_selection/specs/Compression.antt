@@ -1,7 +1,7 @@
 use Rattle.std.specs.Prelude.{◌||◌, ◌==◌, ℕ, ℤ, Bool, List, Option, Some, length, map, filter, if◌then◌else◌}
 use Rattle.apl_arrays.specs.declared.way.Way.{Way}
 use Rattle.apl_arrays.specs.Array.{PlainArray, item_count, numbers_in}
-use Rattle.apl_items.specs.Answers.{Answer, Faults}
+use Rattle.apl_items.specs.Answers.{ArrayResult, Faults}
 use Rattle.apl_items.specs.Extension.{number_at, place_in}
 use Rattle.apl_items.specs.Places.{places}
 use Rattle.apl_arrays.specs.Number.{is_one}
@@ -17,8 +17,8 @@ abbrev pub kept_of : List ℤ → ℕ → ℕ → List (Option ℕ)
 kept_of flags long count = map (λ place. Some (place_in long place)) (filter (λ place. is_one (number_at flags place)) (places count))
 
 -- the places along an axis whose flag is 1
-abbrev pub kept : List ℤ → ℕ → List (Option ℕ)
-kept flags long = kept_of flags long (flagged_length (length flags) long)
+abbrev pub kept_places : List ℤ → ℕ → List (Option ℕ)
+kept_places flags long = kept_of flags long (flagged_length (length flags) long)
 
 -- there is one flag, or the axis has one place, or there are as many of both
 abbrev pub flags_meet : ℕ → ℕ → Bool
@@ -29,5 +29,5 @@ abbrev pub compress_faults : PlainArray → PlainArray → Way → Option ℤ �
 compress_faults a b way axis = flag_faults a b axis (flags_meet (item_count a.items) (meant_length b way axis))
 
 -- the items of B along the last axis, the first or K, where A has 1
-abbrev pub compress_of : PlainArray → PlainArray → Way → Option ℤ → Answer
-compress_of a b way axis = listed_of (compress_faults a b way axis) b (meant_axis b way axis) (kept (numbers_in a.items) (meant_length b way axis))
+abbrev pub compress_of : PlainArray → PlainArray → Way → Option ℤ → ArrayResult
+compress_of a b way axis = listed_of (compress_faults a b way axis) b (meant_axis b way axis) (kept_places (numbers_in a.items) (meant_length b way axis))

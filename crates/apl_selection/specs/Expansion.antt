@@ -1,7 +1,7 @@
 use Rattle.std.specs.Prelude.{◌||◌, ◌==◌, ℕ, ℤ, pos, Bool, List, Option, Some, None, length, map, count_by, take, slice_index_or, if◌then◌else◌}
 use Rattle.apl_arrays.specs.declared.way.Way.{Way}
 use Rattle.apl_arrays.specs.Array.{PlainArray, numbers_in}
-use Rattle.apl_items.specs.Answers.{Answer, Faults}
+use Rattle.apl_items.specs.Answers.{ArrayResult, Faults}
 use Rattle.apl_items.specs.Extension.{place_in}
 use Rattle.apl_items.specs.Places.{places}
 use Rattle.apl_arrays.specs.Number.{is_one}
@@ -29,5 +29,5 @@ abbrev pub expand_faults : PlainArray → PlainArray → Way → Option ℤ → 
 expand_faults a b way axis = flag_faults a b axis (ones_meet (numbers_in a.items) (meant_length b way axis))
 
 -- the items of B along the last axis, the first or K, where A has 1, and the fill where it has 0
-abbrev pub expand_of : PlainArray → PlainArray → Way → Option ℤ → Answer
+abbrev pub expand_of : PlainArray → PlainArray → Way → Option ℤ → ArrayResult
 expand_of a b way axis = listed_of (expand_faults a b way axis) b (meant_axis b way axis) (spread (numbers_in a.items) (meant_length b way axis))

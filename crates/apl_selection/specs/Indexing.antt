@@ -2,7 +2,7 @@ use Rattle.std.specs.Prelude.{◌||◌, ℕ, List, Option, length, nat_lt, slice
 use Rattle.apl_arrays.specs.Array.{PlainArray}
 use Rattle.apl_arrays.specs.Limits.{most_axes}
 use Rattle.apl_arrays.specs.Shape.{shape_fault}
-use Rattle.apl_items.specs.Answers.{Answer, Faults, answer_of}
+use Rattle.apl_items.specs.Answers.{ArrayResult, Faults, answer_of}
 use Rattle.apl_items.specs.Axes.{source_by_axes}
 use Rattle.apl_items.specs.Moves.{moved}
 use Rattle.apl_selection.specs.Picks.{strided}
@@ -25,5 +25,5 @@ abbrev pub indexed : PlainArray → List (Option PlainArray) → PlainArray
 indexed b subs = moved (selection_shape b.shape subs) b.items (named_place b.shape subs)
 
 -- B[I;J]
-abbrev pub selection_of : PlainArray → List (Option PlainArray) → Answer
+abbrev pub selection_of : PlainArray → List (Option PlainArray) → ArrayResult
 selection_of b subs = answer_of (index_faults b subs) (indexed b subs)

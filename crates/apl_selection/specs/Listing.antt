@@ -3,7 +3,7 @@ use Rattle.apl_arrays.specs.declared.way.Way.{Way}
 use Rattle.apl_arrays.specs.Array.{PlainArray, PlainItems}
 use Rattle.apl_arrays.specs.Shape.{shape_fault}
 use Rattle.apl_items.specs.Along.{source_along}
-use Rattle.apl_items.specs.Answers.{Answer, Faults, answer_of}
+use Rattle.apl_items.specs.Answers.{ArrayResult, Faults, answer_of}
 use Rattle.apl_items.specs.Moves.{moved}
 use Rattle.apl_items.specs.Shapes.{split_at}
 use Rattle.apl_items.specs.Axis.{axis_of}
@@ -44,7 +44,7 @@ on_axis long None = None
 on_axis long (Some place) = if nat_lt place long then Some place else None
 
 -- the items of B at the listed places along an axis, where nothing else is wrong and they are not too many
-abbrev pub listed_of : Faults → PlainArray → ℕ → List (Option ℕ) → Answer
+abbrev pub listed_of : Faults → PlainArray → ℕ → List (Option ℕ) → ArrayResult
 listed_of faults b axis list =
     let shape = vector_shape b.shape in
     answer_of (record faults { too_large = is_some (shape_fault (listed_shape shape axis list)) }) (listed shape b.items axis list)

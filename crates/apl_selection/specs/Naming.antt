@@ -23,8 +23,8 @@ pub record AreStridesFor (a : PlainArray) (subs : List (Option PlainArray)) (v :
   pub each : is_single v ≡ false → (axis : ℕ) → axis < length a.shape → slice_index strides axis ≡ stride_of (named_counts a.shape subs) axis
 
 -- the places that are told, from each axis on, are of 32 bits
-abbrev pub AreSmall : List ℕ → (ℕ → ℕ → Option ℕ) → Type 0
-AreSmall shape offset = (axis : ℕ) (coordinates : List ℕ) (from : ℕ) → axis ≤ length shape → AreWithin (drop axis shape) coordinates → offset_at offset axis coordinates ≡ Some from → from < 2 ^ 32
+abbrev pub PlacesAreSmall : List ℕ → (ℕ → ℕ → Option ℕ) → Type 0
+PlacesAreSmall shape offset = (axis : ℕ) (coordinates : List ℕ) (from : ℕ) → axis ≤ length shape → AreWithin (drop axis shape) coordinates → offset_at offset axis coordinates ≡ Some from → from < 2 ^ 32
 
 -- a place together with each of others is of 32 bits
 abbrev pub IsSmallBeyond : Option ℕ → List (Option ℕ) → Type 0

@@ -5,7 +5,7 @@ ghost use Rattle.apl_items.specs.Answers.{Answers, first_report};
 ghost use Rattle.apl_items.specs.Axes.{added, source_by_axes};
 ghost use Rattle.apl_items.specs.Places.{OnWantOfMemory, places};
 ghost use Rattle.apl_selection.specs.Assignment.{assign_faults, assign_of, last_place, overlaid, overlaid_array, overlaid_list, put_over};
-ghost use Rattle.apl_selection.specs.Naming.{AreSmall, AreSmallTogether, AreStridesFor, IsSmallBeyond, naming_by, scaled_place};
+ghost use Rattle.apl_selection.specs.Naming.{PlacesAreSmall, AreSmallTogether, AreStridesFor, IsSmallBeyond, naming_by, scaled_place};
 ghost use Rattle.apl_selection.specs.Subscripts.{is_miscounted, is_outside, named_by, point_outside, points_outside, selection_shape};
 
 use crate::listing::item_in;
@@ -117,7 +117,7 @@ fn naming(
     requires elements { 0 < element_count shape.now }
     requires counted { length subs.now ≡ length shape.now }
     requires inside { point_outside shape.now subs.now ≡ false }
-    requires small { AreSmall shape.now (naming_by shape.now subs.now strides.now) }
+    requires small { PlacesAreSmall shape.now (naming_by shape.now subs.now strides.now) }
     ensures { IfOk result (λ sources. sources.items ≡ map (source_by_axes shape.now (naming_by shape.now subs.now strides.now)) (places (element_count shape.now))) }
 {
     let mut axis = shape.len() - 1;

@@ -2,7 +2,7 @@ ghost use Rattle.std.specs.Prelude.{◌≡◌, ◌≤◌, None, IfOk, IsOk, leng
 ghost use Rattle.apl_arrays.specs.Array.{IsArray, item_count};
 ghost use Rattle.apl_items.specs.Answers.{Answers, AnswersFirst, first_report};
 ghost use Rattle.apl_items.specs.Places.{OnWantOfMemory};
-ghost use Rattle.apl_selection.specs.Compression.{compress_faults, compress_of, flagged_length, flags_meet, kept};
+ghost use Rattle.apl_selection.specs.Compression.{compress_faults, compress_of, flagged_length, flags_meet, kept_places};
 
 use crate::flags::{flags_report, is_one};
 use crate::listing::{listed_of, listing_fail, meant_axis, meant_length, place_in};
@@ -65,7 +65,7 @@ fn compressed(
 fn kept(alloc: Global, flags: &[i64], long: u32) -> Result<Vec<Option<u16>>, WantOfMemory>
     requires flags { length flags.now ≤ 16384 }
     requires long { long ≤ 16384 }
-    ensures { IfOk result (λ list. list.items ≡ kept flags.now long) }
+    ensures { IfOk result (λ list. list.items ≡ kept_places flags.now long) }
 {
     let count = flagged_length(flags.len(), long as usize);
     let mut list = room_for(alloc, count)?;
@@ -81,7 +81,7 @@ fn kept(alloc: Global, flags: &[i64], long: u32) -> Result<Vec<Option<u16>>, Wan
 fn kept_count(flags: &[i64], long: u32) -> usize
     requires flags { length flags.now ≤ 16384 }
     requires long { long ≤ 16384 }
-    ensures { result ≡ length (kept flags.now long) }
+    ensures { result ≡ length (kept_places flags.now long) }
 {
     let count = flagged_length(flags.len(), long as usize);
     let mut total = 0;

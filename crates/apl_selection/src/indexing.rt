@@ -137,19 +137,19 @@ fn indexed_by_axes(
 {
     let counts = named_counts(alloc, b.shape(), subs)?;
     let lengths = b.shape();
-    let picks = Named { lengths, subs };
+    let picks = NamedPlaces { lengths, subs };
     let items = picked_items(alloc, b.items(), lengths, counts.as_slice(), &picks)?;
     Array::shaped(alloc, shape, items)
 }
 
 /// The places that subscripts name along the axes.
 #[derive(Drop)]
-struct Named<'a> {
+struct NamedPlaces<'a> {
     lengths: &'a [u32],
     subs: &'a [Option<Array>],
 }
 
-impl Picks for Named<'_> {
+impl Picks for NamedPlaces<'_> {
     ghost use Rattle.std.specs.Prelude.{slice_get};
     ghost use Rattle.apl_selection.specs.Subscripts.{named_on};
 

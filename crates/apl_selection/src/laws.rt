@@ -8,7 +8,7 @@ ghost use Rattle.apl_arrays.specs.Array.{PlainArray, IsArray, IsItemOf, char_arr
 ghost use Rattle.apl_arrays.specs.Limits.{most_elements};
 ghost use Rattle.apl_items.specs.Axis.{lacks_axis};
 ghost use Rattle.apl_items.specs.Shapes.{AreWithin, place_of};
-ghost use Rattle.apl_selection.specs.Assignment.{assign_of, naming};
+ghost use Rattle.apl_selection.specs.Assignment.{assign_of, place_naming};
 ghost use Rattle.apl_selection.specs.Catenation.{catenate_of, catenated_axis, catenated_rank, catenated_shape, span_of};
 ghost use Rattle.apl_selection.specs.Compression.{compress_of};
 ghost use Rattle.apl_selection.specs.Expansion.{expand_of, ones};
@@ -21,7 +21,7 @@ ghost use Rattle.apl_selection.specs.Vectors.{as_vector};
 use apl_arrays::Way;
 
 /// Of a matrix of two rows and three columns the second row without its middle, from the right, and a whole column; and
-/// a vector by a matrix of places. The call does nothing. No memory.
+/// a vector by a matrix of places. The call does nothing.
 pub fn items_stand_where_subscripts_say()
     ensures row { selection_of (number_array (2 ∷ 3 ∷ []) (pos 1 ∷ pos 2 ∷ pos 3 ∷ pos 4 ∷ pos 5 ∷ pos 6 ∷ [])) (Some (scalar (pos 2)) ∷ Some (number_array (2 ∷ []) (pos 3 ∷ pos 1 ∷ [])) ∷ [])
         ≡ Ok (number_array (2 ∷ []) (pos 6 ∷ pos 4 ∷ [])) }
@@ -31,8 +31,7 @@ pub fn items_stand_where_subscripts_say()
         ≡ Ok (number_array (2 ∷ 2 ∷ []) (pos 9 ∷ pos 7 ∷ pos 7 ∷ pos 8 ∷ [])) }
 {}
 
-/// Where two items come to one place the last stays, and a lone item comes to each place. The call does nothing. No
-/// memory.
+/// Where two items come to one place the last stays, and a lone item comes to each place. The call does nothing.
 pub fn the_last_item_stays()
     ensures twice { assign_of (number_array (3 ∷ []) (pos 1 ∷ pos 2 ∷ pos 3 ∷ [])) (Some (number_array (2 ∷ []) (pos 2 ∷ pos 2 ∷ [])) ∷ []) (number_array (2 ∷ []) (pos 8 ∷ pos 9 ∷ []))
         ≡ Ok (number_array (3 ∷ []) (pos 1 ∷ pos 9 ∷ pos 3 ∷ [])) }
@@ -41,21 +40,21 @@ pub fn the_last_item_stays()
 {}
 
 /// The place of the selection whose item comes to a place names that place, no later one does, and where none is taken
-/// none names it. The call does nothing. No memory.
+/// none names it. The call does nothing.
 pub fn the_last_place_that_names_is_taken()
-    ensures named { (shape : List ℕ) (subs : List (Option PlainArray)) (place at : ℕ) → place < element_count shape → naming shape subs place ≡ Some at → named_place shape subs at ≡ Some place }
+    ensures named { (shape : List ℕ) (subs : List (Option PlainArray)) (place at : ℕ) → place < element_count shape → place_naming shape subs place ≡ Some at → named_place shape subs at ≡ Some place }
     ensures last { (shape : List ℕ) (subs : List (Option PlainArray)) (place at : ℕ) → at < element_count (named_counts shape subs) → point_outside shape subs ≡ false
-        → named_place shape subs at ≡ Some place → (later : ℕ) × (naming shape subs place ≡ Some later) × (at ≤ later) }
+        → named_place shape subs at ≡ Some place → (later : ℕ) × (place_naming shape subs place ≡ Some later) × (at ≤ later) }
 {}
 
 /// Where V has the shape of the selection, and no place is named twice, the items selected after `A[I;J]←V` are V. The
-/// call does nothing. No memory.
+/// call does nothing.
 pub fn what_was_put_is_selected()
     ensures { (a v after : PlainArray) (subs : List (Option PlainArray)) → IsArray a → IsArray v → AreArrays subs → v.shape ≡ selection_shape a.shape subs
         → NamesOnce a.shape subs → assign_of a subs v ≡ Ok after → selection_of after subs ≡ Ok v }
 {}
 
-/// Where each flag is 1, as in `1 1 1/B`, all is kept, along any axis. The call does nothing. No memory.
+/// Where each flag is 1, as in `1 1 1/B`, all is kept, along any axis. The call does nothing.
 #[tactic(auto, using(crate::proofs::FlagLaws::ones_keep_all))]
 pub fn flags_of_one_keep_all()
     ensures { (b : PlainArray) (way : PlainWay) (axis : Option ℤ) → IsArray b → 0 < length b.shape → lacks_axis (length b.shape) axis ≡ false
@@ -63,21 +62,20 @@ pub fn flags_of_one_keep_all()
 {}
 
 /// What is kept by a flag for each place is as long along the axis as flags are 1, and as long as B along the others. The
-/// call does nothing. No memory.
+/// call does nothing.
 pub fn as_much_is_kept_as_there_are_ones()
     ensures { (a b kept : PlainArray) (way : PlainWay) (axis : Option ℤ) → item_count a.items ≡ meant_length b way axis → compress_of a b way axis ≡ Ok kept
         → kept.shape ≡ slice_set (vector_shape b.shape) (meant_axis b way axis) (ones (numbers_in a.items)) }
 {}
 
-/// What flags spread they keep: `A/A\B` is B, where A has as many ones as the axis has places. The call does nothing. No
-/// memory.
+/// What flags spread they keep: `A/A\B` is B, where A has as many ones as the axis has places. The call does nothing.
 #[tactic(auto, using(crate::proofs::FlagLaws::spread_is_kept))]
 pub fn what_is_spread_is_kept()
     ensures { (a b spread : PlainArray) (way : PlainWay) (axis : Option ℤ) → IsArray b → 0 < length b.shape → ones (numbers_in a.items) ≡ meant_length b way axis
         → expand_of a b way axis ≡ Ok spread → compress_of a spread way axis ≡ Ok b }
 {}
 
-/// The join of two vectors has the items of the one and then those of the other. The call does nothing. No memory.
+/// The join of two vectors has the items of the one and then those of the other. The call does nothing.
 #[tactic(auto, using(crate::proofs::JoinLaws::numbers_joined, crate::proofs::JoinLaws::chars_joined))]
 pub fn vectors_are_joined_end_to_end()
     ensures numbers { (a b : List ℤ) → length a + length b ≤ most_elements → catenate_of (as_vector (numbers a)) (as_vector (numbers b)) None ≡ Ok (as_vector (numbers (a ++ b))) }
@@ -86,7 +84,7 @@ pub fn vectors_are_joined_end_to_end()
 
 /// A join has the shape of the array of greater rank, and along the axis is as long as both. Of its places along the axis the
 /// first are A's, and those behind are B's; an array that lacks the axis has one, and a scalar's item stands at each of its
-/// places. The call does nothing. No memory.
+/// places. The call does nothing.
 pub fn parts_of_a_join_stay_in_place()
     ensures shape { (a b r : PlainArray) (axis : Option ℤ) → catenate_of a b axis ≡ Ok r → r.shape ≡ catenated_shape a b (catenated_axis a b axis) }
     ensures first { (a b r : PlainArray) (axis : Option ℤ) (at : List ℕ) (item : Item) → IsArray a → catenate_of a b axis ≡ Ok r → AreWithin r.shape at
@@ -99,7 +97,7 @@ pub fn parts_of_a_join_stay_in_place()
 {}
 
 /// Flags: `1 0 1/5 6 7` is 5 7, `1 0 1\5 7` is 5 0 7, and blanks fill characters; of a matrix the columns, and with the
-/// first axis the rows; one flag, and one item, extend. The call does nothing. No memory.
+/// first axis the rows; one flag, and one item, extend. The call does nothing.
 pub fn flags_keep_and_spread_items()
     ensures kept { compress_of (number_array (3 ∷ []) (pos 1 ∷ pos 0 ∷ pos 1 ∷ [])) (number_array (3 ∷ []) (pos 5 ∷ pos 6 ∷ pos 7 ∷ [])) Way.Last None ≡ Ok (number_array (2 ∷ []) (pos 5 ∷ pos 7 ∷ [])) }
     ensures columns { compress_of (number_array (3 ∷ []) (pos 1 ∷ pos 0 ∷ pos 1 ∷ [])) (number_array (2 ∷ 3 ∷ []) (pos 1 ∷ pos 2 ∷ pos 3 ∷ pos 4 ∷ pos 5 ∷ pos 6 ∷ [])) Way.Last None ≡ Ok (number_array (2 ∷ 2 ∷ []) (pos 1 ∷ pos 3 ∷ pos 4 ∷ pos 6 ∷ [])) }
@@ -113,7 +111,7 @@ pub fn flags_keep_and_spread_items()
 {}
 
 /// Joins: `1 2,3` is 1 2 3, and two scalars give a vector; matrices beside each other, one below the other, and a row below
-/// a matrix; of two kinds the one that has items. The call does nothing. No memory.
+/// a matrix; of two kinds the one that has items. The call does nothing.
 pub fn joins_put_one_behind_the_other()
     ensures vectors { catenate_of (number_array (2 ∷ []) (pos 1 ∷ pos 2 ∷ [])) (number_array (2 ∷ []) (pos 3 ∷ pos 4 ∷ [])) None ≡ Ok (number_array (4 ∷ []) (pos 1 ∷ pos 2 ∷ pos 3 ∷ pos 4 ∷ [])) }
     ensures scalar { catenate_of (number_array (2 ∷ []) (pos 1 ∷ pos 2 ∷ [])) (scalar (pos 3)) None ≡ Ok (number_array (3 ∷ []) (pos 1 ∷ pos 2 ∷ pos 3 ∷ [])) }

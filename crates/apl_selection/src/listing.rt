@@ -55,7 +55,7 @@ pub(crate) fn item_in<T: Copy + Drop>(list: &[T], place: usize, fill: T) -> T
     }
 }
 
-/// The shape with another length of an axis. No memory.
+/// The shape with another length of an axis.
 pub(crate) fn with_axis(shape: &[u32], axis: usize, long: u32) -> ArrayVec<u32, RANK_LIMIT>
     requires few { length shape.now ≤ most_axes }
     requires axis { axis < length shape.now }
@@ -67,7 +67,7 @@ pub(crate) fn with_axis(shape: &[u32], axis: usize, long: u32) -> ArrayVec<u32, 
 }
 
 /// Why so many places along an axis were not listed where there is no memory for the list: the items at them are too many,
-/// else memory ran out. No memory.
+/// else memory ran out. It takes no memory.
 pub(crate) fn listing_fail(b: &Array, axis: usize, count: usize) -> Fail
     requires axis { axis < length (vector_shape b.now.shape) }
     requires few { count ≤ 16384 }

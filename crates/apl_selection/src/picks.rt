@@ -14,7 +14,7 @@ pub trait Picks {
     // The place along the source's axis for a place along an axis of the result, or none where it is filled.
     ghost from: { Self → ℕ → ℕ → Option ℕ };
 
-    /// The place along the source's axis, or `None` where it is filled. No memory.
+    /// The place along the source's axis, or `None` where it is filled.
     fn from(&self, axis: usize, along: usize) -> Option<usize>
         requires { along < 16384 }
         ensures { result ≡ from self.now axis along };

@@ -74,7 +74,7 @@ fn is_outside(length: u32, number: i64) -> bool
     number < 0 || number.unsigned_abs() == 0 || number.unsigned_abs() > u64::from(length)
 }
 
-/// The shape of the selection. No memory.
+/// The shape of the selection.
 pub(crate) fn selection_shape(
     shape: &[u32],
     subs: &[Option<Array>],

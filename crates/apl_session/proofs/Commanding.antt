@@ -15,7 +15,7 @@ use Rattle.sv_events.specs.Answer.{PlainAnswer}
 use Rattle.sv_events.specs.Row.{answer_row}
 use Rattle.sv_events.specs.declared.event.Act.{Act}
 use Rattle.sv_events.specs.declared.event.Act.TheVariants as act
-use Rattle.ws_commands.specs.Finish.{MayBeMade, MayComeIn, brought}
+use Rattle.ws_commands.specs.Finish.{MayBeMade, MayComeIn, workspace_brought}
 use Rattle.ws_commands.specs.Reading.{step_of}
 use Rattle.ws_commands.specs.Shelf.{Takes}
 use Rattle.ws_commands.specs.Todo.{PlainChange, PlainTodo, given_up, plain_change, plain_todo}
@@ -23,10 +23,10 @@ use Rattle.ws_commands.specs.declared.todo.Change.TheVariants.{Keep}
 use Rattle.ws_commands.proofs.Changes.{first_is_shared, next_unmarked, next_with_copy}
 use Rattle.apl_terminal.specs.Commands.{finishing, naming_alone, telling, unshared_with, unsharing, value_kept}
 use Rattle.apl_terminal.specs.Terminal.{PlainTerminal}
-use Rattle.session_rules.specs.Commands.{change_made, command_done, command_end, lines_told, offer_again, remaking, retracting, shared_again, todo_done, unless_ended}
+use Rattle.session_rules.specs.Commands.{change_made, command_done, command_end, lines_told, offer_again, remaking, retracting, shared_again, todo_done, unless_reported}
 use Rattle.session_rules.specs.Course.{Course, course_at, with_terminal}
 use Rattle.session_rules.specs.Session.{lines_done, session_of}
-use Rattle.session_rules.specs.Shelf.{Exchange, IsShelfRun, Reply, replies_in}
+use Rattle.session_rules.specs.Shelf.{Exchange, IsShelfRun, ShelfReply, shelf_replies_in}
 use Rattle.session_rules.proofs.MoreAnswers.{waits_on}
 use Rattle.session_rules.proofs.Shelves.{IsStepped, replies_behind, stepped}
 use Rattle.apl_session.specs.Errands.{IsErrand, IsFirstAct, IsFirstIn, IsOfferAgain, IsRetraction, MayBeDoneIn, MayChange, errand_rest, names_left, offers_left, rest_in}
@@ -81,7 +81,7 @@ next_is_shared errand w name rules ph within is fit =
 -- ---- it waits
 
 -- without an answer its first act waits
-first_waits : (ph : Phase) (errand : Errand) (asked : Act) (t : PlainTerminal) (acts : List Act) (exchanges : List Exchange) (more : List Reply) → IsFirstIn ph errand t.workspace asked
+first_waits : (ph : Phase) (errand : Errand) (asked : Act) (t : PlainTerminal) (acts : List Act) (exchanges : List Exchange) (more : List ShelfReply) → IsFirstIn ph errand t.workspace asked
     → rest_in ph errand (course_at t acts exchanges [] more) ≡ record (course_at t acts exchanges [] more) { waits = Some asked }
 first_waits phase.Retracting errand asked t acts exchanges more f =
     ap (λ names. retracting names (change_made errand.line.items (plain_todo errand.todo)) (course_at t acts exchanges [] more)) f.names_are
@@ -90,10 +90,10 @@ first_waits phase.Remaking errand asked t acts exchanges more f =
     ap (λ (offers : List Remake). remaking offers (lines_told errand.line.items (plain_todo errand.todo)) (course_at t acts exchanges [] more)) f.offers_are
     ∙ ap (λ (a : Act). record (course_at t acts exchanges [] more) { waits = Some a }) (sym f.act_is)
 
-command_course : (lines : List (List ℕ)) (answers : List PlainAnswer) (exchanges : List Exchange) (read : ℕ) (t : PlainTerminal) (errand : Errand) (asked : Act) → (h : IsCommanded lines answers exchanges read t errand) → IsFirstAct errand t.workspace asked → (more : List Reply)
-    → session_of lines answers (replies_in exchanges ++ more) ≡ record (course_at t h.at.acts exchanges [] more) { waits = Some asked }
+command_course : (lines : List (List ℕ)) (answers : List PlainAnswer) (exchanges : List Exchange) (read : ℕ) (t : PlainTerminal) (errand : Errand) (asked : Act) → (h : IsCommanded lines answers exchanges read t errand) → IsFirstAct errand t.workspace asked → (more : List ShelfReply)
+    → session_of lines answers (shelf_replies_in exchanges ++ more) ≡ record (course_at t h.at.acts exchanges [] more) { waits = Some asked }
 command_course lines answers exchanges read t errand asked h f more =
-    ap (λ given. session_of lines given (replies_in exchanges ++ more)) (sym (append-nil answers))
+    ap (λ given. session_of lines given (shelf_replies_in exchanges ++ more)) (sym (append-nil answers))
     ∙ h.at.same [] more
     ∙ ap (lines_done most_statements (drop read lines)) (first_waits errand.phase errand asked t h.at.acts exchanges more f)
     ∙ waits_on most_statements (drop read lines) (record (course_at t h.at.acts exchanges [] more) { waits = Some asked }) asked refl
@@ -110,29 +110,29 @@ command_waiting lines answers exchanges read t errand asked h f = record {
 
 -- lines with an answer more stand where this comes of the rest of the line
 with_answer : (lines : List (List ℕ)) (answers : List PlainAnswer) (exchanges : List Exchange) (read : ℕ) (t now : PlainTerminal) (rest rest_now : Course → Course) (asked : Act) (answer : PlainAnswer) → (at : IsAt lines answers exchanges read rest t)
-    → ((further : List PlainAnswer) (more : List Reply) → rest (course_at t at.acts exchanges (answer ∷ further) more) ≡ rest_now (course_at now (at.acts ++ asked ∷ []) exchanges further more))
+    → ((further : List PlainAnswer) (more : List ShelfReply) → rest (course_at t at.acts exchanges (answer ∷ further) more) ≡ rest_now (course_at now (at.acts ++ asked ∷ []) exchanges further more))
     → IsAt lines (answers ++ answer ∷ []) exchanges read rest_now now
 with_answer lines answers exchanges read t now rest rest_now asked answer at comes = record {
   acts = at.acts ++ asked ∷ [];
   same = λ further more.
-      ap (λ given. session_of lines given (replies_in exchanges ++ more)) (append_assoc answers (answer ∷ []) further)
+      ap (λ given. session_of lines given (shelf_replies_in exchanges ++ more)) (append_assoc answers (answer ∷ []) further)
       ∙ at.same (answer ∷ further) more
       ∙ ap (lines_done most_statements (drop read lines)) (comes further more);
 }
 
 -- what comes behind the first act, by the answer to it
-first_takes : (ph : Phase) (errand : Errand) (asked : Act) (t : PlainTerminal) (acts : List Act) (exchanges : List Exchange) (answer : PlainAnswer) (further : List PlainAnswer) (more : List Reply) (report : Report) → IsFirstIn ph errand t.workspace asked
+first_takes : (ph : Phase) (errand : Errand) (asked : Act) (t : PlainTerminal) (acts : List Act) (exchanges : List Exchange) (answer : PlainAnswer) (further : List PlainAnswer) (more : List ShelfReply) (report : Report) → IsFirstIn ph errand t.workspace asked
     → command_end (answer_row answer).row.kind ≡ Some report → rest_in ph errand (course_at t acts exchanges (answer ∷ further) more) ≡ course_at (naming_alone report t) (acts ++ asked ∷ []) exchanges further more
 first_takes phase.Retracting errand asked t acts exchanges answer further more report f ends =
     let next : Course → Course = change_made errand.line.items (plain_todo errand.todo) in
     ap (λ names. retracting names next (course_at t acts exchanges (answer ∷ further) more)) f.names_are
-    ∙ ap (λ (a : Act). unless_ended (command_end (answer_row answer).row.kind) (λ d. retracting f.others next (with_terminal (unsharing f.name answer d.terminal) d)) (course_at t (acts ++ a ∷ []) exchanges further more)) (sym f.act_is)
-    ∙ ap (λ o. unless_ended o (λ d. retracting f.others next (with_terminal (unsharing f.name answer d.terminal) d)) (course_at t (acts ++ asked ∷ []) exchanges further more)) ends
+    ∙ ap (λ (a : Act). unless_reported (command_end (answer_row answer).row.kind) (λ d. retracting f.others next (with_terminal (unsharing f.name answer d.terminal) d)) (course_at t (acts ++ a ∷ []) exchanges further more)) (sym f.act_is)
+    ∙ ap (λ o. unless_reported o (λ d. retracting f.others next (with_terminal (unsharing f.name answer d.terminal) d)) (course_at t (acts ++ asked ∷ []) exchanges further more)) ends
 first_takes phase.Remaking errand asked t acts exchanges answer further more report f ends =
     let next : Course → Course = lines_told errand.line.items (plain_todo errand.todo) in
     ap (λ (offers : List Remake). remaking offers next (course_at t acts exchanges (answer ∷ further) more)) f.offers_are
-    ∙ ap (λ (a : Act). unless_ended (command_end (answer_row answer).row.kind) (λ d. remaking f.others next (with_terminal (shared_again f.offer d.terminal) d)) (course_at t (acts ++ a ∷ []) exchanges further more)) (sym f.act_is)
-    ∙ ap (λ o. unless_ended o (λ d. remaking f.others next (with_terminal (shared_again f.offer d.terminal) d)) (course_at t (acts ++ asked ∷ []) exchanges further more)) ends
+    ∙ ap (λ (a : Act). unless_reported (command_end (answer_row answer).row.kind) (λ d. remaking f.others next (with_terminal (shared_again f.offer d.terminal) d)) (course_at t (acts ++ a ∷ []) exchanges further more)) (sym f.act_is)
+    ∙ ap (λ o. unless_reported o (λ d. remaking f.others next (with_terminal (shared_again f.offer d.terminal) d)) (course_at t (acts ++ asked ∷ []) exchanges further more)) ends
 
 -- an answer that ends the command
 pub command_ended : (lines : List (List ℕ)) (answers : List PlainAnswer) (exchanges : List Exchange) (read : ℕ) (t : PlainTerminal) (errand : Errand) (asked : Act) (answer : PlainAnswer) (report : Report) → IsFirstAct errand t.workspace asked
@@ -141,11 +141,11 @@ command_ended lines answers exchanges read t errand asked answer report f ends h
     with_answer lines answers exchanges read t (naming_alone report t) (errand_rest errand) (λ c. c) asked answer h.at (λ further more. first_takes errand.phase errand asked t h.at.acts exchanges answer further more report f ends)
 
 -- the retraction of a name, by an answer that does not end the command
-retracted_one : (names others : List (List ℕ)) (name : List ℕ) (next : Course → Course) (t : PlainTerminal) (acts : List Act) (exchanges : List Exchange) (answer : PlainAnswer) (further : List PlainAnswer) (more : List Reply) → names ≡ name ∷ others
+retracted_one : (names others : List (List ℕ)) (name : List ℕ) (next : Course → Course) (t : PlainTerminal) (acts : List Act) (exchanges : List Exchange) (answer : PlainAnswer) (further : List PlainAnswer) (more : List ShelfReply) → names ≡ name ∷ others
     → command_end (answer_row answer).row.kind ≡ None → retracting names next (course_at t acts exchanges (answer ∷ further) more) ≡ retracting others next (course_at (unsharing name answer t) (acts ++ act.Retract name ∷ []) exchanges further more)
 retracted_one names others name next t acts exchanges answer further more is goes =
     ap (λ list. retracting list next (course_at t acts exchanges (answer ∷ further) more)) is
-    ∙ ap (λ o. unless_ended o (λ d. retracting others next (with_terminal (unsharing name answer d.terminal) d)) (course_at t (acts ++ act.Retract name ∷ []) exchanges further more)) goes
+    ∙ ap (λ o. unless_reported o (λ d. retracting others next (with_terminal (unsharing name answer d.terminal) d)) (course_at t (acts ++ act.Retract name ∷ []) exchanges further more)) goes
 
 printed_kept : (b : Bool) (v w : PlainWorkspace) → v.printed ≡ w.printed → (cond b v w).printed ≡ w.printed
 printed_kept true v w same = same
@@ -172,7 +172,7 @@ unshared_there errand w name others answer rules is ph fit =
     subst (λ (p : Phase). MayBeDoneIn p (record errand { retracted = errand.retracted + 1 }) (unshared_with (value_kept answer) name w)) (sym ph)
     (record {
       names_are = rest_behind errand.todo.retract.items others name errand.retracted is ∙ sym (next_given (value_kept answer) (plain_change errand.todo.change) w name others rules (sym before.names_are ∙ is));
-      comes = still_comes (brought (plain_change errand.todo.change)) (unshared_with (value_kept answer) name w) w (same_printed (value_kept answer) name w) before.comes;
+      comes = still_comes (workspace_brought (plain_change errand.todo.change)) (unshared_with (value_kept answer) name w) w (same_printed (value_kept answer) name w) before.comes;
       none_made = before.none_made;
     })
 
@@ -192,11 +192,11 @@ command_retracted lines answers exchanges read t errand name others answer rules
     }
 
 -- an offer that was made, by an answer that does not end the command
-remade_one : (offers others : List Remake) (offer : Remake) (next : Course → Course) (t : PlainTerminal) (acts : List Act) (exchanges : List Exchange) (answer : PlainAnswer) (further : List PlainAnswer) (more : List Reply) → offers ≡ offer ∷ others
+remade_one : (offers others : List Remake) (offer : Remake) (next : Course → Course) (t : PlainTerminal) (acts : List Act) (exchanges : List Exchange) (answer : PlainAnswer) (further : List PlainAnswer) (more : List ShelfReply) → offers ≡ offer ∷ others
     → command_end (answer_row answer).row.kind ≡ None → remaking offers next (course_at t acts exchanges (answer ∷ further) more) ≡ remaking others next (course_at (shared_again offer t) (acts ++ offer_again offer t.workspace ∷ []) exchanges further more)
 remade_one offers others offer next t acts exchanges answer further more is goes =
     ap (λ (list : List Remake). remaking list next (course_at t acts exchanges (answer ∷ further) more)) is
-    ∙ ap (λ o. unless_ended o (λ d. remaking others next (with_terminal (shared_again offer d.terminal) d)) (course_at t (acts ++ offer_again offer t.workspace ∷ []) exchanges further more)) goes
+    ∙ ap (λ o. unless_reported o (λ d. remaking others next (with_terminal (shared_again offer d.terminal) d)) (course_at t (acts ++ offer_again offer t.workspace ∷ []) exchanges further more)) goes
 
 pub command_remade : (lines : List (List ℕ)) (answers : List PlainAnswer) (exchanges : List Exchange) (read : ℕ) (t : PlainTerminal) (errand : Errand) (offer : Remake) (others : List Remake) (answer : PlainAnswer) → offers_left errand ≡ offer ∷ others → errand.phase ≡ phase.Remaking
     → command_end (answer_row answer).row.kind ≡ None → IsCommanded lines answers exchanges read t errand → IsCommanded lines (answers ++ answer ∷ []) exchanges read (shared_again offer t) (record errand { remade = errand.remade + 1 })
@@ -217,7 +217,7 @@ command_remade lines answers exchanges read t errand offer others answer is ph g
 
 -- what is done to the terminal is done, and this is left
 pub led_on : (lines : List (List ℕ)) (answers : List PlainAnswer) (exchanges : List Exchange) (read : ℕ) (t now : PlainTerminal) (rest rest_now : Course → Course) → (at : IsAt lines answers exchanges read rest t)
-    → ((further : List PlainAnswer) (more : List Reply) → rest (course_at t at.acts exchanges further more) ≡ rest_now (course_at now at.acts exchanges further more)) → IsAt lines answers exchanges read rest_now now
+    → ((further : List PlainAnswer) (more : List ShelfReply) → rest (course_at t at.acts exchanges further more) ≡ rest_now (course_at now at.acts exchanges further more)) → IsAt lines answers exchanges read rest_now now
 led_on lines answers exchanges read t now rest rest_now at comes = record { acts = at.acts; same = λ further more. at.same further more ∙ ap (lines_done most_statements (drop read lines)) (comes further more) }
 
 -- where no name is left the change may be made
@@ -262,8 +262,8 @@ module _ {K : Type 0} (told : K → Option (Told (ℕ × List ℕ))) (faults : K
         record {
           acts = h.acts;
           same = λ further rest.
-              ap (λ replies. session_of lines (answers ++ further) replies) (ap (λ before. before ++ rest) (replies_behind k.more exchanges) ∙ append_assoc (replies_in exchanges) (replies_in k.more) rest)
-              ∙ h.same further (replies_in k.more ++ rest)
+              ap (λ replies. session_of lines (answers ++ further) replies) (ap (λ before. before ++ rest) (replies_behind k.more exchanges) ∙ append_assoc (shelf_replies_in exchanges) (shelf_replies_in k.more) rest)
+              ∙ h.same further (shelf_replies_in k.more ++ rest)
               ∙ ap (lines_done most_statements (drop read lines)) (k.same t h.acts exchanges further rest);
         },
       )

@@ -4,7 +4,7 @@ use Rattle.std.specs.Prelude.{Option, None, Err, length}
 use Rattle.apl_arrays.specs.declared.report.Report.{Report}
 use Rattle.apl_machine.specs.Interpreter.{state_at}
 use Rattle.apl_machine.specs.Machine.{PlainMachine, silent}
-use Rattle.apl_machine.specs.Runs.{AsksThere, EndsBy, EndsDone, IsTreeOf, Stands, StandsOn}
+use Rattle.apl_machine.specs.Runs.{AsksThere, EndsBy, EndsDone, IsTreeOf, MachineStands, StandsOn}
 use Rattle.apl_meaning.specs.Laws.{IsOver, and_more}
 use Rattle.apl_meaning.specs.Meaning.{mean, mean_of_line, mean_of_read, most_statements}
 use Rattle.apl_meaning.specs.Printing.{input_shown, report_lines}
@@ -18,9 +18,9 @@ use Rattle.line_trees.specs.Trees.{LineTree, line_tree_of}
 use Rattle.sv_events.specs.Answer.{PlainAnswer}
 use Rattle.sv_events.specs.declared.event.Act.{Act}
 use Rattle.apl_terminal.specs.Terminal.{PlainTerminal, printing, reporting}
-use Rattle.session_rules.specs.Course.{Course, behind, course_at, with_terminal}
-use Rattle.session_rules.specs.Session.{line_by, lines_done, next_line, session_of, statement_done}
-use Rattle.session_rules.specs.Shelf.{Exchange, Reply, replies_in}
+use Rattle.session_rules.specs.Course.{Course, course_behind, course_at, with_terminal}
+use Rattle.session_rules.specs.Session.{line_done_by, lines_done, next_line, session_of, statement_done}
+use Rattle.session_rules.specs.Shelf.{Exchange, ShelfReply, shelf_replies_in}
 use Rattle.session_rules.proofs.MoreAnswers.{waits_on}
 use Rattle.apl_session.specs.Standing.{IsAsking, IsAt, IsBetween, IsUnderWay}
 
@@ -28,14 +28,14 @@ use Rattle.apl_session.specs.Standing.{IsAsking, IsAt, IsBetween, IsUnderWay}
 
 -- the next line is begun, unless the user has ended the session
 pub one_line : (lines rest : List (List ℕ)) (line : List ℕ) (answers : List PlainAnswer) (exchanges : List Exchange) (read : ℕ) (t : PlainTerminal) → drop read lines ≡ line ∷ rest → drop (read + 1) lines ≡ rest → t.ended ≡ false → IsBetween lines answers exchanges read t
-    → IsAt lines answers exchanges (read + 1) (λ c. line_by most_statements line t.definition c) t
+    → IsAt lines answers exchanges (read + 1) (λ c. line_done_by most_statements line t.definition c) t
 one_line lines rest line answers exchanges read t here then goes h = record {
   acts = h.acts;
   same = λ further more.
       h.same further more
       ∙ ap (λ left. lines_done most_statements left (course_at t h.acts exchanges further more)) here
       ∙ ap (λ ended. lines_done most_statements rest (next_line most_statements None ended line (course_at t h.acts exchanges further more))) goes
-      ∙ ap (λ left. lines_done most_statements left (line_by most_statements line t.definition (course_at t h.acts exchanges further more))) (sym then);
+      ∙ ap (λ left. lines_done most_statements left (line_done_by most_statements line t.definition (course_at t h.acts exchanges further more))) (sym then);
 }
 
 -- a line that asked nothing is done
@@ -51,7 +51,7 @@ statement_read w line tree answers left is =
     ∙ ap (λ found. mean_of_read (read_parsed found) line w answers left) is.nodes
 
 pub begun_at : (lines : List (List ℕ)) (line : List ℕ) (answers : List PlainAnswer) (exchanges : List Exchange) (read : ℕ) (t lent : PlainTerminal) (tree : PlainTree) (m : PlainMachine) → lent ≡ record t { workspace = empty_workspace } → IsAt lines answers exchanges read (statement_done most_statements line) t → IsTreeOf t.workspace line tree
-    → Stands m (line_tree_of tree) line t.workspace [] [] 0 [] → IsUnderWay lines answers exchanges read lent m
+    → MachineStands m (line_tree_of tree) line t.workspace [] [] 0 [] → IsUnderWay lines answers exchanges read lent m
 begun_at lines line answers exchanges read t lent tree m left h is stands = record {
   before = t;
   tree = line_tree_of tree;
@@ -61,7 +61,7 @@ begun_at lines line answers exchanges read t lent tree m left h is stands = reco
   given = sym (append-nil answers);
   begun = record {
     acts = h.acts;
-    same = λ further more. h.same further more ∙ ap (λ (end : Effect). lines_done most_statements (drop read lines) (behind (course_at t h.acts exchanges further more) end)) (statement_read t.workspace line tree further most_statements is);
+    same = λ further more. h.same further more ∙ ap (λ (end : Effect). lines_done most_statements (drop read lines) (course_behind (course_at t h.acts exchanges further more) end)) (statement_read t.workspace line tree further most_statements is);
   };
   count = 0;
   taken = [];
@@ -81,7 +81,7 @@ refused_at lines line answers exchanges read t report h is frames free = record 
   acts = h.acts ++ [];
   same = λ further more.
       h.same further more
-      ∙ ap (λ (found : Read). lines_done most_statements (drop read lines) (behind (course_at t h.acts exchanges further more) (mean_of_read found line t.workspace further most_statements))) is
+      ∙ ap (λ (found : Read). lines_done most_statements (drop read lines) (course_behind (course_at t h.acts exchanges further more) (mean_of_read found line t.workspace further most_statements))) is
       ∙ ap (λ (w : PlainWorkspace). lines_done most_statements (drop read lines) (course_at (record t { workspace = w; definition = None; transcript = t.transcript ++ report_lines report (input_shown line) }) (h.acts ++ []) exchanges further more)) (whole_again t.workspace frames)
       ∙ ap (λ definition. lines_done most_statements (drop read lines) (course_at (record (reporting report line t) { definition = definition }) (h.acts ++ []) exchanges further more)) (sym free);
 }
@@ -96,15 +96,15 @@ over_with_more tree line w here further end is over =
 -- a line that is over leaves the session between lines
 goes_over : (lines : List (List ℕ)) (answers : List PlainAnswer) (exchanges : List Exchange) (read : ℕ) (t now : PlainTerminal) (m : PlainMachine) (s : State) (end : Effect) → (h : IsUnderWay lines answers exchanges read t m)
     → mean h.tree h.line h.before.workspace h.here most_statements ≡ end → IsOver end
-    → ((further : List PlainAnswer) (more : List Reply) → behind (course_at h.before h.begun.acts exchanges (h.here ++ further) more) (and_more further end) ≡ course_at now (h.begun.acts ++ s.asked) exchanges further more)
+    → ((further : List PlainAnswer) (more : List ShelfReply) → course_behind (course_at h.before h.begun.acts exchanges (h.here ++ further) more) (and_more further end) ≡ course_at now (h.begun.acts ++ s.asked) exchanges further more)
     → IsBetween lines answers exchanges read now
 goes_over lines answers exchanges read t now m s end h is over comes = record {
   acts = h.begun.acts ++ s.asked;
   same = λ further more.
-      ap (λ (given : List PlainAnswer). session_of lines (given ++ further) (replies_in exchanges ++ more)) h.given
-      ∙ ap (λ given. session_of lines given (replies_in exchanges ++ more)) (append_assoc h.earlier h.here further)
+      ap (λ (given : List PlainAnswer). session_of lines (given ++ further) (shelf_replies_in exchanges ++ more)) h.given
+      ∙ ap (λ given. session_of lines given (shelf_replies_in exchanges ++ more)) (append_assoc h.earlier h.here further)
       ∙ h.begun.same (h.here ++ further) more
-      ∙ ap (λ (e : Effect). lines_done most_statements (drop read lines) (behind (course_at h.before h.begun.acts exchanges (h.here ++ further) more) e)) (over_with_more h.tree h.line h.before.workspace h.here further end is over)
+      ∙ ap (λ (e : Effect). lines_done most_statements (drop read lines) (course_behind (course_at h.before h.begun.acts exchanges (h.here ++ further) more) e)) (over_with_more h.tree h.line h.before.workspace h.here further end is over)
       ∙ ap (lines_done most_statements (drop read lines)) (comes further more);
 }
 
@@ -117,7 +117,7 @@ abbrev pub over_there : PlainMachine → PlainTerminal → PlainTerminal
 over_there n t = record t { workspace = n.interpreter.workspace; definition = None; transcript = t.transcript ++ n.interpreter.output }
 
 -- it is the one before the line, with what the line left
-there_again : (lines : List (List ℕ)) (answers : List PlainAnswer) (exchanges : List Exchange) (read : ℕ) (t : PlainTerminal) (m n : PlainMachine) → (h : IsUnderWay lines answers exchanges read t m) → (acts : List Act) (further : List PlainAnswer) (more : List Reply)
+there_again : (lines : List (List ℕ)) (answers : List PlainAnswer) (exchanges : List Exchange) (read : ℕ) (t : PlainTerminal) (m n : PlainMachine) → (h : IsUnderWay lines answers exchanges read t m) → (acts : List Act) (further : List PlainAnswer) (more : List ShelfReply)
     → course_at (record h.before { workspace = n.interpreter.workspace; definition = None; transcript = h.before.transcript ++ (h.taken ++ n.interpreter.output) }) acts exchanges further more ≡ course_at (over_there n t) acts exchanges further more
 there_again lines answers exchanges read t m n h acts further more =
     ap (λ printed. course_at (free_terminal n.interpreter.workspace h.before.id printed h.before.ended) acts exchanges further more)
@@ -162,12 +162,12 @@ taken_on lines answers more exchanges read counted t output m n h stands = recor
 
 -- what comes of the lines where an act waits
 asks_now : (lines : List (List ℕ)) (answers : List PlainAnswer) (exchanges : List Exchange) (read : ℕ) (t : PlainTerminal) (m : PlainMachine) (h : IsUnderWay lines answers exchanges read t m) (act : Act) (s : State)
-    → mean h.tree h.line h.before.workspace h.here most_statements ≡ asks act s → (more : List Reply) → session_of lines answers (replies_in exchanges ++ more) ≡ behind (course_at h.before h.begun.acts exchanges h.here more) (asks act s)
+    → mean h.tree h.line h.before.workspace h.here most_statements ≡ asks act s → (more : List ShelfReply) → session_of lines answers (shelf_replies_in exchanges ++ more) ≡ course_behind (course_at h.before h.begun.acts exchanges h.here more) (asks act s)
 asks_now lines answers exchanges read t m h act s is more =
-    ap (λ given. session_of lines given (replies_in exchanges ++ more)) h.given
+    ap (λ given. session_of lines given (shelf_replies_in exchanges ++ more)) h.given
     ∙ h.begun.same h.here more
-    ∙ ap (λ (e : Effect). lines_done most_statements (drop read lines) (behind (course_at h.before h.begun.acts exchanges h.here more) e)) is
-    ∙ waits_on most_statements (drop read lines) (behind (course_at h.before h.begun.acts exchanges h.here more) (asks act s)) act refl
+    ∙ ap (λ (e : Effect). lines_done most_statements (drop read lines) (course_behind (course_at h.before h.begun.acts exchanges h.here more) e)) is
+    ∙ waits_on most_statements (drop read lines) (course_behind (course_at h.before h.begun.acts exchanges h.here more) (asks act s)) act refl
 
 pub goes_asking : (lines : List (List ℕ)) (answers : List PlainAnswer) (exchanges : List Exchange) (read counted : ℕ) (t : PlainTerminal) (act : Act) (m n : PlainMachine) → IsUnderWay lines answers exchanges read t m → AsksThere act m counted n
     → IsAsking lines answers exchanges (t.transcript ++ n.interpreter.output) (silent n) act

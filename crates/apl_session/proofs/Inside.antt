@@ -17,16 +17,16 @@ use Rattle.apl_terminal.specs.LineKind.{is_command, is_opening}
 use Rattle.apl_terminal.specs.Terminal.{PlainTerminal, echoing, editing, free_prompt, new_terminal, printing}
 use Rattle.session_rules.specs.Course.{Course, course_at, with_terminal}
 use Rattle.session_rules.specs.Commands.{command_done}
-use Rattle.session_rules.specs.Session.{free_line, line_by, lines_done, opening_done, session_of, statement_done}
-use Rattle.session_rules.specs.Shelf.{Exchange, Reply, replies_in}
+use Rattle.session_rules.specs.Session.{free_line, line_done_by, lines_done, opening_done, session_of, statement_done}
+use Rattle.session_rules.specs.Shelf.{Exchange, ShelfReply, shelf_replies_in}
 use Rattle.session_rules.proofs.MoreAnswers.{ended_on}
 use Rattle.session_rules.proofs.Taking.{next_is_taken, none_asked}
 use Rattle.apl_session.specs.Receipts.{PlainReceipt, acts_in, answers_in}
-use Rattle.apl_session.specs.Standing.{ComesTo, IsAnswered, IsAsking, IsAt, IsBetween, IsOpenLine, IsOver, IsPaused, IsSession, IsThisFar, IsUnderWay, IsWaitingFor, MayAdvance, StandsBy, StandsIn, Waits, open_act}
+use Rattle.apl_session.specs.Standing.{SessionComesTo, IsAnswered, IsAsking, IsAt, IsBetween, IsOpenLine, LinesAreOver, IsPaused, IsSession, IsThisFar, IsUnderWay, IsWaitingFor, MayAdvance, StandsBy, StandsIn, Waits, open_act}
 use Rattle.apl_session.specs.Wants.{HasHeardAll, MayGoOn, stage_by}
 use Rattle.apl_session.specs.declared.progress.Progress.{Progress}
-use Rattle.apl_session.specs.declared.session.Stage.{Stage}
-use Rattle.apl_session.specs.declared.session.Stage.TheVariants as stage
+use Rattle.apl_session.specs.declared.session.SessionStage.{SessionStage}
+use Rattle.apl_session.specs.declared.session.SessionStage.TheVariants as stage
 use Rattle.apl_session.specs.declared.under_way.UnderWay.{UnderWay}
 use Rattle.apl_session.specs.declared.under_way.UnderWay.TheVariants as under_way
 use Rattle.apl_session.proofs.Commanding.{command_waiting}
@@ -53,8 +53,8 @@ pub fed_line : (lines rest : List (List ℕ)) (line : List ℕ) (answers : List 
 fed_line lines rest line answers exchanges read t now editor here behind goes open_now is h =
     let again : record (record t { definition = None }) { definition = Some editor } ≡ t = ap (λ definition. record t { definition = definition }) (sym open_now) in
     let g : PlainTerminal → PlainTerminal = λ s. editing line (fed editor line) (echoing (prompt_text editor.number) line s) in
-    let at : IsAt lines answers exchanges (read + 1) (λ c. line_by most_statements line (Some editor) c) t =
-    subst (λ definition. IsAt lines answers exchanges (read + 1) (λ c. line_by most_statements line definition c) t) open_now (one_line lines rest line answers exchanges read t here behind goes h) in
+    let at : IsAt lines answers exchanges (read + 1) (λ c. line_done_by most_statements line (Some editor) c) t =
+    subst (λ definition. IsAt lines answers exchanges (read + 1) (λ c. line_done_by most_statements line definition c) t) open_now (one_line lines rest line answers exchanges read t here behind goes h) in
     subst (λ (s : PlainTerminal). IsBetween lines answers exchanges (read + 1) s) (sym (is ∙ ap g again)) (at_terminal lines answers exchanges (read + 1) t g at)
 
 -- a line that stands alone
@@ -62,8 +62,8 @@ pub free_at : (lines rest : List (List ℕ)) (line : List ℕ) (answers : List P
     → IsAt lines answers exchanges (read + 1) (λ c. free_line most_statements line (with_terminal (echoing free_prompt line c.terminal) c)) (record t { definition = None })
 free_at lines rest line answers exchanges read t here behind goes free h =
     let again : t ≡ record t { definition = None } = ap (λ definition. record t { definition = definition }) free in
-    let at : IsAt lines answers exchanges (read + 1) (λ c. line_by most_statements line None c) t =
-    subst (λ definition. IsAt lines answers exchanges (read + 1) (λ c. line_by most_statements line definition c) t) free (one_line lines rest line answers exchanges read t here behind goes h) in
+    let at : IsAt lines answers exchanges (read + 1) (λ c. line_done_by most_statements line None c) t =
+    subst (λ definition. IsAt lines answers exchanges (read + 1) (λ c. line_done_by most_statements line definition c) t) free (one_line lines rest line answers exchanges read t here behind goes h) in
     subst (λ (s : PlainTerminal). IsAt lines answers exchanges (read + 1) (λ c. free_line most_statements line (with_terminal (echoing free_prompt line c.terminal) c)) s) again at
 
 -- it was echoed
@@ -159,7 +159,7 @@ begun_session lines p terminal read nothing =
       far = subst (λ (u : UnderWay). IsThisFar (length lines) p.read p.terminal u stage.Ready) (sym nothing) tt;
     }
 
-may_by : (lines : List (List ℕ)) (answers : List PlainAnswer) (exchanges : List Exchange) (read : ℕ) (t : PlainTerminal) (u : UnderWay) (at : Stage) → StandsBy lines answers exchanges read t u → IsThisFar (length lines) read t u at → MayGoOn at → MayAdvance t u
+may_by : (lines : List (List ℕ)) (answers : List PlainAnswer) (exchanges : List Exchange) (read : ℕ) (t : PlainTerminal) (u : UnderWay) (at : SessionStage) → StandsBy lines answers exchanges read t u → IsThisFar (length lines) read t u at → MayGoOn at → MayAdvance t u
 may_by lines answers exchanges read t under_way.Nothing at h far may = tt
 may_by lines answers exchanges read t (under_way.Alone act) at h far may = subst MayGoOn far may
 may_by lines answers exchanges read t (under_way.Asking b act) at h far may = subst MayGoOn far may
@@ -168,25 +168,25 @@ may_by lines answers exchanges read t (under_way.Commanding b act) at h far may 
 may_by lines answers exchanges read t (under_way.Commanded b) at h far may = record { free = h.free; fit = h.fit }
 
 -- it may go on
-pub may_advance : (lines : List (List ℕ)) (receipts : List PlainReceipt) (exchanges : List Exchange) (p : Progress) (at : Stage) → IsSession lines receipts exchanges p at → MayGoOn at → MayAdvance p.terminal p.under_way
+pub may_advance : (lines : List (List ℕ)) (receipts : List PlainReceipt) (exchanges : List Exchange) (p : Progress) (at : SessionStage) → IsSession lines receipts exchanges p at → MayGoOn at → MayAdvance p.terminal p.under_way
 may_advance lines receipts exchanges p at h may = may_by lines (answers_in receipts) exchanges p.read p.terminal p.under_way at h.stands h.far may
 
 -- all lines are done
-finished_by : (lines : List (List ℕ)) (read : ℕ) (c : Course) → IsOver (length lines) read c.terminal → lines_done most_statements (drop read lines) c ≡ c
+finished_by : (lines : List (List ℕ)) (read : ℕ) (c : Course) → LinesAreOver (length lines) read c.terminal → lines_done most_statements (drop read lines) c ≡ c
 finished_by lines read c (inl over) = ap (λ left. lines_done most_statements left c) (drop_all read lines over)
 finished_by lines read c (inr ended) = ended_on most_statements (drop read lines) c ended
 
-finished_course : (lines : List (List ℕ)) (answers : List PlainAnswer) (exchanges : List Exchange) (read : ℕ) (t : PlainTerminal) → IsOver (length lines) read t → (h : IsBetween lines answers exchanges read t) → (more : List Reply)
-    → session_of lines answers (replies_in exchanges ++ more) ≡ course_at t h.acts exchanges [] more
+finished_course : (lines : List (List ℕ)) (answers : List PlainAnswer) (exchanges : List Exchange) (read : ℕ) (t : PlainTerminal) → LinesAreOver (length lines) read t → (h : IsBetween lines answers exchanges read t) → (more : List ShelfReply)
+    → session_of lines answers (shelf_replies_in exchanges ++ more) ≡ course_at t h.acts exchanges [] more
 finished_course lines answers exchanges read t over h more =
-    ap (λ given. session_of lines given (replies_in exchanges ++ more)) (sym (append-nil answers)) ∙ h.same [] more ∙ finished_by lines read (course_at t h.acts exchanges [] more) over
+    ap (λ given. session_of lines given (shelf_replies_in exchanges ++ more)) (sym (append-nil answers)) ∙ h.same [] more ∙ finished_by lines read (course_at t h.acts exchanges [] more) over
 
 -- where a call stopped, whatever replies follow: this act waits, or none; and these were all calls of the shelf
 pub record IsThere (lines : List (List ℕ)) (answers : List PlainAnswer) (exchanges : List Exchange) (asked : Option Act) : Type 0 where
-  pub waits : (more : List Reply) → (session_of lines answers (replies_in exchanges ++ more)).waits ≡ asked
-  pub calls : (more : List Reply) → (session_of lines answers (replies_in exchanges ++ more)).exchanges ≡ exchanges
+  pub waits : (more : List ShelfReply) → (session_of lines answers (shelf_replies_in exchanges ++ more)).waits ≡ asked
+  pub calls : (more : List ShelfReply) → (session_of lines answers (shelf_replies_in exchanges ++ more)).exchanges ≡ exchanges
 
-gone_by : (lines : List (List ℕ)) (answers : List PlainAnswer) (exchanges : List Exchange) (read : ℕ) (t : PlainTerminal) (u : UnderWay) → StandsBy lines answers exchanges read t u → IsPaused u → (u ≡ under_way.Nothing → IsOver (length lines) read t)
+gone_by : (lines : List (List ℕ)) (answers : List PlainAnswer) (exchanges : List Exchange) (read : ℕ) (t : PlainTerminal) (u : UnderWay) → StandsBy lines answers exchanges read t u → IsPaused u → (u ≡ under_way.Nothing → LinesAreOver (length lines) read t)
     → IsThere lines answers exchanges (open_act u) × IsThisFar (length lines) read t u (stage_by (open_act u))
 gone_by lines answers exchanges read t under_way.Nothing h paused over = (
   record { waits = λ more. ap (λ (c : Course). c.waits) (finished_course lines answers exchanges read t (over refl) h more); calls = λ more. ap (λ (c : Course). c.exchanges) (finished_course lines answers exchanges read t (over refl) h more) },
@@ -199,7 +199,7 @@ gone_by lines answers exchanges read t (under_way.Commanding b act) h paused ove
 gone_by lines answers exchanges read t (under_way.Commanded b) h paused over = absurd paused
 
 -- a session that went on
-pub gone_on : (lines : List (List ℕ)) (answers : List PlainAnswer) (exchanges : List Exchange) (p : Progress) → ComesTo lines answers exchanges p
+pub gone_on : (lines : List (List ℕ)) (answers : List PlainAnswer) (exchanges : List Exchange) (p : Progress) → SessionComesTo lines answers exchanges p
     → IsThere lines answers exchanges (open_act p.under_way) × IsThisFar (length lines) p.read p.terminal p.under_way (stage_by (open_act p.under_way))
 gone_on lines answers exchanges p come = gone_by lines answers exchanges p.read p.terminal p.under_way come.stands come.paused come.over
 
@@ -212,9 +212,9 @@ open_by lines answers exchanges read t (under_way.Commanding b act) h far = (rec
 open_by lines answers exchanges read t (under_way.Commanded b) h far = absurd cc
 
 -- a session that waits has an open act
-pub is_open_line : (lines : List (List ℕ)) (receipts : List PlainReceipt) (exchanges : List Exchange) (p : Progress) (at : Stage) → at ≡ stage.Waiting → IsSession lines receipts exchanges p at → IsOpenLine (length lines) p.read p.terminal p.under_way
+pub is_open_line : (lines : List (List ℕ)) (receipts : List PlainReceipt) (exchanges : List Exchange) (p : Progress) (at : SessionStage) → at ≡ stage.Waiting → IsSession lines receipts exchanges p at → IsOpenLine (length lines) p.read p.terminal p.under_way
 is_open_line lines receipts exchanges p at waiting h =
-    open_by lines (answers_in receipts) exchanges p.read p.terminal p.under_way h.stands (subst (λ (s : Stage). IsThisFar (length lines) p.read p.terminal p.under_way s) waiting h.far)
+    open_by lines (answers_in receipts) exchanges p.read p.terminal p.under_way h.stands (subst (λ (s : SessionStage). IsThisFar (length lines) p.read p.terminal p.under_way s) waiting h.far)
 
 ready_by : (count read : ℕ) (t : PlainTerminal) (u : UnderWay) → MayAdvance t u → IsThisFar count read t u stage.Ready
 ready_by count read t under_way.Nothing may = tt
@@ -225,7 +225,7 @@ ready_by count read t (under_way.Commanding b act) may = absurd may
 ready_by count read t (under_way.Commanded b) may = refl
 
 -- a session that was given an answer
-pub answered_session : (lines : List (List ℕ)) (receipts : List PlainReceipt) (exchanges : List Exchange) (receipt : PlainReceipt) (after : Progress) → ((more : List Reply) → acts_in receipts ≡ (session_of lines (answers_in receipts) (replies_in exchanges ++ more)).acts)
+pub answered_session : (lines : List (List ℕ)) (receipts : List PlainReceipt) (exchanges : List Exchange) (receipt : PlainReceipt) (after : Progress) → ((more : List ShelfReply) → acts_in receipts ≡ (session_of lines (answers_in receipts) (shelf_replies_in exchanges ++ more)).acts)
     → IsAnswered lines (answers_in receipts) exchanges receipt.act receipt.answer after → IsSession lines (receipts ++ receipt ∷ []) exchanges after stage.Ready
 answered_session lines receipts exchanges receipt after acts is =
     let answers : answers_in (receipts ++ receipt ∷ []) ≡ answers_in receipts ++ receipt.answer ∷ [] = map_push (λ (r : PlainReceipt). r.answer) receipts receipt in
@@ -233,14 +233,14 @@ answered_session lines receipts exchanges receipt after acts is =
       acts = λ more.
           map_push (λ (r : PlainReceipt). r.act) receipts receipt
           ∙ ap (λ acts. acts ++ receipt.act ∷ []) (acts more)
-          ∙ sym (next_is_taken lines (answers_in receipts) (replies_in exchanges ++ more) receipt.answer receipt.act (is.waited more))
-          ∙ ap (λ given. (session_of lines given (replies_in exchanges ++ more)).acts) (sym answers);
+          ∙ sym (next_is_taken lines (answers_in receipts) (shelf_replies_in exchanges ++ more) receipt.answer receipt.act (is.waited more))
+          ∙ ap (λ given. (session_of lines given (shelf_replies_in exchanges ++ more)).acts) (sym answers);
       stands = subst (λ given. StandsIn lines given exchanges after) (sym answers) is.stands;
       far = ready_by (length lines) after.read after.terminal after.under_way is.may;
     }
 
-heard_by : (lines : List (List ℕ)) (answers : List PlainAnswer) (exchanges : List Exchange) (read : ℕ) (t : PlainTerminal) (u : UnderWay) (at : Stage) → StandsBy lines answers exchanges read t u → IsThisFar (length lines) read t u at → HasHeardAll at
-    → (more : List Reply) → t.transcript ≡ (session_of lines answers (replies_in exchanges ++ more)).terminal.transcript
+heard_by : (lines : List (List ℕ)) (answers : List PlainAnswer) (exchanges : List Exchange) (read : ℕ) (t : PlainTerminal) (u : UnderWay) (at : SessionStage) → StandsBy lines answers exchanges read t u → IsThisFar (length lines) read t u at → HasHeardAll at
+    → (more : List ShelfReply) → t.transcript ≡ (session_of lines answers (shelf_replies_in exchanges ++ more)).terminal.transcript
 heard_by lines answers exchanges read t under_way.Nothing stage.Ready h far heard more = absurd heard
 heard_by lines answers exchanges read t under_way.Nothing stage.Waiting h far heard more = absurd far
 heard_by lines answers exchanges read t under_way.Nothing stage.Finished h far heard more = ap (λ (c : Course). c.terminal.transcript) (sym (finished_course lines answers exchanges read t far h more))
@@ -252,6 +252,6 @@ heard_by lines answers exchanges read t (under_way.Commanding b act) at h far he
 heard_by lines answers exchanges read t (under_way.Commanded b) at h far heard more = absurd (subst HasHeardAll far heard)
 
 -- what it printed, where all answers were heard
-pub heard_all : (lines : List (List ℕ)) (answers : List PlainAnswer) (exchanges : List Exchange) (p : Progress) (at : Stage) → StandsIn lines answers exchanges p → IsThisFar (length lines) p.read p.terminal p.under_way at → HasHeardAll at
-    → (more : List Reply) → p.terminal.transcript ≡ (session_of lines answers (replies_in exchanges ++ more)).terminal.transcript
+pub heard_all : (lines : List (List ℕ)) (answers : List PlainAnswer) (exchanges : List Exchange) (p : Progress) (at : SessionStage) → StandsIn lines answers exchanges p → IsThisFar (length lines) p.read p.terminal p.under_way at → HasHeardAll at
+    → (more : List ShelfReply) → p.terminal.transcript ≡ (session_of lines answers (shelf_replies_in exchanges ++ more)).terminal.transcript
 heard_all lines answers exchanges p at stands far heard more = heard_by lines answers exchanges p.read p.terminal p.under_way at stands far heard more

@@ -9,7 +9,7 @@ use Rattle.apl_arrays.specs.declared.report.Fail.TheVariants as fail
 use Rattle.apl_arrays.specs.declared.report.Report.{Report}
 use Rattle.apl_machine.specs.Alone.{IsAlone}
 use Rattle.apl_machine.specs.Machine.{IsIdle, IsOpenAct, IsOpenStage, MayRun, PlainMachine, idle_on, silent}
-use Rattle.apl_machine.specs.Runs.{IsTreeOf, Stands, StandsOn, StopsAs}
+use Rattle.apl_machine.specs.Runs.{IsTreeOf, MachineStands, StandsOn, StopsAs}
 use Rattle.apl_machine.specs.declared.flow.Stop.{Stop}
 use Rattle.apl_machine.specs.declared.flow.Stop.TheVariants as stop
 use Rattle.apl_machine.specs.Parts.{IsNotRead}
@@ -29,7 +29,7 @@ use Rattle.session_rules.specs.Commands.{command_done}
 use Rattle.session_rules.specs.Session.{free_line, statement_done}
 use Rattle.session_rules.specs.Shelf.{Exchange}
 use Rattle.apl_session.specs.Errands.{IsErrand, IsFirstAct, errand_rest}
-use Rattle.apl_session.specs.Standing.{Commands, EndsBy, IsAnswered, IsAt, IsBetween, IsCommanded, IsHanded, IsIdleAt, IsLastRead, IsOpenLine, IsPaused, IsUnderWay, IsWaitingAlone, MayAdvance, MayBeDone, MayGoBehind, MayHear, PausesAt, StandsBy, StandsIn, Waits, has_open_act, with_output_of}
+use Rattle.apl_session.specs.Standing.{Commands, FailsBy, IsAnswered, IsAt, IsBetween, IsCommanded, IsHanded, IsIdleAt, IsLastRead, IsOpenLine, IsPaused, IsUnderWay, IsWaitingAlone, MayAdvance, MayGoOn, MayGoBehind, MayHear, PausesAt, StandsBy, StandsIn, Waits, has_open_act, with_output_of}
 use Rattle.apl_session.specs.declared.errand.Errand.{Errand}
 use Rattle.apl_session.specs.declared.progress.Progress.{Progress}
 use Rattle.apl_session.specs.declared.under_way.UnderWay.{UnderWay}
@@ -85,12 +85,12 @@ command_on lines line answers exchanges read t told opens commands echoed h =
 
 -- a statement that was begun
 pub evaluated_on : (lines : List (List ℕ)) (line : List ℕ) (answers : List PlainAnswer) (exchanges : List Exchange) (read : ℕ) (t lent : PlainTerminal) (w seen : PlainWorkspace) (tree : PlainTree) (fresh m : PlainMachine) → lent ≡ record t { workspace = empty_workspace } → w ≡ t.workspace
-    → fresh ≡ idle_on w → seen ≡ t.workspace → IsTreeOf seen line tree → Stands m (line_tree_of tree) line fresh.interpreter.workspace fresh.interpreter.output [] 0 [] → IsAt lines answers exchanges read (statement_done most_statements line) t
+    → fresh ≡ idle_on w → seen ≡ t.workspace → IsTreeOf seen line tree → MachineStands m (line_tree_of tree) line fresh.interpreter.workspace fresh.interpreter.output [] 0 [] → IsAt lines answers exchanges read (statement_done most_statements line) t
     → IsUnderWay lines answers exchanges read lent m
 evaluated_on lines line answers exchanges read t lent w seen tree fresh m left same new here is stands h =
     let tree_there : IsTreeOf t.workspace line tree = subst (λ (x : PlainWorkspace). IsTreeOf x line tree) here is in
-    let there : Stands m (line_tree_of tree) line t.workspace [] [] 0 [] =
-    subst (λ (x : PlainMachine). Stands m (line_tree_of tree) line x.interpreter.workspace x.interpreter.output [] 0 []) (new ∙ ap idle_on same) stands in
+    let there : MachineStands m (line_tree_of tree) line t.workspace [] [] 0 [] =
+    subst (λ (x : PlainMachine). MachineStands m (line_tree_of tree) line x.interpreter.workspace x.interpreter.output [] 0 []) (new ∙ ap idle_on same) stands in
     begun_at lines line answers exchanges read t lent tree m left h tree_there there
 
 -- or refused
@@ -101,7 +101,7 @@ refused_on lines line answers exchanges t seen report p nothing is here frames f
     (subst (λ (s : PlainTerminal). IsAt lines answers exchanges p.read (λ c. c) s) (sym is)
     (refused_at lines line answers exchanges p.read t report h (subst (λ (w : PlainWorkspace). read_with w line ≡ Err report) here refused) (sym (ap (λ (w : PlainWorkspace). w.frames) here) ∙ frames) free))
 
-pub refused_by : (lines : List (List ℕ)) (line : List ℕ) (answers : List PlainAnswer) (exchanges : List Exchange) (t : PlainTerminal) (seen : PlainWorkspace) (why : Fail) (p : Progress) → p.under_way ≡ under_way.Nothing → EndsBy why line t p.terminal → seen ≡ t.workspace → seen.frames ≡ []
+pub refused_by : (lines : List (List ℕ)) (line : List ℕ) (answers : List PlainAnswer) (exchanges : List Exchange) (t : PlainTerminal) (seen : PlainWorkspace) (why : Fail) (p : Progress) → p.under_way ≡ under_way.Nothing → FailsBy why line t p.terminal → seen ≡ t.workspace → seen.frames ≡ []
     → t.definition ≡ None → IsNotRead (read_with seen line) why → IsAt lines answers exchanges p.read (statement_done most_statements line) t → StandsIn lines answers exchanges p
 refused_by lines line answers exchanges t seen (fail.Report report) p nothing is here frames free refused h = refused_on lines line answers exchanges t seen report p nothing is here frames free refused h
 refused_by lines line answers exchanges t seen fail.WantOfMemory p nothing is here frames free refused h = absurd is
@@ -213,7 +213,7 @@ behind_may errand before after is free fit =
 pub command_there : (lines : List (List ℕ)) (answers : List PlainAnswer) (exchanges : List Exchange) (p : Progress) (b : Box Errand) (asked : Act) → p.under_way ≡ under_way.Commanding b asked → StandsIn lines answers exchanges p → IsCommanded lines answers exchanges p.read p.terminal b.value × IsFirstAct b.value p.terminal.workspace asked
 command_there lines answers exchanges p b asked waits h = subst (λ (u : UnderWay). StandsBy lines answers exchanges p.read p.terminal u) waits h
 
-pub may_hear_command : (count read : ℕ) (t : PlainTerminal) (u : UnderWay) (b : Box Errand) (asked : Act) → u ≡ under_way.Commanding b asked → IsOpenLine count read t u → MayBeDone t b.value × IsFirstAct b.value t.workspace asked
+pub may_hear_command : (count read : ℕ) (t : PlainTerminal) (u : UnderWay) (b : Box Errand) (asked : Act) → u ≡ under_way.Commanding b asked → IsOpenLine count read t u → MayGoOn t b.value × IsFirstAct b.value t.workspace asked
 may_hear_command count read t u b asked waits h = subst (IsOpenLine count read t) waits h
 
 -- it was given its answer
@@ -229,5 +229,5 @@ command_heard lines answers exchanges asked answer b before after waits goes may
 pub commanded_there : (lines : List (List ℕ)) (answers : List PlainAnswer) (exchanges : List Exchange) (p : Progress) (b : Box Errand) → p.under_way ≡ under_way.Commanded b → StandsIn lines answers exchanges p → IsCommanded lines answers exchanges p.read p.terminal b.value
 commanded_there lines answers exchanges p b is h = subst (λ (u : UnderWay). StandsBy lines answers exchanges p.read p.terminal u) is h
 
-pub commanded_may : (t : PlainTerminal) (u : UnderWay) (b : Box Errand) → u ≡ under_way.Commanded b → MayAdvance t u → MayBeDone t b.value
+pub commanded_may : (t : PlainTerminal) (u : UnderWay) (b : Box Errand) → u ≡ under_way.Commanded b → MayAdvance t u → MayGoOn t b.value
 commanded_may t u b is may = subst (MayAdvance t) is may

@@ -8,7 +8,7 @@ use Rattle.apl_io.specs.Content.{Told}
 use Rattle.sv_events.specs.Answer.{PlainAnswer}
 use Rattle.session_rules.specs.Shelf.{Exchange, IsShelfRun}
 use Rattle.session_rules.proofs.Shelves.{run_on}
-use Rattle.apl_session.specs.Standing.{ComesTo, IsOver, IsPaused, StandsIn, WithCalls, has_open_act}
+use Rattle.apl_session.specs.Standing.{SessionComesTo, LinesAreOver, IsPaused, StandsIn, WithCalls, has_open_act}
 use Rattle.apl_session.specs.declared.progress.Progress.{Progress}
 use Rattle.apl_session.specs.declared.under_way.UnderWay.{UnderWay}
 use Rattle.apl_session.specs.declared.under_way.UnderWay.TheVariants as under_way
@@ -39,12 +39,12 @@ pub still_on : (lines : List (List ℕ)) (answers : List PlainAnswer) (exchanges
 still_on lines answers exchanges before u nothing now h = rests lines answers exchanges (record before { under_way = u }) now (between_of lines answers exchanges before nothing h)
 
 -- an act that waits is where a call stops, and so is the end of the session
-stopped : (lines : List (List ℕ)) (answers : List PlainAnswer) (exchanges : List Exchange) (p : Progress) (asks ended : Bool) → has_open_act p.under_way ≡ asks → p.terminal.ended ≡ ended → (asks || ended) ≡ true → p.under_way ≡ under_way.Nothing → IsOver (length lines) p.read p.terminal
+stopped : (lines : List (List ℕ)) (answers : List PlainAnswer) (exchanges : List Exchange) (p : Progress) (asks ended : Bool) → has_open_act p.under_way ≡ asks → p.terminal.ended ≡ ended → (asks || ended) ≡ true → p.under_way ≡ under_way.Nothing → LinesAreOver (length lines) p.read p.terminal
 stopped lines answers exchanges p true ended asks is or nothing = absurd (let no : true ≡ false = sym asks ∙ ap has_open_act nothing in cc)
 stopped lines answers exchanges p false true asks is or nothing = inr is
 stopped lines answers exchanges p false false asks is or nothing = absurd (let no : false ≡ true = or in cc)
 
-pub came_to : (lines : List (List ℕ)) (answers : List PlainAnswer) (exchanges : List Exchange) (p : Progress) → (has_open_act p.under_way || p.terminal.ended) ≡ true → IsPaused p.under_way → StandsIn lines answers exchanges p → ComesTo lines answers exchanges p
+pub came_to : (lines : List (List ℕ)) (answers : List PlainAnswer) (exchanges : List Exchange) (p : Progress) → (has_open_act p.under_way || p.terminal.ended) ≡ true → IsPaused p.under_way → StandsIn lines answers exchanges p → SessionComesTo lines answers exchanges p
 came_to lines answers exchanges p rests paused at = record {
   stands = at;
   paused = paused;
@@ -52,7 +52,7 @@ came_to lines answers exchanges p rests paused at = record {
 }
 
 -- and so is the end of the lines
-pub none_left : (lines : List (Listed ℕ)) (answers : List PlainAnswer) (exchanges : List Exchange) (p : Progress) → IsPaused p.under_way → length lines ≤ p.read → StandsIn (map glyphs_in lines) answers exchanges p → ComesTo (map glyphs_in lines) answers exchanges p
+pub none_left : (lines : List (Listed ℕ)) (answers : List PlainAnswer) (exchanges : List Exchange) (p : Progress) → IsPaused p.under_way → length lines ≤ p.read → StandsIn (map glyphs_in lines) answers exchanges p → SessionComesTo (map glyphs_in lines) answers exchanges p
 none_left lines answers exchanges p paused over at = record { stands = at; paused = paused; over = λ nothing. inl (omega (arith, over, length-map lines glyphs_in)) }
 
 -- where neither is so a line may be read

@@ -4,7 +4,7 @@ use Rattle.apl_workspace.specs.Workspace.{PlainWorkspace}
 use Rattle.apl_workspace.specs.declared.remake.Remake.{Remake}
 use Rattle.sv_events.specs.declared.event.Act.{Act}
 use Rattle.sv_events.specs.declared.event.Act.TheVariants as act
-use Rattle.ws_commands.specs.Finish.{MayComeIn, brought}
+use Rattle.ws_commands.specs.Finish.{MayComeIn, workspace_brought}
 use Rattle.ws_commands.specs.Todo.{PlainChange, given_up, plain_change, plain_todo}
 use Rattle.session_rules.specs.Commands.{change_made, lines_told, offer_again, remaking, retracting}
 use Rattle.session_rules.specs.Course.{Course}
@@ -30,7 +30,7 @@ errand_rest errand = rest_in errand.phase errand
 -- before the change is made: the names that are left are those that it gives up, what it brings may come in, and no offer was made
 pub record MayChange (names : List (List ℕ)) (change : PlainChange) (remade : ℕ) (w : PlainWorkspace) : Type 0 where
   pub names_are : names ≡ given_up change w
-  pub comes : IfSome (brought change) (MayComeIn w)
+  pub comes : IfSome (workspace_brought change) (MayComeIn w)
   pub none_made : remade ≡ 0
 
 -- what is left may be done on a workspace

@@ -4,11 +4,11 @@ use Rattle.apl_io.specs.Content.{Told}
 use Rattle.sv_events.specs.Answer.{PlainAnswer}
 use Rattle.sv_events.specs.declared.event.Act.{Act}
 use Rattle.session_rules.specs.Session.{session_of}
-use Rattle.session_rules.specs.Shelf.{Exchange, IsShelfRun, Reply, replies_in}
+use Rattle.session_rules.specs.Shelf.{Exchange, IsShelfRun, ShelfReply, shelf_replies_in}
 use Rattle.apl_session.specs.Standing.{StandsIn}
 use Rattle.apl_session.specs.Wants.{wanted}
 use Rattle.apl_session.specs.declared.progress.Progress.{Progress}
-use Rattle.apl_session.specs.declared.session.Stage.{Stage}
+use Rattle.apl_session.specs.declared.session.SessionStage.{SessionStage}
 use Rattle.apl_session.specs.declared.session.Wants.{Wants}
 
 -- a user, its lines, the acts that were answered, the answers that they were given, how far the session is, its shelf, and its inside
@@ -17,7 +17,7 @@ pub record PlainSession (K : Type 0) : Type 0 where
   pub lines : List (List ℕ)
   pub acts : List Act
   pub answers : List PlainAnswer
-  pub stage : Stage
+  pub stage : SessionStage
   pub shelf : K
   pub inside : Progress
 
@@ -25,12 +25,12 @@ module _ {K : Type 0} (told : K → Option (Told (ℕ × List ℕ))) (faults : K
   -- a session whose shelf was lent like this has had these exchanges with it: they led the shelf to where it is, the inside stands in the lines with their replies, and, whatever replies follow, its acts are those that were asked
   pub record HasCome (lent : K) (exchanges : List Exchange) (s : PlainSession K) : Type 0 where
     pub served : IsShelfRun told faults s.user lent exchanges s.shelf
-    pub acts : (more : List Reply) → s.acts ≡ (session_of s.lines s.answers (replies_in exchanges ++ more)).acts
+    pub acts : (more : List ShelfReply) → s.acts ≡ (session_of s.lines s.answers (shelf_replies_in exchanges ++ more)).acts
     pub stands : StandsIn s.lines s.answers exchanges s.inside
 
   -- it went on, with some exchanges more, to what it asks of its driver: whatever replies follow, this act waits, or none, and these are all calls of the shelf
   pub record GoesTo (lent : K) (exchanges : List Exchange) (wants : Wants) (s : PlainSession K) : Type 0 where
     pub more : List Exchange
     pub come : HasCome lent (more ++ exchanges) s
-    pub waits : (rest : List Reply) → wanted wants ≡ (session_of s.lines s.answers (replies_in (more ++ exchanges) ++ rest)).waits
-    pub calls : (rest : List Reply) → (session_of s.lines s.answers (replies_in (more ++ exchanges) ++ rest)).exchanges ≡ more ++ exchanges
+    pub waits : (rest : List ShelfReply) → wanted wants ≡ (session_of s.lines s.answers (shelf_replies_in (more ++ exchanges) ++ rest)).waits
+    pub calls : (rest : List ShelfReply) → (session_of s.lines s.answers (shelf_replies_in (more ++ exchanges) ++ rest)).exchanges ≡ more ++ exchanges

@@ -6,31 +6,31 @@ use Rattle.apl_arrays.specs.declared.report.Fail.TheVariants as fail
 use Rattle.apl_io.specs.Content.{Told}
 use Rattle.apl_machine.specs.Alone.{IsAlone, IsOnShared}
 use Rattle.apl_machine.specs.Machine.{PlainMachine, IsIdle, IsOpenAct, MayRun}
-use Rattle.apl_machine.specs.Runs.{Stands, StandsOn}
+use Rattle.apl_machine.specs.Runs.{MachineStands, StandsOn}
 use Rattle.apl_machine.specs.declared.flow.Stop.{Stop}
 use Rattle.apl_machine.specs.declared.flow.Stop.TheVariants as stop
 use Rattle.apl_meaning.specs.Meaning.{mean, most_statements}
 use Rattle.line_trees.specs.Trees.{LineTree}
 use Rattle.sv_events.specs.Answer.{PlainAnswer}
 use Rattle.sv_events.specs.declared.event.Act.{Act}
-use Rattle.session_rules.specs.Course.{Course, behind, course_at}
+use Rattle.session_rules.specs.Course.{Course, course_behind, course_at}
 use Rattle.session_rules.specs.Session.{lines_done, session_of, statement_done}
-use Rattle.session_rules.specs.Shelf.{Exchange, IsShelfRun, Reply, replies_in}
+use Rattle.session_rules.specs.Shelf.{Exchange, IsShelfRun, ShelfReply, shelf_replies_in}
 use Rattle.apl_terminal.specs.Terminal.{PlainTerminal, printing, reporting}
 use Rattle.apl_session.specs.Errands.{IsErrand, IsFirstAct, errand_rest}
 use Rattle.apl_session.specs.Receipts.{PlainReceipt, acts_in, answers_in}
 use Rattle.apl_session.specs.declared.errand.Errand.{Errand}
 use Rattle.apl_session.specs.declared.progress.Progress.{Progress}
-use Rattle.apl_session.specs.declared.session.Stage.{Stage}
-use Rattle.apl_session.specs.declared.session.Stage.TheVariants as stage
+use Rattle.apl_session.specs.declared.session.SessionStage.{SessionStage}
+use Rattle.apl_session.specs.declared.session.SessionStage.TheVariants as stage
 use Rattle.apl_session.specs.declared.under_way.UnderWay.{UnderWay}
 use Rattle.apl_session.specs.declared.under_way.UnderWay.TheVariants as under_way
 
 -- the lines with these answers and the replies of these exchanges are done up to here: whatever answers and replies follow, what comes of all lines is what comes of the rest of the line, and then of those that are left
 pub record IsAt (lines : List (List ℕ)) (answers : List PlainAnswer) (exchanges : List Exchange) (read : ℕ) (rest : Course → Course) (t : PlainTerminal) : Type 0 where
   pub acts : List Act
-  pub same : (further : List PlainAnswer) (more : List Reply)
-      → session_of lines (answers ++ further) (replies_in exchanges ++ more) ≡ lines_done most_statements (drop read lines) (rest (course_at t acts exchanges further more))
+  pub same : (further : List PlainAnswer) (more : List ShelfReply)
+      → session_of lines (answers ++ further) (shelf_replies_in exchanges ++ more) ≡ lines_done most_statements (drop read lines) (rest (course_at t acts exchanges further more))
 
 -- a session stands between two lines
 abbrev pub IsBetween : List (List ℕ) → List PlainAnswer → List Exchange → ℕ → PlainTerminal → Type 0
@@ -44,19 +44,19 @@ pub record IsUnderWay (lines : List (List ℕ)) (answers : List PlainAnswer) (ex
   pub earlier : List PlainAnswer
   pub here : List PlainAnswer
   pub given : answers ≡ earlier ++ here
-  pub begun : IsAt lines earlier exchanges read (λ c. behind c (mean tree line c.terminal.workspace c.answers most_statements)) before
+  pub begun : IsAt lines earlier exchanges read (λ c. course_behind c (mean tree line c.terminal.workspace c.answers most_statements)) before
   pub count : ℕ
   pub taken : List (List ℕ)
-  pub stands : Stands m tree line before.workspace [] here count taken
+  pub stands : MachineStands m tree line before.workspace [] here count taken
   pub printed : t.transcript ≡ before.transcript ++ taken
   pub id : t.id ≡ before.id
   pub ended : t.ended ≡ before.ended
 
 -- whatever replies follow, this act waits, all that the lines print with these answers was printed, and these are all calls of the shelf
 pub record IsWaitingFor (lines : List (List ℕ)) (answers : List PlainAnswer) (exchanges : List Exchange) (transcript : List (List ℕ)) (act : Act) : Type 0 where
-  pub waits : (more : List Reply) → (session_of lines answers (replies_in exchanges ++ more)).waits ≡ Some act
-  pub printed : (more : List Reply) → (session_of lines answers (replies_in exchanges ++ more)).terminal.transcript ≡ transcript
-  pub calls : (more : List Reply) → (session_of lines answers (replies_in exchanges ++ more)).exchanges ≡ exchanges
+  pub waits : (more : List ShelfReply) → (session_of lines answers (shelf_replies_in exchanges ++ more)).waits ≡ Some act
+  pub printed : (more : List ShelfReply) → (session_of lines answers (shelf_replies_in exchanges ++ more)).terminal.transcript ≡ transcript
+  pub calls : (more : List ShelfReply) → (session_of lines answers (shelf_replies_in exchanges ++ more)).exchanges ≡ exchanges
 
 -- the act that waits is open in the machine
 pub record IsAsking (lines : List (List ℕ)) (answers : List PlainAnswer) (exchanges : List Exchange) (transcript : List (List ℕ)) (m : PlainMachine) (act : Act) : Type 0 where
@@ -98,7 +98,7 @@ abbrev pub StandsIn : List (List ℕ) → List PlainAnswer → List Exchange →
 StandsIn lines answers exchanges p = StandsBy lines answers exchanges p.read p.terminal p.under_way
 
 -- a command may go on at a terminal: no definition is open, and what is left of it may be done
-pub record MayBeDone (t : PlainTerminal) (errand : Errand) : Type 0 where
+pub record MayGoOn (t : PlainTerminal) (errand : Errand) : Type 0 where
   pub free : t.definition ≡ None
   pub fit : IsErrand errand t.workspace
 
@@ -109,7 +109,7 @@ MayAdvance t (under_way.Alone act) = ⊥
 MayAdvance t (under_way.Asking b act) = ⊥
 MayAdvance t (under_way.Answered b) = (t.definition ≡ None) × MayRun b.value.stage
 MayAdvance t (under_way.Commanding b act) = ⊥
-MayAdvance t (under_way.Commanded b) = MayBeDone t b.value
+MayAdvance t (under_way.Commanded b) = MayGoOn t b.value
 
 -- an act alone can be given its answer at this terminal: no definition is open, its name is shared, and its line is one of so many
 pub record MayHear (count read : ℕ) (t : PlainTerminal) (asked : Act) : Type 0 where
@@ -124,7 +124,7 @@ IsOpenLine count read t under_way.Nothing = ⊥
 IsOpenLine count read t (under_way.Alone act) = MayHear count read t act
 IsOpenLine count read t (under_way.Asking b act) = IsOpenAct b.value act
 IsOpenLine count read t (under_way.Answered b) = ⊥
-IsOpenLine count read t (under_way.Commanding b act) = MayBeDone t b.value × IsFirstAct b.value t.workspace act
+IsOpenLine count read t (under_way.Commanding b act) = MayGoOn t b.value × IsFirstAct b.value t.workspace act
 IsOpenLine count read t (under_way.Commanded b) = ⊥
 
 -- a line waits for an answer, or none is under way
@@ -158,9 +158,9 @@ pub record MayGoBehind (errand : Errand) (before after : Progress) : Type 0 wher
   pub rest : after ≡ record before { under_way = under_way.Commanded b }
 
 -- a line ended by the report of why it failed; where memory ran out it did not
-abbrev pub EndsBy : Fail → List ℕ → PlainTerminal → PlainTerminal → Type 0
-EndsBy (fail.Report report) line before after = after ≡ reporting report line before
-EndsBy fail.WantOfMemory line before after = ⊥
+abbrev pub FailsBy : Fail → List ℕ → PlainTerminal → PlainTerminal → Type 0
+FailsBy (fail.Report report) line before after = after ≡ reporting report line before
+FailsBy fail.WantOfMemory line before after = ⊥
 
 -- where a run stops and the line is over, the machine is idle
 abbrev pub IsIdleAt : PlainMachine → Stop → Type 0
@@ -201,14 +201,14 @@ PausesAt m (stop.Failed report) before after = after ≡ with_workspace_of m bef
 PausesAt m (stop.Asks act) before after = Waits m act after.under_way × (after ≡ record before { under_way = after.under_way })
 
 -- no line is left to be done: all were read, or the user has ended the session
-abbrev pub IsOver : ℕ → ℕ → PlainTerminal → Type 0
-IsOver count read t = (count ≤ read) ⊎ (t.ended ≡ true)
+abbrev pub LinesAreOver : ℕ → ℕ → PlainTerminal → Type 0
+LinesAreOver count read t = (count ≤ read) ⊎ (t.ended ≡ true)
 
 -- the inside of a session went on to the act that waits, or to the end of its lines
-pub record ComesTo (lines : List (List ℕ)) (answers : List PlainAnswer) (exchanges : List Exchange) (p : Progress) : Type 0 where
+pub record SessionComesTo (lines : List (List ℕ)) (answers : List PlainAnswer) (exchanges : List Exchange) (p : Progress) : Type 0 where
   pub stands : StandsIn lines answers exchanges p
   pub paused : IsPaused p.under_way
-  pub over : p.under_way ≡ under_way.Nothing → IsOver (length lines) p.read p.terminal
+  pub over : p.under_way ≡ under_way.Nothing → LinesAreOver (length lines) p.read p.terminal
 
 module _ {K : Type 0} (told : K → Option (Told (ℕ × List ℕ))) (faults : K → ℕ) where
   -- with some exchanges more, which led the shelf of a user from one state to another, this holds
@@ -226,19 +226,19 @@ pub record IsHanded (m : PlainMachine) (answer : PlainAnswer) (before after : Pr
 
 -- the act that waited was given an answer
 pub record IsAnswered (lines : List (List ℕ)) (answers : List PlainAnswer) (exchanges : List Exchange) (act : Act) (answer : PlainAnswer) (p : Progress) : Type 0 where
-  pub waited : (more : List Reply) → (session_of lines answers (replies_in exchanges ++ more)).waits ≡ Some act
+  pub waited : (more : List ShelfReply) → (session_of lines answers (shelf_replies_in exchanges ++ more)).waits ≡ Some act
   pub stands : StandsIn lines (answers ++ answer ∷ []) exchanges p
   pub may : MayAdvance p.terminal p.under_way
 
 -- between two lines a session can go on, or it is finished where none is left
-abbrev pub IsFree : ℕ → ℕ → PlainTerminal → Stage → Type 0
+abbrev pub IsFree : ℕ → ℕ → PlainTerminal → SessionStage → Type 0
 IsFree count read t stage.Ready = Unit {0}
 IsFree count read t stage.Waiting = ⊥
-IsFree count read t stage.Finished = IsOver count read t
+IsFree count read t stage.Finished = LinesAreOver count read t
 IsFree count read t stage.Failed = ⊥
 
 -- a session of so many lines is this far
-abbrev pub IsThisFar : ℕ → ℕ → PlainTerminal → UnderWay → Stage → Type 0
+abbrev pub IsThisFar : ℕ → ℕ → PlainTerminal → UnderWay → SessionStage → Type 0
 IsThisFar count read t under_way.Nothing at = IsFree count read t at
 IsThisFar count read t (under_way.Alone act) at = at ≡ stage.Waiting
 IsThisFar count read t (under_way.Asking b act) at = at ≡ stage.Waiting
@@ -247,12 +247,12 @@ IsThisFar count read t (under_way.Commanding b act) at = at ≡ stage.Waiting
 IsThisFar count read t (under_way.Commanded b) at = at ≡ stage.Ready
 
 -- a session has come this far: its inside stands in its lines with the answers in its receipts and the replies of these exchanges, whatever replies follow its receipts have the acts that were asked
-pub record IsSession (lines : List (List ℕ)) (receipts : List PlainReceipt) (exchanges : List Exchange) (p : Progress) (at : Stage) : Type 0 where
-  pub acts : (more : List Reply) → acts_in receipts ≡ (session_of lines (answers_in receipts) (replies_in exchanges ++ more)).acts
+pub record IsSession (lines : List (List ℕ)) (receipts : List PlainReceipt) (exchanges : List Exchange) (p : Progress) (at : SessionStage) : Type 0 where
+  pub acts : (more : List ShelfReply) → acts_in receipts ≡ (session_of lines (answers_in receipts) (shelf_replies_in exchanges ++ more)).acts
   pub stands : StandsIn lines (answers_in receipts) exchanges p
   pub far : IsThisFar (length lines) p.read p.terminal p.under_way at
 
 -- what holds of a session while memory did not run out: there are such exchanges
-pub record IsAlive (lines : List (List ℕ)) (receipts : List PlainReceipt) (p : Progress) (at : Stage) : Type 0 where
+pub record IsAlive (lines : List (List ℕ)) (receipts : List PlainReceipt) (p : Progress) (at : SessionStage) : Type 0 where
   pub exchanges : List Exchange
   pub come : IsSession lines receipts exchanges p at

@@ -2,8 +2,8 @@
 use Rattle.std.specs.Prelude.{IsTrue, not, Option, Some, None}
 use Rattle.sv_events.specs.declared.event.Act.{Act}
 use Rattle.sv_rules.specs.Entries.{is_leave}
-use Rattle.apl_session.specs.declared.session.Stage.{Stage}
-use Rattle.apl_session.specs.declared.session.Stage.TheVariants as stage
+use Rattle.apl_session.specs.declared.session.SessionStage.{SessionStage}
+use Rattle.apl_session.specs.declared.session.SessionStage.TheVariants as stage
 use Rattle.apl_session.specs.declared.session.Wants.{Wants}
 use Rattle.apl_session.specs.declared.session.Wants.TheVariants as wants
 
@@ -18,19 +18,19 @@ IsOfPresent (wants.Act act) = IsTrue (not (is_leave act))
 IsOfPresent wants.Finished = Unit {0}
 
 -- how far a session is that asks an act, or nothing more
-abbrev pub stage_by : Option Act → Stage
+abbrev pub stage_by : Option Act → SessionStage
 stage_by (Some act) = stage.Waiting
 stage_by None = stage.Finished
 
 -- a session may go on: no act of it is open
-abbrev pub MayGoOn : Stage → Type 0
+abbrev pub MayGoOn : SessionStage → Type 0
 MayGoOn stage.Ready = Unit {0}
 MayGoOn stage.Waiting = ⊥
 MayGoOn stage.Finished = Unit {0}
 MayGoOn stage.Failed = Unit {0}
 
 -- all answers were heard: an act waits for the next one, or no line is left
-abbrev pub HasHeardAll : Stage → Type 0
+abbrev pub HasHeardAll : SessionStage → Type 0
 HasHeardAll stage.Ready = ⊥
 HasHeardAll stage.Waiting = Unit {0}
 HasHeardAll stage.Finished = Unit {0}

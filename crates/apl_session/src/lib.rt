@@ -13,7 +13,7 @@ mod spare;
 mod transcripts;
 mod under_way;
 
-pub use outcome::{Ended, Outcome, RunOf};
+pub use outcome::{Ended, FinishedRun, RunOf};
 pub use receipts::{Receipt, Receipts};
-pub use session::{Parts, Session, Stage, Wants};
+pub use session::{Session, SessionParts, SessionStage, Wants};
 pub use transcripts::{Transcript, Transcripts};

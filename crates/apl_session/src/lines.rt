@@ -9,7 +9,7 @@ ghost use Rattle.session_rules.specs.Course.{with_terminal};
 ghost use Rattle.session_rules.specs.Session.{free_line, statement_done};
 ghost use Rattle.session_rules.specs.Shelf.{Exchange};
 ghost use Rattle.apl_terminal.specs.Terminal.{echoing, free_prompt, printing};
-ghost use Rattle.apl_session.specs.Standing.{EndsBy, IsAt, IsIdleAt, IsLastRead, IsPaused, IsUnderWay, PausesAt, StandsIn, WithCalls, with_output_of, with_workspace_of};
+ghost use Rattle.apl_session.specs.Standing.{FailsBy, IsAt, IsIdleAt, IsLastRead, IsPaused, IsUnderWay, PausesAt, StandsIn, WithCalls, with_output_of, with_workspace_of};
 ghost use Rattle.apl_session.specs.declared.under_way.UnderWay.TheVariants as under_way;
 
 use crate::progress::Progress;
@@ -100,7 +100,7 @@ impl Progress {
 
     /// Ends a line by the report of why it failed, unless memory ran out. It takes memory for what is printed.
     pub(crate) fn end_by(&mut self, fail: Fail, line: &Line) -> Result<(), WantOfMemory>
-        ensures ends { OnOk result (EndsBy fail line.now.items self.old.terminal self.new.terminal) }
+        ensures ends { OnOk result (FailsBy fail line.now.items self.old.terminal self.new.terminal) }
         ensures rest { self.new ≡ record self.old { terminal = self.new.terminal } }
     {
         match fail {
@@ -212,7 +212,7 @@ impl Progress {
         }
     }
 
-    // Waits for the answer to an act. No memory.
+    // Waits for the answer to an act.
     fn wait_for(&mut self, machine: Box<Machine>, act: Act)
         ensures pauses { PausesAt machine.value (stopped.Asks act) self.old self.new }
         ensures paused { IsPaused self.new.under_way }
@@ -221,7 +221,7 @@ impl Progress {
         drop(mem::replace(&mut self.under_way, UnderWay::Asking(machine, act)));
     }
 
-    // Takes back the workspace of a line that is over. No memory.
+    // Takes back the workspace of a line that is over.
     fn finish(&mut self, machine: Box<Machine>)
         requires idle { IsIdle machine.value }
         requires free { self.old.terminal.definition ≡ None }

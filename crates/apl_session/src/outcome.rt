@@ -16,7 +16,7 @@ pub enum Ended {
 
 /// How a run over devices ended, and the devices that it was lent.
 #[derive(Debug, Drop)]
-pub struct Outcome<T, C, K> {
+pub struct FinishedRun<T, C, K> {
     pub ended: Ended,
     pub devices: Devices<T, C, K>,
 }

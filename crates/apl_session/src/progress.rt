@@ -4,7 +4,7 @@ ghost use Rattle.sv_events.specs.Answer.{PlainAnswer, plain_answer};
 ghost use Rattle.apl_terminal.specs.Terminal.{new_terminal};
 ghost use Rattle.apl_machine.specs.Machine.{IsOpenStage};
 ghost use Rattle.session_rules.specs.Shelf.{Exchange};
-ghost use Rattle.apl_session.specs.Standing.{ComesTo, IsAnswered, IsHanded, IsOpenLine, IsPaused, MayAdvance, StandsIn, WithCalls, has_open_act, open_act};
+ghost use Rattle.apl_session.specs.Standing.{SessionComesTo, IsAnswered, IsHanded, IsOpenLine, IsPaused, MayAdvance, StandsIn, WithCalls, has_open_act, open_act};
 
 use crate::spare::Spare;
 use crate::under_way::UnderWay;
@@ -29,7 +29,7 @@ pub struct Progress {
 }
 
 impl Progress {
-    /// No line was read. No memory.
+    /// No line was read.
     pub fn new(alloc: Global) -> Progress
         ensures terminal { result.terminal ≡ new_terminal }
         ensures read { result.read ≡ 0 }
@@ -55,7 +55,7 @@ impl Progress {
     ) -> Result<(), WantOfMemory>
         requires { MayAdvance self.old.terminal self.old.under_way }
         ensures { OnOk result ((answers : List PlainAnswer) (exchanges : List Exchange) → StandsIn (map glyphs_in lines.now) answers exchanges self.old
-            → WithCalls K.told K.faults user shelf.old shelf.new exchanges (λ all. ComesTo (map glyphs_in lines.now) answers all self.new)) }
+            → WithCalls K.told K.faults user shelf.old shelf.new exchanges (λ all. SessionComesTo (map glyphs_in lines.now) answers all self.new)) }
     {
         self.go_on(steps)?;
         self.take_lines(lines, user, shelf, steps)
@@ -71,7 +71,7 @@ impl Progress {
     ) -> Result<(), WantOfMemory>
         requires { IsPaused self.old.under_way }
         ensures { OnOk result ((answers : List PlainAnswer) (exchanges : List Exchange) → StandsIn (map glyphs_in lines.now) answers exchanges self.old
-            → WithCalls K.told K.faults user shelf.old shelf.new exchanges (λ all. ComesTo (map glyphs_in lines.now) answers all self.new)) }
+            → WithCalls K.told K.faults user shelf.old shelf.new exchanges (λ all. SessionComesTo (map glyphs_in lines.now) answers all self.new)) }
     {
         while self.read < lines.len() {
             if self.rests() {
@@ -82,14 +82,14 @@ impl Progress {
         Ok(())
     }
 
-    // Whether no line is to be read now: an act waits for its answer, or the user has ended the session. No memory.
+    // Whether no line is to be read now: an act waits for its answer, or the user has ended the session.
     fn rests(&self) -> bool
         ensures { result ≡ (has_open_act self.now.under_way || self.now.terminal.ended) }
     {
         self.has_open_act() || self.terminal.has_ended()
     }
 
-    // Whether an act waits for its answer. No memory.
+    // Whether an act waits for its answer.
     fn has_open_act(&self) -> bool
         ensures { result ≡ has_open_act self.now.under_way }
     {
@@ -150,7 +150,7 @@ impl Progress {
         }
     }
 
-    // Hands an answer to the line that asked for it. No memory.
+    // Hands an answer to the line that asked for it. It takes no memory.
     fn hand(&mut self, machine: Box<Machine>, answer: Answer) -> Result<(), WantOfMemory>
         requires { IsOpenStage machine.value.stage }
         ensures granted { IsOk result }
@@ -169,14 +169,14 @@ impl Progress {
         }
     }
 
-    /// The lines that were echoed and printed so far. No memory.
+    /// The lines that were echoed and printed so far.
     pub fn transcript(&self) -> &[Line]
         ensures { map glyphs_in result.now ≡ self.now.terminal.transcript }
     {
         self.terminal.transcript()
     }
 
-    /// The same as a list. No memory.
+    /// The same as a list.
     pub fn into_transcript(self) -> LineList
         ensures { result.items ≡ self.terminal.transcript }
     {

@@ -30,7 +30,7 @@ impl Model for Receipts {
 }
 
 impl Receipts {
-    /// No receipts. No memory.
+    /// No receipts.
     pub fn new(alloc: Global) -> Self
         ensures { result.items ≡ [] }
     {
@@ -39,14 +39,14 @@ impl Receipts {
         }
     }
 
-    /// The receipts, in order. No memory.
+    /// The receipts, in order.
     pub fn as_slice(&self) -> &[Receipt]
         ensures { map plain_receipt result.now ≡ self.now.items }
     {
         self.receipts.as_slice()
     }
 
-    /// The receipts as a `Vec`. No memory.
+    /// The receipts as a `Vec`.
     pub fn into_vec(self) -> Vec<Receipt>
         ensures { map plain_receipt result.items ≡ self.items }
     {

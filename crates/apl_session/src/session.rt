@@ -2,10 +2,10 @@ ghost use Rattle.std.specs.Prelude.{◌≡◌, ◌<◌, ◌∷◌, [], ◌++◌,
 ghost use Rattle.apl_arrays.specs.List.{glyphs_in};
 ghost use Rattle.sv_events.specs.Answer.{PlainAnswer, plain_answer};
 ghost use Rattle.session_rules.specs.Session.{session_of};
-ghost use Rattle.session_rules.specs.Shelf.{Exchange, Reply, replies_in};
+ghost use Rattle.session_rules.specs.Shelf.{Exchange, ShelfReply, shelf_replies_in};
 ghost use Rattle.apl_session.specs.PlainSession.{GoesTo, HasCome};
 ghost use Rattle.apl_session.specs.Receipts.{acts_in, answers_in, plain_receipt};
-ghost use Rattle.apl_session.specs.Standing.{ComesTo, MayAdvance, StandsIn, WithCalls};
+ghost use Rattle.apl_session.specs.Standing.{SessionComesTo, MayAdvance, StandsIn, WithCalls};
 ghost use Rattle.apl_session.specs.Wants.{HasHeardAll, IsOfPresent, MayGoOn, stage_by, wanted};
 
 use crate::progress::Progress;
@@ -29,7 +29,7 @@ pub enum Wants {
 
 /// How far a session is.
 #[derive(Clone, Copy, Debug, PartialEq, Eq)]
-pub enum Stage {
+pub enum SessionStage {
     /// It can go on.
     Ready,
     /// It waits for the answer to an act.
@@ -42,7 +42,7 @@ pub enum Stage {
 
 /// What a session leaves: its transcript, and the shelf that it was lent.
 #[derive(Debug, Drop)]
-pub struct Parts<K> {
+pub struct SessionParts<K> {
     pub transcript: LineList,
     pub shelf: K,
 }
@@ -55,7 +55,7 @@ pub struct Session<K> {
     user: u32,
     lines: LineList,
     receipts: Receipts,
-    stage: Stage,
+    stage: SessionStage,
     progress: Progress,
     shelf: K,
 }
@@ -65,7 +65,7 @@ impl<K> Model for Session<K> {
     ghost use Rattle.apl_session.specs.PlainSession.{PlainSession};
     ghost use Rattle.apl_session.specs.Receipts.{acts_in, answers_in};
     ghost use Rattle.apl_session.specs.Standing.{IsAlive};
-    ghost use Rattle.apl_session.specs.declared.session.Stage.TheVariants.{Failed};
+    ghost use Rattle.apl_session.specs.declared.session.SessionStage.TheVariants.{Failed};
 
     ghost Value = { PlainSession K };
 
@@ -75,9 +75,9 @@ impl<K> Model for Session<K> {
 }
 
 impl<K: Shelf> Session<K> {
-    /// The session of a user with these lines, of which none is done, over the user's shelf. No memory.
+    /// The session of a user with these lines, of which none is done, over the user's shelf.
     pub fn new(alloc: Global, user: u32, lines: LineList, shelf: K) -> Session<K>
-        ensures begins { result ≡ record { user = user; lines = lines.items; acts = []; answers = []; stage = Stage.Ready; shelf = shelf; inside = result.inside } }
+        ensures begins { result ≡ record { user = user; lines = lines.items; acts = []; answers = []; stage = SessionStage.Ready; shelf = shelf; inside = result.inside } }
         ensures come { HasCome K.told K.faults shelf [] result }
     {
         Session {
@@ -85,21 +85,21 @@ impl<K: Shelf> Session<K> {
             user,
             lines,
             receipts: Receipts::new(alloc),
-            stage: Stage::Ready,
+            stage: SessionStage::Ready,
             progress: Progress::new(alloc),
             shelf,
         }
     }
 
-    /// The user whose session it is. No memory.
+    /// The user whose session it is.
     pub fn user(&self) -> u32
         ensures { result ≡ self.now.user }
     {
         self.user
     }
 
-    /// How far the session is. No memory.
-    pub fn stage(&self) -> Stage
+    /// How far the session is.
+    pub fn stage(&self) -> SessionStage
         ensures { result ≡ self.now.stage }
     {
         self.stage
@@ -114,13 +114,13 @@ impl<K: Shelf> Session<K> {
         ensures same { self.new ≡ record self.old { stage = self.new.stage; shelf = self.new.shelf; inside = self.new.inside } }
         ensures stage { IfOk result (λ wants. self.new.stage ≡ stage_by (wanted wants)) }
         ensures present { IfOk result IsOfPresent }
-        ensures err { OnErr result (self.new.stage ≡ Stage.Failed) }
-        ensures for_good { self.old.stage ≡ Stage.Failed → IsErr result }
+        ensures err { OnErr result (self.new.stage ≡ SessionStage.Failed) }
+        ensures for_good { self.old.stage ≡ SessionStage.Failed → IsErr result }
     {
-        if self.stage == Stage::Failed {
+        if self.stage == SessionStage::Failed {
             return Err(WantOfMemory);
         }
-        self.stage = Stage::Failed;
+        self.stage = SessionStage::Failed;
         advance::<Brand, K>(
             &mut self.progress,
             self.lines.as_slice(),
@@ -130,11 +130,11 @@ impl<K: Shelf> Session<K> {
         )?;
         match self.progress.open_act()? {
             Some(act) => {
-                self.stage = Stage::Waiting;
+                self.stage = SessionStage::Waiting;
                 Ok(Wants::Act(act))
             }
             None => {
-                self.stage = Stage::Finished;
+                self.stage = SessionStage::Finished;
                 Ok(Wants::Finished)
             }
         }
@@ -144,28 +144,28 @@ impl<K: Shelf> Session<K> {
     /// command; nothing else is evaluated. It takes memory for the receipt, and for what such lines print. After `WantOfMemory`
     /// the session has failed.
     pub fn answer(&mut self, answer: Answer) -> Result<(), WantOfMemory>
-        requires { self.old.stage ≡ Stage.Waiting }
+        requires { self.old.stage ≡ SessionStage.Waiting }
         ensures come { OnOk result ((lent : K) (exchanges : List Exchange) → HasCome K.told K.faults lent exchanges self.old → HasCome K.told K.faults lent exchanges self.new) }
-        ensures ok { OnOk result (self.new ≡ record self.old { acts = self.new.acts; answers = self.old.answers ++ plain_answer answer ∷ []; stage = Stage.Ready; inside = self.new.inside }) }
-        ensures err { OnErr result (self.new ≡ record self.old { stage = Stage.Failed; inside = self.new.inside }) }
+        ensures ok { OnOk result (self.new ≡ record self.old { acts = self.new.acts; answers = self.old.answers ++ plain_answer answer ∷ []; stage = SessionStage.Ready; inside = self.new.inside }) }
+        ensures err { OnErr result (self.new ≡ record self.old { stage = SessionStage.Failed; inside = self.new.inside }) }
     {
-        self.stage = Stage::Failed;
+        self.stage = SessionStage::Failed;
         let told = answer.copy(self.alloc)?;
         let act = self.progress.take_answer(self.lines.as_slice(), answer)?;
         self.receipts.push(Receipt { act, answer: told })?;
-        self.stage = Stage::Ready;
+        self.stage = SessionStage::Ready;
         Ok(())
     }
 
-    /// The lines that were echoed and printed so far. No memory.
+    /// The lines that were echoed and printed so far.
     pub fn transcript(&self) -> &[Line]
         ensures { HasHeardAll self.now.stage → (lent : K) (exchanges : List Exchange) → HasCome K.told K.faults lent exchanges self.now
-            → (more : List Reply) → map glyphs_in result.now ≡ (session_of self.now.lines self.now.answers (replies_in exchanges ++ more)).terminal.transcript }
+            → (more : List ShelfReply) → map glyphs_in result.now ≡ (session_of self.now.lines self.now.answers (shelf_replies_in exchanges ++ more)).terminal.transcript }
     {
         self.progress.transcript()
     }
 
-    /// The acts that were answered so far, with their answers. No memory.
+    /// The acts that were answered so far, with their answers.
     pub fn receipts(&self) -> &[Receipt]
         ensures answers { answers_in (map plain_receipt result.now) ≡ self.now.answers }
         ensures acts { acts_in (map plain_receipt result.now) ≡ self.now.acts }
@@ -173,13 +173,13 @@ impl<K: Shelf> Session<K> {
         self.receipts.as_slice()
     }
 
-    /// The lines that were echoed and printed, and the shelf. No memory.
-    pub fn into_parts(self) -> Parts<K>
+    /// The lines that were echoed and printed, and the shelf.
+    pub fn into_parts(self) -> SessionParts<K>
         ensures transcript { HasHeardAll self.stage → (lent : K) (exchanges : List Exchange) → HasCome K.told K.faults lent exchanges self
-            → (more : List Reply) → result.transcript.items ≡ (session_of self.lines self.answers (replies_in exchanges ++ more)).terminal.transcript }
+            → (more : List ShelfReply) → result.transcript.items ≡ (session_of self.lines self.answers (shelf_replies_in exchanges ++ more)).terminal.transcript }
         ensures shelf { result.shelf ≡ self.shelf }
     {
-        Parts {
+        SessionParts {
             transcript: self.progress.into_transcript(),
             shelf: self.shelf,
         }
@@ -199,7 +199,7 @@ fn advance<L: Ledger, K: Shelf>(
     requires parts { blank.parts ≡ L.parts }
     requires some { 0 < blank.parts }
     ensures { OnOk result ((answers : List PlainAnswer) (exchanges : List Exchange) → StandsIn (map glyphs_in lines.now) answers exchanges progress.old
-        → WithCalls K.told K.faults user shelf.old shelf.new exchanges (λ all. ComesTo (map glyphs_in lines.now) answers all progress.new)) }
+        → WithCalls K.told K.faults user shelf.old shelf.new exchanges (λ all. SessionComesTo (map glyphs_in lines.now) answers all progress.new)) }
 {
     let mut steps = Steps::<L>::new(blank);
     progress.advance(lines, user, shelf, &mut steps)

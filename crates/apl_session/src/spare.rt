@@ -27,7 +27,7 @@ impl Model for Spare {
 }
 
 impl Spare {
-    /// No machine. No memory.
+    /// No machine.
     pub fn new() -> Spare {
         Spare { machine: None }
     }
@@ -47,7 +47,7 @@ impl Spare {
         }
     }
 
-    /// Leaves the machine of a line that is over for the next line, and gives its workspace. No memory.
+    /// Leaves the machine of a line that is over for the next line, and gives its workspace.
     pub fn leave(&mut self, machine: Box<Machine>) -> Workspace
         requires { IsIdle machine.value }
         ensures { result ≡ machine.value.interpreter.workspace }

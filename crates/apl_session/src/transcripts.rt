@@ -34,7 +34,7 @@ impl Model for Transcripts {
 }
 
 impl Transcripts {
-    /// No transcripts. It takes no memory.
+    /// No transcripts.
     pub fn new(alloc: Global) -> Self
         ensures { result.items ≡ [] }
     {
@@ -43,7 +43,7 @@ impl Transcripts {
         }
     }
 
-    /// The transcripts, their users ascending. It takes no memory.
+    /// The transcripts, their users ascending.
     pub fn as_slice(&self) -> &[Transcript]
         ensures value { map plain_transcript result.now ≡ self.now.items }
         ensures ascending { AscendBy (λ transcript. transcript.user) self.now.items }
@@ -51,7 +51,7 @@ impl Transcripts {
         self.transcripts.as_slice()
     }
 
-    /// The transcripts as a `Vec`. It takes no memory.
+    /// The transcripts as a `Vec`.
     pub fn into_vec(self) -> Vec<Transcript>
         ensures value { map plain_transcript result.items ≡ self.items }
         ensures ascending { AscendBy (λ transcript. transcript.user) self.items }

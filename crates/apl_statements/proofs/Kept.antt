@@ -10,10 +10,10 @@ use Rattle.apl_workspace.specs.Workspace.{PlainWorkspace, empty_workspace, globa
 use Rattle.apl_workspace.specs.declared.meaning.Meaning.{Meaning}
 use Rattle.apl_workspace.specs.declared.meaning.Meaning.TheVariants as meaning
 use Rattle.apl_meaning.specs.Reading.{classes_of, read_scanned}
-use Rattle.apl_values.specs.declared.reading.Reading.{Reading}
+use Rattle.apl_values.specs.declared.reading.LineReading.{LineReading}
 use Rattle.apl_statements.specs.declared.waiting.Waiting.{Waiting}
 use Rattle.apl_statements.specs.Evaluating.{caller_of, function_by, function_in, here_of, no_function, stack_of, waiting_of}
-use Rattle.apl_statements.specs.Sound.{AreKeptLines, AreUnderWay, IsKeptLine, IsUnderWay}
+use Rattle.apl_statements.specs.Sound.{AreKeptLines, AreUnderWay, IsKeptLine, IsFunctionUnderWay}
 use Rattle.apl_statements.specs.Stack.{PlainWaiting}
 
 -- another workspace has the same functions, the same classes in each frame, and the same names in it
@@ -60,18 +60,18 @@ kept_result : (w v : PlainWorkspace) → KeepsFunctions w v → (result : Option
 kept_result w v k None is = tt
 kept_result w v k (Some name) is = k.names 0 name ∙ is
 
-kept_line : (w v : PlainWorkspace) → KeepsFunctions w v → (line : Option (List ℕ)) (reading : Reading) → IsKeptLine w line reading → IsKeptLine v line reading
+kept_line : (w v : PlainWorkspace) → KeepsFunctions w v → (line : Option (List ℕ)) (reading : LineReading) → IsKeptLine w line reading → IsKeptLine v line reading
 kept_line w v k None reading is = is
 kept_line w v k (Some line) reading is = record { reading = is.reading; tree = ap (λ (classes : List Class). read_scanned classes (length line) (reading_of line)) (k.classes 0) ∙ is.tree }
 
-kept_lines : {A : Type 0} (w v : PlainWorkspace) → KeepsFunctions w v → (kept : Option (Option A)) (read : A → Reading) (line : Option (List ℕ))
+kept_lines : {A : Type 0} (w v : PlainWorkspace) → KeepsFunctions w v → (kept : Option (Option A)) (read : A → LineReading) (line : Option (List ℕ))
     → IfSome kept (λ kept. IfSome kept (λ reading. IsKeptLine w line (read reading))) → IfSome kept (λ kept. IfSome kept (λ reading. IsKeptLine v line (read reading)))
 kept_lines w v k None read line is = tt
 kept_lines w v k (Some None) read line is = tt
 kept_lines w v k (Some (Some reading)) read line is = kept_line w v k line (read reading) is
 
 -- a function under way is under way there too
-pub kept_one : (w v : PlainWorkspace) (waiting : Waiting) → KeepsFunctions w v → IsUnderWay w waiting → IsUnderWay v waiting
+pub kept_one : (w v : PlainWorkspace) (waiting : Waiting) → KeepsFunctions w v → IsFunctionUnderWay w waiting → IsFunctionUnderWay v waiting
 kept_one w v waiting k is =
     let same : function_by (global_in w waiting.name) ≡ function_by (global_in v waiting.name) = sym (same_function w v waiting.name (k.functions waiting.name)) in
     record {

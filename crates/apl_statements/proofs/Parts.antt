@@ -18,7 +18,7 @@ use Rattle.apl_statements.specs.Evaluating.{caller_of, evaluation_of, values_whe
 use Rattle.apl_statements.specs.Interpreter.{PlainInterpreter, here}
 use Rattle.apl_statements.specs.Moves.{if_there, part_takes}
 use Rattle.apl_statements.specs.Stack.{PlainEvaluation, PlainWaiting, after_step, behind, carried_on, onward, put_to}
-use Rattle.apl_statements.specs.Holding.{held_values, parts_of}
+use Rattle.apl_statements.specs.Holding.{stack_values, parts_of}
 use Rattle.apl_statements.proofs.Steps.{node_gives, node_steps}
 
 -- where no node is left, the value is put to its purpose
@@ -32,7 +32,7 @@ next_part m e n s is there =
     let plain : PlainEvaluation = evaluation_of m.workspace e in
     let nodes : List PlainNode = drop (e.at + 1) (plain_parts (parts_of e)) in
     node_steps plain n nodes m.stack s is
-    ∙ ap (λ (wanted : Bool). and_then (step_by ran n (values_where wanted (held_values m.workspace e)) s) (λ values t. onward (after_step plain nodes values) m.stack t)) there
+    ∙ ap (λ (wanted : Bool). and_then (step_by ran n (values_where wanted (stack_values m.workspace e)) s) (λ values t. onward (after_step plain nodes values) m.stack t)) there
 
 -- what a part gives above the values that it leaves
 pub part_leaves : (m : PlainInterpreter) (e : Evaluation) (values : List PlainArray) (found : Outcome Found)
@@ -67,7 +67,7 @@ pub next_around_none : (m : PlainInterpreter) (e : Evaluation) (n : PlainNode) (
 next_around_none m e n s is there paren =
     let plain : PlainEvaluation = evaluation_of m.workspace e in
     let nodes : List PlainNode = drop (e.at + 1) (plain_parts (parts_of e)) in
-    let values : List PlainArray = held_values m.workspace e in
+    let values : List PlainArray = stack_values m.workspace e in
     let behind_step : Values → State → Outcome Next = λ values t. onward (after_step plain nodes values) m.stack t in
     node_steps plain n nodes m.stack s is
     ∙ ap (λ (wanted : Bool). and_then (step_by ran n (values_where wanted values) s) behind_step) there
@@ -80,7 +80,7 @@ pub next_wants : (m : PlainInterpreter) (e : Evaluation) (n : PlainNode) (s : St
 next_wants m e n s is there other =
     let plain : PlainEvaluation = evaluation_of m.workspace e in
     let nodes : List PlainNode = drop (e.at + 1) (plain_parts (parts_of e)) in
-    let values : List PlainArray = held_values m.workspace e in
+    let values : List PlainArray = stack_values m.workspace e in
     let behind_step : Values → State → Outcome Next = λ values t. onward (after_step plain nodes values) m.stack t in
     node_steps plain n nodes m.stack s is
     ∙ ap (λ (wanted : Bool). and_then (step_by ran n (values_where wanted values) s) behind_step) there

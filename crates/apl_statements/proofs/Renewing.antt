@@ -10,8 +10,8 @@ use Rattle.apl_arrays.specs.declared.report.Report.TheVariants.{WsFull}
 use Rattle.apl_workspace.specs.Limits.{most_weight}
 use Rattle.apl_workspace.specs.Workspace.{IsFull, PlainWorkspace, workspace_weight}
 use Rattle.apl_meaning.specs.State.{State, gives, refuses, with_workspace}
-use Rattle.apl_values.specs.declared.values.Held.{Held}
-use Rattle.apl_values.specs.Values.{IsHeld, held_value, settled}
+use Rattle.apl_values.specs.declared.values.StackValue.{StackValue}
+use Rattle.apl_values.specs.Values.{IsStackValue, stack_value, settled}
 use Rattle.apl_statements.specs.declared.evaluation.Evaluation.{Evaluation}
 use Rattle.apl_statements.specs.declared.interpreter.Interpreter.TheInside.{Inside}
 use Rattle.apl_statements.specs.declared.waiting.Waiting.{Waiting}
@@ -29,15 +29,15 @@ pub settled_caller : (w v : PlainWorkspace) (shown : List ℕ) (e after : Evalua
 settled_caller w v shown e after with =
     let having : List PlainArray → PlainCaller = λ values. record (caller_of w shown e) { values = reverse values } in
     ap (caller_of v shown) with.same
-    ∙ ap (λ (hs : List Held). having (map (held_value v (parts_of e)) hs)) with.values
+    ∙ ap (λ (hs : List StackValue). having (map (stack_value v (parts_of e)) hs)) with.values
     ∙ ap having (settled_all w v (parts_of e) e.values.items)
 
 -- and it is one on the other workspace
 pub settled_sound : (w v : PlainWorkspace) (e after : Evaluation) → IsCaller w e → IsWithValues e (map (settled w) e.values.items) after → IsCaller v after
 settled_sound w v e after is with =
-    let held : All (IsHeld v (parts_of e)) (map (settled w) e.values.items) = All-map (IsHeld v (parts_of e)) (settled w) e.values.items (λ k d lt. settled_is_held w v (parts_of e) _ (is.evaluation.values k d lt)) in
+    let held : All (IsStackValue v (parts_of e)) (map (settled w) e.values.items) = All-map (IsStackValue v (parts_of e)) (settled w) e.values.items (λ k d lt. settled_is_held w v (parts_of e) _ (is.evaluation.values k d lt)) in
     subst (IsCaller v) (sym with.same) (record {
-      evaluation = record { reading = is.evaluation.reading; at = is.evaluation.at; values = subst (All (IsHeld v (parts_of e))) (sym with.values) held };
+      evaluation = record { reading = is.evaluation.reading; at = is.evaluation.at; values = subst (All (IsStackValue v (parts_of e))) (sym with.values) held };
       there = is.there;
     })
 

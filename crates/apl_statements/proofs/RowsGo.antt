@@ -11,8 +11,8 @@ use Rattle.apl_meaning.specs.Deeds.{Deed, offer, ask_degree, set_control, ask_co
 use Rattle.apl_meaning.specs.Naming.{Naming}
 use Rattle.apl_meaning.specs.State.{State, gives}
 use Rattle.apl_values.specs.declared.rows.Rows.{Rows}
-use Rattle.apl_values.specs.Pending.{asked_for, in_rows}
-use Rattle.apl_values.specs.Rows.{AreRows, HasTold, MayBeDone, PlainRow, RowMayBeDone, asks_act, count_told, rest_of_rows, row_zeros, rows_left}
+use Rattle.apl_values.specs.Pending.{act_asked_for, in_rows}
+use Rattle.apl_values.specs.Rows.{AreRows, HasTold, MayBeDone, PlainNameRow, RowMayBeDone, asks_act, count_told, rest_of_rows, row_zeros, rows_left}
 use Rattle.apl_statements.proofs.Kept.{KeepsFunctions, is_function}
 use Rattle.apl_statements.proofs.Opened.{rows_open, rows_tell_zeros}
 
@@ -35,11 +35,11 @@ all_zeros ask_state = refl
 all_zeros retract = refl
 
 -- rows of which one more was done
-pub rows_stay : (w : PlainWorkspace) (before after : Rows) (row : PlainRow) (rows : List PlainRow) (told : List ℤ) → AreRows w before → rows_left before ≡ row ∷ rows → HasTold before told after → length told ≡ length (row_zeros row.1) → AreRows w after
+pub rows_stay : (w : PlainWorkspace) (before after : Rows) (row : PlainNameRow) (rows : List PlainNameRow) (told : List ℤ) → AreRows w before → rows_left before ≡ row ∷ rows → HasTold before told after → length told ≡ length (row_zeros row.1) → AreRows w after
 rows_stay w before after row rows told are left has many =
     let others : rows_left after ≡ rows = has.rows ∙ ap (drop 1) left in
     let count : element_count before.shape.items ≡ length before.numbers.items + count_told (row ∷ rows) = are.count ∙ ap (λ list. length before.numbers.items + count_told list) left in
-    let first : count_told (row ∷ rows) ≡ length (row_zeros row.1) + count_told rows = sum_by-cons (λ (r : PlainRow). length (row_zeros r.1)) row rows in
+    let first : count_told (row ∷ rows) ≡ length (row_zeros row.1) + count_told rows = sum_by-cons (λ (r : PlainNameRow). length (row_zeros r.1)) row rows in
     let numbers : length after.numbers.items ≡ length before.numbers.items + length told = ap length has.numbers ∙ length-append before.numbers.items told in
     let all : element_count after.shape.items ≡ length after.numbers.items + count_told rows = ap element_count has.shape ∙ (let e : element_count before.shape.items ≡ length after.numbers.items + count_told rows = omega (arith, count, numbers, many, first) in e) in
     record {
@@ -49,7 +49,7 @@ rows_stay w before after row rows told are left has many =
     }
 
 -- a row that asks no act
-pub row_tells : (before after : Rows) (row : PlainRow) (rows : List PlainRow) (s : State) → rows_left before ≡ row ∷ rows → HasTold before (replicate (length (row_zeros row.1)) (pos 0)) after → asks_act s.workspace row ≡ false
+pub row_tells : (before after : Rows) (row : PlainNameRow) (rows : List PlainNameRow) (s : State) → rows_left before ≡ row ∷ rows → HasTold before (replicate (length (row_zeros row.1)) (pos 0)) after → asks_act s.workspace row ≡ false
     → rest_of_rows before.numbers.items (rows_left before) before.shape.items s ≡ rest_of_rows after.numbers.items (rows_left after) after.shape.items s
 row_tells before after row rows s left has is =
     ap (λ list. rest_of_rows before.numbers.items list before.shape.items s) left
@@ -60,12 +60,12 @@ row_tells before after row rows s left has is =
     ∙ ap (λ shape. rest_of_rows after.numbers.items (rows_left after) shape s) (sym has.shape)
 
 -- a row that asks one
-pub row_opens : (rows : Rows) (row : PlainRow) (others : List PlainRow) (s : State) → rows_left rows ≡ row ∷ others → asks_act s.workspace row ≡ true
-    → rest_of_rows rows.numbers.items (rows_left rows) rows.shape.items s ≡ asked_for (in_rows rows.numbers.items (rows_left rows) rows.shape.items) s
+pub row_opens : (rows : Rows) (row : PlainNameRow) (others : List PlainNameRow) (s : State) → rows_left rows ≡ row ∷ others → asks_act s.workspace row ≡ true
+    → rest_of_rows rows.numbers.items (rows_left rows) rows.shape.items s ≡ act_asked_for (in_rows rows.numbers.items (rows_left rows) rows.shape.items) s
 row_opens rows row others s left is =
     ap (λ list. rest_of_rows rows.numbers.items list rows.shape.items s) left
     ∙ rows_open row.1 row.0 rows.numbers.items others rows.shape.items s is
-    ∙ ap (λ list. asked_for (in_rows rows.numbers.items list rows.shape.items) s) (sym left)
+    ∙ ap (λ list. act_asked_for (in_rows rows.numbers.items list rows.shape.items) s) (sym left)
 
 -- no row is left
 pub rows_end : (rows : Rows) (s : State) → rows_left rows ≡ [] → rest_of_rows rows.numbers.items (rows_left rows) rows.shape.items s ≡ gives (Some (number_array rows.shape.items rows.numbers.items)) s
@@ -88,7 +88,7 @@ may_be_done w v ask_control names keeps may = tt
 may_be_done w v ask_state names keeps may = tt
 may_be_done w v retract names keeps may = tt
 
-all_may_be_done : (w v : PlainWorkspace) (rows : List PlainRow) → KeepsFunctions w v → All (RowMayBeDone w) rows → All (RowMayBeDone v) rows
+all_may_be_done : (w v : PlainWorkspace) (rows : List PlainNameRow) → KeepsFunctions w v → All (RowMayBeDone w) rows → All (RowMayBeDone v) rows
 all_may_be_done w v rows keeps are k d lt = may_be_done w v _ _ keeps (are k d lt)
 
 pub rows_kept : (w v : PlainWorkspace) (rows : Rows) → KeepsFunctions w v → AreRows w rows → AreRows v rows

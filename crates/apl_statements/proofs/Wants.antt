@@ -7,10 +7,10 @@ use Rattle.apl_items.specs.Places.{OnWantOfMemory}
 use Rattle.sv_events.specs.Answer.{PlainAnswer}
 use Rattle.sv_events.specs.Row.{answer_row}
 use Rattle.apl_meaning.specs.State.{State, Outcome, gives, refuses, asks, and_then}
-use Rattle.apl_meaning.specs.Answers.{report_of_kind, taken_from, unless_ended}
+use Rattle.apl_meaning.specs.Answers.{report_of_kind, answer_taken_from, unless_ended}
 use Rattle.apl_meaning.specs.Expressions.{Found, valued}
-use Rattle.apl_values.specs.Pending.{PlainPending, act_of, asked_for, brought, in_rows}
-use Rattle.apl_values.specs.Rows.{PlainRow, asks_act, rest_of_rows, row_zeros}
+use Rattle.apl_values.specs.Pending.{PlainActPurpose, act_for_purpose, act_asked_for, brought, in_rows}
+use Rattle.apl_values.specs.Rows.{PlainNameRow, asks_act, rest_of_rows, row_zeros}
 use Rattle.apl_statements.specs.Wants.{IsNoReport}
 use Rattle.apl_statements.proofs.Opened.{rows_open, rows_tell_zeros}
 
@@ -26,19 +26,19 @@ valued_no_report (refuses report s) free = free
 valued_no_report (asks act s) free = tt
 
 -- an act to which no answer is left is asked
-pub asked_no_report : (for_this : PlainPending) (s : State) → s.answers ≡ [] → IsNoReport (asked_for for_this s)
+pub asked_no_report : (for_this : PlainActPurpose) (s : State) → s.answers ≡ [] → IsNoReport (act_asked_for for_this s)
 asked_no_report for_this s none =
-    subst (λ (answers : List PlainAnswer). IsNoReport (and_then (and_then (taken_from answers (act_of for_this s.workspace) s) (λ answer t. unless_ended (report_of_kind (answer_row answer).row.kind) answer t)) (λ answer t. brought for_this answer t)))
+    subst (λ (answers : List PlainAnswer). IsNoReport (and_then (and_then (answer_taken_from answers (act_for_purpose for_this s.workspace) s) (λ answer t. unless_ended (report_of_kind (answer_row answer).row.kind) answer t)) (λ answer t. brought for_this answer t)))
     (sym none) tt
 
-first_row_no_report : (numbers : List ℤ) (row : PlainRow) (rows : List PlainRow) (shape : List ℕ) (s : State) (acts : Bool) → s.answers ≡ [] → asks_act s.workspace row ≡ acts
+first_row_no_report : (numbers : List ℤ) (row : PlainNameRow) (rows : List PlainNameRow) (shape : List ℕ) (s : State) (acts : Bool) → s.answers ≡ [] → asks_act s.workspace row ≡ acts
     → IsNoReport (rest_of_rows (numbers ++ row_zeros row.1) rows shape s) → IsNoReport (rest_of_rows numbers (row ∷ rows) shape s)
 first_row_no_report numbers row rows shape s true none is others =
     subst (λ (o : Outcome Found). IsNoReport o) (sym (rows_open row.1 row.0 numbers rows shape s is)) (asked_no_report (in_rows numbers (row ∷ rows) shape) s none)
 first_row_no_report numbers row rows shape s false none is others = subst (λ (o : Outcome Found). IsNoReport o) (sym (rows_tell_zeros row.1 row.0 numbers rows shape s is)) others
 
 -- rows tell zeros, or ask an act
-pub rows_no_report : (numbers : List ℤ) (rows : List PlainRow) (shape : List ℕ) (s : State) → s.answers ≡ [] → IsNoReport (rest_of_rows numbers rows shape s)
+pub rows_no_report : (numbers : List ℤ) (rows : List PlainNameRow) (shape : List ℕ) (s : State) → s.answers ≡ [] → IsNoReport (rest_of_rows numbers rows shape s)
 rows_no_report numbers [] shape s none = tt
 rows_no_report numbers (row ∷ rows) shape s none =
     first_row_no_report numbers row rows shape s (asks_act s.workspace row) none refl (rows_no_report (numbers ++ row_zeros row.1) rows shape s none)

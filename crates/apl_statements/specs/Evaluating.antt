@@ -23,7 +23,7 @@ use Rattle.apl_statements.specs.declared.evaluation.Purpose.TheVariants as purpo
 use Rattle.apl_statements.specs.declared.flow.Next.{Next}
 use Rattle.apl_statements.specs.declared.flow.Next.TheVariants as next
 use Rattle.apl_statements.specs.Stack.{PlainPurpose, branches, prints, executes, PlainEvaluation, PlainCaller, PlainWaiting}
-use Rattle.apl_statements.specs.Holding.{held_values, parts_of}
+use Rattle.apl_statements.specs.Holding.{stack_values, parts_of}
 
 -- which line follows
 abbrev pub plain_next : Next → task.Next
@@ -47,7 +47,7 @@ evaluation_of w e = record {
   place = plain_place e.place;
   purpose = plain_purpose e.purpose;
   nodes = drop e.at (plain_parts (parts_of e));
-  values = values_where e.is_wanting (held_values w e);
+  values = values_where e.is_wanting (stack_values w e);
 }
 
 -- a statement that waits for what a part gives, and whose reports have this second line
@@ -56,7 +56,7 @@ caller_of w shown e = record {
   place = plain_place e.place;
   purpose = plain_purpose e.purpose;
   nodes = drop e.at (plain_parts (parts_of e));
-  values = held_values w e;
+  values = stack_values w e;
   here = shown;
 }
 

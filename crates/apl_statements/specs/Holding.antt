@@ -4,9 +4,9 @@ use Rattle.std.specs.Arc.{arc_value}
 use Rattle.apl_arrays.specs.Array.{PlainArray}
 use Rattle.apl_workspace.specs.Workspace.{PlainWorkspace}
 use Rattle.apl_values.specs.declared.part.Part.{Part}
-use Rattle.apl_values.specs.declared.values.Held.{Held}
-use Rattle.apl_values.specs.declared.values.Held.TheVariants as held
-use Rattle.apl_values.specs.Values.{held_value}
+use Rattle.apl_values.specs.declared.values.StackValue.{StackValue}
+use Rattle.apl_values.specs.declared.values.StackValue.TheVariants as held
+use Rattle.apl_values.specs.Values.{stack_value}
 use Rattle.apl_statements.specs.declared.evaluation.Evaluation.{Evaluation}
 
 -- the parts of a statement
@@ -14,11 +14,11 @@ abbrev pub parts_of : Evaluation → List Part
 parts_of e = (arc_value e.reading).parts.items
 
 -- the values that no part of a statement has taken yet, the newest first
-abbrev pub held_values : PlainWorkspace → Evaluation → List PlainArray
-held_values w e = reverse (map (held_value w (parts_of e)) e.values.items)
+abbrev pub stack_values : PlainWorkspace → Evaluation → List PlainArray
+stack_values w e = reverse (map (stack_value w (parts_of e)) e.values.items)
 
 -- a statement that differs in its values alone, which are these
-pub record IsWithValues (before : Evaluation) (these : List Held) (after : Evaluation) : Type 0 where
+pub record IsWithValues (before : Evaluation) (these : List StackValue) (after : Evaluation) : Type 0 where
   pub same : after ≡ record before { values = after.values }
   pub values : after.values.items ≡ these
 
@@ -28,6 +28,6 @@ IsResumedWith None before after = after ≡ record before { is_wanting = true }
 IsResumedWith (Some array) before after = IsWithValues before (before.values.items ++ held.Made array ∷ []) after
 
 -- what an assignment to a name gives: another value where there is one, else the one that the name has then
-abbrev pub held_given : List ℕ → Option PlainArray → Held
-held_given name None = held.Named name
-held_given name (Some array) = held.Made array
+abbrev pub stack_value_given : List ℕ → Option PlainArray → StackValue
+stack_value_given name None = held.Named name
+stack_value_given name (Some array) = held.Made array

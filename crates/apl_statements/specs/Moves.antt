@@ -14,7 +14,7 @@ use Rattle.apl_meaning.specs.Expressions.{Found}
 use Rattle.apl_meaning.specs.Nodes.{Values, found_in}
 use Rattle.apl_meaning.specs.Meaning.{closed}
 use Rattle.apl_values.specs.Places.{plain_place}
-use Rattle.apl_values.specs.Pending.{asked_for, plain_pending}
+use Rattle.apl_values.specs.Pending.{act_asked_for, plain_act_purpose}
 use Rattle.apl_statements.specs.declared.evaluation.Evaluation.{Evaluation}
 use Rattle.apl_statements.specs.declared.flow.Flow.{Flow}
 use Rattle.apl_statements.specs.declared.flow.Flow.TheVariants as flow
@@ -23,7 +23,7 @@ use Rattle.apl_statements.specs.declared.flow.Pause.TheVariants as pause
 use Rattle.apl_statements.specs.Evaluating.{caller_of, evaluation_of, plain_next}
 use Rattle.apl_statements.specs.Interpreter.{PlainInterpreter, here, state_at}
 use Rattle.apl_statements.specs.Stack.{PlainPurpose, behind, carried_on, onward, put_to}
-use Rattle.apl_statements.specs.Holding.{held_values}
+use Rattle.apl_statements.specs.Holding.{stack_values}
 
 -- what is still to come, wherever the evaluation has come to
 abbrev pub Coming : Type 0
@@ -38,7 +38,7 @@ abbrev pub flow_to_come : PlainInterpreter → Flow → Coming
 flow_to_come m (flow.Evaluates e) s = onward (evaluation_of m.workspace e) m.stack s
 flow_to_come m (flow.Begins e) s = onward (evaluation_of m.workspace e) m.stack s
 flow_to_come m (flow.Leads next) s = behind m.stack (plain_next next) s
-flow_to_come m (flow.Opens for_this e) s = carried_on (asked_for (plain_pending for_this.value) s) (caller_of m.workspace (here m) e) m.stack
+flow_to_come m (flow.Opens for_this e) s = carried_on (act_asked_for (plain_act_purpose for_this.value) s) (caller_of m.workspace (here m) e) m.stack
 flow_to_come m flow.Ends s = gives goes_on s
 
 -- a step comes to a flow, or to a report that ends the line, and changes nothing of what is to come; where memory ran out nothing is said
@@ -85,7 +85,7 @@ part_gives m e part s = carried_on (part s) (caller_of m.workspace (here m) e) m
 
 -- a part takes its values from those of the statement, and then the statement goes on
 abbrev pub part_takes : PlainInterpreter → Evaluation → (List PlainArray → State → Outcome Values) → Coming
-part_takes m e part s = and_then (part (held_values m.workspace e) s) (λ values t. onward (record (evaluation_of m.workspace e) { values = values }) m.stack t)
+part_takes m e part s = and_then (part (stack_values m.workspace e) s) (λ values t. onward (record (evaluation_of m.workspace e) { values = values }) m.stack t)
 
 -- the value of a statement is put to a purpose, and then what waits goes on
 abbrev pub value_put : PlainInterpreter → Evaluation → PlainPurpose → Coming

@@ -3,10 +3,10 @@ use Rattle.std.specs.Prelude.{◌≡◌, ◌≢◌, ◌≤◌, ℕ, true, false,
 use Rattle.std.specs.Arc.{arc_value}
 use Rattle.apl_workspace.specs.Meaning.{is_function_meaning}
 use Rattle.apl_workspace.specs.Workspace.{PlainWorkspace, empty_workspace, global_in, innermost, without_frame}
-use Rattle.apl_values.specs.declared.reading.Reading.{Reading}
-use Rattle.apl_values.specs.Parts.{IsReadFrom, IsReading}
+use Rattle.apl_values.specs.declared.reading.LineReading.{LineReading}
+use Rattle.apl_values.specs.Parts.{IsReadFrom, IsLineReading}
 use Rattle.apl_values.specs.Pending.{IsPending}
-use Rattle.apl_values.specs.Values.{IsHeld}
+use Rattle.apl_values.specs.Values.{IsStackValue}
 use Rattle.apl_statements.specs.declared.waiting.Waiting.{Waiting}
 use Rattle.apl_statements.specs.declared.evaluation.Evaluation.{Evaluation}
 use Rattle.apl_statements.specs.declared.flow.Flow.{Flow}
@@ -20,9 +20,9 @@ use Rattle.apl_statements.specs.Holding.{parts_of}
 
 -- a statement under evaluation on a workspace: its line was read, the next part is one of them or behind the last, and each value is an array
 pub record IsEvaluation (w : PlainWorkspace) (e : Evaluation) : Type 0 where
-  pub reading : IsReading (arc_value e.reading)
+  pub reading : IsLineReading (arc_value e.reading)
   pub at : e.at ≤ length (parts_of e)
-  pub values : All (IsHeld w (parts_of e)) e.values.items
+  pub values : All (IsStackValue w (parts_of e)) e.values.items
 
 -- a statement that waits for what a part gives: besides, no value is wanting
 pub record IsCaller (w : PlainWorkspace) (e : Evaluation) : Type 0 where
@@ -30,7 +30,7 @@ pub record IsCaller (w : PlainWorkspace) (e : Evaluation) : Type 0 where
   pub there : e.is_wanting ≡ false
 
 -- what is kept of this line of a function, if anything, is how it was read in the function's frame
-abbrev pub IsKeptLine : PlainWorkspace → Option (List ℕ) → Reading → Type 0
+abbrev pub IsKeptLine : PlainWorkspace → Option (List ℕ) → LineReading → Type 0
 IsKeptLine w None reading = ⊥
 IsKeptLine w (Some line) reading = IsReadFrom w line reading
 
@@ -39,7 +39,7 @@ abbrev pub AreKeptLines : PlainWorkspace → List (List ℕ) → Waiting → Typ
 AreKeptLines w lines waiting = (at : ℕ) → IfSome (slice_get waiting.readings.items at) (λ kept. IfSome kept (λ reading. IsKeptLine w (slice_get lines at) (arc_value reading)))
 
 -- a function whose frame is the innermost of a workspace: its name is a function, its line is one of its lines or none yet, its frame has the name of its result, the values of its caller are none that names have, and its kept lines are as they were read
-pub record IsUnderWay (w : PlainWorkspace) (waiting : Waiting) : Type 0 where
+pub record IsFunctionUnderWay (w : PlainWorkspace) (waiting : Waiting) : Type 0 where
   pub frame : w.frames ≢ []
   pub function : is_function_meaning (global_in w waiting.name) ≡ true
   pub number : waiting.number ≤ length (function_by (global_in w waiting.name)).lines
@@ -50,7 +50,7 @@ pub record IsUnderWay (w : PlainWorkspace) (waiting : Waiting) : Type 0 where
 -- functions under way, the innermost first: as many as there are frames, each in its own
 abbrev pub AreUnderWay : PlainWorkspace → List Waiting → Type 0
 AreUnderWay w [] = w.frames ≡ []
-AreUnderWay w (waiting ∷ others) = IsUnderWay w waiting × AreUnderWay (without_frame w) others
+AreUnderWay w (waiting ∷ others) = IsFunctionUnderWay w waiting × AreUnderWay (without_frame w) others
 
 -- what holds of every interpreter: of the functions under way, with the innermost last
 abbrev pub IsInterpreter : Inside → Type 0

@@ -2,14 +2,14 @@ ghost use Rattle.std.specs.Prelude.{◌≡◌, ◌<◌, ◌++◌, ◌∷◌, [],
 ghost use Rattle.std.specs.Arc.{arc_value};
 ghost use Rattle.apl_arrays.specs.declared.report.Report.TheVariants as report;
 ghost use Rattle.apl_meaning.specs.Nodes.{popped};
-ghost use Rattle.apl_values.specs.Values.{IsHeld, held_value, settled};
+ghost use Rattle.apl_values.specs.Values.{IsStackValue, stack_value, settled};
 ghost use Rattle.apl_statements.specs.Sound.{IsEvaluation};
 ghost use Rattle.apl_statements.specs.Operands.{operand_count, operand_list};
-ghost use Rattle.apl_statements.specs.Holding.{IsResumedWith, IsWithValues, held_values, parts_of};
+ghost use Rattle.apl_statements.specs.Holding.{IsResumedWith, IsWithValues, stack_values, parts_of};
 
 use apl_arrays::{Array, Report, WantOfMemory};
 use apl_selection::Subs;
-use apl_values::{Held, Part, Place, Reading, owned, settle};
+use apl_values::{LineReading, Part, Place, StackValue, owned, settle};
 use apl_workspace::Workspace;
 use std::alloc::Global;
 use std::sync::Arc;
@@ -26,9 +26,9 @@ pub enum Purpose {
 /// The arguments of a function, not yet looked at: the left one and the axis where they are there.
 #[derive(Debug, Drop)]
 pub struct Operands {
-    pub left: Option<Held>,
-    pub axis: Option<Held>,
-    pub right: Held,
+    pub left: Option<StackValue>,
+    pub axis: Option<StackValue>,
+    pub right: StackValue,
 }
 
 /// A statement under evaluation: its place, what becomes of its value, its parts and the one that is next, and the values
@@ -37,15 +37,20 @@ pub struct Operands {
 pub struct Evaluation {
     pub place: Place,
     pub purpose: Purpose,
-    pub reading: Arc<Reading>,
+    pub reading: Arc<LineReading>,
     pub at: usize,
-    pub values: Vec<Held>,
+    pub values: Vec<StackValue>,
     pub is_wanting: bool,
 }
 
 impl Evaluation {
-    /// An expression from its first part on. No memory.
-    pub fn new(alloc: Global, place: Place, purpose: Purpose, reading: Arc<Reading>) -> Evaluation
+    /// An expression from its first part on.
+    pub fn new(
+        alloc: Global,
+        place: Place,
+        purpose: Purpose,
+        reading: Arc<LineReading>,
+    ) -> Evaluation
         ensures place { result.place ≡ place }
         ensures purpose { result.purpose ≡ purpose }
         ensures reading { arc_value result.reading ≡ arc_value reading }
@@ -63,14 +68,14 @@ impl Evaluation {
         }
     }
 
-    /// The parts. No memory.
+    /// The parts.
     pub fn parts(&self) -> &[Part]
         ensures { result.now ≡ parts_of self.now }
     {
         &self.reading.parts
     }
 
-    /// Whether a part is left. No memory.
+    /// Whether a part is left.
     pub fn goes_on(&self) -> bool
         ensures { result ≡ nat_lt self.now.at (length (parts_of self.now)) }
     {
@@ -78,7 +83,7 @@ impl Evaluation {
     }
 
     /// Puts a value behind the others. It takes memory for it.
-    pub fn push(&mut self, value: Held) -> Result<(), WantOfMemory>
+    pub fn push(&mut self, value: StackValue) -> Result<(), WantOfMemory>
         ensures { OnOk result (IsWithValues self.old (self.old.values.items ++ value ∷ []) self.new) }
     {
         self.values.reserve(1)?;
@@ -86,8 +91,8 @@ impl Evaluation {
         Ok(())
     }
 
-    /// Takes the newest value; VALUE ERROR where there is none. No memory.
-    pub fn take(&mut self) -> Result<Held, Report>
+    /// Takes the newest value; VALUE ERROR where there is none.
+    pub fn take(&mut self) -> Result<StackValue, Report>
         ensures taken { IfOk result (λ value. self.old.values.items ≡ self.new.values.items ++ value ∷ []) }
         ensures same { self.new ≡ record self.old { values = self.new.values } }
         ensures none { IfErr result (λ why. (why ≡ report.Value) × (self.old.values.items ≡ [])) }
@@ -98,8 +103,8 @@ impl Evaluation {
         }
     }
 
-    /// Takes the newest value where one is asked for. No memory.
-    pub fn take_where(&mut self, is_there: bool) -> Result<Option<Held>, Report>
+    /// Takes the newest value where one is asked for.
+    pub fn take_where(&mut self, is_there: bool) -> Result<Option<StackValue>, Report>
         ensures taken { IfOk result (λ value. (is_some value ≡ is_there) × (self.old.values.items ≡ self.new.values.items ++ option_to_list value)) }
         ensures same { self.new ≡ record self.old { values = self.new.values } }
         ensures none { IfErr result (λ why. (why ≡ report.Value) × (is_there ≡ true) × (self.old.values.items ≡ [])) }
@@ -112,7 +117,7 @@ impl Evaluation {
     }
 
     /// Takes the arguments of a function, the left one and the axis where they are asked for; VALUE ERROR where a value
-    /// lacks. No memory.
+    /// lacks.
     pub fn take_operands(&mut self, has_left: bool, has_axis: bool) -> Result<Operands, Report>
         ensures taken { IfOk result (λ operands. self.old.values.items ≡ self.new.values.items ++ operand_list operands) }
         ensures left { IfOk result (λ operands. is_some operands.left ≡ has_left) }
@@ -134,8 +139,8 @@ impl Evaluation {
         workspace: &Workspace,
     ) -> Result<Subs, WantOfMemory>
         requires { IsEvaluation workspace.now self.old }
-        ensures subs { IfOk result (λ subs. subs.items ≡ (popped places.now (held_values workspace.now self.old)).subs) }
-        ensures rest { OnOk result (held_values workspace.now self.new ≡ (popped places.now (held_values workspace.now self.old)).values) }
+        ensures subs { IfOk result (λ subs. subs.items ≡ (popped places.now (stack_values workspace.now self.old)).subs) }
+        ensures rest { OnOk result (stack_values workspace.now self.new ≡ (popped places.now (stack_values workspace.now self.old)).values) }
         ensures same { self.new ≡ record self.old { values = self.new.values } }
         ensures sound { OnOk result (IsEvaluation workspace.now self.new) }
     {
@@ -148,7 +153,7 @@ impl Evaluation {
     }
 
     // Takes the newest value as a subscript, unless the subscript is omitted.
-    fn take_sub(&mut self, is_given: bool) -> Option<Held>
+    fn take_sub(&mut self, is_given: bool) -> Option<StackValue>
         ensures taken { self.old.values.items ≡ self.new.values.items ++ option_to_list result }
         ensures omitted { is_given ≡ false → result ≡ None }
         ensures given { is_given ≡ true → result ≡ None → self.old.values.items ≡ [] }
@@ -161,11 +166,11 @@ impl Evaluation {
     fn owned_sub(
         &self,
         alloc: Global,
-        sub: Option<Held>,
+        sub: Option<StackValue>,
         workspace: &Workspace,
     ) -> Result<Option<Array>, WantOfMemory>
-        requires { IfSome sub (IsHeld workspace.now (parts_of self.now)) }
-        ensures { IfOk result (λ array. array ≡ option_map (held_value workspace.now (parts_of self.now)) sub) }
+        requires { IfSome sub (IsStackValue workspace.now (parts_of self.now)) }
+        ensures { IfOk result (λ array. array ≡ option_map (stack_value workspace.now (parts_of self.now)) sub) }
     {
         match sub {
             None => Ok(None),
@@ -190,7 +195,7 @@ impl Evaluation {
                 self.is_wanting = true;
                 Ok(())
             }
-            Some(array) => self.push(Held::Made(array)),
+            Some(array) => self.push(StackValue::Made(array)),
         }
     }
 }

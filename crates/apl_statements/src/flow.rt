@@ -1,5 +1,5 @@
 use crate::evaluation::Evaluation;
-use apl_values::Pending;
+use apl_values::ActPurpose;
 
 /// Which line of a function follows: the next one, or the one that a branch names.
 #[derive(Clone, Copy, Debug, PartialEq, Eq)]
@@ -15,7 +15,7 @@ pub enum Flow {
     Evaluates(Evaluation),
     Begins(Evaluation),
     Leads(Next),
-    Opens(Box<Pending>, Evaluation),
+    Opens(Box<ActPurpose>, Evaluation),
     Ends,
 }
 
@@ -23,5 +23,5 @@ pub enum Flow {
 #[derive(Debug, Drop)]
 pub enum Pause {
     Ends,
-    Opens(Box<Pending>, Evaluation),
+    Opens(Box<ActPurpose>, Evaluation),
 }

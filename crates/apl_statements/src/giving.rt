@@ -2,9 +2,9 @@ ghost use Rattle.std.specs.Prelude.{◌≡◌, Some, IfErr, IfOk};
 ghost use Rattle.apl_arrays.specs.declared.report.Fail.TheVariants as fail;
 ghost use Rattle.apl_workspace.specs.Workspace.{IsWorkspace};
 ghost use Rattle.apl_meaning.specs.State.{gives};
-ghost use Rattle.apl_values.specs.Pending.{IsPending, asked_for, plain_pending};
-ghost use Rattle.apl_values.specs.Values.{IsHeld, held_value};
-ghost use Rattle.apl_values.specs.Rows.{AreRows, asks_act, plain_row, rest_of_rows, rows_left};
+ghost use Rattle.apl_values.specs.Pending.{IsPending, act_asked_for, plain_act_purpose};
+ghost use Rattle.apl_values.specs.Values.{IsStackValue, stack_value};
+ghost use Rattle.apl_values.specs.Rows.{AreRows, asks_act, plain_name_row, rest_of_rows, rows_left};
 ghost use Rattle.apl_statements.specs.Moves.{Comes, part_gives};
 ghost use Rattle.apl_statements.specs.Sound.{IsCaller, IsFlow};
 ghost use Rattle.apl_statements.specs.Holding.{parts_of};
@@ -14,14 +14,14 @@ use crate::evaluation::Evaluation;
 use crate::flow::Flow;
 use crate::interpreter::Interpreter;
 use apl_arrays::{Array, Fail};
-use apl_values::{Deed, Held, Pending, Row, Rows, boxed, owned};
+use apl_values::{ActPurpose, Deed, NameRow, Rows, StackValue, boxed, owned};
 
 impl Interpreter {
     /// A value is put behind the others, and the statement goes on. It takes memory for the value.
-    pub fn give(&self, e: Evaluation, value: Held) -> Result<Flow, Fail>
+    pub fn give(&self, e: Evaluation, value: StackValue) -> Result<Flow, Fail>
         requires sound { IsCaller self.now.workspace e }
-        requires value { IsHeld self.now.workspace (parts_of e) value }
-        ensures comes { Comes self.now (part_gives self.now e (λ s. gives (Some (held_value self.now.workspace (parts_of e) value)) s)) 0 self.now result }
+        requires value { IsStackValue self.now.workspace (parts_of e) value }
+        ensures comes { Comes self.now (part_gives self.now e (λ s. gives (Some (stack_value self.now.workspace (parts_of e) value)) s)) 0 self.now result }
         ensures sound { IfOk result (IsFlow self.now) }
         ensures within { IfOk result (StaysWithin self.now e self.now) }
     {
@@ -31,10 +31,10 @@ impl Interpreter {
     }
 
     /// An act is opened, behind which the statement goes on. It takes memory for what the act is for.
-    pub fn open(&self, pending: Pending, e: Evaluation) -> Result<Flow, Fail>
+    pub fn open(&self, pending: ActPurpose, e: Evaluation) -> Result<Flow, Fail>
         requires sound { IsCaller self.now.workspace e }
         requires pending { IsPending self.now.workspace pending }
-        ensures comes { Comes self.now (part_gives self.now e (asked_for (plain_pending pending))) 0 self.now result }
+        ensures comes { Comes self.now (part_gives self.now e (act_asked_for (plain_act_purpose pending))) 0 self.now result }
         ensures sound { IfOk result (IsFlow self.now) }
         ensures within { IfOk result (StaysWithin self.now e self.now) }
     {
@@ -42,9 +42,9 @@ impl Interpreter {
     }
 
     /// A value as an array of its own.
-    pub fn owned(&self, e: &Evaluation, held: Held) -> Result<Array, Fail>
-        requires { IsHeld self.now.workspace (parts_of e.now) held }
-        ensures value { IfOk result (λ array. array ≡ held_value self.now.workspace (parts_of e.now) held) }
+    pub fn owned(&self, e: &Evaluation, held: StackValue) -> Result<Array, Fail>
+        requires { IsStackValue self.now.workspace (parts_of e.now) held }
+        ensures value { IfOk result (λ array. array ≡ stack_value self.now.workspace (parts_of e.now) held) }
         ensures refused { IfErr result (λ why. why ≡ fail.WantOfMemory) }
     {
         Ok(owned(self.alloc, held, e.parts(), &self.workspace)?)
@@ -62,16 +62,16 @@ impl Interpreter {
         let mut rows = rows;
         while let Some(row) = rows.next() {
             if self.opens(&row) {
-                return self.open(Pending::Row(rows), e);
+                return self.open(ActPurpose::Row(rows), e);
             }
             rows.tell_zeros(row.deed.width())?;
         }
-        self.give(e, Held::Made(rows.into_array(self.alloc)?))
+        self.give(e, StackValue::Made(rows.into_array(self.alloc)?))
     }
 
     // Whether a row opens an act.
-    fn opens(&self, row: &Row) -> bool
-        ensures { result ≡ asks_act self.now.workspace (plain_row row.now) }
+    fn opens(&self, row: &NameRow) -> bool
+        ensures { result ≡ asks_act self.now.workspace (plain_name_row row.now) }
     {
         match row.deed {
             Deed::Offer(_) => true,

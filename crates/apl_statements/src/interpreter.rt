@@ -1,11 +1,11 @@
 ghost use Rattle.std.specs.Prelude.{◌≡◌, [], IfOk, OnErr, OnOk};
 ghost use Rattle.apl_workspace.specs.Workspace.{empty_workspace};
-ghost use Rattle.apl_values.specs.Pending.{IsPending, act_of, plain_pending};
+ghost use Rattle.apl_values.specs.Pending.{IsPending, act_for_purpose, plain_act_purpose};
 ghost use Rattle.apl_statements.specs.Interpreter.{at_rest_on};
 
 use crate::waiting::Waiting;
 use apl_arrays::{Line, LineList, List, WantOfMemory};
-use apl_values::Pending;
+use apl_values::ActPurpose;
 use apl_workspace::Workspace;
 use std::alloc::Global;
 use std::marker::Model;
@@ -37,7 +37,7 @@ impl Model for Interpreter {
 }
 
 impl Interpreter {
-    /// Nothing is under way on a workspace. No memory.
+    /// Nothing is under way on a workspace.
     pub fn new(alloc: Global, workspace: Workspace) -> Interpreter
         requires { workspace.frames ≡ [] }
         ensures { result ≡ at_rest_on workspace }
@@ -52,7 +52,7 @@ impl Interpreter {
         }
     }
 
-    /// Nothing is under way on this workspace; what was there goes. No memory.
+    /// Nothing is under way on this workspace; what was there goes.
     pub fn renew_on(&mut self, workspace: Workspace)
         requires none { self.old.stack ≡ [] }
         requires frames { workspace.frames ≡ [] }
@@ -64,7 +64,7 @@ impl Interpreter {
         self.input.clear();
     }
 
-    /// Takes the workspace while nothing is under way, and has an empty one then. No memory.
+    /// Takes the workspace while nothing is under way, and has an empty one then.
     pub fn take_workspace(&mut self) -> Workspace
         requires none { self.old.stack ≡ [] }
         requires frames { self.old.workspace.frames ≡ [] }
@@ -86,7 +86,7 @@ impl Interpreter {
         Ok(())
     }
 
-    /// The lines that were not taken yet. No memory.
+    /// The lines that were not taken yet.
     pub fn take_output(&mut self) -> LineList
         ensures lines { result.items ≡ self.old.output }
         ensures rest { self.new ≡ record self.old { output = [] } }
@@ -95,9 +95,9 @@ impl Interpreter {
     }
 
     /// The act that is open. It takes memory for its value.
-    pub fn act_of(&self, pending: &Pending) -> Result<Act, WantOfMemory>
+    pub fn act_of(&self, pending: &ActPurpose) -> Result<Act, WantOfMemory>
         requires { IsPending self.now.workspace pending.now }
-        ensures { IfOk result (λ act. act ≡ act_of (plain_pending pending.now) self.now.workspace) }
+        ensures { IfOk result (λ act. act ≡ act_for_purpose (plain_act_purpose pending.now) self.now.workspace) }
     {
         pending.act(self.alloc, &self.workspace)
     }

@@ -1,6 +1,6 @@
 use crate::evaluation::Evaluation;
 use apl_arrays::Name;
-use apl_values::Reading;
+use apl_values::LineReading;
 use std::sync::Arc;
 
 /// A function under way: its name, the number of its line under evaluation, its lines that were read since it was
@@ -9,6 +9,6 @@ use std::sync::Arc;
 pub struct Waiting {
     pub name: Name,
     pub number: usize,
-    pub readings: Vec<Option<Arc<Reading>>>,
+    pub readings: Vec<Option<Arc<LineReading>>>,
     pub caller: Evaluation,
 }

@@ -12,7 +12,7 @@ use Rattle.apl_items.specs.Moves.{item_or, moved, moved_items}
 use Rattle.apl_items.specs.Places.{places}
 use Rattle.apl_items.specs.Shapes.{AreWithin, coordinates_of, place_of, stride_of}
 use Rattle.apl_items.proofs.ShapeLemmas.{coordinates_are_within, parts_fit, place_of_below}
-use Rattle.apl_structure.specs.Diagonals.{axes_by_faults, axes_named, axis_count, coordinates_by, diagonal_shape, least_length, leaves_gap, step_of, transposed_by}
+use Rattle.apl_structure.specs.Diagonals.{axes_by_faults, axes_named, axis_count, coordinates_by, diagonal_shape, least_length, leaves_gap, step_along, transposed_by}
 use Rattle.apl_selection.proofs.PickLemmas.{as_many_within, each_within, same_offsets, some_same}
 use Rattle.apl_selection.proofs.FaultLemmas.{count_of_numbers, nothing_is_wrong, same_number}
 use Rattle.apl_selection.proofs.MoveLemmas.{array_of, same_map, same_moved}
@@ -93,8 +93,8 @@ step_parts false stride step = omega arith
 
 -- the offsets by steps are the place of the coordinates along B's axes
 steps_total : (axes shape strides coordinates : List ℕ) → length axes ≡ length shape → length strides ≡ length shape → ((k : ℕ) → k < length shape → get_or strides k 0 ≡ stride_of shape k)
-    → total (step_of axes strides) 0 coordinates ≡ place_of shape (coordinates_by axes coordinates)
-steps_total [] [] strides coordinates p q each = total_same (step_of [] strides) (λ k. 0) (λ k. refl) 0 coordinates ∙ total_none 0 coordinates
+    → total (step_along axes strides) 0 coordinates ≡ place_of shape (coordinates_by axes coordinates)
+steps_total [] [] strides coordinates p q each = total_same (step_along [] strides) (λ k. 0) (λ k. refl) 0 coordinates ∙ total_none 0 coordinates
 steps_total [] (long ∷ shape) strides coordinates p q each = absurd (omega arith)
 steps_total (named ∷ axes) [] strides coordinates p q each = absurd (omega arith)
 steps_total (named ∷ axes) (long ∷ shape) [] coordinates p q each = absurd (omega arith)
@@ -102,10 +102,10 @@ steps_total (named ∷ axes) (long ∷ shape) (stride ∷ strides) coordinates p
     let first : stride ≡ element_count shape = each 0 (omega arith) in
     let rest = steps_total axes shape strides coordinates (omega arith) (omega arith)
     (λ k h. let next : suc k + 1 ≡ suc (k + 1) = omega arith in each (suc k) (omega arith) ∙ ap (λ (n : ℕ). element_count (drop n (long ∷ shape))) next) in
-    total_same (step_of (named ∷ axes) (stride ∷ strides)) (λ k. cond (named == k) stride 0 + step_of axes strides k) (λ k. step_parts (named == k) stride (step_of axes strides k)) 0 coordinates
-    ∙ total_sum (λ k. cond (named == k) stride 0) (step_of axes strides) 0 coordinates
-    ∙ ap (λ (n : ℕ). n + total (step_of axes strides) 0 coordinates) (total_alone named stride 0 named coordinates (omega arith))
-    ∙ ap (λ (n : ℕ). get_or coordinates named 0 * n + total (step_of axes strides) 0 coordinates) first
+    total_same (step_along (named ∷ axes) (stride ∷ strides)) (λ k. cond (named == k) stride 0 + step_along axes strides k) (λ k. step_parts (named == k) stride (step_along axes strides k)) 0 coordinates
+    ∙ total_sum (λ k. cond (named == k) stride 0) (step_along axes strides) 0 coordinates
+    ∙ ap (λ (n : ℕ). n + total (step_along axes strides) 0 coordinates) (total_alone named stride 0 named coordinates (omega arith))
+    ∙ ap (λ (n : ℕ). get_or coordinates named 0 * n + total (step_along axes strides) 0 coordinates) first
     ∙ ap (λ (n : ℕ). get_or coordinates named 0 * element_count shape + n) rest
 
 step_by : (test : Bool) (stride step n : ℕ) → stride ≤ 16384 → step ≤ 16384 * n → cond test (stride + step) step ≤ 16384 * (n + 1)
@@ -113,14 +113,14 @@ step_by true stride step n p q = omega arith
 step_by false stride step n p q = omega arith
 
 -- steps are small
-steps_small : (axes strides : List ℕ) (axis : ℕ) → ((k : ℕ) → k < length strides → get_or strides k 0 ≤ 16384) → step_of axes strides axis ≤ 16384 * length strides
+steps_small : (axes strides : List ℕ) (axis : ℕ) → ((k : ℕ) → k < length strides → get_or strides k 0 ≤ 16384) → step_along axes strides axis ≤ 16384 * length strides
 steps_small [] strides axis small = omega arith
 steps_small (named ∷ axes) [] axis small = omega arith
 steps_small (named ∷ axes) (stride ∷ strides) axis small =
     let rest = steps_small axes strides axis (λ k h. small (suc k) (omega arith)) in
-    let one = step_by (named == axis) stride (step_of axes strides axis) (length strides) (small 0 (omega arith)) rest in
+    let one = step_by (named == axis) stride (step_along axes strides axis) (length strides) (small 0 (omega arith)) rest in
     let next : length (stride ∷ strides) ≡ length strides + 1 = omega arith in
-    subst (λ (n : ℕ). step_of (named ∷ axes) (stride ∷ strides) axis ≤ 16384 * n) (sym next) one
+    subst (λ (n : ℕ). step_along (named ∷ axes) (stride ∷ strides) axis ≤ 16384 * n) (sym next) one
 
 -- ---- coordinates within B
 
@@ -150,7 +150,7 @@ within_diagonal axes shape coordinates e within =
 
 -- steps as they are listed give the place in B
 pub steps_same : (axes source shape strides steps : List ℕ) → length axes ≡ length source → FitsLimits source → 0 < element_count source → length strides ≡ length source
-    → ((k : ℕ) → k < length source → get_or strides k 0 ≡ stride_of source k) → steps ≡ map (step_of axes strides) (places (length shape))
+    → ((k : ℕ) → k < length source → get_or strides k 0 ≡ stride_of source k) → steps ≡ map (step_along axes strides) (places (length shape))
     → (place : ℕ) → place < element_count shape
     → source_by_axes shape (λ axis along. Some (along * min (get_or steps axis 0) 262143)) place ≡ Some (place_of source (coordinates_by axes (coordinates_of shape place)))
 steps_same axes source shape strides steps e fits some whole each is place below =
@@ -158,12 +158,12 @@ steps_same axes source shape strides steps e fits some whole each is place below
     let many = as_many_within shape coordinates (coordinates_are_within shape place below) in
     let small : (k : ℕ) → k < length strides → get_or strides k 0 ≤ 16384 = λ k h.
     let parts = parts_fit source k fits some (omega arith) in let at = each k (omega arith) in omega (arith, parts.1.elements) in
-    same_offsets (λ axis along. Some (along * min (get_or steps axis 0) 262143)) (λ axis along. Some (along * step_of axes strides axis)) 0 coordinates
-    (λ k h. let at = ap (λ (xs : List ℕ). get_or xs (0 + k) 0) is ∙ get_or-map-range_with_len (step_of axes strides) 0 (length shape) (0 + k) (0 + k) 0 (omega arith) (omega arith) in
+    same_offsets (λ axis along. Some (along * min (get_or steps axis 0) 262143)) (λ axis along. Some (along * step_along axes strides axis)) 0 coordinates
+    (λ k h. let at = ap (λ (xs : List ℕ). get_or xs (0 + k) 0) is ∙ get_or-map-range_with_len (step_along axes strides) 0 (length shape) (0 + k) (0 + k) 0 (omega arith) (omega arith) in
     let bound = steps_small axes strides (0 + k) small in
-    let least : min (get_or steps (0 + k) 0) 262143 ≡ step_of axes strides (0 + k) = omega (arith, fits.rank) in
+    let least : min (get_or steps (0 + k) 0) 262143 ≡ step_along axes strides (0 + k) = omega (arith, fits.rank) in
     ap (λ (n : ℕ). Some (get_or coordinates k 0 * n)) least)
-    ∙ offset_total (step_of axes strides) 0 coordinates ∙ ap (λ (n : ℕ). Some n) (steps_total axes source strides coordinates e whole each)
+    ∙ offset_total (step_along axes strides) 0 coordinates ∙ ap (λ (n : ℕ). Some n) (steps_total axes source strides coordinates e whole each)
 
 -- and that place is one of B's
 pub diagonal_within : (axes source shape : List ℕ) (place at : ℕ) → shape ≡ diagonal_shape axes source → length axes ≡ length source → place < element_count shape
@@ -188,7 +188,7 @@ nothing_moves (chars (x ∷ xs)) count f g none = absurd (omega arith)
 -- the array of items that moved by them is the transpose
 pub diagonal_is : (axes : List ℕ) (b : PlainArray) (shape strides steps : List ℕ) (items made : PlainItems) → shape ≡ diagonal_shape axes b.shape → length axes ≡ length b.shape → IsArray b
     → 0 < element_count b.shape → length strides ≡ length b.shape → ((k : ℕ) → k < length b.shape → get_or strides k 0 ≡ stride_of b.shape k)
-    → steps ≡ map (step_of axes strides) (places (length shape)) → items ≡ b.items
+    → steps ≡ map (step_along axes strides) (places (length shape)) → items ≡ b.items
     → made ≡ moved_items items (element_count shape) (source_by_axes shape (λ axis along. Some (along * min (get_or steps axis 0) 262143)))
     → array_of shape made ≡ transposed_by axes b
 diagonal_is axes b shape strides steps items made s e array some whole each steps_are i is =

@@ -10,7 +10,7 @@ use Rattle.apl_arrays.specs.Array.{PlainArray, IsArray, numbers, element_count, 
 use Rattle.apl_arrays.specs.declared.report.Report.{Report}
 use Rattle.apl_arrays.specs.Shape.{shape_fault}
 use Rattle.apl_arrays.proofs.Shapes.{what_fits_has_no_fault}
-use Rattle.apl_items.specs.Answers.{Answer, first_report, no_faults, unless}
+use Rattle.apl_items.specs.Answers.{ArrayResult, first_report, no_faults, unless}
 use Rattle.apl_items.specs.Along.{source_along}
 use Rattle.apl_items.specs.Moves.{moved_items}
 use Rattle.apl_items.specs.Shapes.{split_at}
@@ -132,7 +132,7 @@ own_shape b array =
     ∙ items_stay b.items)
 
 -- what one answer holds
-pub ok_same : (x y : PlainArray) (a b : Answer) → a ≡ b → a ≡ Ok x → b ≡ Ok y → x ≡ y
+pub ok_same : (x y : PlainArray) (a b : ArrayResult) → a ≡ b → a ≡ Ok x → b ≡ Ok y → x ≡ y
 ok_same x y a b e p q = cc
 
 -- all items of an array in its shape are the array

@@ -8,7 +8,7 @@ use Rattle.apl_arrays.specs.declared.report.Report.{Report}
 use Rattle.apl_arrays.specs.Array.{PlainArray, PlainItems, number_array, IsArray, element_count, item_count}
 use Rattle.apl_arrays.specs.Shape.{shape_fault}
 use Rattle.apl_arrays.proofs.Shapes.{what_fits_has_no_fault}
-use Rattle.apl_items.specs.Answers.{Answer, first_report, no_faults, unless}
+use Rattle.apl_items.specs.Answers.{ArrayResult, first_report, no_faults, unless}
 use Rattle.apl_items.specs.Axes.{added}
 use Rattle.apl_items.specs.Moves.{moved_items}
 use Rattle.apl_items.specs.Places.{places}
@@ -59,7 +59,7 @@ own_place long place below =
     ap (λ (n : ℕ). found n all) (over_one place) ∙ ap (found place) (places_again long 0)
     ∙ ap (λ (o : Option ℕ). added (option_map (λ (n : ℕ). n * 1) o) (Some 0)) (place_of_axis long place below) ∙ ap (λ (n : ℕ). Some n) same
 
-ok_same : (x y : PlainArray) (a : Answer) → a ≡ Ok x → a ≡ Ok y → x ≡ y
+ok_same : (x y : PlainArray) (a : ArrayResult) → a ≡ Ok x → a ≡ Ok y → x ≡ y
 ok_same x y a e i = cc
 
 count_is_fine : (negative large : Bool) → negative ≡ false → large ≡ false → first_report (record no_faults { bad_domain = false || negative; too_large = large }) ≡ None

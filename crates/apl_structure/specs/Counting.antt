@@ -2,7 +2,7 @@ use Rattle.std.specs.Prelude.{◌+◌, ◌||◌, ℕ, ℤ, pos, not, [], ◌∷�
 use Rattle.std.specs.Int.{is_negative}
 use Rattle.apl_arrays.specs.Array.{PlainArray, numbers, is_chars, numbers_in}
 use Rattle.apl_arrays.specs.Limits.{most_elements}
-use Rattle.apl_items.specs.Answers.{Answer, Faults, no_faults, answer_of}
+use Rattle.apl_items.specs.Answers.{ArrayResult, Faults, no_faults, answer_of}
 use Rattle.apl_items.specs.Extension.{is_single, number_at}
 use Rattle.apl_items.specs.Places.{places}
 
@@ -24,5 +24,5 @@ iota_faults b = record no_faults {
 }
 
 -- the numbers from 1 to B
-abbrev pub iota_of : PlainArray → Answer
+abbrev pub iota_of : PlainArray → ArrayResult
 iota_of b = answer_of (iota_faults b) (first_numbers (unsigned_abs (lone_number b)))

@@ -2,7 +2,7 @@ use Rattle.std.specs.Prelude.{◌+◌, ◌-◌, ◌||◌, ◌==◌, ℕ, ℤ, Bo
 use Rattle.std.specs.List.{list_any}
 use Rattle.apl_arrays.specs.Array.{PlainArray, is_chars, item_count, numbers_in}
 use Rattle.apl_arrays.specs.Limits.{most_elements}
-use Rattle.apl_items.specs.Answers.{Answer, Faults, no_faults, answer_of}
+use Rattle.apl_items.specs.Answers.{ArrayResult, Faults, no_faults, answer_of}
 use Rattle.apl_items.specs.Moves.{moved}
 use Rattle.apl_items.specs.Places.{places}
 use Rattle.apl_items.specs.Shapes.{coordinates_of, place_of}
@@ -34,10 +34,10 @@ abbrev pub diagonal_shape : List ℕ → List ℕ → List ℕ
 diagonal_shape axes shape = map (least_length axes shape) (places (axis_count axes))
 
 -- how far apart neighbours along an axis of the result stand in B: as far as along all axes that become it together
-abbrev pub step_of : List ℕ → List ℕ → ℕ → ℕ
-step_of [] strides axis = 0
-step_of (named ∷ axes) [] axis = 0
-step_of (named ∷ axes) (stride ∷ strides) axis = if named == axis then stride + step_of axes strides axis else step_of axes strides axis
+abbrev pub step_along : List ℕ → List ℕ → ℕ → ℕ
+step_along [] strides axis = 0
+step_along (named ∷ axes) [] axis = 0
+step_along (named ∷ axes) (stride ∷ strides) axis = if named == axis then stride + step_along axes strides axis else step_along axes strides axis
 
 -- the coordinates in B of an item of the result: along each axis of B that along the axis which it becomes
 abbrev pub coordinates_by : List ℕ → List ℕ → List ℕ
@@ -59,5 +59,5 @@ axes_by_faults a b =
     }
 
 -- B with its axes where A puts them; the result has no more elements than B
-abbrev pub transpose_by_of : PlainArray → PlainArray → Answer
+abbrev pub transpose_by_of : PlainArray → PlainArray → ArrayResult
 transpose_by_of a b = answer_of (axes_by_faults a b) (transposed_by (axes_named (numbers_in a.items)) b)

@@ -5,5 +5,5 @@ abbrev pub lengths : List ℤ → List ℕ
 lengths numbers = map unsigned_abs numbers
 
 -- the same, but of the lengths that no axis may have the least
-abbrev pub capped : List ℤ → List ℕ
-capped numbers = map (λ number. min (unsigned_abs number) 16385) numbers
+abbrev pub capped_lengths : List ℤ → List ℕ
+capped_lengths numbers = map (λ number. min (unsigned_abs number) 16385) numbers

@@ -5,7 +5,7 @@ use Rattle.std.specs.Ordering.{int_eq}
 use Rattle.apl_arrays.specs.Array.{PlainArray, is_chars, item_count, numbers_in}
 use Rattle.apl_arrays.specs.Limits.{most_axes}
 use Rattle.apl_arrays.specs.Shape.{shape_fault}
-use Rattle.apl_items.specs.Answers.{Answer, Faults, no_faults, answer_of}
+use Rattle.apl_items.specs.Answers.{ArrayResult, Faults, no_faults, answer_of}
 use Rattle.apl_items.specs.Moves.{moved}
 use Rattle.apl_structure.specs.Lengths.{lengths}
 
@@ -27,7 +27,7 @@ abbrev pub reshaped : List ℕ → PlainArray → PlainArray
 reshaped shape b = moved shape b.items (λ place. Some (place % item_count b.items))
 
 -- B in the shape A
-abbrev pub reshape_of : PlainArray → PlainArray → Answer
+abbrev pub reshape_of : PlainArray → PlainArray → ArrayResult
 reshape_of a b =
     let shape = lengths (numbers_in a.items) in
     answer_of (record (reshape_faults a b) { too_large = is_some (shape_fault shape) }) (reshaped shape b)

@@ -1,7 +1,7 @@
 use Rattle.std.specs.Prelude.{◌-◌, ◌==◌, ℕ, ℤ, Option, Some, None, length, slice_index, nat_lt, if◌then◌else◌}
 use Rattle.apl_arrays.specs.declared.way.Way.{Way}
 use Rattle.apl_arrays.specs.Array.{PlainArray}
-use Rattle.apl_items.specs.Answers.{Answer, no_faults, answer_of}
+use Rattle.apl_items.specs.Answers.{ArrayResult, no_faults, answer_of}
 use Rattle.apl_items.specs.Axis.{lacks_axis, axis_of}
 use Rattle.apl_structure.specs.Moves.{moved_on}
 
@@ -14,7 +14,7 @@ abbrev pub reversed : PlainArray → ℕ → PlainArray
 reversed b axis = if length b.shape == 0 then b else moved_on b axis (λ line along. from_the_end (slice_index b.shape axis) along)
 
 -- B reversed along the last axis, the first or K
-abbrev pub reverse_of : PlainArray → Way → Option ℤ → Answer
+abbrev pub reverse_of : PlainArray → Way → Option ℤ → ArrayResult
 reverse_of b way axis =
     let rank = length b.shape in
     answer_of (record no_faults { bad_index = lacks_axis rank axis }) (reversed b (axis_of rank way axis))

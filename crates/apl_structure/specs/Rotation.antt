@@ -3,7 +3,7 @@ use Rattle.std.specs.Cmp.Lexicographic.{pointwise}
 use Rattle.std.specs.Int.{int_rem_euclid}
 use Rattle.apl_arrays.specs.declared.way.Way.{Way}
 use Rattle.apl_arrays.specs.Array.{PlainArray, is_chars, numbers_in}
-use Rattle.apl_items.specs.Answers.{Answer, Faults, no_faults, answer_of}
+use Rattle.apl_items.specs.Answers.{ArrayResult, Faults, no_faults, answer_of}
 use Rattle.apl_items.specs.Extension.{is_single, number_at}
 use Rattle.apl_items.specs.Axis.{axis_of, lacks_axis}
 use Rattle.apl_structure.specs.Moves.{moved_on}
@@ -44,5 +44,5 @@ rotated a b axis =
     if length b.shape == 0 then b else moved_on b axis (λ line along. turned_from (turn_of (number_at (numbers_in a.items) line) long) long along)
 
 -- B rotated by A along the last axis, the first or K
-abbrev pub rotate_of : PlainArray → PlainArray → Way → Option ℤ → Answer
+abbrev pub rotate_of : PlainArray → PlainArray → Way → Option ℤ → ArrayResult
 rotate_of a b way axis = answer_of (rotate_faults a b way axis) (rotated a b (axis_of (length b.shape) way axis))

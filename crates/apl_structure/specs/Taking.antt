@@ -3,7 +3,7 @@ use Rattle.std.specs.Int.{is_negative}
 use Rattle.apl_arrays.specs.Array.{PlainArray, is_chars, item_count, numbers_in}
 use Rattle.apl_arrays.specs.Limits.{most_axes}
 use Rattle.apl_arrays.specs.Shape.{shape_fault}
-use Rattle.apl_items.specs.Answers.{Answer, Faults, no_faults, answer_of}
+use Rattle.apl_items.specs.Answers.{ArrayResult, Faults, no_faults, answer_of}
 use Rattle.apl_items.specs.Places.{places}
 use Rattle.apl_structure.specs.Lengths.{lengths}
 use Rattle.apl_selection.specs.Picks.{picked}
@@ -48,7 +48,7 @@ taken a b =
     picked (taken_shape a) source b.items (λ axis along. taken_from (number_for a axis) (slice_index source axis) along)
 
 -- A take B
-abbrev pub take_of : PlainArray → PlainArray → Answer
+abbrev pub take_of : PlainArray → PlainArray → ArrayResult
 take_of a b = answer_of (record (axes_faults a b) { too_large = is_some (shape_fault (taken_shape a)) }) (taken a b)
 
 -- ---- drop
@@ -70,5 +70,5 @@ remaining a b =
     picked (remaining_shape a source) source b.items (λ axis along. remaining_from (number_for a axis) (slice_index source axis) along)
 
 -- A drop B
-abbrev pub drop_of : PlainArray → PlainArray → Answer
+abbrev pub drop_of : PlainArray → PlainArray → ArrayResult
 drop_of a b = answer_of (axes_faults a b) (remaining a b)

@@ -1,6 +1,6 @@
 use Rattle.std.specs.Prelude.{◌-◌, ◌*◌, ℕ, List, Option, Some, Ok, length, reverse}
 use Rattle.apl_arrays.specs.Array.{PlainArray}
-use Rattle.apl_items.specs.Answers.{Answer}
+use Rattle.apl_items.specs.Answers.{ArrayResult}
 use Rattle.apl_items.specs.Axes.{source_by_axes}
 use Rattle.apl_items.specs.Moves.{moved}
 use Rattle.apl_items.specs.Shapes.{stride_of}
@@ -14,5 +14,5 @@ abbrev pub transposed : PlainArray → PlainArray
 transposed b = moved (reverse b.shape) b.items (source_by_axes (reverse b.shape) (opposite_offset b.shape))
 
 -- B with its axes in reverse order
-abbrev pub transpose_of : PlainArray → Answer
+abbrev pub transpose_of : PlainArray → ArrayResult
 transpose_of b = Ok (transposed b)

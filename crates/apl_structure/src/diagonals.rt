@@ -4,7 +4,7 @@ ghost use Rattle.apl_arrays.specs.Array.{FitsLimits, numbers_in};
 ghost use Rattle.apl_items.specs.Answers.{Answers, first_report};
 ghost use Rattle.apl_items.specs.Axis.{lacks_axis};
 ghost use Rattle.apl_items.specs.Places.{OnWantOfMemory, places};
-ghost use Rattle.apl_structure.specs.Diagonals.{axes_by_faults, axes_named, axis_count, diagonal_shape, least_length, leaves_gap, step_of, transpose_by_of, transposed_by};
+ghost use Rattle.apl_structure.specs.Diagonals.{axes_by_faults, axes_named, axis_count, diagonal_shape, least_length, leaves_gap, step_along, transpose_by_of, transposed_by};
 
 use apl_arrays::{Array, ELEMENT_LIMIT, Fail, Report, WantOfMemory, count_of_elements};
 use apl_items::{Axes, lacks_axis, moved_by_axes, room_for};
@@ -152,7 +152,7 @@ fn steps_of(
     count: usize,
 ) -> Result<Vec<u32>, WantOfMemory>
     requires { length strides.now ≤ 8 }
-    ensures { IfOk result (λ steps. steps.items ≡ map (step_of (axes_named numbers.now) strides.now) (places count)) }
+    ensures { IfOk result (λ steps. steps.items ≡ map (step_along (axes_named numbers.now) strides.now) (places count)) }
 {
     let mut steps = room_for(alloc, count)?;
     for axis in 0..count {
@@ -164,7 +164,7 @@ fn steps_of(
 /// How far apart neighbours along an axis of the result stand in B.
 fn step_of(numbers: &[i64], strides: &[u16], axis: usize) -> u32
     requires { length strides.now ≤ 8 }
-    ensures value { result ≡ step_of (axes_named numbers.now) strides.now axis }
+    ensures value { result ≡ step_along (axes_named numbers.now) strides.now axis }
     ensures small { result ≤ 65535 * length strides.now }
 {
     match numbers.split_first() {

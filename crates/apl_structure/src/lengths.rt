@@ -1,16 +1,15 @@
 ghost use Rattle.std.specs.Prelude.{◌≡◌, ◌≤◌, is_some, length, min, unsigned_abs};
 ghost use Rattle.apl_arrays.specs.Limits.{most_axes};
 ghost use Rattle.apl_arrays.specs.Shape.{shape_fault};
-ghost use Rattle.apl_structure.specs.Lengths.{capped, lengths};
+ghost use Rattle.apl_structure.specs.Lengths.{capped_lengths, lengths};
 
 use apl_arrays::{ELEMENT_LIMIT, RANK_LIMIT, shape_fault};
 use arrayvec::ArrayVec;
 
 /// The magnitudes of numbers as the lengths of axes, but of those that no axis may have the least, which is too long too.
-/// No memory.
 pub(crate) fn capped(numbers: &[i64]) -> ArrayVec<u32, RANK_LIMIT>
     requires { length numbers.now ≤ most_axes }
-    ensures { result.items ≡ capped numbers.now }
+    ensures { result.items ≡ capped_lengths numbers.now }
 {
     let mut shape = ArrayVec::new();
     for number in numbers {
@@ -28,7 +27,7 @@ fn capped_length(number: i64) -> u32
 
 /// Whether an array of these lengths would pass the limits, told from the capped ones.
 pub(crate) fn pass_limits(numbers: &[i64], shape: &[u32]) -> bool
-    requires { shape.now ≡ capped numbers.now }
+    requires { shape.now ≡ capped_lengths numbers.now }
     ensures { result ≡ is_some (shape_fault (lengths numbers.now)) }
 {
     shape_fault(shape).is_some()

@@ -73,7 +73,7 @@ fn rotated(alloc: Global, a: &Array, b: &Array, axis: usize) -> Result<Array, Wa
     }
     let length = length_of(b.shape(), axis);
     let turns = turns_of(alloc, a.numbers(), length)?;
-    let rule = Turns {
+    let rule = TurnedLines {
         turns: turns.as_slice(),
         length,
     };
@@ -105,12 +105,12 @@ fn turn_of(number: i64, length: u32) -> u32
 
 /// Where the items of turned lines come from.
 #[derive(Drop)]
-struct Turns<'a> {
+struct TurnedLines<'a> {
     turns: &'a [u32],
     length: u32,
 }
 
-impl Along for Turns<'_> {
+impl Along for TurnedLines<'_> {
     ghost use Rattle.std.specs.Prelude.{length, slice_index};
     ghost use Rattle.apl_items.specs.Extension.{place_in};
     ghost use Rattle.apl_structure.specs.Rotation.{turned_from};

@@ -25,8 +25,8 @@ abbrev pub unsharing : List ℕ → PlainAnswer → PlainTerminal → PlainTermi
 unsharing name answer t = record t { workspace = unshared_with (value_kept answer) name t.workspace }
 
 -- a name of the workspace is shared, with this copy of its value
-abbrev pub sharing : Remake → Option PlainArray → PlainTerminal → PlainTerminal
-sharing offer copy t = record t { workspace = marked t.workspace offer copy }
+abbrev pub terminal_sharing : Remake → Option PlainArray → PlainTerminal → PlainTerminal
+terminal_sharing offer copy t = record t { workspace = marked t.workspace offer copy }
 
 -- a change is made of the workspace and its id, or it ends the session
 abbrev pub finishing : PlainChange → PlainTerminal → PlainTerminal

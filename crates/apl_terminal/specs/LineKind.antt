@@ -5,13 +5,13 @@ use Rattle.apl_workspace.specs.Blanks.{without_blanks}
 use Rattle.fn_editor.specs.Closing.{behind_glyph}
 
 -- the first glyph of a line other than a blank is this one
-abbrev pub begins_with : ℕ → List ℕ → Bool
-begins_with glyph line = is_some (behind_glyph glyph (without_blanks line))
+abbrev pub begins_behind_blanks : ℕ → List ℕ → Bool
+begins_behind_blanks glyph line = is_some (behind_glyph glyph (without_blanks line))
 
 -- the line opens a definition
 abbrev pub is_opening : List ℕ → Bool
-is_opening line = begins_with del line
+is_opening line = begins_behind_blanks del line
 
 -- the line is a command
 abbrev pub is_command : List ℕ → Bool
-is_command line = begins_with right_parenthesis line
+is_command line = begins_behind_blanks right_parenthesis line

@@ -61,12 +61,12 @@ showing line shown t =
     else reporting Interrupt line t
 
 -- the workspace is this one from now on; where it would weigh too much the old one stays, and that is WS FULL
-abbrev pub defining : List ℕ → PlainWorkspace → PlainTerminal → PlainTerminal
-defining line w t = if nat_le (workspace_weight w) most_weight then record t { workspace = w } else reporting WsFull line t
+abbrev pub taking_definition : List ℕ → PlainWorkspace → PlainTerminal → PlainTerminal
+taking_definition line w t = if nat_le (workspace_weight w) most_weight then record t { workspace = w } else reporting WsFull line t
 
 -- a definition is closed, and its function defined, or it stays open
 abbrev pub closing : List ℕ → PlainEditor → Bool → PlainTerminal → PlainTerminal
-closing line editor true t = defining line (with_global t.workspace editor.header.name (Function (defined_function editor))) (record t { definition = None })
+closing line editor true t = taking_definition line (with_global t.workspace editor.header.name (Function (defined_function editor))) (record t { definition = None })
 closing line editor false t = record t { definition = Some editor }
 
 -- what a line of the editor leaves, by what it did: it shows lines, and then it may close the definition; where it did nothing, that is DEFN ERROR

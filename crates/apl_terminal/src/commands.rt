@@ -2,11 +2,11 @@ ghost use Rattle.std.specs.Prelude.{◌≡◌, ◌≤◌, None, true, false, IfO
 ghost use Rattle.apl_workspace.specs.Meaning.{is_function_meaning};
 ghost use Rattle.apl_workspace.specs.Workspace.{global_in, is_addressee, is_shared};
 ghost use Rattle.sv_events.specs.Answer.{plain_answer};
-ghost use Rattle.ws_commands.specs.Finish.{MayBeMade, MayComeIn, brought};
+ghost use Rattle.ws_commands.specs.Finish.{MayBeMade, MayComeIn, workspace_brought};
 ghost use Rattle.ws_commands.specs.Reading.{step_of};
 ghost use Rattle.ws_commands.specs.Shelf.{Takes};
 ghost use Rattle.ws_commands.specs.Todo.{given_up, plain_change, plain_todo};
-ghost use Rattle.apl_terminal.specs.Commands.{finishing, naming_alone, sharing, telling, unsharing, value_kept};
+ghost use Rattle.apl_terminal.specs.Commands.{finishing, naming_alone, terminal_sharing, telling, unsharing, value_kept};
 
 use crate::terminal::Terminal;
 use apl_arrays::{Array, Fail, Line, LineList, Name, Report, WantOfMemory};
@@ -27,7 +27,7 @@ impl Terminal {
     ) -> Result<Todo, WantOfMemory>
         ensures todo { IfOk result (λ todo. Takes K.told K.faults user (step_of line.now.items self.now.workspace self.now.id) shelf.old (plain_todo todo) shelf.new) }
         ensures retract { IfOk result (λ todo. todo.retract.items ≡ given_up (plain_change todo.change) self.now.workspace) }
-        ensures comes { IfOk result (λ todo. IfSome (brought (plain_change todo.change)) (MayComeIn self.now.workspace)) }
+        ensures comes { IfOk result (λ todo. IfSome (workspace_brought (plain_change todo.change)) (MayComeIn self.now.workspace)) }
         ensures counted { K.faults shelf.old ≤ K.faults shelf.new }
     {
         prepare(
@@ -41,7 +41,7 @@ impl Terminal {
     }
 
     /// A shared name of the workspace is shared no more: it has the value that the answer to its retraction keeps, or its own
-    /// copy. No memory.
+    /// copy.
     pub fn unshare(&mut self, name: &Name, answer: Answer)
         requires none { self.old.definition ≡ None }
         requires shared { is_shared self.old.workspace name.now ≡ true }
@@ -53,7 +53,7 @@ impl Terminal {
         }
     }
 
-    /// A change of the workspace and its id is made, or it ends the session. No memory.
+    /// A change of the workspace and its id is made, or it ends the session.
     pub fn finish(&mut self, change: Change)
         requires none { self.old.definition ≡ None }
         requires may { MayBeMade (plain_change change) self.old.workspace }
@@ -67,7 +67,7 @@ impl Terminal {
     /// an offer that was saved and the value that a name has already give no cause for either.
     pub fn share(&mut self, offer: Remake, copy: Option<Array>) -> Result<(), WantOfMemory>
         requires none { self.old.definition ≡ None }
-        ensures { OnOk result (self.new ≡ sharing offer copy self.old) }
+        ensures { OnOk result (self.new ≡ terminal_sharing offer copy self.old) }
     {
         if !may_be_offered(&self.workspace, offer) {
             drop(copy);

@@ -7,7 +7,7 @@ ghost use Rattle.fn_editor.specs.Editing.{fed};
 ghost use Rattle.fn_editor.specs.Editor.{defined_function};
 ghost use Rattle.fn_editor.specs.Opening.{opened};
 ghost use Rattle.fn_editor.specs.Prompt.{prompt_text};
-ghost use Rattle.apl_terminal.specs.Terminal.{IsDefinable, closing, defining, echoing, editing, glyph_count, showing};
+ghost use Rattle.apl_terminal.specs.Terminal.{IsDefinable, closing, taking_definition, echoing, editing, glyph_count, showing};
 
 use crate::terminal::Terminal;
 use apl_arrays::{Fail, Line, LineList, Report, WantOfMemory};
@@ -86,7 +86,7 @@ impl Terminal {
         requires none { self.old.definition ≡ None }
         requires closed { editor.closed ≡ true }
         requires name { is_variable_meaning (global_in self.old.workspace editor.header.name) ≡ false }
-        ensures { OnOk result (self.new ≡ defining line.now.items (with_global self.old.workspace editor.header.name (meaning.Function (defined_function editor))) self.old) }
+        ensures { OnOk result (self.new ≡ taking_definition line.now.items (with_global self.old.workspace editor.header.name (meaning.Function (defined_function editor))) self.old) }
     {
         match editor.close(&mut self.workspace) {
             Ok(()) => Ok(()),

@@ -1,17 +1,17 @@
 ghost use Rattle.std.specs.Prelude.{◌≡◌};
-ghost use Rattle.apl_terminal.specs.LineKind.{begins_with, is_command, is_opening};
+ghost use Rattle.apl_terminal.specs.LineKind.{begins_behind_blanks, is_command, is_opening};
 
 use apl_arrays::Glyph;
 use apl_workspace::without_blanks;
 
-/// Whether a line opens a definition where none is open: its first glyph other than a blank is `∇`. No memory.
+/// Whether a line opens a definition where none is open: its first glyph other than a blank is `∇`.
 pub fn is_opening(line: &[Glyph]) -> bool
     ensures { result ≡ is_opening line.now }
 {
     begins_with(Glyph::DEL, line)
 }
 
-/// Whether a line is a command: its first glyph other than a blank is `)`. No memory.
+/// Whether a line is a command: its first glyph other than a blank is `)`.
 pub fn is_command(line: &[Glyph]) -> bool
     ensures { result ≡ is_command line.now }
 {
@@ -19,7 +19,7 @@ pub fn is_command(line: &[Glyph]) -> bool
 }
 
 fn begins_with(glyph: Glyph, line: &[Glyph]) -> bool
-    ensures { result ≡ begins_with glyph line.now }
+    ensures { result ≡ begins_behind_blanks glyph line.now }
 {
     match without_blanks(line) {
         [first, ..] => *first == glyph,

@@ -35,7 +35,7 @@ impl Model for Terminal {
 }
 
 impl Terminal {
-    /// An empty workspace without an id, and nothing printed. No memory.
+    /// An empty workspace without an id, and nothing printed.
     pub fn new(alloc: Global) -> Terminal
         ensures { result ≡ new_terminal }
     {
@@ -49,14 +49,14 @@ impl Terminal {
         }
     }
 
-    /// The lines that were echoed and printed. No memory.
+    /// The lines that were echoed and printed.
     pub fn transcript(&self) -> &[Line]
         ensures { map glyphs_in result.now ≡ self.now.transcript }
     {
         self.transcript.as_slice()
     }
 
-    /// The same as a list. No memory.
+    /// The same as a list.
     pub fn into_transcript(self) -> LineList
         ensures { result.items ≡ self.transcript }
     {
@@ -100,14 +100,14 @@ impl Terminal {
             .push(input_shown(self.alloc, line.as_slice())?)
     }
 
-    /// Whether the user has ended the session. No memory.
+    /// Whether the user has ended the session.
     pub fn has_ended(&self) -> bool
         ensures { result ≡ self.now.ended }
     {
         self.ended
     }
 
-    /// The workspace. No memory.
+    /// The workspace.
     pub fn workspace(&self) -> &Workspace
         ensures value { result.now ≡ self.now.workspace }
         ensures frames { result.now.frames ≡ [] }
@@ -115,14 +115,14 @@ impl Terminal {
         &self.workspace
     }
 
-    /// What holds of every workspace holds of this one. No memory.
+    /// What holds of every workspace holds of this one.
     pub fn rules(&self)
         ensures { IsWorkspace self.now.workspace }
     {
         let _ = self.workspace.weight();
     }
 
-    /// The definition that is open, if one is, which is to be handed back. No memory.
+    /// The definition that is open, if one is, which is to be handed back.
     pub fn take_definition(&mut self) -> Option<Editor>
         ensures taken { result ≡ self.old.definition }
         ensures left { self.new ≡ record self.old { definition = None } }
@@ -131,7 +131,7 @@ impl Terminal {
         self.editor.take()
     }
 
-    /// Lends the workspace to a line, and has an empty one until it comes back. No memory.
+    /// Lends the workspace to a line, and has an empty one until it comes back.
     pub fn lend(&mut self) -> Workspace
         requires { self.old.definition ≡ None }
         ensures lent { result ≡ self.old.workspace }
@@ -141,7 +141,7 @@ impl Terminal {
         mem::replace(&mut self.workspace, Workspace::new(self.alloc))
     }
 
-    /// Takes back a workspace that was lent. No memory.
+    /// Takes back a workspace that was lent.
     pub fn take_back(&mut self, workspace: Workspace)
         requires none { self.old.definition ≡ None }
         requires frames { workspace.frames ≡ [] }

@@ -10,15 +10,15 @@ use Rattle.apl_arrays.specs.Name.{same_name}
 use Rattle.line_scanner.specs.Token.{PlainKind, PlainToken, numbers, chars, name, system, sign}
 use Rattle.line_trees.specs.declared.class.Class.{Class}
 use Rattle.line_trees.specs.declared.machine.Before.TheVariants as before
-use Rattle.line_trees.specs.declared.machine.Bracket.{Bracket}
-use Rattle.line_trees.specs.declared.machine.Change.{Change}
+use Rattle.line_trees.specs.declared.machine.OpenBracket.{OpenBracket}
+use Rattle.line_trees.specs.declared.machine.NestingChange.{NestingChange}
 use Rattle.line_trees.specs.declared.machine.Mode.{Mode}
 use Rattle.line_trees.specs.declared.machine.Mode.TheVariants.{Begins}
 use Rattle.line_trees.specs.declared.machine.Move.{Move}
 use Rattle.line_trees.specs.declared.symbol.Symbol.{Symbol}
 use Rattle.line_trees.specs.declared.tree.Mark.{Mark}
 use Rattle.line_trees.specs.Building.{Built, built_by, built_from}
-use Rattle.line_trees.specs.Marks.{Marked, changed, marked_by, marks_from, step, with_mark}
+use Rattle.line_trees.specs.Marks.{Marked, open_after, marked_by, marks_from, step, with_mark}
 use Rattle.line_trees.specs.Parsing.{parsed_by, tree_of}
 use Rattle.line_trees.specs.Symbols.{arguments_of, name_symbol, symbol_of}
 use Rattle.apl_workspace.specs.Meaning.{IsLocal, NameTable, meaning_in}
@@ -112,7 +112,7 @@ same_symbol w classes (name glyphs) rules told = ap (λ (count : Option ℕ). na
 same_symbol w classes (system which) rules told = refl
 same_symbol w classes (sign glyph) rules told = refl
 
-same_beyond : (move : Option Move) (at : ℕ) (f g : Mode → Change → Marked) → ((mode : Mode) (change : Change) → f mode change ≡ g mode change) → marked_by move at f ≡ marked_by move at g
+same_beyond : (move : Option Move) (at : ℕ) (f g : Mode → NestingChange → Marked) → ((mode : Mode) (change : NestingChange) → f mode change ≡ g mode change) → marked_by move at f ≡ marked_by move at g
 same_beyond None at f g same = refl
 same_beyond (Some move) at f g same = ap (with_mark move.mark) (same move.mode move.change)
 
@@ -120,15 +120,15 @@ same_beyond (Some move) at f g same = ap (with_mark move.mark) (same move.mode m
 abbrev AreSameFor : (PlainToken → Bool) → List Class → List Class → Type 0
 AreSameFor test some others = (token : PlainToken) → test token ≡ true → symbol_of some token.kind ≡ symbol_of others token.kind
 
-same_marks : (test : PlainToken → Bool) (some others : List Class) (long : ℕ) (mode : Mode) (brackets : List Bracket) (tokens : List PlainToken) → AreSameFor test some others → list_all test tokens ≡ true
+same_marks : (test : PlainToken → Bool) (some others : List Class) (long : ℕ) (mode : Mode) (brackets : List OpenBracket) (tokens : List PlainToken) → AreSameFor test some others → list_all test tokens ≡ true
     → marks_from some long mode brackets tokens ≡ marks_from others long mode brackets tokens
 unfolding marks_from
 same_marks test some others long mode brackets [] same told = refl
 same_marks test some others long mode brackets (token ∷ tokens) same told =
     let parts = and_parts (test token) (list_all test tokens) told in
-    ap (λ (s : Symbol). marked_by (step mode (first_of brackets) s) token.at (λ mode change. marks_from some long mode (changed change brackets) tokens)) (same token parts.0)
-    ∙ same_beyond (step mode (first_of brackets) (symbol_of others token.kind)) token.at (λ mode change. marks_from some long mode (changed change brackets) tokens) (λ mode change. marks_from others long mode (changed change brackets) tokens)
-    (λ mode change. same_marks test some others long mode (changed change brackets) tokens same parts.1)
+    ap (λ (s : Symbol). marked_by (step mode (first_of brackets) s) token.at (λ mode change. marks_from some long mode (open_after change brackets) tokens)) (same token parts.0)
+    ∙ same_beyond (step mode (first_of brackets) (symbol_of others token.kind)) token.at (λ mode change. marks_from some long mode (open_after change brackets) tokens) (λ mode change. marks_from others long mode (open_after change brackets) tokens)
+    (λ mode change. same_marks test some others long mode (open_after change brackets) tokens same parts.1)
 
 same_built : (test : PlainToken → Bool) (some others : List Class) (marks : List Mark) (tokens : List PlainToken) → AreSameFor test some others → list_all test tokens ≡ true → built_from some marks tokens ≡ built_from others marks tokens
 unfolding built_from

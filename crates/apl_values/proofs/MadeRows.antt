@@ -11,8 +11,8 @@ use Rattle.apl_meaning.specs.Deeds as plain
 use Rattle.apl_meaning.specs.Naming as plain_names
 use Rattle.apl_meaning.specs.Naming.{naming_count, naming_in, rows_of}
 use Rattle.apl_values.specs.declared.naming.Naming.{Naming}
-use Rattle.apl_values.specs.declared.rows.Row.{Row}
-use Rattle.apl_values.specs.Rows.{PlainRow, plain_naming, plain_row}
+use Rattle.apl_values.specs.declared.rows.NameRow.{NameRow}
+use Rattle.apl_values.specs.Rows.{PlainNameRow, plain_naming, plain_name_row}
 use Rattle.apl_values.proofs.NamingSteps.{namings_more}
 
 lone : (found : Option Naming) → map plain_naming (option_to_list found) ≡ option_to_list (option_map plain_naming found)
@@ -40,16 +40,16 @@ zipped_more : {A B : Type 0} (f : ℕ → B) (names : List A) (a : A) → zip (n
 zipped_more f names a = zipped_from f 0 names a ∙ ap (λ (k : ℕ). zip names (map f (range_with_len 0 (length names))) ++ (a, f k) ∷ []) (let same : 0 + length names ≡ length names = omega arith in same)
 
 -- a row more is made of one name more, by its place
-pub made_more : (deed : ℕ → plain.Deed) (before : List Naming) (names : Naming) (rows after : List Row) (row : Row) → map plain_row rows ≡ zip (map plain_naming before) (map deed (places (length (map plain_naming before))))
-    → after ≡ rows ++ row ∷ [] → plain_row row ≡ (plain_naming names, deed (length before))
-    → map plain_row after ≡ zip (map plain_naming (before ++ names ∷ [])) (map deed (places (length (map plain_naming (before ++ names ∷ [])))))
+pub made_more : (deed : ℕ → plain.Deed) (before : List Naming) (names : Naming) (rows after : List NameRow) (row : NameRow) → map plain_name_row rows ≡ zip (map plain_naming before) (map deed (places (length (map plain_naming before))))
+    → after ≡ rows ++ row ∷ [] → plain_name_row row ≡ (plain_naming names, deed (length before))
+    → map plain_name_row after ≡ zip (map plain_naming (before ++ names ∷ [])) (map deed (places (length (map plain_naming (before ++ names ∷ [])))))
 made_more deed before names rows after row so_far is made =
     let done : List plain_names.Naming = map plain_naming before in
-    let zipped : List PlainRow = zip done (map deed (places (length done))) in
-    ap (map plain_row) is
-    ∙ map-append plain_row rows (row ∷ [])
-    ∙ ap (λ (list : List PlainRow). list ++ plain_row row ∷ []) so_far
-    ∙ ap (λ (one : PlainRow). zipped ++ one ∷ []) made
+    let zipped : List PlainNameRow = zip done (map deed (places (length done))) in
+    ap (map plain_name_row) is
+    ∙ map-append plain_name_row rows (row ∷ [])
+    ∙ ap (λ (list : List PlainNameRow). list ++ plain_name_row row ∷ []) so_far
+    ∙ ap (λ (one : PlainNameRow). zipped ++ one ∷ []) made
     ∙ ap (λ (k : ℕ). zipped ++ (plain_naming names, deed k) ∷ []) (sym (length-map before plain_naming))
     ∙ sym (zipped_more deed done (plain_naming names))
     ∙ ap (λ (list : List plain_names.Naming). zip list (map deed (places (length list)))) (sym (map-append plain_naming before (names ∷ [])))

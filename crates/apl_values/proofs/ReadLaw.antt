@@ -14,8 +14,8 @@ use Rattle.apl_arrays.specs.declared.report.Fail.TheVariants as fail
 use Rattle.apl_arrays.specs.declared.report.Report.{Report}
 use Rattle.apl_workspace.specs.Workspace.{PlainWorkspace}
 use Rattle.apl_meaning.specs.Reading.{classes_of, read_parsed, read_scanned, read_with}
-use Rattle.apl_values.specs.declared.reading.Reading.{Reading}
-use Rattle.apl_values.specs.Parts.{IsNotParsed, IsNotRead, IsPart, IsReadFrom, IsReading, reading_tree, IsTreeOf}
+use Rattle.apl_values.specs.declared.reading.LineReading.{LineReading}
+use Rattle.apl_values.specs.Parts.{IsNotParsed, IsNotRead, IsPart, IsReadFrom, IsLineReading, reading_tree, IsTreeOf}
 
 -- the nodes of a tree that was parsed
 pub tree_again : (classes : List Class) (tokens : List PlainToken) (long : ℕ) (tree : PlainTree) → parsed classes tokens long ≡ Ok tree → as_nodes (line_tree_of tree) ≡ tree
@@ -33,11 +33,11 @@ read_so w text tokens classes length_of tree scanned known long is =
     ∙ ap read_parsed is
 
 -- a line of which this is the tree that was parsed
-pub is_reading : (classes : List Class) (tokens : List PlainToken) (long : ℕ) (tree : PlainTree) (line : Reading) → parsed classes tokens long ≡ Ok tree → reading_tree line ≡ tree → All IsPart line.parts.items → IsReading line
+pub is_reading : (classes : List Class) (tokens : List PlainToken) (long : ℕ) (tree : PlainTree) (line : LineReading) → parsed classes tokens long ≡ Ok tree → reading_tree line ≡ tree → All IsPart line.parts.items → IsLineReading line
 is_reading classes tokens long tree line is made parts = record { parts = parts; tree = ap (λ (t : PlainTree). as_nodes (line_tree_of t)) made ∙ tree_again classes tokens long tree is ∙ sym made }
 
 -- a line that was read from a text
-pub is_read : (w : PlainWorkspace) (text : List ℕ) (tokens : List PlainToken) (classes : List Class) (length_of : ℕ) (tree : PlainTree) (line : Reading) → reading_of text ≡ Ok tokens → classes ≡ classes_of w → length_of ≡ length text → parsed classes tokens length_of ≡ Ok tree
+pub is_read : (w : PlainWorkspace) (text : List ℕ) (tokens : List PlainToken) (classes : List Class) (length_of : ℕ) (tree : PlainTree) (line : LineReading) → reading_of text ≡ Ok tokens → classes ≡ classes_of w → length_of ≡ length text → parsed classes tokens length_of ≡ Ok tree
     → reading_tree line ≡ tree → All IsPart line.parts.items → IsReadFrom w text line
 is_read w text tokens classes length_of tree line scanned known long is made parts = record {
   reading = is_reading classes tokens length_of tree line is made parts;

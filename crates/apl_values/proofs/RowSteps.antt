@@ -1,9 +1,9 @@
 -- Rows that are left, where one more of them is done.
 use Rattle.std.proofs.Common.{◌≡◌, ℕ, zero, suc, ◌+◌, ◌<◌, List, [], ◌∷◌, ◌++◌, length, drop, refl, ap, ◌∙◌, add-one, arith}
 use Rattle.std.specs.Prelude.{ℤ, map, option_map, slice_get}
-use Rattle.apl_values.specs.declared.rows.Row.{Row}
+use Rattle.apl_values.specs.declared.rows.NameRow.{NameRow}
 use Rattle.apl_values.specs.declared.rows.Rows.{Rows}
-use Rattle.apl_values.specs.Rows.{HasTold, plain_row}
+use Rattle.apl_values.specs.Rows.{HasTold, plain_name_row}
 
 -- where some are left, the next one is among all
 pub left_below : {A B : Type 0} (f : A → B) (xs : List A) (at : ℕ) → (map f (drop at xs) ≡ [] → ⊥) → at < length xs
@@ -32,7 +32,7 @@ next_left f (x ∷ xs) (suc at) = next_left f xs at
 -- a row told these numbers
 pub told_one : (before after : Rows) (told : List ℤ) → after.rows.items ≡ before.rows.items → after.at ≡ before.at + 1 → after.numbers.items ≡ before.numbers.items ++ told → after.shape.items ≡ before.shape.items → HasTold before told after
 told_one before after told same at numbers shape = record {
-  rows = ap (λ (rows : List Row). map plain_row (drop after.at rows)) same ∙ ap (λ (k : ℕ). map plain_row (drop k before.rows.items)) at ∙ one_less plain_row before.rows.items before.at;
+  rows = ap (λ (rows : List NameRow). map plain_name_row (drop after.at rows)) same ∙ ap (λ (k : ℕ). map plain_name_row (drop k before.rows.items)) at ∙ one_less plain_name_row before.rows.items before.at;
   numbers = numbers;
   shape = shape;
 }

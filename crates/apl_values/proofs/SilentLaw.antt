@@ -7,8 +7,8 @@ use Rattle.line_trees.specs.Parsing.{PlainTree}
 use Rattle.line_trees.specs.Trees.{Expr, constant, value, niladic, paren, indexed, monadic, monadic_along, dyadic, dyadic_along, assign, assign_at, Statement, nothing, branch, whole, execute, nodes_of_statement, placed}
 use Rattle.apl_meaning.specs.Statements.{is_silent}
 use Rattle.apl_values.specs.declared.part.Part.{Part}
-use Rattle.apl_values.specs.declared.reading.Reading.{Reading}
-use Rattle.apl_values.specs.Parts.{IsReading, begins_silent, is_assignment_node, plain_part, plain_parts, reading_statement}
+use Rattle.apl_values.specs.declared.reading.LineReading.{LineReading}
+use Rattle.apl_values.specs.Parts.{IsLineReading, begins_silent, is_assignment_node, plain_part, plain_parts, reading_statement}
 use Rattle.apl_values.proofs.Found.{last_there}
 
 last_or : List PlainNode → PlainNode → PlainNode
@@ -49,7 +49,7 @@ silent_statement label (whole e) nodes n is = silent_last e [] nodes n is
 silent_statement label (execute e) nodes n is = silent_last e [] nodes n is
 
 -- a line that was read is silent exactly where its last part is an assignment
-pub silent_reading : (reading : Reading) (last : Part) → IsReading reading → slice_get reading.parts.items (length reading.parts.items - 1) ≡ Some last → is_assignment_node (plain_part last) ≡ begins_silent (reading_statement reading)
+pub silent_reading : (reading : LineReading) (last : Part) → IsLineReading reading → slice_get reading.parts.items (length reading.parts.items - 1) ≡ Some last → is_assignment_node (plain_part last) ≡ begins_silent (reading_statement reading)
 silent_reading reading last is e =
     let parts : List Part = reading.parts.items in
     let i : ℕ = length parts - 1 in

@@ -21,7 +21,7 @@ use Rattle.apl_meaning.specs.Statements.{is_silent}
 use Rattle.line_scanner.specs.Token.{PlainToken}
 use Rattle.apl_values.specs.declared.part.Part.{Part}
 use Rattle.apl_values.specs.declared.part.Part.TheVariants as part
-use Rattle.apl_values.specs.declared.reading.Reading.{Reading}
+use Rattle.apl_values.specs.declared.reading.LineReading.{LineReading}
 
 -- the node that a part is
 abbrev pub plain_part : Part → PlainNode
@@ -54,7 +54,7 @@ IsPart (part.Constant array) = IsConstant array
 IsPart (part.Other other) = IsKeptNode (plain_node other)
 
 -- the tree of a line that was read
-abbrev pub reading_tree : Reading → PlainTree
+abbrev pub reading_tree : LineReading → PlainTree
 reading_tree reading = record { label = reading.label; form = reading.form; nodes = plain_parts reading.parts.items }
 
 -- the nodes of a tree are those of the line for which they stand, each once and in the order of evaluation
@@ -62,13 +62,13 @@ abbrev pub IsTree : PlainTree → Type 0
 IsTree tree = as_nodes (line_tree_of tree) ≡ tree
 
 -- what holds of every line that was read
-pub record IsReading (reading : Reading) : Type 0 where
+pub record IsLineReading (reading : LineReading) : Type 0 where
   pub parts : All IsPart reading.parts.items
   pub tree : IsTree (reading_tree reading)
 
 -- this text was read so, with the classes of this workspace
-pub record IsReadFrom (w : PlainWorkspace) (text : List ℕ) (line : Reading) : Type 0 where
-  pub reading : IsReading line
+pub record IsReadFrom (w : PlainWorkspace) (text : List ℕ) (line : LineReading) : Type 0 where
+  pub reading : IsLineReading line
   pub tree : read_with w text ≡ Ok (line_tree_of (reading_tree line))
 
 -- why a text was not read: by this report, or memory ran out
@@ -107,7 +107,7 @@ begins_silent (whole e) = is_silent e
 begins_silent (execute e) = is_silent e
 
 -- the statement of a line that was read
-abbrev pub reading_statement : Reading → Statement
+abbrev pub reading_statement : LineReading → Statement
 reading_statement reading = (line_tree_of (reading_tree reading)).statement
 
 -- a node is a pair of parentheses

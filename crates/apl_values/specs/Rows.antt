@@ -15,7 +15,7 @@ use Rattle.apl_meaning.specs.Naming as plain_names
 use Rattle.apl_values.specs.declared.naming.Naming.{Naming}
 use Rattle.apl_values.specs.declared.rows.Deed.{Deed}
 use Rattle.apl_values.specs.declared.rows.Deed.TheVariants as deed
-use Rattle.apl_values.specs.declared.rows.Row.{Row}
+use Rattle.apl_values.specs.declared.rows.NameRow.{NameRow}
 use Rattle.apl_values.specs.declared.rows.Rows.{Rows}
 
 -- the names of a row
@@ -32,19 +32,19 @@ plain_deed deed.AskState = plain.ask_state
 plain_deed deed.Retract = plain.retract
 
 -- a row and what is done for it
-abbrev pub PlainRow : Type 0
-PlainRow = plain_names.Naming × plain.Deed
+abbrev pub PlainNameRow : Type 0
+PlainNameRow = plain_names.Naming × plain.Deed
 
 -- a row and what is done for it
-abbrev pub plain_row : Row → PlainRow
-plain_row row = (plain_naming row.names, plain_deed row.deed)
+abbrev pub plain_name_row : NameRow → PlainNameRow
+plain_name_row row = (plain_naming row.names, plain_deed row.deed)
 
 -- the rows that are left, the next one first
-abbrev pub rows_left : Rows → List PlainRow
-rows_left rows = map plain_row (drop rows.at rows.rows.items)
+abbrev pub rows_left : Rows → List PlainNameRow
+rows_left rows = map plain_name_row (drop rows.at rows.rows.items)
 
 -- what is still to come of rows behind the numbers of those that are done: the numbers of all, in an array of this shape
-abbrev pub rest_of_rows : List ℤ → List PlainRow → List ℕ → State → Outcome Found
+abbrev pub rest_of_rows : List ℤ → List PlainNameRow → List ℕ → State → Outcome Found
 rest_of_rows numbers rows shape s = and_then (done_for_all rows s) (λ others t. gives (Some (number_array shape (numbers ++ others))) t)
 
 -- the act that is asked for a row
@@ -57,7 +57,7 @@ deed_act plain.ask_state names w = act.AskState names.local
 deed_act plain.retract names w = act.Retract names.local
 
 -- the act that is asked for the first of these rows; where none is left, no act is open
-abbrev pub rows_act : List PlainRow → PlainWorkspace → Act
+abbrev pub rows_act : List PlainNameRow → PlainWorkspace → Act
 rows_act [] w = act.AskParties
 rows_act (row ∷ rows) w = deed_act row.1 row.0 w
 
@@ -89,7 +89,7 @@ row_zeros plain.ask_state = zeros
 row_zeros plain.retract = pos 0 ∷ []
 
 -- what the answer of the first row brings: its numbers, and then the rows that follow
-abbrev pub rows_brought : List ℤ → List PlainRow → List ℕ → PlainAnswer → State → Outcome Found
+abbrev pub rows_brought : List ℤ → List PlainNameRow → List ℕ → PlainAnswer → State → Outcome Found
 rows_brought numbers [] shape answer s = rest_of_rows numbers [] shape s
 rows_brought numbers (row ∷ rows) shape answer s =
     rest_of_rows (numbers ++ row_numbers row.1 answer) rows shape (record s { workspace = row_done row.1 row.0 answer s.workspace })
@@ -104,7 +104,7 @@ MayBeDone w plain.ask_state names = Unit {0}
 MayBeDone w plain.retract names = Unit {0}
 
 -- a row may be done
-abbrev pub RowMayBeDone : PlainWorkspace → PlainRow → Type 0
+abbrev pub RowMayBeDone : PlainWorkspace → PlainNameRow → Type 0
 RowMayBeDone w row = MayBeDone w row.1 row.0
 
 -- it is an offer
@@ -117,16 +117,16 @@ is_offer plain.ask_state = false
 is_offer plain.retract = false
 
 -- a row asks an act: an offer does, and any other one whose name is shared
-abbrev pub asks_act : PlainWorkspace → PlainRow → Bool
+abbrev pub asks_act : PlainWorkspace → PlainNameRow → Bool
 asks_act w row = is_offer row.1 || is_shared w row.0.local
 
 -- the first of these rows asks an act
-abbrev pub FirstAsksAct : PlainWorkspace → List PlainRow → Type 0
+abbrev pub FirstAsksAct : PlainWorkspace → List PlainNameRow → Type 0
 FirstAsksAct w [] = ⊥
 FirstAsksAct w (row ∷ rows) = asks_act w row ≡ true
 
 -- how many numbers rows tell
-abbrev pub count_told : List PlainRow → ℕ
+abbrev pub count_told : List PlainNameRow → ℕ
 count_told rows = sum_by (λ row. length (row_zeros row.1)) rows
 
 -- what holds of rows, done and left: each may be done, and the numbers of all make an array of the shape

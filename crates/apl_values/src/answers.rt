@@ -7,7 +7,7 @@ ghost use Rattle.apl_meaning.specs.Answers.{report_of_kind};
 use apl_arrays::{Array, Report};
 use sv_events::{Answer, AnswerKind};
 
-/// The value of an answer; VALUE ERROR where it has none. No memory.
+/// The value of an answer; VALUE ERROR where it has none.
 pub fn value_in(answer: Answer) -> Result<Array, Report>
     ensures { result ≡ ok_or (answer_row (plain_answer answer)).value report.Value }
 {
@@ -18,7 +18,7 @@ pub fn value_in(answer: Answer) -> Result<Array, Report>
     }
 }
 
-/// The report by which an answer ends the line, if it does. No memory.
+/// The report by which an answer ends the line, if it does.
 pub fn report_of(kind: AnswerKind) -> Option<Report>
     ensures { result ≡ report_of_kind kind }
 {

@@ -14,7 +14,7 @@ pub struct Naming {
     pub surrogate: Name,
 }
 
-/// The one or two names that a row holds, if it does. No memory.
+/// The one or two names that a row holds, if it does.
 pub fn naming_in(row: &[Glyph]) -> Option<Naming>
     ensures { option_map plain_naming result ≡ naming_in row.now }
 {
@@ -40,14 +40,14 @@ fn naming_of(local: &[Glyph], surrogate: &[Glyph]) -> Option<Naming>
     Some(Naming { local, surrogate })
 }
 
-/// Whether an array is a matrix, so that each row has its own result. No memory.
+/// Whether an array is a matrix, so that each row has its own result.
 pub fn has_rows(n: &Array) -> bool
     ensures { result ≡ has_rows n.now }
 {
     n.shape().len() == 2
 }
 
-/// How many rows it has; a scalar or a vector is one. No memory.
+/// How many rows it has; a scalar or a vector is one.
 pub fn naming_count(n: &Array) -> usize
     ensures { result ≡ naming_count n.now }
 {
@@ -82,7 +82,7 @@ fn row_at(n: &Array, row: usize) -> &[Glyph]
     &rest[..rest.len().min(columns)]
 }
 
-/// Whether each row holds one or two names. No memory.
+/// Whether each row holds one or two names.
 #[tactic(auto, using(crate::proofs::NamingSteps::named_more, crate::proofs::NamingSteps::one_unnamed, crate::proofs::NamingSteps::all_named))]
 pub fn names_all(n: &Array) -> bool
     ensures { result ≡ not (list_any (λ row. is_none (naming_in row)) (rows_of n.now)) }

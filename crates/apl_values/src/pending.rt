@@ -2,11 +2,11 @@ ghost use Rattle.std.specs.Prelude.{◌≡◌, IfOk, IsSome, option_map, option_
 ghost use Rattle.std.specs.Option.{option_copied};
 ghost use Rattle.apl_workspace.specs.Workspace.{global_in};
 ghost use Rattle.apl_meaning.specs.Deeds.{value_of};
-ghost use Rattle.apl_values.specs.Pending.{IsPending, act_of, plain_pending};
-ghost use Rattle.apl_values.specs.Rows.{deed_act, plain_deed, plain_naming, plain_row, rows_act};
+ghost use Rattle.apl_values.specs.Pending.{IsPending, act_for_purpose, plain_act_purpose};
+ghost use Rattle.apl_values.specs.Rows.{deed_act, plain_deed, plain_naming, plain_name_row, rows_act};
 
 use crate::naming::Naming;
-use crate::rows::{Deed, Row, Rows};
+use crate::rows::{Deed, NameRow, Rows};
 use apl_arrays::{Array, Name, WantOfMemory};
 use apl_selection::Subs;
 use apl_workspace::{Seen, Workspace};
@@ -15,7 +15,7 @@ use sv_events::{Act, copy_value};
 
 /// What an open act is for.
 #[derive(Debug, Drop)]
-pub enum Pending {
+pub enum ActPurpose {
     /// A reference to a shared name.
     Refers(Name),
     /// A set of a shared name; behind it another value is given where there is one.
@@ -36,34 +36,38 @@ pub enum Pending {
     Names(u32),
 }
 
-impl Pending {
+impl ActPurpose {
     /// The act that is open. It takes memory for its value.
     pub fn act(&self, alloc: Global, workspace: &Workspace) -> Result<Act, WantOfMemory>
         requires { IsPending workspace.now self.now }
-        ensures { IfOk result (λ act. act ≡ act_of (plain_pending self.now) workspace.now) }
+        ensures { IfOk result (λ act. act ≡ act_for_purpose (plain_act_purpose self.now) workspace.now) }
     {
         match self {
-            Pending::Refers(name) => Ok(Act::Use(*name)),
-            Pending::Sets { name, value, .. } => Ok(Act::Set(*name, value.copy(alloc)?)),
-            Pending::Replaces { name, .. } => Ok(Act::Use(*name)),
-            Pending::Row(rows) => act_of_row(alloc, rows.next(), workspace),
-            Pending::Parties => Ok(Act::AskParties),
-            Pending::Names(party) => Ok(Act::AskNames(*party)),
+            ActPurpose::Refers(name) => Ok(Act::Use(*name)),
+            ActPurpose::Sets { name, value, .. } => Ok(Act::Set(*name, value.copy(alloc)?)),
+            ActPurpose::Replaces { name, .. } => Ok(Act::Use(*name)),
+            ActPurpose::Row(rows) => act_of_row(alloc, rows.next(), workspace),
+            ActPurpose::Parties => Ok(Act::AskParties),
+            ActPurpose::Names(party) => Ok(Act::AskNames(*party)),
         }
     }
 }
 
 /// What an act is for, in a place of its own. It takes memory for it.
-pub fn boxed(alloc: Global, pending: Pending) -> Result<Box<Pending>, WantOfMemory>
+pub fn boxed(alloc: Global, pending: ActPurpose) -> Result<Box<ActPurpose>, WantOfMemory>
     ensures { IfOk result (λ boxed. boxed.value ≡ pending) }
 {
     Ok(Box::new(alloc, pending)?)
 }
 
 // The act of a row.
-fn act_of_row(alloc: Global, row: Option<Row>, workspace: &Workspace) -> Result<Act, WantOfMemory>
+fn act_of_row(
+    alloc: Global,
+    row: Option<NameRow>,
+    workspace: &Workspace,
+) -> Result<Act, WantOfMemory>
     requires { IsSome row }
-    ensures { IfOk result (λ act. act ≡ rows_act (option_to_list (option_map plain_row row)) workspace.now) }
+    ensures { IfOk result (λ act. act ≡ rows_act (option_to_list (option_map plain_name_row row)) workspace.now) }
 {
     match row {
         Some(row) => act_of_deed(alloc, row.names, row.deed, workspace),
@@ -95,7 +99,7 @@ fn act_of_deed(
     }
 }
 
-/// The value that a global name has, shared or not. No memory.
+/// The value that a global name has, shared or not.
 pub fn global_value<'a>(workspace: &'a Workspace, name: &Name) -> Option<&'a Array>
     ensures { option_copied result ≡ value_of (global_in workspace.now name.now) }
 {

@@ -12,21 +12,21 @@ pub enum Place {
 }
 
 impl Place {
-    /// Whether a label may stand before the statement. No memory.
+    /// Whether a label may stand before the statement.
     pub fn may_be_labelled(self) -> bool
         ensures { result ≡ may_be_labelled (plain_place self) }
     {
         matches!(self, Place::InFunction)
     }
 
-    /// Whether the statement may branch. No memory.
+    /// Whether the statement may branch.
     pub fn may_branch(self) -> bool
         ensures { result ≡ may_branch (plain_place self) }
     {
         matches!(self, Place::InFunction | Place::TextInFunction)
     }
 
-    /// Where a text stands that the statement executes. No memory.
+    /// Where a text stands that the statement executes.
     pub fn of_text(self) -> Place
         ensures { plain_place result ≡ place_of_text (plain_place self) }
     {

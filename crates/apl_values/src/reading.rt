@@ -6,7 +6,7 @@ ghost use Rattle.line_trees.specs.Trees.{line_tree_of};
 ghost use Rattle.apl_meaning.specs.Reading.{classes_of, read_with};
 ghost use Rattle.apl_meaning.specs.Statements.{is_misplaced};
 ghost use Rattle.apl_values.specs.Places.{plain_place};
-ghost use Rattle.apl_values.specs.Parts.{IsTreeOf, IsNotParsed, IsNotRead, IsNotScanned, IsPart, IsReadFrom, IsReading, begins_silent, is_assignment_node, parse_failure, plain_part, plain_parts, reading_statement, reading_tree, scan_failure};
+ghost use Rattle.apl_values.specs.Parts.{IsTreeOf, IsNotParsed, IsNotRead, IsNotScanned, IsPart, IsReadFrom, IsLineReading, begins_silent, is_assignment_node, parse_failure, plain_part, plain_parts, reading_statement, reading_tree, scan_failure};
 
 use crate::classing::classes_for;
 use crate::part::Part;
@@ -19,27 +19,27 @@ use std::alloc::Global;
 
 /// A line that was read: its label, its form, and the parts of its expression in the order of evaluation.
 #[derive(Debug, Drop)]
-pub struct Reading {
+pub struct LineReading {
     pub label: Option<Name>,
     pub form: Form,
     pub parts: Vec<Part>,
 }
 
-impl Reading {
+impl LineReading {
     /// The reading of a tree. It takes memory for the parts.
-    pub fn of(alloc: Global, tree: Tree) -> Result<Reading, WantOfMemory>
+    pub fn of(alloc: Global, tree: Tree) -> Result<LineReading, WantOfMemory>
         ensures tree { IfOk result (λ reading. reading_tree reading ≡ plain_tree tree) }
         ensures parts { IfOk result (λ reading. All IsPart reading.parts.items) }
     {
         let Tree { label, form, nodes } = tree;
-        Ok(Reading {
+        Ok(LineReading {
             label,
             form,
             parts: parts_of(alloc, nodes.into_vec())?,
         })
     }
 
-    /// Whether the line may not stand at the place. No memory.
+    /// Whether the line may not stand at the place.
     pub fn is_misplaced(&self, place: Place) -> bool
         ensures { result ≡ is_misplaced (plain_place place) (line_tree_of (reading_tree self.now)) }
     {
@@ -47,9 +47,9 @@ impl Reading {
             || (matches!(self.form, Form::Branch(_)) && !place.may_branch())
     }
 
-    /// Whether the expression begins with a target and an arrow. No memory.
+    /// Whether the expression begins with a target and an arrow.
     pub fn is_silent(&self) -> bool
-        requires { IsReading self.now }
+        requires { IsLineReading self.now }
         ensures { result ≡ begins_silent (reading_statement self.now) }
     {
         match self.parts.last() {
@@ -84,12 +84,12 @@ fn parts_of(alloc: Global, nodes: Vec<Node>) -> Result<Vec<Part>, WantOfMemory>
 
 /// The reading of a text, with the classes of this moment: CHARACTER ERROR where a glyph stands that no token has, else
 /// SYNTAX ERROR where the text is no statement. It takes memory for tokens, classes and parts.
-pub fn read(alloc: Global, workspace: &Workspace, text: &Line) -> Result<Reading, Fail>
+pub fn read(alloc: Global, workspace: &Workspace, text: &Line) -> Result<LineReading, Fail>
     ensures read { IfOk result (IsReadFrom workspace.now text.now.items) }
     ensures refused { IfErr result (IsNotRead (read_with workspace.now text.now.items)) }
 {
     let tree = tree_of(alloc, workspace, text)?;
-    Ok(Reading::of(alloc, tree)?)
+    Ok(LineReading::of(alloc, tree)?)
 }
 
 // The tree of a text, with the classes of this moment: CHARACTER ERROR where a glyph stands that no token has, else SYNTAX

@@ -2,7 +2,7 @@ ghost use Rattle.std.specs.Prelude.{◌≡◌, ◌≢◌, ◌∷◌, [], IfOk, O
 ghost use Rattle.apl_arrays.specs.Array.{FitsLimits, element_count, number_array};
 ghost use Rattle.apl_meaning.specs.Deeds.{control_elements};
 ghost use Rattle.apl_meaning.specs.Naming.{result_shape};
-ghost use Rattle.apl_values.specs.Rows.{HasTold, plain_deed, plain_row, row_zeros, rows_left};
+ghost use Rattle.apl_values.specs.Rows.{HasTold, plain_deed, plain_name_row, row_zeros, rows_left};
 
 use crate::naming::{Naming, has_rows};
 use apl_arrays::{Array, Items, List, NumberList, WantOfMemory};
@@ -22,7 +22,7 @@ pub enum Deed {
 }
 
 impl Deed {
-    /// How many numbers it tells. No memory.
+    /// How many numbers it tells.
     pub fn width(self) -> usize
         ensures { result ≡ length (row_zeros (plain_deed self)) }
     {
@@ -35,7 +35,7 @@ impl Deed {
 
 /// A row of names, and what is done for it.
 #[derive(Clone, Copy, Debug, PartialEq, Eq)]
-pub struct Row {
+pub struct NameRow {
     pub names: Naming,
     pub deed: Deed,
 }
@@ -43,7 +43,7 @@ pub struct Row {
 /// Rows of names: those that are left from a place on, the numbers of those that are done, and the shape of the result.
 #[derive(Debug, Drop)]
 pub struct Rows {
-    pub rows: Vec<Row>,
+    pub rows: Vec<NameRow>,
     pub at: usize,
     pub numbers: List<i64>,
     pub shape: Vec<u32>,
@@ -51,8 +51,13 @@ pub struct Rows {
 
 impl Rows {
     /// Rows of which none is done. It takes memory for the shape of the result.
-    pub fn new(alloc: Global, rows: Vec<Row>, n: &Array, each: &[u32]) -> Result<Rows, WantOfMemory>
-        ensures rows { IfOk result (λ made. rows_left made ≡ map plain_row rows.items) }
+    pub fn new(
+        alloc: Global,
+        rows: Vec<NameRow>,
+        n: &Array,
+        each: &[u32],
+    ) -> Result<Rows, WantOfMemory>
+        ensures rows { IfOk result (λ made. rows_left made ≡ map plain_name_row rows.items) }
         ensures numbers { IfOk result (λ made. made.numbers.items ≡ []) }
         ensures shape { IfOk result (λ made. made.shape.items ≡ result_shape n.now each.now) }
     {
@@ -64,9 +69,9 @@ impl Rows {
         })
     }
 
-    /// The row that is next. No memory.
-    pub fn next(&self) -> Option<Row>
-        ensures row { option_map plain_row result ≡ slice_get (rows_left self.now) 0 }
+    /// The row that is next.
+    pub fn next(&self) -> Option<NameRow>
+        ensures row { option_map plain_name_row result ≡ slice_get (rows_left self.now) 0 }
     {
         self.rows.get(self.at).copied()
     }

@@ -3,7 +3,7 @@ ghost use Rattle.std.specs.Option.{option_copied};
 ghost use Rattle.apl_workspace.specs.Seen.{plain_seen};
 ghost use Rattle.apl_workspace.specs.Workspace.{look};
 ghost use Rattle.apl_meaning.specs.Deeds.{value_of};
-ghost use Rattle.apl_values.specs.Values.{IsHeld, NameHasValue, constant_of, held_value, no_array, settled};
+ghost use Rattle.apl_values.specs.Values.{IsStackValue, NameHasValue, constant_of, stack_value, no_array, settled};
 
 use crate::part::Part;
 use apl_arrays::{Array, Name, WantOfMemory};
@@ -13,21 +13,21 @@ use std::alloc::Global;
 /// A value that no part has taken yet: an array that was made, a constant by the place of its part, or the value that a
 /// name has now.
 #[derive(Debug, Drop)]
-pub enum Held {
+pub enum StackValue {
     Made(Array),
     Constant(usize),
     Named(Name),
 }
 
-/// The array that a value is. No memory.
-pub fn array_of<'a>(held: &'a Held, parts: &'a [Part], workspace: &'a Workspace) -> &'a Array
-    requires { IsHeld workspace.now parts.now held.now }
-    ensures { result.now ≡ held_value workspace.now parts.now held.now }
+/// The array that a value is.
+pub fn array_of<'a>(held: &'a StackValue, parts: &'a [Part], workspace: &'a Workspace) -> &'a Array
+    requires { IsStackValue workspace.now parts.now held.now }
+    ensures { result.now ≡ stack_value workspace.now parts.now held.now }
 {
     match held {
-        Held::Made(array) => array,
-        Held::Constant(at) => constant_at(parts, *at),
-        Held::Named(name) => value_of(workspace, name),
+        StackValue::Made(array) => array,
+        StackValue::Constant(at) => constant_at(parts, *at),
+        StackValue::Named(name) => value_of(workspace, name),
     }
 }
 
@@ -67,24 +67,24 @@ fn value_seen<'a>(seen: Seen<'a>) -> Option<&'a Array>
 /// The array that a value is, as an array of its own. One that was made is moved; any other takes memory for its items.
 pub fn owned(
     alloc: Global,
-    held: Held,
+    held: StackValue,
     parts: &[Part],
     workspace: &Workspace,
 ) -> Result<Array, WantOfMemory>
-    requires { IsHeld workspace.now parts.now held }
-    ensures { IfOk result (λ array. array ≡ held_value workspace.now parts.now held) }
+    requires { IsStackValue workspace.now parts.now held }
+    ensures { IfOk result (λ array. array ≡ stack_value workspace.now parts.now held) }
 {
     match held {
-        Held::Made(array) => Ok(array),
-        Held::Constant(at) => constant_at(parts, at).copy(alloc),
-        Held::Named(name) => value_of(workspace, &name).copy(alloc),
+        StackValue::Made(array) => Ok(array),
+        StackValue::Constant(at) => constant_at(parts, at).copy(alloc),
+        StackValue::Named(name) => value_of(workspace, &name).copy(alloc),
     }
 }
 
 /// Makes an array of each value that a name has, before the workspace changes. It takes memory for their items.
 pub fn settle(
     alloc: Global,
-    values: &mut Vec<Held>,
+    values: &mut Vec<StackValue>,
     workspace: &Workspace,
 ) -> Result<(), WantOfMemory>
     requires { All (NameHasValue workspace.now) values.old.items }
@@ -97,13 +97,17 @@ pub fn settle(
 }
 
 // Makes an array of a value that a name has.
-fn settle_one(alloc: Global, value: &mut Held, workspace: &Workspace) -> Result<(), WantOfMemory>
+fn settle_one(
+    alloc: Global,
+    value: &mut StackValue,
+    workspace: &Workspace,
+) -> Result<(), WantOfMemory>
     requires { NameHasValue workspace.now value.old }
     ensures { OnOk result (value.new ≡ settled workspace.now value.old) }
 {
-    if let Held::Named(name) = value {
+    if let StackValue::Named(name) = value {
         let array = value_of(workspace, name).copy(alloc)?;
-        *value = Held::Made(array);
+        *value = StackValue::Made(array);
     }
     Ok(())
 }

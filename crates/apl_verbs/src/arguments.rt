@@ -3,7 +3,7 @@ ghost use Rattle.apl_verbs.specs.Arguments.{is_dyadic, mix1_takes_axis, mix2_tak
 
 use crate::verb::{Mix1, Mix2, Verb};
 
-/// Whether a function takes two arguments. No memory.
+/// Whether a function takes two arguments.
 pub fn is_dyadic(verb: Verb) -> bool
     ensures { result ≡ is_dyadic verb }
 {
@@ -30,7 +30,7 @@ fn mix2_takes_axis(function: Mix2) -> bool
     )
 }
 
-/// Whether an axis may stand behind the function. No memory.
+/// Whether an axis may stand behind the function.
 pub fn verb_takes_axis(verb: Verb) -> bool
     ensures { result ≡ verb_takes_axis verb }
 {

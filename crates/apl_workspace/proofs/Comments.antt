@@ -8,14 +8,14 @@ use Rattle.apl_arrays.specs.Name.{goes_on}
 use Rattle.apl_arrays.proofs.Names.{name_goes_on}
 use Rattle.line_scanner.specs.Token.{PlainKind, numbers, chars, name, system, sign, PlainToken}
 use Rattle.line_scanner.specs.Grammar.{IsTokenText, TokensNext}
-use Rattle.apl_workspace.specs.declared.symbol.Symbol.{Symbol}
-use Rattle.apl_workspace.specs.declared.symbol.Symbol.TheVariants.{Word, Arrow, Semicolon, Other}
+use Rattle.apl_workspace.specs.declared.symbol.HeaderSymbol.{HeaderSymbol}
+use Rattle.apl_workspace.specs.declared.symbol.HeaderSymbol.TheVariants.{Word, Arrow, Semicolon, Other}
 use Rattle.apl_workspace.specs.Header.{PlainHeader, header_symbol, symbols_of, is_lamp}
 use Rattle.apl_workspace.specs.Grammar.{header_kinds}
 use Rattle.apl_workspace.proofs.Symbols.{result_symbols, name_symbols, local_symbols, header_symbols, kind_of, header_kinds_symbols}
 
 -- a symbol that no header has
-abbrev pub is_other : Symbol → Bool
+abbrev pub is_other : HeaderSymbol → Bool
 is_other (Word glyphs) = false
 is_other Arrow = false
 is_other Semicolon = false
@@ -35,11 +35,11 @@ locals_plain : (locals : List (List ℕ)) → list_any is_other (local_symbols l
 locals_plain [] = refl
 locals_plain (local ∷ locals) = locals_plain locals
 
-name_plain : (glyphs : Option (List ℕ)) (more : List Symbol) → list_any is_other more ≡ false → list_any is_other (name_symbols glyphs ++ more) ≡ false
+name_plain : (glyphs : Option (List ℕ)) (more : List HeaderSymbol) → list_any is_other more ≡ false → list_any is_other (name_symbols glyphs ++ more) ≡ false
 name_plain None more e = e
 name_plain (Some glyphs) more e = e
 
-result_plain : (result : Option (List ℕ)) (more : List Symbol) → list_any is_other more ≡ false → list_any is_other (result_symbols result ++ more) ≡ false
+result_plain : (result : Option (List ℕ)) (more : List HeaderSymbol) → list_any is_other more ≡ false → list_any is_other (result_symbols result ++ more) ≡ false
 result_plain None more e = e
 result_plain (Some result) more e = e
 
@@ -74,7 +74,7 @@ kinds_of tokens = map (λ token. token.kind) tokens
 
 symbols_by_kinds : (tokens : List PlainToken) → symbols_of tokens ≡ map header_symbol (kinds_of tokens)
 symbols_by_kinds [] = refl
-symbols_by_kinds (token ∷ tokens) = ap (λ (rest : List Symbol). header_symbol token.kind ∷ rest) (symbols_by_kinds tokens)
+symbols_by_kinds (token ∷ tokens) = ap (λ (rest : List HeaderSymbol). header_symbol token.kind ∷ rest) (symbols_by_kinds tokens)
 
 -- tokens of a header have its symbols
 pub symbols_from_kinds : (tokens : List PlainToken) (header : PlainHeader) → kinds_of tokens ≡ header_kinds header → symbols_of tokens ≡ header_symbols header

@@ -8,7 +8,7 @@ use Rattle.std.proofs.lemmas.List.{length-map, map-append, take_more}
 use Rattle.apl_arrays.specs.List.{Listed, glyphs_in}
 use Rattle.apl_arrays.specs.Name.{same_name}
 use Rattle.apl_workspace.specs.declared.label.LabelledLine.{LabelledLine}
-use Rattle.apl_workspace.specs.Label.{AreLabels, label_of, labelled_line, line_among, this_or_later, with_line}
+use Rattle.apl_workspace.specs.Label.{AreLabels, label_of, labelled_line, line_among, this_or_later, with_label}
 use Rattle.apl_workspace.specs.Names.{all_differ}
 use Rattle.apl_workspace.proofs.NameLaw.{differ_push, equal_names, name_flips}
 
@@ -79,7 +79,7 @@ line_more : (b : Bool) (labels : List LabelledLine) (label name : List ℕ) (num
 line_more true labels label name number there = covered (same_name label name) labels label name number refl there
 line_more false labels label name number absent = among_last labels (record { label = label; line = number }) name
 
-found_more : (labels : List LabelledLine) (label : Option (List ℕ)) (number : ℕ) (name : List ℕ) → line_among (with_line labels label number) name ≡ option_or (line_among labels name) (this_or_later label name number None)
+found_more : (labels : List LabelledLine) (label : Option (List ℕ)) (number : ℕ) (name : List ℕ) → line_among (with_label labels label number) name ≡ option_or (line_among labels name) (this_or_later label name number None)
 found_more labels None number name = sym (none_or (line_among labels name))
 found_more labels (Some label) number name = line_more (is_some (line_among labels label)) labels label name number refl
 
@@ -90,7 +90,7 @@ differ_by false labels label number absent h =
     ap all_differ (map-append (λ (labelled : LabelledLine). labelled.label) labels (record { label = label; line = number } ∷ []))
     ∙ differ_push (names_of_labels labels) label h (is_among labels label ∙ absent)
 
-differ_more : (labels : List LabelledLine) (label : Option (List ℕ)) (number : ℕ) → all_differ (names_of_labels labels) ≡ true → all_differ (names_of_labels (with_line labels label number)) ≡ true
+differ_more : (labels : List LabelledLine) (label : Option (List ℕ)) (number : ℕ) → all_differ (names_of_labels labels) ≡ true → all_differ (names_of_labels (with_label labels label number)) ≡ true
 differ_more labels None number h = h
 differ_more labels (Some label) number h = differ_by (is_some (line_among labels label)) labels label number refl h
 
@@ -100,7 +100,7 @@ pub no_labels : AreLabels [] []
 unfolding all_differ
 no_labels = record { first = λ name. refl; differ = refl }
 
-more_labels : (lines : List (List ℕ)) (last : List ℕ) (labels : List LabelledLine) → AreLabels lines labels → AreLabels (lines ++ last ∷ []) (with_line labels (label_of last) (length lines + 1))
+more_labels : (lines : List (List ℕ)) (last : List ℕ) (labels : List LabelledLine) → AreLabels lines labels → AreLabels (lines ++ last ∷ []) (with_label labels (label_of last) (length lines + 1))
 more_labels lines last labels h = record {
   first = λ name.
       found_more labels (label_of last) (length lines + 1) name ∙ ap (λ (o : Option ℕ). option_or o (this_or_later (label_of last) name (length lines + 1) None)) (h.first name)
@@ -110,7 +110,7 @@ more_labels lines last labels h = record {
 
 -- the labels with one line more
 pub labels_on : (lines : List (Listed ℕ)) (i number : ℕ) (line : Listed ℕ) (before after : List LabelledLine) → i < length lines → line ≡ get_or lines i line → number ≡ i + 1
-    → after ≡ with_line before (label_of (glyphs_in line)) number → AreLabels (map glyphs_in (take i lines)) before → AreLabels (map glyphs_in (take (i + 1) lines)) after
+    → after ≡ with_label before (label_of (glyphs_in line)) number → AreLabels (map glyphs_in (take i lines)) before → AreLabels (map glyphs_in (take (i + 1) lines)) after
 labels_on lines i number line before after lt is counted put h =
     let front = map glyphs_in (take i lines) in
     let whole : front ++ glyphs_in line ∷ [] ≡ map glyphs_in (take (i + 1) lines) =
@@ -118,5 +118,5 @@ labels_on lines i number line before after lt is counted put h =
     let count : length front + 1 ≡ number = omega (arith, length-map (take i lines) glyphs_in, length-take i lines, lt, counted) in
     subst (λ (all : List (List ℕ)). AreLabels all after) whole
     (subst (λ (labels : List LabelledLine). AreLabels (front ++ glyphs_in line ∷ []) labels)
-    (ap (with_line before (label_of (glyphs_in line))) count ∙ sym put)
+    (ap (with_label before (label_of (glyphs_in line))) count ∙ sym put)
     (more_labels front (glyphs_in line) before h))

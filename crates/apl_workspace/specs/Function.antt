@@ -46,6 +46,6 @@ abbrev pub function_weight : PlainFunction → ℕ
 function_weight function = 1 + length function.text + lines_weight function.lines
 
 -- what a function keeps beside its text, its header and its lines: its labels, and its weight or one more than a workspace may weigh
-pub record IsKept (function : PlainFunction) (labels : List LabelledLine) (weight : ℕ) : Type 0 where
+pub record KeepsLabelsAndWeight (function : PlainFunction) (labels : List LabelledLine) (weight : ℕ) : Type 0 where
   pub first : AreLabels function.lines labels
   pub counted : weight ≡ min (function_weight function) (most_weight + 1)

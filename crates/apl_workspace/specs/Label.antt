@@ -47,9 +47,9 @@ line_among [] name = None
 line_among (labelled ∷ labels) name = if same_name labelled.label name then Some labelled.line else line_among labels name
 
 -- labels with that of a line more, where the line has one that is not among them
-abbrev pub with_line : List LabelledLine → Option (List ℕ) → ℕ → List LabelledLine
-with_line labels None number = labels
-with_line labels (Some label) number = if is_some (line_among labels label) then labels else labels ++ record { label = label; line = number } ∷ []
+abbrev pub with_label : List LabelledLine → Option (List ℕ) → ℕ → List LabelledLine
+with_label labels None number = labels
+with_label labels (Some label) number = if is_some (line_among labels label) then labels else labels ++ record { label = label; line = number } ∷ []
 
 -- all labels of these lines, each once, with the first line that has it
 pub record AreLabels (lines : List (List ℕ)) (labels : List LabelledLine) : Type 0 where

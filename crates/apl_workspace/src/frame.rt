@@ -91,7 +91,7 @@ fn put_labels(names: &mut Table, labels: &[LabelledLine]) -> Result<(), WantOfMe
 }
 
 /// A name of a frame stands for the first line that has it as its label; where none has, for what the header makes of it.
-/// The call does nothing. No memory.
+/// The call does nothing.
 pub fn labels_hide_names()
     ensures { (function : PlainFunction) (args : Args) (name : ListOf ℕ) → meaning_in (frame_of function args) name
         ≡ option_or (option_map Meaning.Label (labelled_line 1 function.lines name)) (meaning_in (header_names function.header args) name) }

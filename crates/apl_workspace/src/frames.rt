@@ -8,7 +8,7 @@ use crate::Meaning;
 use crate::table::Table;
 use apl_arrays::{Fail, Name};
 
-/// What a name stands for in the innermost frame that has it: the last one. No memory.
+/// What a name stands for in the innermost frame that has it: the last one.
 #[tactic(auto, using(crate::proofs::Innermost::innermost_found, crate::proofs::Innermost::innermost_goes_on))]
 pub fn innermost<'a>(frames: &'a [Table], name: &Name) -> Option<&'a Meaning>
     ensures value { option_copied result ≡ innermost (reverse frames.entry.now) name.now }
@@ -25,7 +25,7 @@ pub fn innermost<'a>(frames: &'a [Table], name: &Name) -> Option<&'a Meaning>
     None
 }
 
-/// The place of the innermost frame that has the name. No memory.
+/// The place of the innermost frame that has the name.
 #[tactic(auto, using(crate::proofs::Innermost::place_found, crate::proofs::Innermost::place_goes_on, crate::proofs::Innermost::no_place))]
 pub fn innermost_place(frames: &[Table], name: &Name) -> Option<usize>
     ensures inside { IfSome result (λ at. at < length frames.now) }
@@ -43,7 +43,7 @@ pub fn innermost_place(frames: &[Table], name: &Name) -> Option<usize>
 }
 
 /// Puts what a name stands for into the frame at a place, the innermost that has the name, and answers what all frames
-/// weigh then. `WsFull` where they would weigh more than they may; it leaves them as they were. No memory.
+/// weigh then. `WsFull` where they would weigh more than they may; it leaves them as they were. It takes no memory.
 pub fn put_innermost(
     frames: &mut [Table],
     at: usize,
@@ -73,7 +73,7 @@ pub fn put_innermost(
 }
 
 /// Whether all frames weigh at most `most` once a name stands for something of this weight in the frame at a place, the
-/// innermost that has the name. No memory.
+/// innermost that has the name.
 pub fn fits_innermost(
     frames: &[Table],
     at: usize,

@@ -24,13 +24,13 @@ pub struct Function {
 }
 
 impl Model for Function {
-    ghost use Rattle.apl_workspace.specs.Function.{IsKept, PlainFunction};
+    ghost use Rattle.apl_workspace.specs.Function.{KeepsLabelsAndWeight, PlainFunction};
 
     ghost Value = { PlainFunction };
 
     ghost view = { λ f. record { text = f.text.items; header = f.header; lines = f.lines.items } };
 
-    ghost invariant = { λ f. IsKept (record { text = f.text.items; header = f.header; lines = f.lines.items }) f.labels.items f.weight };
+    ghost invariant = { λ f. KeepsLabelsAndWeight (record { text = f.text.items; header = f.header; lines = f.lines.items }) f.labels.items f.weight };
 }
 
 impl Function {
@@ -75,35 +75,35 @@ impl Function {
         })
     }
 
-    /// Its header as it was entered. No memory.
+    /// Its header as it was entered.
     pub fn text(&self) -> &Line
         ensures { result.now.items ≡ self.now.text }
     {
         &self.text
     }
 
-    /// What its header is. No memory.
+    /// What its header is.
     pub fn header(&self) -> &Header
         ensures { result.now ≡ self.now.header }
     {
         &self.header
     }
 
-    /// Its lines, in order. No memory.
+    /// Its lines, in order.
     pub fn lines(&self) -> &[Line]
         ensures { map glyphs_in result.now ≡ self.now.lines }
     {
         self.lines.as_slice()
     }
 
-    /// The labels of its lines, each once, with the first line that has it. No memory.
+    /// The labels of its lines, each once, with the first line that has it.
     pub(crate) fn labels(&self) -> &[LabelledLine]
         ensures { AreLabels self.now.lines result.now }
     {
         &self.labels
     }
 
-    /// Its name. No memory.
+    /// Its name.
     pub fn name(&self) -> Name
         ensures { result ≡ self.now.header.name }
     {
@@ -124,7 +124,7 @@ impl Function {
         })
     }
 
-    /// What it weighs, or one more than a workspace may weigh where that is less. No memory.
+    /// What it weighs, or one more than a workspace may weigh where that is less.
     pub fn weight(&self) -> usize
         ensures { result ≡ min (function_weight self.now) (most_weight + 1) }
     {

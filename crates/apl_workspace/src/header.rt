@@ -5,7 +5,7 @@ ghost use Rattle.line_scanner.specs.Scanning.{reading_of};
 ghost use Rattle.apl_workspace.specs.Header.{header_behind, header_in, header_of, is_lamp, local_in, locals_in, names_of, result_in, symbols_of, syntax_in, syntax_of_one, syntax_of_two, with_names_apart, word_in};
 ghost use Rattle.apl_workspace.specs.Names.{all_differ};
 
-use crate::symbol::{Symbol, Syntax, symbols_of};
+use crate::symbol::{HeaderSymbol, Syntax, symbols_of};
 use apl_arrays::{Glyph, Line, List, Name, NameList, WantOfMemory};
 use line_scanner::{ScanRefused, Tokens, scan};
 use std::alloc::Global;
@@ -116,7 +116,7 @@ fn with_names_apart(alloc: Global, header: Header) -> Result<Option<Header>, Wan
 }
 
 /// The header that symbols spell, whether or not its names differ.
-fn header_in(alloc: Global, symbols: &[Symbol]) -> Result<Option<Header>, WantOfMemory>
+fn header_in(alloc: Global, symbols: &[HeaderSymbol]) -> Result<Option<Header>, WantOfMemory>
     ensures { IfOk result (λ header. header ≡ header_in symbols.now) }
 {
     let (outcome, behind) = result_in(symbols);
@@ -131,7 +131,7 @@ fn header_with(
     alloc: Global,
     outcome: Option<Name>,
     syntax: Syntax,
-    symbols: &[Symbol],
+    symbols: &[HeaderSymbol],
 ) -> Result<Option<Header>, WantOfMemory>
     ensures { IfOk result (λ header. header ≡ header_behind outcome (Some (syntax, symbols.now))) }
 {
@@ -148,27 +148,27 @@ fn header_with(
 }
 
 /// The name of a result before an arrow, where there is one, and what follows.
-fn result_in(symbols: &[Symbol]) -> (Option<Name>, &[Symbol])
+fn result_in(symbols: &[HeaderSymbol]) -> (Option<Name>, &[HeaderSymbol])
     ensures { (result.0, result.1.now) ≡ result_in symbols.now }
 {
     match symbols {
-        [Symbol::Word(name), Symbol::Arrow, rest @ ..] => (Some(*name), rest),
+        [HeaderSymbol::Word(name), HeaderSymbol::Arrow, rest @ ..] => (Some(*name), rest),
         _ => (None, symbols),
     }
 }
 
 /// The name at the front, where there is one, and what follows.
-fn word_in(symbols: &[Symbol]) -> Option<(Name, &[Symbol])>
+fn word_in(symbols: &[HeaderSymbol]) -> Option<(Name, &[HeaderSymbol])>
     ensures { option_map (λ found. (found.0, found.1.now)) result ≡ word_in symbols.now }
 {
     match symbols {
-        [Symbol::Word(name), rest @ ..] => Some((*name, rest)),
+        [HeaderSymbol::Word(name), rest @ ..] => Some((*name, rest)),
         _ => None,
     }
 }
 
 /// A function of two names, or of three where one more follows.
-fn syntax_of_two(first: Name, second: Name, rest: &[Symbol]) -> (Syntax, &[Symbol])
+fn syntax_of_two(first: Name, second: Name, rest: &[HeaderSymbol]) -> (Syntax, &[HeaderSymbol])
     ensures { (result.0, result.1.now) ≡ syntax_of_two first second rest.now (word_in rest.now) }
 {
     match word_in(rest) {
@@ -192,7 +192,7 @@ fn syntax_of_two(first: Name, second: Name, rest: &[Symbol]) -> (Syntax, &[Symbo
 }
 
 /// A function of one name, or of more where they follow.
-fn syntax_of_one(first: Name, rest: &[Symbol]) -> (Syntax, &[Symbol])
+fn syntax_of_one(first: Name, rest: &[HeaderSymbol]) -> (Syntax, &[HeaderSymbol])
     ensures { (result.0, result.1.now) ≡ syntax_of_one first rest.now (word_in rest.now) }
 {
     match word_in(rest) {
@@ -209,7 +209,7 @@ fn syntax_of_one(first: Name, rest: &[Symbol]) -> (Syntax, &[Symbol])
 }
 
 /// The function and its arguments, and what follows.
-fn syntax_in(symbols: &[Symbol]) -> Option<(Syntax, &[Symbol])>
+fn syntax_in(symbols: &[HeaderSymbol]) -> Option<(Syntax, &[HeaderSymbol])>
     ensures { option_map (λ found. (found.0, found.1.now)) result ≡ syntax_in symbols.now }
 {
     match word_in(symbols) {
@@ -219,19 +219,19 @@ fn syntax_in(symbols: &[Symbol]) -> Option<(Syntax, &[Symbol])>
 }
 
 /// The local name behind a semicolon at the front, where there is one, and what follows.
-fn local_in(symbols: &[Symbol]) -> Option<(Name, &[Symbol])>
+fn local_in(symbols: &[HeaderSymbol]) -> Option<(Name, &[HeaderSymbol])>
     ensures value { option_map (λ found. (found.0, found.1.now)) result ≡ local_in symbols.now }
     ensures shorter { IfSome result (λ found. length found.1.now < length symbols.now) }
 {
     match symbols {
-        [Symbol::Semicolon, Symbol::Word(name), rest @ ..] => Some((*name, rest)),
+        [HeaderSymbol::Semicolon, HeaderSymbol::Word(name), rest @ ..] => Some((*name, rest)),
         _ => None,
     }
 }
 
 /// The local names, each behind a semicolon.
 #[tactic(auto, using(crate::proofs::Locals::locals_stop, crate::proofs::Locals::locals_go_on, crate::proofs::Locals::locals_end))]
-fn locals_in(alloc: Global, symbols: &[Symbol]) -> Result<Option<NameList>, WantOfMemory>
+fn locals_in(alloc: Global, symbols: &[HeaderSymbol]) -> Result<Option<NameList>, WantOfMemory>
     ensures { IfOk result (λ locals. option_map (λ list. list.items) locals ≡ locals_in symbols.now) }
 {
     let mut locals = List::new(alloc);

@@ -1,7 +1,7 @@
 ghost use Rattle.std.specs.Prelude.{◌≡◌, ◌≤◌, ◌↔◌, ℕ, List, Some, IfOk, OnOk, is_some, length, map};
 ghost use Rattle.apl_arrays.specs.List.{glyphs_in};
 ghost use Rattle.apl_arrays.specs.Run.{begins};
-ghost use Rattle.apl_workspace.specs.Label.{AreLabels, HasLabel, is_colon, label_in, label_of, line_among, with_line};
+ghost use Rattle.apl_workspace.specs.Label.{AreLabels, HasLabel, is_colon, label_in, label_of, line_among, with_label};
 ghost use Rattle.apl_workspace.specs.Limits.{most_function_lines};
 
 use crate::blanks::without_blanks;
@@ -16,7 +16,7 @@ pub struct LabelledLine {
 }
 
 /// The label of a line: the name with which it begins behind blanks, where a colon follows it behind blanks. What stands
-/// behind the colon may be anything. No memory.
+/// behind the colon may be anything.
 pub fn label_of(line: &[Glyph]) -> Option<Name>
     ensures { result ≡ label_of line.now }
 {
@@ -50,7 +50,7 @@ fn add_line(
     label: Option<Name>,
     line: u32,
 ) -> Result<(), WantOfMemory>
-    ensures { OnOk result (labels.new.items ≡ with_line labels.old.items label line) }
+    ensures { OnOk result (labels.new.items ≡ with_label labels.old.items label line) }
 {
     match label {
         Some(label) if !has_label(labels, &label) => {
@@ -77,7 +77,7 @@ fn begins_with_colon(glyphs: &[Glyph]) -> bool
 }
 
 /// A line's label is the name that stands at its front, with blanks around it or none, and a colon behind. The call does
-/// nothing. No memory.
+/// nothing.
 pub fn labels_stand_before_colons()
     ensures { (line label : List ℕ) → (label_of line ≡ Some label) ↔ HasLabel line label }
 {}

@@ -6,17 +6,17 @@ ghost use Rattle.apl_workspace.specs.Header.{PlainHeader, header_of};
 ghost use Rattle.apl_workspace.specs.Grammar.{IsHeader};
 ghost use Rattle.apl_arrays.specs.Name.{same_name};
 
-/// The test of names is true of equal names alone. The call does nothing. No memory.
+/// The test of names is true of equal names alone. The call does nothing.
 pub fn names_are_told_apart()
     ensures { (first second : List ℕ) → (same_name first second ≡ true) ↔ (first ≡ second) }
 {}
 
-/// What is computed of a line is exactly what the grammar of headers has. The call does nothing. No memory.
+/// What is computed of a line is exactly what the grammar of headers has. The call does nothing.
 pub fn headers_are_computed()
     ensures { (line : List ℕ) (header : PlainHeader) → IsHeader line header ↔ (header_of line ≡ Some header) }
 {}
 
-/// Worked headers. The call does nothing. No memory.
+/// Worked headers. The call does nothing.
 #[tactic(auto, unfolding(crate::specs::Header::header_of, crate::specs::Header::locals_in, crate::specs::Names::all_differ, line_scanner::specs::Role::role_of, line_scanner::specs::Number::number, line_scanner::specs::Number::next_number, line_scanner::specs::Number::next_numbers, line_scanner::specs::Scanning::chars_from, line_scanner::specs::Scanning::front_of, line_scanner::specs::Scanning::scan_from))]
 pub fn worked_headers()
     // F

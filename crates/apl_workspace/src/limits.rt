@@ -13,7 +13,7 @@ pub const FUNCTION_LINE_LIMIT: usize = 200;
 /// The most glyphs of the counted lines that are printed.
 pub const PRINTED_LIMIT: u64 = 4_194_304;
 
-/// The limits are those of the definitions. The call does nothing. No memory.
+/// The limits are those of the definitions. The call does nothing.
 pub fn limits_are_as_defined()
     ensures weight { WEIGHT_LIMIT ≡ most_weight }
     ensures depth { DEPTH_LIMIT ≡ most_depth }

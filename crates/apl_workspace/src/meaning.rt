@@ -33,7 +33,7 @@ impl Meaning {
         }
     }
 
-    /// What it weighs, or one more than a workspace may weigh where that is less. No memory.
+    /// What it weighs, or one more than a workspace may weigh where that is less.
     pub fn weight(&self) -> usize
         ensures { result ≡ min (meaning_weight self.now) (most_weight + 1) }
     {
@@ -45,7 +45,7 @@ impl Meaning {
     }
 }
 
-/// What a value weighs: one, and its items. No memory.
+/// What a value weighs: one, and its items.
 pub fn value_weight(value: &Array) -> usize
     ensures { result ≡ min (value_weight value.now) (most_weight + 1) }
 {

@@ -15,7 +15,7 @@ pub struct Remake {
 /// Offers, the oldest first.
 pub type RemakeList = List<Remake>;
 
-/// Whether an offer may be made to this number: to any, which is 0, to an auxiliary, or to a user. No memory.
+/// Whether an offer may be made to this number: to any, which is 0, to an auxiliary, or to a user.
 pub fn is_addressee(to: u32) -> bool
     ensures { result ≡ is_addressee to }
 {

@@ -8,7 +8,7 @@ use std::alloc::Global;
 
 /// What a token is in a header.
 #[derive(Clone, Copy, Debug, PartialEq, Eq)]
-pub enum Symbol {
+pub enum HeaderSymbol {
     Word(Name),
     Arrow,
     Semicolon,
@@ -23,20 +23,20 @@ pub struct Syntax {
     pub right: Option<Name>,
 }
 
-/// What a token is in a header. No memory.
-fn header_symbol(kind: &TokenKind) -> Symbol
+/// What a token is in a header.
+fn header_symbol(kind: &TokenKind) -> HeaderSymbol
     ensures { result ≡ header_symbol (plain_kind kind.now) }
 {
     match kind {
-        TokenKind::Name(name) => Symbol::Word(*name),
-        TokenKind::Sign(glyph) if *glyph == Glyph::LEFT_ARROW => Symbol::Arrow,
-        TokenKind::Sign(glyph) if *glyph == Glyph::SEMICOLON => Symbol::Semicolon,
-        _ => Symbol::Other,
+        TokenKind::Name(name) => HeaderSymbol::Word(*name),
+        TokenKind::Sign(glyph) if *glyph == Glyph::LEFT_ARROW => HeaderSymbol::Arrow,
+        TokenKind::Sign(glyph) if *glyph == Glyph::SEMICOLON => HeaderSymbol::Semicolon,
+        _ => HeaderSymbol::Other,
     }
 }
 
 /// The symbols of tokens, in order. It takes memory for them.
-pub fn symbols_of(alloc: Global, tokens: &[Token]) -> Result<Vec<Symbol>, WantOfMemory>
+pub fn symbols_of(alloc: Global, tokens: &[Token]) -> Result<Vec<HeaderSymbol>, WantOfMemory>
     ensures { IfOk result (λ symbols. symbols.items ≡ symbols_of (map plain_token tokens.now)) }
 {
     let mut symbols = Vec::new(alloc);

@@ -38,7 +38,7 @@ impl Model for Table {
 }
 
 impl Table {
-    /// No names. No memory.
+    /// No names.
     #[tactic(auto, using(crate::proofs::Tables::is_empty_table))]
     pub fn new(alloc: Global) -> Table
         ensures { result ≡ [] }
@@ -49,7 +49,7 @@ impl Table {
         }
     }
 
-    /// What a name stands for, or `None` where the table does not have it. No memory.
+    /// What a name stands for, or `None` where the table does not have it.
     #[tactic(auto, using(crate::proofs::InOrder::looked_up))]
     pub fn get(&self, name: &Name) -> Option<&Meaning>
         ensures value { option_copied result ≡ meaning_in self.now name.now }
@@ -58,7 +58,7 @@ impl Table {
         self.names.get(name)
     }
 
-    /// What the names weigh. No memory.
+    /// What the names weigh.
     pub fn weight(&self) -> usize
         ensures value { result ≡ table_weight self.now }
         ensures within { result ≤ most_weight }
@@ -154,7 +154,7 @@ impl Table {
         self.put_light(name, meaning)
     }
 
-    /// Takes a name out, and hands out what it stood for. No memory.
+    /// Takes a name out, and hands out what it stood for.
     #[tactic(auto, using(crate::proofs::InOrder::looked_up, crate::proofs::InOrder::taken_in_order))]
     pub fn remove(&mut self, name: &Name) -> Option<Meaning>
         ensures value { result ≡ meaning_in self.old name.now }
@@ -167,7 +167,6 @@ impl Table {
 
     /// A shared name is shared no more, and has the value handed in, or is not there where none is. Where the table
     /// would weigh more than `most` with that value, the name has its own copy, or is not there where it has none.
-    /// No memory.
     #[tactic(auto, using(crate::proofs::Tables::erasing_is_lighter))]
     pub fn unshare(&mut self, name: &Name, value: Option<Array>, most: usize)
         requires shared { is_shared_in self.old name.now ≡ true }
@@ -186,7 +185,7 @@ impl Table {
         }
     }
 
-    /// A shared name has its own copy as its value, or is not there where it has none. No memory.
+    /// A shared name has its own copy as its value, or is not there where it has none.
     pub fn keep_copy(&mut self, name: &Name)
         requires { is_shared_in self.old name.now ≡ true }
         ensures value { self.new ≡ with_value_or_none self.old name.now (own_copy_in self.old name.now) }
@@ -199,7 +198,7 @@ impl Table {
         }
     }
 
-    /// A name that is there stands for this, and what it stood for is handed out. No memory.
+    /// A name that is there stands for this, and what it stood for is handed out.
     fn swap(&mut self, name: &Name, meaning: Meaning) -> Option<Meaning>
         requires there { IsSome (meaning_in self.old name.now) }
         requires fits { table_weight (with_meaning self.old name.now meaning) ≤ most_weight }
@@ -237,7 +236,7 @@ impl Table {
         Ok(List::from(names))
     }
 
-    /// Whether the table weighs at most `most` once a name stands for something of this weight. No memory.
+    /// Whether the table weighs at most `most` once a name stands for something of this weight.
     pub fn fits(&self, name: &Name, weight: usize, most: usize) -> bool
         requires limit { most ≤ most_weight }
         requires weight { weight ≤ most_weight + 1 }

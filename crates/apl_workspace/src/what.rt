@@ -12,7 +12,7 @@ pub enum What {
 }
 
 impl What {
-    /// Whether a name that stands for this is asked for. No memory.
+    /// Whether a name that stands for this is asked for.
     pub fn is_asked(self, meaning: &Meaning) -> bool
         ensures { result ≡ is_asked self meaning.now }
     {

@@ -41,7 +41,7 @@ impl Model for Workspace {
 }
 
 impl Workspace {
-    /// An empty workspace. No memory.
+    /// An empty workspace.
     pub fn new(alloc: Global) -> Workspace
         ensures { result ≡ empty_workspace }
     {
@@ -55,7 +55,7 @@ impl Workspace {
         }
     }
 
-    /// What a name stands for: in the innermost frame that has it, else globally. No memory.
+    /// What a name stands for: in the innermost frame that has it, else globally.
     pub fn look(&self, name: &Name) -> Seen<'_>
         ensures value { plain_seen result ≡ look self.now name.now }
         ensures whole { IsWhole name.now (look self.now name.now) }
@@ -69,14 +69,14 @@ impl Workspace {
         }
     }
 
-    /// Whether the name is one of a frame's, be there a value or none. No memory.
+    /// Whether the name is one of a frame's, be there a value or none.
     pub fn is_local(&self, name: &Name) -> bool
         ensures { result ≡ is_local self.now name.now }
     {
         innermost(&self.frames, name).is_some()
     }
 
-    /// Whether the global name is shared, whatever a frame has under it. No memory.
+    /// Whether the global name is shared, whatever a frame has under it.
     pub fn is_shared(&self, name: &Name) -> bool
         ensures { result ≡ is_shared self.now name.now }
     {
@@ -86,7 +86,7 @@ impl Workspace {
         }
     }
 
-    /// How many glyphs of counted lines were printed. No memory.
+    /// How many glyphs of counted lines were printed.
     pub fn printed(&self) -> u64
         ensures value { result ≡ self.now.printed }
         ensures within { result ≤ most_printed }
@@ -94,7 +94,7 @@ impl Workspace {
         self.printed
     }
 
-    /// So many more glyphs were printed. No memory.
+    /// So many more glyphs were printed.
     pub fn count_printed(&mut self, glyphs: u64)
         requires { self.old.printed + glyphs ≤ most_printed }
         ensures { self.new ≡ with_printed self.old glyphs }
@@ -110,7 +110,7 @@ impl Workspace {
         List::of(self.alloc, &self.offers)
     }
 
-    /// What the global name stands for, whatever a frame has under it. No memory.
+    /// What the global name stands for, whatever a frame has under it.
     pub fn global(&self, name: &Name) -> Seen<'_>
         ensures value { plain_seen result ≡ global_in self.now name.now }
         ensures whole { IsWhole name.now (global_in self.now name.now) }
@@ -137,7 +137,7 @@ impl Workspace {
         self.globals.all_names(self.alloc)
     }
 
-    /// What it weighs: the global names and all frames. No memory.
+    /// What it weighs: the global names and all frames.
     pub fn weight(&self) -> usize
         ensures value { result ≡ workspace_weight self.now }
         ensures within { result ≤ most_weight }
@@ -146,7 +146,7 @@ impl Workspace {
         self.globals.weight() + self.frames_weight
     }
 
-    /// How many functions are under way. No memory.
+    /// How many functions are under way.
     pub fn depth(&self) -> usize
         ensures value { result ≡ length self.now.frames }
         ensures within { result ≤ most_depth }

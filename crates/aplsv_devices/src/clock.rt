@@ -11,7 +11,7 @@ pub struct SystemClock<R> {
 }
 
 impl<R> SystemClock<R> {
-    /// The clock of a runtime, which has not failed. No memory.
+    /// The clock of a runtime, which has not failed.
     pub fn new(rt: R) -> Self
         ensures { result ≡ record { rt = rt; faults = 0 } }
     {

@@ -5,7 +5,7 @@ use apl_io::StoreError;
 use std::io::{self, ErrorKind};
 
 /// What a store answers where the system has this error: want of memory where the system lacked memory, else it failed,
-/// which is counted. No memory.
+/// which is counted. It takes no memory.
 pub fn fault_of(faults: &mut u64, error: io::Error) -> StoreError
     ensures counted { faults.old ≤ faults.new }
     ensures cause { result ≡ StoreError.Failed → Rose faults.old faults.new }
@@ -18,17 +18,17 @@ pub fn fault_of(faults: &mut u64, error: io::Error) -> StoreError
     StoreError::Failed
 }
 
-/// The error of a call that the system had no memory for. No memory.
+/// The error of a call that the system had no memory for.
 pub fn no_memory() -> io::Error {
     io::Error::from(ErrorKind::OutOfMemory)
 }
 
-/// The error of a path under which something else stands than is looked for. No memory.
+/// The error of a path under which something else stands than is looked for.
 pub fn other_kind() -> io::Error {
     io::Error::from(ErrorKind::InvalidData)
 }
 
-/// The error of a name, or of the place of a store, that leads to no file. No memory.
+/// The error of a name, or of the place of a store, that leads to no file.
 pub fn no_path() -> io::Error {
     io::Error::from(ErrorKind::InvalidFilename)
 }

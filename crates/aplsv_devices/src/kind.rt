@@ -24,7 +24,7 @@ pub enum PathKind {
     Other,
 }
 
-/// What the system says that something is. No memory.
+/// What the system says that something is.
 pub fn kind_of(metadata: &Metadata) -> PathKind {
     if metadata.is_file() {
         PathKind::Plain(FileId {
@@ -38,7 +38,7 @@ pub fn kind_of(metadata: &Metadata) -> PathKind {
     }
 }
 
-/// What stands under a path. A link at its end is not followed. No memory.
+/// What stands under a path. A link at its end is not followed. It takes no memory.
 pub fn kind_at(files: &impl Files, path: &str) -> io::Result<PathKind> {
     match fs::symlink_metadata(files, path) {
         Ok(metadata) => Ok(kind_of(&metadata)),
@@ -47,7 +47,7 @@ pub fn kind_at(files: &impl Files, path: &str) -> io::Result<PathKind> {
     }
 }
 
-/// An error unless the place of a store is a folder, or a link to one. No memory.
+/// An error unless the place of a store is a folder, or a link to one. It takes no memory.
 pub fn want_place(files: &impl Files, place: &str) -> io::Result<()> {
     if fs::metadata(files, place)?.is_dir() {
         Ok(())
@@ -56,8 +56,8 @@ pub fn want_place(files: &impl Files, place: &str) -> io::Result<()> {
     }
 }
 
-/// Whether a folder stands under a path in a place. An error where something else does, or where the place is none. No
-/// memory.
+/// Whether a folder stands under a path in a place. An error where something else does, or where the place is none. It
+/// takes no memory.
 pub fn has_folder(files: &impl Files, place: &str, path: &str) -> io::Result<bool> {
     match kind_at(files, path)? {
         PathKind::Folder => Ok(true),
@@ -69,7 +69,7 @@ pub fn has_folder(files: &impl Files, place: &str, path: &str) -> io::Result<boo
     }
 }
 
-/// An error unless a plain file stands under a path, or nothing. No memory.
+/// An error unless a plain file stands under a path, or nothing. It takes no memory.
 pub fn want_plain(files: &impl Files, path: &str) -> io::Result<()> {
     match kind_at(files, path)? {
         PathKind::Missing | PathKind::Plain(_) => Ok(()),

@@ -45,7 +45,7 @@ fn front_of<F: Read + Drop>(alloc: Global, file: F, most: u64) -> io::Result<Byt
 }
 
 /// Takes the plain file under a path of a folder away, for good, and says whether there was one. An error where something
-/// else stands there. No memory.
+/// else stands there. It takes no memory.
 pub fn remove_file(files: &impl Files, folder: &str, path: &str) -> io::Result<bool> {
     match kind_at(files, path)? {
         PathKind::Missing => Ok(false),

@@ -58,13 +58,13 @@ fn make_again<R: Files>(rt: &R, path: &str) -> io::Result<R::File> {
     File::create_new(rt, path)
 }
 
-/// Makes a folder in a place, so that it outlasts a loss of power. No memory.
+/// Makes a folder in a place, so that it outlasts a loss of power. It takes no memory.
 pub fn make_folder(files: &impl Files, place: &str, path: &str) -> io::Result<()> {
     fs::create_dir(files, path)?;
     sync_folder(files, place)
 }
 
-/// Waits until what was made, moved and taken away in a folder would outlast a loss of power. No memory.
+/// Waits until what was made, moved and taken away in a folder would outlast a loss of power. It takes no memory.
 pub fn sync_folder(files: &impl Files, path: &str) -> io::Result<()> {
     let folder = File::open(files, path)?;
     folder.sync_all()

@@ -30,7 +30,7 @@ pub struct DirShelf<R> {
 
 impl<R: Files + AllocGlobal + Clone + Drop> DirShelf<R> {
     /// A shelf without a place, which has not failed. The mark is a number that nobody else who writes in its place has, as
-    /// that of the process. No memory.
+    /// that of the process.
     pub fn new(rt: R, mark: u32) -> Self
         ensures faults { result.faults ≡ 0 }
         ensures place { string_bytes result.place ≡ [] }

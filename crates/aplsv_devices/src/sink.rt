@@ -12,7 +12,7 @@ pub struct StdSink<W> {
 }
 
 impl<W> StdSink<W> {
-    /// A sink over a writer, which has not failed. No memory.
+    /// A sink over a writer, which has not failed.
     pub fn new(inner: W) -> Self
         ensures { result ≡ record { inner = inner; faults = 0 } }
     {

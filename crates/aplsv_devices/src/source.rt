@@ -18,13 +18,13 @@ pub struct StdSource<R> {
 }
 
 impl<R> StdSource<R> {
-    ghost use Rattle.aplsv_devices.specs.Source.{kept_bytes};
+    ghost use Rattle.aplsv_devices.specs.Source.{source_bytes};
 
-    /// A source over a reader, which has not failed and gave nothing yet. No memory.
+    /// A source over a reader, which has not failed and gave nothing yet.
     pub fn new(alloc: Global, inner: R) -> Self
         ensures inner { result.inner ≡ inner }
         ensures faults { result.faults ≡ 0 }
-        ensures kept { kept_bytes result ≡ Some [] }
+        ensures kept { source_bytes result ≡ Some [] }
     {
         StdSource {
             inner,
@@ -33,9 +33,9 @@ impl<R> StdSource<R> {
         }
     }
 
-    /// All that it gave; `None` where that is more than a bundle may have, or where memory for it ran out. No memory.
+    /// All that it gave; `None` where that is more than a bundle may have, or where memory for it ran out.
     pub fn kept(&self) -> Option<&[u8]>
-        ensures { option_map (λ bytes. bytes.now) result ≡ kept_bytes self.now }
+        ensures { option_map (λ bytes. bytes.now) result ≡ source_bytes self.now }
     {
         match &self.kept {
             Some(bytes) => Some(bytes.as_slice()),
@@ -45,7 +45,7 @@ impl<R> StdSource<R> {
 }
 
 impl<R: Read> Source for StdSource<R> {
-    ghost use Rattle.aplsv_devices.specs.Source.{kept_bytes};
+    ghost use Rattle.aplsv_devices.specs.Source.{source_bytes};
 
     ghost left = { λ s. R.remaining s.inner };
 
@@ -63,7 +63,7 @@ impl<R: Read> Source for StdSource<R> {
         ensures cause { OnErr result (Rose self.old.faults self.new.faults) }
 
         // What it gave stands behind what it kept.
-        ensures kept { KeepsRead (kept_bytes self.old) result into.new (kept_bytes self.new) }
+        ensures kept { KeepsRead (source_bytes self.old) result into.new (source_bytes self.new) }
     {
         match self.inner.read(into) {
             Ok(count) => {

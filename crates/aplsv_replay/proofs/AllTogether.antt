@@ -29,8 +29,8 @@ use Rattle.aplsv_replay.specs.SoFar.{GrowsBy, HasAnswered, IsSeated, IsWholeUnle
 use Rattle.aplsv_replay.specs.Together.{AreOfSomeBundle, AreTogether, StayTogether, TakesTurns, TookTurns, WorksAs, auxiliary_of, none_is_lost}
 use Rattle.aplsv_replay.specs.declared.auxiliary.Auxiliary.{Auxiliary}
 use Rattle.aplsv_replay.specs.declared.parties.Parties.{Parties}
-use Rattle.aplsv_replay.specs.declared.seat.Seat.{Seat}
-use Rattle.replay_rules.specs.Turns.{Replay, Turns, numbers_of, turns_where, user_turns}
+use Rattle.aplsv_replay.specs.declared.seat.UserSeat.{UserSeat}
+use Rattle.replay_rules.specs.Turns.{Replay, AfterTurns, numbers_of, turns_where, user_turns}
 use Rattle.aplsv_replay.proofs.Growth.{AreNone, AreOthers, among_are_others, among_grows, among_stays, events_stay, is_no_user, none_of_people, own_are_others, some_stay_same}
 use Rattle.aplsv_replay.proofs.Kinds.{had_memory, memory_of, memory_of_all, memory_of_users, same_auxiliaries, with_auxiliary}
 use Rattle.aplsv_replay.proofs.Taking.{numbers_by_participants, stays_at}
@@ -38,16 +38,16 @@ use Rattle.aplsv_replay.proofs.SeatTurns.{all_grown_seated, all_grown_whole, not
 
 -- ---- the numbers of seats
 
-numbers_by_users : {K : Type 0} (seats : List (Seat K)) → seat_numbers seats ≡ map (λ (user : PlainUser). user.number) (map (λ (seat : Seat K). user_of seat.session) seats)
+numbers_by_users : {K : Type 0} (seats : List (UserSeat K)) → seat_numbers seats ≡ map (λ (user : PlainUser). user.number) (map (λ (seat : UserSeat K). user_of seat.session) seats)
 numbers_by_users [] = refl
 numbers_by_users (seat ∷ seats) = ap (λ (others : List ℕ). seat.session.user ∷ others) (numbers_by_users seats)
 
 -- each is among them
-widened : {K : Type 0} (number : ℕ) (numbers : List ℕ) (seats : List (Seat K)) → AllByRecursion (λ (seat : Seat K). IsTrue (is_user numbers seat.session.user)) seats → AllByRecursion (λ (seat : Seat K). IsTrue (is_user (number ∷ numbers) seat.session.user)) seats
+widened : {K : Type 0} (number : ℕ) (numbers : List ℕ) (seats : List (UserSeat K)) → AllByRecursion (λ (seat : UserSeat K). IsTrue (is_user numbers seat.session.user)) seats → AllByRecursion (λ (seat : UserSeat K). IsTrue (is_user (number ∷ numbers) seat.session.user)) seats
 widened number numbers [] h = tt
 widened number numbers (seat ∷ seats) h = (or_right (eqb number seat.session.user) (is_user numbers seat.session.user) h.0, widened number numbers seats h.1)
 
-own_users : {K : Type 0} (seats : List (Seat K)) → AllByRecursion (λ (seat : Seat K). IsTrue (is_user (seat_numbers seats) seat.session.user)) seats
+own_users : {K : Type 0} (seats : List (UserSeat K)) → AllByRecursion (λ (seat : UserSeat K). IsTrue (is_user (seat_numbers seats) seat.session.user)) seats
 own_users [] = tt
 own_users (seat ∷ seats) =
     (or_left (eqb seat.session.user seat.session.user) (is_user (seat_numbers seats) seat.session.user) (eq-eqb seat.session.user seat.session.user refl), widened seat.session.user (seat_numbers seats) seats (own_users seats))
@@ -92,7 +92,7 @@ module _ {X Y K : Type 0} (forgets_ten : X → ℕ → X → Type 0) (replies_te
     no_seats = subst (λ (users : List ℕ). AreNone users grows.entries) (sym seats_are_users) no_users
 
     no_sittings : AllByRecursion (λ (number : ℕ). AreOthers number grows.entries) (seat_numbers (seats_in sittings))
-    no_sittings = subst (λ (seats : List (Seat K)). AllByRecursion (λ (number : ℕ). AreOthers number grows.entries) (seat_numbers seats)) (sym h.here) no_seats
+    no_sittings = subst (λ (seats : List (UserSeat K)). AllByRecursion (λ (number : ℕ). AreOthers number grows.entries) (seat_numbers seats)) (sym h.here) no_seats
 
     pub still_seated : All (IsSeated told faults after.journal) sittings
     still_seated = All-from_recursion _ sittings (all_grown_seated told faults grows.entries p.core.journal after.journal sittings grows.journal no_sittings (recursion_from_All _ sittings h.seated))
@@ -125,7 +125,7 @@ module _ {X Y K : Type 0} (forgets_ten : X → ℕ → X → Type 0) (replies_te
       other_events = sym (ap (λ (journal : Entries). events_of journal other) grows.journal ∙ events_stay grows.entries p.core.journal other others)
 
     -- as much is left to do by users
-    pub same_work : sum_by (λ (seat : Seat K). user_work after.journal seat.session) p.seats.items ≡ sum_by (λ (seat : Seat K). user_work p.core.journal seat.session) p.seats.items
+    pub same_work : sum_by (λ (seat : UserSeat K). user_work after.journal seat.session) p.seats.items ≡ sum_by (λ (seat : UserSeat K). user_work p.core.journal seat.session) p.seats.items
     same_work = seats_work_stays grows.entries p.core.journal after.journal p.seats.items grows.journal no_seats
 
   -- each auxiliary is one
@@ -187,7 +187,7 @@ module _ {X Y K : Type 0} (forgets_ten : X → ℕ → X → Type 0) (replies_te
     -- what users add is no auxiliary's
     users_others : (party : ℕ) → IsTrue (is_auxiliary party) → AreOthers party turns.grows.entries
     users_others party auxiliary =
-        among_are_others (seat_numbers (seats_in sittings)) party turns.grows.entries (ap (λ (list : List ℕ). is_user list party) (ap (λ (seats : List (Seat K)). seat_numbers seats) h.here ∙ seats_are_users) ∙ is_no_user p.core.users party auxiliary people)
+        among_are_others (seat_numbers (seats_in sittings)) party turns.grows.entries (ap (λ (list : List ℕ). is_user list party) (ap (λ (seats : List (UserSeat K)). seat_numbers seats) h.here ∙ seats_are_users) ∙ is_no_user p.core.users party auxiliary people)
         (recursion_from_All _ turns.grows.entries turns.grows.own)
 
     users_events : (party : ℕ) → IsTrue (is_auxiliary party) → events_of p.core.journal party ≡ events_of q.core.journal party
@@ -222,7 +222,7 @@ module _ {X Y K : Type 0} (forgets_ten : X → ℕ → X → Type 0) (replies_te
       people = subst (λ (users : List ℕ). ArePeople users) (sym turns.grows.users) h.people;
       numbers = turns.grows.users ∙ h.numbers;
       ascending = h.ascending;
-      users = turns.users ∙ sym (map-map (λ (s : Seat K). user_of s.session) (λ (s : Sitting K). s.seat) sittings) ∙ ap (λ (seats : List (Seat K)). map (λ (s : Seat K). user_of s.session) seats) h.here ∙ h.users;
+      users = turns.users ∙ sym (map-map (λ (s : UserSeat K). user_of s.session) (λ (s : Sitting K). s.seat) sittings) ∙ ap (λ (seats : List (UserSeat K)). map (λ (s : UserSeat K). user_of s.session) seats) h.here ∙ h.users;
       shelves = turns.lent ∙ h.shelves;
       seated = turns.seated;
       whole = λ here. turns.whole (unclosed here) (h.whole (memory_still here));
@@ -238,8 +238,8 @@ module _ {X Y K : Type 0} (forgets_ten : X → ℕ → X → Type 0) (replies_te
           same = λ final ends more.
               let numbers : turns_where (λ user. due user.number) (numbers_of (users_of final p.seats.items)) p.core.journal (users_of final p.seats.items) ≡ turns_where (λ user. due user.number) p.core.users p.core.journal (users_of final (seats_in sittings)) =
               ap (λ (users : List ℕ). turns_where (λ user. due user.number) users p.core.journal (users_of final p.seats.items)) (participants_are_users final)
-              ∙ ap (λ (seats : List (Seat K)). turns_where (λ user. due user.number) p.core.users p.core.journal (users_of final seats)) (sym h.here) in
-              ap (λ (after : Turns). record { journal = after.journal; replies = more; users = after.users }) (numbers ∙ turns.turns (unclosed (memory_of q here)) (memory_of_users q here) final ends);
+              ∙ ap (λ (seats : List (UserSeat K)). turns_where (λ user. due user.number) p.core.users p.core.journal (users_of final seats)) (sym h.here) in
+              ap (λ (after : AfterTurns). record { journal = after.journal; replies = more; users = after.users }) (numbers ∙ turns.turns (unclosed (memory_of q here)) (memory_of_users q here) final ends);
         }
 
     pub users_take : StayTogether forgets_ten replies_ten forgets_twenty replies_twenty told faults (user_turns (λ user. due user.number)) bundle ten twenty shelves p sittings q
@@ -247,7 +247,7 @@ module _ {X Y K : Type 0} (forgets_ten : X → ℕ → X → Type 0) (replies_te
       nows = turns.nows;
       together = users_keep;
       began = turns.began;
-      lost = λ here. memory_of_all p (memory_still (memory_of q here)) (ap (λ (seats : List (Seat K)). none_lost seats) (sym h.here) ∙ turns.lost (memory_of_users q here));
+      lost = λ here. memory_of_all p (memory_still (memory_of q here)) (ap (λ (seats : List (UserSeat K)). none_lost seats) (sym h.here) ∙ turns.lost (memory_of_users q here));
       took = users_took;
     }
 
@@ -287,7 +287,7 @@ left_or_stays : (left rest stay : Bool) → rest ≡ not stay → (left && rest)
 left_or_stays true rest stay is = is
 left_or_stays false rest stay is = refl
 
-pub all_left_by : {K : Type 0} (journal : Entries) (seats : List (Seat K)) → list_all (λ seat. has_left journal seat.session.user) seats ≡ not (some_stay (seat_numbers seats) journal)
+pub all_left_by : {K : Type 0} (journal : Entries) (seats : List (UserSeat K)) → list_all (λ seat. has_left journal seat.session.user) seats ≡ not (some_stay (seat_numbers seats) journal)
 all_left_by journal [] = refl
 all_left_by journal (seat ∷ seats) =
     left_or_stays (has_left journal seat.session.user) (list_all (λ s. has_left journal s.session.user) seats) (some_stay (seat_numbers seats) journal) (all_left_by journal seats)

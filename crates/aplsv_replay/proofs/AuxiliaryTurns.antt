@@ -26,8 +26,8 @@ use Rattle.aplsv_replay.specs.SoFar.{GrowsBy, HasAnswered, IsIdleIf, IsServed, u
 use Rattle.aplsv_replay.specs.Together.{LeavesLess, TakesTurns, TookTurns, auxiliary_of}
 use Rattle.aplsv_replay.specs.declared.auxiliary.Auxiliary.{Auxiliary}
 use Rattle.aplsv_replay.specs.declared.parties.Parties.{Parties}
-use Rattle.aplsv_replay.specs.declared.seat.Seat.{Seat}
-use Rattle.replay_rules.specs.Turns.{Participant, Replay, Served, auxiliary_turn, served, served_by, with_left}
+use Rattle.aplsv_replay.specs.declared.seat.UserSeat.{UserSeat}
+use Rattle.replay_rules.specs.Turns.{Participant, Replay, AfterAuxiliaryTurn, auxiliary_turn, served, served_by, with_left}
 use Rattle.aplsv_replay.proofs.AllTogether.{auxiliary_keeps}
 use Rattle.aplsv_replay.proofs.Growth.{counted_grows}
 use Rattle.aplsv_replay.proofs.Kinds.{had_memory, is_changed, memory_of, memory_of_all, memory_of_users, stays_lost, with_auxiliary}
@@ -54,7 +54,7 @@ left_then party made more = fun_ext (λ other. by other (eqb other party) refl) 
   by other false is = ap (λ (own : Bool). if own then more party else ((if own then made else []) ++ more other)) is
 
 -- a replay of which an auxiliary was served
-abbrev after_serving : ℕ → (ℕ → List PlainArray) → List Participant → Served → Replay
+abbrev after_serving : ℕ → (ℕ → List PlainArray) → List Participant → AfterAuxiliaryTurn → Replay
 after_serving party replies users s = replay_of s.journal (with_left party s.replies replies) users
 
 -- where a party was served, it had its turn
@@ -63,7 +63,7 @@ had_turn : (party : ℕ) (before after : Entries) (users : List Participant) (h 
 had_turn party before after users h more =
     let replies : ℕ → List PlainArray = λ other. given_by party h.made other ++ more other in
     ap (λ (list : List PlainArray). after_serving party replies users (served before party list)) (own_first party h.made more)
-    ∙ ap (λ (s : Served). after_serving party replies users s) (h.turn (more party))
+    ∙ ap (λ (s : AfterAuxiliaryTurn). after_serving party replies users s) (h.turn (more party))
     ∙ ap (λ (left : ℕ → List PlainArray). replay_of after left users) (left_then party h.made more)
 
 module _ {X Y K : Type 0} (p : Parties X Y K) (after : PlainCore) (sittings : List (Sitting K)) where
@@ -137,7 +137,7 @@ work_adds journal party (reply ∷ replies) (work.Use local) = act_adds journal 
 
 served_adds : (party : ℕ) (before after : Entries) → IsServed party before after → Adds before after
 served_adds party before after h =
-    subst (λ (journal : Entries). Adds before journal) (ap (λ (s : Served). s.journal) (h.turn [])) (work_adds before party (h.made ++ []) (work_of before party))
+    subst (λ (journal : Entries). Adds before journal) (ap (λ (s : AfterAuxiliaryTurn). s.journal) (h.turn [])) (work_adds before party (h.made ++ []) (work_of before party))
 
 no_more : (limit small large sum other : ℕ) → small ≤ large → other ≡ sum → (limit - large) + other ≤ (limit - small) + sum
 no_more limit small large sum other le same = omega arith
@@ -145,7 +145,7 @@ no_more limit small large sum other le same = omega arith
 one_less : (limit small large sum other : ℕ) → large ≡ 1 + small → small < limit → other ≡ sum → (limit - large) + other < (limit - small) + sum
 one_less limit small large sum other more room same = omega arith
 
-module _ {K : Type 0} (party : ℕ) (before after : PlainCore) (seats : List (Seat K)) (grows : GrowsBy party before after) (same_work : sum_by (λ (seat : Seat K). user_work after.journal seat.session) seats ≡ sum_by (λ (seat : Seat K). user_work before.journal seat.session) seats) where
+module _ {K : Type 0} (party : ℕ) (before after : PlainCore) (seats : List (UserSeat K)) (grows : GrowsBy party before after) (same_work : sum_by (λ (seat : UserSeat K). user_work after.journal seat.session) seats ≡ sum_by (λ (seat : UserSeat K). user_work before.journal seat.session) seats) where
   pub at_most : work_left after.journal seats ≤ work_left before.journal seats
   at_most =
       no_more most_entries (counted_entries before.journal) (counted_entries after.journal) _ _
@@ -161,7 +161,7 @@ module _ {K : Type 0} (party : ℕ) (before after : PlainCore) (seats : List (Se
 
 module _ {X Y K : Type 0} (p : Parties X Y K) (after : PlainCore) where
   pub auxiliary_leaves_less : (kind : AuxiliaryKind) (aux : Auxiliary (Behind X Y kind)) → (auxiliary_of p kind).party ≡ party_of kind → GrowsBy (auxiliary_of p kind).party p.core after
-      → sum_by (λ (seat : Seat K). user_work after.journal seat.session) p.seats.items ≡ sum_by (λ (seat : Seat K). user_work p.core.journal seat.session) p.seats.items
+      → sum_by (λ (seat : UserSeat K). user_work after.journal seat.session) p.seats.items ≡ sum_by (λ (seat : UserSeat K). user_work p.core.journal seat.session) p.seats.items
       → (aux.is_lost ≡ false → IsServed (auxiliary_of p kind).party p.core.journal after.journal) → (aux.is_lost ≡ false → IsIdleIf (auxiliary_of p kind).party p.core.journal after.journal)
       → LeavesLess (party_of kind) aux.is_lost p (with_auxiliary p after kind aux)
   auxiliary_leaves_less kind aux number grows same turn idle =

@@ -14,7 +14,7 @@ use Rattle.aplsv_replay.specs.Rounds.{most_rounds}
 use Rattle.aplsv_replay.specs.SoFar.{user_of, user_work}
 use Rattle.aplsv_replay.specs.Together.{TakesRounds, TakesTurns, left_to_do}
 use Rattle.aplsv_replay.specs.declared.parties.Parties.{Parties}
-use Rattle.aplsv_replay.specs.declared.seat.Seat.{Seat}
+use Rattle.aplsv_replay.specs.declared.seat.UserSeat.{UserSeat}
 use Rattle.replay_rules.specs.Turns.{round, rounds}
 use Rattle.aplsv_replay.proofs.Taking.{stays_at, takes_none, takes_round}
 
@@ -49,7 +49,7 @@ user_is_bounded journal user = by (has_left journal user.user) where
   by false = omega arith
 
 -- all users
-abbrev work_in : {K : Type 0} → Entries → List (Seat K) → ℕ
+abbrev work_in : {K : Type 0} → Entries → List (UserSeat K) → ℕ
 work_in journal seats = sum_by (λ seat. user_work journal seat.session) seats
 
 abbrev lines_in : List PlainUser → ℕ
@@ -58,12 +58,12 @@ lines_in users = sum_by (λ (user : PlainUser). 1 + length user.lines) users
 sums_at_most : (a b c d e f : ℕ) → e ≡ a + b → f ≡ c + d → a ≤ c → b ≤ d → e ≤ f
 sums_at_most a b c d e f one two first others = omega arith
 
-users_are_bounded : {K : Type 0} (journal : Entries) (seats : List (Seat K)) → work_in journal seats ≤ lines_in (map (λ seat. user_of seat.session) seats)
+users_are_bounded : {K : Type 0} (journal : Entries) (seats : List (UserSeat K)) → work_in journal seats ≤ lines_in (map (λ seat. user_of seat.session) seats)
 users_are_bounded journal [] = omega arith
 users_are_bounded {K = K} journal (seat ∷ seats) =
     sums_at_most (user_work journal seat.session) (work_in journal seats) (1 + length seat.session.lines) (lines_in (map (λ s. user_of s.session) seats))
     (work_in journal (seat ∷ seats)) (lines_in (map (λ s. user_of s.session) (seat ∷ seats)))
-    (sum_by-cons (λ (s : Seat K). user_work journal s.session) seat seats)
+    (sum_by-cons (λ (s : UserSeat K). user_work journal s.session) seat seats)
     (sum_by-cons (λ (user : PlainUser). 1 + length user.lines) (user_of seat.session) (map (λ s. user_of s.session) seats))
     (user_is_bounded journal seat.session) (users_are_bounded journal seats)
 

@@ -31,19 +31,19 @@ use Rattle.apl_session.specs.Ended.{IfWhole}
 use Rattle.apl_session.specs.Wants.{HasHeardAll}
 use Rattle.apl_session.specs.declared.outcome.Ended.{Ended}
 use Rattle.apl_session.specs.declared.outcome.Ended.TheVariants.{Whole, WantOfMemory}
-use Rattle.apl_session.specs.declared.session.Stage.{Stage}
+use Rattle.apl_session.specs.declared.session.SessionStage.{SessionStage}
 use Rattle.auxiliaries.specs.Run.{IsReplierRun}
-use Rattle.aplsv_replay.specs.Endings.{ComesOf, IsEnded}
+use Rattle.aplsv_replay.specs.Endings.{ComesOf, RunIsWhole}
 use Rattle.aplsv_replay.specs.Participants.{users_of}
 use Rattle.aplsv_replay.specs.Rounds.{IsReplay, most_rounds}
 use Rattle.aplsv_replay.specs.SeatTurns.{AreSeated, none_lost, seat_numbers}
 use Rattle.aplsv_replay.specs.Seats.{HasPrinted, end_by, transcript_of}
 use Rattle.aplsv_replay.specs.Sittings.{EndsIn, Sitting, lent_to, seats_in}
-use Rattle.aplsv_replay.specs.SoFar.{HasPart, IsSeated, IsWholeUnlessLost, printed_by, user_of}
+use Rattle.aplsv_replay.specs.SoFar.{HasPart, IsSeated, IsWholeUnlessLost, echoed_and_printed, user_of}
 use Rattle.aplsv_replay.specs.Together.{AreTogether, TakesRounds, TakesTurns, TookTurns, WorksAs, auxiliary_of, none_is_lost}
 use Rattle.aplsv_replay.specs.declared.auxiliary.Auxiliary.{Auxiliary}
 use Rattle.aplsv_replay.specs.declared.parties.Parties.{Parties}
-use Rattle.aplsv_replay.specs.declared.seat.Seat.{Seat}
+use Rattle.aplsv_replay.specs.declared.seat.UserSeat.{UserSeat}
 use Rattle.replay_rules.specs.Turns.{HasReplies, Participant, Replay, beginning, newcomer, ordered, rounds}
 use Rattle.aplsv_replay.proofs.AllTogether.{seats_ascend}
 use Rattle.aplsv_replay.proofs.Bound.{few_rounds}
@@ -144,7 +144,7 @@ all_left (user ∷ users) journal over =
 
 module _ {K : Type 0} (told : K → Option (Told (ℕ × List ℕ))) (faults : K → ℕ) (dealings : Dealings) (journal : Entries) where
   -- a user that has left, and for which memory did not run out, has its part
-  part_at : (sitting : Sitting K) (others : List (Seat K)) (user : PlainUser) → user_of sitting.seat.session ≡ user → IsTrue (none_lost (sitting.seat ∷ others)) → IsWholeUnlessLost told faults journal sitting → IsTrue (has_left journal user.number) → HasPart told faults journal sitting
+  part_at : (sitting : Sitting K) (others : List (UserSeat K)) (user : PlainUser) → user_of sitting.seat.session ≡ user → IsTrue (none_lost (sitting.seat ∷ others)) → IsWholeUnlessLost told faults journal sitting → IsTrue (has_left journal user.number) → HasPart told faults journal sitting
   part_at sitting others user first here whole left =
       let mine = and_parts (not sitting.seat.is_lost) (none_lost others) here in
       whole (not-true sitting.seat.is_lost mine.0) (ap (λ (n : ℕ). has_left journal n) (ap (λ (u : PlainUser). u.number) first) ∙ left)
@@ -162,8 +162,8 @@ module _ {K : Type 0} (told : K → Option (Told (ℕ × List ℕ))) (faults : K
       let number : sitting.seat.session.user ≡ user.number = ap (λ (u : PlainUser). u.number) first in
       let h = part_at sitting (seats_in sittings) user first here whole.0 left.0 in (
         number,
-        subst (λ (e : List Exchange). IsUserPart journal user e (printed_by sitting.exchanges sitting.seat.session)) (sym deals.0 ∙ ap dealings number)
-            (subst (λ (u : PlainUser). IsUserPart journal u sitting.exchanges (printed_by sitting.exchanges sitting.seat.session)) first h.part),
+        subst (λ (e : List Exchange). IsUserPart journal user e (echoed_and_printed sitting.exchanges sitting.seat.session)) (sym deals.0 ∙ ap dealings number)
+            (subst (λ (u : PlainUser). IsUserPart journal u sitting.exchanges (echoed_and_printed sitting.exchanges sitting.seat.session)) first h.part),
         parts_of sittings users others (and_parts (not sitting.seat.is_lost) (none_lost (seats_in sittings)) here).1 whole.1 left.1 deals.1,
       )
 
@@ -195,14 +195,14 @@ module _ {K : Type 0} (told : K → Option (Told (ℕ × List ℕ))) (faults : K
       let first : user_of sitting.seat.session ≡ user = cc in
       let others : map (λ (s : Sitting K). user_of s.seat.session) sittings ≡ users = cc in
       let h = part_at sitting (seats_in sittings) user first here whole.0 left.0 in (
-        record { heard = subst (λ (at : Stage). HasHeardAll at) (sym h.finished) tt; come = h.come },
+        record { heard = subst (λ (at : SessionStage). HasHeardAll at) (sym h.finished) tt; come = h.come },
         all_printed sittings users others (and_parts (not sitting.seat.is_lost) (none_lost (seats_in sittings)) here).1 whole.1 left.1,
       )
 
 module _ {X Y K : Type 0} (forgets_ten : X → ℕ → X → Type 0) (replies_ten : X → ℕ → PlainArray → PlainArray → X → Type 0)
     (forgets_twenty : Y → ℕ → Y → Type 0) (replies_twenty : Y → ℕ → PlainArray → PlainArray → Y → Type 0) (told : K → Option (Told (ℕ × List ℕ))) (faults : K → ℕ)
     (bundle : PlainBundle) (ten : X) (twenty : Y) (shelves : List K) (p : Parties X Y K) (sittings : List (Sitting K)) (h : AreTogether forgets_ten replies_ten forgets_twenty replies_twenty told faults bundle ten twenty shelves p sittings)
-    (transcripts : List PlainTranscript) (journal : Entries) (over : some_stay p.core.users p.core.journal ≡ false) (ended : IsEnded told faults p transcripts journal) where
+    (transcripts : List PlainTranscript) (journal : Entries) (over : some_stay p.core.users p.core.journal ≡ false) (ended : RunIsWhole told faults p transcripts journal) where
   left : AllByRecursion (λ (user : PlainUser). IsTrue (has_left p.core.journal user.number)) bundle.users
   left = all_left bundle.users p.core.journal (ap (λ (users : List ℕ). some_stay users p.core.journal) (sym h.numbers) ∙ over)
 
@@ -210,17 +210,17 @@ module _ {X Y K : Type 0} (forgets_ten : X → ℕ → X → Type 0) (replies_te
   whole = recursion_from_All _ sittings (h.whole (memory_of p ended.here))
 
   none_out : IsTrue (none_lost (seats_in sittings))
-  none_out = ap (λ (seats : List (Seat K)). none_lost seats) h.here ∙ memory_of_users p ended.here
+  none_out = ap (λ (seats : List (UserSeat K)). none_lost seats) h.here ∙ memory_of_users p ended.here
 
   users_there : map (λ (s : Sitting K). user_of s.seat.session) sittings ≡ bundle.users
-  users_there = sym (map-map (λ (s : Seat K). user_of s.session) (λ (s : Sitting K). s.seat) sittings) ∙ ap (λ (seats : List (Seat K)). map (λ (s : Seat K). user_of s.session) seats) h.here ∙ h.users
+  users_there = sym (map-map (λ (s : UserSeat K). user_of s.session) (λ (s : Sitting K). s.seat) sittings) ∙ ap (λ (seats : List (UserSeat K)). map (λ (s : UserSeat K). user_of s.session) seats) h.here ∙ h.users
 
   abbrev pub dealings : Dealings
   dealings = dealings_of sittings
 
   deals : AllByRecursion (λ (s : Sitting K). dealings s.seat.session.user ≡ s.exchanges) sittings
   deals = each_deals sittings
-      (subst (λ (seats : List (Seat K)). AscendBy (λ s. s.session.user) seats) (sym h.here) (seats_ascend forgets_ten replies_ten forgets_twenty replies_twenty told faults bundle ten twenty shelves p sittings h))
+      (subst (λ (seats : List (UserSeat K)). AscendBy (λ s. s.session.user) seats) (sym h.here) (seats_ascend forgets_ten replies_ten forgets_twenty replies_twenty told faults bundle ten twenty shelves p sittings h))
 
   printed : transcripts ≡ map transcript_of sittings
   printed = ended.printed sittings h.here (All-from_recursion _ sittings (all_printed told faults dealings p.core.journal sittings bundle.users users_there none_out whole left))
@@ -242,7 +242,7 @@ module _ {X Y K : Type 0} (forgets_ten : X → ℕ → X → Type 0) (replies_te
     legal = subst (λ (users : List ℕ). IsLegal users journal) h.numbers ended.legal;
     users = subst (λ (list : List PlainTranscript). AreUserParts dealings journal bundle.users list) (sym printed)
         (subst (λ (j : Entries). AreUserParts dealings j bundle.users (map transcript_of sittings)) (sym ended.same) (parts_of told faults dealings p.core.journal sittings bundle.users users_there none_out whole left deals));
-    shelves_served = subst₂ (λ (lent : List K) (seats : List (Seat K)). ServeUsers told faults dealings bundle.users (lent ++ rest) (map (λ seat. seat.session.shelf) seats ++ rest)) h.shelves h.here
+    shelves_served = subst₂ (λ (lent : List K) (seats : List (UserSeat K)). ServeUsers told faults dealings bundle.users (lent ++ rest) (map (λ seat. seat.session.shelf) seats ++ rest)) h.shelves h.here
         (serve_users told faults dealings p.core.journal sittings bundle.users rest users_there none_out whole left deals);
     parts = λ kind.
         subst (λ (j : Entries).
@@ -300,10 +300,10 @@ module _ {X Y K : Type 0} (told : K → Option (Told (ℕ × List ℕ))) (faults
   -- the end of a run whose parties are these
   pub ends_as : (transcripts : Option (Listed PlainTranscript)) (journal : Listed PlainEntry) (is_whole : Bool) (result : Ended) → result ≡ end_by transcripts journal is_whole → is_whole ≡ none_is_lost p
       → IfSome transcripts (λ list. ArePrinted list.items) → reverse journal.items ≡ p.core.journal → IsLegal p.core.users p.core.journal
-      → IfWhole result (λ texts entries. IsEnded told faults p texts entries)
+      → IfWhole result (λ texts entries. RunIsWhole told faults p texts entries)
   ends_as transcripts journal is_whole result is here printed same legal =
-      subst (λ (e : Ended). IfWhole e (λ texts entries. IsEnded told faults p texts entries)) (sym is)
-      (if_whole transcripts journal is_whole (λ texts entries. IsEnded told faults p texts entries)
+      subst (λ (e : Ended). IfWhole e (λ texts entries. RunIsWhole told faults p texts entries)) (sym is)
+      (if_whole transcripts journal is_whole (λ texts entries. RunIsWhole told faults p texts entries)
       (λ list some true_now. record {
         here = sym here ∙ true_now;
         same = same;
@@ -315,7 +315,7 @@ module _ {X Y K : Type 0} (forgets_ten : X → ℕ → X → Type 0) (replies_te
     (forgets_twenty : Y → ℕ → Y → Type 0) (replies_twenty : Y → ℕ → PlainArray → PlainArray → Y → Type 0) (told : K → Option (Told (ℕ × List ℕ))) (faults : K → ℕ) where
   -- what came of parties and an order
   came_of : (order : List ℕ) (start middle p : Parties X Y K) (rest : List K) (texts : List PlainTranscript) (entries : Entries) → TakesTurns forgets_ten replies_ten forgets_twenty replies_twenty told faults (ordered order) start middle
-      → TakesRounds forgets_ten replies_ten forgets_twenty replies_twenty told faults middle p → some_stay p.core.users p.core.journal ≡ false → IsEnded told faults p texts entries
+      → TakesRounds forgets_ten replies_ten forgets_twenty replies_twenty told faults middle p → some_stay p.core.users p.core.journal ≡ false → RunIsWhole told faults p texts entries
       → ComesOf forgets_ten replies_ten forgets_twenty replies_twenty told faults order start rest texts entries p.ten.replier p.twenty.replier (map (λ seat. seat.session.shelf) p.seats.items ++ rest)
   came_of order start middle p rest texts entries first more over ended bundle ten twenty lent sittings h =
       let k = first bundle ten twenty lent sittings h in
@@ -331,10 +331,10 @@ module _ {X Y K : Type 0} (forgets_ten : X → ℕ → X → Type 0) (replies_te
 
   pub comes_of : (order : List ℕ) (start middle p : Parties X Y K) (rest shelves_then : List K) (result : Ended) (ten_then : X) (twenty_then : Y)
       → TakesTurns forgets_ten replies_ten forgets_twenty replies_twenty told faults (ordered order) start middle → TakesRounds forgets_ten replies_ten forgets_twenty replies_twenty told faults middle p → some_stay p.core.users p.core.journal ≡ false
-      → IfWhole result (λ texts entries. IsEnded told faults p texts entries) → ten_then ≡ p.ten.replier → twenty_then ≡ p.twenty.replier → shelves_then ≡ map (λ seat. seat.session.shelf) p.seats.items ++ rest
+      → IfWhole result (λ texts entries. RunIsWhole told faults p texts entries) → ten_then ≡ p.ten.replier → twenty_then ≡ p.twenty.replier → shelves_then ≡ map (λ seat. seat.session.shelf) p.seats.items ++ rest
       → IfWhole result (λ texts entries. ComesOf forgets_ten replies_ten forgets_twenty replies_twenty told faults order start rest texts entries ten_then twenty_then shelves_then)
   comes_of order start middle p rest shelves_then result ten_then twenty_then first more over whole ten_is twenty_is shelves_are =
-      whole_more result (λ texts entries. IsEnded told faults p texts entries) (λ texts entries. ComesOf forgets_ten replies_ten forgets_twenty replies_twenty told faults order start rest texts entries ten_then twenty_then shelves_then)
+      whole_more result (λ texts entries. RunIsWhole told faults p texts entries) (λ texts entries. ComesOf forgets_ten replies_ten forgets_twenty replies_twenty told faults order start rest texts entries ten_then twenty_then shelves_then)
       (λ texts entries ended.
       subst (λ (x : X). ComesOf forgets_ten replies_ten forgets_twenty replies_twenty told faults order start rest texts entries x twenty_then shelves_then) (sym ten_is)
       (subst₂ (λ (y : Y) (k : List K). ComesOf forgets_ten replies_ten forgets_twenty replies_twenty told faults order start rest texts entries p.ten.replier y k) (sym twenty_is) (sym shelves_are)

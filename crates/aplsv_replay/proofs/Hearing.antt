@@ -20,33 +20,33 @@ use Rattle.sv_core.specs.Core.{ArePeople, PlainCore}
 use Rattle.sv_core.specs.Retry.{core_retried}
 use Rattle.session_rules.specs.Session.{session_of}
 use Rattle.session_rules.specs.SessionLaws.{tells_full}
-use Rattle.session_rules.specs.Shelf.{Reply}
+use Rattle.session_rules.specs.Shelf.{ShelfReply}
 use Rattle.session_rules.proofs.Taking.{full_is_rare, none_leaves}
 use Rattle.replay_rules.specs.SoFar.{IsSoFar, IsWaitedFor}
-use Rattle.replay_rules.specs.SoFarLaws.{Asks, with_answer}
-use Rattle.replay_rules.specs.Turns.{Participant, Turn, given}
+use Rattle.replay_rules.specs.SoFarLaws.{Asks, user_with_answer}
+use Rattle.replay_rules.specs.Turns.{Participant, AfterTurn, answer_given}
 use Rattle.replay_rules.proofs.SoFar.{answered_on, held_on, refused_on}
 use Rattle.replay_rules.proofs.UserTurns.{turn_is}
 use Rattle.apl_session.specs.PlainSession.{PlainSession}
-use Rattle.apl_session.specs.declared.session.Stage.TheVariants as stage
+use Rattle.apl_session.specs.declared.session.SessionStage.TheVariants as stage
 use Rattle.aplsv_replay.specs.Participants.{participant_with}
 use Rattle.aplsv_replay.specs.SoFar.{GrowsBy, IsSameUser, heard, is_waiting, work_with}
 use Rattle.aplsv_replay.proofs.Making.{IsMade, entering, held_again, made_again, made_grows, made_now, made_stays, refusing}
 
 -- the user of a session is so far, where these are all replies that its shelf gives in the end
-abbrev pub IsUserAt : {K : Type 0} → List Reply → Entries → PlainSession K → Type 0
+abbrev pub IsUserAt : {K : Type 0} → List ShelfReply → Entries → PlainSession K → Type 0
 IsUserAt replies journal s = IsSoFar journal (participant_with replies s) (is_waiting s.stage)
 
 -- or it is but for the act that its session asks now, since the journal is full
-abbrev pub IsTriedAt : {K : Type 0} → List Reply → Entries → PlainSession K → Type 0
+abbrev pub IsTriedAt : {K : Type 0} → List ShelfReply → Entries → PlainSession K → Type 0
 IsTriedAt replies journal s = IsUserAt replies journal s ⊎ (IsTrue (is_full journal) × IsSoFar journal (participant_with replies s) false)
 
 -- its turn was that of a replay
-abbrev pub IsTurnAt : {K : Type 0} → List Reply → PlainCore → PlainSession K → PlainCore → PlainSession K → Type 0
+abbrev pub IsTurnAt : {K : Type 0} → List ShelfReply → PlainCore → PlainSession K → PlainCore → PlainSession K → Type 0
 IsTurnAt replies before s after now = turn before.users before.journal (participant_with replies s) ≡ record { journal = after.journal; user = participant_with replies now }
 
 -- a user that has not left went on by an act
-pub record HasGoneOn {K : Type 0} (replies : List Reply) (before : PlainCore) (s : PlainSession K) (after : PlainCore) (now : PlainSession K) : Type 0 where
+pub record HasGoneOn {K : Type 0} (replies : List ShelfReply) (before : PlainCore) (s : PlainSession K) (after : PlainCore) (now : PlainSession K) : Type 0 where
   pub same : IsSameUser s now
   pub grows : GrowsBy s.user before after
   pub so_far : IsUserAt replies after.journal now
@@ -56,21 +56,21 @@ pub record HasGoneOn {K : Type 0} (replies : List Reply) (before : PlainCore) (s
 -- ---- what a user did so far
 
 -- no line asks to leave
-pub asked_stays : (lines : List (List ℕ)) (answers : List PlainAnswer) (replies : List Reply) (act : Act) → (session_of lines answers replies).waits ≡ Some act → is_leave act ≡ false
+pub asked_stays : (lines : List (List ℕ)) (answers : List PlainAnswer) (replies : List ShelfReply) (act : Act) → (session_of lines answers replies).waits ≡ Some act → is_leave act ≡ false
 asked_stays lines answers replies act asks = not-true (is_leave act) (none_leaves lines answers replies act asks)
 
 so_far_made : (journal : Entries) (user : Participant) (waiting held : Bool) (act : Act) (after : Entries) (answer : PlainAnswer) → IsMade journal user.number act after answer → IsSoFar journal user waiting
-    → Asks user act → is_held (kind_of answer) ≡ held → IsSoFar after (if held then user else with_answer user answer) held
+    → Asks user act → is_held (kind_of answer) ≡ held → IsSoFar after (if held then user else user_with_answer user answer) held
 so_far_made journal user waiting true act after answer (refusing h) so asks is = absurd (let no : false ≡ true = sym (ap (λ (a : PlainAnswer). is_held (kind_of a)) h.given) ∙ is in cc)
 so_far_made journal user waiting false act after answer (refusing h) so asks is =
-    subst₂ (λ (j : Entries) (a : PlainAnswer). IsSoFar j (with_answer user a) false) (sym h.same) (sym h.given) (refused_on journal user waiting act so h.limit asks)
+    subst₂ (λ (j : Entries) (a : PlainAnswer). IsSoFar j (user_with_answer user a) false) (sym h.same) (sym h.given) (refused_on journal user waiting act so h.limit asks)
 so_far_made journal user waiting true act after answer (entering h) so asks is =
     let stays : is_leave h.e.act ≡ false = ap is_leave h.made ∙ asked_stays user.lines user.answers user.replies act asks in
     subst (λ (j : Entries). IsSoFar j user true) (sym h.added)
     (held_on journal user waiting h.e so h.room (record { own = h.own; stays = stays }) (ap (λ (a : PlainAnswer). is_held (kind_of a)) h.given ∙ is) (asks ∙ ap (λ (a : Act). Some a) (sym h.made)))
 so_far_made journal user waiting false act after answer (entering h) so asks is =
     let stays : is_leave h.e.act ≡ false = ap is_leave h.made ∙ asked_stays user.lines user.answers user.replies act asks in
-    subst₂ (λ (j : Entries) (a : PlainAnswer). IsSoFar j (with_answer user a) false) (sym h.added) h.given
+    subst₂ (λ (j : Entries) (a : PlainAnswer). IsSoFar j (user_with_answer user a) false) (sym h.added) h.given
     (answered_on journal user waiting h.e so h.room (record { own = h.own; stays = stays }) (ap (λ (a : PlainAnswer). is_held (kind_of a)) h.given ∙ is) (asks ∙ ap (λ (a : Act). Some a) (sym h.made)))
 
 -- ---- what its session hears
@@ -86,19 +86,19 @@ heard_same_user {K = K} m answer s = by (is_held (kind_of answer))
     by true = refl
     by false = refl
 
-heard_participant : {K : Type 0} (replies : List Reply) (m : PlainSession K) (answer : PlainAnswer) (s : PlainSession K) → participant_with replies (heard answer m s) ≡ given answer (participant_with replies s)
+heard_participant : {K : Type 0} (replies : List ShelfReply) (m : PlainSession K) (answer : PlainAnswer) (s : PlainSession K) → participant_with replies (heard answer m s) ≡ answer_given answer (participant_with replies s)
 heard_participant {K = K} replies m answer s = by (is_held (kind_of answer))
   where
-    by : (b : Bool) → participant_with replies (heard_by b answer m s) ≡ (if b then participant_with replies s else with_answer (participant_with replies s) answer)
+    by : (b : Bool) → participant_with replies (heard_by b answer m s) ≡ (if b then participant_with replies s else user_with_answer (participant_with replies s) answer)
     by true = refl
     by false = refl
 
-heard_so_far : {K : Type 0} (replies : List Reply) (m : PlainSession K) (after : Entries) (s : PlainSession K) (answer : PlainAnswer) (held : Bool) → s.stage ≡ stage.Waiting → IsSoFar after (if held then participant_with replies s else with_answer (participant_with replies s) answer) held
+heard_so_far : {K : Type 0} (replies : List ShelfReply) (m : PlainSession K) (after : Entries) (s : PlainSession K) (answer : PlainAnswer) (held : Bool) → s.stage ≡ stage.Waiting → IsSoFar after (if held then participant_with replies s else user_with_answer (participant_with replies s) answer) held
     → IsUserAt replies after (heard_by held answer m s)
 heard_so_far replies m after s answer true at so = subst (λ (w : Bool). IsSoFar after (participant_with replies s) w) (sym (ap is_waiting at)) so
 heard_so_far replies m after s answer false at so = so
 
-made_so_far : {K : Type 0} (replies : List Reply) (m : PlainSession K) (journal : Entries) (s : PlainSession K) (waiting : Bool) (act : Act) (after : Entries) (answer : PlainAnswer) → IsMade journal s.user act after answer → IsSoFar journal (participant_with replies s) waiting
+made_so_far : {K : Type 0} (replies : List ShelfReply) (m : PlainSession K) (journal : Entries) (s : PlainSession K) (waiting : Bool) (act : Act) (after : Entries) (answer : PlainAnswer) → IsMade journal s.user act after answer → IsSoFar journal (participant_with replies s) waiting
     → Asks (participant_with replies s) act → s.stage ≡ stage.Waiting → IsUserAt replies after (heard answer m s)
 made_so_far {K = K} replies m journal s waiting act after answer made so asks at =
     let held : Bool = is_held (kind_of answer) in heard_so_far replies m after s answer held at (so_far_made journal (participant_with replies s) waiting held act after answer made so asks refl)
@@ -121,7 +121,7 @@ some_is {A = A} o a is = subst (λ (p : Option A). IsSome p) (sym is) refl
 count_push : (answers : List PlainAnswer) (answer : PlainAnswer) → count_by tells_full (answers ++ answer ∷ []) ≡ count_by tells_full answers + count_by tells_full (answer ∷ [])
 count_push answers answer = sum_by-append (λ (a : PlainAnswer). cond (tells_full a) 1 0) answers (answer ∷ [])
 
-work_falls : {K : Type 0} (replies : List Reply) (m : PlainSession K) (journal : Entries) (s : PlainSession K) (held : Bool) (act : Act) (after : Entries) (answer : PlainAnswer) → IsMade journal s.user act after answer → has_left journal s.user ≡ false → Asks (participant_with replies s) act
+work_falls : {K : Type 0} (replies : List ShelfReply) (m : PlainSession K) (journal : Entries) (s : PlainSession K) (held : Bool) (act : Act) (after : Entries) (answer : PlainAnswer) → IsMade journal s.user act after answer → has_left journal s.user ≡ false → Asks (participant_with replies s) act
     → is_held (kind_of answer) ≡ held → work_with after (heard_by held answer m s) < work_with journal s
 work_falls replies m journal s true act after answer (refusing h) present asks is = absurd (let no : false ≡ true = sym (ap (λ (a : PlainAnswer). is_held (kind_of a)) h.given) ∙ is in cc)
 work_falls replies m journal s false act after answer (refusing h) present asks is =
@@ -156,7 +156,7 @@ waits_at_limit journal user so waiting =
     refused_limit journal user so.refused a.0 (subst (λ (o : Option Act). IfSome o (IsWaitedFor user false so.refused)) a.1 so.waited) so.at_limit
 
 -- a session that waits asks the act that its user waits for
-pub waiting_asks : {K : Type 0} (replies : List Reply) (journal : Entries) (s : PlainSession K) → s.stage ≡ stage.Waiting → IsUserAt replies journal s → waits journal s.user ≡ true → IsSome (session_of s.lines s.answers replies).waits
+pub waiting_asks : {K : Type 0} (replies : List ShelfReply) (journal : Entries) (s : PlainSession K) → s.stage ≡ stage.Waiting → IsUserAt replies journal s → waits journal s.user ≡ true → IsSome (session_of s.lines s.answers replies).waits
 waiting_asks replies journal s at h waiting =
     let so : IsSoFar journal (participant_with replies s) true = subst (λ (w : Bool). IsSoFar journal (participant_with replies s) w) (ap is_waiting at) h in
     let a = some_act (awaited journal s.user) waiting in
@@ -165,7 +165,7 @@ waiting_asks replies journal s at h waiting =
     some_is (session_of s.lines s.answers replies).waits a.0 k.1
 
 -- and the user does wait
-pub waiting_waits : {K : Type 0} (replies : List Reply) (journal : Entries) (s : PlainSession K) → s.stage ≡ stage.Waiting → IsUserAt replies journal s → waits journal s.user ≡ true
+pub waiting_waits : {K : Type 0} (replies : List ShelfReply) (journal : Entries) (s : PlainSession K) → s.stage ≡ stage.Waiting → IsUserAt replies journal s → waits journal s.user ≡ true
 waiting_waits replies journal s at h = (h.going (ap is_waiting at)).1
 
 -- ---- the act that a user makes now
@@ -186,7 +186,7 @@ any_is_due users journal party act people user free =
 -- ---- an act that is made
 
 -- where an act was made so, and its answer heard, the user has gone on
-gone_on : {K : Type 0} (replies : List Reply) (m : PlainSession K) (before after : PlainCore) (s : PlainSession K) (waiting : Bool) (act : Act) (answer : PlainAnswer) → IsMade before.journal s.user act after.journal answer → after.users ≡ before.users
+gone_on : {K : Type 0} (replies : List ShelfReply) (m : PlainSession K) (before after : PlainCore) (s : PlainSession K) (waiting : Bool) (act : Act) (answer : PlainAnswer) → IsMade before.journal s.user act after.journal answer → after.users ≡ before.users
     → has_left before.journal s.user ≡ false → s.stage ≡ stage.Waiting → Asks (participant_with replies s) act → IsSoFar before.journal (participant_with replies s) waiting → IsTurnAt replies before s after (heard answer m s) → HasGoneOn replies before s after (heard answer m s)
 gone_on replies m before after s waiting act answer made users present at asks so turned = record {
   same = heard_same_user m answer s;
@@ -207,21 +207,21 @@ pub record IsTriedAgain (before : PlainCore) (party : ℕ) (after : PlainCore) (
   pub became : after ≡ core_retried before party
 
 -- an act of a user that does not wait
-pub stepped : {K : Type 0} (replies : List Reply) (m : PlainSession K) (before after : PlainCore) (s now : PlainSession K) (waiting : Bool) (act : Act) (answer : PlainAnswer) → has_left before.journal s.user ≡ false → s.stage ≡ stage.Waiting → Asks (participant_with replies s) act
+pub stepped : {K : Type 0} (replies : List ShelfReply) (m : PlainSession K) (before after : PlainCore) (s now : PlainSession K) (waiting : Bool) (act : Act) (answer : PlainAnswer) → has_left before.journal s.user ≡ false → s.stage ≡ stage.Waiting → Asks (participant_with replies s) act
     → waits before.journal s.user ≡ false → IsSoFar before.journal (participant_with replies s) waiting → IsStepped before s.user act after answer → now ≡ heard answer m s → HasGoneOn replies before s after now
 stepped {K = K} replies m before after s now waiting act answer present at asks free so step hears =
     let c : PlainCore = record { users = before.users; journal = journal_after before.journal s.user act } in
     let a : PlainAnswer = answer_to before.journal s.user act in
     let turned : IsTurnAt replies before s c (heard a m s) =
     turn_is before.users before.journal (participant_with replies s) act false present asks free
-    ∙ ap (λ (p : Participant). let t : Turn = record { journal = c.journal; user = p } in t) (sym (heard_participant replies m a s)) in
+    ∙ ap (λ (p : Participant). let t : AfterTurn = record { journal = c.journal; user = p } in t) (sym (heard_participant replies m a s)) in
     let gone : HasGoneOn replies before s c (heard a m s) = gone_on replies m before c s waiting act a (made_now before.journal s.user act) refl present at asks so turned in
     subst₂ (λ (d : PlainCore) (t : PlainSession K). HasGoneOn replies before s d t) (sym step.became) (sym (hears ∙ ap (λ (b : PlainAnswer). heard b m s) step.told)) gone
 
 -- ---- an act that is tried again
 
 -- a user that is held still: nothing has changed
-pub record IsStillAsBefore {K : Type 0} (replies : List Reply) (before : PlainCore) (s : PlainSession K) (after : PlainCore) : Type 0 where
+pub record IsStillAsBefore {K : Type 0} (replies : List ShelfReply) (before : PlainCore) (s : PlainSession K) (after : PlainCore) : Type 0 where
   pub stays : after ≡ before
   pub grows : GrowsBy s.user before after
   pub so_far : IsUserAt replies after.journal s
@@ -229,14 +229,14 @@ pub record IsStillAsBefore {K : Type 0} (replies : List Reply) (before : PlainCo
   pub turn : IsTurnAt replies before s after s
 
 -- a user that is held still is so far, since there is room
-still_so_far : {K : Type 0} (replies : List Reply) (before : PlainCore) (s : PlainSession K) → is_still_held before.users before.journal s.user ≡ true → IsTriedAt replies before.journal s → IsUserAt replies before.journal s
+still_so_far : {K : Type 0} (replies : List ShelfReply) (before : PlainCore) (s : PlainSession K) → is_still_held before.users before.journal s.user ≡ true → IsTriedAt replies before.journal s → IsUserAt replies before.journal s
 still_so_far replies before s held (inl h) = h
 still_so_far replies before s held (inr h) =
     let room : not (is_full before.journal) ≡ true = (and_parts (not (is_full before.journal)) (is_some (still_refused before.journal s.user)) (and_parts (not (is_full before.journal) && is_some (still_refused before.journal s.user)) (not (is_stuck before.users before.journal)) held).0).0 in
     absurd (both_ways (is_full before.journal) (not-true (is_full before.journal) room) h.0)
 
 -- a user that is held still
-pub held_still : {K : Type 0} (replies : List Reply) (before after : PlainCore) (s : PlainSession K) → has_left before.journal s.user ≡ false → s.stage ≡ stage.Waiting → IsSome (session_of s.lines s.answers replies).waits
+pub held_still : {K : Type 0} (replies : List ShelfReply) (before after : PlainCore) (s : PlainSession K) → has_left before.journal s.user ≡ false → s.stage ≡ stage.Waiting → IsSome (session_of s.lines s.answers replies).waits
     → waits before.journal s.user ≡ true → IsTriedAt replies before.journal s → IsTriedAgain before s.user after None → IsStillAsBefore replies before s after
 held_still {K = K} replies before after s present at some waiting retrying try =
     let asked = some_act (session_of s.lines s.answers replies).waits some in
@@ -249,8 +249,8 @@ held_still {K = K} replies before after s present at some waiting retrying try =
     let stays : after ≡ before = try.became ∙ h.1 in
     let turned : IsTurnAt replies before s before s =
     turn_is before.users before.journal (participant_with replies s) act true present asks waiting
-    ∙ ap (λ (c : PlainCore). let t : Turn = record { journal = c.journal; user = option_map_or (λ answer. given answer (participant_with replies s)) (retried before.users before.journal s.user) (participant_with replies s) } in t) h.1
-    ∙ ap (λ (o : Option PlainAnswer). let t : Turn = record { journal = before.journal; user = option_map_or (λ answer. given answer (participant_with replies s)) o (participant_with replies s) } in t) got in
+    ∙ ap (λ (c : PlainCore). let t : AfterTurn = record { journal = c.journal; user = option_map_or (λ answer. answer_given answer (participant_with replies s)) (retried before.users before.journal s.user) (participant_with replies s) } in t) h.1
+    ∙ ap (λ (o : Option PlainAnswer). let t : AfterTurn = record { journal = before.journal; user = option_map_or (λ answer. answer_given answer (participant_with replies s)) o (participant_with replies s) } in t) got in
     let still : IsStillAsBefore replies before s before = record {
       stays = refl;
       grows = record { users = refl; entries = []; own = All-nil (λ (e : PlainEntry). e.party ≡ s.user); journal = refl };
@@ -267,7 +267,7 @@ full_again before after s tried act answer limit (refusing h) = refusing h
 full_again before after s tried act answer limit (entering h) = absurd (both_ways (is_full before.journal) h.room limit)
 
 -- the act that a user waits for is the one that its session asks, unless the journal is full
-asked_is : {K : Type 0} (replies : List Reply) (before : PlainCore) (s : PlainSession K) (tried act : Act) (refused : List Act) → awaited before.journal s.user ≡ Some tried → Asks (participant_with replies s) act → refused ≡ []
+asked_is : {K : Type 0} (replies : List ShelfReply) (before : PlainCore) (s : PlainSession K) (tried act : Act) (refused : List Act) → awaited before.journal s.user ≡ Some tried → Asks (participant_with replies s) act → refused ≡ []
     → IfSome (awaited before.journal s.user) (IsWaitedFor (participant_with replies s) true refused) → tried ≡ act
 asked_is replies before s tried act refused awaits asks none h =
     let k : IsWaitedFor (participant_with replies s) true [] tried =
@@ -275,7 +275,7 @@ asked_is replies before s tried act refused awaits asks none h =
     same_Some tried act (sym k.1 ∙ asks)
 
 -- so an act that is tried again is made as the one that the session asks
-pub made_as_asked : {K : Type 0} (replies : List Reply) (before after : PlainCore) (s : PlainSession K) (tried act : Act) (answer : PlainAnswer) → s.stage ≡ stage.Waiting → awaited before.journal s.user ≡ Some tried → Asks (participant_with replies s) act
+pub made_as_asked : {K : Type 0} (replies : List ShelfReply) (before after : PlainCore) (s : PlainSession K) (tried act : Act) (answer : PlainAnswer) → s.stage ≡ stage.Waiting → awaited before.journal s.user ≡ Some tried → Asks (participant_with replies s) act
     → IsTriedAt replies before.journal s → IsMade before.journal s.user tried after.journal answer → (going : Bool) × IsSoFar before.journal (participant_with replies s) going × IsMade before.journal s.user act after.journal answer
 made_as_asked {K = K} replies before after s tried act answer at awaits asks (inl h) made =
     let so : IsSoFar before.journal (participant_with replies s) true = subst (λ (w : Bool). IsSoFar before.journal (participant_with replies s) w) (ap is_waiting at) h in
@@ -284,15 +284,15 @@ made_as_asked {K = K} replies before after s tried act answer at awaits asks (in
 made_as_asked {K = K} replies before after s tried act answer at awaits asks (inr h) made = (false, h.1, full_again before after s tried act answer h.0 made)
 
 -- the turn of a user that tries again and is answered
-retried_turn : {K : Type 0} (replies : List Reply) (m : PlainSession K) (before : PlainCore) (s : PlainSession K) (act : Act) (answer : PlainAnswer) → has_left before.journal s.user ≡ false → Asks (participant_with replies s) act → waits before.journal s.user ≡ true
+retried_turn : {K : Type 0} (replies : List ShelfReply) (m : PlainSession K) (before : PlainCore) (s : PlainSession K) (act : Act) (answer : PlainAnswer) → has_left before.journal s.user ≡ false → Asks (participant_with replies s) act → waits before.journal s.user ≡ true
     → retried before.users before.journal s.user ≡ Some answer → IsTurnAt replies before s (core_retried before s.user) (heard answer m s)
 retried_turn replies m before s act answer present asks waiting got =
     turn_is before.users before.journal (participant_with replies s) act true present asks waiting
-    ∙ ap (λ (o : Option PlainAnswer). let t : Turn = record { journal = (core_retried before s.user).journal; user = option_map_or (λ a. given a (participant_with replies s)) o (participant_with replies s) } in t) got
-    ∙ ap (λ (p : Participant). let t : Turn = record { journal = (core_retried before s.user).journal; user = p } in t) (sym (heard_participant replies m answer s))
+    ∙ ap (λ (o : Option PlainAnswer). let t : AfterTurn = record { journal = (core_retried before s.user).journal; user = option_map_or (λ a. answer_given a (participant_with replies s)) o (participant_with replies s) } in t) got
+    ∙ ap (λ (p : Participant). let t : AfterTurn = record { journal = (core_retried before s.user).journal; user = p } in t) (sym (heard_participant replies m answer s))
 
 -- a user that tries its act again and is answered
-pub tried : {K : Type 0} (replies : List Reply) (m : PlainSession K) (before after : PlainCore) (s now : PlainSession K) (answer : PlainAnswer) → has_left before.journal s.user ≡ false → s.stage ≡ stage.Waiting → IsSome (session_of s.lines s.answers replies).waits
+pub tried : {K : Type 0} (replies : List ShelfReply) (m : PlainSession K) (before after : PlainCore) (s now : PlainSession K) (answer : PlainAnswer) → has_left before.journal s.user ≡ false → s.stage ≡ stage.Waiting → IsSome (session_of s.lines s.answers replies).waits
     → waits before.journal s.user ≡ true → IsTriedAt replies before.journal s → IsTriedAgain before s.user after (Some answer) → now ≡ heard answer m s → HasGoneOn replies before s after now
 tried {K = K} replies m before after s now answer present at some waiting h try hears =
     let got : Some answer ≡ retried before.users before.journal s.user = try.told in

@@ -13,8 +13,8 @@ use Rattle.sv_rules.specs.Legal.{entry_for}
 use Rattle.sv_core.specs.Core.{PlainCore, core_after}
 use Rattle.session_rules.specs.Session.{session_of}
 use Rattle.session_rules.specs.SessionLaws.{tells_full}
-use Rattle.session_rules.specs.Shelf.{Reply}
-use Rattle.replay_rules.specs.Turns.{Participant, Turn, turn_by}
+use Rattle.session_rules.specs.Shelf.{ShelfReply}
+use Rattle.replay_rules.specs.Turns.{Participant, AfterTurn, turn_by}
 use Rattle.replay_rules.proofs.SoFar.{own_leave_leaves}
 use Rattle.apl_session.specs.PlainSession.{PlainSession}
 use Rattle.aplsv_replay.specs.Participants.{participant_with}
@@ -62,17 +62,17 @@ leaving_goes_on before after s now same grows left stays =
     inl (omega (arith, no_work after.journal now there, work_of_one before.journal s stays, few))
 
 -- the turn of a user whose lines are done
-pub leaving_turn : {K : Type 0} (replies : List Reply) (before after : PlainCore) (s now : PlainSession K) → has_left before.journal s.user ≡ false → (session_of s.lines s.answers replies).waits ≡ None → after ≡ core_after before s.user Leave
+pub leaving_turn : {K : Type 0} (replies : List ShelfReply) (before after : PlainCore) (s now : PlainSession K) → has_left before.journal s.user ≡ false → (session_of s.lines s.answers replies).waits ≡ None → after ≡ core_after before s.user Leave
     → participant_with replies now ≡ participant_with replies s → IsTurnAt replies before s after now
 leaving_turn {K = K} replies before after s now present over became same =
     ap (λ (left : Bool). turn_by left (session_of s.lines s.answers replies).waits before.users before.journal (participant_with replies s)) present
     ∙ ap (λ (next : Option Act). turn_by false next before.users before.journal (participant_with replies s)) over
-    ∙ ap (λ (c : PlainCore). let t : Turn = record { journal = c.journal; user = participant_with replies s } in t) (sym became)
-    ∙ ap (λ (u : Participant). let t : Turn = record { journal = after.journal; user = u } in t) (sym same)
+    ∙ ap (λ (c : PlainCore). let t : AfterTurn = record { journal = c.journal; user = participant_with replies s } in t) (sym became)
+    ∙ ap (λ (u : Participant). let t : AfterTurn = record { journal = after.journal; user = u } in t) (sym same)
 
 -- ---- a user that has left
 
-pub gone_turn : {K : Type 0} (replies : List Reply) (core : PlainCore) (s : PlainSession K) → has_left core.journal s.user ≡ true → IsTurnAt replies core s core s
+pub gone_turn : {K : Type 0} (replies : List ShelfReply) (core : PlainCore) (s : PlainSession K) → has_left core.journal s.user ≡ true → IsTurnAt replies core s core s
 gone_turn replies core s left = ap (λ (l : Bool). turn_by l (session_of s.lines s.answers replies).waits core.users core.journal (participant_with replies s)) left
 
 -- ---- a user that stays

@@ -8,7 +8,7 @@ use Rattle.std.proofs.lemmas.List.Elements.{recursion_from_All}
 use Rattle.sv_rules.specs.Limits.{most_entries}
 use Rattle.sv_core.specs.Core.{PlainCore}
 use Rattle.sv_events.specs.declared.work.Work.TheVariants.{Idle}
-use Rattle.aux_parties.specs.Auxiliaries.{auxiliaries, party_of, row_of}
+use Rattle.aux_parties.specs.Auxiliaries.{auxiliaries, party_of, auxiliary_row}
 use Rattle.sv_rules.specs.Entries.{Entries, counted_entries, has_left, is_full}
 use Rattle.sv_rules.specs.Legal.{is_still_held}
 use Rattle.sv_rules.specs.Refused.{still_refused}
@@ -20,12 +20,12 @@ use Rattle.aux_parties.proofs.TableLemmas.{all_pass, of_kinds, of_rows}
 use Rattle.session_rules.specs.Auxiliaries.{some_stay}
 use Rattle.apl_io.specs.Content.{Told}
 use Rattle.apl_session.specs.PlainSession.{PlainSession}
-use Rattle.aplsv_replay.specs.SeatTurns.{AreSeatTurns, IsHeld, is_due, seat_numbers, work_left}
+use Rattle.aplsv_replay.specs.SeatTurns.{AreSeatTurns, IsHeld, has_turn, seat_numbers, work_left}
 use Rattle.aplsv_replay.specs.Sittings.{Sitting, seats_in}
 use Rattle.aplsv_replay.specs.SoFar.{user_work}
 use Rattle.aplsv_replay.specs.Together.{LeavesLess, auxiliary_of, left_to_do}
 use Rattle.aplsv_replay.specs.declared.parties.Parties.{Parties}
-use Rattle.aplsv_replay.specs.declared.seat.Seat.{Seat}
+use Rattle.aplsv_replay.specs.declared.seat.UserSeat.{UserSeat}
 use Rattle.aplsv_replay.proofs.Sits.{sum_of_seen}
 
 -- some user is still held, in a run that does not close
@@ -35,7 +35,7 @@ record SomeHeld (closes : Bool) (core : PlainCore) : Type 0 where
   held : IsTrue (is_still_held core.users core.journal user)
 
 -- who stays is held
-staying_is_held : {K : Type 0} (closes : Bool) (core : PlainCore) (seats : List (Seat K)) → IsTrue (some_stay (seat_numbers seats) core.journal) → AllByRecursion (IsHeld true closes core) seats → SomeHeld closes core
+staying_is_held : {K : Type 0} (closes : Bool) (core : PlainCore) (seats : List (UserSeat K)) → IsTrue (some_stay (seat_numbers seats) core.journal) → AllByRecursion (IsHeld true closes core) seats → SomeHeld closes core
 staying_is_held closes core [] stay held = absurd (let no : false ≡ true = stay in cc)
 staying_is_held closes core (seat ∷ seats) stay held = by (has_left core.journal seat.session.user) refl (λ rest. staying_is_held closes core seats rest held.1) where
   by : (left : Bool) → has_left core.journal seat.session.user ≡ left → (IsTrue (some_stay (seat_numbers seats) core.journal) → SomeHeld closes core) → SomeHeld closes core
@@ -51,7 +51,7 @@ held_goes_on users journal user held =
     not-true (is_stuck users journal) (and_parts (not (is_full journal) && is_some (still_refused journal user)) (not (is_stuck users journal)) held).1
 
 -- so all users have left or are refused
-all_are_halted : {K : Type 0} (closes : Bool) (core : PlainCore) (seats : List (Seat K)) → AllByRecursion (IsHeld true closes core) seats → list_all (is_halted core.journal) (seat_numbers seats) ≡ true
+all_are_halted : {K : Type 0} (closes : Bool) (core : PlainCore) (seats : List (UserSeat K)) → AllByRecursion (IsHeld true closes core) seats → list_all (is_halted core.journal) (seat_numbers seats) ≡ true
 all_are_halted closes core [] held = refl
 all_are_halted closes core (seat ∷ seats) held =
     and_from (is_halted core.journal seat.session.user) (list_all (is_halted core.journal) (seat_numbers seats)) (by (has_left core.journal seat.session.user) refl) (all_are_halted closes core seats held.1)
@@ -61,7 +61,7 @@ all_are_halted closes core (seat ∷ seats) held =
     by false is = or_right (has_left core.journal seat.session.user) (is_some (still_refused core.journal seat.session.user)) (held_is_refused core.users core.journal seat.session.user (held.0 refl is).1)
 
 -- where in addition no auxiliary has work nobody can go on
-all_stuck : {K : Type 0} (closes : Bool) (core : PlainCore) (seats : List (Seat K)) → seat_numbers seats ≡ core.users → IsTrue (some_stay core.users core.journal) → AllByRecursion (IsHeld true closes core) seats
+all_stuck : {K : Type 0} (closes : Bool) (core : PlainCore) (seats : List (UserSeat K)) → seat_numbers seats ≡ core.users → IsTrue (some_stay core.users core.journal) → AllByRecursion (IsHeld true closes core) seats
     → AllByRecursion (λ (row : AuxiliaryRow). work_of core.journal row.party ≡ Idle) auxiliaries → is_stuck core.users core.journal ≡ true
 all_stuck closes core seats numbers stay held idle =
     let halted : list_all (is_halted core.journal) core.users ≡ true = ap (λ (users : List ℕ). list_all (is_halted core.journal) users) (sym numbers) ∙ all_are_halted closes core seats held in
@@ -76,11 +76,11 @@ held_seats closes core [] h = tt
 held_seats closes core (s ∷ sittings) h = (h.0, held_seats closes core sittings h.1)
 
 -- the same sessions have as much left to do
-same_left : {K : Type 0} (journal : Entries) (nows seats : List (Seat K)) (sittings : List (Sitting K)) → map (λ s. s.session) nows ≡ map (λ s. s.seat.session) sittings → seats_in sittings ≡ seats → work_left journal nows ≡ work_left journal seats
+same_left : {K : Type 0} (journal : Entries) (nows seats : List (UserSeat K)) (sittings : List (Sitting K)) → map (λ s. s.session) nows ≡ map (λ s. s.seat.session) sittings → seats_in sittings ≡ seats → work_left journal nows ≡ work_left journal seats
 same_left {K = K} journal nows seats sittings sessions here =
-    let sums : (list : List (Seat K)) → sum_by (λ (s : Seat K). user_work journal s.session) list ≡ sum_by (user_work journal) (map (λ (s : Seat K). s.session) list) = λ list. sym (sum_of_seen (user_work journal) (λ (s : Seat K). s.session) list) in
+    let sums : (list : List (UserSeat K)) → sum_by (λ (s : UserSeat K). user_work journal s.session) list ≡ sum_by (user_work journal) (map (λ (s : UserSeat K). s.session) list) = λ list. sym (sum_of_seen (user_work journal) (λ (s : UserSeat K). s.session) list) in
     ap (λ (n : ℕ). (most_entries - counted_entries journal) + n)
-    (sums nows ∙ ap (λ (list : List (PlainSession K)). sum_by (user_work journal) list) (sessions ∙ sym (map-map (λ (s : Seat K). s.session) (λ (s : Sitting K). s.seat) sittings) ∙ ap (λ (list : List (Seat K)). map (λ (s : Seat K). s.session) list) here) ∙ sym (sums seats))
+    (sums nows ∙ ap (λ (list : List (PlainSession K)). sum_by (user_work journal) list) (sessions ∙ sym (map-map (λ (s : UserSeat K). s.session) (λ (s : Sitting K). s.seat) sittings) ∙ ap (λ (list : List (UserSeat K)). map (λ (s : UserSeat K). s.session) list) here) ∙ sym (sums seats))
 
 less_through : (a b c : ℕ) → a < b → b ≤ c → a < c
 less_through a b c one two = omega arith
@@ -113,7 +113,7 @@ module _ {X Y K : Type 0} where
 
   -- one turn more
   pub one_turn_more : (kind : AuxiliaryKind) (rows : List AuxiliaryRow) (p q r : Parties X Y K) → HadTurns rows p q → LeavesLess (party_of kind) (auxiliary_of r kind).is_lost q r
-      → ((other : AuxiliaryKind) → (auxiliary_of q other).is_lost ≡ true → (auxiliary_of r other).is_lost ≡ true) → HadTurns (row_of kind ∷ rows) p r
+      → ((other : AuxiliaryKind) → (auxiliary_of q other).is_lost ≡ true → (auxiliary_of r other).is_lost ≡ true) → HadTurns (auxiliary_row kind ∷ rows) p r
   one_turn_more kind rows p q r had turn stays = record {
     most = at_most_through (left_to_do r) (left_to_do q) (left_to_do p) turn.most had.most;
     rests = elim had.rests [
@@ -132,12 +132,12 @@ module _ {X Y K : Type 0} where
   }
     where
       idle_still : (own : AuxiliaryKind) (others : List AuxiliaryRow) (before after : Parties X Y K) → after.core ≡ before.core → work_of before.core.journal (party_of own) ≡ Idle
-          → AllByRecursion (λ (row : AuxiliaryRow). work_of before.core.journal row.party ≡ Idle) others → AllByRecursion (λ (row : AuxiliaryRow). work_of after.core.journal row.party ≡ Idle) (row_of own ∷ others)
+          → AllByRecursion (λ (row : AuxiliaryRow). work_of before.core.journal row.party ≡ Idle) others → AllByRecursion (λ (row : AuxiliaryRow). work_of after.core.journal row.party ≡ Idle) (auxiliary_row own ∷ others)
       idle_still own others before after same now earlier =
-          subst (λ (core : PlainCore). AllByRecursion (λ (row : AuxiliaryRow). work_of core.journal row.party ≡ Idle) (row_of own ∷ others)) (sym same) (now, earlier)
+          subst (λ (core : PlainCore). AllByRecursion (λ (row : AuxiliaryRow). work_of core.journal row.party ≡ Idle) (auxiliary_row own ∷ others)) (sym same) (now, earlier)
 
-module _ {X Y K : Type 0} (p r s : Parties X Y K) (had : HadTurns (row_of TextFiles ∷ row_of Clock ∷ []) p r) (numbers : seat_numbers r.seats.items ≡ r.core.users) (stay : IsTrue (some_stay r.core.users r.core.journal))
-    (told : K → Option (Told (ℕ × List ℕ))) (faults : K → ℕ) (sittings : List (Sitting K)) (here : seats_in sittings ≡ r.seats.items) (turns : AreSeatTurns told faults (is_due None) (r.ten.is_lost || r.twenty.is_lost) r.core sittings s.core s.seats.items) where
+module _ {X Y K : Type 0} (p r s : Parties X Y K) (had : HadTurns (auxiliary_row TextFiles ∷ auxiliary_row Clock ∷ []) p r) (numbers : seat_numbers r.seats.items ≡ r.core.users) (stay : IsTrue (some_stay r.core.users r.core.journal))
+    (told : K → Option (Told (ℕ × List ℕ))) (faults : K → ℕ) (sittings : List (Sitting K)) (here : seats_in sittings ≡ r.seats.items) (turns : AreSeatTurns told faults (has_turn None) (r.ten.is_lost || r.twenty.is_lost) r.core sittings s.core s.seats.items) where
   -- memory ran out for none where the run does not close
   memory_unclosed : (r.ten.is_lost || r.twenty.is_lost) ≡ false → (kind : AuxiliaryKind) → (auxiliary_of r kind).is_lost ≡ false
   memory_unclosed unclosed Clock = (or_parts r.ten.is_lost r.twenty.is_lost unclosed).0
@@ -147,7 +147,7 @@ module _ {X Y K : Type 0} (p r s : Parties X Y K) (had : HadTurns (row_of TextFi
   waited_less : (s.core ≡ r.core) × (map (λ seat. seat.session) s.seats.items ≡ map (λ sitting. sitting.seat.session) sittings) × All (λ sitting. IsHeld true (r.ten.is_lost || r.twenty.is_lost) r.core sitting.seat) sittings → left_to_do s < left_to_do p
   waited_less still =
       let held : AllByRecursion (IsHeld true (r.ten.is_lost || r.twenty.is_lost) r.core) r.seats.items =
-      subst (λ (seats : List (Seat K)). AllByRecursion (IsHeld true (r.ten.is_lost || r.twenty.is_lost) r.core) seats) here (held_seats (r.ten.is_lost || r.twenty.is_lost) r.core sittings (recursion_from_All _ sittings still.2)) in
+      subst (λ (seats : List (UserSeat K)). AllByRecursion (IsHeld true (r.ten.is_lost || r.twenty.is_lost) r.core) seats) here (held_seats (r.ten.is_lost || r.twenty.is_lost) r.core sittings (recursion_from_All _ sittings still.2)) in
       let some : SomeHeld (r.ten.is_lost || r.twenty.is_lost) r.core = staying_is_held (r.ten.is_lost || r.twenty.is_lost) r.core r.seats.items (ap (λ (users : List ℕ). some_stay users r.core.journal) numbers ∙ stay) held in
       let as_was : left_to_do s ≡ left_to_do r = ap (λ (core : PlainCore). work_left core.journal s.seats.items) still.0 ∙ same_left r.core.journal s.seats.items r.seats.items sittings still.1 here in
       elim had.rests [
@@ -162,6 +162,6 @@ module _ {X Y K : Type 0} (p r s : Parties X Y K) (had : HadTurns (row_of TextFi
 
   pub round_leaves_less : left_to_do s < left_to_do p
   round_leaves_less = elim turns.less [
-    | inl less ↦ less_through (left_to_do s) (left_to_do r) (left_to_do p) (subst (λ (seats : List (Seat K)). left_to_do s < work_left r.core.journal seats) here less) had.most
+    | inl less ↦ less_through (left_to_do s) (left_to_do r) (left_to_do p) (subst (λ (seats : List (UserSeat K)). left_to_do s < work_left r.core.journal seats) here less) had.most
     | inr still ↦ waited_less still
   ]

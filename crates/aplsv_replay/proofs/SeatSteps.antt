@@ -12,10 +12,10 @@ use Rattle.sv_rules.specs.Work.{is_stuck}
 use Rattle.sv_core.proofs.RetryLemmas.{some_act, users_stay}
 use Rattle.sv_core.specs.Core.{PlainCore}
 use Rattle.session_rules.specs.Session.{session_of}
-use Rattle.session_rules.specs.Shelf.{Exchange, Reply, replies_in}
+use Rattle.session_rules.specs.Shelf.{Exchange, ShelfReply, shelf_replies_in}
 use Rattle.replay_rules.specs.SoFarLaws.{Asks}
 use Rattle.apl_session.specs.PlainSession.{HasCome, PlainSession}
-use Rattle.apl_session.specs.declared.session.Stage.TheVariants as stage
+use Rattle.apl_session.specs.declared.session.SessionStage.TheVariants as stage
 use Rattle.aplsv_replay.specs.Participants.{participant_with}
 use Rattle.aplsv_replay.specs.SoFar.{AsksNow, GoesOn, GrowsBy, HasHeard, IsRetried, TriesAgain, heard, work_with}
 use Rattle.aplsv_replay.proofs.Hearing.{HasGoneOn, IsStepped, IsStillAsBefore, IsTriedAgain, IsTriedAt, IsTurnAt, IsUserAt, asked_stays, held_still, made_as_asked, some_is, stepped, tried, waits_at_limit}
@@ -31,7 +31,7 @@ pub step_grows : (before after : PlainCore) (party : ℕ) (act : Act) (answer : 
 step_grows before after party act answer h =
     made_grows party act (answer_to before.journal party act) before after (ap (λ (c : PlainCore). c.users) h.became) (step_made before after party act answer h)
 
-pub step_stays : {K : Type 0} (replies : List Reply) (before after : PlainCore) (s : PlainSession K) (act : Act) (answer : PlainAnswer) → has_left before.journal s.user ≡ false → Asks (participant_with replies s) act → IsStepped before s.user act after answer
+pub step_stays : {K : Type 0} (replies : List ShelfReply) (before after : PlainCore) (s : PlainSession K) (act : Act) (answer : PlainAnswer) → has_left before.journal s.user ≡ false → Asks (participant_with replies s) act → IsStepped before s.user act after answer
     → has_left after.journal s.user ≡ false
 step_stays replies before after s act answer present asks h =
     made_stays before.journal s.user act after.journal (answer_to before.journal s.user act) (asked_stays s.lines s.answers replies act asks) (step_made before after s.user act answer h) ∙ present
@@ -44,7 +44,7 @@ try_grows before after party answer waiting h =
     made_grows party a.0 answer before after (ap (λ (c : PlainCore). c.users) h.became ∙ users_stay before party)
     (subst (λ (j : Entries). IsMade before.journal party a.0 j answer) (sym (ap (λ (c : PlainCore). c.journal) h.became)) (made_again before party a.0 answer a.1 (sym h.told)))
 
-pub try_stays : {K : Type 0} (replies : List Reply) (before after : PlainCore) (s : PlainSession K) (answer : PlainAnswer) → has_left before.journal s.user ≡ false → s.stage ≡ stage.Waiting → IsSome (session_of s.lines s.answers replies).waits
+pub try_stays : {K : Type 0} (replies : List ShelfReply) (before after : PlainCore) (s : PlainSession K) (answer : PlainAnswer) → has_left before.journal s.user ≡ false → s.stage ≡ stage.Waiting → IsSome (session_of s.lines s.answers replies).waits
     → waits before.journal s.user ≡ true → IsTriedAt replies before.journal s → IsTriedAgain before s.user after (Some answer) → has_left after.journal s.user ≡ false
 try_stays replies before after s answer present at some waiting retrying h =
     let asked = some_act (session_of s.lines s.answers replies).waits some in
@@ -58,7 +58,7 @@ try_stays replies before after s answer present at some waiting retrying h =
 
 -- whatever replies follow
 module _ {K : Type 0} (told : K → Option (Told (ℕ × List ℕ))) (faults : K → ℕ) (lent : K) (exchanges : List Exchange) (before after : PlainCore) (s now : PlainSession K) (come : HasCome told faults lent exchanges now) where
-  heard_all : ((more : List Reply) → HasGoneOn (replies_in exchanges ++ more) before s after now) → HasHeard told faults lent exchanges before s after now
+  heard_all : ((more : List ShelfReply) → HasGoneOn (shelf_replies_in exchanges ++ more) before s after now) → HasHeard told faults lent exchanges before s after now
   heard_all gone = record {
     come = come;
     so_far = λ more. (gone more).so_far;
@@ -68,25 +68,25 @@ module _ {K : Type 0} (told : K → Option (Told (ℕ × List ℕ))) (faults : K
   -- of an act that was made
   pub heard_step : (act : Act) (answer : PlainAnswer) → has_left before.journal s.user ≡ false → s.stage ≡ stage.Waiting → waits before.journal s.user ≡ false → AsksNow before.journal exchanges act s → IsStepped before s.user act after answer → now ≡ heard answer now s
       → HasHeard told faults lent exchanges before s after now
-  heard_step act answer present at free asks step hears = heard_all (λ more. stepped (replies_in exchanges ++ more) now before after s now false act answer present at (asks.asks more) free (asks.so_far more) step hears)
+  heard_step act answer present at free asks step hears = heard_all (λ more. stepped (shelf_replies_in exchanges ++ more) now before after s now false act answer present at (asks.asks more) free (asks.so_far more) step hears)
 
   -- and where an act was tried again
-  retried_at : (more : List Reply) → IsRetried before.journal exchanges s → IsTriedAt (replies_in exchanges ++ more) before.journal s
+  retried_at : (more : List ShelfReply) → IsRetried before.journal exchanges s → IsTriedAt (shelf_replies_in exchanges ++ more) before.journal s
   retried_at more (inl h) = inl (h more)
   retried_at more (inr h) = inr (h.0, h.1 more)
 
   pub heard_again : (answer : PlainAnswer) → has_left before.journal s.user ≡ false → s.stage ≡ stage.Waiting → waits before.journal s.user ≡ true → TriesAgain before.journal exchanges s → IsTriedAgain before s.user after (Some answer) → now ≡ heard answer now s
       → HasHeard told faults lent exchanges before s after now
-  heard_again answer present at waiting again try hears = heard_all (λ more. tried (replies_in exchanges ++ more) now before after s now answer present at (again.asks more) waiting (retried_at more again.retried) try hears)
+  heard_again answer present at waiting again try hears = heard_all (λ more. tried (shelf_replies_in exchanges ++ more) now before after s now answer present at (again.asks more) waiting (retried_at more again.retried) try hears)
 
   -- a user that is held still
   pub heard_held : has_left before.journal s.user ≡ false → s.stage ≡ stage.Waiting → waits before.journal s.user ≡ true → TriesAgain before.journal exchanges s → IsTriedAgain before s.user after None → now ≡ s → HasHeard told faults lent exchanges before s after now
   heard_held present at waiting again try same =
-      let still : (more : List Reply) → IsStillAsBefore (replies_in exchanges ++ more) before s after = λ more. held_still (replies_in exchanges ++ more) before after s present at (again.asks more) waiting (retried_at more again.retried) try in
+      let still : (more : List ShelfReply) → IsStillAsBefore (shelf_replies_in exchanges ++ more) before s after = λ more. held_still (shelf_replies_in exchanges ++ more) before after s present at (again.asks more) waiting (retried_at more again.retried) try in
       record {
         come = come;
-        so_far = λ more. subst (λ (t : PlainSession K). IsUserAt (replies_in exchanges ++ more) after.journal t) (sym same) (still more).so_far;
-        turn = λ more. subst (λ (t : PlainSession K). IsTurnAt (replies_in exchanges ++ more) before s after t) (sym same) (still more).turn;
+        so_far = λ more. subst (λ (t : PlainSession K). IsUserAt (shelf_replies_in exchanges ++ more) after.journal t) (sym same) (still more).so_far;
+        turn = λ more. subst (λ (t : PlainSession K). IsTurnAt (shelf_replies_in exchanges ++ more) before s after t) (sym same) (still more).turn;
       }
 
 -- ---- less is left to do
@@ -95,26 +95,26 @@ module _ {K : Type 0} (exchanges : List Exchange) (before after : PlainCore) (s 
   -- by an act that was made
   pub step_less : (act : Act) (answer : PlainAnswer) → has_left before.journal s.user ≡ false → s.stage ≡ stage.Waiting → waits before.journal s.user ≡ false → AsksNow before.journal exchanges act s → IsStepped before s.user act after answer → now ≡ heard answer now s
       → work_with after.journal now < work_with before.journal s
-  step_less act answer present at free asks step hears = (stepped (replies_in exchanges ++ []) now before after s now false act answer present at (asks.asks []) free (asks.so_far []) step hears).less
+  step_less act answer present at free asks step hears = (stepped (shelf_replies_in exchanges ++ []) now before after s now false act answer present at (asks.asks []) free (asks.so_far []) step hears).less
 
-  tried_at : IsRetried before.journal exchanges s → IsTriedAt (replies_in exchanges ++ []) before.journal s
+  tried_at : IsRetried before.journal exchanges s → IsTriedAt (shelf_replies_in exchanges ++ []) before.journal s
   tried_at (inl h) = inl (h [])
   tried_at (inr h) = inr (h.0, h.1 [])
 
   -- by one that was tried again; or the user is held still
   pub again_goes_on : (answer : PlainAnswer) → has_left before.journal s.user ≡ false → s.stage ≡ stage.Waiting → waits before.journal s.user ≡ true → TriesAgain before.journal exchanges s → IsTriedAgain before s.user after (Some answer) → now ≡ heard answer now s → GoesOn before s after now
-  again_goes_on answer present at waiting again try hears here = inl (tried (replies_in exchanges ++ []) now before after s now answer present at (again.asks []) waiting (tried_at again.retried) try hears).less
+  again_goes_on answer present at waiting again try hears here = inl (tried (shelf_replies_in exchanges ++ []) now before after s now answer present at (again.asks []) waiting (tried_at again.retried) try hears).less
 
   pub held_goes_on : has_left before.journal s.user ≡ false → s.stage ≡ stage.Waiting → waits before.journal s.user ≡ true → TriesAgain before.journal exchanges s → IsTriedAgain before s.user after None → now ≡ s → GoesOn before s after now
   held_goes_on present at waiting again try same here =
-      let still = held_still (replies_in exchanges ++ []) before after s present at (again.asks []) waiting (tried_at again.retried) try in
+      let still = held_still (shelf_replies_in exchanges ++ []) before after s present at (again.asks []) waiting (tried_at again.retried) try in
       inr (still.held, still.stays, same)
 
   pub again_stays : (answer : PlainAnswer) → has_left before.journal s.user ≡ false → s.stage ≡ stage.Waiting → waits before.journal s.user ≡ true → TriesAgain before.journal exchanges s → IsTriedAgain before s.user after (Some answer) → has_left after.journal s.user ≡ false
-  again_stays answer present at waiting again try = try_stays (replies_in exchanges ++ []) before after s answer present at (again.asks []) waiting (tried_at again.retried) try
+  again_stays answer present at waiting again try = try_stays (shelf_replies_in exchanges ++ []) before after s answer present at (again.asks []) waiting (tried_at again.retried) try
 
   pub held_grows : has_left before.journal s.user ≡ false → s.stage ≡ stage.Waiting → waits before.journal s.user ≡ true → TriesAgain before.journal exchanges s → IsTriedAgain before s.user after None → GrowsBy s.user before after
-  held_grows present at waiting again try = (held_still (replies_in exchanges ++ []) before after s present at (again.asks []) waiting (tried_at again.retried) try).grows
+  held_grows present at waiting again try = (held_still (shelf_replies_in exchanges ++ []) before after s present at (again.asks []) waiting (tried_at again.retried) try).grows
 
 -- in a full journal no user is held still
 pub none_held_still : (core : PlainCore) (party : ℕ) → IsTrue (is_full core.journal) → is_still_held core.users core.journal party ≡ true → ⊥
@@ -132,6 +132,6 @@ less_at_limit before after s now present limit goes = elim (goes present) [
 -- a user that waits while its session comes to another act does so in a full journal, and tries again
 pub tries_at_limit : {K : Type 0} (journal : Entries) (exchanges : List Exchange) (act : Act) (s : PlainSession K) → waits journal s.user ≡ true → AsksNow journal exchanges act s → TriesAgain journal exchanges s
 tries_at_limit journal exchanges act s waiting h = record {
-  asks = λ more. some_is (session_of s.lines s.answers (replies_in exchanges ++ more)).waits act (h.asks more);
-  retried = inr (waits_at_limit journal (participant_with (replies_in exchanges ++ []) s) (h.so_far []) waiting, h.so_far);
+  asks = λ more. some_is (session_of s.lines s.answers (shelf_replies_in exchanges ++ more)).waits act (h.asks more);
+  retried = inr (waits_at_limit journal (participant_with (shelf_replies_in exchanges ++ []) s) (h.so_far []) waiting, h.so_far);
 }

@@ -10,14 +10,14 @@ use Rattle.sv_core.specs.Core.{PlainCore}
 use Rattle.sv_rules.specs.Entries.{Entries, has_left}
 use Rattle.sv_rules.specs.Legal.{is_still_held, is_user}
 use Rattle.session_rules.specs.SessionLaws.{tells_full}
-use Rattle.session_rules.specs.Shelf.{Exchange, replies_in}
+use Rattle.session_rules.specs.Shelf.{Exchange, shelf_replies_in}
 use Rattle.apl_session.specs.PlainSession.{PlainSession}
-use Rattle.replay_rules.specs.Turns.{Turn, turn}
+use Rattle.replay_rules.specs.Turns.{AfterTurn, turn}
 use Rattle.aplsv_replay.specs.Participants.{participant_of, participant_with}
 use Rattle.aplsv_replay.specs.SeatTurns.{AreSeatTurns, IsHeld, IsSeatTurn, seat_numbers}
 use Rattle.aplsv_replay.specs.Sittings.{Sitting, seats_in}
 use Rattle.aplsv_replay.specs.SoFar.{GoesOn, GrowsBy, HasTurned, IsSameUser, IsSeated, IsWhole, IsWholeUnlessLost, TakesTurn, user_of, user_work, work_with}
-use Rattle.aplsv_replay.specs.declared.seat.Seat.{Seat}
+use Rattle.aplsv_replay.specs.declared.seat.UserSeat.{UserSeat}
 use Rattle.aplsv_replay.proofs.Growth.{AreOthers, has_left_stays, own_are_others, part_stays, so_far_stays}
 use Rattle.aplsv_replay.proofs.Leaving.{gone_turn, left_seated}
 
@@ -52,7 +52,7 @@ due_less false closes before after seat now stays goes gone closed = elim (goes 
     by true is same = absurd (let no : true ≡ false = sym (closed is) ∙ ap (λ (core : PlainCore). has_left core.journal seat.user) same ∙ stays in cc)
     by false is same = is
 
-module _ {K : Type 0} (told : K → Option (Told (ℕ × List ℕ))) (faults : K → ℕ) (closes : Bool) (before after : PlainCore) (seat now : Seat K) (lent : K) (exchanges : List Exchange)
+module _ {K : Type 0} (told : K → Option (Told (ℕ × List ℕ))) (faults : K → ℕ) (closes : Bool) (before after : PlainCore) (seat now : UserSeat K) (lent : K) (exchanges : List Exchange)
     (same : IsSameUser seat.session now.session) (grows : GrowsBy seat.session.user before after) (goes : GoesOn before seat.session after now.session)
     (gone : has_left before.journal seat.session.user ≡ true → (after ≡ before) × (now ≡ seat)) (closed : closes ≡ true → has_left after.journal seat.session.user ≡ true) (lost : seat.is_lost ≡ true → now.is_lost ≡ true)
     (leaves : seat.is_lost ≡ false → now.is_lost ≡ true → has_left after.journal seat.session.user ≡ true) where
@@ -65,7 +65,7 @@ module _ {K : Type 0} (told : K → Option (Told (ℕ × List ℕ))) (faults : K
   still = record { seat = now; lent = lent; exchanges = exchanges }
 
   less : (work_with after.journal now.session < work_with before.journal seat.session) ⊎ ((after ≡ before) × (now.session ≡ seat.session) × IsHeld true closes before seat)
-  less = due_less (has_left before.journal seat.session.user) closes before after seat.session now.session refl goes (λ left. ((gone left).0, ap (λ (s : Seat K). s.session) (gone left).1)) closed
+  less = due_less (has_left before.journal seat.session.user) closes before after seat.session now.session refl goes (λ left. ((gone left).0, ap (λ (s : UserSeat K). s.session) (gone left).1)) closed
 
   -- a user that had left
   of_left : has_left before.journal seat.session.user ≡ true → IsSeatTurn told faults true closes before sat after now
@@ -79,10 +79,10 @@ module _ {K : Type 0} (told : K → Option (Told (ℕ × List ℕ))) (faults : K
         grows = grows;
         seated = left_seated told faults after.journal seat.session still same (ap (λ (c : PlainCore). has_left c.journal seat.session.user) core ∙ left);
         lost = lost;
-        whole = λ unclosed here is. subst₂ (λ (c : PlainCore) (s : Seat K). IsWhole told faults c.journal (record { seat = s; lent = lent; exchanges = exchanges })) (sym core) (sym seats) is;
+        whole = λ unclosed here is. subst₂ (λ (c : PlainCore) (s : UserSeat K). IsWhole told faults c.journal (record { seat = s; lent = lent; exchanges = exchanges })) (sym core) (sym seats) is;
         turn = λ unclosed here final ends.
-            subst₂ (λ (c : PlainCore) (s : Seat K). turn before.users before.journal (participant_of final seat.session) ≡ (let t : Turn = record { journal = c.journal; user = participant_of final s.session } in t)) (sym core) (sym seats)
-            (gone_turn (replies_in (final seat.session.user)) before seat.session left);
+            subst₂ (λ (c : PlainCore) (s : UserSeat K). turn before.users before.journal (participant_of final seat.session) ≡ (let t : AfterTurn = record { journal = c.journal; user = participant_of final s.session } in t)) (sym core) (sym seats)
+            (gone_turn (shelf_replies_in (final seat.session.user)) before seat.session left);
         less = less;
       }
 
@@ -116,7 +116,7 @@ module _ {K : Type 0} (told : K → Option (Told (ℕ × List ℕ))) (faults : K
     seated = h.seated;
     lost = lost;
     whole = λ unclosed here before_it. h.whole;
-    turn = λ unclosed here final ends. h.turn final ends ∙ ap (λ (s : Seat K). let one : Turn = record { journal = after.journal; user = participant_of final s.session } in one) is;
+    turn = λ unclosed here final ends. h.turn final ends ∙ ap (λ (s : UserSeat K). let one : AfterTurn = record { journal = after.journal; user = participant_of final s.session } in one) is;
     less = less;
   }
 
@@ -140,7 +140,7 @@ module _ {K : Type 0} (told : K → Option (Told (ℕ × List ℕ))) (faults : K
       subst (λ (j : Entries). IsSeated told faults j sitting) (sym is)
       (λ stays.
       let here = h (sym (has_left_stays entries journal sitting.seat.session.user others) ∙ stays) in
-      record { here = here.here; come = here.come; so_far = λ more. so_far_stays entries journal (participant_with (replies_in sitting.exchanges ++ more) sitting.seat.session) _ others (here.so_far more) })
+      record { here = here.here; come = here.come; so_far = λ more. so_far_stays entries journal (participant_with (shelf_replies_in sitting.exchanges ++ more) sitting.seat.session) _ others (here.so_far more) })
 
   pub grown_whole : (entries journal after : Entries) (sitting : Sitting K) → after ≡ entries ++ journal → AreOthers sitting.seat.session.user entries → IsWhole told faults journal sitting → IsWhole told faults after sitting
   grown_whole entries journal after sitting is others h =
@@ -171,13 +171,13 @@ pub work_stays : {K : Type 0} (entries journal after : Entries) (s : PlainSessio
 work_stays entries journal after s is others =
     ap (λ (left : Bool). if left then 0 else 1 + (length s.lines - count_by tells_full s.answers)) (ap (λ (j : Entries). has_left j s.user) is ∙ has_left_stays entries journal s.user others)
 
-pub seats_work_stays : {K : Type 0} (entries journal after : Entries) (seats : List (Seat K)) → after ≡ entries ++ journal → AllByRecursion (λ (number : ℕ). AreOthers number entries) (seat_numbers seats)
-    → sum_by (λ (seat : Seat K). user_work after seat.session) seats ≡ sum_by (λ (seat : Seat K). user_work journal seat.session) seats
+pub seats_work_stays : {K : Type 0} (entries journal after : Entries) (seats : List (UserSeat K)) → after ≡ entries ++ journal → AllByRecursion (λ (number : ℕ). AreOthers number entries) (seat_numbers seats)
+    → sum_by (λ (seat : UserSeat K). user_work after seat.session) seats ≡ sum_by (λ (seat : UserSeat K). user_work journal seat.session) seats
 seats_work_stays entries journal after [] is others = refl
 seats_work_stays {K = K} entries journal after (seat ∷ seats) is others =
-    sum_by-cons (λ (s : Seat K). user_work after s.session) seat seats
+    sum_by-cons (λ (s : UserSeat K). user_work after s.session) seat seats
     ∙ ap₂ (λ (a b : ℕ). a + b) (work_stays entries journal after seat.session is others.0) (seats_work_stays entries journal after seats is others.1)
-    ∙ sym (sum_by-cons (λ (s : Seat K). user_work journal s.session) seat seats)
+    ∙ sym (sum_by-cons (λ (s : UserSeat K). user_work journal s.session) seat seats)
 
 -- no user
 pub no_turns : {K : Type 0} (told : K → Option (Told (ℕ × List ℕ))) (faults : K → ℕ) (due : ℕ → Bool) (closes : Bool) (core : PlainCore) → AreSeatTurns told faults due closes core [] core []

@@ -5,7 +5,7 @@ use Rattle.std.proofs.lemmas.Option.{same_Some}
 use Rattle.apl_arrays.specs.Array.{PlainArray}
 use Rattle.auxiliaries.specs.Run.{Event, IsReplierRun}
 use Rattle.sv_core.specs.Core.{PlainCore}
-use Rattle.sv_core.specs.Due.{command_of, customer_of, is_reply, is_service}
+use Rattle.sv_core.specs.Due.{request_due, customer_of, is_reply, is_service}
 use Rattle.sv_events.specs.Entry.{PlainEntry}
 use Rattle.sv_events.specs.Work.{act_of, all_controlled}
 use Rattle.sv_events.specs.declared.entry.Entry.{Entry}
@@ -146,7 +146,7 @@ module _ {X : Type 0} (forgets : X → ℕ → X → Type 0) (replies : X → �
 
   -- a reply
   pub reply_turn : (local : List ℕ) (customer : ℕ) (value reply : PlainArray) (answering : X) → MakesWork old.party (Some reply) before after → work_of before.journal old.party ≡ work.Reply local →
-      customer_of before.journal old.party ≡ Some customer → command_of before.journal old.party ≡ Some value → replies old.replier customer value reply answering →
+      customer_of before.journal old.party ≡ Some customer → request_due before.journal old.party ≡ Some value → replies old.replier customer value reply answering →
       TookTurn forgets replies old (record old { replier = answering }) before after
   reply_turn local customer value reply answering made due serves commands leads =
       let journal : after.journal ≡ journal_after before.journal old.party (act.Set local reply) =

@@ -3,8 +3,8 @@ use Rattle.std.proofs.Common.{◌≡◌, ◌≢◌, true, Result, Ok, Err, refl}
 use Rattle.std.specs.Prelude.{OnOk}
 use Rattle.std.specs.Result.{is_ok}
 use Rattle.apl_session.specs.Wants.{MayGoOn}
-use Rattle.apl_session.specs.declared.session.Stage.{Stage}
-use Rattle.apl_session.specs.declared.session.Stage.TheVariants as stage
+use Rattle.apl_session.specs.declared.session.SessionStage.{SessionStage}
+use Rattle.apl_session.specs.declared.session.SessionStage.TheVariants as stage
 
 -- ---- results
 
@@ -14,7 +14,7 @@ on_ok_is (Err e) is h = absurd cc
 
 -- ---- a session that waits for no answer
 
-pub may_go_on : (at : Stage) → at ≢ stage.Waiting → MayGoOn at
+pub may_go_on : (at : SessionStage) → at ≢ stage.Waiting → MayGoOn at
 may_go_on stage.Ready free = tt
 may_go_on stage.Waiting free = absurd (free refl)
 may_go_on stage.Finished free = tt

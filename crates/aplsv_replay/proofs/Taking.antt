@@ -14,15 +14,15 @@ use Rattle.aplsv_replay.specs.SeatTurns.{seat_numbers}
 use Rattle.aplsv_replay.specs.Sittings.{EndsIn, Sitting}
 use Rattle.aplsv_replay.specs.Together.{AreTogether, StayTogether, TakesTurns, TookTurns}
 use Rattle.aplsv_replay.specs.declared.parties.Parties.{Parties}
-use Rattle.aplsv_replay.specs.declared.seat.Seat.{Seat}
-use Rattle.replay_rules.specs.Turns.{Replay, auxiliary_turn, goes_on, numbers_of, ordered, party_turn, round, rounds, user_turns}
+use Rattle.aplsv_replay.specs.declared.seat.UserSeat.{UserSeat}
+use Rattle.replay_rules.specs.Turns.{Replay, auxiliary_turn, some_user_stays, numbers_of, ordered, party_turn, round, rounds, user_turns}
 
 -- turns that are taken while some user stays
 abbrev unless_over : (Replay → Replay) → Replay → Replay
-unless_over turns replay = if goes_on replay then turns replay else replay
+unless_over turns replay = if some_user_stays replay then turns replay else replay
 
 -- the numbers of users, in whatever dealings they end
-pub numbers_by_participants : {K : Type 0} (final : Dealings) (seats : List (Seat K)) → numbers_of (users_of final seats) ≡ seat_numbers seats
+pub numbers_by_participants : {K : Type 0} (final : Dealings) (seats : List (UserSeat K)) → numbers_of (users_of final seats) ≡ seat_numbers seats
 numbers_by_participants final [] = refl
 numbers_by_participants final (seat ∷ seats) = ap (λ (others : List ℕ). seat.session.user ∷ others) (numbers_by_participants final seats)
 
@@ -40,7 +40,7 @@ module _ {X Y K : Type 0} where
   stays_at p = some_stay (seat_numbers p.seats.items) p.core.journal
 
   -- so the replay goes on
-  goes_at : (final : Dealings) (p : Parties X Y K) (replies : ℕ → List PlainArray) → goes_on (replay_at final p replies) ≡ stays_at p
+  goes_at : (final : Dealings) (p : Parties X Y K) (replies : ℕ → List PlainArray) → some_user_stays (replay_at final p replies) ≡ stays_at p
   goes_at final p replies = ap (λ (numbers : List ℕ). some_stay numbers p.core.journal) (numbers_by_participants final p.seats.items)
 
   -- some turns and then others
@@ -125,7 +125,7 @@ module _ {X Y K : Type 0} (forgets_ten : X → ℕ → X → Type 0) (replies_te
 
   ordered_more : (order : List ℕ) (party : ℕ) (replay : Replay) → ordered (order ++ party ∷ []) replay ≡ ordered (party ∷ []) (ordered order replay)
   ordered_more [] party replay = refl
-  ordered_more (first ∷ order) party replay = ordered_more order party (if goes_on replay then party_turn first replay else replay)
+  ordered_more (first ∷ order) party replay = ordered_more order party (if some_user_stays replay then party_turn first replay else replay)
 
   -- one turn more behind those of an order
   pub takes_next : (order : List ℕ) (party : ℕ) (p q r : Parties X Y K) → Take (ordered order) p q → Take (ordered (party ∷ [])) q r → Take (ordered (order ++ party ∷ [])) p r

@@ -19,29 +19,29 @@ use Rattle.sv_rules.specs.Legal.{is_user}
 use Rattle.session_rules.specs.Run.{Dealings}
 use Rattle.session_rules.specs.Shelf.{Exchange}
 use Rattle.apl_session.specs.PlainSession.{PlainSession}
-use Rattle.replay_rules.specs.Turns.{Participant, Turn, Turns, turn, turns_where}
+use Rattle.replay_rules.specs.Turns.{Participant, AfterTurn, AfterTurns, turn, turns_where}
 use Rattle.aplsv_replay.specs.Participants.{participant_of, users_of}
 use Rattle.aplsv_replay.specs.SeatTurns.{AreSeatTurns, GrowsAmong, IsHeld, IsSeatTurn, none_lost, seat_numbers, work_left}
-use Rattle.aplsv_replay.specs.Sittings.{EndsIn, Follow, Sitting, seats_in}
+use Rattle.aplsv_replay.specs.Sittings.{EndsIn, ExchangesFollow, Sitting, seats_in}
 use Rattle.aplsv_replay.specs.SoFar.{IsSameSitting, IsSeated, IsWholeUnlessLost, user_of, user_work}
-use Rattle.aplsv_replay.specs.declared.seat.Seat.{Seat}
+use Rattle.aplsv_replay.specs.declared.seat.UserSeat.{UserSeat}
 use Rattle.aplsv_replay.proofs.Growth.{AreOthers, among_are_others, below_is_none, first_below}
 use Rattle.aplsv_replay.proofs.Sits.{sum_of_seen}
 use Rattle.aplsv_replay.proofs.SeatTurns.{all_grown_seated, all_grown_whole, behind_others, both_less, first_less, grown_seated, grown_whole, not_lost_before, others_less, others_weaker, own_weaker, seats_work_stays, work_stays}
 
 -- exchanges that follow others that follow
-follow_on : (one two three : List Exchange) → Follow one two → Follow two three → Follow one three
+follow_on : (one two three : List Exchange) → ExchangesFollow one two → ExchangesFollow two three → ExchangesFollow one three
 follow_on one two three a b = record { more = b.more ++ a.more; is = b.is ∙ ap (λ (e : List Exchange). b.more ++ e) a.is ∙ sym (append_assoc b.more a.more one) }
 
 -- in whatever dealings a user ends behind a turn it ends before it
 pub ends_before : {K : Type 0} (final : Dealings) (before after : Sitting K) → IsSameSitting before after → EndsIn final after → EndsIn final before
 ends_before {K = K} final before after same ends =
     let user : after.seat.session.user ≡ before.seat.session.user = ap (λ (s : PlainSession K). s.user) same.user in
-    subst (λ (u : ℕ). Follow before.exchanges (final u)) user (follow_on before.exchanges after.exchanges (final after.seat.session.user) same.follow ends)
+    subst (λ (u : ℕ). ExchangesFollow before.exchanges (final u)) user (follow_on before.exchanges after.exchanges (final after.seat.session.user) same.follow ends)
 
-module _ {K : Type 0} (told : K → Option (Told (ℕ × List ℕ))) (faults : K → ℕ) (due : ℕ → Bool) (closes : Bool) (before middle after : PlainCore) (sitting : Sitting K) (now : Seat K) (others : List (Sitting K)) (nows : List (Seat K))
+module _ {K : Type 0} (told : K → Option (Told (ℕ × List ℕ))) (faults : K → ℕ) (due : ℕ → Bool) (closes : Bool) (before middle after : PlainCore) (sitting : Sitting K) (now : UserSeat K) (others : List (Sitting K)) (nows : List (UserSeat K))
     (ascend : AscendBy (λ s. s.session.user) (seats_in (sitting ∷ others))) (first : IsSeatTurn told faults (due sitting.seat.session.user) closes before sitting middle now) (rest : AreSeatTurns told faults due closes middle others after nows) where
-  abbrev seat : Seat K
+  abbrev seat : UserSeat K
   seat = sitting.seat
 
   abbrev number : ℕ
@@ -86,7 +86,7 @@ module _ {K : Type 0} (told : K → Option (Told (ℕ × List ℕ))) (faults : K
       let own : IsWholeUnlessLost told faults before.journal sitting = All-head (IsWholeUnlessLost told faults before.journal) sitting others h in
       let whole : IsWholeUnlessLost told faults after.journal there =
       λ here.
-      let present : now.is_lost ≡ false = sym (ap (λ (s : Seat K). s.is_lost) first.here) ∙ here in
+      let present : now.is_lost ≡ false = sym (ap (λ (s : UserSeat K). s.is_lost) first.here) ∙ here in
       grown_whole told faults rest.grows.entries middle.journal after.journal there rest.grows.journal others_own (first.whole unclosed present (own (not_lost_before seat.is_lost now.is_lost first.lost present))) in
       All-cons (IsWholeUnlessLost told faults after.journal) there rest.nows whole
       (rest.whole unclosed (All-from_recursion _ others (all_grown_whole told faults first.grows.entries before.journal middle.journal others first.grows.journal first_own (recursion_from_All _ others (All-tail (IsWholeUnlessLost told faults before.journal) sitting others h)))))
@@ -96,24 +96,24 @@ module _ {K : Type 0} (told : K → Option (Told (ℕ × List ℕ))) (faults : K
   turns_more unclosed here final ends =
       let both = and_parts (not now.is_lost) (none_lost nows) here in
       let list : List Participant = users_of final (seats_in others) in
-      let behind : Turn → Turns = λ (t : Turn).
+      let behind : AfterTurn → AfterTurns = λ (t : AfterTurn).
       let more = turns_where (λ user. due user.number) before.users t.journal list in
       record { journal = more.journal; users = t.user ∷ more.users } in
       let numbers : turns_where (λ user. due user.number) before.users middle.journal list ≡ turns_where (λ user. due user.number) middle.users middle.journal list =
       ap (λ (users : List ℕ). turns_where (λ user. due user.number) users middle.journal list) (sym first.grows.users) in
       ap behind (first.turn unclosed (not-true now.is_lost both.0) final (All-head (EndsIn final) there rest.nows ends))
-      ∙ ap (λ (t : Turns). record { journal = t.journal; users = participant_of final now.session ∷ t.users }) (numbers ∙ rest.turns unclosed both.1 final (All-tail (EndsIn final) there rest.nows ends))
+      ∙ ap (λ (t : AfterTurns). record { journal = t.journal; users = participant_of final now.session ∷ t.users }) (numbers ∙ rest.turns unclosed both.1 final (All-tail (EndsIn final) there rest.nows ends))
 
   began_more : (final : Dealings) → All (EndsIn final) (there ∷ rest.nows) → All (EndsIn final) (sitting ∷ others)
   began_more final ends =
       All-cons (EndsIn final) sitting others (ends_before final sitting there first.same (All-head (EndsIn final) there rest.nows ends)) (rest.began final (All-tail (EndsIn final) there rest.nows ends))
 
-  abbrev sum_in : Entries → List (Seat K) → ℕ
-  sum_in journal seats = sum_by (λ (s : Seat K). user_work journal s.session) seats
+  abbrev sum_in : Entries → List (UserSeat K) → ℕ
+  sum_in journal seats = sum_by (λ (s : UserSeat K). user_work journal s.session) seats
 
   -- what is left to do by the first and by the others
   first_now : user_work after.journal now.session ≡ user_work middle.journal now.session
-  first_now = work_stays rest.grows.entries middle.journal after.journal now.session rest.grows.journal (subst (λ (s : Seat K). AreOthers s.session.user rest.grows.entries) first.here others_own)
+  first_now = work_stays rest.grows.entries middle.journal after.journal now.session rest.grows.journal (subst (λ (s : UserSeat K). AreOthers s.session.user rest.grows.entries) first.here others_own)
 
   others_then : sum_in middle.journal (seats_in others) ≡ sum_in before.journal (seats_in others)
   others_then = seats_work_stays first.grows.entries before.journal middle.journal (seats_in others) first.grows.journal first_own
@@ -121,12 +121,12 @@ module _ {K : Type 0} (told : K → Option (Told (ℕ × List ℕ))) (faults : K
   left_after : work_left after.journal (now ∷ nows) ≡ (most_entries - counted_entries after.journal) + (user_work middle.journal now.session + sum_in after.journal nows)
   left_after =
       ap (λ (n : ℕ). (most_entries - counted_entries after.journal) + n)
-      (sum_by-cons (λ (s : Seat K). user_work after.journal s.session) now nows ∙ ap (λ (n : ℕ). n + sum_in after.journal nows) first_now)
+      (sum_by-cons (λ (s : UserSeat K). user_work after.journal s.session) now nows ∙ ap (λ (n : ℕ). n + sum_in after.journal nows) first_now)
 
   left_before : work_left before.journal (seats_in (sitting ∷ others)) ≡ (most_entries - counted_entries before.journal) + (user_work before.journal seat.session + sum_in middle.journal (seats_in others))
   left_before =
       ap (λ (n : ℕ). (most_entries - counted_entries before.journal) + n)
-      (sum_by-cons (λ (s : Seat K). user_work before.journal s.session) seat (seats_in others) ∙ ap (λ (n : ℕ). user_work before.journal seat.session + n) (sym others_then))
+      (sum_by-cons (λ (s : UserSeat K). user_work before.journal s.session) seat (seats_in others) ∙ ap (λ (n : ℕ). user_work before.journal seat.session + n) (sym others_then))
 
   less_by : (a b c d : ℕ) → a ≡ b → d ≡ c → b < c → a < d
   less_by a b c d same also less = omega arith
@@ -136,12 +136,12 @@ module _ {K : Type 0} (told : K → Option (Told (ℕ × List ℕ))) (faults : K
       All-cons (λ s. IsHeld (due s.seat.session.user) closes before s.seat) sitting others held (subst (λ (core : PlainCore). All (λ s. IsHeld (due s.seat.session.user) closes core s.seat) others) same more)
 
   -- where nothing changed behind the first, or with it
-  sums_as : (journal : Entries) (list other : List (Seat K)) → map (λ s. s.session) list ≡ map (λ s. s.session) other → sum_in journal list ≡ sum_in journal other
+  sums_as : (journal : Entries) (list other : List (UserSeat K)) → map (λ s. s.session) list ≡ map (λ s. s.session) other → sum_in journal list ≡ sum_in journal other
   sums_as journal list other same =
-      sym (sum_of_seen (λ (s : PlainSession K). user_work journal s) (λ (s : Seat K). s.session) list) ∙ ap (λ (sessions : List (PlainSession K)). sum_by (user_work journal) sessions) same ∙ sum_of_seen (λ (s : PlainSession K). user_work journal s) (λ (s : Seat K). s.session) other
+      sym (sum_of_seen (λ (s : PlainSession K). user_work journal s) (λ (s : UserSeat K). s.session) list) ∙ ap (λ (sessions : List (PlainSession K)). sum_by (user_work journal) sessions) same ∙ sum_of_seen (λ (s : PlainSession K). user_work journal s) (λ (s : UserSeat K). s.session) other
 
-  sessions_in : map (λ (s : Seat K). s.session) (seats_in others) ≡ map (λ (s : Sitting K). s.seat.session) others
-  sessions_in = (map-map (λ (s : Seat K). s.session) (λ (s : Sitting K). s.seat) others)
+  sessions_in : map (λ (s : UserSeat K). s.session) (seats_in others) ≡ map (λ (s : Sitting K). s.seat.session) others
+  sessions_in = (map-map (λ (s : UserSeat K). s.session) (λ (s : Sitting K). s.seat) others)
 
   rest_as : after ≡ middle → map (λ s. s.session) nows ≡ map (λ s. s.seat.session) others →
       (most_entries - counted_entries after.journal) + (user_work middle.journal now.session + sum_in after.journal nows)
@@ -203,8 +203,8 @@ module _ {K : Type 0} (told : K → Option (Told (ℕ × List ℕ))) (faults : K
   pub first_and_others : AreSeatTurns told faults due closes before (sitting ∷ others) after (now ∷ nows)
   first_and_others = record {
     nows = there ∷ rest.nows;
-    here = ap₂ (λ (one : Seat K) (list : List (Seat K)). one ∷ list) first.here rest.here;
-    users = ap₂ (λ (one : PlainUser) (list : List PlainUser). one ∷ list) (ap (λ (s : Seat K). user_of s.session) (sym first.here) ∙ ap (λ (s : PlainSession K). user_of s) first.same.user) rest.users;
+    here = ap₂ (λ (one : UserSeat K) (list : List (UserSeat K)). one ∷ list) first.here rest.here;
+    users = ap₂ (λ (one : PlainUser) (list : List PlainUser). one ∷ list) (ap (λ (s : UserSeat K). user_of s.session) (sym first.here) ∙ ap (λ (s : PlainSession K). user_of s) first.same.user) rest.users;
     lent = ap₂ (λ (one : K) (list : List K). one ∷ list) first.same.lent rest.lent;
     began = began_more;
     grows = grows_more;
@@ -216,7 +216,7 @@ module _ {K : Type 0} (told : K → Option (Told (ℕ × List ℕ))) (faults : K
   }
 
 -- those behind the first are so far after its turn
-pub others_seated : {K : Type 0} (told : K → Option (Told (ℕ × List ℕ))) (faults : K → ℕ) (due closes : Bool) (before middle : PlainCore) (sitting : Sitting K) (now : Seat K) (others : List (Sitting K)) → AscendBy (λ s. s.session.user) (seats_in (sitting ∷ others))
+pub others_seated : {K : Type 0} (told : K → Option (Told (ℕ × List ℕ))) (faults : K → ℕ) (due closes : Bool) (before middle : PlainCore) (sitting : Sitting K) (now : UserSeat K) (others : List (Sitting K)) → AscendBy (λ s. s.session.user) (seats_in (sitting ∷ others))
     → IsSeatTurn told faults due closes before sitting middle now → All (IsSeated told faults before.journal) (sitting ∷ others) → All (IsSeated told faults middle.journal) others
 others_seated told faults due closes before middle sitting now others ascend first h =
     let number : ℕ = sitting.seat.session.user in
@@ -227,7 +227,7 @@ others_seated told faults due closes before middle sitting now others ascend fir
     (recursion_from_All (IsSeated told faults before.journal) others (All-tail (IsSeated told faults before.journal) sitting others h)))
 
 -- as many seats as before, which are put back where they were
-pub all_put_back : {K : Type 0} (told : K → Option (Told (ℕ × List ℕ))) (faults : K → ℕ) (due : ℕ → Bool) (closes : Bool) (before after : PlainCore) (sittings : List (Sitting K)) (new others : List (Seat K)) (len : ℕ) → AreSeatTurns told faults due closes before sittings after new → length sittings ≡ len
+pub all_put_back : {K : Type 0} (told : K → Option (Told (ℕ × List ℕ))) (faults : K → ℕ) (due : ℕ → Bool) (closes : Bool) (before after : PlainCore) (sittings : List (Sitting K)) (new others : List (UserSeat K)) (len : ℕ) → AreSeatTurns told faults due closes before sittings after new → length sittings ≡ len
     → take len (new ++ others) ≡ new
 all_put_back told faults due closes before after sittings new others len turns many =
     let same : length new ≡ len = sym (length-map new (λ seat. user_of seat.session)) ∙ ap (λ (list : List PlainUser). length list) turns.users ∙ length-map sittings (λ sitting. user_of sitting.seat.session) ∙ many in

@@ -16,7 +16,7 @@ use Rattle.replay_rules.specs.Turns.{newcomer}
 use Rattle.aplsv_replay.specs.declared.parties.Parties.{Parties}
 
 -- a run whose parties are these at its end is whole: memory ran out for nobody; it has the processor's journal, which is legal; and its transcripts are the users', where all answers were heard
-pub record IsEnded {X Y K : Type 0} (told : K → Option (Told (ℕ × List ℕ))) (faults : K → ℕ) (p : Parties X Y K) (transcripts : List PlainTranscript) (journal : Entries) : Type 0 where
+pub record RunIsWhole {X Y K : Type 0} (told : K → Option (Told (ℕ × List ℕ))) (faults : K → ℕ) (p : Parties X Y K) (transcripts : List PlainTranscript) (journal : Entries) : Type 0 where
   pub here : IsTrue (none_is_lost p)
   pub same : journal ≡ p.core.journal
   pub legal : IsLegal p.core.users journal

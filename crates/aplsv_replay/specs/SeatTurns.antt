@@ -11,27 +11,27 @@ use Rattle.replay_rules.specs.Turns.{turn, turns_where}
 use Rattle.aplsv_replay.specs.Participants.{participant_of, users_of}
 use Rattle.aplsv_replay.specs.Sittings.{EndsIn, Sitting, lent_to, seats_in}
 use Rattle.aplsv_replay.specs.SoFar.{GrowsBy, IsSameSitting, IsSeated, IsWhole, IsWholeUnlessLost, user_of, user_work, work_with}
-use Rattle.aplsv_replay.specs.declared.seat.Seat.{Seat}
+use Rattle.aplsv_replay.specs.declared.seat.UserSeat.{UserSeat}
 
 -- it is the turn of a user: of each, or of the one with this number
-abbrev pub is_due : Option ℕ → ℕ → Bool
-is_due None user = true
-is_due (Some party) user = user == party
+abbrev pub has_turn : Option ℕ → ℕ → Bool
+has_turn None user = true
+has_turn (Some party) user = user == party
 
 -- the numbers of seats' users
-abbrev pub seat_numbers : {K : Type 0} → List (Seat K) → List ℕ
+abbrev pub seat_numbers : {K : Type 0} → List (UserSeat K) → List ℕ
 seat_numbers seats = map (λ seat. seat.session.user) seats
 
 -- memory ran out for none of these users
-abbrev pub none_lost : {K : Type 0} → List (Seat K) → Bool
+abbrev pub none_lost : {K : Type 0} → List (UserSeat K) → Bool
 none_lost seats = list_all (λ seat. not seat.is_lost) seats
 
 -- a user that stays was still held, in a run that does not close
-abbrev pub IsHeld : {K : Type 0} → Bool → Bool → PlainCore → Seat K → Type 0
+abbrev pub IsHeld : {K : Type 0} → Bool → Bool → PlainCore → UserSeat K → Type 0
 IsHeld due closes core seat = due ≡ true → has_left core.journal seat.session.user ≡ false → (closes ≡ false) × IsTrue (is_still_held core.users core.journal seat.session.user)
 
 -- how much may still be done in a journal, and by users there
-abbrev pub work_left : {K : Type 0} → Entries → List (Seat K) → ℕ
+abbrev pub work_left : {K : Type 0} → Entries → List (UserSeat K) → ℕ
 work_left journal seats = (most_entries - counted_entries journal) + sum_by (λ seat. user_work journal seat.session) seats
 
 -- turns of some users add entries of theirs alone
@@ -43,19 +43,19 @@ pub record GrowsAmong (parties : List ℕ) (before after : PlainCore) : Type 0 w
 
 module _ {K : Type 0} (told : K → Option (Told (ℕ × List ℕ))) (faults : K → ℕ) where
   -- some users are seated
-  pub record AreSeated (journal : Entries) (seats : List (Seat K)) : Type 0 where
+  pub record AreSeated (journal : Entries) (seats : List (UserSeat K)) : Type 0 where
     pub sittings : List (Sitting K)
     pub here : seats_in sittings ≡ seats
     pub seated : All (IsSeated told faults journal) sittings
 
   -- one user is
-  pub record IsOneSeated (journal : Entries) (seat : Seat K) : Type 0 where
+  pub record IsOneSeated (journal : Entries) (seat : UserSeat K) : Type 0 where
     pub sitting : Sitting K
     pub here : sitting.seat ≡ seat
     pub seated : IsSeated told faults journal sitting
 
   -- the turn of a user, where it is due: from where it sat to where it sits
-  pub record IsSeatTurn (due closes : Bool) (before : PlainCore) (sitting : Sitting K) (after : PlainCore) (seat : Seat K) : Type 0 where
+  pub record IsSeatTurn (due closes : Bool) (before : PlainCore) (sitting : Sitting K) (after : PlainCore) (seat : UserSeat K) : Type 0 where
     pub now : Sitting K
     pub here : now.seat ≡ seat
     pub same : IsSameSitting sitting now
@@ -70,7 +70,7 @@ module _ {K : Type 0} (told : K → Option (Told (ℕ × List ℕ))) (faults : K
         ⊎ ((after ≡ before) × (seat.session ≡ sitting.seat.session) × IsHeld due closes before sitting.seat)
 
   -- the turns of those users that are due, in their order
-  pub record AreSeatTurns (due : ℕ → Bool) (closes : Bool) (before : PlainCore) (sittings : List (Sitting K)) (after : PlainCore) (seats : List (Seat K)) : Type 0 where
+  pub record AreSeatTurns (due : ℕ → Bool) (closes : Bool) (before : PlainCore) (sittings : List (Sitting K)) (after : PlainCore) (seats : List (UserSeat K)) : Type 0 where
     pub nows : List (Sitting K)
     pub here : seats_in nows ≡ seats
     pub users : map (λ seat. user_of seat.session) seats ≡ map (λ sitting. user_of sitting.seat.session) sittings

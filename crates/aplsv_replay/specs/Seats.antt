@@ -9,11 +9,11 @@ use Rattle.apl_session.specs.Wants.{HasHeardAll}
 use Rattle.apl_session.specs.declared.outcome.Ended.{Ended}
 use Rattle.apl_session.specs.declared.outcome.Ended.TheVariants as ended
 use Rattle.aplsv_replay.specs.Sittings.{Sitting}
-use Rattle.aplsv_replay.specs.SoFar.{printed_by}
+use Rattle.aplsv_replay.specs.SoFar.{echoed_and_printed}
 
 -- what a user saw
 abbrev pub transcript_of : {K : Type 0} → Sitting K → PlainTranscript
-transcript_of sitting = record { user = sitting.seat.session.user; lines = printed_by sitting.exchanges sitting.seat.session }
+transcript_of sitting = record { user = sitting.seat.session.user; lines = echoed_and_printed sitting.exchanges sitting.seat.session }
 
 -- a user has heard all answers, and its shelf was asked these
 pub record HasPrinted {K : Type 0} (told : K → Option (Told (ℕ × List ℕ))) (faults : K → ℕ) (sitting : Sitting K) : Type 0 where

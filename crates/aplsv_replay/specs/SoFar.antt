@@ -15,21 +15,21 @@ use Rattle.sv_rules.specs.Work.{work_of}
 use Rattle.session_rules.specs.Auxiliaries.{events_of}
 use Rattle.session_rules.specs.Session.{session_of}
 use Rattle.session_rules.specs.SessionLaws.{tells_full}
-use Rattle.session_rules.specs.Shelf.{Exchange, Reply, replies_in}
+use Rattle.session_rules.specs.Shelf.{Exchange, ShelfReply, shelf_replies_in}
 use Rattle.session_rules.specs.Run.{Dealings}
 use Rattle.session_rules.specs.UserPart.{IsUserPart}
 use Rattle.apl_session.specs.PlainSession.{HasCome, PlainSession}
-use Rattle.apl_session.specs.declared.session.Stage.{Stage}
-use Rattle.apl_session.specs.declared.session.Stage.TheVariants as stage
+use Rattle.apl_session.specs.declared.session.SessionStage.{SessionStage}
+use Rattle.apl_session.specs.declared.session.SessionStage.TheVariants as stage
 use Rattle.aplsv_replay.specs.Participants.{participant_of, participant_with}
-use Rattle.aplsv_replay.specs.Sittings.{EndsIn, Follow, Sitting}
+use Rattle.aplsv_replay.specs.Sittings.{EndsIn, ExchangesFollow, Sitting}
 use Rattle.replay_rules.specs.SoFar.{IsSoFar}
 use Rattle.replay_rules.specs.Turns.{served, turn}
 use Rattle.aplsv_replay.specs.declared.auxiliary.Auxiliary.{Auxiliary}
-use Rattle.aplsv_replay.specs.declared.seat.Seat.{Seat}
+use Rattle.aplsv_replay.specs.declared.seat.UserSeat.{UserSeat}
 
 -- a session waits for an answer
-abbrev pub is_waiting : Stage → Bool
+abbrev pub is_waiting : SessionStage → Bool
 is_waiting stage.Ready = false
 is_waiting stage.Waiting = true
 is_waiting stage.Finished = false
@@ -37,7 +37,7 @@ is_waiting stage.Failed = false
 
 -- the user of a session that has not left is so far, whatever replies follow those of its exchanges
 abbrev pub IsUserSoFar : {K : Type 0} → Entries → List Exchange → Bool → PlainSession K → Type 0
-IsUserSoFar journal exchanges waiting s = (more : List Reply) → IsSoFar journal (participant_with (replies_in exchanges ++ more) s) waiting
+IsUserSoFar journal exchanges waiting s = (more : List ShelfReply) → IsSoFar journal (participant_with (shelf_replies_in exchanges ++ more) s) waiting
 
 abbrev pub IsSessionSoFar : {K : Type 0} → Entries → List Exchange → PlainSession K → Type 0
 IsSessionSoFar journal exchanges s = IsUserSoFar journal exchanges (is_waiting s.stage) s
@@ -48,12 +48,12 @@ IsRetried journal exchanges s = IsSessionSoFar journal exchanges s ⊎ (IsTrue (
 
 -- a session asks this act now, whatever replies follow, and its user is so far but for it
 pub record AsksNow {K : Type 0} (journal : Entries) (exchanges : List Exchange) (asked : Act) (s : PlainSession K) : Type 0 where
-  pub asks : (more : List Reply) → (session_of s.lines s.answers (replies_in exchanges ++ more)).waits ≡ Some asked
+  pub asks : (more : List ShelfReply) → (session_of s.lines s.answers (shelf_replies_in exchanges ++ more)).waits ≡ Some asked
   pub so_far : IsUserSoFar journal exchanges false s
 
 -- a session asks some act whose user tries again
 pub record TriesAgain {K : Type 0} (journal : Entries) (exchanges : List Exchange) (s : PlainSession K) : Type 0 where
-  pub asks : (more : List Reply) → IsSome (session_of s.lines s.answers (replies_in exchanges ++ more)).waits
+  pub asks : (more : List ShelfReply) → IsSome (session_of s.lines s.answers (shelf_replies_in exchanges ++ more)).waits
   pub retried : IsRetried journal exchanges s
 
 -- a session that is given an answer, unless it is to wait, and is then inside like another
@@ -65,8 +65,8 @@ abbrev pub user_of : {K : Type 0} → PlainSession K → PlainUser
 user_of s = record { number = s.user; lines = s.lines }
 
 -- what a session echoed and printed, with these exchanges
-abbrev pub printed_by : {K : Type 0} → List Exchange → PlainSession K → List (List ℕ)
-printed_by exchanges s = (session_of s.lines s.answers (replies_in exchanges)).terminal.transcript
+abbrev pub echoed_and_printed : {K : Type 0} → List Exchange → PlainSession K → List (List ℕ)
+echoed_and_printed exchanges s = (session_of s.lines s.answers (shelf_replies_in exchanges)).terminal.transcript
 
 module _ {K : Type 0} (told : K → Option (Told (ℕ × List ℕ))) (faults : K → ℕ) where
   -- a user in a run that has not left: memory did not run out for it, its session has had these exchanges with its shelf, and it is so far
@@ -83,7 +83,7 @@ module _ {K : Type 0} (told : K → Option (Told (ℕ × List ℕ))) (faults : K
   pub record HasPart (journal : Entries) (sitting : Sitting K) : Type 0 where
     pub finished : sitting.seat.session.stage ≡ stage.Finished
     pub come : HasCome told faults sitting.lent sitting.exchanges sitting.seat.session
-    pub part : IsUserPart journal (user_of sitting.seat.session) sitting.exchanges (printed_by sitting.exchanges sitting.seat.session)
+    pub part : IsUserPart journal (user_of sitting.seat.session) sitting.exchanges (echoed_and_printed sitting.exchanges sitting.seat.session)
 
   abbrev pub IsWhole : Entries → Sitting K → Type 0
   IsWhole journal sitting = has_left journal sitting.seat.session.user ≡ true → HasPart journal sitting
@@ -100,7 +100,7 @@ IsSameUser before after = after ≡ record before { acts = after.acts; answers =
 pub record IsSameSitting {K : Type 0} (before after : Sitting K) : Type 0 where
   pub user : IsSameUser before.seat.session after.seat.session
   pub lent : after.lent ≡ before.lent
-  pub follow : Follow before.exchanges after.exchanges
+  pub follow : ExchangesFollow before.exchanges after.exchanges
 
 -- a turn of a party adds entries of its own alone
 pub record GrowsBy (party : ℕ) (before after : PlainCore) : Type 0 where
@@ -133,7 +133,7 @@ module _ {K : Type 0} (told : K → Option (Told (ℕ × List ℕ))) (faults : K
   pub record HasHeard (lent : K) (exchanges : List Exchange) (before : PlainCore) (s : PlainSession K) (after : PlainCore) (now : PlainSession K) : Type 0 where
     pub come : HasCome told faults lent exchanges now
     pub so_far : IsSessionSoFar after.journal exchanges now
-    pub turn : (more : List Reply) → turn before.users before.journal (participant_with (replies_in exchanges ++ more) s) ≡ record { journal = after.journal; user = participant_with (replies_in exchanges ++ more) now }
+    pub turn : (more : List ShelfReply) → turn before.users before.journal (participant_with (shelf_replies_in exchanges ++ more) s) ≡ record { journal = after.journal; user = participant_with (shelf_replies_in exchanges ++ more) now }
 
   -- a user that had not left took a turn, with some exchanges more with its shelf: it is so far, or has its part
   pub record HasTurned (before : PlainCore) (sitting : Sitting K) (after : PlainCore) (now : Sitting K) : Type 0 where
@@ -143,7 +143,7 @@ module _ {K : Type 0} (told : K → Option (Told (ℕ × List ℕ))) (faults : K
     pub turn : IsTurn before sitting.seat.session after now
 
   -- so from wherever it sat
-  abbrev pub TakesTurn : PlainCore → Seat K → PlainCore → Seat K → Type 0
+  abbrev pub TakesTurn : PlainCore → UserSeat K → PlainCore → UserSeat K → Type 0
   TakesTurn before seat after seat_then =
       (sitting : Sitting K) → sitting.seat ≡ seat → IsPresent told faults before.journal sitting → (now : Sitting K) × (now.seat ≡ seat_then) × HasTurned before sitting after now
 

@@ -22,7 +22,7 @@ pub struct Auxiliary<X> {
 }
 
 impl<X: Replier> Auxiliary<X> {
-    /// An auxiliary that has made no entry. No memory.
+    /// An auxiliary that has made no entry.
     pub fn new(party: u32, replier: X) -> Self
         ensures { result ≡ record { party = party; replier = replier; is_lost = false } }
     {
@@ -33,14 +33,14 @@ impl<X: Replier> Auxiliary<X> {
         }
     }
 
-    /// Whether memory ran out for it. No memory.
+    /// Whether memory ran out for it.
     pub fn is_lost(&self) -> bool
         ensures { result ≡ self.now.is_lost }
     {
         self.is_lost
     }
 
-    /// What answers behind it. No memory.
+    /// What answers behind it.
     pub fn into_replier(self) -> X
         ensures { result ≡ self.replier }
     {
@@ -106,7 +106,7 @@ impl<X: Replier> Auxiliary<X> {
     {
         let reply = self
             .replier
-            .reply(core.customer(self.party), core.command(self.party))?;
+            .reply(core.customer(self.party), core.request(self.party))?;
         self.enter(core, Work::Reply(local), Some(reply))
     }
 

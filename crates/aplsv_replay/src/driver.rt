@@ -3,7 +3,7 @@ ghost use Rattle.apl_arrays.specs.Ascending.{AscendBy};
 ghost use Rattle.apl_io.specs.Content.{KeepsPlaces};
 ghost use Rattle.apl_session.specs.Ended.{IfWhole};
 ghost use Rattle.aplsv_replay.specs.Replayed.{IsDeviceRun, IsRunInTurns};
-ghost use Rattle.aplsv_replay.specs.Endings.{ComesOf, IsEnded};
+ghost use Rattle.aplsv_replay.specs.Endings.{ComesOf, RunIsWhole};
 ghost use Rattle.aplsv_replay.specs.Together.{AreOfSomeBundle};
 
 use crate::auxiliary::Auxiliary;
@@ -11,7 +11,7 @@ use crate::ending::{end_of, take_apart};
 use crate::parties::Parties;
 use crate::start::{core_of, fill, room_for};
 use apl_io::{Clock, Devices, Shelf, TextStore};
-use apl_session::{Ended, Outcome, RunOf};
+use apl_session::{Ended, FinishedRun, RunOf};
 use aux_parties::{CLOCK_PARTY, TEXT_PARTY};
 use auxiliaries::{ClockAux, Replier, TextAux};
 use bundle_text::{Bundle, BundleParts};
@@ -27,7 +27,7 @@ pub fn replay<T: TextStore, C: Clock, K: Shelf>(
     alloc: Global,
     bundle: Bundle,
     devices: Devices<T, C, K>,
-) -> Outcome<T, C, K>
+) -> FinishedRun<T, C, K>
     requires shelves { length bundle.users ≤ vec_len devices.shelves }
     ensures run { IfWhole result.ended (λ transcripts journal. IsDeviceRun C.told C.faults T.told T.faults K.told K.faults bundle journal transcripts devices.clock result.devices.clock devices.text result.devices.text
         devices.shelves.items result.devices.shelves.items) }
@@ -50,7 +50,7 @@ pub fn replay<T: TextStore, C: Clock, K: Shelf>(
         TextAux::new(alloc, text),
         shelves,
     );
-    Outcome {
+    FinishedRun {
         ended,
         devices: Devices {
             text: twenty.into_store(),
@@ -131,7 +131,7 @@ fn close<X: Replier, Y: Replier, K: Shelf>(
 ) -> RunOf<X, Y, K>
     requires ascending { AscendBy (λ seat. seat.session.user) parties.seats.items }
     requires room { vec_len parties.seats + vec_len shelves ≤ vec_capacity shelves }
-    ensures whole { IfWhole result.ended (λ transcripts journal. IsEnded K.told K.faults parties transcripts journal) }
+    ensures whole { IfWhole result.ended (λ transcripts journal. RunIsWhole K.told K.faults parties transcripts journal) }
     ensures ten { result.ten ≡ parties.ten.replier }
     ensures twenty { result.twenty ≡ parties.twenty.replier }
     ensures shelves { result.shelves.items ≡ map (λ seat. seat.session.shelf) parties.seats.items ++ shelves.items }

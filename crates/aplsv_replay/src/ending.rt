@@ -4,13 +4,14 @@ ghost use Rattle.apl_arrays.specs.Ascending.{AscendBy};
 ghost use Rattle.aplsv_replay.specs.Seats.{HasPrinted, end_by, transcript_of};
 ghost use Rattle.aplsv_replay.specs.Sittings.{Sitting, seats_in};
 
-use crate::seat::Seat;
+use crate::seat::UserSeat;
 use apl_io::Shelf;
-use apl_session::{Ended, Parts, Transcript, Transcripts};
+use apl_session::{Ended, SessionParts, Transcript, Transcripts};
 use std::alloc::Global;
 use sv_events::Journal;
 
-/// The end of a run in which all users have left, where the transcripts are there and memory ran out for nobody. No memory.
+/// The end of a run in which all users have left, where the transcripts are there and memory ran out for nobody. It
+/// takes no memory.
 pub fn end_of(transcripts: Option<Transcripts>, journal: Journal, is_whole: bool) -> Ended
     ensures { result ≡ end_by transcripts journal is_whole }
 {
@@ -27,8 +28,8 @@ pub fn end_of(transcripts: Option<Transcripts>, journal: Journal, is_whole: bool
     }
 }
 
-/// Whether memory ran out for none of these users. No memory.
-pub fn none_is_lost<K>(seats: &[Seat<K>]) -> bool
+/// Whether memory ran out for none of these users.
+pub fn none_is_lost<K>(seats: &[UserSeat<K>]) -> bool
     ensures { result ≡ list_all (λ seat. not seat.is_lost) seats.now }
 {
     seats.iter().all(|seat| !seat.is_lost)
@@ -38,7 +39,7 @@ pub fn none_is_lost<K>(seats: &[Seat<K>]) -> bool
 /// them. It takes memory for the list of transcripts; none where that runs out.
 pub fn take_apart<K: Shelf>(
     alloc: Global,
-    seats: Vec<Seat<K>>,
+    seats: Vec<UserSeat<K>>,
     shelves: &mut Vec<K>,
 ) -> Option<Transcripts>
     requires ascending { AscendBy (λ seat. seat.session.user) seats.items }
@@ -51,12 +52,12 @@ pub fn take_apart<K: Shelf>(
     let mut transcripts = Transcripts::new(alloc);
     let mut is_whole = true;
     while !seats.is_empty() {
-        let Seat {
+        let UserSeat {
             session,
             is_lost: _,
         } = seats.remove(0);
         let user = session.user();
-        let Parts { transcript, shelf } = session.into_parts();
+        let SessionParts { transcript, shelf } = session.into_parts();
         shelves.push_reserved(shelf);
         let kept = transcripts.push(Transcript {
             user,

@@ -3,7 +3,7 @@ ghost use Rattle.apl_arrays.specs.Ascending.{AscendBy};
 ghost use Rattle.sv_core.specs.Core.{ArePeople};
 ghost use Rattle.sv_rules.specs.Legal.{is_user};
 ghost use Rattle.session_rules.specs.Auxiliaries.{some_stay};
-ghost use Rattle.aplsv_replay.specs.SeatTurns.{AreSeatTurns, AreSeated, IsOneSeated, IsSeatTurn, is_due, seat_numbers};
+ghost use Rattle.aplsv_replay.specs.SeatTurns.{AreSeatTurns, AreSeated, IsOneSeated, IsSeatTurn, has_turn, seat_numbers};
 ghost use Rattle.aplsv_replay.specs.Sittings.{Sitting, seats_in};
 ghost use Rattle.aplsv_replay.specs.SoFar.{IsSeated};
 ghost use Rattle.aplsv_replay.specs.Together.{AreOfSomeBundle, TakesRounds, TakesTurns, TookAuxiliaryTurn, left_to_do, none_is_lost};
@@ -11,7 +11,7 @@ ghost use Rattle.replay_rules.specs.Turns.{ordered, party_turn, round};
 
 use crate::auxiliary::Auxiliary;
 use crate::ending::none_is_lost;
-use crate::seat::Seat;
+use crate::seat::UserSeat;
 use apl_io::Shelf;
 use aux_parties::{AuxiliaryKind, auxiliary_at};
 use auxiliaries::Replier;
@@ -23,7 +23,7 @@ pub struct Parties<X, Y, K> {
     pub core: Core,
     pub ten: Auxiliary<X>,
     pub twenty: Auxiliary<Y>,
-    pub seats: Vec<Seat<K>>,
+    pub seats: Vec<UserSeat<K>>,
 }
 
 impl<X: Replier, Y: Replier, K: Shelf> Parties<X, Y, K> {
@@ -49,7 +49,7 @@ impl<X: Replier, Y: Replier, K: Shelf> Parties<X, Y, K> {
         }
     }
 
-    /// Whether memory ran out for nobody. No memory.
+    /// Whether memory ran out for nobody.
     pub fn is_whole(&self) -> bool
         ensures { result ≡ none_is_lost self.now }
     {
@@ -108,7 +108,7 @@ impl<X: Replier, Y: Replier, K: Shelf> Parties<X, Y, K> {
     fn user_turns(&mut self, only: Option<u32>)
         requires together { AreOfSomeBundle X.forgets X.replies Y.forgets Y.replies K.told K.faults self.old }
         ensures turns { (sittings : List (Sitting K)) → seats_in sittings ≡ self.old.seats.items → All (IsSeated K.told K.faults self.old.core.journal) sittings
-            → AreSeatTurns K.told K.faults (is_due only) (self.old.ten.is_lost || self.old.twenty.is_lost) self.old.core sittings self.new.core self.new.seats.items }
+            → AreSeatTurns K.told K.faults (has_turn only) (self.old.ten.is_lost || self.old.twenty.is_lost) self.old.core sittings self.new.core self.new.seats.items }
         ensures ten { self.new.ten ≡ self.old.ten }
         ensures twenty { self.new.twenty ≡ self.old.twenty }
     {
@@ -134,13 +134,13 @@ impl<X: Replier, Y: Replier, K: Shelf> Parties<X, Y, K> {
 }
 
 // The turns of those users that are due, in their order: of each, or of the one with this number.
-fn seat_turns<K: Shelf>(core: &mut Core, seats: &mut [Seat<K>], only: Option<u32>, closes: bool)
+fn seat_turns<K: Shelf>(core: &mut Core, seats: &mut [UserSeat<K>], only: Option<u32>, closes: bool)
     requires users { All (λ seat. IsTrue (is_user core.old.users seat.session.user)) seats.old }
     requires people { ArePeople core.old.users }
     requires ascending { AscendBy (λ seat. seat.session.user) seats.old }
     requires seated { AreSeated K.told K.faults core.old.journal seats.old }
     ensures { (sittings : List (Sitting K)) → seats_in sittings ≡ seats.old → All (IsSeated K.told K.faults core.old.journal) sittings
-        → AreSeatTurns K.told K.faults (is_due only) closes core.old sittings core.new seats.new }
+        → AreSeatTurns K.told K.faults (has_turn only) closes core.old sittings core.new seats.new }
 {
     match seats.split_first_mut() {
         None => {}
@@ -153,7 +153,7 @@ fn seat_turns<K: Shelf>(core: &mut Core, seats: &mut [Seat<K>], only: Option<u32
 }
 
 // The turn of a user, where it is due.
-fn seat_turn<K: Shelf>(core: &mut Core, seat: &mut Seat<K>, due: bool, closes: bool)
+fn seat_turn<K: Shelf>(core: &mut Core, seat: &mut UserSeat<K>, due: bool, closes: bool)
     requires user { IsTrue (is_user core.old.users seat.old.session.user) }
     requires people { ArePeople core.old.users }
     requires seated { IsOneSeated K.told K.faults core.old.journal seat.old }
@@ -167,7 +167,7 @@ fn seat_turn<K: Shelf>(core: &mut Core, seat: &mut Seat<K>, due: bool, closes: b
 
 // Whether a turn is a user's: it is that of each user, or of the one with this number.
 fn is_due(only: Option<u32>, user: u32) -> bool
-    ensures { result ≡ is_due only user }
+    ensures { result ≡ has_turn only user }
 {
     match only {
         None => true,

@@ -11,29 +11,29 @@ ghost use Rattle.aplsv_replay.specs.SoFar.{AsksNow, GoesOn, GrowsBy, HasHeard, I
 
 use apl_arrays::WantOfMemory;
 use apl_io::Shelf;
-use apl_session::{Session, Stage, Wants};
+use apl_session::{Session, SessionStage, Wants};
 use sv_core::Core;
 use sv_events::{Act, Answer, Retry};
 
 /// A user in a run: its session, and whether memory ran out for it.
 #[derive(Drop)]
-pub struct Seat<K> {
+pub struct UserSeat<K> {
     pub session: Session<K>,
     pub is_lost: bool,
 }
 
-impl<K: Shelf> Seat<K> {
-    /// A user of whose lines none is done. No memory.
+impl<K: Shelf> UserSeat<K> {
+    /// A user of whose lines none is done.
     pub fn new(session: Session<K>) -> Self
         ensures { result ≡ record { session = session; is_lost = false } }
     {
-        Seat {
+        UserSeat {
             session,
             is_lost: false,
         }
     }
 
-    /// The user's number. No memory.
+    /// The user's number.
     pub fn user(&self) -> u32
         ensures { result ≡ self.now.session.user }
     {
@@ -83,7 +83,7 @@ impl<K: Shelf> Seat<K> {
         ensures turn { OnOk result (TakesTurn K.told K.faults core.old self.old core.new self.new) }
         ensures stays { OnErr result (has_left core.new.journal self.old.session.user ≡ false) }
     {
-        if self.session.stage() == Stage::Waiting {
+        if self.session.stage() == SessionStage::Waiting {
             return self.retry(core);
         }
         match self.session.next()? {
@@ -100,7 +100,7 @@ impl<K: Shelf> Seat<K> {
         requires user { IsTrue (is_user core.old.users self.old.session.user) }
         requires people { ArePeople core.old.users }
         requires stays { has_left core.old.journal self.old.session.user ≡ false }
-        requires waiting { self.old.session.stage ≡ Stage.Waiting }
+        requires waiting { self.old.session.stage ≡ SessionStage.Waiting }
         requires asked { (exchanges : List Exchange) × AsksNow core.old.journal exchanges act self.old.session }
         ensures same { IsSameUser self.old.session self.new.session }
         ensures lost { self.new.is_lost ≡ self.old.is_lost }
@@ -123,7 +123,7 @@ impl<K: Shelf> Seat<K> {
         requires user { IsTrue (is_user core.old.users self.old.session.user) }
         requires people { ArePeople core.old.users }
         requires stays { has_left core.old.journal self.old.session.user ≡ false }
-        requires waiting { self.old.session.stage ≡ Stage.Waiting }
+        requires waiting { self.old.session.stage ≡ SessionStage.Waiting }
         requires waits { IsTrue (waits core.old.journal self.old.session.user) }
         requires again { (exchanges : List Exchange) × TriesAgain core.old.journal exchanges self.old.session }
         ensures same { IsSameUser self.old.session self.new.session }
@@ -142,10 +142,10 @@ impl<K: Shelf> Seat<K> {
 
     // Hands an answer to the session, which waits on where it is `Held`.
     fn hear(&mut self, answer: Answer) -> Result<(), WantOfMemory>
-        requires { self.old.session.stage ≡ Stage.Waiting }
+        requires { self.old.session.stage ≡ SessionStage.Waiting }
         ensures ok { OnOk result (self.new ≡ record self.old { session = heard (plain_answer answer) self.new.session self.old.session }) }
         ensures come { OnOk result ((lent : K) (exchanges : List Exchange) → HasCome K.told K.faults lent exchanges self.old.session → HasCome K.told K.faults lent exchanges self.new.session) }
-        ensures err { OnErr result (self.new ≡ record self.old { session = record self.old.session { stage = Stage.Failed; inside = self.new.session.inside } }) }
+        ensures err { OnErr result (self.new ≡ record self.old { session = record self.old.session { stage = SessionStage.Failed; inside = self.new.session.inside } }) }
     {
         match answer {
             Answer::Held(_) => Ok(()),

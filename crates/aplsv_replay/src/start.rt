@@ -7,7 +7,7 @@ ghost use Rattle.aplsv_replay.specs.Participants.{users_of};
 ghost use Rattle.aplsv_replay.specs.Sittings.{newly};
 ghost use Rattle.aplsv_replay.specs.SoFar.{IsSeated, user_of};
 
-use crate::seat::Seat;
+use crate::seat::UserSeat;
 use apl_arrays::WantOfMemory;
 use apl_io::Shelf;
 use apl_session::Session;
@@ -28,7 +28,7 @@ pub fn core_of(alloc: Global, users: &[BundleUser]) -> Result<Core, WantOfMemory
 }
 
 /// A list of seats that has room for these users. It takes memory for it.
-pub fn room_for<K>(alloc: Global, users: &[BundleUser]) -> Result<Vec<Seat<K>>, WantOfMemory>
+pub fn room_for<K>(alloc: Global, users: &[BundleUser]) -> Result<Vec<UserSeat<K>>, WantOfMemory>
     ensures empty { IfOk result (λ seats. seats.items ≡ []) }
     ensures room { IfOk result (λ seats. length users.now ≤ vec_capacity seats) }
 {
@@ -36,13 +36,13 @@ pub fn room_for<K>(alloc: Global, users: &[BundleUser]) -> Result<Vec<Seat<K>>, 
 }
 
 /// A seat for each user, in their order, in a list that has room for them; the k-th user takes the k-th shelf, and the
-/// shelves behind these are left. No memory.
+/// shelves behind these are left.
 pub fn fill<K: Shelf>(
     alloc: Global,
     users: Vec<BundleUser>,
-    seats: Vec<Seat<K>>,
+    seats: Vec<UserSeat<K>>,
     shelves: &mut Vec<K>,
-) -> Vec<Seat<K>>
+) -> Vec<UserSeat<K>>
     requires empty { seats.items ≡ [] }
     requires room { vec_len users ≤ vec_capacity seats }
     requires shelves { vec_len users ≤ vec_len shelves.old }
@@ -56,7 +56,7 @@ pub fn fill<K: Shelf>(
     let mut seats = seats;
     for user in users {
         let shelf = shelves.remove(0);
-        seats.push_reserved(Seat::new(Session::new(alloc, user.number, user.lines, shelf)));
+        seats.push_reserved(UserSeat::new(Session::new(alloc, user.number, user.lines, shelf)));
     }
     seats
 }

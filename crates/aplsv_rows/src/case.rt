@@ -1,4 +1,4 @@
-use crate::run::{Ended, run};
+use crate::run::{ProgramEnd, run};
 use anyhow::Result;
 use std::alloc::{AllocError, Global};
 
@@ -59,7 +59,7 @@ fn first_difference(one: &[u8], other: &[u8]) -> usize {
 // What differs between how a run ended and how it was to end.
 fn difference(
     alloc: Global,
-    ended: &Ended,
+    ended: &ProgramEnd,
     wanted: &Wanted<'_>,
 ) -> Result<Option<String>, AllocError> {
     let (code, told) = (ended.code, ended.told.as_str());

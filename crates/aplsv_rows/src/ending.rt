@@ -1,4 +1,4 @@
-use crate::run::Ended;
+use crate::run::ProgramEnd;
 use anyhow::{Context, Result};
 use aplsv_top::Status;
 use std::alloc::{AllocError, Global};
@@ -17,7 +17,7 @@ pub fn code_of(ending: &str) -> u8 {
 }
 
 /// The ending of a run, or its status and what it told where these two do not belong together.
-pub fn ending_of(alloc: Global, ended: &Ended) -> Result<String> {
+pub fn ending_of(alloc: Global, ended: &ProgramEnd) -> Result<String> {
     let (code, told) = (ended.code, ended.told.as_str());
     let ending = if told.is_empty() {
         "done"

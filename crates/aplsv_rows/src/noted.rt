@@ -10,7 +10,7 @@ pub struct Noted<D> {
 }
 
 impl<D> Noted<D> {
-    /// A device that was told no place and was not called. No memory.
+    /// A device that was told no place and was not called.
     pub fn new(device: D) -> Self {
         Noted {
             device,

@@ -10,7 +10,7 @@ use std::alloc::Global;
 
 /// How a run ended: its exit status, its text on standard error, and the bytes that it wrote.
 #[derive(Debug, Drop)]
-pub struct Ended {
+pub struct ProgramEnd {
     pub code: u8,
     pub told: String,
     pub written: Vec<u8>,
@@ -61,13 +61,13 @@ fn finished(
 }
 
 /// How a run ended that left these bytes written.
-pub fn ended_as(alloc: Global, status: Status, written: &[u8]) -> Result<Ended, WantOfMemory> {
+pub fn ended_as(alloc: Global, status: Status, written: &[u8]) -> Result<ProgramEnd, WantOfMemory> {
     if status == Status::WantOfMemory {
         return Err(WantOfMemory);
     }
     let told = status.to_string(alloc)?;
     let written = Vec::from_slice(alloc, written)?;
-    Ok(Ended {
+    Ok(ProgramEnd {
         code: status.code(),
         told,
         written,
@@ -80,7 +80,7 @@ fn run_into_sink(
     case: &Case<'_>,
     words: &[String],
     source: &mut MemorySource,
-) -> Result<Ended, WantOfMemory> {
+) -> Result<ProgramEnd, WantOfMemory> {
     let Device { piece, fails } = case.sink;
     let mut sink = MemorySink::new(alloc, case.room, piece.max(1), numbers(alloc, fails)?)?;
     let ended = match finished(alloc, words, source, &mut sink) {
@@ -91,7 +91,7 @@ fn run_into_sink(
     ended
 }
 
-fn run_once(alloc: Global, case: &Case<'_>) -> Result<Ended, WantOfMemory> {
+fn run_once(alloc: Global, case: &Case<'_>) -> Result<ProgramEnd, WantOfMemory> {
     let words = words_of(alloc, case.words)?;
     let input = Bytes::from(Vec::from_slice(alloc, case.input)?);
     let Device { piece, fails } = case.source;
@@ -102,7 +102,7 @@ fn run_once(alloc: Global, case: &Case<'_>) -> Result<Ended, WantOfMemory> {
 }
 
 /// Runs a case, once more where memory was refused.
-pub fn run(alloc: Global, case: &Case<'_>) -> Result<Ended> {
+pub fn run(alloc: Global, case: &Case<'_>) -> Result<ProgramEnd> {
     match run_once(alloc, case) {
         Err(WantOfMemory) => Ok(run_once(alloc, case)?),
         Ok(ended) => Ok(ended),

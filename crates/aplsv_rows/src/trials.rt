@@ -1,6 +1,6 @@
 use crate::case::sound_case;
 use crate::ending::ending_of;
-use crate::run::{Ended, run};
+use crate::run::{ProgramEnd, run};
 use anyhow::{Context, Result};
 use case_tables::{Trial, bytes_of};
 use std::alloc::Global;
@@ -22,7 +22,7 @@ pub struct Texts;
 pub struct Words;
 
 // The ending of a run that is to write nothing.
-fn refusal_text(alloc: Global, ended: &Ended) -> Result<String> {
+fn refusal_text(alloc: Global, ended: &ProgramEnd) -> Result<String> {
     let ending = ending_of(alloc, ended)?;
     if ended.written.is_empty() {
         return Ok(ending);

@@ -10,7 +10,7 @@ use Rattle.session_rules.proofs.MoreAnswers.{more_comes_back}
 use Rattle.session_rules.specs.Course.{Course}
 use Rattle.session_rules.specs.Run.{AreUserParts, Dealings}
 use Rattle.session_rules.specs.Session.{session_of}
-use Rattle.session_rules.specs.Shelf.{Call, Exchange, Reply, replies_in}
+use Rattle.session_rules.specs.Shelf.{Call, Exchange, ShelfReply, shelf_replies_in}
 use Rattle.session_rules.specs.UserPart.{IsFinished, IsUserPart, answered_entries, answers_of}
 use Rattle.replay_rules.specs.Turns.{Participant, newcomer}
 use Rattle.aplsv_top.proofs.Heard.{AreHeard, IsHeard}
@@ -45,24 +45,24 @@ regrouped : (answers front longer : List PlainAnswer) → (f : IsFront front lon
 regrouped answers front longer f = ap (λ behind. answers ++ behind) f.same ∙ sym (append_assoc answers front f.more)
 
 -- lines that are finished make no more calls with further answers
-finished_calls : (lines : List (List ℕ)) (answers front longer : List PlainAnswer) (exchanges : List Exchange) → (session_of lines (answers ++ front) (replies_in exchanges)).waits ≡ None
-    → (session_of lines (answers ++ front) (replies_in exchanges)).exchanges ≡ exchanges → IsFront front longer → (session_of lines (answers ++ longer) (replies_in exchanges)).exchanges ≡ exchanges
+finished_calls : (lines : List (List ℕ)) (answers front longer : List PlainAnswer) (exchanges : List Exchange) → (session_of lines (answers ++ front) (shelf_replies_in exchanges)).waits ≡ None
+    → (session_of lines (answers ++ front) (shelf_replies_in exchanges)).exchanges ≡ exchanges → IsFront front longer → (session_of lines (answers ++ longer) (shelf_replies_in exchanges)).exchanges ≡ exchanges
 finished_calls lines answers front longer exchanges finished calls f =
-    ap (λ (given : List PlainAnswer). (session_of lines given (replies_in exchanges)).exchanges) (regrouped answers front longer f)
-    ∙ (ap (λ (c : Course). c.exchanges) (more_comes_back lines (answers ++ front) f.more (replies_in exchanges) finished) ∙ calls)
+    ap (λ (given : List PlainAnswer). (session_of lines given (shelf_replies_in exchanges)).exchanges) (regrouped answers front longer f)
+    ∙ (ap (λ (c : Course). c.exchanges) (more_comes_back lines (answers ++ front) f.more (shelf_replies_in exchanges) finished) ∙ calls)
 
 module _ {P : Type 0} (Fits : P → ℕ → List Exchange → Type 0) (older : (place : P) (user : ℕ) (more earlier : List Exchange) → Fits place user (more ++ earlier) → Fits place user earlier)
-    (one_reply : (place : P) (user : ℕ) (call : Call) (reply other : Reply) (earlier : List Exchange) → Fits place user (record { call = call; reply = reply } ∷ earlier) → Fits place user (record { call = call; reply = other } ∷ earlier) → reply ≡ other) where
+    (one_reply : (place : P) (user : ℕ) (call : Call) (reply other : ShelfReply) (earlier : List Exchange) → Fits place user (record { call = call; reply = reply } ∷ earlier) → Fits place user (record { call = call; reply = other } ∷ earlier) → reply ≡ other) where
   -- ---- at the end
 
   -- with as many answers as its entries have, and some refusals, a user's exchanges fit, since all its dealings do
   fits_by : (place : P) (user : ℕ) (lines : List (List ℕ)) (entries : Entries) (refused others : List Act) (exchanges : List Exchange) (transcript : List (List ℕ)) → Fits place user exchanges → IsFinished lines entries others exchanges transcript
-      → IsFront (refusals refused) (refusals others) ⊎ IsFront (refusals others) (refusals refused) → Fits place user (session_of lines (answers_of entries ++ refusals refused) (replies_in exchanges)).exchanges
+      → IsFront (refusals refused) (refusals others) ⊎ IsFront (refusals others) (refusals refused) → Fits place user (session_of lines (answers_of entries ++ refusals refused) (shelf_replies_in exchanges)).exchanges
   fits_by place user lines entries refused others exchanges transcript fits finished (inl front) =
-      let calls = more_calls lines (answers_of entries ++ refusals refused) front.more (replies_in exchanges) in
-      let all : exchanges ≡ calls.more ++ (session_of lines (answers_of entries ++ refusals refused) (replies_in exchanges)).exchanges =
-      sym finished.calls ∙ (ap (λ (given : List PlainAnswer). (session_of lines given (replies_in exchanges)).exchanges) (regrouped (answers_of entries) (refusals refused) (refusals others) front) ∙ calls.same) in
-      older place user calls.more (session_of lines (answers_of entries ++ refusals refused) (replies_in exchanges)).exchanges (subst (Fits place user) all fits)
+      let calls = more_calls lines (answers_of entries ++ refusals refused) front.more (shelf_replies_in exchanges) in
+      let all : exchanges ≡ calls.more ++ (session_of lines (answers_of entries ++ refusals refused) (shelf_replies_in exchanges)).exchanges =
+      sym finished.calls ∙ (ap (λ (given : List PlainAnswer). (session_of lines given (shelf_replies_in exchanges)).exchanges) (regrouped (answers_of entries) (refusals refused) (refusals others) front) ∙ calls.same) in
+      older place user calls.more (session_of lines (answers_of entries ++ refusals refused) (shelf_replies_in exchanges)).exchanges (subst (Fits place user) all fits)
   fits_by place user lines entries refused others exchanges transcript fits finished (inr front) =
       subst (Fits place user) (sym (finished_calls lines (answers_of entries) (refusals others) (refusals refused) exchanges finished.waits finished.calls front)) fits
 
@@ -72,8 +72,8 @@ module _ {P : Type 0} (Fits : P → ℕ → List Exchange → Type 0) (older : (
   fits_at_end place dealings journal user now transcript later heard part fits =
       let answers : now.answers ≡ later.more = ap (λ (u : Participant). u.answers) later.same in
       let mine : IsHeard journal user.number later.more = subst (λ (u : Participant). IsHeard journal u.number u.answers) later.same heard in
-      let there : Fits place user.number (session_of user.lines later.more (replies_in (dealings user.number))).exchanges =
-      subst (λ (given : List PlainAnswer). Fits place user.number (session_of user.lines given (replies_in (dealings user.number))).exchanges) (sym mine.given)
+      let there : Fits place user.number (session_of user.lines later.more (shelf_replies_in (dealings user.number))).exchanges =
+      subst (λ (given : List PlainAnswer). Fits place user.number (session_of user.lines given (shelf_replies_in (dealings user.number))).exchanges) (sym mine.given)
       (fits_by place user.number user.lines (answered_entries journal user.number) mine.refused part.refused (dealings user.number) transcript fits part.finished (fronts mine.refused part.refused)) in
       subst (λ (u : Participant). FitsAt Fits older one_reply place u) (sym later.same) there
 
@@ -98,10 +98,10 @@ module _ {P : Type 0} (Fits : P → ℕ → List Exchange → Type 0) (older : (
 
   -- with the same answers and fitting exchanges lines make the same calls
   same_calls : (place : P) (user : ℕ) (lines : List (List ℕ)) (answers : List PlainAnswer) (exchanges others : List Exchange) → Fits place user exchanges → Fits place user others
-      → (session_of lines answers (replies_in exchanges)).exchanges ≡ exchanges → (session_of lines answers (replies_in others)).exchanges ≡ others → exchanges ≡ others
+      → (session_of lines answers (shelf_replies_in exchanges)).exchanges ≡ exchanges → (session_of lines answers (shelf_replies_in others)).exchanges ≡ others → exchanges ≡ others
   same_calls place user lines answers exchanges others fits also calls called =
-      let level : AreLevel (session_of lines answers (replies_in exchanges)) (session_of lines answers (replies_in others)) =
-      same_session (Fits place user) (older place user) (one_reply place user) lines answers (replies_in exchanges) (replies_in others) (subst (Fits place user) (sym calls) fits) (subst (Fits place user) (sym called) also) in
+      let level : AreLevel (session_of lines answers (shelf_replies_in exchanges)) (session_of lines answers (shelf_replies_in others)) =
+      same_session (Fits place user) (older place user) (one_reply place user) lines answers (shelf_replies_in exchanges) (shelf_replies_in others) (subst (Fits place user) (sym calls) fits) (subst (Fits place user) (sym called) also) in
       sym calls ∙ (sym (ap (λ (c : Course). c.exchanges) level.same) ∙ called)
 
   same_by : (place : P) (user : ℕ) (lines : List (List ℕ)) (entries : Entries) (refused more : List Act) (exchanges others : List Exchange) (transcript other : List (List ℕ)) → Fits place user exchanges → Fits place user others

@@ -6,9 +6,9 @@ use Rattle.apl_arrays.specs.Name.{name_order}
 use Rattle.apl_io.specs.Content.{IsChange, IsRead, MayRead, Reads, Told, Writes, entry_of}
 use Rattle.apl_io.specs.declared.store_error.StoreError.{StoreError}
 use Rattle.apl_io.specs.declared.store_error.StoreError.TheVariants.{Failed, WantOfMemory}
-use Rattle.auxiliaries.specs.Command.{command_of}
+use Rattle.auxiliaries.specs.Request.{request_of}
 use Rattle.auxiliaries.specs.File.{IsText}
-use Rattle.auxiliaries.specs.Protocol.{AfterRead, AfterReplace, Step, TextState, answers, idle, reading, reads, replaces, step}
+use Rattle.auxiliaries.specs.Protocol.{AfterRead, AfterReplace, Step, TextState, answers, idle, reading, reads, replaces, protocol_step}
 use Rattle.auxiliaries.specs.Run.{Event, IsReplierRun, answered, began}
 use Rattle.auxiliaries.specs.Served.{Replies, Served, Takes, forgotten}
 use Rattle.aplsv_top.specs.OutputLaws.{HoldsThroughout, TellsAll}
@@ -136,8 +136,8 @@ module _ (one_text : OneText) where
         state = ap (λ (s : Served T). s.state) one ∙ sym (ap (λ (s : Served T). s.state) other);
       };
       replied = λ a b party value answer other c d h one another.
-          taken_alike (step (command_of value) a.state) a b answer other c d h one.0 one.1
-          (subst (λ (state : TextState). Takes told faults (step (command_of value) state) b other d) (sym h.state) another.1);
+          taken_alike (protocol_step (request_of value) a.state) a b answer other c d h one.0 one.1
+          (subst (λ (state : TextState). Takes told faults (protocol_step (request_of value) state) b other d) (sym h.state) another.1);
     }
 
     -- ---- runs

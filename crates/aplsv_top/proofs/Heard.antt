@@ -20,7 +20,7 @@ use Rattle.session_rules.proofs.Taking.{none_leaves}
 use Rattle.session_rules.specs.Session.{session_of}
 use Rattle.session_rules.specs.UserPart.{answered_entries, answers_of}
 use Rattle.replay_rules.proofs.SoFar.{full_stays, other_awaits, own_answers, own_awaits, own_held, own_leave}
-use Rattle.replay_rules.specs.Turns.{Participant, Turn, act_made, given, numbers_of, turn_by, turns_where}
+use Rattle.replay_rules.specs.Turns.{Participant, AfterTurn, act_made, answer_given, numbers_of, turn_by, turns_where}
 use Rattle.aplsv_top.proofs.Older.{Adds, adds_turn, entry, later_turn, nothing, turn_if}
 
 -- what a party was answered: the answers of its entries, and full for further acts, of which there are some only where the journal is full; and the act that it waits for is no leave
@@ -116,7 +116,7 @@ heard_given false journal user answer h = h
 
 heard_again : (still : Bool) (next : Option Act) (numbers : List ℕ) (journal : Entries) (user : Participant) → IfSome next (λ act. is_leave act ≡ false) → IsHeardUser journal user
     → IsHeardUser (let core : PlainCore = (if still then record { users = numbers; journal = journal } else record { users = numbers; journal = journal_retried journal user.number next }) in core.journal)
-    (option_map_or (λ (answer : PlainAnswer). given answer user) (if still then None else option_map (answer_to journal user.number) next) user)
+    (option_map_or (λ (answer : PlainAnswer). answer_given answer user) (if still then None else option_map (answer_to journal user.number) next) user)
 heard_again true next numbers journal user stays h = h
 heard_again false None numbers journal user stays h = h
 heard_again false (Some made) numbers journal user stays h =
@@ -200,7 +200,7 @@ heard_past : (test : Participant → Bool) (numbers : List ℕ) (journal : Entri
     → IsHeard (turns_where test numbers journal users).journal number answers
 heard_past test numbers journal [] number answers apart h = h
 heard_past test numbers journal (user ∷ users) number answers apart h =
-    let first : Turn = turn_if (test user) numbers journal user in
+    let first : AfterTurn = turn_if (test user) numbers journal user in
     heard_past test numbers first.journal users number answers apart.1 (heard_beside user.number journal first.journal number answers (adds_turn (test user) numbers journal user) (flipped user.number number apart.0) h)
 
 -- users that are apart, after their turns
@@ -208,7 +208,7 @@ pub heard_turns : (test : Participant → Bool) (numbers : List ℕ) (journal : 
     → AreHeard (turns_where test numbers journal users).journal (turns_where test numbers journal users).users
 heard_turns test numbers journal [] apart h = tt
 heard_turns test numbers journal (user ∷ users) apart h =
-    let first : Turn = turn_if (test user) numbers journal user in
+    let first : AfterTurn = turn_if (test user) numbers journal user in
     let same : user.number ≡ first.user.number = sym (ap (λ (u : Participant). u.number) (later_turn (test user) numbers journal user).same) in (
       heard_past test numbers first.journal users first.user.number first.user.answers (subst (λ (n : ℕ). AreApartFrom n (numbers_of users)) same apart.0) (heard_turn (test user) numbers journal user h.0),
       heard_turns test numbers first.journal users apart.1 (all_heard_beside user.number journal first.journal users (adds_turn (test user) numbers journal user) apart.0 h.1),

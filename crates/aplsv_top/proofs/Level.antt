@@ -20,8 +20,8 @@ use Rattle.aux_parties.proofs.TableLemmas.{kind_of_party, of_rows}
 use Rattle.session_rules.specs.Auxiliaries.{some_stay}
 use Rattle.session_rules.specs.Course.{Course}
 use Rattle.session_rules.specs.Session.{session_of}
-use Rattle.session_rules.specs.Shelf.{Call, Exchange, Reply}
-use Rattle.replay_rules.specs.Turns.{HasReplies, Participant, Replay, Turn, act_made, auxiliary_turn, auxiliary_turns, given, goes_on, numbers_of, ordered, party_turn, round, rounds, served, turn, turn_by, turns_where, user_turns}
+use Rattle.session_rules.specs.Shelf.{Call, Exchange, ShelfReply}
+use Rattle.replay_rules.specs.Turns.{HasReplies, Participant, Replay, AfterTurn, act_made, auxiliary_turn, auxiliary_turns, answer_given, some_user_stays, numbers_of, ordered, party_turn, round, rounds, served, turn, turn_by, turns_where, user_turns}
 use Rattle.aplsv_top.proofs.Determined.{Answers, IsDetermined, older_answers}
 use Rattle.aplsv_top.proofs.Heard.{AreApart, AreApartFrom, AreHeard, all_heard_beside, heard_turns}
 use Rattle.aplsv_top.proofs.Older.{AreLater, IsLater, IsOlder, adds_served, all_later_still, later_turn, later_turns, left_before, none_later, older_by, older_turns, same_numbers, turn_if}
@@ -31,12 +31,12 @@ use Rattle.aplsv_top.proofs.Sessions.{AreLevel, more_calls, same_session}
 -- ---- two users
 
 -- a user with other replies to come
-abbrev pub replying : List Reply → Participant → Participant
+abbrev pub replying : List ShelfReply → Participant → Participant
 replying replies user = record user { replies = replies }
 
 -- two users differ in the replies to come, and in nothing else
 pub record IsLevelWith (user other : Participant) : Type 0 where
-  pub replies : List Reply
+  pub replies : List ShelfReply
   pub same : other ≡ replying replies user
 
 -- so do users
@@ -53,25 +53,25 @@ numbers_level (user ∷ users) [] h = absurd h
 numbers_level (user ∷ users) (other ∷ others) h = ap₂ (λ (n : ℕ) (ns : List ℕ). n ∷ ns) (sym (ap (λ (u : Participant). u.number) h.0.same)) (numbers_level users others h.1)
 
 -- two turns are level: they have one journal, and their users are
-record TurnsLevel (one other : Turn) : Type 0 where
+record TurnsLevel (one other : AfterTurn) : Type 0 where
   journal : one.journal ≡ other.journal
   user : IsLevelWith one.user other.user
 
-level_given : (held : Bool) (answer : PlainAnswer) (user : Participant) (replies : List Reply)
+level_given : (held : Bool) (answer : PlainAnswer) (user : Participant) (replies : List ShelfReply)
     → IsLevelWith (if held then user else record user { answers = user.answers ++ answer ∷ [] }) (if held then replying replies user else record (replying replies user) { answers = user.answers ++ answer ∷ [] })
 level_given true answer user replies = record { replies = replies; same = refl }
 level_given false answer user replies = record { replies = replies; same = refl }
 
-level_heard : (answer : Option PlainAnswer) (user : Participant) (replies : List Reply)
-    → IsLevelWith (option_map_or (λ (given' : PlainAnswer). given given' user) answer user) (option_map_or (λ (given' : PlainAnswer). given given' (replying replies user)) answer (replying replies user))
+level_heard : (answer : Option PlainAnswer) (user : Participant) (replies : List ShelfReply)
+    → IsLevelWith (option_map_or (λ (given' : PlainAnswer). answer_given given' user) answer user) (option_map_or (λ (given' : PlainAnswer). answer_given given' (replying replies user)) answer (replying replies user))
 level_heard None user replies = record { replies = replies; same = refl }
 level_heard (Some answer) user replies = level_given (is_held (kind_of answer)) answer user replies
 
-level_made : (again : Bool) (numbers : List ℕ) (journal : Entries) (user : Participant) (replies : List Reply) (made : Act) → TurnsLevel (act_made again numbers journal user made) (act_made again numbers journal (replying replies user) made)
+level_made : (again : Bool) (numbers : List ℕ) (journal : Entries) (user : Participant) (replies : List ShelfReply) (made : Act) → TurnsLevel (act_made again numbers journal user made) (act_made again numbers journal (replying replies user) made)
 level_made true numbers journal user replies made = record { journal = refl; user = level_heard (retried numbers journal user.number) user replies }
 level_made false numbers journal user replies made = record { journal = refl; user = level_given (is_held (kind_of (answer_to journal user.number made))) (answer_to journal user.number made) user replies }
 
-level_by : (left : Bool) (next : Option Act) (numbers : List ℕ) (journal : Entries) (user : Participant) (replies : List Reply) → TurnsLevel (turn_by left next numbers journal user) (turn_by left next numbers journal (replying replies user))
+level_by : (left : Bool) (next : Option Act) (numbers : List ℕ) (journal : Entries) (user : Participant) (replies : List ShelfReply) → TurnsLevel (turn_by left next numbers journal user) (turn_by left next numbers journal (replying replies user))
 level_by true next numbers journal user replies = record { journal = refl; user = record { replies = replies; same = refl } }
 level_by false None numbers journal user replies = record { journal = refl; user = record { replies = replies; same = refl } }
 level_by false (Some made) numbers journal user replies = level_made (waits journal user.number) numbers journal user replies made
@@ -84,7 +84,7 @@ left_before_turn a party other left = by (other == party) refl left where
   by false is some = some
 
 module _ {P : Type 0} (Fits : P → ℕ → List Exchange → Type 0) (older : (place : P) (user : ℕ) (more earlier : List Exchange) → Fits place user (more ++ earlier) → Fits place user earlier)
-    (one_reply : (place : P) (user : ℕ) (call : Call) (reply other : Reply) (earlier : List Exchange) → Fits place user (record { call = call; reply = reply } ∷ earlier) → Fits place user (record { call = call; reply = other } ∷ earlier) → reply ≡ other) where
+    (one_reply : (place : P) (user : ℕ) (call : Call) (reply other : ShelfReply) (earlier : List Exchange) → Fits place user (record { call = call; reply = reply } ∷ earlier) → Fits place user (record { call = call; reply = other } ∷ earlier) → reply ≡ other) where
   -- the exchanges of a user's session fit its place
   abbrev pub FitsAt : P → Participant → Type 0
   FitsAt place user = Fits place user.number (session_of user.lines user.answers user.replies).exchanges
@@ -110,7 +110,7 @@ module _ {P : Type 0} (Fits : P → ℕ → List Exchange → Type 0) (older : (
   all_fitted_before (place ∷ places) (user ∷ users) (now ∷ nows) later fits = (fitted_before place user now later.0 fits.0, all_fitted_before places users nows later.1 fits.1)
 
   -- turns of users that are level are level
-  level_turn : (takes : Bool) (numbers : List ℕ) (journal : Entries) (place : P) (user : Participant) (replies : List Reply) → FitsAt place user → FitsAt place (replying replies user)
+  level_turn : (takes : Bool) (numbers : List ℕ) (journal : Entries) (place : P) (user : Participant) (replies : List ShelfReply) → FitsAt place user → FitsAt place (replying replies user)
       → TurnsLevel (turn_if takes numbers journal user) (turn_if takes numbers journal (replying replies user))
   level_turn true numbers journal place user replies fits other =
       let level : AreLevel (session_of user.lines user.answers user.replies) (session_of user.lines user.answers replies) =
@@ -121,7 +121,7 @@ module _ {P : Type 0} (Fits : P → ℕ → List Exchange → Type 0) (older : (
 
   -- a test asks nothing of the replies to come
   abbrev IsBlind : (Participant → Bool) → Type 0
-  IsBlind test = (user : Participant) (replies : List Reply) → test (replying replies user) ≡ test user
+  IsBlind test = (user : Participant) (replies : List ShelfReply) → test (replying replies user) ≡ test user
 
   level_at : (test : Participant → Bool) → IsBlind test → (numbers : List ℕ) (journal : Entries) (place : P) (user other : Participant) → IsLevelWith user other → FitsAt place user → FitsAt place other
       → TurnsLevel (turn_if (test user) numbers journal user) (turn_if (test other) numbers journal other)
@@ -142,8 +142,8 @@ module _ {P : Type 0} (Fits : P → ℕ → List Exchange → Type 0) (older : (
   level_turns test blind numbers journal later places (user ∷ users) [] same level fits also = absurd level
   level_turns test blind numbers journal later [] (user ∷ users) (other ∷ others) same level fits also = absurd fits
   level_turns test blind numbers journal later (place ∷ places) (user ∷ users) (other ∷ others) same level fits also =
-      let first : Turn = turn_if (test user) numbers journal user in
-      let second : Turn = turn_if (test other) numbers later other in
+      let first : AfterTurn = turn_if (test user) numbers journal user in
+      let second : AfterTurn = turn_if (test other) numbers later other in
       let now : TurnsLevel first second =
       subst (λ (j : Entries). TurnsLevel first (turn_if (test other) numbers j other)) same
       (level_at test blind numbers journal place user other level.0 (fitted_before place user first.user (later_turn (test user) numbers journal user) fits.0)
@@ -206,15 +206,15 @@ module _ {P : Type 0} (Fits : P → ℕ → List Exchange → Type 0) (older : (
     tame_by false first other f g = record { before = g.before; level = g.level; later = g.later; heard = g.heard }
 
     -- turns while some user has not left
-    tame_while : (turns : Replay → Replay) → AreTame turns → AreTame (λ a. if goes_on a then turns a else a)
+    tame_while : (turns : Replay → Replay) → AreTame turns → AreTame (λ a. if some_user_stays a then turns a else a)
     tame_while turns f = record {
-      before = λ a. (tame_by (goes_on a) turns (λ a. a) f tame_none).before a;
+      before = λ a. (tame_by (some_user_stays a) turns (λ a. a) f tame_none).before a;
       level = λ a b level h k.
-          let same : goes_on b ≡ goes_on a = sym (ap₂ (λ (numbers : List ℕ) (journal : Entries). some_stay numbers journal) (numbers_level a.users b.users level.users) level.journal) in
-          let there : IsRepliedTo (if goes_on a then turns b else b) = subst (λ (goes : Bool). IsRepliedTo (if goes then turns b else b)) same k in
-          subst (λ (goes : Bool). IsLevel (if goes_on a then turns a else a) (if goes then turns b else b)) (sym same) ((tame_by (goes_on a) turns (λ a. a) f tame_none).level a b level h there);
-      later = λ a. (tame_by (goes_on a) turns (λ a. a) f tame_none).later a;
-      heard = λ a. (tame_by (goes_on a) turns (λ a. a) f tame_none).heard a;
+          let same : some_user_stays b ≡ some_user_stays a = sym (ap₂ (λ (numbers : List ℕ) (journal : Entries). some_stay numbers journal) (numbers_level a.users b.users level.users) level.journal) in
+          let there : IsRepliedTo (if some_user_stays a then turns b else b) = subst (λ (goes : Bool). IsRepliedTo (if goes then turns b else b)) same k in
+          subst (λ (goes : Bool). IsLevel (if some_user_stays a then turns a else a) (if goes then turns b else b)) (sym same) ((tame_by (some_user_stays a) turns (λ a. a) f tame_none).level a b level h there);
+      later = λ a. (tame_by (some_user_stays a) turns (λ a. a) f tame_none).later a;
+      heard = λ a. (tame_by (some_user_stays a) turns (λ a. a) f tame_none).heard a;
     }
 
     tame_ten : AreTame (auxiliary_turn clock_party)
@@ -293,14 +293,14 @@ module _ {P : Type 0} (Fits : P → ℕ → List Exchange → Type 0) (older : (
 
     tame_ordered : (order : List ℕ) → AreTame (ordered order)
     tame_ordered [] = tame_none
-    tame_ordered (party ∷ order) = tame_then (λ a. if goes_on a then party_turn party a else a) (ordered order) (tame_while (party_turn party) (tame_party party)) (tame_ordered order)
+    tame_ordered (party ∷ order) = tame_then (λ a. if some_user_stays a then party_turn party a else a) (ordered order) (tame_while (party_turn party) (tame_party party)) (tame_ordered order)
 
     tame_round : AreTame round
     tame_round = tame_then (auxiliary_turns auxiliaries) (user_turns (λ user. true)) (tame_turns auxiliaries (of_rows (λ (party : ℕ). AreTame (auxiliary_turn party)) tame_auxiliary)) (tame_users (λ user. true) (λ user replies. refl))
 
     tame_rounds : (count : ℕ) → AreTame (rounds count)
     tame_rounds zero = tame_none
-    tame_rounds (suc count) = tame_then (rounds count) (λ a. if goes_on a then round a else a) (tame_rounds count) (tame_while round tame_round)
+    tame_rounds (suc count) = tame_then (rounds count) (λ a. if some_user_stays a then round a else a) (tame_rounds count) (tame_while round tame_round)
 
     -- so many rounds behind an order
     pub tame_replay : (order : List ℕ) (count : ℕ) → AreTame (λ a. rounds count (ordered order a))

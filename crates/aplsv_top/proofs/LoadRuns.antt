@@ -17,10 +17,10 @@ use Rattle.sv_events.specs.Answer.{PlainAnswer, full}
 use Rattle.sv_events.specs.declared.event.Act.{Act}
 use Rattle.sv_journal.specs.Output.{PlainTranscript}
 use Rattle.sv_rules.specs.Entries.{Entries}
-use Rattle.session_rules.specs.Course.{Course, beginning}
+use Rattle.session_rules.specs.Course.{Course, course_beginning}
 use Rattle.session_rules.specs.Run.{AreUserParts, Dealings}
 use Rattle.session_rules.specs.Session.{lines_done, next_line, session_of}
-use Rattle.session_rules.specs.Shelf.{Exchange, Reply, replies_in}
+use Rattle.session_rules.specs.Shelf.{Exchange, ShelfReply, shelf_replies_in}
 use Rattle.session_rules.specs.UserPart.{IsFinished, IsUserPart, answered_entries, answers_of}
 use Rattle.session_rules.proofs.Parts.{tame_next}
 use Rattle.session_rules.proofs.Tame.{Grows, grows_on, stays}
@@ -43,15 +43,15 @@ rest_grows left (line ∷ lines) c =
 abbrev first : List ℕ
 first = 153 ∷ 82 ∷ 149 ∷ codes "GET;V"
 
-first_is_echoed : (answers : List PlainAnswer) (replies : List Reply) → (next_line most_statements None false first (beginning answers replies)).terminal.transcript ≡ (free_prompt ++ first) ∷ []
+first_is_echoed : (answers : List PlainAnswer) (replies : List ShelfReply) → (next_line most_statements None false first (course_beginning answers replies)).terminal.transcript ≡ (free_prompt ++ first) ∷ []
 unfolding scan_from front_of role_of header_of locals_in all_differ
 first_is_echoed answers replies = refl
 
 -- lines whose first one it is print a line
-prints : (rest : List (List ℕ)) (answers : List PlainAnswer) (replies : List Reply)
+prints : (rest : List (List ℕ)) (answers : List PlainAnswer) (replies : List ShelfReply)
     → (others : List (List ℕ)) × ((session_of (first ∷ rest) answers replies).terminal.transcript ≡ (free_prompt ++ first) ∷ others)
 prints rest answers replies =
-    let c : Course = next_line most_statements None false first (beginning answers replies) in
+    let c : Course = next_line most_statements None false first (course_beginning answers replies) in
     let h = rest_grows most_statements rest c in
     (h.lines, h.same ∙ ap (λ (before : List (List ℕ)). before ++ h.lines) (first_is_echoed answers replies))
 
@@ -81,7 +81,7 @@ module _ (dealings : Dealings) (journal : Entries) where
     by : (given : List (List ℕ)) → given ≡ first ∷ rest → IsFinished given (answered_entries journal user.number) part.refused exchanges lines → HasLast lines
     by given is finished =
         let answers : List PlainAnswer = answers_of (answered_entries journal user.number) ++ map (λ act. full) part.refused in
-        let replies : List Reply = replies_in exchanges in
+        let replies : List ShelfReply = shelf_replies_in exchanges in
         let shown = prints rest answers replies in
         last_there lines (free_prompt ++ first) shown.0
         (sym finished.printed ∙ (ap (λ (some : List (List ℕ)). (session_of some answers replies).terminal.transcript) is ∙ shown.1))

@@ -16,7 +16,7 @@ use Rattle.sv_rules.specs.Refused.{awaited, waits}
 use Rattle.sv_core.specs.Core.{PlainCore}
 use Rattle.sv_core.specs.Retry.{journal_retried}
 use Rattle.session_rules.specs.Session.{session_of}
-use Rattle.replay_rules.specs.Turns.{Participant, Turn, act_made, given, numbers_of, served_by, serving, turn, turn_by, turns_where}
+use Rattle.replay_rules.specs.Turns.{Participant, AfterTurn, act_made, answer_given, numbers_of, served_by, serving, turn, turn_by, turns_where}
 
 -- ---- entries
 
@@ -99,7 +99,7 @@ adds_by false None numbers journal user = entry (entry_for journal user.number a
 adds_by false (Some made) numbers journal user = adds_made (waits journal user.number) numbers journal user made
 
 -- the turn of a user, if it takes one
-abbrev pub turn_if : Bool → List ℕ → Entries → Participant → Turn
+abbrev pub turn_if : Bool → List ℕ → Entries → Participant → AfterTurn
 turn_if takes numbers journal user = if takes then turn numbers journal user else record { journal = journal; user = user }
 
 pub adds_turn : (takes : Bool) (numbers : List ℕ) (journal : Entries) (user : Participant) → Adds user.number journal (turn_if takes numbers journal user).journal
@@ -109,7 +109,7 @@ adds_turn false numbers journal user = nothing refl
 pub older_turns : (test : Participant → Bool) (numbers : List ℕ) (journal : Entries) (users : List Participant) → IsOlder journal (turns_where test numbers journal users).journal
 older_turns test numbers journal [] = unchanged journal
 older_turns test numbers journal (user ∷ users) =
-    let first : Turn = turn_if (test user) numbers journal user in
+    let first : AfterTurn = turn_if (test user) numbers journal user in
     older_still journal first.journal (turns_where test numbers first.journal users).journal (older_by user.number journal first.journal (adds_turn (test user) numbers journal user)) (older_turns test numbers first.journal users)
 
 -- ---- answers
@@ -139,7 +139,7 @@ later_given : (held : Bool) (answer : PlainAnswer) (user : Participant) → IsLa
 later_given true answer user = not_later user
 later_given false answer user = record { more = answer ∷ []; same = refl }
 
-later_heard : (answer : Option PlainAnswer) (user : Participant) → IsLater user (option_map_or (λ (given' : PlainAnswer). given given' user) answer user)
+later_heard : (answer : Option PlainAnswer) (user : Participant) → IsLater user (option_map_or (λ (given' : PlainAnswer). answer_given given' user) answer user)
 later_heard None user = not_later user
 later_heard (Some answer) user = later_given (is_held (kind_of answer)) answer user
 

@@ -12,7 +12,7 @@ use Rattle.bundle_text.specs.Bundle.{BundleText, IsBundle, PlainBundle}
 use Rattle.sv_journal.specs.Output.{output_text}
 use Rattle.aux_parties.specs.declared.auxiliary.AuxiliaryKind.TheVariants.{TextFiles}
 use Rattle.session_rules.specs.RunLaws.{PartsMakeOneTranscript}
-use Rattle.aplsv_top.specs.Headline.{IsOutputOf, clock_of, shelves_of, text_of}
+use Rattle.aplsv_top.specs.Headline.{IsOutputOf, clock_of, shelves_of, text_store_of}
 use Rattle.aplsv_top.specs.OutputLaws.{BundlesHaveOneOutput, LeavesNoneUntold}
 use Rattle.aplsv_top.proofs.Files.{OneText}
 use Rattle.aplsv_top.proofs.OneReplay.{one_replay}
@@ -39,8 +39,8 @@ found_told name (file ∷ files) = by (is_at (name_order name) file.name) (found
   by true rest = λ e. cc e
   by false rest = rest
 
-files_told : (bundle : PlainBundle) → TellsSound name_order (told_by (text_of bundle))
-files_told bundle = record { now = (text_of bundle).told; tells = refl; sound = record { fails = refl; told = λ name. found_told name bundle.files } }
+files_told : (bundle : PlainBundle) → TellsSound name_order (told_by (text_store_of bundle))
+files_told bundle = record { now = (text_store_of bundle).told; tells = refl; sound = record { fails = refl; told = λ name. found_told name bundle.files } }
 
 -- an empty shelf tells all
 abbrev empty_shelf : Keeper (ℕ × List ℕ)
@@ -52,7 +52,7 @@ shelf_told = record { now = empty_shelf.told; tells = refl; sound = record { fai
 module _ (one_text : OneText) (one_transcript : PartsMakeOneTranscript) (bundle : PlainBundle) (rules : IsBundle bundle) where
   -- the devices of a bundle leave no entry untold
   none_untold : (text : List ℕ) (out : IsOutputOf bundle text)
-      → LeavesNoneUntold readings_of clock_faults told_by keeper_faults told_by keeper_faults bundle out.journal out.transcripts (clock_of bundle) out.clock (text_of bundle) out.files (shelves_of bundle) out.shelves out.run
+      → LeavesNoneUntold readings_of clock_faults told_by keeper_faults told_by keeper_faults bundle out.journal out.transcripts (clock_of bundle) out.clock (text_store_of bundle) out.files (shelves_of bundle) out.shelves out.run
   none_untold text out = record {
     readings = refl;
     files = files_sound told_by keeper_faults _ _ _ (out.run.run.run.parts TextFiles).answers (files_told bundle);
@@ -63,7 +63,7 @@ module _ (one_text : OneText) (one_transcript : PartsMakeOneTranscript) (bundle 
   pub one_output : (text other : List ℕ) → IsOutputOf bundle text → IsOutputOf bundle other → text ≡ other
   one_output text other one another =
       let same = one_replay one_text one_transcript readings_of clock_faults told_by keeper_faults told_by keeper_faults bundle one.journal another.journal one.transcripts another.transcripts
-      (clock_of bundle) one.clock (clock_of bundle) another.clock (text_of bundle) one.files (text_of bundle) another.files (shelves_of bundle) one.shelves (shelves_of bundle) another.shelves
+      (clock_of bundle) one.clock (clock_of bundle) another.clock (text_store_of bundle) one.files (text_store_of bundle) another.files (shelves_of bundle) one.shelves (shelves_of bundle) another.shelves
       rules one.run another.run (none_untold text one) (none_untold other another) refl refl refl in
       one.output ∙ (ap₂ (λ t j. output_text t (reverse j)) same.1 same.0 ∙ sym another.output)
 

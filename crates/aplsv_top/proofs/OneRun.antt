@@ -10,9 +10,9 @@ use Rattle.bundle_text.specs.User.{PlainUser}
 use Rattle.sv_rules.specs.Entries.{Entries, has_left}
 use Rattle.session_rules.specs.Auxiliaries.{some_stay}
 use Rattle.session_rules.specs.Run.{Dealings}
-use Rattle.session_rules.specs.Shelf.{Call, Exchange, Reply, replies_in}
+use Rattle.session_rules.specs.Shelf.{Call, Exchange, ShelfReply, shelf_replies_in}
 use Rattle.replay_rules.proofs.Rounds.{stays}
-use Rattle.replay_rules.specs.Turns.{IsJournalOfTurns, Participant, Replay, beginning, goes_on, newcomer, numbers_of, ordered, rounds}
+use Rattle.replay_rules.specs.Turns.{IsJournalOfTurns, Participant, Replay, beginning, some_user_stays, newcomer, numbers_of, ordered, rounds}
 use Rattle.aplsv_top.proofs.Determined.{Answers, IsDetermined}
 use Rattle.aplsv_top.proofs.Level.{AreFitting, AreLevelWith, AreTame, IsLevel, IsRepliedTo, tame_replay}
 use Rattle.aplsv_top.proofs.Older.{same_numbers}
@@ -27,7 +27,7 @@ none_stay dealings journal (user ∷ users) left =
 -- newcomers of two dealings differ in the replies to come alone
 level_newcomers : (dealings others : Dealings) (users : List PlainUser) → AreLevelWith (map (newcomer dealings) users) (map (newcomer others) users)
 level_newcomers dealings others [] = tt
-level_newcomers dealings others (user ∷ users) = (record { replies = replies_in (others user.number); same = refl }, level_newcomers dealings others users)
+level_newcomers dealings others (user ∷ users) = (record { replies = shelf_replies_in (others user.number); same = refl }, level_newcomers dealings others users)
 
 -- the replay of a bundle's turns with these dealings, before its first turn, and after so many rounds
 abbrev pub before_turns : (bundle : PlainBundle) (dealings : Dealings) (journal : Entries) → IsJournalOfTurns bundle dealings journal → Replay
@@ -41,7 +41,7 @@ abbrev pub users_left : (bundle : PlainBundle) (dealings : Dealings) (journal : 
 users_left bundle dealings journal turns = (after_rounds bundle dealings journal turns turns.count).users
 
 module _ {P : Type 0} (Fits : P → ℕ → List Exchange → Type 0) (older : (place : P) (user : ℕ) (more earlier : List Exchange) → Fits place user (more ++ earlier) → Fits place user earlier)
-    (one_reply : (place : P) (user : ℕ) (call : Call) (reply other : Reply) (earlier : List Exchange) → Fits place user (record { call = call; reply = reply } ∷ earlier) → Fits place user (record { call = call; reply = other } ∷ earlier) → reply ≡ other)
+    (one_reply : (place : P) (user : ℕ) (call : Call) (reply other : ShelfReply) (earlier : List Exchange) → Fits place user (record { call = call; reply = reply } ∷ earlier) → Fits place user (record { call = call; reply = other } ∷ earlier) → reply ≡ other)
     {X Y : Type 0} (forgets_ten : X → ℕ → X → Type 0) (replies_ten : X → ℕ → PlainArray → PlainArray → X → Type 0) (BeginsTen : X → Type 0) (AlikeTen : X → X → Type 0) (one_ten : IsDetermined forgets_ten replies_ten BeginsTen AlikeTen)
     (forgets_twenty : Y → ℕ → Y → Type 0) (replies_twenty : Y → ℕ → PlainArray → PlainArray → Y → Type 0) (BeginsTwenty : Y → Type 0) (AlikeTwenty : Y → Y → Type 0) (one_twenty : IsDetermined forgets_twenty replies_twenty BeginsTwenty AlikeTwenty)
     (places : List P) (bundle : PlainBundle) where
@@ -66,7 +66,7 @@ module _ {P : Type 0} (Fits : P → ℕ → List Exchange → Type 0) (older : (
     abbrev after : ℕ → Replay
     after count = after_rounds bundle dealings journal h.turns count
 
-    over : goes_on (after h.turns.count) ≡ false
+    over : some_user_stays (after h.turns.count) ≡ false
     over = ap₂ some_stay (same_numbers before.users (after h.turns.count).users ((tame h.turns.count).later before)) h.turns.last ∙ none_stay dealings journal bundle.users h.turns.left
 
     last_replied : RepliedTo (after h.turns.count)

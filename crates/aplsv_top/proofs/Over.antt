@@ -15,7 +15,7 @@ use Rattle.sv_journal.specs.Printable.{ArePrintable}
 use Rattle.sv_rules.specs.Entries.{Entries}
 use Rattle.sv_rules.specs.Legal.{IsLegal}
 use Rattle.aplsv_words.specs.Meaning.{Asked}
-use Rattle.aplsv_top.specs.Headline.{ClockedRun, IsOutputAs, IsOutputIn, NamedRun, ShelvedRun, clock_of, shelves_of, text_of}
+use Rattle.aplsv_top.specs.Headline.{ClockedRun, IsOutputAs, IsOutputIn, NamedRun, ShelvedRun, clock_of, shelves_of, text_store_of}
 
 -- what devices in memory tell, and their faults
 abbrev pub ticks_of : Timer → Option Ticks
@@ -73,7 +73,7 @@ module _ {C T K : Type 0} (ticks : C → Option Ticks) (clock_faults : C → ℕ
   named_parts (Some place) named library bundle journal transcripts clock clock_then files files_then shelves shelves_then over =
       clocked_parts ticks clock_faults text_told text_faults told faults named library bundle journal transcripts clock clock_then over.0 files_then shelves shelves_then over.2
   named_parts None named library bundle journal transcripts clock clock_then files files_then shelves shelves_then over =
-      clocked_parts ticks clock_faults told_of faults_of told faults named library bundle journal transcripts clock clock_then (text_of bundle) over.0 shelves shelves_then over.1
+      clocked_parts ticks clock_faults told_of faults_of told faults named library bundle journal transcripts clock clock_then (text_store_of bundle) over.0 shelves shelves_then over.1
 
   -- ---- a run that ended whole
 
@@ -118,8 +118,8 @@ over_readings text_told text_faults told faults library bundle journal transcrip
 
 -- over the bundle's files
 pub over_files : {C K : Type 0} (ticks : C → Option Ticks) (clock_faults : C → ℕ) (told : K → Option (Told (ℕ × List ℕ))) (faults : K → ℕ)
-    (named : Bool) (library : Option (List ℕ)) (bundle : PlainBundle) (journal : Entries) (transcripts : List PlainTranscript) (clock clock_then : C) (files files_then : Keeper (List ℕ)) (shelves shelves_then : List K) → files ≡ text_of bundle
+    (named : Bool) (library : Option (List ℕ)) (bundle : PlainBundle) (journal : Entries) (transcripts : List PlainTranscript) (clock clock_then : C) (files files_then : Keeper (List ℕ)) (shelves shelves_then : List K) → files ≡ text_store_of bundle
     → ClockedRun ticks clock_faults told_of faults_of told faults named library bundle journal transcripts clock clock_then files files_then shelves shelves_then
-    → (kept : Keeper (List ℕ)) × ClockedRun ticks clock_faults told_of faults_of told faults named library bundle journal transcripts clock clock_then (text_of bundle) kept shelves shelves_then
+    → (kept : Keeper (List ℕ)) × ClockedRun ticks clock_faults told_of faults_of told faults named library bundle journal transcripts clock clock_then (text_store_of bundle) kept shelves shelves_then
 over_files ticks clock_faults told faults named library bundle journal transcripts clock clock_then files files_then shelves shelves_then is over =
     (files_then, subst (λ (t : Keeper (List ℕ)). ClockedRun ticks clock_faults told_of faults_of told faults named library bundle journal transcripts clock clock_then t files_then shelves shelves_then) is over)

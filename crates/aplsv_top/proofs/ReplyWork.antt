@@ -22,7 +22,7 @@ use Rattle.sv_rules.specs.Story.{GrantedAccess, granted_as, granted_on}
 use Rattle.sv_rules.specs.Work.{first_coupled, first_open, first_work, gets_value, has_unseen, lacks_control, own_offers, owes_reply, to_counter, tries, work_of}
 use Rattle.sv_rules.specs.declared.coupling.Coupling.{Coupling}
 use Rattle.sv_rules.specs.declared.standing.Standing.{Standing}
-use Rattle.session_rules.specs.Auxiliaries.{is_use_on, partner_in, partner_of, partner_on, uses, value_used}
+use Rattle.session_rules.specs.Auxiliaries.{is_use_on, partner_in, partner_of, partner_on, is_use_of, value_used}
 
 -- ---- the offer
 
@@ -110,7 +110,7 @@ used_last : (journal : Entries) (place : ℕ) (offer : Standing) → option_map_
 used_last [] place offer h = absurd (let no : false ≡ true = h in cc)
 used_last (e ∷ journal) place offer h = after (used_last journal place offer) (nat_lt place (next_place journal)) refl where
   value_by : Bool → Option PlainArray
-  value_by used = option_and_then (λ (f : PlainEntry). value_got f.answer) (cond used (Some e) (find (uses offer.party offer.local) journal))
+  value_by used = option_and_then (λ (f : PlainEntry). value_got f.answer) (cond used (Some e) (find (is_use_of offer.party offer.local) journal))
 
   last : (option_map_or (gets_value offer) (find (tries offer) (since place journal)) false ≡ true → (command : PlainArray) × (value_used journal offer.party offer.local ≡ Some command))
       → (tried : Bool) → tries offer e ≡ tried → option_map_or (gets_value offer) (cond tried (Some e) (find (tries offer) (since place journal))) false ≡ true

@@ -13,10 +13,10 @@ use Rattle.fn_editor.specs.Opening.{opened}
 use Rattle.fn_editor.specs.Prompt.{prompt_text}
 use Rattle.session_rules.proofs.MoreAnswers.{next_more, waits_on}
 use Rattle.session_rules.proofs.Tame.{and_further}
-use Rattle.session_rules.specs.Commands.{asked_by, asking, called, change_made, command_done, command_end, lines_told, offer_again, remaking, retracting, shared_again, step_done, todo_done, unless_ended}
-use Rattle.session_rules.specs.Course.{Course, beginning, with_terminal}
-use Rattle.session_rules.specs.Session.{free_line, line_by, lines_done, next_line, opening_done, session_of, statement_done}
-use Rattle.session_rules.specs.Shelf.{Call, Exchange, Reply, browse, by_browsed, by_discarded, by_fetched, by_stored, call_of, discard, fetch, next_reply, store, todo_by}
+use Rattle.session_rules.specs.Commands.{asking_act_by, asking_act, shelf_called, change_made, command_done, command_end, lines_told, offer_again, remaking, retracting, shared_again, shelf_step_done, todo_done, unless_reported}
+use Rattle.session_rules.specs.Course.{Course, course_beginning, with_terminal}
+use Rattle.session_rules.specs.Session.{free_line, line_done_by, lines_done, next_line, opening_done, session_of, statement_done}
+use Rattle.session_rules.specs.Shelf.{Call, Exchange, ShelfReply, browse, by_browsed, by_discarded, by_fetched, by_stored, call_of, discard, fetch, next_reply, store, todo_by}
 use Rattle.sv_events.specs.Answer.{PlainAnswer}
 use Rattle.sv_events.specs.Row.{answer_row}
 use Rattle.sv_events.specs.declared.event.Act.{Act}
@@ -37,18 +37,18 @@ pub earlier_still : (before between after : List Exchange) → AreEarlier before
 earlier_still before between after h k = record { more = k.more ++ h.more; same = k.same ∙ (ap (λ (e : List Exchange). k.more ++ e) h.same ∙ sym (append_assoc k.more h.more before)) }
 
 -- a course with other replies left
-abbrev pub with_replies : List Reply → Course → Course
+abbrev pub with_replies : List ShelfReply → Course → Course
 with_replies replies c = record c { replies = replies }
 
 -- two courses differ in the replies that are left, and in nothing else
 pub record AreLevel (c d : Course) : Type 0 where
-  pub rest : List Reply
+  pub rest : List ShelfReply
   pub same : d ≡ with_replies rest c
 
 -- ---- parts that make no call
 
 record IsDeaf (f : Course → Course) : Type 0 where
-  same : (c : Course) (replies : List Reply) → f (with_replies replies c) ≡ with_replies replies (f c)
+  same : (c : Course) (replies : List ShelfReply) → f (with_replies replies c) ≡ with_replies replies (f c)
   calls : (c : Course) → (f c).exchanges ≡ c.exchanges
 
 deaf_nothing : IsDeaf (λ c. c)
@@ -66,7 +66,7 @@ deaf_after g f h = record {
 deaf_by_terminal : (f : PlainTerminal → Course → Course) → ((t : PlainTerminal) → IsDeaf (f t)) → IsDeaf (λ c. f c.terminal c)
 deaf_by_terminal f h = record { same = λ c replies. (h c.terminal).same c replies; calls = λ c. (h c.terminal).calls c }
 
-deaf_unless : (ended : Option Report) (next : Course → Course) → IsDeaf next → IsDeaf (unless_ended ended next)
+deaf_unless : (ended : Option Report) (next : Course → Course) → IsDeaf next → IsDeaf (unless_reported ended next)
 deaf_unless None next h = record { same = h.same; calls = h.calls }
 deaf_unless (Some report) next h = let k = deaf_terminal (naming_alone report) in record { same = k.same; calls = k.calls }
 
@@ -75,18 +75,18 @@ module _ (asked : Act) (leaves : PlainAnswer → PlainTerminal → PlainTerminal
   abbrev taking : List PlainAnswer → Course → Course
   taking answers c = record c { acts = c.acts ++ asked ∷ []; answers = answers }
 
-  deaf_told : (answer : PlainAnswer) → IsDeaf (unless_ended (command_end (answer_row answer).row.kind) (λ d. next (with_terminal (leaves answer d.terminal) d)))
+  deaf_told : (answer : PlainAnswer) → IsDeaf (unless_reported (command_end (answer_row answer).row.kind) (λ d. next (with_terminal (leaves answer d.terminal) d)))
   deaf_told answer = deaf_unless (command_end (answer_row answer).row.kind) (λ d. next (with_terminal (leaves answer d.terminal) d)) (deaf_after (leaves answer) next h)
 
-  same_by : (list : List PlainAnswer) (c : Course) (replies : List Reply) → asked_by list asked leaves next (with_replies replies c) ≡ with_replies replies (asked_by list asked leaves next c)
+  same_by : (list : List PlainAnswer) (c : Course) (replies : List ShelfReply) → asking_act_by list asked leaves next (with_replies replies c) ≡ with_replies replies (asking_act_by list asked leaves next c)
   same_by [] c replies = refl
   same_by (answer ∷ list) c replies = (deaf_told answer).same (taking list c) replies
 
-  calls_by : (list : List PlainAnswer) (c : Course) → (asked_by list asked leaves next c).exchanges ≡ c.exchanges
+  calls_by : (list : List PlainAnswer) (c : Course) → (asking_act_by list asked leaves next c).exchanges ≡ c.exchanges
   calls_by [] c = refl
   calls_by (answer ∷ list) c = (deaf_told answer).calls (taking list c)
 
-  deaf_asking : IsDeaf (asking asked leaves next)
+  deaf_asking : IsDeaf (asking_act asked leaves next)
   deaf_asking = record { same = λ c replies. same_by c.answers c replies; calls = λ c. calls_by c.answers c }
 
 deaf_retracting : (names : List (List ℕ)) (next : Course → Course) → IsDeaf next → IsDeaf (retracting names next)
@@ -97,7 +97,7 @@ deaf_retracting (name ∷ names) next h =
 deaf_remaking : (offers : List Remake) (next : Course → Course) → IsDeaf next → IsDeaf (remaking offers next)
 deaf_remaking [] next h = record { same = h.same; calls = h.calls }
 deaf_remaking (offer ∷ offers) next h =
-    let k = deaf_by_terminal (λ t. asking (offer_again offer t.workspace) (λ _ t. shared_again offer t) (remaking offers next))
+    let k = deaf_by_terminal (λ t. asking_act (offer_again offer t.workspace) (λ _ t. shared_again offer t) (remaking offers next))
     (λ t. deaf_asking (offer_again offer t.workspace) (λ _ t. shared_again offer t) (remaking offers next) (deaf_remaking offers next h)) in
     record { same = k.same; calls = k.calls }
 
@@ -132,21 +132,21 @@ calls_none f h = record {
   further = λ c more. record { more = []; same = h.calls (and_further more c) ∙ sym (h.calls c) };
 }
 
-one_call : (call : Option Call) (c : Course) → AreEarlier c.exchanges (called call c).exchanges
+one_call : (call : Option Call) (c : Course) → AreEarlier c.exchanges (shelf_called call c).exchanges
 one_call None c = none_since c.exchanges
 one_call (Some call) c = record { more = record { call = call; reply = next_reply c.replies } ∷ []; same = refl }
 
-same_call : (call : Option Call) (c : Course) (more : List PlainAnswer) → (called call (and_further more c)).exchanges ≡ (called call c).exchanges
+same_call : (call : Option Call) (c : Course) (more : List PlainAnswer) → (shelf_called call (and_further more c)).exchanges ≡ (shelf_called call c).exchanges
 same_call None c more = refl
 same_call (Some call) c more = refl
 
-step_calls : (line : List ℕ) (step : Step) → CallsMore (step_done line step)
+step_calls : (line : List ℕ) (step : Step) → CallsMore (shelf_step_done line step)
 step_calls line step = record {
-  calls = λ c. let one = one_call (call_of step) c in record { more = one.more; same = (deaf_todo line (todo_by step (next_reply c.replies))).calls (called (call_of step) c) ∙ one.same };
+  calls = λ c. let one = one_call (call_of step) c in record { more = one.more; same = (deaf_todo line (todo_by step (next_reply c.replies))).calls (shelf_called (call_of step) c) ∙ one.same };
   further = λ c more. record {
     more = [];
-    same = (deaf_todo line (todo_by step (next_reply c.replies))).calls (called (call_of step) (and_further more c)) ∙ (same_call (call_of step) c more
-        ∙ sym ((deaf_todo line (todo_by step (next_reply c.replies))).calls (called (call_of step) c)));
+    same = (deaf_todo line (todo_by step (next_reply c.replies))).calls (shelf_called (call_of step) (and_further more c)) ∙ (same_call (call_of step) c more
+        ∙ sym ((deaf_todo line (todo_by step (next_reply c.replies))).calls (shelf_called (call_of step) c)));
   };
 }
 
@@ -165,7 +165,7 @@ free_calls left line =
     either_calls (is_opening line) (opening_done line) (λ c. if is_command line then command_done line c else statement_done left line c) (calls_none (opening_done line) (deaf_opening line))
     (either_calls (is_command line) (command_done line) (statement_done left line) (command_calls line) (calls_none (statement_done left line) (deaf_statement left line)))
 
-line_calls : (left : ℕ) (line : List ℕ) (definition : Option PlainEditor) → CallsMore (line_by left line definition)
+line_calls : (left : ℕ) (line : List ℕ) (definition : Option PlainEditor) → CallsMore (line_done_by left line definition)
 line_calls left line None = record {
   calls = λ c. (free_calls left line).calls (with_terminal (echoing free_prompt line c.terminal) c);
   further = λ c more. (free_calls left line).further (with_terminal (echoing free_prompt line c.terminal) c) more;
@@ -207,36 +207,36 @@ lines_call_more left (line ∷ lines) more c =
     behind_call left lines d e more (lines_call_more left lines more) d.waits refl (λ over. next_same left line c more c.waits c.terminal.ended refl over) ((next_calls left c.waits c.terminal.ended line).further c more)
 
 -- with more answers a session has had the exchanges that it had with fewer, and perhaps more behind them
-pub more_calls : (lines : List (List ℕ)) (answers more : List PlainAnswer) (replies : List Reply) → AreEarlier (session_of lines answers replies).exchanges (session_of lines (answers ++ more) replies).exchanges
-more_calls lines answers more replies = lines_call_more most_statements lines more (beginning answers replies)
+pub more_calls : (lines : List (List ℕ)) (answers more : List PlainAnswer) (replies : List ShelfReply) → AreEarlier (session_of lines answers replies).exchanges (session_of lines (answers ++ more) replies).exchanges
+more_calls lines answers more replies = lines_call_more most_statements lines more (course_beginning answers replies)
 
 -- ---- side by side
 
 module _ (Fits : List Exchange → Type 0) (older : (more earlier : List Exchange) → Fits (more ++ earlier) → Fits earlier)
-    (one_reply : (call : Call) (reply other : Reply) (earlier : List Exchange) → Fits (record { call = call; reply = reply } ∷ earlier) → Fits (record { call = call; reply = other } ∷ earlier) → reply ≡ other) where
+    (one_reply : (call : Call) (reply other : ShelfReply) (earlier : List Exchange) → Fits (record { call = call; reply = reply } ∷ earlier) → Fits (record { call = call; reply = other } ∷ earlier) → reply ≡ other) where
   -- where the exchanges fit that a part leaves with some replies and with others, it leaves two courses level
   abbrev KeepsLevel : (Course → Course) → Type 0
-  KeepsLevel f = (c : Course) (rest : List Reply) → Fits (f c).exchanges → Fits (f (with_replies rest c)).exchanges → AreLevel (f c) (f (with_replies rest c))
+  KeepsLevel f = (c : Course) (rest : List ShelfReply) → Fits (f c).exchanges → Fits (f (with_replies rest c)).exchanges → AreLevel (f c) (f (with_replies rest c))
 
   deaf_level : (f : Course → Course) → IsDeaf f → KeepsLevel f
   deaf_level f h c rest fits other = record { rest = rest; same = h.same c rest }
 
   -- what is done by the reply to a call
-  call_level : (line : List ℕ) (call : Call) (todo : Reply → PlainTodo) (c : Course) (rest : List Reply) → Fits (todo_done line (todo (next_reply c.replies)) (called (Some call) c)).exchanges
-      → Fits (todo_done line (todo (next_reply rest)) (called (Some call) (with_replies rest c))).exchanges
-      → AreLevel (todo_done line (todo (next_reply c.replies)) (called (Some call) c)) (todo_done line (todo (next_reply rest)) (called (Some call) (with_replies rest c)))
+  call_level : (line : List ℕ) (call : Call) (todo : ShelfReply → PlainTodo) (c : Course) (rest : List ShelfReply) → Fits (todo_done line (todo (next_reply c.replies)) (shelf_called (Some call) c)).exchanges
+      → Fits (todo_done line (todo (next_reply rest)) (shelf_called (Some call) (with_replies rest c))).exchanges
+      → AreLevel (todo_done line (todo (next_reply c.replies)) (shelf_called (Some call) c)) (todo_done line (todo (next_reply rest)) (shelf_called (Some call) (with_replies rest c)))
   call_level line call todo c rest fits other = record {
     rest = drop 1 rest;
-    same = (deaf_todo line (todo (next_reply rest))).same (behind (next_reply rest)) (drop 1 rest) ∙ ap (λ (reply : Reply). with_replies (drop 1 rest) (todo_done line (todo reply) (behind reply))) (sym one);
+    same = (deaf_todo line (todo (next_reply rest))).same (behind (next_reply rest)) (drop 1 rest) ∙ ap (λ (reply : ShelfReply). with_replies (drop 1 rest) (todo_done line (todo reply) (behind reply))) (sym one);
   } where
-    behind : Reply → Course
+    behind : ShelfReply → Course
     behind reply = record c { exchanges = record { call = call; reply = reply } ∷ c.exchanges; replies = drop 1 c.replies }
 
     one : next_reply c.replies ≡ next_reply rest
-    one = one_reply call (next_reply c.replies) (next_reply rest) c.exchanges (subst Fits ((deaf_todo line (todo (next_reply c.replies))).calls (called (Some call) c)) fits)
-        (subst Fits ((deaf_todo line (todo (next_reply rest))).calls (called (Some call) (with_replies rest c))) other)
+    one = one_reply call (next_reply c.replies) (next_reply rest) c.exchanges (subst Fits ((deaf_todo line (todo (next_reply c.replies))).calls (shelf_called (Some call) c)) fits)
+        (subst Fits ((deaf_todo line (todo (next_reply rest))).calls (shelf_called (Some call) (with_replies rest c))) other)
 
-  step_level : (line : List ℕ) (step : Step) → KeepsLevel (step_done line step)
+  step_level : (line : List ℕ) (step : Step) → KeepsLevel (shelf_step_done line step)
   step_level line (does todo) c rest fits other = record { rest = rest; same = (deaf_todo line todo).same c rest }
   step_level line (reads name next) c rest fits other = call_level line (fetch name) (by_fetched next) c rest fits other
   step_level line (writes name bytes todo) c rest fits other = call_level line (store name bytes) (by_stored todo) c rest fits other
@@ -253,7 +253,7 @@ module _ (Fits : List Exchange → Type 0) (older : (more earlier : List Exchang
       (either_level (is_command line) (command_done line) (statement_done left line) (λ c rest fits other. step_level line (step_of line c.terminal.workspace c.terminal.id) c rest fits other)
       (deaf_level (statement_done left line) (deaf_statement left line)))
 
-  line_level : (left : ℕ) (line : List ℕ) (definition : Option PlainEditor) → KeepsLevel (line_by left line definition)
+  line_level : (left : ℕ) (line : List ℕ) (definition : Option PlainEditor) → KeepsLevel (line_done_by left line definition)
   line_level left line None c rest fits other = free_level left line (with_terminal (echoing free_prompt line c.terminal) c) rest fits other
   line_level left line (Some editor) c rest fits other = record { rest = rest; same = (deaf_edited line editor).same c rest }
 
@@ -276,6 +276,6 @@ module _ (Fits : List Exchange → Type 0) (older : (more earlier : List Exchang
       (lines_level left lines d level.rest fits (subst (λ (f : Course). Fits (lines_done left lines f).exchanges) level.same other))
 
   -- two sessions of the same lines with the same answers, whose exchanges fit, are level
-  pub same_session : (lines : List (List ℕ)) (answers : List PlainAnswer) (replies others : List Reply) → Fits (session_of lines answers replies).exchanges → Fits (session_of lines answers others).exchanges
+  pub same_session : (lines : List (List ℕ)) (answers : List PlainAnswer) (replies others : List ShelfReply) → Fits (session_of lines answers replies).exchanges → Fits (session_of lines answers others).exchanges
       → AreLevel (session_of lines answers replies) (session_of lines answers others)
-  same_session lines answers replies others fits other = lines_level most_statements lines (beginning answers replies) others fits other
+  same_session lines answers replies others fits other = lines_level most_statements lines (course_beginning answers replies) others fits other

@@ -7,7 +7,7 @@ use Rattle.apl_arrays.specs.Name.{name_order}
 use Rattle.apl_io.specs.Content.{FailsByNumber, IsChange, IsListing, IsRead, MayList, MayRead, MayRemove, Told, by_user_and_name, entry_of, has_name}
 use Rattle.apl_io.specs.declared.store_error.StoreError.{StoreError}
 use Rattle.apl_io.specs.declared.store_error.StoreError.TheVariants.{Failed, WantOfMemory}
-use Rattle.session_rules.specs.Shelf.{Call, Exchange, IsShelfRun, Reply, Serves, browse, browsed, discard, discarded, failed, fetch, fetched, reply_as, store, stored}
+use Rattle.session_rules.specs.Shelf.{Call, Exchange, IsShelfRun, ShelfReply, Serves, browse, browsed, discard, discarded, failed, fetch, fetched, reply_as, store, stored}
 use Rattle.aplsv_top.specs.OutputLaws.{TellsAll, TellsThroughout}
 use Rattle.aplsv_top.proofs.Told.{EndAlike, TellAlike, alike_itself, called_alike, changed_alike, one_fails, one_list, one_read, one_removal, other_fails, some_and}
 
@@ -17,11 +17,11 @@ listed_alike a b alike user names may name =
     subst (λ (entry : Option (Option (List ℕ))). MatchOption entry (has_name name names ≡ false) (λ bytes. IsSome bytes → has_name name names ≡ true)) (sym (alike.entries (user, name))) (may name)
 
 -- two answers that are replies are one reply, and end alike, where their values are said alike
-record ReplyAlike {T : Type 0} (r s : Result T StoreError) (p q : Reply) : Type 0 where
+record ReplyAlike {T : Type 0} (r s : Result T StoreError) (p q : ShelfReply) : Type 0 where
   same : p ≡ q
   ends : EndAlike r s
 
-reply_alike : {T : Type 0} (said : T → Reply) (a b : Told (ℕ × List ℕ)) → TellAlike by_user_and_name a b → (r s : Result T StoreError) (p q : Reply) → FailsByNumber a.calls a.fails r → FailsByNumber b.calls b.fails s
+reply_alike : {T : Type 0} (said : T → ShelfReply) (a b : Told (ℕ × List ℕ)) → TellAlike by_user_and_name a b → (r s : Result T StoreError) (p q : ShelfReply) → FailsByNumber a.calls a.fails r → FailsByNumber b.calls b.fails s
     → ((x y : T) → r ≡ Ok x → s ≡ Ok y → said x ≡ said y) → reply_as said r ≡ Some p → reply_as said s ≡ Some q → ReplyAlike r s p q
 reply_alike said a b alike (Ok x) (Ok y) p q numbered also same is are = record { same = sym (same_Some (said x) p is) ∙ (same x y refl refl ∙ same_Some (said y) q are); ends = record { changes = λ wanted before. refl } }
 reply_alike said a b alike (Ok x) (Err Failed) p q numbered also same is are = absurd (one_fails by_user_and_name a b alike x numbered also)
@@ -41,7 +41,7 @@ module _ {K : Type 0} (told : K → Option (Told (ℕ × List ℕ))) (faults : K
     alike : TellAlike by_user_and_name one other
 
   -- they gave one reply, and still tell alike
-  record ServeAlike (r s : Reply) (k l : K) : Type 0 where
+  record ServeAlike (r s : ShelfReply) (k l : K) : Type 0 where
     same : r ≡ s
     stand : StandAlike k l
 
@@ -54,7 +54,7 @@ module _ {K : Type 0} (told : K → Option (Told (ℕ × List ℕ))) (faults : K
       → IfSome before (λ t. IsSomeAnd now (P t answer)) → (new : Told (ℕ × List ℕ)) × (now ≡ Some new) × P old answer new
   tells_of P before now old answer is h = some_and now (P old answer) (subst (λ (o : Option (Told (ℕ × List ℕ))). IfSome o (λ t. IsSomeAnd now (P t answer))) is h)
 
-  fetch_alike : (user : ℕ) (name : List ℕ) (k l : K) (r s : Reply) (m n : K) → StandAlike k l → TellsAll by_user_and_name (told k) → Serves told faults user (fetch name) k r m → Serves told faults user (fetch name) l s n → ServeAlike r s m n
+  fetch_alike : (user : ℕ) (name : List ℕ) (k l : K) (r s : ShelfReply) (m n : K) → StandAlike k l → TellsAll by_user_and_name (told k) → Serves told faults user (fetch name) k r m → Serves told faults user (fetch name) l s n → ServeAlike r s m n
   fetch_alike user name k l r s m n h all served also =
       let c = tells_of (λ old answer new. IsRead by_user_and_name old (user, name) answer new) (told k) (told m) h.one served.answer h.tells served.told_answer in
       let d = tells_of (λ old answer new. IsRead by_user_and_name old (user, name) answer new) (told l) (told n) h.other also.answer h.also also.told_answer in
@@ -69,7 +69,7 @@ module _ {K : Type 0} (told : K → Option (Told (ℕ × List ℕ))) (faults : K
         stand = record { one = c.0; other = d.0; tells = c.1; also = d.1; alike = called_alike by_user_and_name h.one h.other h.alike c.0 d.0 c.2.after d.2.after };
       }
 
-  browse_alike : (user : ℕ) (k l : K) (r s : Reply) (m n : K) → StandAlike k l → TellsAll by_user_and_name (told k) → Serves told faults user browse k r m → Serves told faults user browse l s n → ServeAlike r s m n
+  browse_alike : (user : ℕ) (k l : K) (r s : ShelfReply) (m n : K) → StandAlike k l → TellsAll by_user_and_name (told k) → Serves told faults user browse k r m → Serves told faults user browse l s n → ServeAlike r s m n
   browse_alike user k l r s m n h all served also =
       let c = tells_of (λ old answer new. IsListing old user answer new) (told k) (told m) h.one served.answer h.tells served.told_answer.0 in
       let d = tells_of (λ old answer new. IsListing old user answer new) (told l) (told n) h.other also.answer h.also also.told_answer.0 in
@@ -85,7 +85,7 @@ module _ {K : Type 0} (told : K → Option (Told (ℕ × List ℕ))) (faults : K
         stand = record { one = c.0; other = d.0; tells = c.1; also = d.1; alike = called_alike by_user_and_name h.one h.other h.alike c.0 d.0 c.2.after d.2.after };
       }
 
-  store_alike : (user : ℕ) (name bytes : List ℕ) (k l : K) (r s : Reply) (m n : K) → StandAlike k l → Serves told faults user (store name bytes) k r m → Serves told faults user (store name bytes) l s n → ServeAlike r s m n
+  store_alike : (user : ℕ) (name bytes : List ℕ) (k l : K) (r s : ShelfReply) (m n : K) → StandAlike k l → Serves told faults user (store name bytes) k r m → Serves told faults user (store name bytes) l s n → ServeAlike r s m n
   store_alike user name bytes k l r s m n h served also =
       let c = tells_of (λ old answer new. IsChange by_user_and_name old (user, name) (Some (Some bytes)) answer new) (told k) (told m) h.one served.answer h.tells served.told_answer in
       let d = tells_of (λ old answer new. IsChange by_user_and_name old (user, name) (Some (Some bytes)) answer new) (told l) (told n) h.other also.answer h.also also.told_answer in
@@ -101,7 +101,7 @@ module _ {K : Type 0} (told : K → Option (Told (ℕ × List ℕ))) (faults : K
         };
       }
 
-  discard_alike : (user : ℕ) (name : List ℕ) (k l : K) (r s : Reply) (m n : K) → StandAlike k l → TellsAll by_user_and_name (told k) → Serves told faults user (discard name) k r m → Serves told faults user (discard name) l s n → ServeAlike r s m n
+  discard_alike : (user : ℕ) (name : List ℕ) (k l : K) (r s : ShelfReply) (m n : K) → StandAlike k l → TellsAll by_user_and_name (told k) → Serves told faults user (discard name) k r m → Serves told faults user (discard name) l s n → ServeAlike r s m n
   discard_alike user name k l r s m n h all served also =
       let first = subst (λ (o : Option (Told (ℕ × List ℕ))). IfSome o (λ old. IsSomeAnd (told m) (IsChange by_user_and_name old (user, name) None served.answer) × IfOk served.answer (MayRemove (entry_of by_user_and_name old (user, name))))) h.tells served.told_answer in
       let then' = subst (λ (o : Option (Told (ℕ × List ℕ))). IfSome o (λ old. IsSomeAnd (told n) (IsChange by_user_and_name old (user, name) None also.answer) × IfOk also.answer (MayRemove (entry_of by_user_and_name old (user, name))))) h.also also.told_answer in
@@ -125,7 +125,7 @@ module _ {K : Type 0} (told : K → Option (Told (ℕ × List ℕ))) (faults : K
       }
 
   -- shelves that tell alike serve a call alike
-  served_alike : (user : ℕ) (call : Call) (k l : K) (r s : Reply) (m n : K) → StandAlike k l → TellsAll by_user_and_name (told k) → Serves told faults user call k r m → Serves told faults user call l s n → ServeAlike r s m n
+  served_alike : (user : ℕ) (call : Call) (k l : K) (r s : ShelfReply) (m n : K) → StandAlike k l → TellsAll by_user_and_name (told k) → Serves told faults user call k r m → Serves told faults user call l s n → ServeAlike r s m n
   served_alike user (fetch name) k l r s m n h all served also = fetch_alike user name k l r s m n h all served also
   served_alike user (store name bytes) k l r s m n h all served also = store_alike user name bytes k l r s m n h served also
   served_alike user (discard name) k l r s m n h all served also = discard_alike user name k l r s m n h all served also
@@ -166,7 +166,7 @@ module _ {K : Type 0} (told : K → Option (Told (ℕ × List ℕ))) (faults : K
       fit_earlier shelf user more earlier (record { start = h.start; end = h.run.0; same = h.same; run = h.run.1; all = h.all.0 })
 
   -- behind the same exchanges a call has one reply
-  pub fit_one : (shelf : K) (user : ℕ) (call : Call) (reply other : Reply) (earlier : List Exchange) → FitShelf shelf user (record { call = call; reply = reply } ∷ earlier) → FitShelf shelf user (record { call = call; reply = other } ∷ earlier) → reply ≡ other
+  pub fit_one : (shelf : K) (user : ℕ) (call : Call) (reply other : ShelfReply) (earlier : List Exchange) → FitShelf shelf user (record { call = call; reply = reply } ∷ earlier) → FitShelf shelf user (record { call = call; reply = other } ∷ earlier) → reply ≡ other
   fit_one shelf user call reply other earlier h k =
       (served_alike user call h.run.0 k.run.0 reply other h.end k.end (runs_alike user h.start k.start earlier h.run.0 k.run.0 (h.same ∙ sym k.same) h.run.1 k.run.1 h.all.0)
       (told_at_end user h.start earlier h.run.0 h.run.1 h.all.0) h.run.2 k.run.2).same

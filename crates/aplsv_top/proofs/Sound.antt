@@ -9,13 +9,13 @@ use Rattle.apl_arrays.specs.Name.{name_order}
 use Rattle.apl_io.specs.Content.{FailsByNumber, IsChange, IsListing, IsRead, MayRemove, Reads, Told, Writes, after_call, by_user_and_name, entry_of}
 use Rattle.apl_io.specs.declared.store_error.StoreError.{StoreError}
 use Rattle.apl_io.specs.declared.store_error.StoreError.TheVariants.{Failed, WantOfMemory}
-use Rattle.auxiliaries.specs.Command.{command_of}
-use Rattle.auxiliaries.specs.Protocol.{AfterReplace, Step, answers, reads, replaces, step}
+use Rattle.auxiliaries.specs.Request.{request_of}
+use Rattle.auxiliaries.specs.Protocol.{AfterReplace, Step, answers, reads, replaces, protocol_step}
 use Rattle.auxiliaries.specs.Run.{Event, IsReplierRun, answered, began}
 use Rattle.auxiliaries.specs.Served.{Replies, Served, Takes, forgotten}
 use Rattle.bundle_text.specs.User.{PlainUser}
 use Rattle.session_rules.specs.Run.{Dealings, ServeUsers}
-use Rattle.session_rules.specs.Shelf.{Call, Exchange, IsShelfRun, Reply, Serves, browse, discard, discarded, fetch, reply_as, store, stored}
+use Rattle.session_rules.specs.Shelf.{Call, Exchange, IsShelfRun, ShelfReply, Serves, browse, discard, discarded, fetch, reply_as, store, stored}
 use Rattle.aplsv_top.specs.OutputLaws.{AllTellThroughout, HoldsThroughout, TellsAll, TellsThroughout}
 use Rattle.aplsv_top.proofs.Told.{some_and}
 
@@ -82,7 +82,7 @@ module _ {T : Type 0} (told : T → Option (Told (List ℕ))) (faults : T → �
   ends_sound : (start : Served T) (events : List Event) (end : Served T) → IsReplierRun ForgetsFiles RepliesFiles start events end → TellsSound name_order (told start.store) → TellsSound name_order (told end.store)
   ends_sound start [] end run h = subst (λ (s : Served T). TellsSound name_order (told s.store)) (sym run) h
   ends_sound start (began party ∷ earlier) end run h = subst (λ (s : Served T). TellsSound name_order (told s.store)) (sym run.2) (ends_sound start earlier run.0 run.1 h)
-  ends_sound start (answered party value answer ∷ earlier) end run h = taken_sound (step (command_of value) run.0.state) run.0 answer end run.2 (ends_sound start earlier run.0 run.1 h)
+  ends_sound start (answered party value answer ∷ earlier) end run h = taken_sound (protocol_step (request_of value) run.0.state) run.0 answer end run.2 (ends_sound start earlier run.0 run.1 h)
 
   -- text files that begin so tell all throughout
   pub files_sound : (start : Served T) (events : List Event) (end : Served T) (run : IsReplierRun ForgetsFiles RepliesFiles start events end) → TellsSound name_order (told start.store)
@@ -94,10 +94,10 @@ module _ {T : Type 0} (told : T → Option (Told (List ℕ))) (faults : T → �
 
 module _ {K : Type 0} (told : K → Option (Told (ℕ × List ℕ))) (faults : K → ℕ) where
   -- a reply is not lost
-  not_lost : {T : Type 0} (said : T → Reply) (r : Result T StoreError) (reply : Reply) → reply_as said r ≡ Some reply → r ≢ Err WantOfMemory
+  not_lost : {T : Type 0} (said : T → ShelfReply) (r : Result T StoreError) (reply : ShelfReply) → reply_as said r ≡ Some reply → r ≢ Err WantOfMemory
   not_lost said r reply is lost = none-some reply (sym (ap (reply_as said) lost) ∙ is)
 
-  served_sound : (user : ℕ) (call : Call) (k : K) (reply : Reply) (m : K) → Serves told faults user call k reply m → TellsSound by_user_and_name (told k) → TellsSound by_user_and_name (told m)
+  served_sound : (user : ℕ) (call : Call) (k : K) (reply : ShelfReply) (m : K) → Serves told faults user call k reply m → TellsSound by_user_and_name (told k) → TellsSound by_user_and_name (told m)
   served_sound user (fetch name) k reply m served h =
       let p = some_and (told m) (IsRead by_user_and_name h.now (user, name) served.answer)
       (subst (λ (o : Option (Told (ℕ × List ℕ))). IfSome o (λ old. IsSomeAnd (told m) (IsRead by_user_and_name old (user, name) served.answer))) h.tells served.told_answer) in

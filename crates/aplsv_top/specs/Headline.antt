@@ -17,8 +17,8 @@ use Rattle.aplsv_replay.specs.Replayed.{IsDeviceRun}
 use Rattle.aplsv_words.specs.Meaning.{Asked}
 
 -- the text store of a run: the bundle's files, before the first call, none of which is to fail
-abbrev pub text_of : PlainBundle → Keeper (List ℕ)
-text_of bundle = new_keeper (map file_entry bundle.files) []
+abbrev pub text_store_of : PlainBundle → Keeper (List ℕ)
+text_store_of bundle = new_keeper (map file_entry bundle.files) []
 
 -- the clock of a run: the bundle's readings, before the first call, none of which is to fail
 abbrev pub clock_of : PlainBundle → Timer
@@ -36,7 +36,7 @@ pub record IsOutputOf (bundle : PlainBundle) (text : List ℕ) : Type 0 where
   pub files : Keeper (List ℕ)
   pub shelves : List (Keeper (ℕ × List ℕ))
   pub run : IsDeviceRun (λ c. Some c.told) (λ c. c.faults) (λ t. Some t.told) (λ t. t.faults) (λ k. Some k.told) (λ k. k.faults) bundle journal transcripts
-      (clock_of bundle) clock (text_of bundle) files (shelves_of bundle) shelves
+      (clock_of bundle) clock (text_store_of bundle) files (shelves_of bundle) shelves
   pub output : text ≡ output_text transcripts (reverse journal)
   pub printable : ArePrintable transcripts (reverse journal)
 
@@ -84,7 +84,7 @@ IsPlaced told faults place before now = (told now ≡ option_map (placed place) 
 -- it holds of the text store that was handed in, at its place, where that is named, and else of one of the bundle's files
 abbrev pub OverText : {T : Type 0} → (T → Option (Told (List ℕ))) → (T → ℕ) → Option (List ℕ) → PlainBundle → T → T → SaidOfText → Type 0
 OverText {T} told faults (Some place) bundle files files_then Holds = (placed : T) × IsPlaced told faults place files placed × Holds T told faults placed files_then
-OverText told faults None bundle files files_then Holds = (kept : Keeper (List ℕ)) × Holds (Keeper (List ℕ)) (λ t. Some t.told) (λ t. t.faults) (text_of bundle) kept
+OverText told faults None bundle files files_then Holds = (kept : Keeper (List ℕ)) × Holds (Keeper (List ℕ)) (λ t. Some t.told) (λ t. t.faults) (text_store_of bundle) kept
 
 -- no count of faults fell of these shelves, each of which stands at its place among the others
 abbrev pub NoneFell : {K : Type 0} → (K → ℕ) → List K → List K → Type 0
@@ -93,14 +93,14 @@ NoneFell faults (shelf ∷ before) [] = Unit {0}
 NoneFell faults (shelf ∷ before) (shelf_now ∷ now) = (faults shelf ≤ faults shelf_now) × NoneFell faults before now
 
 -- of the shelves that were handed in the first so many were told this place, once and no other: each keeps what it kept, no count of faults fell, and the others are as they were
-pub record ArePlaced {K : Type 0} (told : K → Option (Told (ℕ × List ℕ))) (faults : K → ℕ) (place : List ℕ) (count : ℕ) (before now : List K) : Type 0 where
+pub record AreToldTheirPlace {K : Type 0} (told : K → Option (Told (ℕ × List ℕ))) (faults : K → ℕ) (place : List ℕ) (count : ℕ) (before now : List K) : Type 0 where
   pub tell : map told (take count now) ≡ map (λ shelf. option_map (placed place) (told shelf)) (take count before)
   pub counted : NoneFell faults before now
   pub others : drop count now ≡ drop count before
 
 -- it holds of the shelves that were handed in, each user's at its place, where they are named, and else of empty ones, one for each user
 abbrev pub OverShelves : {K : Type 0} → (K → Option (Told (ℕ × List ℕ))) → (K → ℕ) → Option (List ℕ) → PlainBundle → List K → List K → SaidOfShelves → Type 0
-OverShelves {K} told faults (Some place) bundle shelves shelves_then Holds = (placed : List K) × ArePlaced told faults place (length bundle.users) shelves placed × Holds K told faults placed shelves_then
+OverShelves {K} told faults (Some place) bundle shelves shelves_then Holds = (placed : List K) × AreToldTheirPlace told faults place (length bundle.users) shelves placed × Holds K told faults placed shelves_then
 OverShelves told faults None bundle shelves shelves_then Holds = (kept : List (Keeper (ℕ × List ℕ))) × Holds (Keeper (ℕ × List ℕ)) (λ k. Some k.told) (λ k. k.faults) (shelves_of bundle) kept
 
 -- it is a run of this bundle over a clock, a text store, and the shelves that are named: this is its journal, and these are its transcripts

@@ -6,7 +6,7 @@ ghost use Rattle.aplsv_top.specs.Headline.{IsOutputOf, IsOutputFor};
 use crate::memory::memory_devices;
 use crate::output::output_of;
 use apl_arrays::{Bytes, WantOfMemory};
-use apl_session::{Ended, Outcome};
+use apl_session::{Ended, FinishedRun};
 use aplsv_replay::replay;
 use bundle_text::{Bundle, BundleRefused, BundleRule, read};
 use std::alloc::Global;
@@ -31,7 +31,7 @@ fn output_for(alloc: Global, bundle: Bundle) -> Result<Bytes, WantOfMemory>
     ensures { IfOk result (λ text. IsOutputOf bundle text.items) }
 {
     let devices = memory_devices(alloc, &bundle)?;
-    let Outcome {
+    let FinishedRun {
         ended,
         devices: _devices,
     } = replay(alloc, bundle, devices);

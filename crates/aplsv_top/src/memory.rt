@@ -1,7 +1,7 @@
 ghost use Rattle.std.specs.Prelude.{◌≡◌, ◌≤◌, [], IfOk, length, map, vec_len};
 ghost use Rattle.apl_arrays.specs.FileList.{IsAscending, plain_file};
 ghost use Rattle.apl_io.specs.Kept.{new_keeper};
-ghost use Rattle.aplsv_top.specs.Headline.{clock_of, shelves_of, text_of};
+ghost use Rattle.aplsv_top.specs.Headline.{clock_of, shelves_of, text_store_of};
 
 use apl_arrays::{File, FileList, List, WantOfMemory};
 use apl_io::{CallNumbers, Devices, MemoryClock, MemoryShelf, MemoryText};
@@ -14,7 +14,7 @@ pub fn memory_devices(
     alloc: Global,
     bundle: &Bundle,
 ) -> Result<Devices<MemoryText, MemoryClock, MemoryShelf>, WantOfMemory>
-    ensures text { IfOk result (λ devices. devices.text ≡ text_of bundle.now) }
+    ensures text { IfOk result (λ devices. devices.text ≡ text_store_of bundle.now) }
     ensures clock { IfOk result (λ devices. devices.clock ≡ clock_of bundle.now) }
     ensures shelves { IfOk result (λ devices. devices.shelves.items ≡ shelves_of bundle.now) }
     ensures enough { IfOk result (λ devices. length bundle.now.users ≤ vec_len devices.shelves) }
@@ -28,7 +28,7 @@ pub fn memory_devices(
 
 /// The bundle's files, before the first call, none of which is to fail. It takes memory for them.
 pub(crate) fn memory_text(alloc: Global, bundle: &Bundle) -> Result<MemoryText, WantOfMemory>
-    ensures { IfOk result (λ text. text ≡ text_of bundle.now) }
+    ensures { IfOk result (λ text. text ≡ text_store_of bundle.now) }
 {
     let files = copied_files(alloc, bundle.files())?;
     Ok(MemoryText::new(alloc, files, CallNumbers::new(alloc)))

@@ -3,12 +3,12 @@ ghost use Rattle.apl_arrays.specs.Limits.{most_users};
 ghost use Rattle.apl_session.specs.Ended.{IfWhole};
 ghost use Rattle.aplsv_replay.specs.Replayed.{IsDeviceRun};
 ghost use Rattle.aplsv_words.specs.Meaning.{asked_by};
-ghost use Rattle.aplsv_top.specs.Headline.{ArePlaced, ClockedRun, NamedRun, ShelvedRun};
+ghost use Rattle.aplsv_top.specs.Headline.{AreToldTheirPlace, ClockedRun, NamedRun, ShelvedRun};
 
 use crate::memory::{memory_clock, memory_shelves, memory_text};
 use apl_arrays::WantOfMemory;
 use apl_io::{Clock, Devices, Shelf, TextStore};
-use apl_session::{Ended, Outcome};
+use apl_session::{Ended, FinishedRun};
 use aplsv_replay::replay;
 use aplsv_words::Words;
 use bundle_text::Bundle;
@@ -236,7 +236,7 @@ fn place_shelves<K: Shelf>(
     place: &str,
 ) -> Result<(), WantOfMemory>
     requires { count ≤ vec_len shelves.old }
-    ensures placed { OnOk result (ArePlaced K.told K.faults place.now count shelves.old.items shelves.new.items) }
+    ensures placed { OnOk result (AreToldTheirPlace K.told K.faults place.now count shelves.old.items shelves.new.items) }
     ensures many { vec_len shelves.new ≡ vec_len shelves.old }
 {
     for at in 0..count {
@@ -296,7 +296,7 @@ fn run_over<T: TextStore, C: Clock, K: Shelf>(
         bundle journal transcripts clock result.clock text result.text
         shelves.items result.shelves.items) }
 {
-    let Outcome { ended, devices } = replay(
+    let FinishedRun { ended, devices } = replay(
         alloc,
         bundle,
         Devices {

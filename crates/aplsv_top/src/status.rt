@@ -24,7 +24,7 @@ pub enum Status {
 }
 
 impl Status {
-    /// The exit status of the process. No memory.
+    /// The exit status of the process.
     pub fn code(self) -> u8
         ensures { result ≡ exit_status self }
     {

@@ -70,7 +70,7 @@ pub fn aplsv_replay_words<S: Source, W: Sink, T: TextStore, C: Clock, K: Shelf>(
     }
 }
 
-/// An ending that leaves the devices as they are here. No memory.
+/// An ending that leaves the devices as they are here.
 pub(crate) fn ended<T, C, K>(status: Status, text: T, clock: C, shelves: Vec<K>) -> Finish<T, C, K>
     ensures { result ≡ record { status = status; text = text; clock = clock; shelves = shelves } }
 {
@@ -188,7 +188,7 @@ fn answer<W: Sink, T: TextStore, C: Clock, K: Shelf>(
     }
 }
 
-/// Writes what is said of a run: all of it, or a part from its front on where the sink fails. No memory.
+/// Writes what is said of a run: all of it, or a part from its front on where the sink fails. It takes no memory.
 pub(crate) fn write<W: Sink>(written: &Bytes, output: &mut W) -> Status
     ensures { IsWriting (W.held output.old) (W.held output.new) (W.faults output.old) (W.faults output.new) written.now.items result }
 {

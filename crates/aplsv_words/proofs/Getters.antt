@@ -18,8 +18,8 @@ use Rattle.clap.specs.declared.parser.matches.ArgMatches.{ArgMatches}
 use Rattle.clap.specs.declared.parser.matches.ValueSource.TheVariants.{DefaultValue}
 use Rattle.clap.proofs.WalkLemmas.{first_value-rows, one_text-rows}
 use Rattle.aplsv_words.specs.CommandLine.{IsFlagOf, command_of}
-use Rattle.aplsv_words.specs.Table.{Word, flag, table, valued}
-use Rattle.aplsv_words.specs.Meaning.{AreFine, Said, Setting, Spell, Text, is_known, is_named, is_set, said_by, said_in, takes, value_of, word_of}
+use Rattle.aplsv_words.specs.Table.{Word, flag, table, word_with_value}
+use Rattle.aplsv_words.specs.Meaning.{AreFine, Said, Setting, Spell, Text, is_known, is_named, has_setting, said_by, said_in, value_fits, value_written_for, word_of}
 use Rattle.aplsv_words.specs.declared.written.Written.{Written}
 use Rattle.aplsv_words.proofs.Readings.{IsFree, ended, spelled_are_read, standing}
 use Rattle.aplsv_words.proofs.Settings.{known_word, word_with}
@@ -184,18 +184,18 @@ module _ (id : Text) where
 
 -- ---- what is told of a name
 
-set_is_found : (name : Text) (settings : List Setting) → is_set name settings ≡ is_some (find (is_named name) settings)
+set_is_found : (name : Text) (settings : List Setting) → has_setting name settings ≡ is_some (find (is_named name) settings)
 set_is_found name [] = refl
 set_is_found name (s ∷ settings) = by (is_named name s) (set_is_found name settings) where
-  by : (b : Bool) → is_set name settings ≡ is_some (find (is_named name) settings) → (b || is_set name settings) ≡ is_some (cond b (Some s) (find (is_named name) settings))
+  by : (b : Bool) → has_setting name settings ≡ is_some (find (is_named name) settings) → (b || has_setting name settings) ≡ is_some (cond b (Some s) (find (is_named name) settings))
   by true later = refl
   by false later = later
 
-takes_no_value : (value : Option Text) → takes false value ≡ true → value ≡ None
+takes_no_value : (value : Option Text) → value_fits false value ≡ true → value ≡ None
 takes_no_value None e = refl
 takes_no_value (Some v) e = absurd (false≢true e)
 
-takes_a_value : (value : Option Text) → takes true value ≡ true → (v : Text) × (value ≡ Some v)
+takes_a_value : (value : Option Text) → value_fits true value ≡ true → (v : Text) × (value ≡ Some v)
 takes_a_value None e = absurd (false≢true e)
 takes_a_value (Some v) e = (v, refl)
 
@@ -223,12 +223,12 @@ module _ (words : List Word) (settings : List Setting) (fine : AreFine words set
   abbrev pub told : List Row
   told = fold with_default (map row_for settings) (arguments words)
 
-  taken_by : (word : Word) → word_of words name ≡ Some word → (s : Setting) → find (is_named name) settings ≡ Some s → takes word.takes_value s.value ≡ true
+  taken_by : (word : Word) → word_of words name ≡ Some word → (s : Setting) → find (is_named name) settings ≡ Some s → value_fits word.takes_value s.value ≡ true
   taken_by word found s set =
       let known = known_word words s (found_holds (is_named name) (is_known words) settings s set fine.known) in
       let same_name : s.name ≡ name = (bytes_eq-Decides s.name name).0 (found_passes (is_named name) settings s set) in
       let same_word : known.0 ≡ word = same_Some known.0 word (sym known.1 ∙ (ap (word_of words) same_name ∙ found)) in
-      ap (λ (w : Word). takes w.takes_value s.value) (sym same_word) ∙ known.2
+      ap (λ (w : Word). value_fits w.takes_value s.value) (sym same_word) ∙ known.2
 
   row_kept : (s : Setting) → find (is_named name) settings ≡ Some s → find (has_id name) told ≡ Some (row_for s)
   row_kept s set = kept name words (map row_for settings) (row_for s) (found_row name settings ∙ ap (option_map row_for) set)
@@ -245,26 +245,26 @@ module _ (words : List Word) (settings : List Setting) (fine : AreFine words set
       ap (option_and_then row_text) (row_kept s set)
       ∙ ap (λ (value : Option Text). row_text (row_for (record { name = s.name; value = value }))) (takes_no_value s.value (taken_by (flag name) word s set))
 
-  pub flag_is : word_of words name ≡ Some (flag name) → (b : Bool) → IsFlagOf (one_of name told) b → b ≡ is_set name settings
-  flag_is word b tells = by (is_set name settings) (subst (TellsFlag name told) (sym (set_is_found name settings)) (flag_set word (find (is_named name) settings) refl)) where
+  pub flag_is : word_of words name ≡ Some (flag name) → (b : Bool) → IsFlagOf (one_of name told) b → b ≡ has_setting name settings
+  flag_is word b tells = by (has_setting name settings) (subst (TellsFlag name told) (sym (set_is_found name settings)) (flag_set word (find (is_named name) settings) refl)) where
     by : (set : Bool) → TellsFlag name told set → b ≡ set
     by true e = tells.1 e
     by false (inl e) = tells.0 e
     by false (inr e) = tells.2 e
 
-  pub flag_tells : word_of words name ≡ Some (flag name) → TellsFlag name told (is_set name settings)
+  pub flag_tells : word_of words name ≡ Some (flag name) → TellsFlag name told (has_setting name settings)
   flag_tells word = subst (TellsFlag name told) (sym (set_is_found name settings)) (flag_set word (find (is_named name) settings) refl)
 
   -- a word with one tells its value
-  value_set : word_of words name ≡ Some (valued name) → list_all (takes_if_named name) words ≡ true → (found : Option Setting) → find (is_named name) settings ≡ found
+  value_set : word_of words name ≡ Some (word_with_value name) → list_all (takes_if_named name) words ≡ true → (found : Option Setting) → find (is_named name) settings ≡ found
       → first_of name told ≡ option_and_then (λ s. s.value) found
   value_set word fit None none = ap (option_and_then (λ (r : Row). slice_get r.values 0)) (stays_none name words (map row_for settings) fit (no_row_yet none))
   value_set word fit (Some s) set =
-      let value = takes_a_value s.value (taken_by (valued name) word s set) in
+      let value = takes_a_value s.value (taken_by (word_with_value name) word s set) in
       ap (option_and_then (λ (r : Row). slice_get r.values 0)) (row_kept s set)
       ∙ (ap (λ (v : Option Text). slice_get (option_map_or (λ text. text ∷ []) v (codes "true" ∷ [])) 0) value.1 ∙ sym value.1)
 
-  pub value_is : word_of words name ≡ Some (valued name) → list_all (takes_if_named name) words ≡ true → first_of name told ≡ value_of name settings
+  pub value_is : word_of words name ≡ Some (word_with_value name) → list_all (takes_if_named name) words ≡ true → first_of name told ≡ value_written_for name settings
   value_is word fit = value_set word fit (find (is_named name) settings) refl
 
 -- ---- the parse of words that spell settings
@@ -298,26 +298,26 @@ read_is_said m written texts settings has spelled fine replay library text clock
     let rows : rows_of (found_of m) ≡ fold with_default (map row_for settings) (arguments table) = (has is_simple_table).0 ∙ spelled_are_told settings texts spelled fine in
     let one : (name : Text) → one_text (found_of m) name ≡ one_of name (told table settings fine name) = λ name. one_text-rows (found_of m) name ∙ ap (one_of name) rows in
     let first : (name : Text) → first_value (found_of m) name ≡ first_of name (told table settings fine name) = λ name. first_value-rows (found_of m) name ∙ ap (first_of name) rows in
-    let e_replay : written.replay ≡ is_set (codes "replay") settings =
+    let e_replay : written.replay ≡ has_setting (codes "replay") settings =
     flag_is table settings fine (codes "replay") refl written.replay (subst (λ (o : Option Text). IsFlagOf o written.replay) (one (codes "replay")) replay) in
-    let e_library : (said_in written).library ≡ value_of (codes "library") settings = library ∙ (first (codes "library") ∙ value_is table settings fine (codes "library") refl refl) in
-    let e_text : (said_in written).text ≡ value_of (codes "text") settings = text ∙ (first (codes "text") ∙ value_is table settings fine (codes "text") refl refl) in
-    let e_clock : written.clock ≡ is_set (codes "clock") settings =
+    let e_library : (said_in written).library ≡ value_written_for (codes "library") settings = library ∙ (first (codes "library") ∙ value_is table settings fine (codes "library") refl refl) in
+    let e_text : (said_in written).text ≡ value_written_for (codes "text") settings = text ∙ (first (codes "text") ∙ value_is table settings fine (codes "text") refl refl) in
+    let e_clock : written.clock ≡ has_setting (codes "clock") settings =
     flag_is table settings fine (codes "clock") refl written.clock (subst (λ (o : Option Text). IsFlagOf o written.clock) (one (codes "clock")) clock) in
-    let e_load : (said_in written).load ≡ value_of (codes "load") settings = load ∙ (first (codes "load") ∙ value_is table settings fine (codes "load") refl refl) in
-    sym (says_alike written.replay (is_set (codes "replay") settings) (said_in written).library (value_of (codes "library") settings) (said_in written).text (value_of (codes "text") settings)
-    written.clock (is_set (codes "clock") settings) (said_in written).load (value_of (codes "load") settings) e_replay e_library e_text e_clock e_load)
+    let e_load : (said_in written).load ≡ value_written_for (codes "load") settings = load ∙ (first (codes "load") ∙ value_is table settings fine (codes "load") refl refl) in
+    sym (says_alike written.replay (has_setting (codes "replay") settings) (said_in written).library (value_written_for (codes "library") settings) (said_in written).text (value_written_for (codes "text") settings)
+    written.clock (has_setting (codes "clock") settings) (said_in written).load (value_written_for (codes "load") settings) e_replay e_library e_text e_clock e_load)
 
 -- words that spell two lists of settings say the same
 pub one_meaning : (texts : List Text) (settings others : List Setting) → Spell settings texts → AreFine table settings → Spell others texts → AreFine table others → said_by settings ≡ said_by others
 one_meaning texts settings others spelled fine spells good =
     let rows : fold with_default (map row_for others) (arguments table) ≡ fold with_default (map row_for settings) (arguments table) = sym (spelled_are_told others texts spells good) ∙ spelled_are_told settings texts spelled fine in
-    let flags : (name : Text) → word_of table name ≡ Some (flag name) → is_set name settings ≡ is_set name others = λ name word.
-    one_flag name (told table settings fine name) (is_set name settings) (is_set name others) (flag_tells table settings fine name word)
-    (subst (λ (rs : List Row). TellsFlag name rs (is_set name others)) rows (flag_tells table others good name word)) in
-    let values : (name : Text) → word_of table name ≡ Some (valued name) → list_all (takes_if_named name) table ≡ true → value_of name settings ≡ value_of name others = λ name word fit.
+    let flags : (name : Text) → word_of table name ≡ Some (flag name) → has_setting name settings ≡ has_setting name others = λ name word.
+    one_flag name (told table settings fine name) (has_setting name settings) (has_setting name others) (flag_tells table settings fine name word)
+    (subst (λ (rs : List Row). TellsFlag name rs (has_setting name others)) rows (flag_tells table others good name word)) in
+    let values : (name : Text) → word_of table name ≡ Some (word_with_value name) → list_all (takes_if_named name) table ≡ true → value_written_for name settings ≡ value_written_for name others = λ name word fit.
     sym (value_is table settings fine name word fit) ∙ (ap (first_of name) (sym rows) ∙ value_is table others good name word fit) in
-    says_alike (is_set (codes "replay") settings) (is_set (codes "replay") others) (value_of (codes "library") settings) (value_of (codes "library") others)
-    (value_of (codes "text") settings) (value_of (codes "text") others) (is_set (codes "clock") settings) (is_set (codes "clock") others)
-    (value_of (codes "load") settings) (value_of (codes "load") others)
+    says_alike (has_setting (codes "replay") settings) (has_setting (codes "replay") others) (value_written_for (codes "library") settings) (value_written_for (codes "library") others)
+    (value_written_for (codes "text") settings) (value_written_for (codes "text") others) (has_setting (codes "clock") settings) (has_setting (codes "clock") others)
+    (value_written_for (codes "load") settings) (value_written_for (codes "load") others)
     (flags (codes "replay") refl) (values (codes "library") refl refl) (values (codes "text") refl refl) (flags (codes "clock") refl) (values (codes "load") refl refl)

@@ -7,7 +7,7 @@ use Rattle.std.proofs.lemmas.Bool.{and_parts, eqb-true, false≢true, ne_eqb, no
 use Rattle.clap.specs.Lexer.{long_of, long_of_rest, name_and_value, short_of, short_of_rest, strip_byte}
 use Rattle.clap.proofs.LexerLemmas.{name_and_value-at, name_and_value-without}
 use Rattle.aplsv_words.specs.Table.{Word}
-use Rattle.aplsv_words.specs.Meaning.{BeginsWith, Setting, Spell, Text, begins_with_hyphen, hyphened, is_known, joined, word_of}
+use Rattle.aplsv_words.specs.Meaning.{BeginsWith, Setting, Spell, Text, begins_with_hyphen, hyphened, is_known, as_one_word, word_of}
 use Rattle.aplsv_words.specs.Stray.{is_stray, lacks_name}
 use Rattle.aplsv_words.proofs.Settings.{found_name, known_word}
 use Rattle.aplsv_words.proofs.Texts.{IsCut, cut, found_holds, lacks}
@@ -38,7 +38,7 @@ pub alone_is_long : (name : Text) → is_name name ≡ true → IsLong (hyphened
 alone_is_long [] fit = absurd (false≢true fit)
 alone_is_long (x ∷ xs) fit = record { longer = refl; long = ap (λ (p : Text × Option Text). Some p) (name_and_value-without (x ∷ xs) (lacks 61 (x ∷ xs) (lacks_equals (x ∷ xs) fit))) }
 
-pub joined_is_long : (name value : Text) → is_name name ≡ true → IsLong (joined name value) name (Some value)
+pub joined_is_long : (name value : Text) → is_name name ≡ true → IsLong (as_one_word name value) name (Some value)
 joined_is_long [] value fit = absurd (false≢true fit)
 joined_is_long (x ∷ xs) value fit = record { longer = refl; long = ap (λ (p : Text × Option Text). Some p) (name_and_value-at (x ∷ xs) value (lacks 61 (x ∷ xs) (lacks_equals (x ∷ xs) fit))) }
 
@@ -53,7 +53,7 @@ unhyphened_is_plain (x ∷ xs) none = record {
 -- a name in its word, with a value or without
 abbrev pub written : Text → Option Text → Text
 written name None = hyphened name
-written name (Some value) = joined name value
+written name (Some value) = as_one_word name value
 
 -- a word that is no stray one has no hyphen at its front, or is a name in its word
 abbrev pub IsRead : Text → Type 0
@@ -101,7 +101,7 @@ hyphened_strays_not : (name : Text) → is_name name ≡ true → is_stray (hyph
 hyphened_strays_not [] fit = absurd (false≢true fit)
 hyphened_strays_not (x ∷ xs) fit = ne_eqb (length (x ∷ xs)) 0 (λ e. absurd (omega (arith, e)))
 
-joined_strays_not : (name value : Text) → is_name name ≡ true → is_stray (joined name value) ≡ false
+joined_strays_not : (name value : Text) → is_name name ≡ true → is_stray (as_one_word name value) ≡ false
 joined_strays_not [] value fit = absurd (false≢true fit)
 joined_strays_not (x ∷ xs) value fit = ne_eqb (length (x ∷ (xs ++ 61 ∷ value))) 0 (λ e. absurd (omega (arith, e)))
 
@@ -120,7 +120,7 @@ module _ (words : List Word) (names : list_all (λ word. is_name word.name) word
 
   first_strays_not : (name : Text) (value : Option Text) (texts left : List Text) → BeginsWith name value texts left → is_name name ≡ true → list_any is_stray left ≡ false → list_any is_stray texts ≡ false
   first_strays_not name None texts left is fit later = ap (list_any is_stray) is ∙ no_stray (hyphened name) left (hyphened_strays_not name fit) later
-  first_strays_not name (Some value) texts left (inl is) fit later = ap (list_any is_stray) is ∙ no_stray (joined name value) left (joined_strays_not name value fit) later
+  first_strays_not name (Some value) texts left (inl is) fit later = ap (list_any is_stray) is ∙ no_stray (as_one_word name value) left (joined_strays_not name value fit) later
   first_strays_not name (Some value) texts left (inr is) fit later =
       ap (list_any is_stray) is.1 ∙ no_stray (hyphened name) (value ∷ left) (hyphened_strays_not name fit) (no_stray value left (unhyphened_strays_not value is.0) later)
 

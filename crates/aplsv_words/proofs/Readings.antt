@@ -6,8 +6,8 @@ use Rattle.std.proofs.lemmas.Bool.{or_parts}
 use Rattle.clap.specs.Faults.{settle_fault, turn_fault, use_fault, walk_fault}
 use Rattle.clap.specs.Kinds.{or_else}
 use Rattle.clap.specs.Walk.{Held, Row, Walk, has_row, idle, option, settled, walked}
-use Rattle.aplsv_words.specs.Table.{Word, flag, valued}
-use Rattle.aplsv_words.specs.Meaning.{AreFine, BeginsWith, Setting, Spell, Text, begins_with_hyphen, hyphened, is_set, joined, word_of}
+use Rattle.aplsv_words.specs.Table.{Word, flag, word_with_value}
+use Rattle.aplsv_words.specs.Meaning.{AreFine, BeginsWith, Setting, Spell, Text, begins_with_hyphen, hyphened, has_setting, as_one_word, word_of}
 use Rattle.aplsv_words.specs.Stray.{is_stray}
 use Rattle.aplsv_words.proofs.Lexing.{IsLong, IsRead, alone_is_long, fit_name, is_name, joined_is_long, unhyphened_is_plain, word_is_read, written}
 use Rattle.aplsv_words.proofs.Settings.{alone, fine_front, fine_more, fine_next, flag_known, found_word, known_alone, known_value, value_known, with_value, word_with}
@@ -81,10 +81,10 @@ module _ (words : List Word) where
   grouped one s other fine = subst (AreFine words) (append_assoc one (s ∷ []) other) fine
 
   -- a row of none
-  none_there : (name : Text) (settings : List Setting) (rows : List Row) → rows ≡ map row_for settings → is_set name settings ≡ false → has_row name rows ≡ false
+  none_there : (name : Text) (settings : List Setting) (rows : List Row) → rows ≡ map row_for settings → has_setting name settings ≡ false → has_row name rows ≡ false
   none_there name settings rows is none = ap (has_row name) is ∙ (has_row_is name settings ∙ none)
 
-  none_set : (name : Text) (settings : List Setting) (rows : List Row) → rows ≡ map row_for settings → has_row name rows ≡ false → is_set name settings ≡ false
+  none_set : (name : Text) (settings : List Setting) (rows : List Row) → rows ≡ map row_for settings → has_row name rows ≡ false → has_setting name settings ≡ false
   none_set name settings rows is none = sym (has_row_is name settings) ∙ (sym (ap (has_row name) is) ∙ none)
 
   pushed : (settings : List Setting) (s : Setting) (rows : List Row) → rows ≡ map row_for settings → rows ++ row_for s ∷ [] ≡ map row_for (settings ++ s ∷ [])
@@ -98,30 +98,30 @@ module _ (words : List Word) where
   rows_settled done last waits fine = (settles words done last waits fine).1
 
   -- a word without a value is used
-  flag_is_free : (done : List Setting) (last : Option (Text × Text)) → MayWait words last → AreFine words (so_far done last) → (name : Text) → is_set name (so_far done last) ≡ false
+  flag_is_free : (done : List Setting) (last : Option (Text × Text)) → MayWait words last → AreFine words (so_far done last) → (name : Text) → has_setting name (so_far done last) ≡ false
       → faults_now words (held_at done last) (argument (flag name)) [] ≡ []
   flag_is_free done last waits fine name none =
       let used : use_fault false (argument (flag name)) [] (rows_at done last) ≡ [] = flag_free name (rows_at done last) (none_there name (so_far done last) (rows_at done last) (rows_settled done last waits fine) none) in
       both_none (or_else (settle_fault (arguments words) false (held_at done last)) (use_fault false (argument (flag name)) [] (rows_at done last))) []
       (both_none (settle_fault (arguments words) false (held_at done last)) (use_fault false (argument (flag name)) [] (rows_at done last)) (settles words done last waits fine).0 used) refl
 
-  flag_rows : (done : List Setting) (last : Option (Text × Text)) → MayWait words last → AreFine words (so_far done last) → (name : Text) → is_set name (so_far done last) ≡ false
+  flag_rows : (done : List Setting) (last : Option (Text × Text)) → MayWait words last → AreFine words (so_far done last) → (name : Text) → has_setting name (so_far done last) ≡ false
       → rows_now words (held_at done last) (argument (flag name)) [] ≡ map row_for (so_far done last ++ alone name ∷ [])
   flag_rows done last waits fine name none =
       let settles_so = rows_settled done last waits fine in
       flag_used name (rows_at done last) (none_there name (so_far done last) (rows_at done last) settles_so none) ∙ pushed (so_far done last) (alone name) (rows_at done last) settles_so
 
   -- and a word with its value
-  value_is_free : (done : List Setting) (last : Option (Text × Text)) → MayWait words last → AreFine words (so_far done last) → (name value : Text) → is_set name (so_far done last) ≡ false → nat_lt 0 (length value) ≡ true
-      → faults_now words (held_at done last) (argument (valued name)) (value ∷ []) ≡ []
+  value_is_free : (done : List Setting) (last : Option (Text × Text)) → MayWait words last → AreFine words (so_far done last) → (name value : Text) → has_setting name (so_far done last) ≡ false → nat_lt 0 (length value) ≡ true
+      → faults_now words (held_at done last) (argument (word_with_value name)) (value ∷ []) ≡ []
   value_is_free done last waits fine name value none filled =
-      let used : use_fault false (argument (valued name)) (value ∷ []) (rows_at done last) ≡ [] =
+      let used : use_fault false (argument (word_with_value name)) (value ∷ []) (rows_at done last) ≡ [] =
       value_free name value (rows_at done last) (none_there name (so_far done last) (rows_at done last) (rows_settled done last waits fine) none) filled in
-      both_none (or_else (settle_fault (arguments words) false (held_at done last)) (use_fault false (argument (valued name)) (value ∷ []) (rows_at done last))) []
-      (both_none (settle_fault (arguments words) false (held_at done last)) (use_fault false (argument (valued name)) (value ∷ []) (rows_at done last)) (settles words done last waits fine).0 used) refl
+      both_none (or_else (settle_fault (arguments words) false (held_at done last)) (use_fault false (argument (word_with_value name)) (value ∷ []) (rows_at done last))) []
+      (both_none (settle_fault (arguments words) false (held_at done last)) (use_fault false (argument (word_with_value name)) (value ∷ []) (rows_at done last)) (settles words done last waits fine).0 used) refl
 
-  value_rows : (done : List Setting) (last : Option (Text × Text)) → MayWait words last → AreFine words (so_far done last) → (name value : Text) → is_set name (so_far done last) ≡ false
-      → rows_now words (held_at done last) (argument (valued name)) (value ∷ []) ≡ map row_for (so_far done last ++ with_value name value ∷ [])
+  value_rows : (done : List Setting) (last : Option (Text × Text)) → MayWait words last → AreFine words (so_far done last) → (name value : Text) → has_setting name (so_far done last) ≡ false
+      → rows_now words (held_at done last) (argument (word_with_value name)) (value ∷ []) ≡ map row_for (so_far done last ++ with_value name value ∷ [])
   value_rows done last waits fine name value none =
       let settles_so = rows_settled done last waits fine in
       value_used name value (rows_at done last) (none_there name (so_far done last) (rows_at done last) settles_so none) ∙ pushed (so_far done last) (with_value name value) (rows_at done last) settles_so
@@ -157,17 +157,17 @@ module _ (words : List Word) where
         (subst (AreRead (standing (so_far done last ++ alone name ∷ []) None) left) (append_assoc (so_far done last) (alone name ∷ []) settings) read)
 
     joined_reads : (name value : Text) (left : List Text) (settings : List Setting) (done : List Setting) (last : Option (Text × Text)) → ReadsOn left settings (so_far done last ++ with_value name value ∷ []) None
-        → ReadsOn (joined name value ∷ left) (with_value name value ∷ settings) done last
+        → ReadsOn (as_one_word name value ∷ left) (with_value name value ∷ settings) done last
     joined_reads name value left settings done last later waits fine =
         let next = fine_next words (so_far done last) (with_value name value) settings fine in
         let fine_now = fine_front words (so_far done last) (with_value name value ∷ settings) fine in
         let found = known_value words name value next.1 in
-        let long = joined_is_long name value (fit_name words names name (valued name) found.0) in
+        let long = joined_is_long name value (fit_name words names name (word_with_value name) found.0) in
         let read : AreRead (standing (so_far done last ++ with_value name value ∷ []) None) left ((so_far done last ++ with_value name value ∷ []) ++ settings) = later tt (regrouped (so_far done last) (with_value name value) settings fine) in
-        let turn = joined_turn words (map row_for done) (last_value last) idle (joined name value) name value long found.0 ∙ value_is_free done last waits fine_now name value next.0 found.1 in
-        let step : walked (arguments words) [] (standing done last) (joined name value) ≡ standing (so_far done last ++ with_value name value ∷ []) None =
-        joined_walk words (map row_for done) (last_value last) idle (joined name value) name value long found.0 ∙ ap (λ (rows : List Row). between rows None idle) (value_rows done last waits fine_now name value next.0) in
-        more_read (standing done last) (standing (so_far done last ++ with_value name value ∷ []) None) (joined name value) left (so_far done last ++ with_value name value ∷ settings) turn step
+        let turn = joined_turn words (map row_for done) (last_value last) idle (as_one_word name value) name value long found.0 ∙ value_is_free done last waits fine_now name value next.0 found.1 in
+        let step : walked (arguments words) [] (standing done last) (as_one_word name value) ≡ standing (so_far done last ++ with_value name value ∷ []) None =
+        joined_walk words (map row_for done) (last_value last) idle (as_one_word name value) name value long found.0 ∙ ap (λ (rows : List Row). between rows None idle) (value_rows done last waits fine_now name value next.0) in
+        more_read (standing done last) (standing (so_far done last ++ with_value name value ∷ []) None) (as_one_word name value) left (so_far done last ++ with_value name value ∷ settings) turn step
         (subst (AreRead (standing (so_far done last ++ with_value name value ∷ []) None) left) (append_assoc (so_far done last) (with_value name value ∷ []) settings) read)
 
     parted_reads : (name value : Text) (left : List Text) (settings : List Setting) (done : List Setting) (last : Option (Text × Text)) → begins_with_hyphen value ≡ false
@@ -176,7 +176,7 @@ module _ (words : List Word) where
         let next = fine_next words (so_far done last) (with_value name value) settings fine in
         let fine_now = fine_front words (so_far done last) (with_value name value ∷ settings) fine in
         let found = known_value words name value next.1 in
-        let long = alone_is_long name (fit_name words names name (valued name) found.0) in
+        let long = alone_is_long name (fit_name words names name (word_with_value name) found.0) in
         let plain = unhyphened_is_plain value bare in
         let read : AreRead (standing (so_far done last) (Some (name, value))) left ((so_far done last ++ with_value name value ∷ []) ++ settings) = later found.0 (regrouped (so_far done last) (with_value name value) settings fine) in
         let behind : AreRead (waiting (so_far done last) name) (value ∷ left) ((so_far done last ++ with_value name value ∷ []) ++ settings) =
@@ -222,7 +222,7 @@ module _ (words : List Word) where
   -- where words are free they go on
   pub record FreeGoesOn (texts : List Text) : Type 0 where
     pub here : (done : List Setting) (last : Option (Text × Text)) → MayWait words last → AreFine words done → IsFree (standing done last) texts → GoesOn (so_far done last) texts
-    pub waits : (done : List Setting) (name : Text) → word_of words name ≡ Some (valued name) → AreFine words done → IsFree (waiting done name) texts → ValueAndMore done name texts
+    pub waits : (done : List Setting) (name : Text) → word_of words name ≡ Some (word_with_value name) → AreFine words done → IsFree (waiting done name) texts → ValueAndMore done name texts
 
   nothing_more : FreeGoesOn []
   nothing_more = record {
@@ -253,11 +253,11 @@ module _ (words : List Word) where
           let more = later.here (so_far done last ++ alone name ∷ []) None tt fine_then (later_free (standing done last) (standing (so_far done last ++ alone name ∷ []) None) word texts step free) in
           one_more (so_far done last) (alone name) (word ∷ texts) texts (ap (λ (t : Text). t ∷ texts) is) more
 
-      joined_goes_on : (name value : Text) → IsLong word name (Some value) → word ≡ joined name value → word_of words name ≡ Some (valued name) → GoesOn (so_far done last) (word ∷ texts)
+      joined_goes_on : (name value : Text) → IsLong word name (Some value) → word ≡ as_one_word name value → word_of words name ≡ Some (word_with_value name) → GoesOn (so_far done last) (word ∷ texts)
       joined_goes_on name value long is found =
-          let faults : faults_now words (held_at done last) (argument (valued name)) (value ∷ []) ≡ [] = sym (joined_turn words (map row_for done) (last_value last) idle word name value long found) ∙ turn_free in
-          let parts = none_of (settle_fault (arguments words) false (held_at done last)) (use_fault false (argument (valued name)) (value ∷ []) (rows_at done last))
-          (none_of (or_else (settle_fault (arguments words) false (held_at done last)) (use_fault false (argument (valued name)) (value ∷ []) (rows_at done last))) [] faults).0 in
+          let faults : faults_now words (held_at done last) (argument (word_with_value name)) (value ∷ []) ≡ [] = sym (joined_turn words (map row_for done) (last_value last) idle word name value long found) ∙ turn_free in
+          let parts = none_of (settle_fault (arguments words) false (held_at done last)) (use_fault false (argument (word_with_value name)) (value ∷ []) (rows_at done last))
+          (none_of (or_else (settle_fault (arguments words) false (held_at done last)) (use_fault false (argument (word_with_value name)) (value ∷ []) (rows_at done last))) [] faults).0 in
           let fine_now = settled_fine words done last waits fine parts.0 in
           let taken = value_none name value (rows_at done last) parts.1 in
           let none = none_set name (so_far done last) (rows_at done last) (rows_settled done last waits fine_now) taken.0 in
@@ -267,7 +267,7 @@ module _ (words : List Word) where
           let more = later.here (so_far done last ++ with_value name value ∷ []) None tt fine_then (later_free (standing done last) (standing (so_far done last ++ with_value name value ∷ []) None) word texts step free) in
           one_more (so_far done last) (with_value name value) (word ∷ texts) texts (inl (ap (λ (t : Text). t ∷ texts) is)) more
 
-      opening_goes_on : (name : Text) → IsLong word name None → word ≡ hyphened name → word_of words name ≡ Some (valued name) → GoesOn (so_far done last) (word ∷ texts)
+      opening_goes_on : (name : Text) → IsLong word name None → word ≡ hyphened name → word_of words name ≡ Some (word_with_value name) → GoesOn (so_far done last) (word ∷ texts)
       opening_goes_on name long is found =
           let faults : or_else (settle_fault (arguments words) false (held_at done last)) [] ≡ [] = sym (opening_turn words (map row_for done) (last_value last) idle word name long found) ∙ turn_free in
           let fine_now = settled_fine words done last waits fine (none_of (settle_fault (arguments words) false (held_at done last)) [] faults).0 in
@@ -292,7 +292,7 @@ module _ (words : List Word) where
       word_goes_on (inl none) = absurd (stray_fails words (map row_for done) (last_value last) word (unhyphened_is_plain word none) turn_free)
       word_goes_on (inr read) = named_goes_on read.0 read.1 read.2 read.3 (word_of words read.0) refl
 
-    value_goes_on : (begins_with_hyphen word ≡ false) ⊎ IsRead word → (done : List Setting) (name : Text) → word_of words name ≡ Some (valued name) → AreFine words done → IsFree (waiting done name) (word ∷ texts)
+    value_goes_on : (begins_with_hyphen word ≡ false) ⊎ IsRead word → (done : List Setting) (name : Text) → word_of words name ≡ Some (word_with_value name) → AreFine words done → IsFree (waiting done name) (word ∷ texts)
         → ValueAndMore done name (word ∷ texts)
     value_goes_on (inl none) done name found fine free =
         let plain = unhyphened_is_plain word none in (

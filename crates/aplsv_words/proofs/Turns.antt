@@ -7,7 +7,7 @@ use Rattle.clap.specs.Kinds.{Kinds, or_else}
 use Rattle.clap.specs.Lexer.{long_of}
 use Rattle.clap.specs.Walk.{Held, Row, Rule, Step, Waiting, Walk, after_flag, after_step, arg_by_long, idle, long_met, long_or_other, next, option, option_word, positional, settled, short_or_plain, subcommand_met, subcommand_or_other, takes_values, trailing, used, walked}
 use Rattle.clap.specs.declared.error.kind.ErrorKind.TheVariants as kind
-use Rattle.aplsv_words.specs.Table.{Word, flag, valued}
+use Rattle.aplsv_words.specs.Table.{Word, flag, word_with_value}
 use Rattle.aplsv_words.specs.Meaning.{Text, word_of}
 use Rattle.aplsv_words.proofs.Lexing.{IsLong, IsPlain, bare}
 use Rattle.aplsv_words.proofs.Texts.{same}
@@ -96,22 +96,22 @@ module _ (words : List Word) (rows : List Row) (pending : Option (Text × List T
       → walked (arguments words) [] (between rows pending waiting) word ≡ between (rows_now words (holding rows pending) (argument (flag name)) []) None idle
   flag_walk name long found = named_walk name None long (Some (flag name)) found
 
-  pub joined_turn : (name value : Text) → IsLong word name (Some value) → word_of words name ≡ Some (valued name)
-      → turn_fault (shape words) [] (between rows pending waiting) word ≡ faults_now words (holding rows pending) (argument (valued name)) (value ∷ [])
-  joined_turn name value long found = named_turn name (Some value) long (Some (valued name)) found
+  pub joined_turn : (name value : Text) → IsLong word name (Some value) → word_of words name ≡ Some (word_with_value name)
+      → turn_fault (shape words) [] (between rows pending waiting) word ≡ faults_now words (holding rows pending) (argument (word_with_value name)) (value ∷ [])
+  joined_turn name value long found = named_turn name (Some value) long (Some (word_with_value name)) found
 
-  pub joined_walk : (name value : Text) → IsLong word name (Some value) → word_of words name ≡ Some (valued name)
-      → walked (arguments words) [] (between rows pending waiting) word ≡ between (rows_now words (holding rows pending) (argument (valued name)) (value ∷ [])) None idle
-  joined_walk name value long found = named_walk name (Some value) long (Some (valued name)) found
+  pub joined_walk : (name value : Text) → IsLong word name (Some value) → word_of words name ≡ Some (word_with_value name)
+      → walked (arguments words) [] (between rows pending waiting) word ≡ between (rows_now words (holding rows pending) (argument (word_with_value name)) (value ∷ [])) None idle
+  joined_walk name value long found = named_walk name (Some value) long (Some (word_with_value name)) found
 
   -- a name whose value is to come
-  pub opening_turn : (name : Text) → IsLong word name None → word_of words name ≡ Some (valued name)
+  pub opening_turn : (name : Text) → IsLong word name None → word_of words name ≡ Some (word_with_value name)
       → turn_fault (shape words) [] (between rows pending waiting) word ≡ or_else (settle_fault (arguments words) false (holding rows pending)) []
-  opening_turn name long found = named_turn name None long (Some (valued name)) found
+  opening_turn name long found = named_turn name None long (Some (word_with_value name)) found
 
-  pub opening_walk : (name : Text) → IsLong word name None → word_of words name ≡ Some (valued name)
+  pub opening_walk : (name : Text) → IsLong word name None → word_of words name ≡ Some (word_with_value name)
       → walked (arguments words) [] (between rows pending waiting) word ≡ between (settled (arguments words) (holding rows pending)).rows (Some (name, [])) (option name)
-  opening_walk name long found = named_walk name None long (Some (valued name)) found
+  opening_walk name long found = named_walk name None long (Some (word_with_value name)) found
 
   -- ---- where what waits can't be used, no name may follow
 
@@ -166,7 +166,7 @@ stray_fails words rows pending word plain e =
 pub value_turn : (words : List Word) (rows : List Row) (name word : Text) → IsPlain word → turn_fault (shape words) [] (between rows (Some (name, [])) (option name)) word ≡ []
 value_turn words rows name word plain = plain_turn words rows (Some (name, [])) (option name) word plain
 
-pub value_walk : (words : List Word) (rows : List Row) (name word : Text) → IsPlain word → word_of words name ≡ Some (valued name)
+pub value_walk : (words : List Word) (rows : List Row) (name word : Text) → IsPlain word → word_of words name ≡ Some (word_with_value name)
     → walked (arguments words) [] (between rows (Some (name, [])) (option name)) word ≡ between rows (Some (name, word ∷ [])) idle
 value_walk words rows name word plain found =
     plain_walk words rows (Some (name, [])) (option name) word plain

@@ -16,8 +16,8 @@ use Rattle.clap.specs.declared.error.kind.ErrorKind.{ErrorKind}
 use Rattle.clap.specs.declared.error.kind.ErrorKind.TheVariants as kind
 use Rattle.clap.specs.declared.parser.matches.ValueSource.TheVariants.{CommandLine}
 use Rattle.aplsv_words.specs.CommandLine.{command_of}
-use Rattle.aplsv_words.specs.Table.{Word, flag, table, valued}
-use Rattle.aplsv_words.specs.Meaning.{AreFine, Setting, Text, is_set, word_of}
+use Rattle.aplsv_words.specs.Table.{Word, flag, table, word_with_value}
+use Rattle.aplsv_words.specs.Meaning.{AreFine, Setting, Text, has_setting, word_of}
 use Rattle.aplsv_words.proofs.Lexing.{is_name}
 use Rattle.aplsv_words.proofs.Settings.{alone, fine_more, fine_next, known_value, value_known, with_value}
 
@@ -117,7 +117,7 @@ row_for s = record {
   reading = AsWritten;
 }
 
-pub has_row_is : (name : Text) (settings : List Setting) → has_row name (map row_for settings) ≡ is_set name settings
+pub has_row_is : (name : Text) (settings : List Setting) → has_row name (map row_for settings) ≡ has_setting name settings
 has_row_is name [] = refl
 has_row_is name (s ∷ settings) = ap (λ (b : Bool). bytes_eq s.name name || b) (has_row_is name settings)
 
@@ -136,7 +136,7 @@ flag_used name rows none =
     ap (with_values name AsWritten CommandLine (codes "true" ∷ [])) (nothing_goes name rows none)
     ∙ row_missing name (more_values CommandLine (codes "true" ∷ [])) (row_for (alone name) ∷ []) rows none
 
-pub value_used : (name value : Text) (rows : List Row) → has_row name rows ≡ false → used (argument (valued name)) (value ∷ []) rows ≡ rows ++ row_for (with_value name value) ∷ []
+pub value_used : (name value : Text) (rows : List Row) → has_row name rows ≡ false → used (argument (word_with_value name)) (value ∷ []) rows ≡ rows ++ row_for (with_value name value) ∷ []
 value_used name value rows none =
     ap (with_values name AsWritten CommandLine (value ∷ [])) (nothing_goes name rows none)
     ∙ row_missing name (more_values CommandLine (value ∷ [])) (row_for (with_value name value) ∷ []) rows none
@@ -170,10 +170,10 @@ flag_none name rows e = by (has_row name rows) refl e where
   by true is e = absurd (no_kinds kind.ArgumentConflict [] e)
   by false is e = is
 
-pub value_free : (name value : Text) (rows : List Row) → has_row name rows ≡ false → nat_lt 0 (length value) ≡ true → use_fault false (argument (valued name)) (value ∷ []) rows ≡ []
+pub value_free : (name value : Text) (rows : List Row) → has_row name rows ≡ false → nat_lt 0 (length value) ≡ true → use_fault false (argument (word_with_value name)) (value ∷ []) rows ≡ []
 value_free name value rows none filled = ap₂ valued_fault none filled
 
-pub value_none : (name value : Text) (rows : List Row) → use_fault false (argument (valued name)) (value ∷ []) rows ≡ [] → (has_row name rows ≡ false) × (nat_lt 0 (length value) ≡ true)
+pub value_none : (name value : Text) (rows : List Row) → use_fault false (argument (word_with_value name)) (value ∷ []) rows ≡ [] → (has_row name rows ≡ false) × (nat_lt 0 (length value) ≡ true)
 value_none name value rows e = by (has_row name rows) refl (nat_lt 0 (length value)) refl e where
   by : (b : Bool) → has_row name rows ≡ b → (filled : Bool) → nat_lt 0 (length value) ≡ filled → valued_fault b filled ≡ [] → (has_row name rows ≡ false) × (nat_lt 0 (length value) ≡ true)
   by true is filled whole e = absurd (no_kinds kind.ArgumentConflict [] e)
@@ -181,7 +181,7 @@ value_none name value rows e = by (has_row name rows) refl (nat_lt 0 (length val
   by false is false whole e = absurd (no_kinds kind.InvalidValue [] e)
 
 -- a value that is missing is a fault
-pub value_missing : (name : Text) (rows : List Row) → use_fault false (argument (valued name)) [] rows ≡ [] → ⊥
+pub value_missing : (name : Text) (rows : List Row) → use_fault false (argument (word_with_value name)) [] rows ≡ [] → ⊥
 value_missing name rows e = no_kinds kind.InvalidValue [] e
 
 -- ---- what is held between two words
@@ -201,17 +201,17 @@ so_far done (Some p) = done ++ with_value p.0 p.1 ∷ []
 -- the name that waits is a word with a value
 abbrev pub MayWait : List Word → Option (Text × Text) → Type 0
 MayWait words None = Unit {0}
-MayWait words (Some p) = word_of words p.0 ≡ Some (valued p.0)
+MayWait words (Some p) = word_of words p.0 ≡ Some (word_with_value p.0)
 
 module _ (words : List Word) where
   -- the fault and the rows of what waits, by the argument of its name
   abbrev fault_by : Text → List Row → Option Rule → Kinds
   fault_by value rows found = option_map_or (λ a. use_fault false a (value ∷ []) rows) found []
 
-  found_id : (name : Text) → word_of words name ≡ Some (valued name) → arg_by_id (arguments words) name ≡ Some (argument (valued name))
+  found_id : (name : Text) → word_of words name ≡ Some (word_with_value name) → arg_by_id (arguments words) name ≡ Some (argument (word_with_value name))
   found_id name found = id_is words name ∙ ap (option_map argument) found
 
-  rows_settled : (done : List Setting) (name value : Text) → word_of words name ≡ Some (valued name) → has_row name (map row_for done) ≡ false
+  rows_settled : (done : List Setting) (name value : Text) → word_of words name ≡ Some (word_with_value name) → has_row name (map row_for done) ≡ false
       → settled_rows (arguments words) (Some (name, value ∷ [])) (map row_for done) ≡ map row_for (done ++ with_value name value ∷ [])
   rows_settled done name value found none =
       ap (λ (a : Option Rule). used_by_id a (value ∷ []) (map row_for done)) (found_id name found)
@@ -237,6 +237,6 @@ module _ (words : List Word) where
       fine_more words done (with_value p.0 p.1) fine (value_known words p.0 p.1 waits parts.1) (sym (has_row_is p.0 done) ∙ parts.0)
 
   -- a name whose value is missing can't be used
-  pub nothing_settles : (rows : List Row) (name : Text) → word_of words name ≡ Some (valued name) → settle_fault (arguments words) false (holding rows (Some (name, []))) ≡ [] → ⊥
+  pub nothing_settles : (rows : List Row) (name : Text) → word_of words name ≡ Some (word_with_value name) → settle_fault (arguments words) false (holding rows (Some (name, []))) ≡ [] → ⊥
   nothing_settles rows name found e =
       value_missing name rows (sym (ap (λ (a : Option Rule). option_map_or (λ b. use_fault false b [] rows) a []) (found_id name found)) ∙ e)

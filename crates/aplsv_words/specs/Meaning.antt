@@ -26,14 +26,14 @@ abbrev pub hyphened : Text → Text
 hyphened name = 45 ∷ 45 ∷ name
 
 -- a name and its value in one word, with `=` between them
-abbrev pub joined : Text → Text → Text
-joined name value = hyphened name ++ 61 ∷ value
+abbrev pub as_one_word : Text → Text → Text
+as_one_word name value = hyphened name ++ 61 ∷ value
 
 -- the words begin with a name and its value, and these are left: a name alone stands behind its hyphens; a value follows it in the same word, or is the next word, which then does not begin with a hyphen
 abbrev pub BeginsWith : Text → Option Text → List Text → List Text → Type 0
 BeginsWith name None words left = words ≡ hyphened name ∷ left
 BeginsWith name (Some value) words left =
-    (words ≡ joined name value ∷ left) ⊎ ((begins_with_hyphen value ≡ false) × (words ≡ hyphened name ∷ value ∷ left))
+    (words ≡ as_one_word name value ∷ left) ⊎ ((begins_with_hyphen value ≡ false) × (words ≡ hyphened name ∷ value ∷ left))
 
 -- the words are these settings, one after another
 abbrev pub Spell : List Setting → List Text → Type 0
@@ -45,20 +45,20 @@ abbrev pub is_named : Text → Setting → Bool
 is_named name setting = bytes_eq setting.name name
 
 -- one of the settings has this name
-abbrev pub is_set : Text → List Setting → Bool
-is_set name settings = list_any (is_named name) settings
+abbrev pub has_setting : Text → List Setting → Bool
+has_setting name settings = list_any (is_named name) settings
 
 -- each name stands once
-abbrev pub AreOnce : List Setting → Type 0
-AreOnce [] = Unit {0}
-AreOnce (setting ∷ settings) = (is_set setting.name settings ≡ false) × AreOnce settings
+abbrev pub NamesDiffer : List Setting → Type 0
+NamesDiffer [] = Unit {0}
+NamesDiffer (setting ∷ settings) = (has_setting setting.name settings ≡ false) × NamesDiffer settings
 
 -- a word takes a value that is not empty exactly where it takes one
-abbrev pub takes : Bool → Option Text → Bool
-takes true (Some value) = nat_lt 0 (length value)
-takes true None = false
-takes false (Some value) = false
-takes false None = true
+abbrev pub value_fits : Bool → Option Text → Bool
+value_fits true (Some value) = nat_lt 0 (length value)
+value_fits true None = false
+value_fits false (Some value) = false
+value_fits false None = true
 
 -- the word of a name among some words
 abbrev pub word_of : List Word → Text → Option Word
@@ -66,16 +66,16 @@ word_of words name = find (λ word. bytes_eq word.name name) words
 
 -- the setting is one of these words with what it takes
 abbrev pub is_known : List Word → Setting → Bool
-is_known words setting = option_map_or (λ word. takes word.takes_value setting.value) (word_of words setting.name) false
+is_known words setting = option_map_or (λ word. value_fits word.takes_value setting.value) (word_of words setting.name) false
 
 -- the settings are of these words, and each name stands once
 pub record AreFine (words : List Word) (settings : List Setting) : Type 0 where
   pub known : list_all (is_known words) settings ≡ true
-  pub once : AreOnce settings
+  pub once : NamesDiffer settings
 
 -- the value that was written for a name
-abbrev pub value_of : Text → List Setting → Option Text
-value_of name settings = option_and_then (λ setting. setting.value) (find (is_named name) settings)
+abbrev pub value_written_for : Text → List Setting → Option Text
+value_written_for name settings = option_and_then (λ setting. setting.value) (find (is_named name) settings)
 
 -- what words say: a field for each word of the table, and a value as it was written
 pub record Said : Type 0 where
@@ -98,11 +98,11 @@ said_in written = record {
 -- what settings say
 abbrev pub said_by : List Setting → Said
 said_by settings = record {
-  replay = is_set (codes "replay") settings;
-  library = value_of (codes "library") settings;
-  text = value_of (codes "text") settings;
-  clock = is_set (codes "clock") settings;
-  load = value_of (codes "load") settings;
+  replay = has_setting (codes "replay") settings;
+  library = value_written_for (codes "library") settings;
+  text = value_written_for (codes "text") settings;
+  clock = has_setting (codes "clock") settings;
+  load = value_written_for (codes "load") settings;
 }
 
 -- the words say this: they are settings of the table, in any order and each once

@@ -11,9 +11,9 @@ abbrev pub flag : List ℕ → Word
 flag name = record { name = name; takes_value = false }
 
 -- a word with a value
-abbrev pub valued : List ℕ → Word
-valued name = record { name = name; takes_value = true }
+abbrev pub word_with_value : List ℕ → Word
+word_with_value name = record { name = name; takes_value = true }
 
 -- the table: --replay, --library DIR, --text DIR, --clock, --load N
 abbrev pub table : List Word
-table = flag (codes "replay") ∷ valued (codes "library") ∷ valued (codes "text") ∷ flag (codes "clock") ∷ valued (codes "load") ∷ []
+table = flag (codes "replay") ∷ word_with_value (codes "library") ∷ word_with_value (codes "text") ∷ flag (codes "clock") ∷ word_with_value (codes "load") ∷ []

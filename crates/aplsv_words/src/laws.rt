@@ -2,7 +2,7 @@ ghost use Rattle.std.specs.Prelude.{[], ◌∷◌, Some, true, codes};
 ghost use Rattle.aplsv_words.specs.Laws.{MeanNothing, WordsHaveOneMeaning, nothing, replay_alone};
 ghost use Rattle.aplsv_words.specs.Meaning.{Means};
 
-/// Words have one meaning and no other. The call does nothing. No memory.
+/// Words have one meaning and no other. The call does nothing.
 pub fn words_have_one_meaning()
     ensures { WordsHaveOneMeaning }
 {}
@@ -10,7 +10,7 @@ pub fn words_have_one_meaning()
 /// Words at work: none; one; all, in another order and with values in both ways; a value that begins with a hyphen behind
 /// its `=`, and one that has another `=`; a load, of the most numbers too. And words that mean nothing: with a value that
 /// begins with a hyphen, is empty, or is not there; with one that is not taken, or is no count; twice; a replay beside a
-/// load; short, cut, bare, or none of the table. The call does nothing. No memory.
+/// load; short, cut, bare, or none of the table. The call does nothing.
 pub fn worked_words()
     ensures none { Means [] nothing }
     ensures replay { Means (codes "--replay" ∷ []) replay_alone }

@@ -22,7 +22,7 @@ use Rattle.sv_text.specs.ValueText.{array_text}
 use Rattle.sv_text.proofs.SameValues.{same_text}
 use Rattle.sv_text.proofs.ValueGlyphs.{array_glyphs}
 use Rattle.auxiliaries.specs.File.{most_file_bytes}
-use Rattle.aux_components.specs.File.{AreComponents, AreNoComponents, changed, file_bytes, has_component}
+use Rattle.aux_components.specs.File.{AreComponents, AreNoComponents, components_changed, file_bytes, has_component}
 
 pub printable : (array : PlainArray) → IsValue array → IsPrintableArray array
 printable array value = record {
@@ -147,7 +147,7 @@ got arrays at None item = sym (slice_get_past arrays at (ltb-false at (length ar
 got arrays at (Some array) item = sym (slice_get_read arrays (length arrays) at array.now refl (ltb-true at (length arrays) (sym item.0)) item.1)
 
 -- the components after a change are values where those before and the new one are
-pub values_changed : (number : Option ℕ) (arrays : List PlainArray) (value : PlainArray) (later : List PlainArray) → All IsValue arrays → IsValue value → changed number arrays value ≡ Some later → All IsValue later
+pub values_changed : (number : Option ℕ) (arrays : List PlainArray) (value : PlainArray) (later : List PlainArray) → All IsValue arrays → IsValue value → components_changed number arrays value ≡ Some later → All IsValue later
 values_changed None arrays value later values is change = subst (All IsValue) (same_Some (arrays ++ value ∷ []) later change) (All-push IsValue arrays value values is)
 values_changed (Some number) arrays value later values is change = by (has_component number arrays) change
   where

@@ -16,10 +16,10 @@ use Rattle.apl_io.specs.declared.store_error.StoreError.TheVariants.{Failed, Wan
 use Rattle.auxiliaries.specs.File.{most_file_bytes}
 use Rattle.auxiliaries.specs.Protocol.{code}
 use Rattle.sv_text.specs.Value.{IsValue}
-use Rattle.aux_components.specs.File.{AreComponents, AreNoComponents, asked, changed, file_bytes, has_component}
+use Rattle.aux_components.specs.File.{AreComponents, AreNoComponents, component_asked, components_changed, file_bytes, has_component}
 use Rattle.aux_components.specs.Filed.{Filed, IsAskedStep, IsChangeStep, IsDone, IsReplaced}
 use Rattle.aux_components.specs.Kept.{HasComponents, IsChanged}
-use Rattle.aux_components.specs.Protocol.{AfterAsked, AfterWritten, Due, FileState, Finds, IsDue, due_of, due_of_none, holding, idle, refuses, writes}
+use Rattle.aux_components.specs.Protocol.{AfterAsked, AfterWritten, DueChange, FileState, Finds, IsDue, due_of, due_of_none, holding, idle, refuses, writes}
 use Rattle.aux_components.proofs.FileLemmas.{same_components, values_changed}
 
 -- the number of an answer
@@ -50,16 +50,16 @@ there (Some x) P some = (x, refl, some)
 -- the bytes that are due are those of the components after the change
 record Written (number : Option ℕ) (arrays : List PlainArray) (value : PlainArray) (bytes : List ℕ) : Type 0 where
   later : List PlainArray
-  change : changed number arrays value ≡ Some later
+  change : components_changed number arrays value ≡ Some later
   whole : bytes ≡ file_bytes later
   small : length bytes ≤ most_file_bytes
 
 -- what is due after a file of these components was read: it is refused by a number that is not 0, or these bytes are written
-abbrev IsDueOf : Option ℕ → List PlainArray → PlainArray → Due → Type 0
+abbrev IsDueOf : Option ℕ → List PlainArray → PlainArray → DueChange → Type 0
 IsDueOf number arrays value (refuses reason) = reason ≢ 0
 IsDueOf number arrays value (writes bytes) = Written number arrays value bytes
 
-due_is : (number : Option ℕ) (arrays : List PlainArray) (value : PlainArray) (all : Option (List PlainArray)) → changed number arrays value ≡ all → IsDueOf number arrays value (due_of all)
+due_is : (number : Option ℕ) (arrays : List PlainArray) (value : PlainArray) (all : Option (List PlainArray)) → components_changed number arrays value ≡ all → IsDueOf number arrays value (due_of all)
 due_is number arrays value None is = λ same. omega (arith, same)
 due_is number arrays value (Some later) is = by (leb (length (file_bytes later)) most_file_bytes) refl
   where
@@ -67,16 +67,16 @@ due_is number arrays value (Some later) is = by (leb (length (file_bytes later))
     by true fits = record { later = later; change = is; whole = refl; small = leb-true (length (file_bytes later)) most_file_bytes fits }
     by false past = λ same. omega (arith, same)
 
-due_so : (number : Option ℕ) (arrays : List PlainArray) (value : PlainArray) (due : Due) → due ≡ due_of (changed number arrays value) → IsDueOf number arrays value due
-due_so number arrays value due is = subst (IsDueOf number arrays value) (sym is) (due_is number arrays value (changed number arrays value) refl)
+due_so : (number : Option ℕ) (arrays : List PlainArray) (value : PlainArray) (due : DueChange) → due ≡ due_of (components_changed number arrays value) → IsDueOf number arrays value due
+due_so number arrays value due is = subst (IsDueOf number arrays value) (sym is) (due_is number arrays value (components_changed number arrays value) refl)
 
-due_after_read : (number : Option ℕ) (arrays : List PlainArray) (value : PlainArray) (entry : Option (Option (List ℕ))) (reply : Result (Option (List ℕ)) StoreError) (due : Due)
+due_after_read : (number : Option ℕ) (arrays : List PlainArray) (value : PlainArray) (entry : Option (Option (List ℕ))) (reply : Result (Option (List ℕ)) StoreError) (due : DueChange)
     → HasComponents entry arrays → IfOk reply (MayRead entry) → IsDue number value reply due → IsDueOf number arrays value due
 due_after_read number arrays value (Some None) reply due has may is = absurd has
 due_after_read number arrays value entry (Err Failed) due has may is = subst (IsDueOf number arrays value) (sym is) (λ same. omega (arith, same))
 due_after_read number arrays value entry (Err WantOfMemory) due has may is = absurd is
 due_after_read None arrays value None (Ok None) due has may is =
-    due_so None arrays value due (is ∙ ap (λ (before : List PlainArray). due_of (changed None before value)) (sym has))
+    due_so None arrays value due (is ∙ ap (λ (before : List PlainArray). due_of (components_changed None before value)) (sym has))
 due_after_read (Some number) arrays value None (Ok None) due has may is = subst (IsDueOf (Some number) arrays value) (sym is) (λ same. omega (arith, same))
 due_after_read number arrays value None (Ok (Some bytes)) due has may is = absurd (cc)
 due_after_read number arrays value (Some (Some kept)) (Ok None) due has may is = absurd (cc)
@@ -84,7 +84,7 @@ due_after_read number arrays value (Some (Some kept)) (Ok (Some bytes)) due has 
     let same : bytes ≡ kept = cc in
     let are : AreComponents bytes arrays = subst (λ (b : List ℕ). AreComponents b arrays) (sym same) has in
     ⊎_elim
-    (λ found. due_so number arrays value due (found.2 ∙ ap (λ (all : List PlainArray). due_of (changed number all value)) (same_components bytes found.0 arrays found.1 are)))
+    (λ found. due_so number arrays value due (found.2 ∙ ap (λ (all : List PlainArray). due_of (components_changed number all value)) (same_components bytes found.0 arrays found.1 are)))
     (λ none. absurd (none.0 arrays are))
     is
 
@@ -121,7 +121,7 @@ module _ {T : Type 0} (told : T → Option (Told (List ℕ))) (faults : T → �
       let read = after_read old step.between name step.reply before is_before step.told_reply in
       by step.due (due_after_read number arrays value (entry_of name_order before name) step.reply step.due has read.2.answered step.is_due) step.done read.0 read.1 (λ file. ap (λ (t : Told (List ℕ)). entry_of name_order t file) read.2.after)
     where
-      by : (due : Due) → IsDueOf number arrays value due → IsDone told faults due step.between name (code 0) new → (middle : Told (List ℕ)) → told step.between ≡ Some middle
+      by : (due : DueChange) → IsDueOf number arrays value due → IsDone told faults due step.between name (code 0) new → (middle : Told (List ℕ)) → told step.between ≡ Some middle
           → ((file : List ℕ) → entry_of name_order middle file ≡ entry_of name_order before file) → IsChanged before after name number arrays value
       by (refuses reason) so done middle is_middle kept = absurd (so (sym (same_code 0 reason done.0)))
       by (writes bytes) so done middle is_middle kept =
@@ -131,7 +131,7 @@ module _ {T : Type 0} (told : T → Option (Told (List ℕ))) (faults : T → �
 
   pub question_told : (old new : Filed T) (name : List ℕ) (number : Option ℕ) (arrays : List PlainArray) (before after : Told (List ℕ)) → IsAskedStep told faults old name number (code 0) new
       → told old.store ≡ Some before → told new.store ≡ Some after → HasComponents (entry_of name_order before name) arrays
-      → (array : PlainArray) × (asked number arrays ≡ Some array) × (new.state ≡ holding array) × ((file : List ℕ) → entry_of name_order after file ≡ entry_of name_order before file)
+      → (array : PlainArray) × (component_asked number arrays ≡ Some array) × (new.state ≡ holding array) × ((file : List ℕ) → entry_of name_order after file ≡ entry_of name_order before file)
   question_told old new name number arrays before after step is_before is_after has =
       let read = after_read old.store new.store name step.reply before is_before step.told_reply in
       let same : read.0 ≡ after = cc (read.1, is_after) in
@@ -143,7 +143,7 @@ module _ {T : Type 0} (told : T → Option (Told (List ℕ))) (faults : T → �
       finds (Some array) some = (array, refl, some.1)
 
       by : (reply : Result (Option (List ℕ)) StoreError) (entry : Option (Option (List ℕ))) → HasComponents entry arrays → IfOk reply (MayRead entry) → AfterAsked number reply (code 0) new.state
-          → (array : PlainArray) × (asked number arrays ≡ Some array) × (new.state ≡ holding array)
+          → (array : PlainArray) × (component_asked number arrays ≡ Some array) × (new.state ≡ holding array)
       by reply (Some None) none may after = absurd none
       by (Err Failed) entry has may after = absurd (omega (arith, same_code 0 3 after.0))
       by (Err WantOfMemory) entry has may after = absurd after
@@ -154,6 +154,6 @@ module _ {T : Type 0} (told : T → Option (Told (List ℕ))) (faults : T → �
           let same : bytes ≡ kept = cc in
           let are : AreComponents bytes arrays = subst (λ (b : List ℕ). AreComponents b arrays) (sym same) has in
           ⊎_elim
-          (λ found. finds (asked number arrays) (subst (λ (all : List PlainArray). Finds (asked number all) (code 0) new.state) (same_components bytes found.0 arrays found.1 are) found.2))
+          (λ found. finds (component_asked number arrays) (subst (λ (all : List PlainArray). Finds (component_asked number all) (code 0) new.state) (same_components bytes found.0 arrays found.1 are) found.2))
           (λ none. absurd (none.0 arrays are))
           after

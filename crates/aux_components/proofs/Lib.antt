@@ -1,3 +1,3 @@
-mod CommandLemmas
+mod RequestLemmas
 mod FileLemmas
 mod KeptLemmas

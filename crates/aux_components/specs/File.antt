@@ -25,15 +25,15 @@ abbrev pub component : ℕ → List PlainArray → Option PlainArray
 component number arrays = if number == 0 then None else slice_get arrays (number - 1)
 
 -- what is asked of a file: the component of a number, or without a number how many there are
-abbrev pub asked : Option ℕ → List PlainArray → Option PlainArray
-asked None arrays = Some (scalar (pos (length arrays)))
-asked (Some number) arrays = component number arrays
+abbrev pub component_asked : Option ℕ → List PlainArray → Option PlainArray
+component_asked None arrays = Some (scalar (pos (length arrays)))
+component_asked (Some number) arrays = component number arrays
 
 -- whether there is a component of a number
 abbrev pub has_component : ℕ → List PlainArray → Bool
 has_component number arrays = nat_lt 0 number && nat_le number (length arrays)
 
 -- the components with one change: an array comes in the place of the one of a number, where there is one, or without a number it goes last
-abbrev pub changed : Option ℕ → List PlainArray → PlainArray → Option (List PlainArray)
-changed None arrays value = Some (arrays ++ value ∷ [])
-changed (Some number) arrays value = if has_component number arrays then Some (take (number - 1) arrays ++ value ∷ drop number arrays) else None
+abbrev pub components_changed : Option ℕ → List PlainArray → PlainArray → Option (List PlainArray)
+components_changed None arrays value = Some (arrays ++ value ∷ [])
+components_changed (Some number) arrays value = if has_component number arrays then Some (take (number - 1) arrays ++ value ∷ drop number arrays) else None

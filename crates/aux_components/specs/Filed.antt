@@ -6,7 +6,7 @@ use Rattle.apl_io.specs.Content.{Told, entry_of, Reads, Writes}
 use Rattle.apl_io.specs.declared.store_error.StoreError.{StoreError}
 use Rattle.auxiliaries.specs.Protocol.{code}
 use Rattle.auxiliaries.specs.Served.{CountsFaults}
-use Rattle.aux_components.specs.Protocol.{FileState, idle, Step, answers, asks, changes, step, AfterAsked, Due, refuses, writes, IsDue, AfterWritten}
+use Rattle.aux_components.specs.Protocol.{FileState, idle, Step, answers, asks, changes, protocol_step, AfterAsked, DueChange, refuses, writes, IsDue, AfterWritten}
 
 -- a store, and where the protocol over it stands
 pub record Filed (T : Type 0) : Type 0 where
@@ -29,7 +29,7 @@ module _ {T : Type 0} (told : T → Option (Told (List ℕ))) (faults : T → �
     pub after : AfterWritten reply answer
 
   -- what is due is done
-  abbrev pub IsDone : Due → T → List ℕ → PlainArray → T → Type 0
+  abbrev pub IsDone : DueChange → T → List ℕ → PlainArray → T → Type 0
   IsDone (refuses number) before name answer now = (answer ≡ code number) × (now ≡ before)
   IsDone (writes bytes) before name answer now = IsReplaced before name bytes answer now
 
@@ -39,7 +39,7 @@ module _ {T : Type 0} (told : T → Option (Told (List ℕ))) (faults : T → �
     pub reply : Result (Option (List ℕ)) StoreError
     pub told_reply : Reads name_order (told old) name reply (told between)
     pub fault : CountsFaults (faults old) (faults between) reply
-    pub due : Due
+    pub due : DueChange
     pub is_due : IsDue number value reply due
     pub done : IsDone due between name answer new
 
@@ -51,7 +51,7 @@ module _ {T : Type 0} (told : T → Option (Told (List ℕ))) (faults : T → �
 
   -- the answer to a value
   abbrev pub Replies : Filed T → PlainArray → PlainArray → Filed T → Type 0
-  Replies old value answer new = Takes (step value old.state) old answer new
+  Replies old value answer new = Takes (protocol_step value old.state) old answer new
 
 -- the protocol begins anew
 abbrev pub forgotten : {T : Type 0} → Filed T → Filed T

@@ -1,4 +1,4 @@
-pub mod Command
+pub mod Request
 pub mod File
 pub mod Filed
 pub mod Kept

@@ -7,11 +7,11 @@ use apl_arrays::Array;
 /// The answers that are numbers.
 #[derive(Clone, Copy, Debug, PartialEq, Eq)]
 pub(crate) enum Code {
-    /// The command is done.
+    /// The request is done.
     Done,
     /// There is no such file.
     Missing,
-    /// It is no command in this state.
+    /// It is no request in this state.
     Refused,
     /// The store failed.
     Fault,
@@ -22,7 +22,7 @@ pub(crate) enum Code {
 }
 
 impl Code {
-    /// Its number as an answer. No memory.
+    /// Its number as an answer.
     pub(crate) fn answer(self) -> Array
         ensures { result ≡ code (code_number self) }
     {

@@ -1,15 +1,15 @@
 ghost use Rattle.std.specs.Prelude.{◌≡◌, ◌≤◌, IfOk, OnErr};
 ghost use Rattle.std.specs.String.{string_bytes};
 ghost use Rattle.auxiliaries.specs.Protocol.{code};
-ghost use Rattle.aux_components.specs.Command.{command_of};
+ghost use Rattle.aux_components.specs.Request.{request_of};
 ghost use Rattle.aux_components.specs.Filed.{IsAskedStep, IsChangeStep, IsReplaced, KeepsFiles, Replies, Takes, forgotten};
 ghost use Rattle.aux_components.specs.Plain.{code_number};
-ghost use Rattle.aux_components.specs.Protocol.{command_step, step_ask, step_next, step_take, taking};
+ghost use Rattle.aux_components.specs.Protocol.{request_step, step_ask, step_next, step_take, taking};
 
 use crate::code::Code;
-use crate::command::{Command, command_of};
-use crate::due::{Due, what_is_due};
+use crate::due::{DueChange, what_is_due};
 use crate::found::found;
+use crate::request::{Request, request_of};
 use crate::state::FileState;
 use apl_arrays::{Array, Glyph, WantOfMemory};
 use apl_io::{StoreError, TextStore};
@@ -39,7 +39,7 @@ impl<T> Model for Components<T> {
 impl<T: TextStore> Components<T> {
     ghost use Rattle.aux_components.specs.Protocol.{idle};
 
-    /// Component files in this store, between commands. No memory.
+    /// Component files in this store, between requests.
     pub fn new(alloc: Global, store: T) -> Self
         ensures { result ≡ record { store = store; state = idle } }
     {
@@ -50,14 +50,14 @@ impl<T: TextStore> Components<T> {
         }
     }
 
-    /// Begins anew, between commands. No memory.
+    /// Begins anew, between requests.
     pub fn forget(&mut self)
         ensures { self.new ≡ forgotten self.old }
     {
         self.state = FileState::Idle;
     }
 
-    /// Its store. No memory.
+    /// Its store.
     pub fn into_store(self) -> T
         ensures { result ≡ self.store }
     {
@@ -65,8 +65,8 @@ impl<T: TextStore> Components<T> {
     }
 
     /// The answer to a value. An array that a file waits for may be any: the file is read, and then replaced where a change
-    /// is due. Every other value is a command where it is a character vector: `COUNT name` and `GET name K` ask the store
-    /// for the file once, no other command calls it. It takes memory for the answer, for the components of the file and for
+    /// is due. Every other value is a request where it is a character vector: `COUNT name` and `GET name K` ask the store
+    /// for the file once, no other request calls it. It takes memory for the answer, for the components of the file and for
     /// its bytes after a change. `WantOfMemory` leaves the protocol where it stood, and the files.
     pub fn reply(&mut self, value: &Array) -> Result<Array, WantOfMemory>
         ensures ok { IfOk result (λ answer. Replies T.told T.faults self.old value.now answer self.new) }
@@ -84,18 +84,18 @@ impl<T: TextStore> Components<T> {
 
     // The answer to a value, where no file waits for an array.
     fn obey(&mut self, value: &Array) -> Result<Array, WantOfMemory>
-        ensures ok { IfOk result (λ answer. Takes T.told T.faults (command_step (command_of value.now) self.old.state) self.old answer self.new) }
+        ensures ok { IfOk result (λ answer. Takes T.told T.faults (request_step (request_of value.now) self.old.state) self.old answer self.new) }
         ensures state { OnErr result (self.new.state ≡ self.old.state) }
         ensures files { OnErr result (KeepsFiles (T.told self.old.store) (T.told self.new.store)) }
         ensures counted { T.faults self.old.store ≤ T.faults self.new.store }
     {
-        match command_of(value) {
-            Command::Count(name) => self.ask(name, None),
-            Command::Get(name, number) => self.ask(name, Some(number)),
-            Command::Next => Ok(self.next()),
-            Command::Append(name) => self.wait(name, None),
-            Command::Replace(name, number) => self.wait(name, Some(number)),
-            Command::Other => Ok(Code::Refused.answer()),
+        match request_of(value) {
+            Request::Count(name) => self.ask(name, None),
+            Request::Get(name, number) => self.ask(name, Some(number)),
+            Request::Next => Ok(self.next()),
+            Request::Append(name) => self.wait(name, None),
+            Request::Replace(name, number) => self.wait(name, Some(number)),
+            Request::Other => Ok(Code::Refused.answer()),
         }
     }
 
@@ -172,8 +172,8 @@ fn change<T: TextStore>(
     ensures counted { T.faults store.old ≤ T.faults store.new }
 {
     match what_is_due(alloc, store.read(name), number, value)? {
-        Due::Refusal(code) => Ok(code),
-        Due::Bytes(bytes) => replace(store, name, &bytes),
+        DueChange::Refusal(code) => Ok(code),
+        DueChange::Bytes(bytes) => replace(store, name, &bytes),
     }
 }
 

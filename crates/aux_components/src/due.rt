@@ -2,7 +2,7 @@ ghost use Rattle.std.specs.Prelude.{◌≡◌, ◌⊎◌, List, IfOk, length, na
 ghost use Rattle.apl_arrays.specs.Array.{PlainArray};
 ghost use Rattle.apl_io.specs.Replies.{plain_read};
 ghost use Rattle.auxiliaries.specs.File.{most_file_bytes};
-ghost use Rattle.aux_components.specs.File.{AreComponents, AreNoComponents, changed};
+ghost use Rattle.aux_components.specs.File.{AreComponents, AreNoComponents, components_changed};
 ghost use Rattle.aux_components.specs.Plain.{plain_due};
 ghost use Rattle.aux_components.specs.Protocol.{IsDue, due_of, due_of_none, refuses, writes};
 
@@ -14,7 +14,7 @@ use std::alloc::Global;
 
 /// What is due of a file that is to be changed, once it was read.
 #[derive(Debug, Drop)]
-pub(crate) enum Due {
+pub(crate) enum DueChange {
     /// The change is refused.
     Refusal(Code),
     /// The file is replaced by these bytes.
@@ -28,13 +28,13 @@ pub(crate) fn what_is_due(
     reply: Result<Option<FileBytes>, StoreError>,
     number: Option<u32>,
     value: &Array,
-) -> Result<Due, WantOfMemory>
+) -> Result<DueChange, WantOfMemory>
     ensures { IfOk result (λ due. IsDue number value.now (plain_read reply) (plain_due due)) }
 {
     match reply {
         Ok(Some(bytes)) => due_of_file(alloc, bytes.as_slice(), number, value),
         Ok(None) => due_of_none(alloc, number, value),
-        Err(StoreError::Failed) => Ok(Due::Refusal(Code::Fault)),
+        Err(StoreError::Failed) => Ok(DueChange::Refusal(Code::Fault)),
         Err(StoreError::WantOfMemory) => Err(WantOfMemory),
     }
 }
@@ -45,23 +45,23 @@ fn due_of_file(
     bytes: &[u8],
     number: Option<u32>,
     value: &Array,
-) -> Result<Due, WantOfMemory>
-    ensures { IfOk result (λ due. ((arrays : List PlainArray) × AreComponents bytes.now arrays × (plain_due due ≡ due_of (changed number arrays value.now)))
+) -> Result<DueChange, WantOfMemory>
+    ensures { IfOk result (λ due. ((arrays : List PlainArray) × AreComponents bytes.now arrays × (plain_due due ≡ due_of (components_changed number arrays value.now)))
         ⊎ (AreNoComponents bytes.now × (plain_due due ≡ refuses 4))) }
 {
     match components_of(alloc, bytes)? {
         Some(arrays) => due_of(alloc, &arrays, number, value),
-        None => Ok(Due::Refusal(Code::NoFile)),
+        None => Ok(DueChange::Refusal(Code::NoFile)),
     }
 }
 
 // What is due where there is no file.
-fn due_of_none(alloc: Global, number: Option<u32>, value: &Array) -> Result<Due, WantOfMemory>
+fn due_of_none(alloc: Global, number: Option<u32>, value: &Array) -> Result<DueChange, WantOfMemory>
     ensures { IfOk result (λ due. plain_due due ≡ due_of_none number value.now) }
 {
     match number {
         None => due_of(alloc, &[], None, value),
-        Some(_) => Ok(Due::Refusal(Code::Missing)),
+        Some(_) => Ok(DueChange::Refusal(Code::Missing)),
     }
 }
 
@@ -71,22 +71,22 @@ fn due_of(
     arrays: &[Array],
     number: Option<u32>,
     value: &Array,
-) -> Result<Due, WantOfMemory>
-    ensures { IfOk result (λ due. plain_due due ≡ due_of (changed number arrays.now value.now)) }
+) -> Result<DueChange, WantOfMemory>
+    ensures { IfOk result (λ due. plain_due due ≡ due_of (components_changed number arrays.now value.now)) }
 {
     match changed_bytes(alloc, arrays, number, value)? {
         Some(bytes) => Ok(within_limit(bytes)),
-        None => Ok(Due::Refusal(Code::NoComponent)),
+        None => Ok(DueChange::Refusal(Code::NoComponent)),
     }
 }
 
 // What is due of bytes: they are written, unless they are too many.
-fn within_limit(bytes: Vec<u8>) -> Due
+fn within_limit(bytes: Vec<u8>) -> DueChange
     ensures { plain_due result ≡ (if nat_le (length bytes.items) most_file_bytes then writes bytes.items else refuses 4) }
 {
     if bytes.len() <= FILE_LIMIT {
-        Due::Bytes(bytes)
+        DueChange::Bytes(bytes)
     } else {
-        Due::Refusal(Code::NoFile)
+        DueChange::Refusal(Code::NoFile)
     }
 }

@@ -5,7 +5,7 @@ ghost use Rattle.apl_arrays.specs.Glyph.{line_utf8};
 ghost use Rattle.line_text.specs.Lines.{line_text};
 ghost use Rattle.sv_text.specs.Value.{IsValue};
 ghost use Rattle.sv_text.specs.ValueText.{array_text};
-ghost use Rattle.aux_components.specs.File.{AreComponents, AreNoComponents, changed, component, file_bytes};
+ghost use Rattle.aux_components.specs.File.{AreComponents, AreNoComponents, components_changed, component, file_bytes};
 
 use apl_arrays::{Array, GlyphRefused, Line, WantOfMemory, glyphs_of};
 use line_text::{add_line, first_line};
@@ -64,7 +64,7 @@ fn array_in(alloc: Global, line: &Line) -> Result<Option<Array>, WantOfMemory>
     }
 }
 
-/// The component of a number, from 1, where there is one. No memory.
+/// The component of a number, from 1, where there is one.
 pub(crate) fn component(arrays: &[Array], number: u32) -> Option<&Array>
     ensures { option_copied result ≡ component number arrays.now }
 {
@@ -83,8 +83,8 @@ pub(crate) fn changed_bytes(
     number: Option<u32>,
     value: &Array,
 ) -> Result<Option<Vec<u8>>, WantOfMemory>
-    ensures { IfOk result (λ found. MatchOption found (changed number arrays.now value.now ≡ None)
-        (λ bytes. (all : List PlainArray) × (changed number arrays.now value.now ≡ Some all) × (bytes.items ≡ file_bytes all))) }
+    ensures { IfOk result (λ found. MatchOption found (components_changed number arrays.now value.now ≡ None)
+        (λ bytes. (all : List PlainArray) × (components_changed number arrays.now value.now ≡ Some all) × (bytes.items ≡ file_bytes all))) }
 {
     match number {
         None => Ok(Some(bytes_around(alloc, arrays, value, &[])?)),
@@ -99,8 +99,8 @@ fn replaced_bytes(
     number: usize,
     value: &Array,
 ) -> Result<Option<Vec<u8>>, WantOfMemory>
-    ensures { IfOk result (λ found. MatchOption found (changed (Some number) arrays.now value.now ≡ None)
-        (λ bytes. (all : List PlainArray) × (changed (Some number) arrays.now value.now ≡ Some all) × (bytes.items ≡ file_bytes all))) }
+    ensures { IfOk result (λ found. MatchOption found (components_changed (Some number) arrays.now value.now ≡ None)
+        (λ bytes. (all : List PlainArray) × (components_changed (Some number) arrays.now value.now ≡ Some all) × (bytes.items ≡ file_bytes all))) }
 {
     if number == 0 || number > arrays.len() {
         return Ok(None);

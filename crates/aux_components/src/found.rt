@@ -3,7 +3,7 @@ ghost use Rattle.std.specs.Option.{option_copied};
 ghost use Rattle.apl_arrays.specs.Array.{PlainArray};
 ghost use Rattle.apl_io.specs.Replies.{plain_read};
 ghost use Rattle.auxiliaries.specs.Protocol.{code};
-ghost use Rattle.aux_components.specs.File.{AreComponents, AreNoComponents, asked};
+ghost use Rattle.aux_components.specs.File.{AreComponents, AreNoComponents, component_asked};
 ghost use Rattle.aux_components.specs.Plain.{code_number, plain_state};
 ghost use Rattle.aux_components.specs.Protocol.{AfterAsked, Finds, idle};
 
@@ -37,7 +37,7 @@ fn found_in_file(
     bytes: &[u8],
     number: Option<u32>,
 ) -> Result<(Code, FileState), WantOfMemory>
-    ensures { IfOk result (λ next. ((arrays : List PlainArray) × AreComponents bytes.now arrays × Finds (asked number arrays) (code (code_number next.0)) (plain_state next.1))
+    ensures { IfOk result (λ next. ((arrays : List PlainArray) × AreComponents bytes.now arrays × Finds (component_asked number arrays) (code (code_number next.0)) (plain_state next.1))
         ⊎ (AreNoComponents bytes.now × (code (code_number next.0) ≡ code 4) × (plain_state next.1 ≡ idle))) }
 {
     match components_of(alloc, bytes)? {
@@ -52,7 +52,7 @@ fn found_among(
     arrays: &[Array],
     number: Option<u32>,
 ) -> Result<(Code, FileState), WantOfMemory>
-    ensures { IfOk result (λ next. Finds (asked number arrays.now) (code (code_number next.0)) (plain_state next.1)) }
+    ensures { IfOk result (λ next. Finds (component_asked number arrays.now) (code (code_number next.0)) (plain_state next.1)) }
 {
     match number {
         None => Ok((

@@ -3,16 +3,16 @@
 #![tactic(auto)]
 
 mod code;
-mod command;
 mod components;
 mod due;
 mod file;
 mod found;
 mod laws;
+mod request;
 mod state;
 
 pub use components::Components;
 pub use laws::{
-    changes_are_kept, commands_as_written, components_are_told, files_are_read_in_one_way,
+    changes_are_kept, components_are_told, files_are_read_in_one_way, requests_as_written,
     session_as_worked,
 };

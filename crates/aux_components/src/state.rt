@@ -3,7 +3,7 @@ use apl_arrays::Array;
 /// Where the protocol of component files stands.
 #[derive(Debug, Drop)]
 pub(crate) enum FileState {
-    /// Between commands.
+    /// Between requests.
     Idle,
     /// This array is handed out next.
     Holding(Array),

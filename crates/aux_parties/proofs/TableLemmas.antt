@@ -5,7 +5,7 @@ use Rattle.std.specs.List.{AllByRecursion, list_all}
 use Rattle.std.proofs.lemmas.Bool.{and_from, and_parts, cases_Bool, eqb-true, ltb-true, ne_eqb, or_cases, or_from}
 use Rattle.std.proofs.lemmas.Option.{none-some, same_Some}
 use Rattle.apl_arrays.specs.Parties.{clock_party, first_user, text_party}
-use Rattle.aux_parties.specs.Auxiliaries.{auxiliaries, auxiliary_at, has_row, is_auxiliary, most_counters, party_of, row_among, row_of}
+use Rattle.aux_parties.specs.Auxiliaries.{auxiliaries, auxiliary_at, has_row, is_auxiliary, most_counters, party_of, row_among, auxiliary_row}
 use Rattle.aux_parties.specs.declared.auxiliary.AuxiliaryKind.{AuxiliaryKind}
 use Rattle.aux_parties.specs.declared.auxiliary.AuxiliaryKind.TheVariants.{Clock, TextFiles}
 use Rattle.aux_parties.specs.declared.auxiliary.AuxiliaryRow.{AuxiliaryRow}
@@ -79,7 +79,7 @@ kinds_differ TextFiles Clock differ same = let no : text_party ≡ clock_party =
 kinds_differ TextFiles TextFiles differ same = differ refl
 
 -- as many counter-offers may stand as the row says
-pub rows_allow : (kind : AuxiliaryKind) → most_counters (party_of kind) ≡ (row_of kind).counters
+pub rows_allow : (kind : AuxiliaryKind) → most_counters (party_of kind) ≡ (auxiliary_row kind).counters
 rows_allow Clock = refl
 rows_allow TextFiles = refl
 

@@ -9,17 +9,17 @@ use Rattle.aux_parties.specs.declared.auxiliary.AuxiliaryKind.TheVariants.{Clock
 use Rattle.aux_parties.specs.declared.auxiliary.AuxiliaryRow.{AuxiliaryRow}
 
 -- the table: what an auxiliary is, its number, and how many of its counter-offers may stand
-abbrev pub row_of : AuxiliaryKind → AuxiliaryRow
-row_of Clock = record { kind = Clock; party = clock_party; counters = most_offers }
-row_of TextFiles = record { kind = TextFiles; party = text_party; counters = 1 }
+abbrev pub auxiliary_row : AuxiliaryKind → AuxiliaryRow
+auxiliary_row Clock = record { kind = Clock; party = clock_party; counters = most_offers }
+auxiliary_row TextFiles = record { kind = TextFiles; party = text_party; counters = 1 }
 
 -- its rows, in the order in which they have their turns
 abbrev pub auxiliaries : List AuxiliaryRow
-auxiliaries = row_of Clock ∷ row_of TextFiles ∷ []
+auxiliaries = auxiliary_row Clock ∷ auxiliary_row TextFiles ∷ []
 
 -- the number of an auxiliary
 abbrev pub party_of : AuxiliaryKind → ℕ
-party_of kind = (row_of kind).party
+party_of kind = (auxiliary_row kind).party
 
 -- one of these rows is the party's
 abbrev pub has_row : List AuxiliaryRow → ℕ → Bool

@@ -54,21 +54,21 @@ fn row_among(rows: &[AuxiliaryRow], party: u32) -> Option<AuxiliaryRow>
     rows.iter().find(|row| row.party == party).copied()
 }
 
-/// The row of a party, if it is an auxiliary. No memory.
+/// The row of a party, if it is an auxiliary.
 pub fn auxiliary_at(party: u32) -> Option<AuxiliaryRow>
     ensures { result ≡ auxiliary_at party }
 {
     row_among(&AUXILIARIES, party)
 }
 
-/// Whether the party is an auxiliary: the table has a row for it. No memory.
+/// Whether the party is an auxiliary: the table has a row for it.
 pub fn is_auxiliary(party: u32) -> bool
     ensures { result ≡ is_auxiliary party }
 {
     has_row(&AUXILIARIES, party)
 }
 
-/// How many of its counter-offers may stand, where the party is an auxiliary, and none of another. No memory.
+/// How many of its counter-offers may stand, where the party is an auxiliary, and none of another.
 pub fn most_counters(party: u32) -> usize
     ensures { result ≡ most_counters party }
 {
@@ -79,7 +79,7 @@ pub fn most_counters(party: u32) -> usize
 }
 
 /// The auxiliary parties are 10, of which as many counter-offers may stand as a party may have offers, and 20, of which one
-/// may; and the table of the code is that of the definitions. The call does nothing. No memory.
+/// may; and the table of the code is that of the definitions. The call does nothing.
 pub fn auxiliaries_are_ten_and_twenty()
     ensures table { AUXILIARIES ≡ auxiliaries }
     ensures parties { (party : ℕ) → IsTrue (is_auxiliary party) ↔ ((party ≡ 10) ⊎ (party ≡ 20)) }

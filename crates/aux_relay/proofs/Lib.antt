@@ -1,4 +1,4 @@
-mod CommandLemmas
+mod RequestLemmas
 mod HistoryLemmas
 mod QueueLemmas
 mod SenderLemmas

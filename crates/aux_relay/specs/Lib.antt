@@ -1,5 +1,5 @@
 pub mod Changes
-pub mod Command
+pub mod Request
 pub mod History
 pub mod Plain
 pub mod Queues

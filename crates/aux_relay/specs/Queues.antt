@@ -5,8 +5,8 @@ use Rattle.std.specs.Map.{lookup, values_of}
 use Rattle.apl_arrays.specs.Array.{PlainArray}
 use Rattle.apl_arrays.specs.Limits.{most_elements}
 use Rattle.auxiliaries.specs.Run.{Event, began, answered}
-use Rattle.aux_relay.specs.Command.{command_of}
-use Rattle.aux_relay.specs.History.{Reply, IsAnswerTo, given, taken, is_given, is_taken, most_texts}
+use Rattle.aux_relay.specs.Request.{request_of}
+use Rattle.aux_relay.specs.History.{Reply, IsAnswerTo, texts_given, texts_taken, is_given, is_taken, most_texts}
 
 -- queues by receiver and sender
 abbrev pub Queues : Type 0
@@ -25,20 +25,20 @@ abbrev pub text_count : Queues → ℕ
 text_count queues = sum_by (λ texts. length texts) (values_of queues)
 
 -- the queues hold what was given and not taken
-pub record Hold (queues : Queues) (replies : List Reply) : Type 0 where
-  pub texts : (from to : ℕ) → given from to replies ≡ taken from to replies ++ queue_at queues (to, from)
+pub record HoldUntaken (queues : Queues) (replies : List Reply) : Type 0 where
+  pub texts : (from to : ℕ) → texts_given from to replies ≡ texts_taken from to replies ++ queue_at queues (to, from)
   pub count : count_by is_given replies ≡ count_by is_taken replies + text_count queues
 
 -- a reply of the relay: whatever was asked and answered before, where the queues hold what is left of it, the answer is the relay's, and then they hold what is left with this reply
 abbrev pub Relays : Queues → ℕ → PlainArray → PlainArray → Queues → Type 0
-Relays old party value answer new = (replies : List Reply) → Hold old replies
-    → IsAnswerTo (command_of value) party answer replies × Hold new (record { party = party; value = value; answer = answer } ∷ replies)
+Relays old party value answer new = (replies : List Reply) → HoldUntaken old replies
+    → IsAnswerTo (request_of value) party answer replies × HoldUntaken new (record { party = party; value = value; answer = answer } ∷ replies)
 
 -- the replies among what happens to a replier
-abbrev pub replies_in : List Event → List Reply
-replies_in [] = []
-replies_in (began party ∷ earlier) = replies_in earlier
-replies_in (answered party value answer ∷ earlier) = record { party = party; value = value; answer = answer } ∷ replies_in earlier
+abbrev pub replies_among : List Event → List Reply
+replies_among [] = []
+replies_among (began party ∷ earlier) = replies_among earlier
+replies_among (answered party value answer ∷ earlier) = record { party = party; value = value; answer = answer } ∷ replies_among earlier
 
 -- the relay counts its texts, holds no more than it may, and each of them can be an answer
 pub record AreKept (held : ℕ) (queues : Queues) : Type 0 where

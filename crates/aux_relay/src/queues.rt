@@ -3,7 +3,7 @@ ghost use Rattle.std.specs.Option.{option_copied, option_map};
 ghost use Rattle.std.specs.List.Sorted.{IsStrictlySortedBy};
 ghost use Rattle.std.specs.Map.{keys_of, lookup};
 ghost use Rattle.apl_arrays.specs.List.{first_of, glyphs_in, others_of};
-ghost use Rattle.aux_relay.specs.Changes.{Adds, Drops, KeepTexts, queue_order, senders_in};
+ghost use Rattle.aux_relay.specs.Changes.{AddsLast, Drops, KeepTexts, queue_order, senders_in};
 ghost use Rattle.aux_relay.specs.Queues.{queue_at, same_queue};
 
 use apl_arrays::{Line, List, WantOfMemory};
@@ -27,7 +27,7 @@ impl Model for TextQueue {
 }
 
 impl TextQueue {
-    /// No texts. No memory.
+    /// No texts.
     fn new(alloc: Global) -> Self
         ensures { result ≡ [] }
     {
@@ -45,21 +45,21 @@ impl TextQueue {
         Ok(())
     }
 
-    /// The first text, where there is one. No memory.
+    /// The first text, where there is one.
     fn front(&self) -> Option<&Line>
         ensures { option_map glyphs_in (option_copied result) ≡ first_of self.now }
     {
         self.lines.front()
     }
 
-    /// Whether there is a text. No memory.
+    /// Whether there is a text.
     fn has_text(&self) -> bool
         ensures { result ≡ nat_lt 0 (length self.now) }
     {
         self.lines.front().is_some()
     }
 
-    /// The first text goes, where there is one. No memory.
+    /// The first text goes, where there is one.
     fn pop(&mut self)
         ensures { self.new ≡ others_of self.old }
     {
@@ -77,7 +77,7 @@ pub(crate) fn give(
     key: (u64, u32),
     text: Line,
 ) -> Result<(), WantOfMemory>
-    ensures ok { OnOk result (Adds queues.old.entries key text.items queues.new.entries) }
+    ensures ok { OnOk result (AddsLast queues.old.entries key text.items queues.new.entries) }
     ensures err { OnErr result (queues.new.entries ≡ queues.old.entries) }
 {
     match queues.get_mut(&key) {
@@ -89,7 +89,7 @@ pub(crate) fn give(
 // A queue that is not there yet, with its first text.
 fn open(alloc: Global, queues: &mut Queues, key: (u64, u32), text: Line) -> Result<(), WantOfMemory>
     requires { lookup (same_queue key) queues.old.entries ≡ None }
-    ensures ok { OnOk result (Adds queues.old.entries key text.items queues.new.entries) }
+    ensures ok { OnOk result (AddsLast queues.old.entries key text.items queues.new.entries) }
     ensures err { OnErr result (queues.new.entries ≡ queues.old.entries) }
 {
     let mut queue = TextQueue::new(alloc);
@@ -98,7 +98,7 @@ fn open(alloc: Global, queues: &mut Queues, key: (u64, u32), text: Line) -> Resu
     Ok(())
 }
 
-/// The first text of a queue, where there is one. No memory.
+/// The first text of a queue, where there is one.
 pub(crate) fn first_text(queues: &Queues, key: (u64, u32)) -> Option<&Line>
     ensures { option_map glyphs_in (option_copied result) ≡ first_of (queue_at queues.now.entries key) }
 {
@@ -108,7 +108,7 @@ pub(crate) fn first_text(queues: &Queues, key: (u64, u32)) -> Option<&Line>
     }
 }
 
-/// The first text of a queue goes, where there is one, and with the last text its queue. No memory.
+/// The first text of a queue goes, where there is one, and with the last text its queue.
 pub(crate) fn drop_text(queues: &mut Queues, key: (u64, u32))
     ensures { Drops queues.old.entries key queues.new.entries }
 {

@@ -1,13 +1,13 @@
 ghost use Rattle.std.specs.Prelude.{◌≡◌, ◌≤◌, ◌∷◌, [], IfOk, OnErr, length};
 ghost use Rattle.apl_arrays.specs.Array.{number_array};
 ghost use Rattle.apl_arrays.specs.Limits.{most_elements};
-ghost use Rattle.auxiliaries.specs.Protocol.{no_line, vector};
-ghost use Rattle.aux_relay.specs.Changes.{Does, Sends, Takes, Tells};
-ghost use Rattle.aux_relay.specs.Command.{command_of};
-ghost use Rattle.aux_relay.specs.Queues.{Hold, Relays};
+ghost use Rattle.auxiliaries.specs.Protocol.{no_line, line_answer};
+ghost use Rattle.aux_relay.specs.Changes.{DoesRequest, Sends, TakesText, TellsSenders};
+ghost use Rattle.aux_relay.specs.Request.{request_of};
+ghost use Rattle.aux_relay.specs.Queues.{HoldUntaken, Relays};
 
-use crate::command::{Command, command_of};
 use crate::queues::{Queues, drop_text, first_text, give, senders};
+use crate::request::{Request, request_of};
 use apl_arrays::{Array, Glyph, Items, Line, List, NumberList, WantOfMemory};
 use auxiliaries::Replier;
 use std::alloc::Global;
@@ -19,7 +19,7 @@ const TEXT_LIMIT: usize = 10_000;
 /// The answer where a text was taken over.
 const DONE: i64 = 0;
 
-/// The answer to what is no command.
+/// The answer to what is no request.
 const REFUSED: i64 = 2;
 
 /// The answer where no more texts are held.
@@ -44,10 +44,10 @@ impl Model for Relay {
 }
 
 impl Relay {
-    /// A relay that holds no texts. No memory.
+    /// A relay that holds no texts.
     pub fn new(alloc: Global) -> Self
         ensures empty { result ≡ [] }
-        ensures nothing_yet { Hold result [] }
+        ensures nothing_yet { HoldUntaken result [] }
     {
         Relay {
             alloc,
@@ -56,7 +56,7 @@ impl Relay {
         }
     }
 
-    /// The answer to a party's value, which is a command where it is a character vector. `SEND M text` is answered 0, and
+    /// The answer to a party's value, which is a request where it is a character vector. `SEND M text` is answered 0, and
     /// the text goes last in the queue from the party to the user M, or 4 where 10,000 texts are held. `TAKE M` is answered
     /// with the first text from M to the party, which leaves its queue, or with the empty numeric vector where there is
     /// none. `WAITING` is answered with the parties that have a text for the party, ascending, and any other value with 2.
@@ -70,14 +70,14 @@ impl Relay {
 
     // What a party's value does.
     fn act(&mut self, party: u32, value: &Array) -> Result<Array, WantOfMemory>
-        ensures ok { IfOk result (λ answer. Does (command_of value.now) party self.old answer self.new) }
+        ensures ok { IfOk result (λ answer. DoesRequest (request_of value.now) party self.old answer self.new) }
         ensures err { OnErr result (self.new ≡ self.old) }
     {
-        match command_of(value) {
-            Command::Send(to, text) => self.send(party, to, text),
-            Command::Take(from) => self.take(from, party),
-            Command::Waiting => self.tell(party),
-            Command::Other => Ok(Array::of_number(REFUSED)),
+        match request_of(value) {
+            Request::Send(to, text) => self.send(party, to, text),
+            Request::Take(from) => self.take(from, party),
+            Request::Waiting => self.tell(party),
+            Request::Other => Ok(Array::of_number(REFUSED)),
         }
     }
 
@@ -98,7 +98,7 @@ impl Relay {
 
     // The first text of a queue, which leaves it.
     fn take(&mut self, from: u32, to: u32) -> Result<Array, WantOfMemory>
-        ensures ok { IfOk result (λ answer. Takes self.old (to, from) answer self.new) }
+        ensures ok { IfOk result (λ answer. TakesText self.old (to, from) answer self.new) }
         ensures err { OnErr result (self.new ≡ self.old) }
     {
         let key = (u64::from(to), from);
@@ -113,7 +113,7 @@ impl Relay {
 
     // The parties with a text for a party.
     fn tell(&mut self, to: u32) -> Result<Array, WantOfMemory>
-        ensures ok { IfOk result (λ answer. Tells self.old to answer self.new) }
+        ensures ok { IfOk result (λ answer. TellsSenders self.old to answer self.new) }
         ensures err { OnErr result (self.new ≡ self.old) }
     {
         let parties = senders(self.alloc, &self.queues, to)?;
@@ -124,7 +124,7 @@ impl Relay {
 // A text as an answer. It takes memory for it.
 fn text_answer(alloc: Global, text: &Line) -> Result<Array, WantOfMemory>
     requires { length text.now.items ≤ most_elements }
-    ensures { IfOk result (λ answer. answer ≡ vector text.now.items) }
+    ensures { IfOk result (λ answer. answer ≡ line_answer text.now.items) }
 {
     let length = text.as_slice().len() as u32;
     Array::shaped(alloc, &[length], Items::Chars(text.copy(alloc)?))

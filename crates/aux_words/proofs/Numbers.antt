@@ -7,7 +7,7 @@ use Rattle.std.proofs.lemmas.Bool.Decides.{nat_tests}
 use Rattle.std.proofs.lemmas.Fmt.{decimal-digits_value, decimal_by_steps, decimal_digit, first_decimal}
 use Rattle.std.proofs.lemmas.Str.Parse.{IsNumeralModel, numerals_by_fold}
 use Rattle.apl_arrays.specs.Glyph.{digit_value, is_digit}
-use Rattle.aux_words.specs.Number.{going_on, greatest_number, number_behind, number_of, with_digit}
+use Rattle.aux_words.specs.Number.{if_number, greatest_number, number_behind, number_of, with_digit}
 
 -- the number that digits go on with, behind another
 abbrev value_behind : ℕ → List ℕ → ℕ
@@ -35,7 +35,7 @@ made number (glyph ∷ line) found e = by (is_digit glyph) refl e (λ next. made
     longer : ℕ
     longer = number * 10 + (glyph - 48)
 
-    within : (b : Bool) → leb longer greatest_number ≡ b → is_digit glyph ≡ true → going_on (cond b (Some longer) None) (λ next. number_behind next line) ≡ Some found
+    within : (b : Bool) → leb longer greatest_number ≡ b → is_digit glyph ≡ true → if_number (cond b (Some longer) None) (λ next. number_behind next line) ≡ Some found
         → (number_behind longer line ≡ Some found → Made longer line found) → Made number (glyph ∷ line) found
     within false past is e rest = absurd (cc)
     within true fits is e rest =
@@ -46,7 +46,7 @@ made number (glyph ∷ line) found e = by (is_digit glyph) refl e (λ next. made
           most = λ small. m.most (leb-true longer greatest_number fits);
         }
 
-    by : (b : Bool) → is_digit glyph ≡ b → going_on (with_digit number (cond b (Some (glyph - 48)) None)) (λ next. number_behind next line) ≡ Some found
+    by : (b : Bool) → is_digit glyph ≡ b → if_number (with_digit number (cond b (Some (glyph - 48)) None)) (λ next. number_behind next line) ≡ Some found
         → (number_behind longer line ≡ Some found → Made longer line found) → Made number (glyph ∷ line) found
     by false is e rest = absurd (cc)
     by true is e rest = within (leb longer greatest_number) refl is e rest
@@ -75,8 +75,8 @@ behind_more : (number : ℕ) (line more : List ℕ) (found : ℕ) → number_beh
 behind_more number [] more found e = ap (λ n. number_behind n more) (let same : number ≡ found = cc in same)
 behind_more number (glyph ∷ line) more found e = by (with_digit number (digit_value glyph)) e (λ n rest. behind_more n line more found rest)
   where
-    by : (next : Option ℕ) → going_on next (λ n. number_behind n line) ≡ Some found
-        → ((n : ℕ) → number_behind n line ≡ Some found → number_behind n (line ++ more) ≡ number_behind found more) → going_on next (λ n. number_behind n (line ++ more)) ≡ number_behind found more
+    by : (next : Option ℕ) → if_number next (λ n. number_behind n line) ≡ Some found
+        → ((n : ℕ) → number_behind n line ≡ Some found → number_behind n (line ++ more) ≡ number_behind found more) → if_number next (λ n. number_behind n (line ++ more)) ≡ number_behind found more
     by None e rest = absurd (cc)
     by (Some n) e rest = rest n e
 
@@ -84,8 +84,8 @@ behind_more number (glyph ∷ line) more found e = by (with_digit number (digit_
 one_more : (number digit : ℕ) → digit < 10 → number * 10 + digit ≤ greatest_number → number_behind number ((48 + digit) ∷ []) ≡ Some (number * 10 + digit)
 one_more number digit small fits =
     let is : digit_value (48 + digit) ≡ Some digit = grind (arith, nat_tests) in
-    ap (λ value. going_on (with_digit number value) Some) is
-    ∙ ap (λ b. going_on (cond b (Some (number * 10 + digit)) None) Some) (le-leb (number * 10 + digit) greatest_number fits)
+    ap (λ value. if_number (with_digit number value) Some) is
+    ∙ ap (λ b. if_number (cond b (Some (number * 10 + digit)) None) Some) (le-leb (number * 10 + digit) greatest_number fits)
 
 -- the decimal digits of a number are read as the number
 digits_read : (number : ℕ) → number ≤ greatest_number → number_behind 0 (decimal number) ≡ Some number

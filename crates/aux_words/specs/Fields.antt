@@ -1,4 +1,4 @@
--- Fields of a command, with a blank between.
+-- Fields of a request, with a blank between.
 use Rattle.std.specs.Prelude.{◌+◌, ℕ, List, Option, Some, None, take, drop}
 use Rattle.std.specs.List.{position}
 use Rattle.apl_arrays.specs.Glyph.{is_blank}

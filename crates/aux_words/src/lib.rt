@@ -1,4 +1,4 @@
-//! What the commands of auxiliaries are made of: words, fields with a blank between, numbers, and names of files.
+//! What the requests of auxiliaries are made of: words, fields with a blank between, numbers, and names of files.
 #![tactic(auto)]
 
 mod fields;

@@ -3,11 +3,11 @@ ghost use Rattle.aux_words.specs.Number.{greatest_number, number_behind, number_
 
 use apl_arrays::Glyph;
 
-/// The greatest number that a command may name.
+/// The greatest number that a request may name.
 const GREATEST_NUMBER: u64 = 999_999_999;
 
 /// The number, from 1 to 999,999,999, that these glyphs are in decimal digits without a leading zero; `None` where they are
-/// none. No memory.
+/// none.
 pub fn number_of(glyphs: &[Glyph]) -> Option<u32>
     ensures { result ≡ number_of glyphs.now }
 {

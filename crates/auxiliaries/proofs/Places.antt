@@ -4,8 +4,8 @@ use Rattle.apl_arrays.specs.Array.{PlainArray}
 use Rattle.apl_arrays.specs.Name.{name_order}
 use Rattle.apl_io.specs.Content.{Told, KeepsPlaces}
 use Rattle.apl_io.proofs.Places.{both_keep, read_keeps, same_places, write_keeps}
-use Rattle.auxiliaries.specs.Command.{command_of}
-use Rattle.auxiliaries.specs.Protocol.{Step, answers, reads, replaces, step}
+use Rattle.auxiliaries.specs.Request.{request_of}
+use Rattle.auxiliaries.specs.Protocol.{Step, answers, reads, replaces, protocol_step}
 use Rattle.auxiliaries.specs.Run.{Event, began, answered, IsReplierRun}
 use Rattle.auxiliaries.specs.Served.{Served, Takes, Replies, forgotten}
 
@@ -29,4 +29,4 @@ module _ {T : Type 0} (told : T → Option (Told (List ℕ))) (faults : T → �
       (subst (λ (served : Served T). KeepsPlaces (told before.store) (told served.store)) (sym lead) (same_places (told before.store)))
   run_keeps start (answered party value answer ∷ events) end (before, run, lead) =
       both_keep (told start.store) (told before.store) (told end.store) (run_keeps start events before run)
-      (taken_keeps (step (command_of value) before.state) before answer end lead)
+      (taken_keeps (protocol_step (request_of value) before.state) before answer end lead)

@@ -7,9 +7,9 @@ use Rattle.apl_io.specs.Clock.{Ticks, Ticked}
 use Rattle.apl_io.specs.Faults.{Rose}
 
 -- no axes
-abbrev pub is_scalar : List ℕ → Bool
-is_scalar [] = true
-is_scalar (axis ∷ shape) = false
+abbrev pub has_no_axes : List ℕ → Bool
+has_no_axes [] = true
+has_no_axes (axis ∷ shape) = false
 
 -- the number 0 alone
 abbrev pub is_zero : PlainItems → Bool
@@ -19,7 +19,7 @@ is_zero (chars glyphs) = false
 
 -- the numeric scalar 0 asks for a reading
 abbrev pub asks_reading : PlainArray → Bool
-asks_reading value = is_scalar value.shape && is_zero value.items
+asks_reading value = has_no_axes value.shape && is_zero value.items
 
 -- a reading as an answer, or ¯2 where the clock failed
 abbrev pub reading_answer : Option ℤ → PlainArray

@@ -1,5 +1,5 @@
 pub mod Clock
-pub mod Command
+pub mod Request
 pub mod File
 pub mod Plain
 pub mod Protocol

@@ -1,25 +1,25 @@
--- States and commands of the code as plain data.
+-- States and requests of the code as plain data.
 use Rattle.std.specs.Prelude.{◌≤◌, ℤ, pos, All, length, map}
 use Rattle.std.specs.String.{string_bytes}
 use Rattle.apl_arrays.specs.List.{glyphs_in}
 use Rattle.auxiliaries.specs.File.{most_file_line_glyphs}
-use Rattle.auxiliaries.specs.Command.{Command as PlainCommand, read, next, write, put, done, other}
+use Rattle.auxiliaries.specs.Request.{Request as PlainRequest, read, next, write, put, done, other}
 use Rattle.auxiliaries.specs.Protocol.{TextState as PlainState, idle, reading, writing}
 use Rattle.auxiliaries.specs.declared.answer.Code.{Code}
 use Rattle.auxiliaries.specs.declared.answer.Code.TheVariants.{Done, Missing, Refused, Fault, NoText}
-use Rattle.auxiliaries.specs.declared.command.Command.{Command}
-use Rattle.auxiliaries.specs.declared.command.Command.TheVariants.{Read, Next, Write, Put, Done as DoneWord, Other}
+use Rattle.auxiliaries.specs.declared.request.Request.{Request}
+use Rattle.auxiliaries.specs.declared.request.Request.TheVariants.{Read, Next, Write, Put, Done as DoneWord, Other}
 use Rattle.auxiliaries.specs.declared.text_state.TextState.{TextState}
 use Rattle.auxiliaries.specs.declared.text_state.TextState.TheVariants.{Idle, Reading, Writing}
 
--- a command, whatever it borrows from
-abbrev pub plain_command : Command → PlainCommand
-plain_command (Read name) = read name.now
-plain_command Next = next
-plain_command (Write name) = write name.now
-plain_command (Put text) = put text.now
-plain_command DoneWord = done
-plain_command Other = other
+-- a request, whatever it borrows from
+abbrev pub plain_request : Request → PlainRequest
+plain_request (Read name) = read name.now
+plain_request Next = next
+plain_request (Write name) = write name.now
+plain_request (Put text) = put text.now
+plain_request DoneWord = done
+plain_request Other = other
 
 -- a state, whatever room its lists have
 abbrev pub plain_state : TextState → PlainState

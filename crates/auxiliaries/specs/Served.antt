@@ -6,8 +6,8 @@ use Rattle.apl_io.specs.Content.{Told, entry_of, Reads, Writes}
 use Rattle.apl_io.specs.Faults.{Rose, one_more}
 use Rattle.apl_io.specs.declared.store_error.StoreError.{StoreError}
 use Rattle.apl_io.specs.declared.store_error.StoreError.TheVariants.{Failed}
-use Rattle.auxiliaries.specs.Command.{command_of}
-use Rattle.auxiliaries.specs.Protocol.{TextState, idle, Step, answers, reads, replaces, step, AfterRead, AfterReplace}
+use Rattle.auxiliaries.specs.Request.{request_of}
+use Rattle.auxiliaries.specs.Protocol.{TextState, idle, Step, answers, reads, replaces, protocol_step, AfterRead, AfterReplace}
 
 -- a store, and where the protocol over it stands
 pub record Served (T : Type 0) : Type 0 where
@@ -42,7 +42,7 @@ module _ {T : Type 0} (told : T → Option (Told (List ℕ))) (faults : T → �
 
   -- the answer to a value
   abbrev pub Replies : Served T → PlainArray → PlainArray → Served T → Type 0
-  Replies old value answer new = Takes (step (command_of value) old.state) old answer new
+  Replies old value answer new = Takes (protocol_step (request_of value) old.state) old answer new
 
 -- the protocol begins anew
 abbrev pub forgotten : {T : Type 0} → Served T → Served T

@@ -2,7 +2,7 @@ ghost use Rattle.std.specs.Prelude.{◌≡◌, ◌<◌, ◌≤◌, ◌∷◌, []
 ghost use Rattle.apl_arrays.specs.Array.{scalar};
 ghost use Rattle.auxiliaries.specs.File.{most_file_line_glyphs};
 ghost use Rattle.auxiliaries.specs.Plain.{code_number};
-ghost use Rattle.auxiliaries.specs.Protocol.{code, vector, no_line};
+ghost use Rattle.auxiliaries.specs.Protocol.{code, line_answer, no_line};
 
 use apl_arrays::{Array, Items, Line, List, NumberList, WantOfMemory};
 use std::alloc::Global;
@@ -10,11 +10,11 @@ use std::alloc::Global;
 /// The answers of the text auxiliary that are numbers.
 #[derive(Clone, Copy, Debug, PartialEq, Eq)]
 pub(crate) enum Code {
-    /// The command is done.
+    /// The request is done.
     Done,
     /// There is no such file.
     Missing,
-    /// It is no command in this state.
+    /// It is no request in this state.
     Refused,
     /// The store failed.
     Fault,
@@ -23,7 +23,7 @@ pub(crate) enum Code {
 }
 
 impl Code {
-    /// Its number. No memory.
+    /// Its number.
     pub(crate) fn number(self) -> i64
         ensures { result ≡ code_number self }
     {
@@ -36,7 +36,7 @@ impl Code {
         }
     }
 
-    /// Its number as an answer. No memory.
+    /// Its number as an answer. It takes no memory.
     pub(crate) fn answer(self, alloc: Global) -> Result<Array, WantOfMemory>
         ensures { IfOk result (λ answer. answer ≡ scalar (code_number self)) }
     {
@@ -47,7 +47,7 @@ impl Code {
 /// A line as an answer. It takes memory for it.
 pub(crate) fn line_answer(alloc: Global, line: &Line) -> Result<Array, WantOfMemory>
     requires { length line.now.items ≤ most_file_line_glyphs }
-    ensures { IfOk result (λ answer. answer ≡ vector line.now.items) }
+    ensures { IfOk result (λ answer. answer ≡ line_answer line.now.items) }
 {
     let length = line.as_slice().len() as u32;
     Array::shaped(alloc, &[length], Items::Chars(line.copy(alloc)?))

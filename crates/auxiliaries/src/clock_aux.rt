@@ -25,7 +25,7 @@ impl<C> Model for ClockAux<C> {
 }
 
 impl<C: Clock> ClockAux<C> {
-    /// An auxiliary over this clock. No memory.
+    /// An auxiliary over this clock.
     pub fn new(clock: C) -> Self
         ensures { result ≡ clock }
     {
@@ -33,7 +33,7 @@ impl<C: Clock> ClockAux<C> {
     }
 
     /// The answer to a value: to the numeric scalar 0 the next reading, or ¯2 where the clock failed; to any other value
-    /// ¯1. No memory.
+    /// ¯1. It takes no memory.
     pub fn reply(&mut self, value: &Array) -> Result<Array, WantOfMemory>
         ensures ok { IfOk result (λ answer. RepliesByReading C.told C.faults self.old value.now answer self.new) }
         ensures err { OnErr result (self.new ≡ self.old) }
@@ -48,7 +48,7 @@ impl<C: Clock> ClockAux<C> {
         }
     }
 
-    /// Its clock. No memory.
+    /// Its clock.
     pub fn into_clock(self) -> C
         ensures { result ≡ self }
     {

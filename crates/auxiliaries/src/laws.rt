@@ -3,48 +3,48 @@ ghost use Rattle.std.specs.declared.option.Option.{Option};
 ghost use Rattle.apl_arrays.specs.Array.{PlainArray};
 ghost use Rattle.apl_io.specs.Content.{KeepsPlaces};
 ghost use Rattle.apl_io.specs.declared.store_error.StoreError.TheVariants.{Failed};
-ghost use Rattle.auxiliaries.specs.Command.{command_of, read, next, write, put, done, other};
+ghost use Rattle.auxiliaries.specs.Request.{request_of, read, next, write, put, done, other};
 ghost use Rattle.auxiliaries.specs.File.{lines_in, IsText};
 ghost use Rattle.auxiliaries.specs.Run.{Event, began, answered, IsReplierRun};
-ghost use Rattle.auxiliaries.specs.Protocol.{step, answers, reads, replaces, refused, idle, reading, writing, code, vector, no_line, AfterRead, AfterReplace};
+ghost use Rattle.auxiliaries.specs.Protocol.{protocol_step, answers, reads, replaces, no_request, idle, reading, writing, code, line_answer, no_line, AfterRead, AfterReplace};
 ghost use Rattle.auxiliaries.specs.Served.{Served, Replies, forgotten};
 
 use crate::Replier;
 use apl_arrays::texts_are_read_in_one_way;
 use apl_io::TextStore;
 
-/// Commands as they are written: the word, one blank, and a name or a text, with nothing before or behind. The call does
+/// Requests as they are written: the word, one blank, and a name or a text, with nothing before or behind. The call does
 /// nothing.
-pub fn commands_as_written()
-    ensures read { command_of (vector (codes "READ NOTES")) ≡ read (codes "NOTES") }
-    ensures next { command_of (vector (codes "NEXT")) ≡ next }
-    ensures write { command_of (vector (codes "WRITE OUT")) ≡ write (codes "OUT") }
-    ensures put { command_of (vector (codes "PUT HI")) ≡ put (codes "HI") }
-    ensures put_blank { command_of (vector (codes "PUT  HI ")) ≡ put (codes " HI ") }
-    ensures put_nothing { command_of (vector (codes "PUT ")) ≡ put [] }
-    ensures done { command_of (vector (codes "DONE")) ≡ done }
-    ensures no_text { command_of (vector (codes "PUT")) ≡ other }
-    ensures next_blank { command_of (vector (codes "NEXT ")) ≡ other }
-    ensures nothing { command_of (vector []) ≡ other }
-    ensures number { command_of (code 0) ≡ other }
-    ensures no_line { command_of no_line ≡ other }
+pub fn requests_as_written()
+    ensures read { request_of (line_answer (codes "READ NOTES")) ≡ read (codes "NOTES") }
+    ensures next { request_of (line_answer (codes "NEXT")) ≡ next }
+    ensures write { request_of (line_answer (codes "WRITE OUT")) ≡ write (codes "OUT") }
+    ensures put { request_of (line_answer (codes "PUT HI")) ≡ put (codes "HI") }
+    ensures put_blank { request_of (line_answer (codes "PUT  HI ")) ≡ put (codes " HI ") }
+    ensures put_nothing { request_of (line_answer (codes "PUT ")) ≡ put [] }
+    ensures done { request_of (line_answer (codes "DONE")) ≡ done }
+    ensures no_text { request_of (line_answer (codes "PUT")) ≡ other }
+    ensures next_blank { request_of (line_answer (codes "NEXT ")) ≡ other }
+    ensures nothing { request_of (line_answer []) ≡ other }
+    ensures number { request_of (code 0) ≡ other }
+    ensures no_line { request_of no_line ≡ other }
 {}
 
 /// A session as it was worked by hand: a file that is not there, one of one line, a file written, and a failure of the
 /// store at its third call. The call does nothing.
 pub fn session_as_worked()
-    ensures gone { step (read (codes "GONE")) idle ≡ reads (codes "GONE") }
+    ensures gone { protocol_step (read (codes "GONE")) idle ≡ reads (codes "GONE") }
     ensures missing { AfterRead (Ok None) (code 1) idle }
-    ensures no_next { step next idle ≡ answers (code 2) idle }
-    ensures notes { step (read (codes "NOTES")) idle ≡ reads (codes "NOTES") }
+    ensures no_next { protocol_step next idle ≡ answers (code 2) idle }
+    ensures notes { protocol_step (read (codes "NOTES")) idle ≡ reads (codes "NOTES") }
     ensures line { lines_in (codes "ONE" ++ 10 ∷ []) ≡ codes "ONE" ∷ [] }
-    ensures one { step next (reading (codes "ONE" ∷ [])) ≡ answers (vector (codes "ONE")) (reading []) }
-    ensures past { step next (reading []) ≡ answers no_line (reading []) }
-    ensures no_put { step (put (codes "A")) (reading []) ≡ answers (code 2) (reading []) }
-    ensures out { step (write (codes "OUT")) (reading []) ≡ answers (code 0) (writing (codes "OUT") []) }
-    ensures no_read { step (read (codes "NOTES")) (writing (codes "OUT") []) ≡ answers (code 2) (writing (codes "OUT") []) }
-    ensures hi { step (put (codes "HI")) (writing (codes "OUT") []) ≡ answers (code 0) (writing (codes "OUT") (codes "HI" ++ 10 ∷ [])) }
-    ensures done { step done (writing (codes "OUT") (codes "HI" ++ 10 ∷ [])) ≡ replaces (codes "OUT") (codes "HI" ++ 10 ∷ []) }
+    ensures one { protocol_step next (reading (codes "ONE" ∷ [])) ≡ answers (line_answer (codes "ONE")) (reading []) }
+    ensures past { protocol_step next (reading []) ≡ answers no_line (reading []) }
+    ensures no_put { protocol_step (put (codes "A")) (reading []) ≡ answers (code 2) (reading []) }
+    ensures out { protocol_step (write (codes "OUT")) (reading []) ≡ answers (code 0) (writing (codes "OUT") []) }
+    ensures no_read { protocol_step (read (codes "NOTES")) (writing (codes "OUT") []) ≡ answers (code 2) (writing (codes "OUT") []) }
+    ensures hi { protocol_step (put (codes "HI")) (writing (codes "OUT") []) ≡ answers (code 0) (writing (codes "OUT") (codes "HI" ++ 10 ∷ [])) }
+    ensures done { protocol_step done (writing (codes "OUT") (codes "HI" ++ 10 ∷ [])) ≡ replaces (codes "OUT") (codes "HI" ++ 10 ∷ []) }
     ensures failed { AfterReplace {T = Unit {0}} (Err Failed) (writing (codes "OUT") (codes "HI" ++ 10 ∷ [])) (code 3) (writing (codes "OUT") (codes "HI" ++ 10 ∷ [])) }
     ensures again { AfterReplace {T = Unit {0}} (Ok tt) (writing (codes "OUT") (codes "HI" ++ 10 ∷ [])) (code 0) idle }
 {}

@@ -3,16 +3,16 @@
 
 mod answer;
 mod clock_aux;
-mod command;
 mod file_text;
 mod laws;
 mod replier;
+mod request;
 mod text_aux;
 mod text_state;
 
 pub use clock_aux::ClockAux;
 pub use laws::{
-    commands_as_written, files_are_read_in_one_way, lines_as_they_stand, runs_give_no_place,
+    files_are_read_in_one_way, lines_as_they_stand, requests_as_written, runs_give_no_place,
     runs_go_on, session_as_worked,
 };
 pub use replier::Replier;

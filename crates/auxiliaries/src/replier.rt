@@ -11,7 +11,7 @@ pub trait Replier {
     /// The answers to this party's value, each with the state after it.
     ghost replies: { Self → ℕ → PlainArray → PlainArray → Self → Type 0 };
 
-    /// Begins anew with this party. No memory.
+    /// Begins anew with this party.
     fn forget(&mut self, party: u32)
         ensures { forgets self.old party self.new };
 

@@ -11,8 +11,8 @@ ghost use Rattle.auxiliaries.specs.Served.{Replies, Takes, IsReadStep, IsReplace
 
 use crate::Replier;
 use crate::answer::{Code, line_answer, no_line};
-use crate::command::{Command, command_of};
 use crate::file_text::{FILE_LIMIT, file_name, line_bytes, text_lines};
+use crate::request::{Request, request_of};
 use crate::text_state::TextState;
 use apl_arrays::{Array, Bytes, Glyph, Line, WantOfMemory};
 use apl_io::{StoreError, TextStore};
@@ -43,7 +43,7 @@ impl<T> Model for TextAux<T> {
 impl<T: TextStore> TextAux<T> {
     ghost use Rattle.auxiliaries.specs.Protocol.{idle};
 
-    /// An auxiliary over this store, between files. No memory.
+    /// An auxiliary over this store, between files.
     pub fn new(alloc: Global, store: T) -> Self
         ensures { result ≡ record { store = store; state = idle } }
     {
@@ -54,22 +54,22 @@ impl<T: TextStore> TextAux<T> {
         }
     }
 
-    /// Begins anew, between files. No memory.
+    /// Begins anew, between files.
     pub fn forget(&mut self)
         ensures { self.new ≡ forgotten self.old }
     {
         self.state = TextState::Idle;
     }
 
-    /// Its store. No memory.
+    /// Its store.
     pub fn into_store(self) -> T
         ensures { result ≡ self.store }
     {
         self.store
     }
 
-    /// The answer to a value, which is a command where it is a character vector. `READ name` asks the store for a file
-    /// once, `DONE` asks it to replace one; no other command calls it. It takes memory for the answer, for the lines
+    /// The answer to a value, which is a request where it is a character vector. `READ name` asks the store for a file
+    /// once, `DONE` asks it to replace one; no other request calls it. It takes memory for the answer, for the lines
     /// that are read, and for those that are to be written. `WantOfMemory` leaves the protocol where it stood.
     pub fn reply(&mut self, value: &Array) -> Result<Array, WantOfMemory>
         ensures ok { IfOk result (λ answer. Replies T.told T.faults self.old value.now answer self.new) }
@@ -77,13 +77,13 @@ impl<T: TextStore> TextAux<T> {
         ensures files { OnErr result (KeepsFiles (T.told self.old.store) (T.told self.new.store)) }
         ensures counted { T.faults self.old.store ≤ T.faults self.new.store }
     {
-        match command_of(value) {
-            Command::Read(name) => self.read(name),
-            Command::Next => self.next(),
-            Command::Write(name) => self.write(name),
-            Command::Put(text) => self.put(text),
-            Command::Done => self.done(),
-            Command::Other => Code::Refused.answer(self.alloc),
+        match request_of(value) {
+            Request::Read(name) => self.read(name),
+            Request::Next => self.next(),
+            Request::Write(name) => self.write(name),
+            Request::Put(text) => self.put(text),
+            Request::Done => self.done(),
+            Request::Other => Code::Refused.answer(self.alloc),
         }
     }
 

@@ -17,7 +17,7 @@ pub(crate) enum TextState {
 }
 
 impl TextState {
-    /// Whether a file is written. No memory.
+    /// Whether a file is written.
     pub(crate) fn is_writing(&self) -> bool
         ensures { result ≡ is_writing (plain_state self.now) }
     {

@@ -4,7 +4,7 @@ use Rattle.std.specs.List.{flat_map}
 use Rattle.std.proofs.lemmas.List.{map-append}
 use Rattle.std.proofs.lemmas.List.Concat.{flat_map-append}
 use Rattle.bundle_text.specs.BundleLine.{PlainLine, input, user, order, file, clock}
-use Rattle.text_reader.specs.Numeral.{value_of}
+use Rattle.text_reader.specs.Numeral.{number_of_digits}
 use Rattle.bundle_text.specs.Bundle.{Sheet, user_section, file_section}
 use Rattle.bundle_text.specs.User.{PlainUser}
 
@@ -15,10 +15,10 @@ body users orders sheets clocks =
     ++ map (λ numbers. clock numbers) clocks
 
 abbrev pub numbers_in : List (List (List ℕ)) → List ℕ
-numbers_in lines = map value_of (flat_map (λ numbers. numbers) lines)
+numbers_in lines = map number_of_digits (flat_map (λ numbers. numbers) lines)
 
 abbrev pub readings_in : List (List (List ℕ)) → List ℤ
-readings_in lines = map (λ digits. pos (value_of digits)) (flat_map (λ numbers. numbers) lines)
+readings_in lines = map (λ digits. pos (number_of_digits digits)) (flat_map (λ numbers. numbers) lines)
 
 -- one line of numbers more
 
@@ -26,13 +26,13 @@ lists_push : (lines : List (List (List ℕ))) (numbers : List (List ℕ)) → fl
 lists_push lines numbers =
     flat_map-append (λ (ns : List (List ℕ)). ns) lines (numbers ∷ []) ∙ ap (λ (last : List (List ℕ)). flat_map (λ ns. ns) lines ++ last) (append-nil numbers)
 
-pub numbers_push : (lines : List (List (List ℕ))) (numbers : List (List ℕ)) (so_far : List ℕ) → numbers_in lines ≡ so_far → numbers_in (lines ++ numbers ∷ []) ≡ so_far ++ map value_of numbers
+pub numbers_push : (lines : List (List (List ℕ))) (numbers : List (List ℕ)) (so_far : List ℕ) → numbers_in lines ≡ so_far → numbers_in (lines ++ numbers ∷ []) ≡ so_far ++ map number_of_digits numbers
 numbers_push lines numbers so_far e =
-    ap (map value_of) (lists_push lines numbers) ∙ map-append value_of (flat_map (λ ns. ns) lines) numbers ∙ ap (λ (front : List ℕ). front ++ map value_of numbers) e
+    ap (map number_of_digits) (lists_push lines numbers) ∙ map-append number_of_digits (flat_map (λ ns. ns) lines) numbers ∙ ap (λ (front : List ℕ). front ++ map number_of_digits numbers) e
 
-pub readings_push : (lines : List (List (List ℕ))) (numbers : List (List ℕ)) (so_far : List ℤ) → readings_in lines ≡ so_far → readings_in (lines ++ numbers ∷ []) ≡ so_far ++ map (λ digits. pos (value_of digits)) numbers
+pub readings_push : (lines : List (List (List ℕ))) (numbers : List (List ℕ)) (so_far : List ℤ) → readings_in lines ≡ so_far → readings_in (lines ++ numbers ∷ []) ≡ so_far ++ map (λ digits. pos (number_of_digits digits)) numbers
 readings_push lines numbers so_far e =
-    let read = λ (digits : List ℕ). pos (value_of digits) in
+    let read = λ (digits : List ℕ). pos (number_of_digits digits) in
     ap (map read) (lists_push lines numbers) ∙ map-append read (flat_map (λ ns. ns) lines) numbers ∙ ap (λ (front : List ℤ). front ++ map read numbers) e
 
 -- one line more at the end of the body

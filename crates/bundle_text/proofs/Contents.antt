@@ -7,10 +7,10 @@ use Rattle.apl_arrays.specs.Limits.{most_line_glyphs, most_user_lines}
 use Rattle.line_text.specs.Lines.{content, line_text}
 use Rattle.line_text.proofs.Ascii.{content_utf8}
 use Rattle.bundle_text.specs.Breaks.{IsSound, IsBroken, IsMisfit, IsEnded, IsSpelled, LineBreaks}
-use Rattle.bundle_text.specs.BundleLine.{PlainLine, input, IsLine, IsTextOf, line_glyphs}
-use Rattle.bundle_text.specs.Draft.{PlainDraft, PlainSection, of_user, of_file, takes_content, has_room, longer, keeps_limits, with_line}
+use Rattle.bundle_text.specs.BundleLine.{PlainLine, input, IsBundleLine, IsTextOf, line_glyphs}
+use Rattle.bundle_text.specs.Draft.{PlainDraft, PlainSection, of_user, of_file, takes_content, has_room, longer, line_keeps_limits, with_line}
 use Rattle.bundle_text.specs.Refused.{IsRefusal}
-use Rattle.bundle_text.specs.Step.{AddsText, IsAdded, IsLineBroken, IsBadGlyph, IsGlyphOr, IsOver}
+use Rattle.bundle_text.specs.Step.{AddsText, IsAdded, IsLineBroken, IsBadGlyph, IsGlyphOr, BreaksLimit}
 use Rattle.bundle_text.specs.Section.{plain_section}
 use Rattle.bundle_text.specs.User.{PlainUser}
 use Rattle.bundle_text.specs.declared.section.OpenFile.{OpenFile}
@@ -51,7 +51,7 @@ misplaced_content draft text offset (Malformed place rule) is none =
     ⊎_elim (λ bad. bad_content draft text offset (Malformed place rule) bad) (λ plain fed ended. no_place_here draft text offset place rule fed plain.0 plain.1 plain.2 none ended) is
 
 -- past a limit
-pub long_content : (draft : PlainDraft) (text line : List ℕ) (offset : ℕ) (keeps : Bool) (why : BundleRefused) → Spells text line → takes_content draft.section ≡ true → (keeps ≡ false → keeps_limits draft (input line) ≡ false) → IsRefusal why (IsOver offset keeps)
+pub long_content : (draft : PlainDraft) (text line : List ℕ) (offset : ℕ) (keeps : Bool) (why : BundleRefused) → Spells text line → takes_content draft.section ≡ true → (keeps ≡ false → line_keeps_limits draft (input line) ≡ false) → IsRefusal why (BreaksLimit offset keeps)
     → IsRefusal why (λ place rule. (fed : Bool) → IsEnded (bar ∷ text) fed → IsLineBroken draft (bar ∷ text) fed offset place rule)
 long_content draft text line offset keeps WantOfMemory is takes over e = tt
 long_content draft text line offset keeps (Malformed place rule) is takes over e =
@@ -71,7 +71,7 @@ no_content sections.End a b = refl
 -- a line of a user
 pub user_line : (old new : PlainDraft) (one next : PlainUser) (text line : List ℕ) (offset : ℕ) (result : Result (Unit {0}) BundleRefused) → old.section ≡ of_user one → new ≡ record old { section = of_user next } → Spells text line
     → MatchResult result (λ _. IsTrue (nat_lt (length one.lines) most_user_lines && nat_le (length line) most_line_glyphs) × (next ≡ record { number = one.number; lines = one.lines ++ line ∷ [] }))
-    (λ why. IsRefusal why (IsOver offset (nat_lt (length one.lines) most_user_lines && nat_le (length line) most_line_glyphs)))
+    (λ why. IsRefusal why (BreaksLimit offset (nat_lt (length one.lines) most_user_lines && nat_le (length line) most_line_glyphs)))
     → AddsText old (bar ∷ text) new offset result
 user_line old new one next text line offset (Ok done) was now is kept = record {
   line = input line;
@@ -84,7 +84,7 @@ user_line old new one next text line offset (Err why) was now is over =
 
 -- a line of a file
 pub file_line : (old new : PlainDraft) (one next : PlainFile) (text line : List ℕ) (count offset : ℕ) (result : Result (Unit {0}) BundleRefused) → old.section ≡ of_file one → new ≡ record old { section = of_file next } → Spells text line → count ≡ length line → next.name ≡ one.name
-    → MatchResult result (λ _. IsTrue (nat_le count most_line_glyphs) × (next.bytes ≡ one.bytes ++ (text ++ 10 ∷ []))) (λ why. IsRefusal why (IsOver offset (nat_le count most_line_glyphs)))
+    → MatchResult result (λ _. IsTrue (nat_le count most_line_glyphs) × (next.bytes ≡ one.bytes ++ (text ++ 10 ∷ []))) (λ why. IsRefusal why (BreaksLimit offset (nat_le count most_line_glyphs)))
     → AddsText old (bar ∷ text) new offset result
 file_line old new one next text line count offset (Ok done) was now is counted name kept = record {
   line = input line;

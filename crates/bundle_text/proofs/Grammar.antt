@@ -16,11 +16,11 @@ use Rattle.line_text.specs.Lines.{line_text, lines_text}
 use Rattle.line_text.proofs.Spans.{both}
 use Rattle.bundle_text.specs.Breaks.{IsSound}
 use Rattle.bundle_text.specs.Rules.{PlainBundle, IsBundle, IsContent, IsUser, IsFile, is_party}
-use Rattle.bundle_text.specs.BundleLine.{PlainLine, input, user, order, file, clock, end, IsLine}
-use Rattle.bundle_text.specs.Draft.{PlainDraft, PlainSection, start, of_user, turns, of_file, readings, ended, users_with, files_with, users_of, files_of, takes_content, takes_user, takes_turns, takes_file, is_ended, with_line, nothing_read, bundle_of}
+use Rattle.bundle_text.specs.BundleLine.{PlainLine, input, user, order, file, clock, end, IsBundleLine}
+use Rattle.bundle_text.specs.Draft.{PlainDraft, PlainSection, start, of_user, turns, of_file, readings, ended, users_with, files_with, users_so_far, files_of, takes_content, takes_user, turns_may_stand, takes_file, is_at_end, with_line, nothing_read, bundle_of}
 use Rattle.bundle_text.specs.Limits.{most_turns, most_files, most_readings}
-use Rattle.text_reader.specs.Numeral.{value_of}
-use Rattle.bundle_text.specs.Bundle.{Page, Sheet, user_section, file_section, lines_of, file_of, said_by}
+use Rattle.text_reader.specs.Numeral.{number_of_digits}
+use Rattle.bundle_text.specs.Bundle.{Page, Sheet, user_section, file_section, lines_of, file_of, bundle_said_by}
 use Rattle.bundle_text.specs.User.{PlainUser}
 use Rattle.bundle_text.proofs.Kept.{text_push}
 use Rattle.bundle_text.proofs.Walks.{SoundFrom, after}
@@ -87,10 +87,10 @@ pub record Reach (draft : PlainDraft) (lines : List PlainLine) (ok : PlainSectio
   pub section : ok next.section
 
 abbrev TakesTurns : PlainSection → Type 0
-TakesTurns section = takes_turns section ≡ true
+TakesTurns section = turns_may_stand section ≡ true
 
 abbrev IsOpen : PlainSection → Type 0
-IsOpen section = is_ended section ≡ false
+IsOpen section = is_at_end section ≡ false
 
 reach_to : (draft : PlainDraft) (lines : List PlainLine) (ok : PlainSection → Type 0) (bundle other : PlainBundle) → Reach draft lines ok bundle → bundle ≡ other → Reach draft lines ok other
 reach_to draft lines ok bundle other r e = subst (Reach draft lines ok) e r
@@ -128,30 +128,30 @@ all_users_reach (one ∷ more) ascend few each =
 abbrev joined : List (List (List ℕ)) → List (List ℕ)
 joined lines = flat_map (λ numbers. numbers) lines
 
-turns_reach : (draft : PlainDraft) (orders : List (List (List ℕ))) → takes_turns draft.section ≡ true → All IsLine (map (λ numbers. order numbers) orders) → list_all (λ digits. is_party (users_of draft) (value_of digits)) (joined orders) ≡ true
+turns_reach : (draft : PlainDraft) (orders : List (List (List ℕ))) → turns_may_stand draft.section ≡ true → All IsBundleLine (map (λ numbers. order numbers) orders) → list_all (λ digits. is_party (users_so_far draft) (number_of_digits digits)) (joined orders) ≡ true
     → length draft.order + length (joined orders) ≤ most_turns
-    → Reach draft (map (λ numbers. order numbers) orders) TakesTurns (record { users = users_of draft; order = draft.order ++ map value_of (joined orders); files = files_of draft; clock = draft.clock })
+    → Reach draft (map (λ numbers. order numbers) orders) TakesTurns (record { users = users_so_far draft; order = draft.order ++ map number_of_digits (joined orders); files = files_of draft; clock = draft.clock })
 turns_reach draft [] takes forms parties few = record {
   next = draft;
   leads = nowhere draft;
-  says = ap (λ (all : List ℕ). record { users = users_of draft; order = all; files = files_of draft; clock = draft.clock }) (sym (append-nil draft.order));
+  says = ap (λ (all : List ℕ). record { users = users_so_far draft; order = all; files = files_of draft; clock = draft.clock }) (sym (append-nil draft.order));
   section = takes;
 }
 turns_reach draft (numbers ∷ orders) takes forms parties few =
-    let test = λ (digits : List ℕ). is_party (users_of draft) (value_of digits) in
+    let test = λ (digits : List ℕ). is_party (users_so_far draft) (number_of_digits digits) in
     let parts = both (list_all test numbers) (list_all test (joined orders)) (sym (list_all-append test numbers (joined orders)) ∙ parties) in
     let longer = length-append numbers (joined orders) in
-    let form : IsLine (order numbers) = All-head IsLine (order numbers) (map (λ ns. order ns) orders) forms in
+    let form : IsBundleLine (order numbers) = All-head IsBundleLine (order numbers) (map (λ ns. order ns) orders) forms in
     let sound : IsSound draft (order numbers) = record { form = form; place = takes; parties = parts.0; limits = le-leb _ _ (omega (arith, longer)) } in
-    let rest = turns_reach (with_line draft (order numbers)) orders refl (All-tail IsLine (order numbers) (map (λ ns. order ns) orders) forms) parts.1 (omega (arith, longer, length-append draft.order (map value_of numbers), length-map numbers value_of)) in
-    let whole : (draft.order ++ map value_of numbers) ++ map value_of (joined orders) ≡ draft.order ++ map value_of (numbers ++ joined orders) =
-    append_assoc draft.order (map value_of numbers) (map value_of (joined orders)) ∙ ap (λ (some : List ℕ). draft.order ++ some) (sym (map-append value_of numbers (joined orders))) in
+    let rest = turns_reach (with_line draft (order numbers)) orders refl (All-tail IsBundleLine (order numbers) (map (λ ns. order ns) orders) forms) parts.1 (omega (arith, longer, length-append draft.order (map number_of_digits numbers), length-map numbers number_of_digits)) in
+    let whole : (draft.order ++ map number_of_digits numbers) ++ map number_of_digits (joined orders) ≡ draft.order ++ map number_of_digits (numbers ++ joined orders) =
+    append_assoc draft.order (map number_of_digits numbers) (map number_of_digits (joined orders)) ∙ ap (λ (some : List ℕ). draft.order ++ some) (sym (map-append number_of_digits numbers (joined orders))) in
     reach_to _ _ TakesTurns _ _ (record { next = rest.next; leads = leads_first draft rest.next (order numbers) (map (λ ns. order ns) orders) sound rest.leads; says = rest.says; section = rest.section })
-    (ap (λ (all : List ℕ). record { users = users_of draft; order = all; files = files_of draft; clock = draft.clock }) whole)
+    (ap (λ (all : List ℕ). record { users = users_so_far draft; order = all; files = files_of draft; clock = draft.clock }) whole)
 
 -- files
 
-takes_first_file : (section : PlainSection) (name : List ℕ) → takes_turns section ≡ true → takes_file section name ≡ true
+takes_first_file : (section : PlainSection) (name : List ℕ) → turns_may_stand section ≡ true → takes_file section name ≡ true
 takes_first_file start name takes = refl
 takes_first_file (of_user one) name takes = refl
 takes_first_file turns name takes = refl
@@ -159,14 +159,14 @@ takes_first_file (of_file one) name takes = absurd (false≢true takes)
 takes_first_file readings name takes = absurd (false≢true takes)
 takes_first_file ended name takes = absurd (false≢true takes)
 
-file_leads : (draft : PlainDraft) (sheet : Sheet) → takes_file draft.section sheet.name ≡ true → length (files_of draft) < most_files → IsLine (file sheet.name) → All IsContent sheet.lines
-    → Leads draft (file_section sheet) (at (users_of draft) draft.order (files_of draft) draft.clock (of_file (file_of sheet)))
+file_leads : (draft : PlainDraft) (sheet : Sheet) → takes_file draft.section sheet.name ≡ true → length (files_of draft) < most_files → IsBundleLine (file sheet.name) → All IsContent sheet.lines
+    → Leads draft (file_section sheet) (at (users_so_far draft) draft.order (files_of draft) draft.clock (of_file (file_of sheet)))
 file_leads draft sheet takes room form short =
     let sound : IsSound draft (file sheet.name) = record { form = form; place = takes; parties = refl; limits = lt-ltb _ _ room } in
-    leads_first draft _ (file sheet.name) (map (λ l. input l) sheet.lines) sound (file_lines_lead (users_of draft) draft.order (files_of draft) draft.clock sheet.name [] sheet.lines short)
+    leads_first draft _ (file sheet.name) (map (λ l. input l) sheet.lines) sound (file_lines_lead (users_so_far draft) draft.order (files_of draft) draft.clock sheet.name [] sheet.lines short)
 
 abbrev IsNamed : Sheet → Type 0
-IsNamed sheet = IsLine (file sheet.name)
+IsNamed sheet = IsBundleLine (file sheet.name)
 
 abbrev pub IsShort : Sheet → Type 0
 IsShort sheet = All IsContent sheet.lines
@@ -179,7 +179,7 @@ files_reach users turned done read last (sheet ∷ sheets) ascend few named shor
     let rest = files_reach users turned (done ++ last ∷ []) read (file_of sheet) sheets ascend.1 (omega (arith, length-append done (last ∷ []))) (All-tail IsNamed sheet sheets named) (All-tail IsShort sheet sheets short) in
     reach_to _ _ IsOpen _ _ (reach_on _ _ (file_section sheet) (flat_map file_section sheets) IsOpen _ first rest) (ap (λ (all : List PlainFile). record { users = users; order = turned; files = all; clock = read }) (append_assoc done (last ∷ []) (map file_of (sheet ∷ sheets))))
 
-opens : (section : PlainSection) → takes_turns section ≡ true → is_ended section ≡ false
+opens : (section : PlainSection) → turns_may_stand section ≡ true → is_at_end section ≡ false
 opens start takes = refl
 opens (of_user one) takes = refl
 opens turns takes = refl
@@ -187,39 +187,39 @@ opens (of_file one) takes = refl
 opens readings takes = refl
 opens ended takes = absurd (false≢true takes)
 
-all_files_reach : (draft : PlainDraft) (sheets : List Sheet) → takes_turns draft.section ≡ true → files_of draft ≡ [] → IsAscending (map file_of sheets) → length sheets ≤ most_files → All IsNamed sheets → All IsShort sheets
-    → Reach draft (flat_map file_section sheets) IsOpen (record { users = users_of draft; order = draft.order; files = map file_of sheets; clock = draft.clock })
+all_files_reach : (draft : PlainDraft) (sheets : List Sheet) → turns_may_stand draft.section ≡ true → files_of draft ≡ [] → IsAscending (map file_of sheets) → length sheets ≤ most_files → All IsNamed sheets → All IsShort sheets
+    → Reach draft (flat_map file_section sheets) IsOpen (record { users = users_so_far draft; order = draft.order; files = map file_of sheets; clock = draft.clock })
 all_files_reach draft [] takes none ascend few named short = record {
   next = draft;
   leads = nowhere draft;
-  says = ap (λ (all : List PlainFile). record { users = users_of draft; order = draft.order; files = all; clock = draft.clock }) none;
+  says = ap (λ (all : List PlainFile). record { users = users_so_far draft; order = draft.order; files = all; clock = draft.clock }) none;
   section = opens draft.section takes;
 }
 all_files_reach draft (sheet ∷ sheets) takes none ascend few named short =
     let first = file_leads draft sheet (takes_first_file draft.section sheet.name takes) (omega (arith, ap length none)) (All-head IsNamed sheet sheets named) (All-head IsShort sheet sheets short) in
-    let rest = files_reach (users_of draft) draft.order [] draft.clock (file_of sheet) sheets ascend (omega arith) (All-tail IsNamed sheet sheets named) (All-tail IsShort sheet sheets short) in
-    let at_none = subst (λ (files : List PlainFile). Leads draft (file_section sheet) (at (users_of draft) draft.order files draft.clock (of_file (file_of sheet)))) none first in
-    reach_on draft (at (users_of draft) draft.order [] draft.clock (of_file (file_of sheet))) (file_section sheet) (flat_map file_section sheets) IsOpen _ at_none rest
+    let rest = files_reach (users_so_far draft) draft.order [] draft.clock (file_of sheet) sheets ascend (omega arith) (All-tail IsNamed sheet sheets named) (All-tail IsShort sheet sheets short) in
+    let at_none = subst (λ (files : List PlainFile). Leads draft (file_section sheet) (at (users_so_far draft) draft.order files draft.clock (of_file (file_of sheet)))) none first in
+    reach_on draft (at (users_so_far draft) draft.order [] draft.clock (of_file (file_of sheet))) (file_section sheet) (flat_map file_section sheets) IsOpen _ at_none rest
 
 -- readings
 
-clocks_reach : (draft : PlainDraft) (clocks : List (List (List ℕ))) → is_ended draft.section ≡ false → All IsLine (map (λ numbers. clock numbers) clocks) → length draft.clock + length (joined clocks) ≤ most_readings
-    → Reach draft (map (λ numbers. clock numbers) clocks) IsOpen (record { users = users_of draft; order = draft.order; files = files_of draft; clock = draft.clock ++ map (λ digits. pos (value_of digits)) (joined clocks) })
+clocks_reach : (draft : PlainDraft) (clocks : List (List (List ℕ))) → is_at_end draft.section ≡ false → All IsBundleLine (map (λ numbers. clock numbers) clocks) → length draft.clock + length (joined clocks) ≤ most_readings
+    → Reach draft (map (λ numbers. clock numbers) clocks) IsOpen (record { users = users_so_far draft; order = draft.order; files = files_of draft; clock = draft.clock ++ map (λ digits. pos (number_of_digits digits)) (joined clocks) })
 clocks_reach draft [] is_open forms few = record {
   next = draft;
   leads = nowhere draft;
-  says = ap (λ (all : List ℤ). record { users = users_of draft; order = draft.order; files = files_of draft; clock = all }) (sym (append-nil draft.clock));
+  says = ap (λ (all : List ℤ). record { users = users_so_far draft; order = draft.order; files = files_of draft; clock = all }) (sym (append-nil draft.clock));
   section = is_open;
 }
 clocks_reach draft (numbers ∷ clocks) is_open forms few =
-    let read = λ (digits : List ℕ). pos (value_of digits) in
+    let read = λ (digits : List ℕ). pos (number_of_digits digits) in
     let longer = length-append numbers (joined clocks) in
-    let sound : IsSound draft (clock numbers) = record { form = All-head IsLine (clock numbers) (map (λ ns. clock ns) clocks) forms; place = ap not is_open; parties = refl; limits = le-leb _ _ (omega (arith, longer)) } in
-    let rest = clocks_reach (with_line draft (clock numbers)) clocks refl (All-tail IsLine (clock numbers) (map (λ ns. clock ns) clocks) forms) (omega (arith, longer, length-append draft.clock (map read numbers), length-map numbers read)) in
+    let sound : IsSound draft (clock numbers) = record { form = All-head IsBundleLine (clock numbers) (map (λ ns. clock ns) clocks) forms; place = ap not is_open; parties = refl; limits = le-leb _ _ (omega (arith, longer)) } in
+    let rest = clocks_reach (with_line draft (clock numbers)) clocks refl (All-tail IsBundleLine (clock numbers) (map (λ ns. clock ns) clocks) forms) (omega (arith, longer, length-append draft.clock (map read numbers), length-map numbers read)) in
     let whole : (draft.clock ++ map read numbers) ++ map read (joined clocks) ≡ draft.clock ++ map read (numbers ++ joined clocks) =
     append_assoc draft.clock (map read numbers) (map read (joined clocks)) ∙ ap (λ (some : List ℤ). draft.clock ++ some) (sym (map-append read numbers (joined clocks))) in
     reach_to _ _ IsOpen _ _ (record { next = rest.next; leads = leads_first draft rest.next (clock numbers) (map (λ ns. clock ns) clocks) sound rest.leads; says = rest.says; section = rest.section })
-    (ap (λ (all : List ℤ). record { users = users_of draft; order = draft.order; files = files_of draft; clock = all }) whole)
+    (ap (λ (all : List ℤ). record { users = users_so_far draft; order = draft.order; files = files_of draft; clock = all }) whole)
 
 -- the page
 
@@ -237,15 +237,15 @@ named_sheets (sheet ∷ sheets) each =
     All-cons IsNamed sheet sheets (All-head IsFile (file_of sheet) (map file_of sheets) each).name (named_sheets sheets (All-tail IsFile (file_of sheet) (map file_of sheets) each))
 
 abbrev pub IsOver : PlainSection → Type 0
-IsOver section = is_ended section ≡ true
+IsOver section = is_at_end section ≡ true
 
-end_reach : (draft : PlainDraft) → is_ended draft.section ≡ false → Reach draft (end ∷ []) IsOver (bundle_of draft)
+end_reach : (draft : PlainDraft) → is_at_end draft.section ≡ false → Reach draft (end ∷ []) IsOver (bundle_of draft)
 end_reach draft is_open =
     let sound : IsSound draft end = record { form = tt; place = ap not is_open; parties = refl; limits = refl } in
     record { next = with_line draft end; leads = leads_first draft (with_line draft end) end [] sound (nowhere (with_line draft end)); says = refl; section = refl }
 
 -- the lines of a page that says a bundle are sound and end, and say it
-pub page_reach : (page : Page) → IsBundle (said_by page) → All IsLine (lines_of page) → All IsShort page.files → Reach nothing_read (lines_of page) IsOver (said_by page)
+pub page_reach : (page : Page) → IsBundle (bundle_said_by page) → All IsBundleLine (lines_of page) → All IsShort page.files → Reach nothing_read (lines_of page) IsOver (bundle_said_by page)
 page_reach page rules forms short =
     let front = flat_map user_section page.users in
     let middle = map (λ (ns : List (List ℕ)). order ns) page.orders in
@@ -253,26 +253,26 @@ page_reach page rules forms short =
     let read = map (λ (ns : List (List ℕ)). clock ns) page.clocks in
     let same : lines_of page ≡ front ++ (middle ++ (papers ++ (read ++ end ∷ []))) =
     append_assoc ((front ++ middle) ++ papers) read (end ∷ []) ∙ (append_assoc (front ++ middle) papers (read ++ end ∷ []) ∙ append_assoc front middle (papers ++ (read ++ end ∷ []))) in
-    let turned = all_behind IsLine front (middle ++ (papers ++ (read ++ end ∷ []))) (subst (All IsLine) same forms) in
-    let filed = all_behind IsLine middle (papers ++ (read ++ end ∷ [])) turned in
-    let timed = all_behind IsLine papers (read ++ end ∷ []) filed in
+    let turned = all_behind IsBundleLine front (middle ++ (papers ++ (read ++ end ∷ []))) (subst (All IsBundleLine) same forms) in
+    let filed = all_behind IsBundleLine middle (papers ++ (read ++ end ∷ [])) turned in
+    let timed = all_behind IsBundleLine papers (read ++ end ∷ []) filed in
     let a = all_users_reach page.users rules.ascending rules.few rules.each in
-    let users : users_of a.next ≡ page.users = ap (λ (b : PlainBundle). b.users) a.says in
-    let parties : list_all (λ digits. is_party (users_of a.next) (value_of digits)) (joined page.orders) ≡ true =
-    subst (λ (us : List PlainUser). list_all (λ digits. is_party us (value_of digits)) (joined page.orders) ≡ true) (sym users) (sym (list_all-map (is_party page.users) value_of (joined page.orders)) ∙ rules.parties) in
-    let b = turns_reach a.next page.orders a.section (all_front IsLine middle (papers ++ (read ++ end ∷ [])) turned) parties (omega (arith, rules.few_turns, length-map (joined page.orders) value_of, ap (λ (b : PlainBundle). length b.order) a.says)) in
+    let users : users_so_far a.next ≡ page.users = ap (λ (b : PlainBundle). b.users) a.says in
+    let parties : list_all (λ digits. is_party (users_so_far a.next) (number_of_digits digits)) (joined page.orders) ≡ true =
+    subst (λ (us : List PlainUser). list_all (λ digits. is_party us (number_of_digits digits)) (joined page.orders) ≡ true) (sym users) (sym (list_all-map (is_party page.users) number_of_digits (joined page.orders)) ∙ rules.parties) in
+    let b = turns_reach a.next page.orders a.section (all_front IsBundleLine middle (papers ++ (read ++ end ∷ [])) turned) parties (omega (arith, rules.few_turns, length-map (joined page.orders) number_of_digits, ap (λ (b : PlainBundle). length b.order) a.says)) in
     let none : files_of b.next ≡ [] = ap (λ (some : PlainBundle). some.files) (b.says) ∙ ap (λ (some : PlainBundle). some.files) a.says in
     let c = all_files_reach b.next page.files b.section none rules.names_ascend (omega (arith, rules.few_files, length-map page.files file_of)) (named_sheets page.files rules.each_file) short in
-    let d = clocks_reach c.next page.clocks c.section (all_front IsLine read (end ∷ []) timed) (omega (arith, rules.few_readings, length-map (joined page.clocks) (λ digits. pos (value_of digits)), ap (λ (some : PlainBundle). length some.clock) c.says, ap (λ (some : PlainBundle). length some.clock) b.says, ap (λ (some : PlainBundle). length some.clock) a.says)) in
+    let d = clocks_reach c.next page.clocks c.section (all_front IsBundleLine read (end ∷ []) timed) (omega (arith, rules.few_readings, length-map (joined page.clocks) (λ digits. pos (number_of_digits digits)), ap (λ (some : PlainBundle). length some.clock) c.says, ap (λ (some : PlainBundle). length some.clock) b.says, ap (λ (some : PlainBundle). length some.clock) a.says)) in
     let last = end_reach d.next d.section in
-    let turned_page : bundle_of b.next ≡ record { users = page.users; order = map value_of (joined page.orders); files = []; clock = [] } =
-    b.says ∙ ap (λ (some : PlainBundle). record { users = some.users; order = some.order ++ map value_of (joined page.orders); files = some.files; clock = some.clock }) a.says in
-    let filed_page : bundle_of c.next ≡ record { users = page.users; order = map value_of (joined page.orders); files = map file_of page.files; clock = [] } =
+    let turned_page : bundle_of b.next ≡ record { users = page.users; order = map number_of_digits (joined page.orders); files = []; clock = [] } =
+    b.says ∙ ap (λ (some : PlainBundle). record { users = some.users; order = some.order ++ map number_of_digits (joined page.orders); files = some.files; clock = some.clock }) a.says in
+    let filed_page : bundle_of c.next ≡ record { users = page.users; order = map number_of_digits (joined page.orders); files = map file_of page.files; clock = [] } =
     c.says ∙ ap (λ (some : PlainBundle). record { users = some.users; order = some.order; files = map file_of page.files; clock = some.clock }) turned_page in
-    let says : bundle_of d.next ≡ said_by page =
-    d.says ∙ ap (λ (some : PlainBundle). record { users = some.users; order = some.order; files = some.files; clock = some.clock ++ map (λ digits. pos (value_of digits)) (joined page.clocks) }) filed_page in
-    subst (λ (lines : List PlainLine). Reach nothing_read lines IsOver (said_by page)) (sym same)
-    (reach_on nothing_read a.next front (middle ++ (papers ++ (read ++ end ∷ []))) IsOver (said_by page) a.leads
-    (reach_on a.next b.next middle (papers ++ (read ++ end ∷ [])) IsOver (said_by page) b.leads
-    (reach_on b.next c.next papers (read ++ end ∷ []) IsOver (said_by page) c.leads
-    (reach_on c.next d.next read (end ∷ []) IsOver (said_by page) d.leads (reach_to d.next (end ∷ []) IsOver (bundle_of d.next) (said_by page) last says)))))
+    let says : bundle_of d.next ≡ bundle_said_by page =
+    d.says ∙ ap (λ (some : PlainBundle). record { users = some.users; order = some.order; files = some.files; clock = some.clock ++ map (λ digits. pos (number_of_digits digits)) (joined page.clocks) }) filed_page in
+    subst (λ (lines : List PlainLine). Reach nothing_read lines IsOver (bundle_said_by page)) (sym same)
+    (reach_on nothing_read a.next front (middle ++ (papers ++ (read ++ end ∷ []))) IsOver (bundle_said_by page) a.leads
+    (reach_on a.next b.next middle (papers ++ (read ++ end ∷ [])) IsOver (bundle_said_by page) b.leads
+    (reach_on b.next c.next papers (read ++ end ∷ []) IsOver (bundle_said_by page) c.leads
+    (reach_on c.next d.next read (end ∷ []) IsOver (bundle_said_by page) d.leads (reach_to d.next (end ∷ []) IsOver (bundle_of d.next) (bundle_said_by page) last says)))))

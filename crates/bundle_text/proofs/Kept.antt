@@ -18,11 +18,11 @@ use Rattle.line_text.specs.Lines.{line_text, lines_text}
 use Rattle.line_text.proofs.Spans.{both}
 use Rattle.bundle_text.specs.Breaks.{IsSound, AreSound}
 use Rattle.aux_parties.specs.Auxiliaries.{is_auxiliary}
-use Rattle.bundle_text.specs.Rules.{PlainBundle, IsBundle, IsContent, IsUser, IsUserNumber, IsFile, IsReading, is_party}
+use Rattle.bundle_text.specs.Rules.{PlainBundle, IsBundle, IsContent, IsUser, IsUserNumber, IsFile, IsClockReading, is_party}
 use Rattle.bundle_text.specs.BundleLine.{PlainLine, input, user, order, file, clock, end, IsReadingText}
-use Rattle.bundle_text.specs.Draft.{PlainDraft, PlainSection, start, of_user, turns, of_file, readings, ended, users_with, files_with, users_of, files_of, takes_content, takes_user, takes_turns, takes_file, has_room, with_line, said, bundle_of, nothing_read}
+use Rattle.bundle_text.specs.Draft.{PlainDraft, PlainSection, start, of_user, turns, of_file, readings, ended, users_with, files_with, users_so_far, files_of, takes_content, takes_user, turns_may_stand, takes_file, has_room, with_line, said, bundle_of, nothing_read}
 use Rattle.bundle_text.specs.Limits.{most_turns, most_files, most_readings}
-use Rattle.text_reader.specs.Numeral.{value_of}
+use Rattle.text_reader.specs.Numeral.{number_of_digits}
 use Rattle.bundle_text.specs.User.{PlainUser}
 
 -- the rules, one kind of section after the other
@@ -43,7 +43,7 @@ pub record AreFiles (files : List PlainFile) : Type 0 where
 
 pub record AreReadings (clock : List ℤ) : Type 0 where
   pub few : length clock ≤ most_readings
-  pub each : All IsReading clock
+  pub each : All IsClockReading clock
 
 -- no user stands before the first heading, and no file before that of a file
 abbrev pub NoUsersYet : PlainSection → List PlainUser → Type 0
@@ -156,10 +156,10 @@ turns_same : (users : List PlainUser) (one : PlainUser) (lines : List (List ℕ)
 turns_same users one lines turned kept =
     record { few = kept.few; parties = all_pass (is_party (users ++ one ∷ [])) (is_party (users ++ record { number = one.number; lines = lines } ∷ [])) (party_same users one lines) turned kept.parties }
 
-turns_joined : (users : List PlainUser) (turned : List ℕ) (numbers : List (List ℕ)) → AreTurns users turned → list_all (λ digits. is_party users (value_of digits)) numbers ≡ true → length turned + length numbers ≤ most_turns → AreTurns users (turned ++ map value_of numbers)
+turns_joined : (users : List PlainUser) (turned : List ℕ) (numbers : List (List ℕ)) → AreTurns users turned → list_all (λ digits. is_party users (number_of_digits digits)) numbers ≡ true → length turned + length numbers ≤ most_turns → AreTurns users (turned ++ map number_of_digits numbers)
 turns_joined users turned numbers kept parties few = record {
-  few = omega (arith, length-append turned (map value_of numbers), length-map numbers value_of);
-  parties = list_all-append (is_party users) turned (map value_of numbers) ∙ rw (kept.parties, list_all-map (is_party users) value_of numbers, parties) refl;
+  few = omega (arith, length-append turned (map number_of_digits numbers), length-map numbers number_of_digits);
+  parties = list_all-append (is_party users) turned (map number_of_digits numbers) ∙ rw (kept.parties, list_all-map (is_party users) number_of_digits numbers, parties) refl;
 }
 
 -- files
@@ -222,15 +222,15 @@ files_longer files one line kept content =
 
 -- readings
 
-readings_of : (numbers : List (List ℕ)) → All IsReadingText numbers → All IsReading (map (λ digits. pos (value_of digits)) numbers)
-readings_of [] each = All-nil IsReading
+readings_of : (numbers : List (List ℕ)) → All IsReadingText numbers → All IsClockReading (map (λ digits. pos (number_of_digits digits)) numbers)
+readings_of [] each = All-nil IsClockReading
 readings_of (digits ∷ numbers) each =
-    All-append IsReading (pos (value_of digits) ∷ []) (map (λ digits. pos (value_of digits)) numbers) (All-push IsReading [] (pos (value_of digits)) (All-nil IsReading) (All-head IsReadingText digits numbers each).small) (readings_of numbers (All-tail IsReadingText digits numbers each))
+    All-append IsClockReading (pos (number_of_digits digits) ∷ []) (map (λ digits. pos (number_of_digits digits)) numbers) (All-push IsClockReading [] (pos (number_of_digits digits)) (All-nil IsClockReading) (All-head IsReadingText digits numbers each).small) (readings_of numbers (All-tail IsReadingText digits numbers each))
 
-readings_joined : (read : List ℤ) (numbers : List (List ℕ)) → AreReadings read → All IsReadingText numbers → length read + length numbers ≤ most_readings → AreReadings (read ++ map (λ digits. pos (value_of digits)) numbers)
+readings_joined : (read : List ℤ) (numbers : List (List ℕ)) → AreReadings read → All IsReadingText numbers → length read + length numbers ≤ most_readings → AreReadings (read ++ map (λ digits. pos (number_of_digits digits)) numbers)
 readings_joined read numbers kept each few = record {
-  few = omega (arith, length-append read (map (λ digits. pos (value_of digits)) numbers), length-map numbers (λ digits. pos (value_of digits)));
-  each = All-append IsReading read (map (λ digits. pos (value_of digits)) numbers) kept.each (readings_of numbers each);
+  few = omega (arith, length-append read (map (λ digits. pos (number_of_digits digits)) numbers), length-map numbers (λ digits. pos (number_of_digits digits)));
+  each = All-append IsClockReading read (map (λ digits. pos (number_of_digits digits)) numbers) kept.each (readings_of numbers each);
 }
 
 -- one line more
@@ -238,7 +238,7 @@ readings_joined read numbers kept each few = record {
 abbrev KeptBy : PlainDraft → Type 0
 KeptBy draft = IsKept draft.users draft.order draft.files draft.clock draft.section
 
-no_files_so_far : (section : PlainSection) (files : List PlainFile) → NoFilesYet section files → takes_turns section ≡ true → files_with files section ≡ []
+no_files_so_far : (section : PlainSection) (files : List PlainFile) → NoFilesYet section files → turns_may_stand section ≡ true → files_with files section ≡ []
 no_files_so_far start files none takes = none
 no_files_so_far (of_user one) files none takes = none
 no_files_so_far turns files none takes = none
@@ -285,8 +285,8 @@ input_kept users turned files read ended line kept sound = absurd (false≢true 
 kept_with : (draft : PlainDraft) (line : PlainLine) → KeptBy draft → IsSound draft line → KeptBy (with_line draft line)
 kept_with draft (input line) kept sound = input_kept draft.users draft.order draft.files draft.clock draft.section line kept sound
 kept_with draft (user number) kept sound = record {
-  all_users = users_begun draft.users draft.section number kept.all_users kept.no_users sound.form sound.place (ltb-true (length (users_of draft)) most_users sound.limits);
-  all_turns = turns_more (users_of draft) (record { number = number; lines = [] }) draft.order kept.all_turns;
+  all_users = users_begun draft.users draft.section number kept.all_users kept.no_users sound.form sound.place (ltb-true (length (users_so_far draft)) most_users sound.limits);
+  all_turns = turns_more (users_so_far draft) (record { number = number; lines = [] }) draft.order kept.all_turns;
   all_files = kept.all_files;
   all_readings = kept.all_readings;
   no_users = tt;
@@ -294,7 +294,7 @@ kept_with draft (user number) kept sound = record {
 }
 kept_with draft (order numbers) kept sound = record {
   all_users = kept.all_users;
-  all_turns = turns_joined (users_of draft) draft.order numbers kept.all_turns sound.parties (leb-true (length draft.order + length numbers) most_turns sound.limits);
+  all_turns = turns_joined (users_so_far draft) draft.order numbers kept.all_turns sound.parties (leb-true (length draft.order + length numbers) most_turns sound.limits);
   all_files = kept.all_files;
   all_readings = kept.all_readings;
   no_users = tt;
@@ -330,7 +330,7 @@ nothing_kept = record {
   all_users = record { few = omega arith; ascending = tt; each = All-nil IsUser };
   all_turns = record { few = omega arith; parties = refl };
   all_files = record { few = omega arith; ascending = tt; each = All-nil IsFile };
-  all_readings = record { few = omega arith; each = All-nil IsReading };
+  all_readings = record { few = omega arith; each = All-nil IsClockReading };
   no_users = refl;
   no_files = refl;
 }

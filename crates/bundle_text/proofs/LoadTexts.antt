@@ -6,10 +6,10 @@ use Rattle.std.specs.Char.{encode_utf8}
 use Rattle.std.specs.Fmt.{decimal, digits}
 use Rattle.std.specs.List.{All, list_all, position_or_len, flat_map}
 use Rattle.apl_arrays.specs.Glyph.{IsGlyph, is_between, line_utf8, scalars}
-use Rattle.bundle_text.specs.Bundle.{BundleText, Page, Sheet, said_by, lines_of, text_of, user_section}
-use Rattle.bundle_text.specs.BundleLine.{PlainLine, IsLine, input, user, end}
+use Rattle.bundle_text.specs.Bundle.{BundleText, Page, Sheet, bundle_said_by, lines_of, bytes_of_lines, user_section}
+use Rattle.bundle_text.specs.BundleLine.{PlainLine, IsBundleLine, input, user, end}
 use Rattle.bundle_text.specs.Load.{load_text, utf8}
-use Rattle.bundle_text.specs.Rules.{IsBundle, IsContent, IsFile, IsReading, IsUser, IsUserNumber, PlainBundle}
+use Rattle.bundle_text.specs.Rules.{IsBundle, IsContent, IsFile, IsClockReading, IsUser, IsUserNumber, PlainBundle}
 use Rattle.bundle_text.specs.User.{PlainUser}
 use Rattle.line_text.proofs.Ascii.{plain_utf8}
 use Rattle.line_text.proofs.Decimals.{digit_limit_wide, digits_are_plain}
@@ -71,7 +71,7 @@ abbrev pub page_of : ℕ → Page
 page_of n = record { users = giver n ∷ taker ∷ []; orders = []; files = []; clocks = [] }
 
 abbrev pub load_of : ℕ → PlainBundle
-load_of n = said_by (page_of n)
+load_of n = bundle_said_by (page_of n)
 
 -- they are content lines
 
@@ -105,22 +105,22 @@ rules_of_load n fits = record {
   names_ascend = tt;
   each_file = All-nil IsFile;
   few_readings = omega arith;
-  readings = All-nil IsReading;
+  readings = All-nil IsClockReading;
 }
 
 -- and each line has its form
 
-section_forms : (one : PlainUser) → IsUser one → All IsLine (user_section one)
+section_forms : (one : PlainUser) → IsUser one → All IsBundleLine (user_section one)
 section_forms one is =
-    All-cons IsLine (user one.number) (map (λ line. input line) one.lines) is.number
-    (All-map IsLine (λ line. input line) one.lines (All-weaker IsContent (λ line. All IsGlyph line) (λ line content. content.glyphs) one.lines is.each))
+    All-cons IsBundleLine (user one.number) (map (λ line. input line) one.lines) is.number
+    (All-map IsBundleLine (λ line. input line) one.lines (All-weaker IsContent (λ line. All IsGlyph line) (λ line content. content.glyphs) one.lines is.each))
 
-forms_of_load : (n : ℕ) → n < 2 ^ 64 → All IsLine (lines_of (page_of n))
+forms_of_load : (n : ℕ) → n < 2 ^ 64 → All IsBundleLine (lines_of (page_of n))
 forms_of_load n fits =
-    let ends : All IsLine (end ∷ []) = All-cons IsLine end [] tt (All-nil IsLine) in
-    let second : All IsLine (user_section taker ++ []) = All-append IsLine (user_section taker) [] (section_forms taker taker_rules) (All-nil IsLine) in
-    let sections : All IsLine (user_section (giver n) ++ (user_section taker ++ [])) = All-append IsLine (user_section (giver n)) (user_section taker ++ []) (section_forms (giver n) (giver_rules n fits)) second in
-    All-append IsLine (user_section (giver n) ++ (user_section taker ++ [])) (end ∷ []) sections ends
+    let ends : All IsBundleLine (end ∷ []) = All-cons IsBundleLine end [] tt (All-nil IsBundleLine) in
+    let second : All IsBundleLine (user_section taker ++ []) = All-append IsBundleLine (user_section taker) [] (section_forms taker taker_rules) (All-nil IsBundleLine) in
+    let sections : All IsBundleLine (user_section (giver n) ++ (user_section taker ++ [])) = All-append IsBundleLine (user_section (giver n)) (user_section taker ++ []) (section_forms (giver n) (giver_rules n fits)) second in
+    All-append IsBundleLine (user_section (giver n) ++ (user_section taker ++ [])) (end ∷ []) sections ends
 
 -- the text
 
@@ -135,7 +135,7 @@ middle n fits =
     ap (λ (spelled : List ℕ). spelled ++ (10 ∷ behind)) (sym (plain_utf8 (decimal n) (digits_are_plain n fits)))
     ∙ sym (append_assoc (line_utf8 (decimal n)) (10 ∷ []) behind)
 
-text_of_load : (n : ℕ) → n < 2 ^ 64 → load_text n ≡ text_of (lines_of (page_of n))
+text_of_load : (n : ℕ) → n < 2 ^ 64 → load_text n ≡ bytes_of_lines (lines_of (page_of n))
 unfolding digits encode_utf8
 text_of_load n fits = ap (λ (rest : List ℕ). front ++ rest) (middle n fits)
 

@@ -10,9 +10,9 @@ use Rattle.apl_arrays.specs.Limits.{most_line_glyphs}
 use Rattle.line_text.specs.Lines.{line_text, lines_text}
 use Rattle.bundle_text.specs.Breaks.{IsSound, AreSound, text_before}
 use Rattle.bundle_text.specs.Rules.{IsContent}
-use Rattle.bundle_text.specs.BundleLine.{PlainLine, input, user, order, file, clock, end, IsLine, line_glyphs}
-use Rattle.bundle_text.specs.Draft.{PlainDraft, PlainSection, start, of_user, turns, of_file, readings, ended, users_with, files_with, users_of, takes_content, takes_user, takes_turns, takes_file, is_ended, longer, with_line, said, bundle_of}
-use Rattle.bundle_text.specs.Bundle.{Page, Sheet, user_section, file_section, lines_of, file_of, text_of, BundleText}
+use Rattle.bundle_text.specs.BundleLine.{PlainLine, input, user, order, file, clock, end, IsBundleLine, line_glyphs}
+use Rattle.bundle_text.specs.Draft.{PlainDraft, PlainSection, start, of_user, turns, of_file, readings, ended, users_with, files_with, users_so_far, takes_content, takes_user, turns_may_stand, takes_file, is_at_end, longer, with_line, said, bundle_of}
+use Rattle.bundle_text.specs.Bundle.{Page, Sheet, user_section, file_section, lines_of, file_of, bytes_of_lines, BundleText}
 use Rattle.bundle_text.specs.User.{PlainUser}
 use Rattle.bundle_text.proofs.Kept.{all_changed, text_push, said_is_bundle}
 use Rattle.bundle_text.proofs.Bodies.{body, numbers_in, readings_in, numbers_push, readings_push, users_push, sheets_push, user_longer, sheet_longer, body_user, body_turns, body_file, body_clock}
@@ -59,8 +59,8 @@ record IsWritten (users : List PlainUser) (files : List PlainFile) (section : Pl
   orders : List (List (List ℕ))
   sheets : List Sheet
   clocks : List (List (List ℕ))
-  text : text_before before ≡ text_of (body (users_with users section) orders sheets clocks)
-  forms : All IsLine (body (users_with users section) orders sheets clocks)
+  text : text_before before ≡ bytes_of_lines (body (users_with users section) orders sheets clocks)
+  forms : All IsBundleLine (body (users_with users section) orders sheets clocks)
   says_order : numbers_in orders ≡ turned
   says_files : SheetsSay section files sheets
   says_clock : readings_in clocks ≡ read
@@ -69,16 +69,16 @@ record IsWritten (users : List PlainUser) (files : List PlainFile) (section : Pl
   no_sheets : NoSheetsYet section sheets
   no_clocks : NoClocksYet section clocks
 
-lines_push : (lines : List PlainLine) (line : PlainLine) → text_of (lines ++ line ∷ []) ≡ text_of lines ++ line_text (line_glyphs line)
+lines_push : (lines : List PlainLine) (line : PlainLine) → bytes_of_lines (lines ++ line ∷ []) ≡ bytes_of_lines lines ++ line_text (line_glyphs line)
 lines_push lines line =
     ap lines_text (map-append line_glyphs lines (line ∷ [])) ∙ text_push (map line_glyphs lines) (line_glyphs line)
 
-text_grown : (before old new : List PlainLine) (line : PlainLine) → text_before before ≡ text_of old → new ≡ old ++ line ∷ [] → text_before (line ∷ before) ≡ text_of new
+text_grown : (before old new : List PlainLine) (line : PlainLine) → text_before before ≡ bytes_of_lines old → new ≡ old ++ line ∷ [] → text_before (line ∷ before) ≡ bytes_of_lines new
 text_grown before old new line text e =
-    ap (λ (front : List ℕ). front ++ line_text (line_glyphs line)) text ∙ sym (lines_push old line) ∙ ap text_of (sym e)
+    ap (λ (front : List ℕ). front ++ line_text (line_glyphs line)) text ∙ sym (lines_push old line) ∙ ap bytes_of_lines (sym e)
 
-forms_grown : (old new : List PlainLine) (line : PlainLine) → All IsLine old → IsLine line → new ≡ old ++ line ∷ [] → All IsLine new
-forms_grown old new line forms form e = subst (All IsLine) (sym e) (All-push IsLine old line forms form)
+forms_grown : (old new : List PlainLine) (line : PlainLine) → All IsBundleLine old → IsBundleLine line → new ≡ old ++ line ∷ [] → All IsBundleLine new
+forms_grown old new line forms form e = subst (All IsBundleLine) (sym e) (All-push IsBundleLine old line forms form)
 
 -- what is missing yet
 
@@ -91,7 +91,7 @@ bare (of_file one) number orders sheets clocks takes a b c = absurd (false≢tru
 bare readings number orders sheets clocks takes a b c = absurd (false≢true takes)
 bare ended number orders sheets clocks takes a b c = absurd (false≢true takes)
 
-no_papers : (section : PlainSection) (sheets : List Sheet) (clocks : List (List (List ℕ))) → takes_turns section ≡ true → NoSheetsYet section sheets → NoClocksYet section clocks → (sheets ≡ []) × (clocks ≡ [])
+no_papers : (section : PlainSection) (sheets : List Sheet) (clocks : List (List (List ℕ))) → turns_may_stand section ≡ true → NoSheetsYet section sheets → NoClocksYet section clocks → (sheets ≡ []) × (clocks ≡ [])
 no_papers start sheets clocks takes b c = (b, c)
 no_papers (of_user one) sheets clocks takes b c = (b, c)
 no_papers turns sheets clocks takes b c = (b, c)
@@ -116,14 +116,14 @@ user_written : (draft : PlainDraft) (before : List PlainLine) (number : ℕ) →
 user_written draft before number w sound =
     let next : PlainUser = record { number = number; lines = [] } in
     let none = bare draft.section number w.orders w.sheets w.clocks sound.place w.no_turns w.no_sheets w.no_clocks in
-    let old : body (users_of draft) w.orders w.sheets w.clocks ≡ body (users_of draft) [] [] [] = rw (none.0, none.1, none.2) refl in
-    let more = body_user (users_of draft) (users_of draft ++ next ∷ []) (user number) (users_push (users_of draft) next) in
+    let old : body (users_so_far draft) w.orders w.sheets w.clocks ≡ body (users_so_far draft) [] [] [] = rw (none.0, none.1, none.2) refl in
+    let more = body_user (users_so_far draft) (users_so_far draft ++ next ∷ []) (user number) (users_push (users_so_far draft) next) in
     record {
       orders = [];
       sheets = [];
       clocks = [];
-      text = text_grown before (body (users_of draft) [] [] []) (body (users_of draft ++ next ∷ []) [] [] []) (user number) (w.text ∙ ap text_of old) more;
-      forms = forms_grown (body (users_of draft) [] [] []) (body (users_of draft ++ next ∷ []) [] [] []) (user number) (subst (All IsLine) old w.forms) sound.form more;
+      text = text_grown before (body (users_so_far draft) [] [] []) (body (users_so_far draft ++ next ∷ []) [] [] []) (user number) (w.text ∙ ap bytes_of_lines old) more;
+      forms = forms_grown (body (users_so_far draft) [] [] []) (body (users_so_far draft ++ next ∷ []) [] [] []) (user number) (subst (All IsBundleLine) old w.forms) sound.form more;
       says_order = ap numbers_in (sym none.0) ∙ w.says_order;
       says_files = ap (map file_of) (sym none.1) ∙ sheets_say draft.section draft.files w.sheets w.says_files;
       says_clock = ap readings_in (sym none.2) ∙ w.says_clock;
@@ -136,14 +136,14 @@ user_written draft before number w sound =
 turns_written : (draft : PlainDraft) (before : List PlainLine) (numbers : List (List ℕ)) → WrittenBy draft before → IsSound draft (order numbers) → WrittenBy (with_line draft (order numbers)) (order numbers ∷ before)
 turns_written draft before numbers w sound =
     let none = no_papers draft.section w.sheets w.clocks sound.place w.no_sheets w.no_clocks in
-    let old : body (users_of draft) w.orders w.sheets w.clocks ≡ body (users_of draft) w.orders [] [] = rw (none.0, none.1) refl in
-    let more = body_turns (users_of draft) w.orders numbers in
+    let old : body (users_so_far draft) w.orders w.sheets w.clocks ≡ body (users_so_far draft) w.orders [] [] = rw (none.0, none.1) refl in
+    let more = body_turns (users_so_far draft) w.orders numbers in
     record {
       orders = w.orders ++ numbers ∷ [];
       sheets = [];
       clocks = [];
-      text = text_grown before (body (users_of draft) w.orders [] []) (body (users_of draft) (w.orders ++ numbers ∷ []) [] []) (order numbers) (w.text ∙ ap text_of old) more;
-      forms = forms_grown (body (users_of draft) w.orders [] []) (body (users_of draft) (w.orders ++ numbers ∷ []) [] []) (order numbers) (subst (All IsLine) old w.forms) sound.form more;
+      text = text_grown before (body (users_so_far draft) w.orders [] []) (body (users_so_far draft) (w.orders ++ numbers ∷ []) [] []) (order numbers) (w.text ∙ ap bytes_of_lines old) more;
+      forms = forms_grown (body (users_so_far draft) w.orders [] []) (body (users_so_far draft) (w.orders ++ numbers ∷ []) [] []) (order numbers) (subst (All IsBundleLine) old w.forms) sound.form more;
       says_order = numbers_push w.orders numbers draft.order w.says_order;
       says_files = ap (map file_of) (sym none.0) ∙ sheets_say draft.section draft.files w.sheets w.says_files;
       says_clock = ap readings_in (sym none.1) ∙ w.says_clock;
@@ -157,14 +157,14 @@ file_written : (draft : PlainDraft) (before : List PlainLine) (name : List ℕ) 
 file_written draft before name w sound =
     let next : Sheet = record { name = name; lines = [] } in
     let none = no_clock draft.section name w.clocks sound.place w.no_clocks in
-    let old : body (users_of draft) w.orders w.sheets w.clocks ≡ body (users_of draft) w.orders w.sheets [] = rw none refl in
-    let more = body_file (users_of draft) w.orders w.sheets (w.sheets ++ next ∷ []) (file name) (sheets_push w.sheets next) in
+    let old : body (users_so_far draft) w.orders w.sheets w.clocks ≡ body (users_so_far draft) w.orders w.sheets [] = rw none refl in
+    let more = body_file (users_so_far draft) w.orders w.sheets (w.sheets ++ next ∷ []) (file name) (sheets_push w.sheets next) in
     record {
       orders = w.orders;
       sheets = w.sheets ++ next ∷ [];
       clocks = [];
-      text = text_grown before (body (users_of draft) w.orders w.sheets []) (body (users_of draft) w.orders (w.sheets ++ next ∷ []) []) (file name) (w.text ∙ ap text_of old) more;
-      forms = forms_grown (body (users_of draft) w.orders w.sheets []) (body (users_of draft) w.orders (w.sheets ++ next ∷ []) []) (file name) (subst (All IsLine) old w.forms) sound.form more;
+      text = text_grown before (body (users_so_far draft) w.orders w.sheets []) (body (users_so_far draft) w.orders (w.sheets ++ next ∷ []) []) (file name) (w.text ∙ ap bytes_of_lines old) more;
+      forms = forms_grown (body (users_so_far draft) w.orders w.sheets []) (body (users_so_far draft) w.orders (w.sheets ++ next ∷ []) []) (file name) (subst (All IsBundleLine) old w.forms) sound.form more;
       says_order = w.says_order;
       says_files = record { olds = w.sheets; last = next; are = refl; before = sheets_say draft.section draft.files w.sheets w.says_files; same = refl };
       says_clock = ap readings_in (sym none) ∙ w.says_clock;
@@ -176,13 +176,13 @@ file_written draft before name w sound =
 
 clock_written : (draft : PlainDraft) (before : List PlainLine) (numbers : List (List ℕ)) → WrittenBy draft before → IsSound draft (clock numbers) → WrittenBy (with_line draft (clock numbers)) (clock numbers ∷ before)
 clock_written draft before numbers w sound =
-    let more = body_clock (users_of draft) w.orders w.sheets w.clocks numbers in
+    let more = body_clock (users_so_far draft) w.orders w.sheets w.clocks numbers in
     record {
       orders = w.orders;
       sheets = w.sheets;
       clocks = w.clocks ++ numbers ∷ [];
-      text = text_grown before (body (users_of draft) w.orders w.sheets w.clocks) (body (users_of draft) w.orders w.sheets (w.clocks ++ numbers ∷ [])) (clock numbers) w.text more;
-      forms = forms_grown (body (users_of draft) w.orders w.sheets w.clocks) (body (users_of draft) w.orders w.sheets (w.clocks ++ numbers ∷ [])) (clock numbers) w.forms sound.form more;
+      text = text_grown before (body (users_so_far draft) w.orders w.sheets w.clocks) (body (users_so_far draft) w.orders w.sheets (w.clocks ++ numbers ∷ [])) (clock numbers) w.text more;
+      forms = forms_grown (body (users_so_far draft) w.orders w.sheets w.clocks) (body (users_so_far draft) w.orders w.sheets (w.clocks ++ numbers ∷ [])) (clock numbers) w.forms sound.form more;
       says_order = w.says_order;
       says_files = sheets_say draft.section draft.files w.sheets w.says_files;
       says_clock = readings_push w.clocks numbers draft.clock w.says_clock;
@@ -192,7 +192,7 @@ clock_written draft before numbers w sound =
       no_clocks = tt;
     }
 
-input_of_user : (users : List PlainUser) (files : List PlainFile) (one : PlainUser) (turned : List ℕ) (read : List ℤ) (before : List PlainLine) (line : List ℕ) → IsWritten users files (of_user one) turned read before → IsLine (input line)
+input_of_user : (users : List PlainUser) (files : List PlainFile) (one : PlainUser) (turned : List ℕ) (read : List ℤ) (before : List PlainLine) (line : List ℕ) → IsWritten users files (of_user one) turned read before → IsBundleLine (input line)
     → IsWritten users files (of_user (record { number = one.number; lines = one.lines ++ line ∷ [] })) turned read (input line ∷ before)
 input_of_user users files one turned read before line w form =
     let next : PlainUser = record { number = one.number; lines = one.lines ++ line ∷ [] } in
@@ -202,8 +202,8 @@ input_of_user users files one turned read before line w form =
       orders = [];
       sheets = [];
       clocks = [];
-      text = text_grown before (body (users ++ one ∷ []) [] [] []) (body (users ++ next ∷ []) [] [] []) (input line) (w.text ∙ ap text_of old) more;
-      forms = forms_grown (body (users ++ one ∷ []) [] [] []) (body (users ++ next ∷ []) [] [] []) (input line) (subst (All IsLine) old w.forms) form more;
+      text = text_grown before (body (users ++ one ∷ []) [] [] []) (body (users ++ next ∷ []) [] [] []) (input line) (w.text ∙ ap bytes_of_lines old) more;
+      forms = forms_grown (body (users ++ one ∷ []) [] [] []) (body (users ++ next ∷ []) [] [] []) (input line) (subst (All IsBundleLine) old w.forms) form more;
       says_order = ap numbers_in (sym w.no_turns) ∙ w.says_order;
       says_files = ap (map file_of) (sym w.no_sheets) ∙ w.says_files;
       says_clock = ap readings_in (sym w.no_clocks) ∙ w.says_clock;
@@ -226,8 +226,8 @@ input_of_file users files one turned read before line w content =
       orders = w.orders;
       sheets = olds ++ next ∷ [];
       clocks = [];
-      text = text_grown before (body users w.orders (olds ++ last ∷ []) []) (body users w.orders (olds ++ next ∷ []) []) (input line) (w.text ∙ ap text_of old) more;
-      forms = forms_grown (body users w.orders (olds ++ last ∷ []) []) (body users w.orders (olds ++ next ∷ []) []) (input line) (subst (All IsLine) old w.forms) content.glyphs more;
+      text = text_grown before (body users w.orders (olds ++ last ∷ []) []) (body users w.orders (olds ++ next ∷ []) []) (input line) (w.text ∙ ap bytes_of_lines old) more;
+      forms = forms_grown (body users w.orders (olds ++ last ∷ []) []) (body users w.orders (olds ++ next ∷ []) []) (input line) (subst (All IsBundleLine) old w.forms) content.glyphs more;
       says_order = w.says_order;
       says_files = record {
         olds = olds;
@@ -256,7 +256,7 @@ input_written users turned files read ended before line w sound = absurd (false�
 
 -- lines before the end
 
-open_before : (section : PlainSection) → takes_content section ≡ true → is_ended section ≡ false
+open_before : (section : PlainSection) → takes_content section ≡ true → is_at_end section ≡ false
 open_before start takes = refl
 open_before (of_user one) takes = refl
 open_before turns takes = refl
@@ -264,7 +264,7 @@ open_before (of_file one) takes = refl
 open_before readings takes = refl
 open_before ended takes = absurd (false≢true takes)
 
-user_open : (section : PlainSection) (number : ℕ) → takes_user section number ≡ true → is_ended section ≡ false
+user_open : (section : PlainSection) (number : ℕ) → takes_user section number ≡ true → is_at_end section ≡ false
 user_open start number takes = refl
 user_open (of_user one) number takes = refl
 user_open turns number takes = refl
@@ -272,7 +272,7 @@ user_open (of_file one) number takes = refl
 user_open readings number takes = refl
 user_open ended number takes = absurd (false≢true takes)
 
-turns_open : (section : PlainSection) → takes_turns section ≡ true → is_ended section ≡ false
+turns_open : (section : PlainSection) → turns_may_stand section ≡ true → is_at_end section ≡ false
 turns_open start takes = refl
 turns_open (of_user one) takes = refl
 turns_open turns takes = refl
@@ -280,7 +280,7 @@ turns_open (of_file one) takes = refl
 turns_open readings takes = refl
 turns_open ended takes = absurd (false≢true takes)
 
-file_open : (section : PlainSection) (name : List ℕ) → takes_file section name ≡ true → is_ended section ≡ false
+file_open : (section : PlainSection) (name : List ℕ) → takes_file section name ≡ true → is_at_end section ≡ false
 file_open start name takes = refl
 file_open (of_user one) name takes = refl
 file_open turns name takes = refl
@@ -288,7 +288,7 @@ file_open (of_file one) name takes = refl
 file_open readings name takes = refl
 file_open ended name takes = absurd (false≢true takes)
 
-pub longer_open : (section : PlainSection) (line : List ℕ) → takes_content section ≡ true → is_ended (longer section line) ≡ false
+pub longer_open : (section : PlainSection) (line : List ℕ) → takes_content section ≡ true → is_at_end (longer section line) ≡ false
 longer_open start line takes = refl
 longer_open (of_user one) line takes = refl
 longer_open turns line takes = refl
@@ -300,13 +300,13 @@ not_open : (b : Bool) → not b ≡ true → b ≡ false
 not_open true e = absurd (false≢true e)
 not_open false e = refl
 
-written : (before : List PlainLine) → AreSound before → is_ended (said before).section ≡ false → WrittenBy (said before) before
+written : (before : List PlainLine) → AreSound before → is_at_end (said before).section ≡ false → WrittenBy (said before) before
 written [] sound open_ = record {
   orders = [];
   sheets = [];
   clocks = [];
   text = refl;
-  forms = All-nil IsLine;
+  forms = All-nil IsBundleLine;
   says_order = refl;
   says_files = refl;
   says_clock = refl;
@@ -321,15 +321,15 @@ written (input line ∷ before) sound open_ =
 written (user number ∷ before) sound open_ = user_written (said before) before number (written before sound.1 (user_open (said before).section number sound.0.place)) sound.0
 written (order numbers ∷ before) sound open_ = turns_written (said before) before numbers (written before sound.1 (turns_open (said before).section sound.0.place)) sound.0
 written (file name ∷ before) sound open_ = file_written (said before) before name (written before sound.1 (file_open (said before).section name sound.0.place)) sound.0
-written (clock numbers ∷ before) sound open_ = clock_written (said before) before numbers (written before sound.1 (not_open (is_ended (said before).section) sound.0.place)) sound.0
+written (clock numbers ∷ before) sound open_ = clock_written (said before) before numbers (written before sound.1 (not_open (is_at_end (said before).section) sound.0.place)) sound.0
 written (end ∷ before) sound open_ = absurd (false≢true (sym open_))
 
 -- the page of lines that end
 
 page_of : (draft : PlainDraft) (before : List PlainLine) → WrittenBy draft before → Page
-page_of draft before w = record { users = users_of draft; orders = w.orders; files = w.sheets; clocks = w.clocks }
+page_of draft before w = record { users = users_so_far draft; orders = w.orders; files = w.sheets; clocks = w.clocks }
 
-ends_body : (draft : PlainDraft) (before : List PlainLine) (w : WrittenBy draft before) → lines_of (page_of draft before w) ≡ body (users_of draft) w.orders w.sheets w.clocks ++ end ∷ []
+ends_body : (draft : PlainDraft) (before : List PlainLine) (w : WrittenBy draft before) → lines_of (page_of draft before w) ≡ body (users_so_far draft) w.orders w.sheets w.clocks ++ end ∷ []
 unfolding page_of
 ends_body draft before w = refl
 
@@ -337,9 +337,9 @@ ended_text : (before : List PlainLine) (sound : AreSound (end ∷ before)) (byte
 unfolding page_of
 ended_text before sound bytes text =
     let draft = said before in
-    let w = written before sound.1 (not_open (is_ended draft.section) sound.0.place) in
-    let old = body (users_of draft) w.orders w.sheets w.clocks in
-    let whole : text_before (end ∷ before) ≡ text_of (lines_of (page_of draft before w)) = text_grown before old (lines_of (page_of draft before w)) end w.text (ends_body draft before w) in
+    let w = written before sound.1 (not_open (is_at_end draft.section) sound.0.place) in
+    let old = body (users_so_far draft) w.orders w.sheets w.clocks in
+    let whole : text_before (end ∷ before) ≡ bytes_of_lines (lines_of (page_of draft before w)) = text_grown before old (lines_of (page_of draft before w)) end w.text (ends_body draft before w) in
     record {
       rules = said_is_bundle (end ∷ before) sound;
       page = page_of draft before w;
@@ -350,7 +350,7 @@ ended_text before sound bytes text =
     }
 
 -- lines that end are the text of what they say
-pub text_of_said : (before : List PlainLine) → AreSound before → is_ended (said before).section ≡ true → (bytes : List ℕ) → (bytes ≡ text_before before) ⊎ (bytes ++ 10 ∷ [] ≡ text_before before) → BundleText bytes (bundle_of (said before))
+pub text_of_said : (before : List PlainLine) → AreSound before → is_at_end (said before).section ≡ true → (bytes : List ℕ) → (bytes ≡ text_before before) ⊎ (bytes ++ 10 ∷ [] ≡ text_before before) → BundleText bytes (bundle_of (said before))
 text_of_said [] sound over bytes text = absurd (false≢true over)
 text_of_said (input line ∷ before) sound over bytes text = absurd (false≢true (sym (longer_open (said before).section line sound.0.place) ∙ over))
 text_of_said (user number ∷ before) sound over bytes text = absurd (false≢true over)

@@ -7,7 +7,7 @@ use Rattle.apl_arrays.specs.Glyph.{IsGlyph, Spells, IsBadFrom, line_utf8}
 use Rattle.apl_arrays.proofs.Spelling.{bad_nowhere, one_place}
 use Rattle.line_text.specs.Lines.{end_line, line_text, HasNoFeed}
 use Rattle.bundle_text.specs.Breaks.{IsSound, IsSpelled, IsEnded, IsBroken, IsMisfit, LineBreaks, IsFirstLine, FirstBreaks, LacksEnd, BreaksBehind}
-use Rattle.bundle_text.specs.BundleLine.{PlainLine, IsLine, IsTextOf, IsNoLine, line_glyphs}
+use Rattle.bundle_text.specs.BundleLine.{PlainLine, IsBundleLine, IsTextOf, IsNoLine, line_glyphs}
 use Rattle.bundle_text.specs.Draft.{PlainDraft}
 use Rattle.bundle_text.specs.declared.refused.BundleRule.{BundleRule}
 use Rattle.bundle_text.specs.declared.refused.BundleRule.TheVariants.{Glyph, Newline, Form, Place, Party, Limit, End}

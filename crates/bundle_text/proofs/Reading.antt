@@ -10,8 +10,8 @@ use Rattle.apl_arrays.specs.Glyph.{line_utf8}
 use Rattle.bundle_text.specs.Breaks.{IsSound, IsFirstLine, LineBreaks, FirstBreaks, LacksEnd, BreaksBehind, Breaks}
 use Rattle.bundle_text.specs.Rules.{PlainBundle, IsBundle}
 use Rattle.bundle_text.specs.BundleLine.{PlainLine, input, user, order, file, clock, end, line_glyphs}
-use Rattle.bundle_text.specs.Draft.{PlainDraft, PlainSection, start, of_user, turns, of_file, readings, ended, is_ended, may_stand, with_line, nothing_read, bundle_of}
-use Rattle.bundle_text.specs.Bundle.{lines_of, said_by, text_of, BundleText, IsNoBundle}
+use Rattle.bundle_text.specs.Draft.{PlainDraft, PlainSection, start, of_user, turns, of_file, readings, ended, is_at_end, may_stand, with_line, nothing_read, bundle_of}
+use Rattle.bundle_text.specs.Bundle.{lines_of, bundle_said_by, bytes_of_lines, BundleText, IsNoBundle}
 use Rattle.bundle_text.specs.Refused.{IsReason, IsRefusal}
 use Rattle.bundle_text.specs.declared.refused.BundleRefused.{BundleRefused}
 use Rattle.bundle_text.specs.declared.refused.BundleRefused.TheVariants.{Malformed, WantOfMemory}
@@ -23,7 +23,7 @@ use Rattle.bundle_text.proofs.Texts.{glyphs_of_line, line_has_no_feed, same_line
 use Rattle.bundle_text.proofs.Walks.{SoundFrom, after, forward, forward_sound, after_forward, front_text, sound_first, breaks_once}
 
 -- behind the end no line may stand
-nothing_behind : (section : PlainSection) (line : PlainLine) → is_ended section ≡ true → may_stand section line ≡ true → ⊥
+nothing_behind : (section : PlainSection) (line : PlainLine) → is_at_end section ≡ true → may_stand section line ≡ true → ⊥
 nothing_behind start line over may = false≢true over
 nothing_behind (of_user one) line over may = false≢true over
 nothing_behind turns line over may = false≢true over
@@ -43,17 +43,17 @@ one_first draft l m rest left a b e =
     (same_line m l (line_utf8 (line_glyphs m)) (b.form, refl) (a.form, ap line_utf8 (sym cut.0)), cut.1)
 
 -- two walks to an end over one text are one
-pub same_walk : (draft : PlainDraft) (xs ys : List PlainLine) (rest left : List ℕ) → SoundFrom draft xs → SoundFrom draft ys → is_ended (after draft xs).section ≡ true → is_ended (after draft ys).section ≡ true → text_of xs ++ rest ≡ text_of ys ++ left → xs ≡ ys
+pub same_walk : (draft : PlainDraft) (xs ys : List PlainLine) (rest left : List ℕ) → SoundFrom draft xs → SoundFrom draft ys → is_at_end (after draft xs).section ≡ true → is_at_end (after draft ys).section ≡ true → bytes_of_lines xs ++ rest ≡ bytes_of_lines ys ++ left → xs ≡ ys
 same_walk draft [] [] rest left a b over done e = refl
 same_walk draft [] (m ∷ ys) rest left a b over done e = absurd (nothing_behind draft.section m over b.0.place)
 same_walk draft (l ∷ xs) [] rest left a b over done e = absurd (nothing_behind draft.section l done a.0.place)
 same_walk draft (l ∷ xs) (m ∷ ys) rest left a b over done e =
-    let one = one_first draft l m (text_of xs ++ rest) (text_of ys ++ left) a.0 b.0 (sym (append_assoc (line_text (line_glyphs l)) (text_of xs) rest) ∙ (e ∙ append_assoc (line_text (line_glyphs m)) (text_of ys) left)) in
-    let others = same_walk (with_line draft l) xs ys rest left a.1 (subst (λ some. SoundFrom (with_line draft some) ys) one.0 b.1) over (subst (λ some. is_ended (after (with_line draft some) ys).section ≡ true) one.0 done) one.1 in
+    let one = one_first draft l m (bytes_of_lines xs ++ rest) (bytes_of_lines ys ++ left) a.0 b.0 (sym (append_assoc (line_text (line_glyphs l)) (bytes_of_lines xs) rest) ∙ (e ∙ append_assoc (line_text (line_glyphs m)) (bytes_of_lines ys) left)) in
+    let others = same_walk (with_line draft l) xs ys rest left a.1 (subst (λ some. SoundFrom (with_line draft some) ys) one.0 b.1) over (subst (λ some. is_at_end (after (with_line draft some) ys).section ≡ true) one.0 done) one.1 in
     cc (one.0, others)
 
 -- the line that ends is the end
-last_is_end : (draft : PlainDraft) (line : PlainLine) → IsSound draft line → is_ended (with_line draft line).section ≡ true → line ≡ end
+last_is_end : (draft : PlainDraft) (line : PlainLine) → IsSound draft line → is_at_end (with_line draft line).section ≡ true → line ≡ end
 last_is_end draft (input line) sound over = absurd (false≢true (sym (longer_open draft.section line sound.place) ∙ over))
 last_is_end draft (user number) sound over = absurd (false≢true over)
 last_is_end draft (order numbers) sound over = absurd (false≢true over)
@@ -64,7 +64,7 @@ last_is_end draft end sound over = refl
 -- the text of lines ends with a line feed
 record EndsFed (lines : List PlainLine) : Type 0 where
   front : List ℕ
-  whole : text_of lines ≡ front ++ 10 ∷ []
+  whole : bytes_of_lines lines ≡ front ++ 10 ∷ []
 
 ends_fed : (line : PlainLine) (lines : List PlainLine) → EndsFed (line ∷ lines)
 ends_fed line [] = record { front = line_utf8 (line_glyphs line); whole = append-nil (line_text (line_glyphs line)) }
@@ -87,17 +87,17 @@ end_alone draft bytes rule at sound whole broken =
 
 -- a walk to an end breaks nowhere
 
-never_fed : (draft : PlainDraft) (xs ls : List PlainLine) (rest : List ℕ) (rule : BundleRule) (at : ℕ) → SoundFrom draft xs → SoundFrom draft ls → is_ended (after draft ls).section ≡ true → text_of xs ++ rest ≡ text_of ls → BreaksBehind (after draft xs) rest rule at → ⊥
+never_fed : (draft : PlainDraft) (xs ls : List PlainLine) (rest : List ℕ) (rule : BundleRule) (at : ℕ) → SoundFrom draft xs → SoundFrom draft ls → is_at_end (after draft ls).section ≡ true → bytes_of_lines xs ++ rest ≡ bytes_of_lines ls → BreaksBehind (after draft xs) rest rule at → ⊥
 never_fed draft [] [] rest rule at a b over e broken =
     ⊎_elim (λ x. nothing_first draft rest rule at e x) (λ x. false≢true (sym x.no_end ∙ over)) broken
-never_fed draft [] (l ∷ ls) rest rule at a b over e broken = sound_first draft l (text_of ls) rest rule at b.0 e broken
+never_fed draft [] (l ∷ ls) rest rule at a b over e broken = sound_first draft l (bytes_of_lines ls) rest rule at b.0 e broken
 never_fed draft (l ∷ xs) [] rest rule at a b over e broken =
-    omega (arith, ap length e, length-append (line_text (line_glyphs l) ++ text_of xs) rest, length-append (line_text (line_glyphs l)) (text_of xs), length-append (line_utf8 (line_glyphs l)) (10 ∷ []))
+    omega (arith, ap length e, length-append (line_text (line_glyphs l) ++ bytes_of_lines xs) rest, length-append (line_text (line_glyphs l)) (bytes_of_lines xs), length-append (line_utf8 (line_glyphs l)) (10 ∷ []))
 never_fed draft (l ∷ xs) (m ∷ ls) rest rule at a b over e broken =
-    let one = one_first draft l m (text_of xs ++ rest) (text_of ls) a.0 b.0 (sym (append_assoc (line_text (line_glyphs l)) (text_of xs) rest) ∙ e) in
-    never_fed (with_line draft l) xs ls rest rule at a.1 (subst (λ some. SoundFrom (with_line draft some) ls) one.0 b.1) (subst (λ some. is_ended (after (with_line draft some) ls).section ≡ true) one.0 over) one.1 broken
+    let one = one_first draft l m (bytes_of_lines xs ++ rest) (bytes_of_lines ls) a.0 b.0 (sym (append_assoc (line_text (line_glyphs l)) (bytes_of_lines xs) rest) ∙ e) in
+    never_fed (with_line draft l) xs ls rest rule at a.1 (subst (λ some. SoundFrom (with_line draft some) ls) one.0 b.1) (subst (λ some. is_at_end (after (with_line draft some) ls).section ≡ true) one.0 over) one.1 broken
 
-never_bare : (draft : PlainDraft) (xs ls : List PlainLine) (rest : List ℕ) (rule : BundleRule) (at : ℕ) → SoundFrom draft xs → SoundFrom draft ls → is_ended (after draft ls).section ≡ true → (text_of xs ++ rest) ++ 10 ∷ [] ≡ text_of ls → BreaksBehind (after draft xs) rest rule at → ⊥
+never_bare : (draft : PlainDraft) (xs ls : List PlainLine) (rest : List ℕ) (rule : BundleRule) (at : ℕ) → SoundFrom draft xs → SoundFrom draft ls → is_at_end (after draft ls).section ≡ true → (bytes_of_lines xs ++ rest) ++ 10 ∷ [] ≡ bytes_of_lines ls → BreaksBehind (after draft xs) rest rule at → ⊥
 never_bare draft [] [] rest rule at a b over e broken =
     omega (arith, ap length e, length-append rest (10 ∷ []))
 never_bare draft [] (l ∷ []) rest rule at a b over e broken =
@@ -109,12 +109,12 @@ never_bare draft [] (l ∷ m ∷ ls) rest rule at a b over e broken =
     let whole : rest ++ 10 ∷ [] ≡ (line_text (line_glyphs l) ++ more.front) ++ 10 ∷ [] = e ∙ (ap (λ (some : List ℕ). line_text (line_glyphs l) ++ some) more.whole ∙ sym (append_assoc (line_text (line_glyphs l)) more.front (10 ∷ []))) in
     sound_first draft l more.front rest rule at b.0 (append_cancel_right rest (line_text (line_glyphs l) ++ more.front) (10 ∷ []) whole) broken
 never_bare draft (l ∷ xs) [] rest rule at a b over e broken =
-    omega (arith, ap length e, length-append ((line_text (line_glyphs l) ++ text_of xs) ++ rest) (10 ∷ []))
+    omega (arith, ap length e, length-append ((line_text (line_glyphs l) ++ bytes_of_lines xs) ++ rest) (10 ∷ []))
 never_bare draft (l ∷ xs) (m ∷ ls) rest rule at a b over e broken =
-    let regrouped : ((line_text (line_glyphs l) ++ text_of xs) ++ rest) ++ 10 ∷ [] ≡ line_text (line_glyphs l) ++ ((text_of xs ++ rest) ++ 10 ∷ []) =
-    ap (λ (some : List ℕ). some ++ 10 ∷ []) (append_assoc (line_text (line_glyphs l)) (text_of xs) rest) ∙ append_assoc (line_text (line_glyphs l)) (text_of xs ++ rest) (10 ∷ []) in
-    let one = one_first draft l m ((text_of xs ++ rest) ++ 10 ∷ []) (text_of ls) a.0 b.0 (sym regrouped ∙ e) in
-    never_bare (with_line draft l) xs ls rest rule at a.1 (subst (λ some. SoundFrom (with_line draft some) ls) one.0 b.1) (subst (λ some. is_ended (after (with_line draft some) ls).section ≡ true) one.0 over) one.1 broken
+    let regrouped : ((line_text (line_glyphs l) ++ bytes_of_lines xs) ++ rest) ++ 10 ∷ [] ≡ line_text (line_glyphs l) ++ ((bytes_of_lines xs ++ rest) ++ 10 ∷ []) =
+    ap (λ (some : List ℕ). some ++ 10 ∷ []) (append_assoc (line_text (line_glyphs l)) (bytes_of_lines xs) rest) ∙ append_assoc (line_text (line_glyphs l)) (bytes_of_lines xs ++ rest) (10 ∷ []) in
+    let one = one_first draft l m ((bytes_of_lines xs ++ rest) ++ 10 ∷ []) (bytes_of_lines ls) a.0 b.0 (sym regrouped ∙ e) in
+    never_bare (with_line draft l) xs ls rest rule at a.1 (subst (λ some. SoundFrom (with_line draft some) ls) one.0 b.1) (subst (λ some. is_at_end (after (with_line draft some) ls).section ≡ true) one.0 over) one.1 broken
 
 pub never : (bytes : List ℕ) (bundle : PlainBundle) (offset : ℕ) (rule : BundleRule) → BundleText bytes bundle → Breaks bytes offset rule → ⊥
 never bytes bundle offset rule text broken =
@@ -122,8 +122,8 @@ never bytes bundle offset rule text broken =
     let xs = forward broken.before [] in
     let sound = forward_sound broken.before [] broken.sound tt in
     let behind = subst (λ draft. BreaksBehind draft broken.rest rule broken.at) (sym (after_forward broken.before [])) broken.broken in
-    let over : is_ended (after nothing_read (lines_of text.page)).section ≡ true = ap (λ (draft : PlainDraft). is_ended draft.section) reach.leads.there ∙ reach.section in
-    let whole : text_of xs ++ broken.rest ≡ bytes = ap (λ (front : List ℕ). front ++ broken.rest) (front_text broken.before) ∙ sym broken.whole in
+    let over : is_at_end (after nothing_read (lines_of text.page)).section ≡ true = ap (λ (draft : PlainDraft). is_at_end draft.section) reach.leads.there ∙ reach.section in
+    let whole : bytes_of_lines xs ++ broken.rest ≡ bytes = ap (λ (front : List ℕ). front ++ broken.rest) (front_text broken.before) ∙ sym broken.whole in
     ⊎_elim (λ e. never_fed nothing_read xs (lines_of text.page) broken.rest rule broken.at sound reach.leads.sound over (whole ∙ e) behind)
     (λ e. never_bare nothing_read xs (lines_of text.page) broken.rest rule broken.at sound reach.leads.sound over (ap (λ (some : List ℕ). some ++ 10 ∷ []) whole ∙ e) behind)
     text.text
@@ -134,9 +134,9 @@ never bytes bundle offset rule text broken =
 record Telling (bytes : List ℕ) (bundle : PlainBundle) : Type 0 where
   lines : List PlainLine
   sound : SoundFrom nothing_read lines
-  over : is_ended (after nothing_read lines).section ≡ true
+  over : is_at_end (after nothing_read lines).section ≡ true
   says : bundle_of (after nothing_read lines) ≡ bundle
-  text : (bytes ≡ text_of lines) ⊎ (bytes ++ 10 ∷ [] ≡ text_of lines)
+  text : (bytes ≡ bytes_of_lines lines) ⊎ (bytes ++ 10 ∷ [] ≡ bytes_of_lines lines)
 
 told : (bytes : List ℕ) (bundle : PlainBundle) → BundleText bytes bundle → Telling bytes bundle
 told bytes bundle text =
@@ -144,7 +144,7 @@ told bytes bundle text =
     record {
       lines = lines_of text.page;
       sound = reach.leads.sound;
-      over = ap (λ (draft : PlainDraft). is_ended draft.section) reach.leads.there ∙ reach.section;
+      over = ap (λ (draft : PlainDraft). is_at_end draft.section) reach.leads.there ∙ reach.section;
       says = ap bundle_of reach.leads.there ∙ (reach.says ∙ text.says);
       text = text.text;
     }
@@ -152,8 +152,8 @@ told bytes bundle text =
 same_told : (bytes : List ℕ) (bundle other : PlainBundle) (a : Telling bytes bundle) (b : Telling bytes other) → a.lines ≡ b.lines → bundle ≡ other
 same_told bytes bundle other a b e = sym a.says ∙ (ap (λ (lines : List PlainLine). bundle_of (after nothing_read lines)) e ∙ b.says)
 
-with_nothing : (lines : List PlainLine) → text_of lines ++ [] ≡ text_of lines
-with_nothing lines = append-nil (text_of lines)
+with_nothing : (lines : List PlainLine) → bytes_of_lines lines ++ [] ≡ bytes_of_lines lines
+with_nothing lines = append-nil (bytes_of_lines lines)
 
 one_told : (bytes : List ℕ) (bundle other : PlainBundle) (a : Telling bytes bundle) (b : Telling bytes other) → a.lines ≡ b.lines
 one_told bytes bundle other a b =

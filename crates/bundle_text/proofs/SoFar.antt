@@ -7,7 +7,7 @@ use Rattle.apl_arrays.specs.Glyph.{line_utf8}
 use Rattle.bundle_text.specs.Breaks.{IsSound, AreSound, IsEnded, IsFirstLine, LineBreaks, BreaksBehind, Breaks, text_before}
 use Rattle.bundle_text.specs.Rules.{PlainBundle, IsBundle}
 use Rattle.bundle_text.specs.BundleLine.{PlainLine, end, line_glyphs}
-use Rattle.bundle_text.specs.Draft.{PlainDraft, said, with_line, bundle_of, is_ended, nothing_read}
+use Rattle.bundle_text.specs.Draft.{PlainDraft, said, with_line, bundle_of, is_at_end, nothing_read}
 use Rattle.bundle_text.specs.Bundle.{BundleText}
 use Rattle.bundle_text.specs.Refused.{IsRefusal}
 use Rattle.bundle_text.specs.Step.{IsAdded, IsLineBroken, IsReadTo, AddsText}
@@ -82,7 +82,7 @@ pub record IsReadOut (bytes : List ℕ) (draft : PlainDraft) : Type 0 where
   pub before : List PlainLine
   pub sound : AreSound before
   pub says : draft ≡ said before
-  pub whole : (bytes ≡ text_before before) ⊎ ((bytes ++ 10 ∷ [] ≡ text_before before) × (is_ended draft.section ≡ true))
+  pub whole : (bytes ≡ text_before before) ⊎ ((bytes ++ 10 ∷ [] ≡ text_before before) × (is_at_end draft.section ≡ true))
 
 pub out_of_nothing : (bytes rest : List ℕ) (draft : PlainDraft) → IsReadTo bytes rest draft → length rest ≡ 0 → IsReadOut bytes draft
 out_of_nothing bytes [] draft so_far none = record { before = so_far.before; sound = so_far.sound; says = so_far.says; whole = inl (so_far.whole ∙ append-nil (text_before so_far.before)) }
@@ -96,13 +96,13 @@ out_of_last bytes rest draft next so_far is added =
       before = added.line ∷ so_far.before;
       sound = (subst (λ d. IsSound d added.line) so_far.says added.sound, so_far.sound);
       says = added.more ∙ ap (λ d. with_line d added.line) so_far.says;
-      whole = inr (ap (λ (some : List ℕ). some ++ 10 ∷ []) so_far.whole ∙ (append_assoc (text_before so_far.before) rest (10 ∷ []) ∙ ap (λ (some : List ℕ). text_before so_far.before ++ (some ++ 10 ∷ [])) added.text.1), ap (λ (d : PlainDraft). is_ended d.section) (added.more ∙ ap (with_line draft) last));
+      whole = inr (ap (λ (some : List ℕ). some ++ 10 ∷ []) so_far.whole ∙ (append_assoc (text_before so_far.before) rest (10 ∷ []) ∙ ap (λ (some : List ℕ). text_before so_far.before ++ (some ++ 10 ∷ [])) added.text.1), ap (λ (d : PlainDraft). is_at_end d.section) (added.more ∙ ap (with_line draft) last));
     }
 
 -- what is made of a draft: its bundle, where the end was read
 abbrev pub Finishes : PlainDraft → ℕ → Result PlainBundle BundleRefused → Type 0
 Finishes draft offset result =
-    MatchResult result (λ bundle. (is_ended draft.section ≡ true) × (bundle ≡ bundle_of draft)) (λ why. IsRefusal why (λ place rule. (place ≡ offset) × (rule ≡ End) × (is_ended draft.section ≡ false)))
+    MatchResult result (λ bundle. (is_at_end draft.section ≡ true) × (bundle ≡ bundle_of draft)) (λ why. IsRefusal why (λ place rule. (place ≡ offset) × (rule ≡ End) × (is_at_end draft.section ≡ false)))
 
 -- what is answered is the bundle of the bytes, or where they break a rule
 abbrev pub Answers : List ℕ → Result PlainBundle BundleRefused → Type 0
@@ -111,7 +111,7 @@ Answers bytes result = MatchResult result (λ bundle. BundleText bytes bundle) (
 -- the bundle, where the end was read; else it is missing
 pub result_out : (bytes : List ℕ) (draft : PlainDraft) (offset : ℕ) (result : Result PlainBundle BundleRefused) → IsReadOut bytes draft → length bytes ≡ offset → Finishes draft offset result → Answers bytes result
 result_out bytes draft offset (Ok bundle) out e is =
-    let over : is_ended (said out.before).section ≡ true = ap (λ (d : PlainDraft). is_ended d.section) (sym out.says) ∙ is.0 in
+    let over : is_at_end (said out.before).section ≡ true = ap (λ (d : PlainDraft). is_at_end d.section) (sym out.says) ∙ is.0 in
     subst (BundleText bytes) (ap bundle_of (sym out.says) ∙ sym is.1) (text_of_said out.before out.sound over bytes (⊎_elim (λ x. inl x) (λ x. inr x.0) out.whole))
 result_out bytes draft offset (Err WantOfMemory) out e is = tt
 result_out bytes draft offset (Err (Malformed place rule)) out e is =
@@ -123,7 +123,7 @@ result_out bytes draft offset (Err (Malformed place rule)) out e is =
       sound = out.sound;
       whole = whole ∙ sym (append-nil (text_before out.before));
       place = omega (arith, is.0, e, ap length whole);
-      broken = inr (record { nothing = refl; no_end = ap (λ (d : PlainDraft). is_ended d.section) (sym out.says) ∙ is.2; named = is.1; front = refl });
+      broken = inr (record { nothing = refl; no_end = ap (λ (d : PlainDraft). is_at_end d.section) (sym out.says) ∙ is.2; named = is.1; front = refl });
     })
     (λ x. absurd (false≢true (sym is.2 ∙ x.1)))
     out.whole

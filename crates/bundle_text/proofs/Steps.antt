@@ -8,8 +8,8 @@ use Rattle.apl_arrays.proofs.Spelling.{one_line}
 use Rattle.line_text.specs.Lines.{end_line}
 use Rattle.line_text.proofs.Ascii.{content_utf8}
 use Rattle.bundle_text.specs.Breaks.{IsSound, IsBroken, IsEnded, IsSpelled, LineBreaks}
-use Rattle.bundle_text.specs.BundleLine.{PlainLine, input, user, order, file, clock, end, IsLine, IsTextOf, IsNoLine, IsNoContent, line_glyphs}
-use Rattle.bundle_text.specs.Draft.{PlainDraft, may_stand, names_parties, keeps_limits, users_of, with_line}
+use Rattle.bundle_text.specs.BundleLine.{PlainLine, input, user, order, file, clock, end, IsBundleLine, IsTextOf, IsNoLine, IsNoContent, line_glyphs}
+use Rattle.bundle_text.specs.Draft.{PlainDraft, may_stand, names_parties, line_keeps_limits, users_so_far, with_line}
 use Rattle.bundle_text.specs.Heading.{IsNoHeading}
 use Rattle.bundle_text.specs.Refused.{IsRefusal}
 use Rattle.bundle_text.specs.Step.{Adds, AddsText, IsLineBroken, IsBadGlyph, IsGlyphOr}
@@ -21,16 +21,16 @@ use Rattle.bundle_text.proofs.Texts.{line_spells}
 
 -- a line of a form
 
-pub line_added : (old new : PlainDraft) (line : PlainLine) → IsLine line → may_stand old.section line ≡ true → names_parties (users_of old) line ≡ true → keeps_limits old line ≡ true → new ≡ with_line old line → IsSound old line × (new ≡ with_line old line)
+pub line_added : (old new : PlainDraft) (line : PlainLine) → IsBundleLine line → may_stand old.section line ≡ true → names_parties (users_so_far old) line ≡ true → line_keeps_limits old line ≡ true → new ≡ with_line old line → IsSound old line × (new ≡ with_line old line)
 line_added old new line form place parties limits more = (record { form = form; place = place; parties = parties; limits = limits }, more)
 
 pub no_place : (old : PlainDraft) (line : PlainLine) (offset : ℕ) (why : BundleRefused) → why ≡ Malformed offset Place → may_stand old.section line ≡ false → IsRefusal why (λ place rule. (place ≡ offset) × IsBroken old line rule)
 no_place old line offset why is none = subst (λ some. IsRefusal some (λ place rule. (place ≡ offset) × IsBroken old line rule)) (sym is) (refl, none)
 
-pub no_party : (old : PlainDraft) (line : PlainLine) (offset : ℕ) (why : BundleRefused) → why ≡ Malformed offset Party → may_stand old.section line ≡ true → names_parties (users_of old) line ≡ false → IsRefusal why (λ place rule. (place ≡ offset) × IsBroken old line rule)
+pub no_party : (old : PlainDraft) (line : PlainLine) (offset : ℕ) (why : BundleRefused) → why ≡ Malformed offset Party → may_stand old.section line ≡ true → names_parties (users_so_far old) line ≡ false → IsRefusal why (λ place rule. (place ≡ offset) × IsBroken old line rule)
 no_party old line offset why is place none = subst (λ some. IsRefusal some (λ there rule. (there ≡ offset) × IsBroken old line rule)) (sym is) (refl, (place, none))
 
-pub no_room : (old : PlainDraft) (line : PlainLine) (offset : ℕ) (why : BundleRefused) → why ≡ Malformed offset Limit → may_stand old.section line ≡ true → names_parties (users_of old) line ≡ true → keeps_limits old line ≡ false
+pub no_room : (old : PlainDraft) (line : PlainLine) (offset : ℕ) (why : BundleRefused) → why ≡ Malformed offset Limit → may_stand old.section line ≡ true → names_parties (users_so_far old) line ≡ true → line_keeps_limits old line ≡ false
     → IsRefusal why (λ place rule. (place ≡ offset) × IsBroken old line rule)
 no_room old line offset why is place parties over = subst (λ some. IsRefusal some (λ there rule. (there ≡ offset) × IsBroken old line rule)) (sym is) (refl, (place, parties, over))
 

@@ -15,7 +15,7 @@ use Rattle.line_text.specs.Spaced.{spaced}
 use Rattle.line_text.proofs.GlyphTexts.{Glyphs, passing, plain_glyphs, spaced_glyphs, heading_glyphs, content_glyphs, end_glyphs}
 use Rattle.line_text.proofs.Spans.{both, same_span}
 use Rattle.bundle_text.specs.Rules.{IsUserNumber}
-use Rattle.bundle_text.specs.BundleLine.{PlainLine, input, user, order, file, clock, end, IsLine, IsReadingText, IsTextOf, line_glyphs}
+use Rattle.bundle_text.specs.BundleLine.{PlainLine, input, user, order, file, clock, end, IsBundleLine, IsReadingText, IsTextOf, line_glyphs}
 use Rattle.text_reader.specs.Numeral.{is_numeral}
 use Rattle.text_reader.proofs.Numerals.{numeral_digits}
 
@@ -45,7 +45,7 @@ pub name_bytes : (name : List ℕ) → is_file_name name ≡ true → list_all i
 name_bytes [] e = absurd (false≢true e)
 name_bytes (first ∷ rest) e = grind (arith, nat_tests)
 
-pub glyphs_of_line : (line : PlainLine) → IsLine line → All IsGlyph (line_glyphs line)
+pub glyphs_of_line : (line : PlainLine) → IsBundleLine line → All IsGlyph (line_glyphs line)
 glyphs_of_line (input line) form = content_glyphs line form
 glyphs_of_line (user number) form = heading_glyphs number (omega (arith, form.1))
 glyphs_of_line (order numbers) form =
@@ -59,7 +59,7 @@ glyphs_of_line end form = end_glyphs
 pub line_spells : (line : PlainLine) (bytes : List ℕ) → IsTextOf line bytes → Spells bytes (line_glyphs line)
 line_spells line bytes text = (glyphs_of_line line text.0, text.1)
 
-pub line_has_no_feed : (line : PlainLine) → IsLine line → HasNoFeed (line_utf8 (line_glyphs line))
+pub line_has_no_feed : (line : PlainLine) → IsBundleLine line → HasNoFeed (line_utf8 (line_glyphs line))
 line_has_no_feed line form =
     All-weaker (λ byte. 32 ≤ byte) (λ byte. byte ≢ 10) (λ byte high e. omega arith) (line_utf8 (line_glyphs line)) (no_control (line_glyphs line) (glyphs_of_line line form))
 
@@ -118,7 +118,7 @@ order_tails numbers = spaced_words (codes "order") numbers
 clock_tails : (numbers : List (List ℕ)) → spaced (codes "clock" ∷ numbers) ≡ codes "clock" ++ tails numbers
 clock_tails numbers = spaced_words (codes "clock") numbers
 
-same_glyphs : (line other : PlainLine) → tag line ≡ tag other → line_glyphs line ≡ line_glyphs other → IsLine line → IsLine other → line ≡ other
+same_glyphs : (line other : PlainLine) → tag line ≡ tag other → line_glyphs line ≡ line_glyphs other → IsBundleLine line → IsBundleLine other → line ≡ other
 same_glyphs (input line) (input other) t e a b = ap input cc
 same_glyphs (user m) (user n) t e a b =
     let digits : decimal m ≡ decimal n = cc in

@@ -11,9 +11,9 @@ use Rattle.aux_parties.specs.Auxiliaries.{is_auxiliary}
 use Rattle.aux_parties.proofs.TableLemmas.{auxiliaries_are_low}
 use Rattle.bundle_text.specs.Rules.{IsUser, is_party}
 use Rattle.bundle_text.specs.BundleLine.{IsReadingText}
-use Rattle.bundle_text.specs.Heading.{kept}
+use Rattle.bundle_text.specs.Heading.{kept_numbers}
 use Rattle.bundle_text.specs.Limits.{greatest_reading}
-use Rattle.text_reader.specs.Numeral.{capped, value_of}
+use Rattle.text_reader.specs.Numeral.{capped, number_of_digits}
 use Rattle.bundle_text.specs.User.{PlainUser}
 
 -- a number that is no greater than one of 64 bits is kept as it is
@@ -60,25 +60,25 @@ party_capped users n each =
     let small = party_bound users n each e in
     ap (is_party users) (capped_same n 1999 small (omega arith)) ∙ e)
 
-pub parties_kept : (users : List PlainUser) (digits : List (List ℕ)) → All IsUser users → list_all (is_party users) (kept digits) ≡ list_all (λ d. is_party users (value_of d)) digits
+pub parties_kept : (users : List PlainUser) (digits : List (List ℕ)) → All IsUser users → list_all (is_party users) (kept_numbers digits) ≡ list_all (λ d. is_party users (number_of_digits d)) digits
 parties_kept users [] each = refl
 parties_kept users (d ∷ digits) each =
-    ap₂ (λ a b. a && b) (party_capped users (value_of d) each) (parties_kept users digits each)
+    ap₂ (λ a b. a && b) (party_capped users (number_of_digits d) each) (parties_kept users digits each)
 
-pub kept_parties : (users : List PlainUser) (digits : List (List ℕ)) → All IsUser users → list_all (λ d. is_party users (value_of d)) digits ≡ true → kept digits ≡ map value_of digits
+pub kept_parties : (users : List PlainUser) (digits : List (List ℕ)) → All IsUser users → list_all (λ d. is_party users (number_of_digits d)) digits ≡ true → kept_numbers digits ≡ map number_of_digits digits
 kept_parties users [] each e = refl
 kept_parties users (d ∷ digits) each e =
-    let parts = both (is_party users (value_of d)) (list_all (λ x. is_party users (value_of x)) digits) e in
-    ap₂ (λ n ns. n ∷ ns) (capped_same (value_of d) 1999 (party_bound users (value_of d) each parts.0) (omega arith)) (kept_parties users digits each parts.1)
+    let parts = both (is_party users (number_of_digits d)) (list_all (λ x. is_party users (number_of_digits x)) digits) e in
+    ap₂ (λ n ns. n ∷ ns) (capped_same (number_of_digits d) 1999 (party_bound users (number_of_digits d) each parts.0) (omega arith)) (kept_parties users digits each parts.1)
 
 -- readings
 
-pub kept_readings : (digits : List (List ℕ)) → All IsReadingText digits → map pos (kept digits) ≡ map (λ d. pos (value_of d)) digits
+pub kept_readings : (digits : List (List ℕ)) → All IsReadingText digits → map pos (kept_numbers digits) ≡ map (λ d. pos (number_of_digits d)) digits
 kept_readings [] each = refl
 kept_readings (d ∷ digits) each =
-    ap₂ (λ (z : ℤ) (zs : List ℤ). z ∷ zs) (ap pos (capped_same (value_of d) greatest_reading (All-head IsReadingText d digits each).small (omega arith))) (kept_readings digits (All-tail IsReadingText d digits each))
+    ap₂ (λ (z : ℤ) (zs : List ℤ). z ∷ zs) (ap pos (capped_same (number_of_digits d) greatest_reading (All-head IsReadingText d digits each).small (omega arith))) (kept_readings digits (All-tail IsReadingText d digits each))
 
-pub readings_small : (digits : List (List ℕ)) → All IsReadingText digits → All (λ n. n ≤ greatest_reading) (kept digits)
+pub readings_small : (digits : List (List ℕ)) → All IsReadingText digits → All (λ n. n ≤ greatest_reading) (kept_numbers digits)
 readings_small [] each = All-nil (λ n. n ≤ greatest_reading)
 readings_small (d ∷ digits) each =
-    All-cons (λ n. n ≤ greatest_reading) (capped (value_of d)) (kept digits) (omega (arith, (All-head IsReadingText d digits each).small)) (readings_small digits (All-tail IsReadingText d digits each))
+    All-cons (λ n. n ≤ greatest_reading) (capped (number_of_digits d)) (kept_numbers digits) (omega (arith, (All-head IsReadingText d digits each).small)) (readings_small digits (All-tail IsReadingText d digits each))

@@ -6,7 +6,7 @@ use Rattle.apl_arrays.specs.Glyph.{line_utf8}
 use Rattle.bundle_text.specs.Breaks.{IsSound, AreSound, IsFirstLine, FirstBreaks, LacksEnd, LineBreaks, BreaksBehind, Breaks, text_before}
 use Rattle.bundle_text.specs.BundleLine.{PlainLine, IsTextOf, line_glyphs}
 use Rattle.bundle_text.specs.Draft.{PlainDraft, with_line, said, nothing_read}
-use Rattle.bundle_text.specs.Bundle.{text_of}
+use Rattle.bundle_text.specs.Bundle.{bytes_of_lines}
 use Rattle.bundle_text.specs.declared.refused.BundleRule.{BundleRule}
 use Rattle.bundle_text.proofs.Places.{first_line_is_one, sound_breaks_not, one_break_behind}
 use Rattle.bundle_text.proofs.Texts.{glyphs_of_line, line_has_no_feed, same_line}
@@ -34,12 +34,12 @@ pub after_forward : (before lines : List PlainLine) → after nothing_read (forw
 after_forward [] lines = refl
 after_forward (line ∷ before) lines = after_forward before (line ∷ lines)
 
-pub text_forward : (before lines : List PlainLine) → text_of (forward before lines) ≡ text_before before ++ text_of lines
+pub text_forward : (before lines : List PlainLine) → bytes_of_lines (forward before lines) ≡ text_before before ++ bytes_of_lines lines
 text_forward [] lines = refl
 text_forward (line ∷ before) lines =
-    text_forward before (line ∷ lines) ∙ sym (append_assoc (text_before before) (line_text (line_glyphs line)) (text_of lines))
+    text_forward before (line ∷ lines) ∙ sym (append_assoc (text_before before) (line_text (line_glyphs line)) (bytes_of_lines lines))
 
-pub front_text : (before : List PlainLine) → text_of (forward before []) ≡ text_before before
+pub front_text : (before : List PlainLine) → bytes_of_lines (forward before []) ≡ text_before before
 front_text before = text_forward before [] ∙ append-nil (text_before before)
 
 -- a sound line in front breaks nothing
@@ -56,27 +56,27 @@ sound_first draft line more bytes rule at sound whole broken =
     broken
 
 -- two walks over one text end at one place
-pub one_walk : (draft : PlainDraft) (xs ys : List PlainLine) (rest left : List ℕ) (rule other : BundleRule) (at place : ℕ) → SoundFrom draft xs → SoundFrom draft ys → text_of xs ++ rest ≡ text_of ys ++ left → BreaksBehind (after draft xs) rest rule at → BreaksBehind (after draft ys) left other place
-    → (rule ≡ other) × (length (text_of xs) + at ≡ length (text_of ys) + place)
+pub one_walk : (draft : PlainDraft) (xs ys : List PlainLine) (rest left : List ℕ) (rule other : BundleRule) (at place : ℕ) → SoundFrom draft xs → SoundFrom draft ys → bytes_of_lines xs ++ rest ≡ bytes_of_lines ys ++ left → BreaksBehind (after draft xs) rest rule at → BreaksBehind (after draft ys) left other place
+    → (rule ≡ other) × (length (bytes_of_lines xs) + at ≡ length (bytes_of_lines ys) + place)
 one_walk draft [] [] rest left rule other at place a b e x y =
     let same = one_break_behind draft rest rule other at place x (subst (λ bytes. BreaksBehind draft bytes other place) (sym e) y) in
     (same.0, omega (arith, same.1))
 one_walk draft [] (l ∷ ys) rest left rule other at place a b e x y =
-    absurd (sound_first draft l (text_of ys ++ left) rest rule at b.0 (e ∙ append_assoc (line_text (line_glyphs l)) (text_of ys) left) x)
+    absurd (sound_first draft l (bytes_of_lines ys ++ left) rest rule at b.0 (e ∙ append_assoc (line_text (line_glyphs l)) (bytes_of_lines ys) left) x)
 one_walk draft (l ∷ xs) [] rest left rule other at place a b e x y =
-    absurd (sound_first draft l (text_of xs ++ rest) left other place a.0 (sym e ∙ append_assoc (line_text (line_glyphs l)) (text_of xs) rest) y)
+    absurd (sound_first draft l (bytes_of_lines xs ++ rest) left other place a.0 (sym e ∙ append_assoc (line_text (line_glyphs l)) (bytes_of_lines xs) rest) y)
 one_walk draft (l ∷ xs) (m ∷ ys) rest left rule other at place a b e x y =
-    let joined : line_text (line_glyphs l) ++ (text_of xs ++ rest) ≡ line_text (line_glyphs m) ++ (text_of ys ++ left) =
-    sym (append_assoc (line_text (line_glyphs l)) (text_of xs) rest) ∙ (e ∙ append_assoc (line_text (line_glyphs m)) (text_of ys) left) in
-    let cut = same_first_line (line_glyphs l) (line_glyphs m) (text_of xs ++ rest) (text_of ys ++ left) (glyphs_of_line l a.0.form) (glyphs_of_line m b.0.form) joined in
+    let joined : line_text (line_glyphs l) ++ (bytes_of_lines xs ++ rest) ≡ line_text (line_glyphs m) ++ (bytes_of_lines ys ++ left) =
+    sym (append_assoc (line_text (line_glyphs l)) (bytes_of_lines xs) rest) ∙ (e ∙ append_assoc (line_text (line_glyphs m)) (bytes_of_lines ys) left) in
+    let cut = same_first_line (line_glyphs l) (line_glyphs m) (bytes_of_lines xs ++ rest) (bytes_of_lines ys ++ left) (glyphs_of_line l a.0.form) (glyphs_of_line m b.0.form) joined in
     let one : m ≡ l = same_line m l (line_utf8 (line_glyphs m)) (b.0.form, refl) (a.0.form, ap line_utf8 (sym cut.0)) in
     let others = one_walk (with_line draft l) xs ys rest left rule other at place a.1 (subst (λ some. SoundFrom (with_line draft some) ys) one b.1) cut.1 x (subst (λ some. BreaksBehind (after (with_line draft some) ys) left other place) one y) in
-    (others.0, omega (arith, others.1, ap (λ (line : List ℕ). length (line_text line)) cut.0, length-append (line_text (line_glyphs l)) (text_of xs), length-append (line_text (line_glyphs m)) (text_of ys)))
+    (others.0, omega (arith, others.1, ap (λ (line : List ℕ). length (line_text line)) cut.0, length-append (line_text (line_glyphs l)) (bytes_of_lines xs), length-append (line_text (line_glyphs m)) (bytes_of_lines ys)))
 
 -- a text breaks one rule at one place
 pub breaks_once : (bytes : List ℕ) (offset place : ℕ) (rule other : BundleRule) → Breaks bytes offset rule → Breaks bytes place other → (offset ≡ place) × (rule ≡ other)
 breaks_once bytes offset place rule other a b =
-    let whole : text_of (forward a.before []) ++ a.rest ≡ text_of (forward b.before []) ++ b.rest =
+    let whole : bytes_of_lines (forward a.before []) ++ a.rest ≡ bytes_of_lines (forward b.before []) ++ b.rest =
     ap (λ (front : List ℕ). front ++ a.rest) (front_text a.before) ∙ (sym a.whole ∙ (b.whole ∙ ap (λ (front : List ℕ). front ++ b.rest) (sym (front_text b.before)))) in
     let walk = one_walk nothing_read (forward a.before []) (forward b.before []) a.rest b.rest rule other a.at b.at (forward_sound a.before [] a.sound tt) (forward_sound b.before [] b.sound tt) whole (subst (λ draft. BreaksBehind draft a.rest rule a.at) (sym (after_forward a.before [])) a.broken)
     (subst (λ draft. BreaksBehind draft b.rest other b.at) (sym (after_forward b.before [])) b.broken) in

@@ -2,17 +2,17 @@
 use Rattle.std.specs.Prelude.{◌≡◌, ◌≢◌, ◌⊎◌, ℕ, ◌+◌, ◌<◌, Bool, true, false, IsTrue, IsFalse, List, [], ◌∷◌, ◌++◌, length}
 use Rattle.apl_arrays.specs.Glyph.{Spells, IsBadFrom}
 use Rattle.line_text.specs.Lines.{line_feed, end_line, line_text, HasNoFeed}
-use Rattle.bundle_text.specs.BundleLine.{PlainLine, IsLine, IsTextOf, IsNoLine, line_glyphs}
-use Rattle.bundle_text.specs.Draft.{PlainDraft, may_stand, names_parties, keeps_limits, users_of, is_ended, said}
+use Rattle.bundle_text.specs.BundleLine.{PlainLine, IsBundleLine, IsTextOf, IsNoLine, line_glyphs}
+use Rattle.bundle_text.specs.Draft.{PlainDraft, may_stand, names_parties, line_keeps_limits, users_so_far, is_at_end, said}
 use Rattle.bundle_text.specs.declared.refused.BundleRule.{BundleRule}
 use Rattle.bundle_text.specs.declared.refused.BundleRule.TheVariants.{Glyph, Newline, Form, Place, Party, Limit, End}
 
 -- a line may stand behind what was said, and keeps the rules on parties and limits
 pub record IsSound (draft : PlainDraft) (line : PlainLine) : Type 0 where
-  pub form : IsLine line
+  pub form : IsBundleLine line
   pub place : IsTrue (may_stand draft.section line)
-  pub parties : IsTrue (names_parties (users_of draft) line)
-  pub limits : IsTrue (keeps_limits draft line)
+  pub parties : IsTrue (names_parties (users_so_far draft) line)
+  pub limits : IsTrue (line_keeps_limits draft line)
 
 -- lines, the last one first, each of them sound behind those before it
 abbrev pub AreSound : List PlainLine → Type 0
@@ -35,9 +35,9 @@ IsEnded line fed = IsTrue fed ⊎ (line ≡ end_line)
 -- a line of this form breaks the rule on places, on parties or on limits, and none before it
 abbrev pub IsBroken : PlainDraft → PlainLine → BundleRule → Type 0
 IsBroken draft line Place = IsFalse (may_stand draft.section line)
-IsBroken draft line Party = IsTrue (may_stand draft.section line) × IsFalse (names_parties (users_of draft) line)
+IsBroken draft line Party = IsTrue (may_stand draft.section line) × IsFalse (names_parties (users_so_far draft) line)
 IsBroken draft line Limit =
-    IsTrue (may_stand draft.section line) × IsTrue (names_parties (users_of draft) line) × IsFalse (keeps_limits draft line)
+    IsTrue (may_stand draft.section line) × IsTrue (names_parties (users_so_far draft) line) × IsFalse (line_keeps_limits draft line)
 IsBroken draft line _ = ⊥
 
 -- the bytes are the text of a line that breaks such a rule
@@ -73,7 +73,7 @@ pub record FirstBreaks (draft : PlainDraft) (bytes : List ℕ) (rule : BundleRul
 -- nothing stands behind lines of which none is the end
 pub record LacksEnd (draft : PlainDraft) (bytes : List ℕ) (rule : BundleRule) (at : ℕ) : Type 0 where
   pub nothing : bytes ≡ []
-  pub no_end : IsFalse (is_ended draft.section)
+  pub no_end : IsFalse (is_at_end draft.section)
   pub named : rule ≡ End
   pub front : at ≡ 0
 

@@ -5,8 +5,8 @@ use Rattle.apl_arrays.specs.FileList.{PlainFile}
 use Rattle.line_text.specs.Lines.{line_feed, lines_text}
 pub use Rattle.bundle_text.specs.Rules.{PlainBundle, IsBundle}
 use Rattle.bundle_text.specs.Rules.{IsContent}
-use Rattle.bundle_text.specs.BundleLine.{PlainLine, input, user, order, file, clock, end, IsLine, line_glyphs}
-use Rattle.text_reader.specs.Numeral.{value_of}
+use Rattle.bundle_text.specs.BundleLine.{PlainLine, input, user, order, file, clock, end, IsBundleLine, line_glyphs}
+use Rattle.text_reader.specs.Numeral.{number_of_digits}
 use Rattle.bundle_text.specs.User.{PlainUser}
 
 -- a file as it is written: its name and its lines
@@ -40,27 +40,27 @@ abbrev pub file_of : Sheet → PlainFile
 file_of sheet = record { name = sheet.name; bytes = lines_text sheet.lines }
 
 -- the bundle that a page says: the numbers of several lines are taken in order
-abbrev pub said_by : Page → PlainBundle
-said_by page = record {
+abbrev pub bundle_said_by : Page → PlainBundle
+bundle_said_by page = record {
   users = page.users;
-  order = map value_of (flat_map (λ numbers. numbers) page.orders);
+  order = map number_of_digits (flat_map (λ numbers. numbers) page.orders);
   files = map file_of page.files;
-  clock = map (λ digits. pos (value_of digits)) (flat_map (λ numbers. numbers) page.clocks);
+  clock = map (λ digits. pos (number_of_digits digits)) (flat_map (λ numbers. numbers) page.clocks);
 }
 
 -- the bytes of lines, each with its line feed
-abbrev pub text_of : List PlainLine → List ℕ
-text_of lines = lines_text (map line_glyphs lines)
+abbrev pub bytes_of_lines : List PlainLine → List ℕ
+bytes_of_lines lines = lines_text (map line_glyphs lines)
 
 -- the bytes are the text of this bundle: of a page that says it, each line in its form, the lines of files no longer than
 -- those of users; the last line feed may be missing
 pub record BundleText (bytes : List ℕ) (bundle : PlainBundle) : Type 0 where
   pub rules : IsBundle bundle
   pub page : Page
-  pub says : said_by page ≡ bundle
-  pub forms : All IsLine (lines_of page)
+  pub says : bundle_said_by page ≡ bundle
+  pub forms : All IsBundleLine (lines_of page)
   pub short : All (λ sheet. All IsContent sheet.lines) page.files
-  pub text : (bytes ≡ text_of (lines_of page)) ⊎ (bytes ++ line_feed ∷ [] ≡ text_of (lines_of page))
+  pub text : (bytes ≡ bytes_of_lines (lines_of page)) ⊎ (bytes ++ line_feed ∷ [] ≡ bytes_of_lines (lines_of page))
 
 -- the bytes are the text of no bundle
 abbrev pub IsNoBundle : List ℕ → Type 0

@@ -1,12 +1,12 @@
 use Rattle.std.specs.Prelude.{◌≡◌, ◌≢◌, ℕ, List, map}
-use Rattle.text_reader.specs.Numeral.{capped, value_of}
-use Rattle.bundle_text.specs.BundleLine.{PlainLine, input, user, order, file, clock, end, IsLine, line_glyphs}
+use Rattle.text_reader.specs.Numeral.{capped, number_of_digits}
+use Rattle.bundle_text.specs.BundleLine.{PlainLine, input, user, order, file, clock, end, IsBundleLine, line_glyphs}
 use Rattle.bundle_text.specs.declared.heading.Heading.{Heading}
 use Rattle.bundle_text.specs.declared.heading.Heading.TheVariants as headings
 
 -- numbers as they are kept, by their digits
-abbrev pub kept : List (List ℕ) → List ℕ
-kept numbers = map (λ digits. capped (value_of digits)) numbers
+abbrev pub kept_numbers : List (List ℕ) → List ℕ
+kept_numbers numbers = map (λ digits. capped (number_of_digits digits)) numbers
 
 -- a heading as plain data: of a user, of turns, of a file, of readings, or the end; numbers as they are kept
 pub data PlainHeading : Type 0 where
@@ -27,9 +27,9 @@ plain_heading headings.End = end_heading
 -- a heading is said by this line
 abbrev pub IsSaidBy : PlainHeading → PlainLine → Type 0
 IsSaidBy (user_heading number) line = line ≡ user number
-IsSaidBy (turns_heading numbers) line = (digits : List (List ℕ)) × (line ≡ order digits) × (numbers ≡ kept digits)
+IsSaidBy (turns_heading numbers) line = (digits : List (List ℕ)) × (line ≡ order digits) × (numbers ≡ kept_numbers digits)
 IsSaidBy (file_heading name) line = line ≡ file name
-IsSaidBy (readings_heading numbers) line = (digits : List (List ℕ)) × (line ≡ clock digits) × (numbers ≡ kept digits)
+IsSaidBy (readings_heading numbers) line = (digits : List (List ℕ)) × (line ≡ clock digits) × (numbers ≡ kept_numbers digits)
 IsSaidBy end_heading line = line ≡ end
 
 -- a heading is this line
@@ -40,7 +40,7 @@ IsHeadingOf heading line = IsSaidBy (plain_heading heading) line
 pub record IsHeadingLine (heading : PlainHeading) (glyphs : List ℕ) : Type 0 where
   pub line : PlainLine
   pub is : IsSaidBy heading line
-  pub form : IsLine line
+  pub form : IsBundleLine line
   pub spelled : glyphs ≡ line_glyphs line
 
 -- a line that is no content line
@@ -50,4 +50,4 @@ IsHeading _ = Unit {0}
 
 -- the glyphs are the line of no heading
 abbrev pub IsNoHeading : List ℕ → Type 0
-IsNoHeading glyphs = (line : PlainLine) → IsHeading line → IsLine line → glyphs ≢ line_glyphs line
+IsNoHeading glyphs = (line : PlainLine) → IsHeading line → IsBundleLine line → glyphs ≢ line_glyphs line

@@ -46,9 +46,9 @@ pub record IsFile (file : PlainFile) : Type 0 where
   pub bytes : file.bytes ≡ lines_text lines
 
 -- a reading of the clock: 0 to 9223372036854775807
-abbrev pub IsReading : ℤ → Type 0
-IsReading (pos n) = n ≤ greatest_reading
-IsReading (negsuc n) = ⊥
+abbrev pub IsClockReading : ℤ → Type 0
+IsClockReading (pos n) = n ≤ greatest_reading
+IsClockReading (negsuc n) = ⊥
 
 -- what the rules ask of a bundle
 pub record IsBundle (bundle : PlainBundle) : Type 0 where
@@ -61,4 +61,4 @@ pub record IsBundle (bundle : PlainBundle) : Type 0 where
   pub names_ascend : IsAscending bundle.files
   pub each_file : All IsFile bundle.files
   pub few_readings : length bundle.clock ≤ most_readings
-  pub readings : All IsReading bundle.clock
+  pub readings : All IsClockReading bundle.clock

@@ -28,8 +28,8 @@ pub record IsLineBroken (draft : PlainDraft) (line : List ℕ) (fed : Bool) (off
   pub there : place ≡ offset + at
 
 -- the rule of limits at this offset, where a limit is not kept
-abbrev pub IsOver : ℕ → Bool → ℕ → BundleRule → Type 0
-IsOver offset keeps place rule = (place ≡ offset) × (rule ≡ Limit) × IsFalse keeps
+abbrev pub BreaksLimit : ℕ → Bool → ℕ → BundleRule → Type 0
+BreaksLimit offset keeps place rule = (place ≡ offset) × (rule ≡ Limit) × IsFalse keeps
 
 -- a line of this form is sound, and what is said is more by it; or it breaks the rule that is named, at this offset
 abbrev pub Adds : PlainDraft → PlainLine → PlainDraft → ℕ → Result (Unit {0}) BundleRefused → Type 0

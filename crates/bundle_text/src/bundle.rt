@@ -27,27 +27,27 @@ pub struct Bundle {
 
 impl Model for Bundle {
     ghost use Rattle.bundle_text.specs.Rules.{PlainBundle, IsBundle};
-    ghost use Rattle.bundle_text.specs.Parts.{plain_parts};
+    ghost use Rattle.bundle_text.specs.Parts.{bundle_of_parts};
 
     ghost Value = { PlainBundle };
 
-    ghost view = { λ b. plain_parts b.parts };
+    ghost view = { λ b. bundle_of_parts b.parts };
 
-    ghost invariant = { λ b. IsBundle (plain_parts b.parts) };
+    ghost invariant = { λ b. IsBundle (bundle_of_parts b.parts) };
 }
 
 impl Bundle {
-    ghost use Rattle.bundle_text.specs.Parts.{plain_parts};
+    ghost use Rattle.bundle_text.specs.Parts.{bundle_of_parts};
 
     // The bundle of parts that keep the rules.
     pub(crate) fn of_parts(parts: BundleParts) -> Bundle
-        requires { IsBundle (plain_parts parts) }
-        ensures { result ≡ plain_parts parts }
+        requires { IsBundle (bundle_of_parts parts) }
+        ensures { result ≡ bundle_of_parts parts }
     {
         Bundle { parts }
     }
 
-    /// The users, their numbers ascending. No memory.
+    /// The users, their numbers ascending.
     pub fn users(&self) -> &[BundleUser]
         ensures value { map plain_user result.now ≡ self.now.users }
         ensures bundle { IsBundle self.now }
@@ -55,7 +55,7 @@ impl Bundle {
         self.parts.users.as_slice()
     }
 
-    /// The parties that take the first turns, one after another. No memory.
+    /// The parties that take the first turns, one after another.
     pub fn order(&self) -> &[u32]
         ensures value { result.now ≡ self.now.order }
         ensures bundle { IsBundle self.now }
@@ -63,7 +63,7 @@ impl Bundle {
         self.parts.order.as_slice()
     }
 
-    /// The files, their names ascending. No memory.
+    /// The files, their names ascending.
     pub fn files(&self) -> &[File]
         ensures value { map plain_file result.now ≡ self.now.files }
         ensures bundle { IsBundle self.now }
@@ -71,7 +71,7 @@ impl Bundle {
         self.parts.files.as_slice()
     }
 
-    /// The readings of the clock, the first one first. No memory.
+    /// The readings of the clock, the first one first.
     pub fn clock(&self) -> &[i64]
         ensures value { result.now ≡ self.now.clock }
         ensures bundle { IsBundle self.now }
@@ -79,7 +79,7 @@ impl Bundle {
         self.parts.clock.as_slice()
     }
 
-    /// The users as a list. No memory.
+    /// The users as a list.
     pub fn into_users(self) -> UserList
         ensures value { result.items ≡ self.users }
         ensures bundle { IsBundle self }
@@ -93,17 +93,16 @@ impl Bundle {
         users
     }
 
-    /// All that it has. No memory.
+    /// All that it has.
     pub fn into_parts(self) -> BundleParts
-        ensures value { plain_parts result ≡ self }
+        ensures value { bundle_of_parts result ≡ self }
         ensures bundle { IsBundle self }
     {
         self.parts
     }
 
     /// Where a line of a user begins in the bundle's text, both counted from 0: how many bytes stand in front of its bar.
-    /// A line past the user's last stands where its lines end, and a user past the last where the lines of users end. No
-    /// memory.
+    /// A line past the user's last stands where its lines end, and a user past the last where the lines of users end.
     pub fn offset_of(&self, user: usize, line: usize) -> u64
         ensures { result ≡ offset_of self.now.users user line }
     {

@@ -1,7 +1,7 @@
 ghost use Rattle.std.specs.Prelude.{◌≡◌, length};
 ghost use Rattle.apl_arrays.specs.Glyph.{blank};
-ghost use Rattle.text_reader.specs.Reading.{Gives, begins_with, list_at, read_behind, step_at};
-ghost use Rattle.bundle_text.specs.HeadingReading.{counts_at, next_count_at};
+ghost use Rattle.text_reader.specs.Reading.{Gives, begins_with, read_list, read_behind, read_step};
+ghost use Rattle.bundle_text.specs.HeadingReading.{read_counts, read_next_count};
 
 use apl_arrays::{Glyph, List};
 use std::alloc::Global;
@@ -12,9 +12,9 @@ pub type Counts = List<u64>;
 
 /// Reads numbers of any length, at least one, with one blank between each two: as many as stand there. A number past the
 /// greatest `u64` is that one. It takes memory for the numbers.
-#[tactic(auto, unfolding(crate::specs::HeadingReading::counts_at))]
+#[tactic(auto, unfolding(crate::specs::HeadingReading::read_counts))]
 pub fn read_counts(alloc: Global, cursor: &mut Cursor<'_>) -> Result<Counts, Unread>
-    ensures { Gives (λ numbers. (numbers.items, cursor.new)) result (counts_at cursor.old) }
+    ensures { Gives (λ numbers. (numbers.items, cursor.new)) result (read_counts cursor.old) }
 {
     let mut numbers = List::new(alloc);
     let first = cursor.count()?;
@@ -25,7 +25,7 @@ pub fn read_counts(alloc: Global, cursor: &mut Cursor<'_>) -> Result<Counts, Unr
 
 // Reads the numbers that follow, each behind a blank.
 fn add_counts(cursor: &mut Cursor<'_>, numbers: &mut Counts) -> Result<(), Unread>
-    ensures { Gives (λ _. (numbers.new.items, cursor.new)) result (read_behind numbers.old.items (list_at (begins_with blank) next_count_at (length cursor.old) cursor.old)) }
+    ensures { Gives (λ _. (numbers.new.items, cursor.new)) result (read_behind numbers.old.items (read_list (begins_with blank) read_next_count (length cursor.old) cursor.old)) }
 {
     let most = cursor.left();
     for _ in 0..most {
@@ -36,7 +36,7 @@ fn add_counts(cursor: &mut Cursor<'_>, numbers: &mut Counts) -> Result<(), Unrea
 
 // Reads a number more, where a blank stands.
 fn add_count(cursor: &mut Cursor<'_>, numbers: &mut Counts) -> Result<(), Unread>
-    ensures { Gives (λ _. (numbers.new.items, cursor.new)) result (step_at (begins_with blank) next_count_at numbers.old.items cursor.old) }
+    ensures { Gives (λ _. (numbers.new.items, cursor.new)) result (read_step (begins_with blank) read_next_count numbers.old.items cursor.old) }
 {
     if goes_on(cursor) {
         let number = read_next(cursor)?;
@@ -55,9 +55,9 @@ fn goes_on(cursor: &Cursor<'_>) -> bool
 }
 
 // Reads a number behind a blank.
-#[tactic(auto, unfolding(crate::specs::HeadingReading::next_count_at))]
+#[tactic(auto, unfolding(crate::specs::HeadingReading::read_next_count))]
 fn read_next(cursor: &mut Cursor<'_>) -> Result<u64, Unread>
-    ensures { Gives (λ number. (number, cursor.new)) result (next_count_at cursor.old) }
+    ensures { Gives (λ number. (number, cursor.new)) result (read_next_count cursor.old) }
 {
     cursor.text(b" ")?;
     cursor.count()

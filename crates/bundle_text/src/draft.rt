@@ -5,13 +5,13 @@ ghost use Rattle.apl_arrays.specs.Glyph.{Spells, bar};
 ghost use Rattle.apl_arrays.specs.Limits.{most_line_glyphs, most_user_lines};
 ghost use Rattle.line_text.specs.Lines.{line_feed};
 ghost use Rattle.bundle_text.specs.Rules.{IsBundle};
-ghost use Rattle.bundle_text.specs.BundleLine.{PlainLine, IsLine, user, order, file, clock, end};
-ghost use Rattle.bundle_text.specs.Draft.{nothing_read, users_of, files_of, begun, bundle_of, is_ended};
-ghost use Rattle.bundle_text.specs.Heading.{IsHeadingOf, kept};
+ghost use Rattle.bundle_text.specs.BundleLine.{PlainLine, IsBundleLine, user, order, file, clock, end};
+ghost use Rattle.bundle_text.specs.Draft.{nothing_read, users_so_far, files_of, section_begun, bundle_of, is_at_end};
+ghost use Rattle.bundle_text.specs.Heading.{IsHeadingOf, kept_numbers};
 ghost use Rattle.bundle_text.specs.Limits.{greatest_reading};
 ghost use Rattle.bundle_text.specs.Refused.{IsRefusal};
 ghost use Rattle.bundle_text.specs.Section.{plain_section};
-ghost use Rattle.bundle_text.specs.Step.{Adds, AddsText, IsGlyphOr, IsOver};
+ghost use Rattle.bundle_text.specs.Step.{Adds, AddsText, IsGlyphOr, BreaksLimit};
 ghost use Rattle.bundle_text.specs.User.{plain_user};
 
 use crate::bundle::{Bundle, BundleParts};
@@ -54,7 +54,7 @@ fn add_input(user: &mut BundleUser, line: Line, offset: u64) -> Result<(), Bundl
     ensures { MatchResult result
         (λ _. IsTrue (nat_lt (length user.old.lines.items) most_user_lines && nat_le (length line.items) most_line_glyphs)
         × (plain_user user.new ≡ record { number = user.old.number; lines = user.old.lines.items ++ line.items ∷ [] }))
-        (λ why. IsRefusal why (IsOver offset (nat_lt (length user.old.lines.items) most_user_lines && nat_le (length line.items) most_line_glyphs))) }
+        (λ why. IsRefusal why (BreaksLimit offset (nat_lt (length user.old.lines.items) most_user_lines && nat_le (length line.items) most_line_glyphs))) }
 {
     if user.lines.as_slice().len() >= LINE_LIMIT || line.as_slice().len() > LINE_GLYPH_LIMIT {
         return Err(BundleRefused::malformed(offset, BundleRule::Limit));
@@ -82,7 +82,7 @@ fn add_text(
 ) -> Result<(), BundleRefused>
     ensures bytes { MatchResult result
         (λ _. IsTrue (nat_le count most_line_glyphs) × (file.new.bytes.items ≡ file.old.bytes.items ++ (text.now ++ line_feed ∷ [])))
-        (λ why. IsRefusal why (IsOver offset (nat_le count most_line_glyphs))) }
+        (λ why. IsRefusal why (BreaksLimit offset (nat_le count most_line_glyphs))) }
     ensures name { file.new.name ≡ file.old.name }
 {
     if count > LINE_GLYPH_LIMIT {
@@ -128,7 +128,7 @@ fn add_readings(clock: &mut Readings, numbers: &[u64]) -> Result<(), WantOfMemor
 }
 
 impl Draft {
-    /// Nothing is read yet. No memory.
+    /// Nothing is read yet.
     pub fn new(alloc: Global) -> Draft
         ensures { result ≡ nothing_read }
     {
@@ -141,9 +141,9 @@ impl Draft {
         }
     }
 
-    /// Whether the end was read. No memory.
+    /// Whether the end was read.
     pub fn is_ended(&self) -> bool
-        ensures { result ≡ is_ended self.now.section }
+        ensures { result ≡ is_at_end self.now.section }
     {
         self.section.is_ended()
     }
@@ -168,9 +168,9 @@ impl Draft {
 
     // Begins a section. What the one before it began is whole.
     fn begin(&mut self, section: Section) -> Result<(), WantOfMemory>
-        requires users { AscendBy (λ user. user.number) (users_of self.old) }
+        requires users { AscendBy (λ user. user.number) (users_so_far self.old) }
         requires files { IsAscending (files_of self.old) }
-        ensures { OnOk result (self.new ≡ begun self.old (plain_section section)) }
+        ensures { OnOk result (self.new ≡ section_begun self.old (plain_section section)) }
     {
         match mem::replace(&mut self.section, section) {
             Section::User(user) => self.users.push(user),
@@ -185,7 +185,7 @@ impl Draft {
     // Adds the heading of a user, which stands at the offset.
     fn add_user(&mut self, alloc: Global, number: u32, offset: u64) -> Result<(), BundleRefused>
         requires bundle { IsBundle (bundle_of self.old) }
-        requires form { IsLine (user number) }
+        requires form { IsBundleLine (user number) }
         ensures { Adds self.old (user number) self.new offset result }
     {
         if !self.section.takes_user(number) {
@@ -201,7 +201,7 @@ impl Draft {
     // Adds turns, which stand at the offset.
     fn add_turns(&mut self, numbers: &[u64], offset: u64) -> Result<(), BundleRefused>
         requires { IsBundle (bundle_of self.old) }
-        ensures { (digits : List (List ℕ)) → numbers.now ≡ kept digits → IsLine (order digits)
+        ensures { (digits : List (List ℕ)) → numbers.now ≡ kept_numbers digits → IsBundleLine (order digits)
             → Adds self.old (order digits) self.new offset result }
     {
         if !self.section.takes_turns() {
@@ -221,7 +221,7 @@ impl Draft {
     // Adds the heading of a file, which stands at the offset.
     fn add_file(&mut self, alloc: Global, name: FileName, offset: u64) -> Result<(), BundleRefused>
         requires bundle { IsBundle (bundle_of self.old) }
-        requires form { IsLine (file name) }
+        requires form { IsBundleLine (file name) }
         ensures { Adds self.old (file name) self.new offset result }
     {
         if !self.section.takes_file(&name) {
@@ -238,7 +238,7 @@ impl Draft {
     fn add_clock(&mut self, numbers: &[u64], offset: u64) -> Result<(), BundleRefused>
         requires bundle { IsBundle (bundle_of self.old) }
         requires readings { All (λ number. number ≤ greatest_reading) numbers.now }
-        ensures { (digits : List (List ℕ)) → numbers.now ≡ kept digits → IsLine (clock digits)
+        ensures { (digits : List (List ℕ)) → numbers.now ≡ kept_numbers digits → IsBundleLine (clock digits)
             → Adds self.old (clock digits) self.new offset result }
     {
         if self.section.is_ended() {
@@ -273,8 +273,8 @@ impl Draft {
         offset: u64,
     ) -> Result<(), BundleRefused>
         requires bundle { IsBundle (bundle_of self.old) }
-        requires form { (line : PlainLine) × IsHeadingOf heading line × IsLine line }
-        ensures { (line : PlainLine) → IsHeadingOf heading line → IsLine line → Adds self.old line self.new offset result }
+        requires form { (line : PlainLine) × IsHeadingOf heading line × IsBundleLine line }
+        ensures { (line : PlainLine) → IsHeadingOf heading line → IsBundleLine line → Adds self.old line self.new offset result }
     {
         match heading {
             Heading::User(number) => self.add_user(alloc, number, offset),
@@ -285,10 +285,10 @@ impl Draft {
         }
     }
 
-    /// The bundle, where the end was read. No memory.
+    /// The bundle, where the end was read.
     pub fn finish(self) -> Bundle
         requires bundle { IsBundle (bundle_of self) }
-        requires ended { IsTrue (is_ended self.section) }
+        requires ended { IsTrue (is_at_end self.section) }
         ensures { result ≡ bundle_of self }
     {
         let Draft {

@@ -24,7 +24,7 @@ pub fn glyphs_at(alloc: Global, bytes: &[u8], offset: u64) -> Result<Line, Bundl
 }
 
 /// How many glyphs bytes spell, which stand at the offset. `Malformed` with the rule of glyphs where they spell none, at
-/// the first byte that spells none. No memory.
+/// the first byte that spells none. It takes no memory.
 pub fn glyph_count_at(bytes: &[u8], offset: u64) -> Result<usize, BundleRefused>
     requires { offset + length bytes.now < 2 ^ 64 }
     ensures { MatchResult result (λ count. (line : List ℕ) × Spells bytes.now line × (count ≡ length line))

@@ -3,7 +3,7 @@ ghost use Rattle.std.specs.List.{list_all};
 ghost use Rattle.line_text.specs.Lines.{end_line};
 ghost use Rattle.text_reader.specs.Reading.{Gives, IsLeft};
 ghost use Rattle.bundle_text.specs.Heading.{IsHeadingLine, IsNoHeading, plain_heading};
-ghost use Rattle.bundle_text.specs.HeadingReading.{end_at, file_at, heading_at, later_heading_at, readings_at, turns_at, user_at};
+ghost use Rattle.bundle_text.specs.HeadingReading.{read_end, read_file, read_heading, read_later_heading, read_readings, read_turns, read_user};
 ghost use Rattle.bundle_text.specs.Limits.{greatest_reading};
 
 use crate::counts::{Counts, read_counts};
@@ -30,9 +30,9 @@ pub enum Heading {
 }
 
 // Reads the heading of a user.
-#[tactic(auto, unfolding(crate::specs::HeadingReading::user_at))]
+#[tactic(auto, unfolding(crate::specs::HeadingReading::read_user))]
 fn read_user(cursor: &mut Cursor<'_>) -> Result<Heading, Unread>
-    ensures { Gives (λ heading. (plain_heading heading, cursor.new)) result (user_at cursor.old) }
+    ensures { Gives (λ heading. (plain_heading heading, cursor.new)) result (read_user cursor.old) }
 {
     cursor.text(b"user ")?;
     let number = cursor.number(u64::from(FIRST_USER), u64::from(LAST_USER))?;
@@ -40,18 +40,18 @@ fn read_user(cursor: &mut Cursor<'_>) -> Result<Heading, Unread>
 }
 
 // Reads the heading of turns.
-#[tactic(auto, unfolding(crate::specs::HeadingReading::turns_at))]
+#[tactic(auto, unfolding(crate::specs::HeadingReading::read_turns))]
 fn read_turns(alloc: Global, cursor: &mut Cursor<'_>) -> Result<Heading, Unread>
-    ensures { Gives (λ heading. (plain_heading heading, cursor.new)) result (turns_at cursor.old) }
+    ensures { Gives (λ heading. (plain_heading heading, cursor.new)) result (read_turns cursor.old) }
 {
     cursor.text(b"order ")?;
     Ok(Heading::Order(read_counts(alloc, cursor)?))
 }
 
 // Reads the heading of a file.
-#[tactic(auto, unfolding(crate::specs::HeadingReading::file_at))]
+#[tactic(auto, unfolding(crate::specs::HeadingReading::read_file))]
 fn read_file(alloc: Global, cursor: &mut Cursor<'_>) -> Result<Heading, Unread>
-    ensures { Gives (λ heading. (plain_heading heading, cursor.new)) result (file_at cursor.old) }
+    ensures { Gives (λ heading. (plain_heading heading, cursor.new)) result (read_file cursor.old) }
 {
     cursor.text(b"file ")?;
     Ok(Heading::File(cursor.file_name(alloc)?))
@@ -65,9 +65,9 @@ fn are_readings(numbers: &[u64]) -> bool
 }
 
 // Reads the heading of readings.
-#[tactic(auto, unfolding(crate::specs::HeadingReading::readings_at))]
+#[tactic(auto, unfolding(crate::specs::HeadingReading::read_readings))]
 fn read_readings(alloc: Global, cursor: &mut Cursor<'_>) -> Result<Heading, Unread>
-    ensures { Gives (λ heading. (plain_heading heading, cursor.new)) result (readings_at cursor.old) }
+    ensures { Gives (λ heading. (plain_heading heading, cursor.new)) result (read_readings cursor.old) }
 {
     cursor.text(b"clock ")?;
     let numbers = read_counts(alloc, cursor)?;
@@ -79,18 +79,18 @@ fn read_readings(alloc: Global, cursor: &mut Cursor<'_>) -> Result<Heading, Unre
 }
 
 // Reads the end.
-#[tactic(auto, unfolding(crate::specs::HeadingReading::end_at))]
+#[tactic(auto, unfolding(crate::specs::HeadingReading::read_end))]
 fn read_end(cursor: &mut Cursor<'_>) -> Result<Heading, Unread>
-    ensures { Gives (λ heading. (plain_heading heading, cursor.new)) result (end_at cursor.old) }
+    ensures { Gives (λ heading. (plain_heading heading, cursor.new)) result (read_end cursor.old) }
 {
     cursor.text(b"end")?;
     Ok(Heading::End)
 }
 
 // Reads the heading of a file or of readings, by the letter with which its word begins, or the end.
-#[tactic(auto, unfolding(crate::specs::HeadingReading::later_heading_at))]
+#[tactic(auto, unfolding(crate::specs::HeadingReading::read_later_heading))]
 fn read_later_heading(alloc: Global, cursor: &mut Cursor<'_>) -> Result<Heading, Unread>
-    ensures { Gives (λ heading. (plain_heading heading, cursor.new)) result (later_heading_at cursor.old) }
+    ensures { Gives (λ heading. (plain_heading heading, cursor.new)) result (read_later_heading cursor.old) }
 {
     match cursor.first() {
         Some(first) if first.code() == b'f' => read_file(alloc, cursor),
@@ -100,9 +100,9 @@ fn read_later_heading(alloc: Global, cursor: &mut Cursor<'_>) -> Result<Heading,
 }
 
 // Reads a heading, by the letter with which its word begins.
-#[tactic(auto, unfolding(crate::specs::HeadingReading::heading_at))]
+#[tactic(auto, unfolding(crate::specs::HeadingReading::read_heading))]
 fn read_heading(alloc: Global, cursor: &mut Cursor<'_>) -> Result<Heading, Unread>
-    ensures { Gives (λ heading. (plain_heading heading, cursor.new)) result (heading_at cursor.old) }
+    ensures { Gives (λ heading. (plain_heading heading, cursor.new)) result (read_heading cursor.old) }
 {
     match cursor.first() {
         Some(first) if first.code() == b'u' => read_user(cursor),
@@ -145,7 +145,7 @@ pub fn heading_of(alloc: Global, line: &[Glyph]) -> Result<Option<Heading>, Want
     }
 }
 
-/// Whether a line is the last one of a bundle. No memory.
+/// Whether a line is the last one of a bundle.
 pub fn is_end(line: &[u8]) -> bool
     ensures { IsTrue result ↔ (line.now ≡ end_line) }
 {

@@ -28,7 +28,7 @@ fn is_party(users: &[BundleUser], number: u64) -> bool
     has_row(&AUXILIARIES, number) || is_user(users, number)
 }
 
-/// Whether each number is that of a party: of an auxiliary or of one of the users. No memory.
+/// Whether each number is that of a party: of an auxiliary or of one of the users.
 pub fn are_parties(users: &[BundleUser], numbers: &[u64]) -> bool
     ensures { result ≡ list_all (is_party (map plain_user users.now)) numbers.now }
 {

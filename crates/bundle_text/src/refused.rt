@@ -25,7 +25,7 @@ pub enum BundleRule {
 }
 
 impl BundleRule {
-    /// The name of the rule. No memory.
+    /// The name of the rule.
     pub fn text(self) -> &'static str
         ensures { result.now ≡ rule_text self }
     {

@@ -1,5 +1,5 @@
 ghost use Rattle.std.specs.Prelude.{◌≡◌, []};
-ghost use Rattle.bundle_text.specs.Draft.{of_user, of_file, takes_user, takes_turns, takes_file, is_ended};
+ghost use Rattle.bundle_text.specs.Draft.{of_user, of_file, takes_user, turns_may_stand, takes_file, is_at_end};
 ghost use Rattle.bundle_text.specs.Section.{plain_section};
 
 use crate::user::BundleUser;
@@ -31,7 +31,7 @@ pub enum Section {
 }
 
 impl Section {
-    /// The section of a user, without lines. No memory.
+    /// The section of a user, without lines.
     pub fn user(alloc: Global, number: u32) -> Section
         ensures { plain_section result ≡ of_user (record { number = number; lines = [] }) }
     {
@@ -41,7 +41,7 @@ impl Section {
         })
     }
 
-    /// The section of a file, without lines. No memory.
+    /// The section of a file, without lines.
     pub fn file(alloc: Global, name: FileName) -> Section
         ensures { plain_section result ≡ of_file (record { name = name; bytes = [] }) }
     {
@@ -51,7 +51,7 @@ impl Section {
         })
     }
 
-    /// Whether a user of this number may follow: behind no heading, or behind a user of a lower number. No memory.
+    /// Whether a user of this number may follow: behind no heading, or behind a user of a lower number.
     pub fn takes_user(&self, number: u32) -> bool
         ensures { result ≡ takes_user (plain_section self.now) number }
     {
@@ -62,15 +62,14 @@ impl Section {
         }
     }
 
-    /// Whether turns may follow: behind no heading, a user, or turns. No memory.
+    /// Whether turns may follow: behind no heading, a user, or turns.
     pub fn takes_turns(&self) -> bool
-        ensures { result ≡ takes_turns (plain_section self.now) }
+        ensures { result ≡ turns_may_stand (plain_section self.now) }
     {
         matches!(self, Section::Start | Section::User(_) | Section::Order)
     }
 
-    /// Whether a file of this name may follow: behind no heading, a user, turns, or a file whose name is before it. No
-    /// memory.
+    /// Whether a file of this name may follow: behind no heading, a user, turns, or a file whose name is before it.
     pub fn takes_file(&self, name: &FileName) -> bool
         ensures { result ≡ takes_file (plain_section self.now) name.now }
     {
@@ -81,9 +80,9 @@ impl Section {
         }
     }
 
-    /// Whether the end was read. No memory.
+    /// Whether the end was read.
     pub fn is_ended(&self) -> bool
-        ensures { result ≡ is_ended (plain_section self.now) }
+        ensures { result ≡ is_at_end (plain_section self.now) }
     {
         matches!(self, Section::End)
     }

@@ -3,7 +3,7 @@ ghost use Rattle.line_text.specs.Lines.{end_line, HasNoFeed};
 ghost use Rattle.bundle_text.specs.Breaks.{Breaks};
 ghost use Rattle.bundle_text.specs.Rules.{PlainBundle, IsBundle};
 ghost use Rattle.bundle_text.specs.BundleLine.{IsNoContent};
-ghost use Rattle.bundle_text.specs.Draft.{PlainDraft, bundle_of, is_ended};
+ghost use Rattle.bundle_text.specs.Draft.{PlainDraft, bundle_of, is_at_end};
 ghost use Rattle.bundle_text.specs.Bundle.{BundleText, IsNoBundle};
 ghost use Rattle.bundle_text.specs.Refused.{IsReason, IsRefusal};
 ghost use Rattle.bundle_text.specs.Step.{AddsText, IsGlyphOr, IsLineBroken, IsReadTo};
@@ -80,8 +80,8 @@ fn add_last_line(
 // The bundle, where the end was read. The text ends at the offset.
 fn finished(draft: Draft, offset: u64) -> Result<Bundle, BundleRefused>
     requires { IsBundle (bundle_of draft) }
-    ensures { MatchResult result (λ bundle. IsTrue (is_ended draft.section) × (bundle ≡ bundle_of draft))
-        (λ why. IsRefusal why (λ place rule. (place ≡ offset) × (rule ≡ BundleRule.End) × (is_ended draft.section ≡ false))) }
+    ensures { MatchResult result (λ bundle. IsTrue (is_at_end draft.section) × (bundle ≡ bundle_of draft))
+        (λ why. IsRefusal why (λ place rule. (place ≡ offset) × (rule ≡ BundleRule.End) × (is_at_end draft.section ≡ false))) }
 {
     if draft.is_ended() {
         Ok(draft.finish())

@@ -33,7 +33,7 @@ impl Model for UserList {
 }
 
 impl UserList {
-    /// No users. It takes no memory.
+    /// No users.
     pub fn new(alloc: Global) -> Self
         ensures { result.items ≡ [] }
     {
@@ -42,7 +42,7 @@ impl UserList {
         }
     }
 
-    /// The users, their numbers ascending. It takes no memory.
+    /// The users, their numbers ascending.
     pub fn as_slice(&self) -> &[BundleUser]
         ensures value { map plain_user result.now ≡ self.now.items }
         ensures ascending { AscendBy (λ user. user.number) self.now.items }
@@ -50,7 +50,7 @@ impl UserList {
         self.users.as_slice()
     }
 
-    /// The users as a `Vec`. It takes no memory.
+    /// The users as a `Vec`.
     pub fn into_vec(self) -> Vec<BundleUser>
         ensures value { map plain_user result.items ≡ self.items }
         ensures ascending { AscendBy (λ user. user.number) self.items }

@@ -13,7 +13,7 @@ pub struct Looks {
 }
 
 impl Looks {
-    /// Nothing was looked at yet. No memory.
+    /// Nothing was looked at yet.
     pub fn new() -> Self
         ensures cases { result.tally.cases ≡ 0 }
         ensures differing { result.tally.differing ≡ 0 }
@@ -24,7 +24,7 @@ impl Looks {
         }
     }
 
-    /// Counts a case, which differs where this does not hold. The counts stand still at the greatest `u64`. No memory.
+    /// Counts a case, which differs where this does not hold. The counts stand still at the greatest `u64`.
     pub fn holds(&mut self, is_so: bool)
         ensures cases { self.new.tally.cases ≡ min (self.old.tally.cases + 1) (2 ^ 64 - 1) }
         ensures differs { IsFalse is_so → self.new.tally.differing ≡ min (self.old.tally.differing + 1) (2 ^ 64 - 1) }

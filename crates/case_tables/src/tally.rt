@@ -8,7 +8,7 @@ pub struct Tally {
 }
 
 impl Tally {
-    /// No case yet. No memory.
+    /// No case yet.
     pub fn new() -> Self
         ensures { result ≡ record { cases = 0; differing = 0 } }
     {
@@ -18,7 +18,7 @@ impl Tally {
         }
     }
 
-    /// Counts a case. The counts stand still at the greatest `u64`. No memory.
+    /// Counts a case. The counts stand still at the greatest `u64`.
     pub fn count(&mut self, differs: bool)
         ensures cases { self.new.cases ≡ min (self.old.cases + 1) (2 ^ 64 - 1) }
         ensures differs { IsTrue differs → self.new.differing ≡ min (self.old.differing + 1) (2 ^ 64 - 1) }
@@ -30,7 +30,7 @@ impl Tally {
         }
     }
 
-    /// Counts the cases of another tally too. The counts stand still at the greatest `u64`. No memory.
+    /// Counts the cases of another tally too. The counts stand still at the greatest `u64`.
     pub fn add(&mut self, other: Tally)
         ensures cases { self.new.cases ≡ min (self.old.cases + other.cases) (2 ^ 64 - 1) }
         ensures differing { self.new.differing ≡ min (self.old.differing + other.differing) (2 ^ 64 - 1) }
@@ -39,7 +39,7 @@ impl Tally {
         self.differing = self.differing.saturating_add(other.differing);
     }
 
-    /// Whether no case differed. No memory.
+    /// Whether no case differed.
     pub fn agrees(&self) -> bool
         ensures { IsTrue result ↔ (self.now.differing ≡ 0) }
     {

@@ -15,8 +15,8 @@ use Rattle.apl_workspace.proofs.NameLaw as names
 use Rattle.fn_editor.specs.Bracket.{bracket_in}
 use Rattle.fn_editor.specs.Closing.{behind_glyph, is_blank_text}
 use Rattle.apl_arrays.specs.Name.{same_name}
-use Rattle.fn_editor.specs.Editing.{Edited, by_bracket, commanded, deleted, edited, edited_by, entered, is_in_reach, may_enter, quietly, with_current_number, with_header, with_text}
-use Rattle.fn_editor.specs.Editor.{PlainEditor, has_line, shown}
+use Rattle.fn_editor.specs.Editing.{Edited, by_bracket, bracket_done, deleted, edited, edited_by, entered, is_in_reach, may_enter, quietly, with_current_number, with_header, with_text}
+use Rattle.fn_editor.specs.Editor.{PlainEditor, has_line, shown_definition}
 use Rattle.fn_editor.specs.declared.bracket.Bracket.{Bracket}
 use Rattle.fn_editor.specs.declared.bracket.Bracket.TheVariants.{Show, Delete, Header, At}
 
@@ -49,7 +49,7 @@ header_named : (editor : PlainEditor) (text : List ℕ) (header : Option PlainHe
 header_named editor text None = tt
 header_named editor text (Some header) = header_by editor text header (nat_le (length text) most_line_glyphs && same_name editor.header.name header.name) refl
 
-shown_by : (editor : PlainEditor) (b : Bool) → KeepsName editor.header.name (cond b (Some (record { editor = editor; shown = shown editor })) None)
+shown_by : (editor : PlainEditor) (b : Bool) → KeepsName editor.header.name (cond b (Some (record { editor = editor; shown = shown_definition editor })) None)
 shown_by editor true = refl
 shown_by editor false = tt
 
@@ -61,7 +61,7 @@ reached_by : (editor : PlainEditor) (number : ℕ) (text : List ℕ) (b : Bool) 
 reached_by editor number text true = quietly_named editor.header.name (with_text (with_current_number editor number) text) (text_by (with_current_number editor number) text (is_blank_text text) (may_enter (with_current_number editor number) text))
 reached_by editor number text false = tt
 
-commanded_named : (editor : PlainEditor) (bracket : Bracket) (text : List ℕ) → KeepsName editor.header.name (commanded editor bracket text)
+commanded_named : (editor : PlainEditor) (bracket : Bracket) (text : List ℕ) → KeepsName editor.header.name (bracket_done editor bracket text)
 commanded_named editor Show text = shown_by editor (is_blank_text text)
 commanded_named editor (Delete number) text = deleted_by editor number (is_blank_text text && has_line editor.lines number)
 commanded_named editor Header text = quietly_named editor.header.name (with_header editor text (header_of text)) (header_named editor text (header_of text))

@@ -21,7 +21,7 @@ use Rattle.fn_editor.specs.Closing.{IsBeforeClose, before_close, behind_glyph, b
 use Rattle.fn_editor.specs.Editing.{Edited, quietly, then_closed}
 use Rattle.fn_editor.specs.Editor.{defined_function, editor_of}
 use Rattle.fn_editor.specs.Opening.{bracket_behind, is_bare, name_with_bracket, new_editor, opened, opened_as, opened_at, opened_behind, opened_by, opened_by_header, opened_with}
-use Rattle.fn_editor.specs.OpeningLaws.{HasBracket, HasNoBracket, IsBare, IsBehind, IsOpened, IsShut, IsTextOf, Opens, bare_name, closing, name_and_bracket, new_header, shut, staying}
+use Rattle.fn_editor.specs.OpeningLaws.{HasBracket, HasNoBracket, IsBare, IsBehind, IsOpened, IsShut, IsOpeningText, Opens, bare_name, closing, name_and_bracket, new_header, shut, staying}
 use Rattle.fn_editor.proofs.Closes.{closes_there, is_before_close}
 use Rattle.fn_editor.proofs.Numbered.{values_numbered}
 
@@ -194,10 +194,10 @@ is_opened w text opening (name_and_bracket name rest function has named h) = ap 
 
 -- ---- what a line opens
 
-text_is : (rest : List ℕ) → IsTextOf rest (body rest) (closes_definition rest)
+text_is : (rest : List ℕ) → IsOpeningText rest (body rest) (closes_definition rest)
 text_is rest = by (before_close rest) refl
   where
-    by : (o : Option (List ℕ)) → before_close rest ≡ o → IsTextOf rest (unwrap_or o rest) (is_some o)
+    by : (o : Option (List ℕ)) → before_close rest ≡ o → IsOpeningText rest (unwrap_or o rest) (is_some o)
     by None e = staying refl refl (λ front is. none-some front (sym e ∙ closes_there rest front is))
     by (Some front) e = closing refl (is_before_close rest front e)
 
@@ -208,7 +208,7 @@ none_before rest none = by (before_close rest) refl
     by None e = refl
     by (Some front) e = absurd (none front (is_before_close rest front e))
 
-is_text : (rest text : List ℕ) (closes : Bool) → IsTextOf rest text closes → (body rest ≡ text) × (closes_definition rest ≡ closes)
+is_text : (rest text : List ℕ) (closes : Bool) → IsOpeningText rest text closes → (body rest ≡ text) × (closes_definition rest ≡ closes)
 is_text rest text closes (closing is before) =
     let found = closes_there rest text before in
     (ap (λ (o : Option (List ℕ)). unwrap_or o rest) found, ap (λ (o : Option (List ℕ)). is_some o) found ∙ sym is)

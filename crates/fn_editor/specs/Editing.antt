@@ -12,7 +12,7 @@ use Rattle.apl_workspace.specs.Header.{PlainHeader, header_of}
 use Rattle.apl_workspace.specs.Limits.{most_function_lines}
 use Rattle.fn_editor.specs.Bracket.{bracket_in}
 use Rattle.fn_editor.specs.Closing.{behind_glyph, body, closes_definition, is_blank_text}
-use Rattle.fn_editor.specs.Editor.{PlainEditor, has_line, last_number, shown, with_line_at, without_line}
+use Rattle.fn_editor.specs.Editor.{PlainEditor, has_line, last_number, shown_definition, with_line_at, without_line}
 use Rattle.fn_editor.specs.Number.{most_whole, next, whole_part}
 use Rattle.fn_editor.specs.declared.bracket.Bracket.{Bracket}
 use Rattle.fn_editor.specs.declared.bracket.Bracket.TheVariants.{Show, Delete, Header, At}
@@ -59,16 +59,16 @@ abbrev pub quietly : PlainEditor → Edited
 quietly editor = record { editor = editor; shown = [] }
 
 -- what a bracket does, with the text behind it: none is DEFN ERROR
-abbrev pub commanded : PlainEditor → Bracket → List ℕ → Option Edited
-commanded editor Show text = if is_blank_text text then Some (record { editor = editor; shown = shown editor }) else None
-commanded editor (Delete number) text = if is_blank_text text && has_line editor.lines number then Some (quietly (deleted editor number)) else None
-commanded editor Header text = option_map quietly (with_header editor text (header_of text))
-commanded editor (At number) text = if is_in_reach editor number then option_map quietly (with_text (with_current_number editor number) text) else None
+abbrev pub bracket_done : PlainEditor → Bracket → List ℕ → Option Edited
+bracket_done editor Show text = if is_blank_text text then Some (record { editor = editor; shown = shown_definition editor }) else None
+bracket_done editor (Delete number) text = if is_blank_text text && has_line editor.lines number then Some (quietly (deleted editor number)) else None
+bracket_done editor Header text = option_map quietly (with_header editor text (header_of text))
+bracket_done editor (At number) text = if is_in_reach editor number then option_map quietly (with_text (with_current_number editor number) text) else None
 
 -- what a bracket does, where it is one
 abbrev pub by_bracket : PlainEditor → Option (Bracket × List ℕ) → Option Edited
 by_bracket editor None = None
-by_bracket editor (Some found) = commanded editor found.0 found.1
+by_bracket editor (Some found) = bracket_done editor found.0 found.1
 
 -- what a line does that begins with a bracket, or does not
 abbrev pub edited_by : PlainEditor → List ℕ → Option (List ℕ) → Option Edited
@@ -109,6 +109,6 @@ abbrev pub reads_header : List ℕ → Bool
 reads_header line = line_reads (behind_glyph left_bracket (without_blanks line))
 
 -- why nothing was done: DEFN ERROR, where the rules give nothing; or memory ran out where they give something, or where memory is taken before that is known
-abbrev pub IsRefused : {A : Type 0} → Bool → Option A → Fail → Type 0
-IsRefused early result (Report report) = (report ≡ Defn) × (result ≡ None)
-IsRefused early result WantOfMemory = (early || is_some result) ≡ true
+abbrev pub IsRefusal : {A : Type 0} → Bool → Option A → Fail → Type 0
+IsRefusal early result (Report report) = (report ≡ Defn) × (result ≡ None)
+IsRefusal early result WantOfMemory = (early || is_some result) ≡ true

@@ -63,8 +63,8 @@ edge = replicate 4 blank ++ del ∷ []
 
 -- what is shown of a definition: the header behind its edge and a blank, the lines with their prompts, and the edge
 -- again
-abbrev pub shown : PlainEditor → List (List ℕ)
-shown editor = (edge ++ blank ∷ editor.text) ∷ map shown_line editor.lines ++ edge ∷ []
+abbrev pub shown_definition : PlainEditor → List (List ℕ)
+shown_definition editor = (edge ++ blank ∷ editor.text) ∷ map shown_line editor.lines ++ edge ∷ []
 
 -- what holds of every open definition: the header is that of its text, and text and lines are within their limits
 pub record IsEditor (editor : PlainEditor) : Type 0 where

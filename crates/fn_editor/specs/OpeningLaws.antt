@@ -47,9 +47,9 @@ pub data Opens (w : PlainWorkspace) (text : List ℕ) (opening : Edited) : Type 
   name_and_bracket : (name rest : List ℕ) (function : PlainFunction) → HasBracket text name rest → global_in w name ≡ Function function → by_bracket (editor_of function) (bracket_in rest) ≡ Some opening → Opens w text opening
 
 -- this text stands behind the ∇ that opens: up to a ∇ that closes, or all, where none closes
-pub data IsTextOf (rest text : List ℕ) (closes : Bool) : Type 0 where
-  closing : closes ≡ true → IsBeforeClose rest text → IsTextOf rest text closes
-  staying : closes ≡ false → rest ≡ text → ((front : List ℕ) → ¬ IsBeforeClose rest front) → IsTextOf rest text closes
+pub data IsOpeningText (rest text : List ℕ) (closes : Bool) : Type 0 where
+  closing : closes ≡ true → IsBeforeClose rest text → IsOpeningText rest text closes
+  staying : closes ≡ false → rest ≡ text → ((front : List ℕ) → ¬ IsBeforeClose rest front) → IsOpeningText rest text closes
 
 -- a line opens this: its first glyph other than blanks is ∇, and what its text opens is closed where the line closes it
 pub record IsOpened (w : PlainWorkspace) (line : List ℕ) (done : Edited) : Type 0 where
@@ -58,7 +58,7 @@ pub record IsOpened (w : PlainWorkspace) (line : List ℕ) (done : Edited) : Typ
   pub closes : Bool
   pub opening : Edited
   pub behind : IsBehind del line rest
-  pub text_of : IsTextOf rest text closes
+  pub text_of : IsOpeningText rest text closes
   pub opens : Opens w text opening
   pub same : done ≡ then_closed closes opening
 

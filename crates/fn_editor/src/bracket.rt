@@ -21,7 +21,7 @@ pub enum Bracket {
 }
 
 /// What a bracket asks, behind its `[`, and what follows it: `⎕]`, `∆n]`, `n]` or a number with a tenth. `None` for any
-/// other. No memory.
+/// other.
 pub fn bracket_in(text: &[Glyph]) -> Option<(Bracket, &[Glyph])>
     ensures { option_map (λ found. (found.0, found.1.now)) result ≡ bracket_in text.now }
 {

@@ -4,14 +4,14 @@ ghost use Rattle.fn_editor.specs.Closing.{before_close, behind_glyph, body, clos
 
 use apl_arrays::Glyph;
 
-/// Whether nothing but blanks stands there. No memory.
+/// Whether nothing but blanks stands there.
 pub fn is_blank_text(text: &[Glyph]) -> bool
     ensures { result ≡ is_blank_text text.now }
 {
     text.iter().all(|glyph| glyph.is_blank())
 }
 
-/// What follows a glyph at the front, where it stands there. No memory.
+/// What follows a glyph at the front, where it stands there.
 pub fn behind_glyph(line: &[Glyph], glyph: Glyph) -> Option<&[Glyph]>
     ensures { option_copied result ≡ behind_glyph glyph line.now }
 {
@@ -21,7 +21,7 @@ pub fn behind_glyph(line: &[Glyph], glyph: Glyph) -> Option<&[Glyph]>
     }
 }
 
-/// What is done of a line, and whether the line closes the definition: it ends with ∇, blanks aside. No memory.
+/// What is done of a line, and whether the line closes the definition: it ends with ∇, blanks aside.
 pub fn split_close(line: &[Glyph]) -> (&[Glyph], bool)
     ensures body { result.0.now ≡ body line.now }
     ensures closes { result.1 ≡ closes_definition line.now }

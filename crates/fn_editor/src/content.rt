@@ -34,14 +34,14 @@ impl LineText {
         })
     }
 
-    /// Its glyphs. No memory.
+    /// Its glyphs.
     pub fn glyphs(&self) -> &[Glyph]
         ensures { result.now ≡ self.now }
     {
         self.line.as_slice()
     }
 
-    /// It as a line. No memory.
+    /// It as a line.
     pub fn into_line(self) -> Line
         ensures { result.items ≡ self }
     {
@@ -56,8 +56,8 @@ pub fn copied_line(alloc: Global, glyphs: &[Glyph]) -> Result<Line, WantOfMemory
     Ok(Line::from(Vec::from_slice(alloc, glyphs)?))
 }
 
-/// What lines weigh, one for each and for each of its glyphs, or one more than a workspace may weigh where that is less. No
-/// memory.
+/// What lines weigh, one for each and for each of its glyphs, or one more than a workspace may weigh where that is
+/// less.
 pub fn lines_weight(lines: &BTreeMap<LineNumber, LineText>) -> usize
     ensures { result ≡ min (lines_weight (values_of lines.now.entries)) (most_weight + 1) }
 {

@@ -13,8 +13,8 @@ ghost use Rattle.apl_workspace.specs.declared.meaning.Meaning.{Meaning};
 ghost use Rattle.apl_workspace.specs.Workspace.{IsFull, global_in, with_global, workspace_weight};
 ghost use Rattle.fn_editor.specs.Bracket.{bracket_in};
 ghost use Rattle.fn_editor.specs.Closing.{behind_glyph, body};
-ghost use Rattle.fn_editor.specs.Editing.{IsRefused, bracket_reads, by_bracket, commanded, deleted, edited, fed, is_header_bracket, is_in_reach, may_enter, quietly, reads_header, with_current_number, with_header, with_text};
-ghost use Rattle.fn_editor.specs.Editor.{defined_function, editor_of, has_line, numbered, shown, with_line_at, without_line};
+ghost use Rattle.fn_editor.specs.Editing.{IsRefusal, bracket_reads, by_bracket, bracket_done, deleted, edited, fed, is_header_bracket, is_in_reach, may_enter, quietly, reads_header, with_current_number, with_header, with_text};
+ghost use Rattle.fn_editor.specs.Editor.{defined_function, editor_of, has_line, numbered, shown_definition, with_line_at, without_line};
 ghost use Rattle.fn_editor.specs.Number.{line_number};
 ghost use Rattle.fn_editor.specs.Opening.{new_editor};
 ghost use Rattle.fn_editor.specs.Prompt.{prompt_text};
@@ -64,14 +64,13 @@ pub struct Fed {
 
 impl Editor {
     /// The prompt of the current number: the number in brackets, filled with one blank at least until it has six glyphs.
-    /// No memory.
     pub fn prompt(&self) -> Prompt
         ensures { result ≡ prompt_text self.now.number }
     {
         Prompt::of(self.number)
     }
 
-    /// The name of the function. No memory.
+    /// The name of the function.
     pub fn name(&self) -> Name
         ensures { result ≡ self.now.header.name }
     {
@@ -79,7 +78,7 @@ impl Editor {
         header.name
     }
 
-    /// Whether the definition was closed. No memory.
+    /// Whether the definition was closed.
     pub fn is_closed(&self) -> bool
         ensures { result ≡ self.now.closed }
     {
@@ -95,7 +94,7 @@ impl Editor {
         ensures ok { IfOk result (λ done. fed self.old line.now.items ≡ Some (record { editor = self.new; shown = done.shown.items })) }
         ensures closed { IfOk result (λ done. done.closed ≡ self.new.closed) }
         ensures name { self.new.header.name ≡ self.old.header.name }
-        ensures refused { IfErr result (λ fail. IsRefused (reads_header (body line.now.items)) (fed self.old line.now.items) fail) }
+        ensures refused { IfErr result (λ fail. IsRefusal (reads_header (body line.now.items)) (fed self.old line.now.items) fail) }
         ensures err { OnErr result (self.new ≡ self.old) }
     {
         let (body, closes) = split_close(line.as_slice());
@@ -128,7 +127,7 @@ impl Editor {
         ws.define(function)
     }
 
-    /// A definition of a new function, without lines. No memory.
+    /// A definition of a new function, without lines.
     pub(crate) fn new(alloc: Global, text: Line, header: Header) -> Editor
         requires header { header_of text.items ≡ Some header }
         requires short { length text.items ≤ most_line_glyphs }
@@ -160,7 +159,7 @@ impl Editor {
         })
     }
 
-    /// It closed, or open. No memory.
+    /// It closed, or open.
     pub(crate) fn then_closed(self, closed: bool) -> Editor
         ensures { result ≡ record self { closed = closed } }
     {
@@ -170,7 +169,7 @@ impl Editor {
     /// Does what a line without a closing `∇` asks.
     pub(crate) fn edit(&mut self, line: &[Glyph]) -> Result<LineList, Fail>
         ensures ok { IfOk result (λ shown. edited self.old line.now ≡ Some (record { editor = self.new; shown = shown.items })) }
-        ensures refused { IfErr result (λ fail. IsRefused (reads_header line.now) (edited self.old line.now) fail) }
+        ensures refused { IfErr result (λ fail. IsRefusal (reads_header line.now) (edited self.old line.now) fail) }
         ensures err { OnErr result (self.new ≡ self.old) }
     {
         match behind_glyph(without_blanks(line), Glyph::LEFT_BRACKET) {
@@ -186,18 +185,18 @@ impl Editor {
     /// Does what a bracket asks, behind its `[`.
     pub(crate) fn bracketed(&mut self, rest: &[Glyph]) -> Result<LineList, Fail>
         ensures ok { IfOk result (λ shown. by_bracket self.old (bracket_in rest.now) ≡ Some (record { editor = self.new; shown = shown.items })) }
-        ensures refused { IfErr result (λ fail. IsRefused (bracket_reads (bracket_in rest.now)) (by_bracket self.old (bracket_in rest.now)) fail) }
+        ensures refused { IfErr result (λ fail. IsRefusal (bracket_reads (bracket_in rest.now)) (by_bracket self.old (bracket_in rest.now)) fail) }
         ensures err { OnErr result (self.new ≡ self.old) }
     {
         match bracket_in(rest) {
             None => Err(Fail::Report(Report::Defn)),
-            Some((bracket, text)) => self.command(bracket, text),
+            Some((bracket, text)) => self.do_bracket(bracket, text),
         }
     }
 
-    fn command(&mut self, bracket: Bracket, text: &[Glyph]) -> Result<LineList, Fail>
-        ensures ok { IfOk result (λ shown. commanded self.old bracket text.now ≡ Some (record { editor = self.new; shown = shown.items })) }
-        ensures refused { IfErr result (λ fail. IsRefused (is_header_bracket bracket) (commanded self.old bracket text.now) fail) }
+    fn do_bracket(&mut self, bracket: Bracket, text: &[Glyph]) -> Result<LineList, Fail>
+        ensures ok { IfOk result (λ shown. bracket_done self.old bracket text.now ≡ Some (record { editor = self.new; shown = shown.items })) }
+        ensures refused { IfErr result (λ fail. IsRefusal (is_header_bracket bracket) (bracket_done self.old bracket text.now) fail) }
         ensures err { OnErr result (self.new ≡ self.old) }
     {
         match bracket {
@@ -219,8 +218,8 @@ impl Editor {
 
     // Shows the definition, where no text follows.
     fn show(&self, text: &[Glyph]) -> Result<LineList, Fail>
-        ensures ok { IfOk result (λ lines. commanded self.now Bracket.Show text.now ≡ Some (record { editor = self.now; shown = lines.items })) }
-        ensures refused { IfErr result (λ fail. IsRefused false (commanded self.now Bracket.Show text.now) fail) }
+        ensures ok { IfOk result (λ lines. bracket_done self.now Bracket.Show text.now ≡ Some (record { editor = self.now; shown = lines.items })) }
+        ensures refused { IfErr result (λ fail. IsRefusal false (bracket_done self.now Bracket.Show text.now) fail) }
     {
         if !is_blank_text(text) {
             return Err(Fail::Report(Report::Defn));
@@ -231,7 +230,7 @@ impl Editor {
     // Text enters at a number, and the number moves on; blank text only moves the number there.
     fn enter(&mut self, number: LineNumber, text: &[Glyph]) -> Result<(), Fail>
         ensures ok { OnOk result (with_text (with_current_number self.old number) text.now ≡ Some self.new) }
-        ensures refused { IfErr result (λ fail. IsRefused false (with_text (with_current_number self.old number) text.now) fail) }
+        ensures refused { IfErr result (λ fail. IsRefusal false (with_text (with_current_number self.old number) text.now) fail) }
         ensures err { OnErr result (self.new ≡ self.old) }
     {
         if is_blank_text(text) {
@@ -257,8 +256,8 @@ impl Editor {
 
     // Goes to a number that is in reach, and enters the text there.
     fn enter_at(&mut self, number: LineNumber, text: &[Glyph]) -> Result<(), Fail>
-        ensures ok { OnOk result (commanded self.old (Bracket.At number) text.now ≡ Some (quietly self.new)) }
-        ensures refused { IfErr result (λ fail. IsRefused false (commanded self.old (Bracket.At number) text.now) fail) }
+        ensures ok { OnOk result (bracket_done self.old (Bracket.At number) text.now ≡ Some (quietly self.new)) }
+        ensures refused { IfErr result (λ fail. IsRefusal false (bracket_done self.old (Bracket.At number) text.now) fail) }
         ensures err { OnErr result (self.new ≡ self.old) }
     {
         if !self.is_in_reach(number) {
@@ -279,8 +278,8 @@ impl Editor {
 
     // Deletes the line at a number, where there is one and no text follows, and goes there.
     fn delete(&mut self, number: LineNumber, text: &[Glyph]) -> Result<(), Fail>
-        ensures ok { OnOk result (commanded self.old (Bracket.Delete number) text.now ≡ Some (quietly self.new)) }
-        ensures refused { IfErr result (λ fail. IsRefused false (commanded self.old (Bracket.Delete number) text.now) fail) }
+        ensures ok { OnOk result (bracket_done self.old (Bracket.Delete number) text.now ≡ Some (quietly self.new)) }
+        ensures refused { IfErr result (λ fail. IsRefusal false (bracket_done self.old (Bracket.Delete number) text.now) fail) }
         ensures err { OnErr result (self.new ≡ self.old) }
     {
         if !is_blank_text(text) || !self.lines.contains_key(&number) {
@@ -294,7 +293,7 @@ impl Editor {
     // Takes a header of the same name in place of the one there is.
     fn replace_header(&mut self, text: &[Glyph]) -> Result<(), Fail>
         ensures ok { OnOk result (option_map quietly (with_header self.old text.now (header_of text.now)) ≡ Some (quietly self.new)) }
-        ensures refused { IfErr result (λ fail. IsRefused true (option_map quietly (with_header self.old text.now (header_of text.now))) fail) }
+        ensures refused { IfErr result (λ fail. IsRefusal true (option_map quietly (with_header self.old text.now (header_of text.now))) fail) }
         ensures err { OnErr result (self.new ≡ self.old) }
     {
         let text = copied_line(self.alloc, text)?;
@@ -302,11 +301,11 @@ impl Editor {
         self.take_read(text, header)
     }
 
-    // Takes a header that was read, where the text is one. No memory.
+    // Takes a header that was read, where the text is one. It takes no memory.
     fn take_read(&mut self, text: Line, header: Option<Header>) -> Result<(), Fail>
         requires { header ≡ header_of text.items }
         ensures ok { OnOk result (with_header self.old text.items header ≡ Some self.new) }
-        ensures refused { IfErr result (λ fail. IsRefused false (with_header self.old text.items header) fail) }
+        ensures refused { IfErr result (λ fail. IsRefusal false (with_header self.old text.items header) fail) }
         ensures err { OnErr result (self.new ≡ self.old) }
     {
         match header {
@@ -318,7 +317,7 @@ impl Editor {
     fn take_header(&mut self, text: Line, header: Header) -> Result<(), Fail>
         requires { header_of text.items ≡ Some header }
         ensures ok { OnOk result (with_header self.old text.items (Some header) ≡ Some self.new) }
-        ensures refused { IfErr result (λ fail. IsRefused false (with_header self.old text.items (Some header)) fail) }
+        ensures refused { IfErr result (λ fail. IsRefusal false (with_header self.old text.items (Some header)) fail) }
         ensures err { OnErr result (self.new ≡ self.old) }
     {
         if text.as_slice().len() > LINE_GLYPH_LIMIT || self.header.name != header.name {
@@ -329,7 +328,7 @@ impl Editor {
         Ok(())
     }
 
-    // What the function of the definition weighs, or one more than a workspace may weigh where that is less. No memory.
+    // What the function of the definition weighs, or one more than a workspace may weigh where that is less.
     fn weight(&self) -> usize
         ensures { result ≡ min (function_weight (defined_function self.now)) (most_weight + 1) }
     {

@@ -26,7 +26,7 @@ impl Model for LineNumber {
 }
 
 impl LineNumber {
-    /// The number of a whole part and of the digit behind the point, 0 where there is none. No memory.
+    /// The number of a whole part and of the digit behind the point, 0 where there is none.
     pub fn of(whole: u16, tenth: u8) -> LineNumber
         requires whole { whole ≤ most_whole }
         requires tenth { tenth < 10 }
@@ -37,7 +37,7 @@ impl LineNumber {
         }
     }
 
-    /// The whole part. No memory.
+    /// The whole part.
     pub fn whole_part(self) -> u16
         ensures value { result ≡ whole_part self }
         ensures within { result ≤ most_whole + 1 }
@@ -46,7 +46,7 @@ impl LineNumber {
         self.tenths / 10
     }
 
-    /// The digit behind the point, 0 where there is none. No memory.
+    /// The digit behind the point, 0 where there is none.
     pub fn tenth(self) -> u8
         ensures value { result ≡ tenth self }
         ensures digit { result < 10 }
@@ -55,7 +55,7 @@ impl LineNumber {
     }
 
     /// The number that comes next: one more, or behind a point a tenth more, and behind the ninth tenth the next whole
-    /// number. No memory.
+    /// number.
     pub fn next(self) -> LineNumber
         requires { whole_part self ≤ most_whole }
         ensures { result ≡ next self }

@@ -4,7 +4,7 @@ ghost use Rattle.apl_workspace.specs.Header.{header_of};
 ghost use Rattle.apl_workspace.specs.Meaning.{is_function_meaning, is_variable_meaning};
 ghost use Rattle.apl_workspace.specs.Workspace.{global_in};
 ghost use Rattle.apl_workspace.specs.declared.meaning.Meaning.{Meaning};
-ghost use Rattle.fn_editor.specs.Editing.{IsRefused, by_bracket, quietly};
+ghost use Rattle.fn_editor.specs.Editing.{IsRefusal, by_bracket, quietly};
 ghost use Rattle.fn_editor.specs.Bracket.{bracket_in};
 ghost use Rattle.fn_editor.specs.Opening.{is_bare, line_takes_first, name_with_bracket, opened, opened_as, opened_at, opened_by, opened_by_header, takes_memory_first};
 
@@ -33,7 +33,7 @@ impl Editor {
         ensures ok { IfOk result (λ done. opened ws.now line.now.items ≡ Some (record { editor = done.editor; shown = done.shown.items })) }
         ensures no_variable { IfOk result (λ done. is_variable_meaning (global_in ws.now done.editor.header.name) ≡ false) }
         ensures closed { IfOk result (λ done. done.closed ≡ done.editor.closed) }
-        ensures refused { IfErr result (λ fail. IsRefused (line_takes_first ws.now line.now.items) (opened ws.now line.now.items) fail) }
+        ensures refused { IfErr result (λ fail. IsRefusal (line_takes_first ws.now line.now.items) (opened ws.now line.now.items) fail) }
     {
         match behind_glyph(without_blanks(line.as_slice()), Glyph::DEL) {
             None => Err(Fail::Report(Report::Defn)),
@@ -54,7 +54,7 @@ impl Editor {
 fn open(alloc: Global, text: &[Glyph], ws: &Workspace) -> Result<(Editor, LineList), Fail>
     ensures ok { IfOk result (λ done. opened_by ws.now text.now ≡ Some (record { editor = done.0; shown = done.1.items })) }
     ensures no_variable { IfOk result (λ done. is_variable_meaning (global_in ws.now done.0.header.name) ≡ false) }
-    ensures refused { IfErr result (λ fail. IsRefused (takes_memory_first ws.now (name_with_bracket text.now)) (opened_by ws.now text.now) fail) }
+    ensures refused { IfErr result (λ fail. IsRefusal (takes_memory_first ws.now (name_with_bracket text.now)) (opened_by ws.now text.now) fail) }
 {
     match name_with_bracket(text) {
         None => open_by_header(alloc, text, ws),
@@ -82,7 +82,7 @@ fn open_at(
 ) -> Result<(Editor, LineList), Fail>
     ensures ok { IfOk result (λ done. opened_at rest.now (global_in ws.now name.now) ≡ Some (record { editor = done.0; shown = done.1.items })) }
     ensures no_variable { IfOk result (λ done. is_variable_meaning (global_in ws.now done.0.header.name) ≡ false) }
-    ensures refused { IfErr result (λ fail. IsRefused (is_function_meaning (global_in ws.now name.now)) (opened_at rest.now (global_in ws.now name.now)) fail) }
+    ensures refused { IfErr result (λ fail. IsRefusal (is_function_meaning (global_in ws.now name.now)) (opened_at rest.now (global_in ws.now name.now)) fail) }
 {
     match ws.global(name) {
         Seen::Function(function) => {
@@ -98,7 +98,7 @@ fn open_at(
 fn open_by_header(alloc: Global, text: &[Glyph], ws: &Workspace) -> Result<(Editor, LineList), Fail>
     ensures ok { IfOk result (λ done. opened_by_header ws.now text.now (header_of text.now) ≡ Some (record { editor = done.0; shown = done.1.items })) }
     ensures no_variable { IfOk result (λ done. is_variable_meaning (global_in ws.now done.0.header.name) ≡ false) }
-    ensures refused { IfErr result (λ fail. IsRefused true (opened_by_header ws.now text.now (header_of text.now)) fail) }
+    ensures refused { IfErr result (λ fail. IsRefusal true (opened_by_header ws.now text.now (header_of text.now)) fail) }
 {
     let text = copied_line(alloc, text)?;
     let header = Header::read(alloc, &text)?;
@@ -116,7 +116,7 @@ fn open_read(
     requires { header ≡ header_of text.items }
     ensures ok { IfOk result (λ editor. opened_by_header ws.now text.items header ≡ Some (quietly editor)) }
     ensures no_variable { IfOk result (λ editor. is_variable_meaning (global_in ws.now editor.header.name) ≡ false) }
-    ensures refused { IfErr result (λ fail. IsRefused false (opened_by_header ws.now text.items header) fail) }
+    ensures refused { IfErr result (λ fail. IsRefusal false (opened_by_header ws.now text.items header) fail) }
 {
     match header {
         None => Err(Fail::Report(Report::Defn)),
@@ -130,7 +130,7 @@ fn open_as(alloc: Global, text: Line, header: Header, ws: &Workspace) -> Result<
     requires { header_of text.items ≡ Some header }
     ensures ok { IfOk result (λ editor. opened_as text.items header (global_in ws.now header.name) ≡ Some (quietly editor)) }
     ensures no_variable { IfOk result (λ editor. is_variable_meaning (global_in ws.now editor.header.name) ≡ false) }
-    ensures refused { IfErr result (λ fail. IsRefused false (opened_as text.items header (global_in ws.now header.name)) fail) }
+    ensures refused { IfErr result (λ fail. IsRefusal false (opened_as text.items header (global_in ws.now header.name)) fail) }
 {
     match ws.global(&header.name) {
         Seen::Nothing => open_new(alloc, text, header),
@@ -144,7 +144,7 @@ fn open_new(alloc: Global, text: Line, header: Header) -> Result<Editor, Fail>
     requires { header_of text.items ≡ Some header }
     ensures ok { IfOk result (λ editor. opened_as text.items header Meaning.Nothing ≡ Some (quietly editor)) }
     ensures name { IfOk result (λ editor. editor.header.name ≡ header.name) }
-    ensures refused { IfErr result (λ fail. IsRefused false (opened_as text.items header Meaning.Nothing) fail) }
+    ensures refused { IfErr result (λ fail. IsRefusal false (opened_as text.items header Meaning.Nothing) fail) }
 {
     if text.as_slice().len() > LINE_GLYPH_LIMIT {
         return Err(Fail::Report(Report::Defn));

@@ -37,7 +37,7 @@ impl Model for Prompt {
 }
 
 impl Prompt {
-    /// Its glyphs, at most eight. No memory.
+    /// Its glyphs, at most eight.
     pub fn glyphs(&self) -> &[Glyph]
         ensures value { result.now ≡ self.now }
         ensures within { length self.now ≤ 8 }
@@ -45,7 +45,7 @@ impl Prompt {
         &self.glyphs[..self.len as usize]
     }
 
-    /// The prompt of a number: the number in brackets, filled with one blank at least until it has six glyphs. No memory.
+    /// The prompt of a number: the number in brackets, filled with one blank at least until it has six glyphs.
     #[tactic(auto, using(crate::proofs::Prompts::number_is_short, crate::proofs::Prompts::tenth_is_short))]
     pub fn of(number: LineNumber) -> Prompt
         ensures { result ≡ prompt_text number }

@@ -11,7 +11,7 @@ use Rattle.sv_events.specs.declared.event.Hold.{Hold}
 use Rattle.sv_events.specs.declared.row.Opening.{Opening}
 use Rattle.sv_rules.specs.Coupling.{coupling_now, couplings, open_match}
 use Rattle.sv_rules.specs.Entries.{Entries, next_place}
-use Rattle.sv_rules.specs.Outcome.{Outcome, access_answer, answer_only, control_answer, granted_answer, joined_to, offer_outcome, outcome, refusal_answer, retraction_outcome, unless_refused, value_answer, value_for}
+use Rattle.sv_rules.specs.Outcome.{ActOutcome, access_answer, answer_only, control_answer, granted_answer, joined_to, offer_outcome, outcome, refusal_answer, retraction_outcome, unless_refused, value_answer, value_for}
 use Rattle.sv_rules.specs.Refused.{hold_on, waits}
 use Rattle.sv_rules.specs.Standing.{offer_count, offer_made, own_offer, standing}
 use Rattle.sv_rules.specs.declared.coupling.Made.{Made}
@@ -27,7 +27,7 @@ of_match new (Some match) = λ e. cc
 of_offer : (offers : List Standing) (coupled : List Made) (new : Standing) (own : Option Standing) → IsNotFull (offer_outcome offers coupled new own).answer
 of_offer offers coupled new (Some old) = λ e. cc
 of_offer offers coupled new None =
-    cond_both (leb 64 (offer_count offers new.party)) (answer_only offer_limit) (joined_to new (open_match offers coupled new)) (λ (o : Outcome). IsNotFull o.answer)
+    cond_both (leb 64 (offer_count offers new.party)) (answer_only offer_limit) (joined_to new (open_match offers coupled new)) (λ (o : ActOutcome). IsNotFull o.answer)
     (λ _. λ e. cc) (λ _. of_match new (open_match offers coupled new))
 
 of_retraction : (journal : Entries) (party : ℕ) (local : List ℕ) (own : Option Standing) → IsNotFull (retraction_outcome journal party local own).answer

@@ -16,7 +16,7 @@ use Rattle.sv_rules.specs.declared.standing.Standing.{Standing}
 use Rattle.sv_story_laws.specs.AnswerLaws.{Grants, IsAccessOf, IsThere}
 use Rattle.session_rules.specs.Run.{Dealings}
 use Rattle.session_rules.specs.Session.{session_of}
-use Rattle.session_rules.specs.Shelf.{Exchange, replies_in}
+use Rattle.session_rules.specs.Shelf.{Exchange, shelf_replies_in}
 use Rattle.session_rules.specs.UserPart.{acts_of, answered_entries, answers_of, before_leave}
 
 -- the journal has this entry, and these before it
@@ -65,10 +65,10 @@ acts_answered journal user = acts_of (answered_entries journal user)
 pub record IsEvaluatedAlone (journal : Entries) (user : PlainUser) (exchanges : List Exchange) (transcript : PlainTranscript) : Type 0 where
   pub whose : transcript.user ≡ user.number
   pub past : List Act
-  pub printed : (session_of user.lines (answers_given journal user.number ++ map (λ act. full) past) (replies_in exchanges)).terminal.transcript ≡ transcript.lines
-  pub asked : (session_of user.lines (answers_given journal user.number ++ map (λ act. full) past) (replies_in exchanges)).acts ≡ acts_answered journal user.number ++ past
-  pub called : (session_of user.lines (answers_given journal user.number ++ map (λ act. full) past) (replies_in exchanges)).exchanges ≡ exchanges
-  pub finished : (session_of user.lines (answers_given journal user.number ++ map (λ act. full) past) (replies_in exchanges)).waits ≡ None
+  pub printed : (session_of user.lines (answers_given journal user.number ++ map (λ act. full) past) (shelf_replies_in exchanges)).terminal.transcript ≡ transcript.lines
+  pub asked : (session_of user.lines (answers_given journal user.number ++ map (λ act. full) past) (shelf_replies_in exchanges)).acts ≡ acts_answered journal user.number ++ past
+  pub called : (session_of user.lines (answers_given journal user.number ++ map (λ act. full) past) (shelf_replies_in exchanges)).exchanges ≡ exchanges
+  pub finished : (session_of user.lines (answers_given journal user.number ++ map (λ act. full) past) (shelf_replies_in exchanges)).waits ≡ None
   pub limit : past ≢ [] → IsTrue (is_full (before_leave journal user.number))
   pub waited : IfSome (awaited (before_leave journal user.number) user.number) (λ act. slice_get past 0 ≡ Some act)
 

@@ -44,7 +44,7 @@ fn is_apl_sign(glyph: Glyph) -> bool
         || is_between(Glyph::DECODE, Glyph::EXECUTE, glyph)
 }
 
-/// The role of a glyph. No memory.
+/// The role of a glyph.
 #[tactic(auto, unfolding(crate::specs::Role::role_of))]
 pub fn role_of(glyph: Glyph) -> Role
     ensures { result ≡ role_of glyph }

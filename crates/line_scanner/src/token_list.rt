@@ -23,7 +23,7 @@ impl Model for TokenList {
 }
 
 impl TokenList {
-    /// No tokens. No memory.
+    /// No tokens.
     pub fn new(alloc: Global) -> Self
         ensures { result.items ≡ [] }
     {
@@ -32,14 +32,14 @@ impl TokenList {
         }
     }
 
-    /// The tokens, in order. No memory.
+    /// The tokens, in order.
     pub fn as_slice(&self) -> &[Token]
         ensures { map plain_token result.now ≡ self.now.items }
     {
         self.tokens.as_slice()
     }
 
-    /// The tokens as a `Vec`. No memory.
+    /// The tokens as a `Vec`.
     pub fn into_vec(self) -> Vec<Token>
         ensures { map plain_token result.items ≡ self.items }
     {

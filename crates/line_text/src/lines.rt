@@ -88,7 +88,7 @@ pub fn add_user_lines(
     add_contents(bytes, lines)
 }
 
-/// The first line, up to its line feed, and what comes after that; or `None` where no line feed stands. No memory.
+/// The first line, up to its line feed, and what comes after that; or `None` where no line feed stands.
 #[tactic(auto, using(crate::proofs::Cuts::no_feed_found, crate::proofs::Cuts::feed_found))]
 pub fn first_line(bytes: &[u8]) -> Option<(&[u8], &[u8])>
     ensures { MatchOption result (HasNoFeed bytes.now)

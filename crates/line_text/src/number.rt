@@ -7,7 +7,7 @@ use crate::text::add_text;
 use apl_arrays::{Glyph, Line, WantOfMemory};
 use itoa::Buffer;
 
-/// How many decimal digits a number has. No memory.
+/// How many decimal digits a number has.
 #[tactic(auto, using(crate::proofs::Decimals::digit_limit_wide))]
 pub fn digit_count(number: u64) -> usize
     ensures value { result ≡ length (decimal number) }
@@ -17,7 +17,7 @@ pub fn digit_count(number: u64) -> usize
     buffer.format(number).len()
 }
 
-/// How many glyphs the text of a number has. No memory.
+/// How many glyphs the text of a number has.
 #[tactic(auto, using(crate::proofs::Decimals::digit_limit))]
 pub fn number_width(number: i64) -> usize
     ensures value { result ≡ number_width number }

@@ -26,7 +26,7 @@ fn glyph_size(glyph: Glyph) -> u64
     }
 }
 
-/// How many bytes a line takes, with its line feed. No memory.
+/// How many bytes a line takes, with its line feed.
 pub fn line_size(line: &[Glyph]) -> u64
     requires { length line.now < 2 ^ 60 }
     ensures value { result ≡ length (line_text line.now) }
@@ -39,7 +39,7 @@ pub fn line_size(line: &[Glyph]) -> u64
     size
 }
 
-/// How many bytes the heading of a user's lines takes, with its line feed. No memory.
+/// How many bytes the heading of a user's lines takes, with its line feed.
 #[tactic(auto, using(crate::proofs::Sizes::heading_size))]
 pub fn heading_size(number: u32) -> u64
     ensures value { result ≡ length (line_text (heading number)) }

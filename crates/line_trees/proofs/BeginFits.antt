@@ -15,7 +15,7 @@ use Rattle.line_trees.specs.declared.machine.Before.TheVariants as before
 use Rattle.line_trees.specs.declared.machine.Operand.{Operand}
 use Rattle.line_trees.specs.declared.machine.Operand.TheVariants as operand
 use Rattle.line_trees.specs.declared.machine.Mode.TheVariants.{Begins}
-use Rattle.line_trees.specs.declared.machine.Bracket.{Bracket}
+use Rattle.line_trees.specs.declared.machine.OpenBracket.{OpenBracket}
 use Rattle.line_trees.specs.Signs.{folded}
 use Rattle.line_trees.specs.Symbols.{symbol_of}
 use Rattle.line_trees.specs.Marks.{takes_axis, begin}
@@ -50,13 +50,13 @@ monadic_along_here Q classes f function tokens m takes (axis, right, inside, squ
 )
 
 -- what follows a function fits by whether it takes an axis
-pub by_axis : (classes : List Class) (brackets : List Bracket) (tokens : List PlainToken) (b : Bool) → Fits classes (cond b (Begins before.Axis) (Begins before.Plain)) brackets tokens
+pub by_axis : (classes : List Class) (brackets : List OpenBracket) (tokens : List PlainToken) (b : Bool) → Fits classes (cond b (Begins before.Axis) (Begins before.Plain)) brackets tokens
     → Here (ClosedBy classes brackets) classes tokens ⊎ ((b ≡ true) × Along (ClosedBy classes brackets) classes tokens)
 by_axis classes brackets tokens true (inl h) = inl h
 by_axis classes brackets tokens true (inr h) = inr (refl, h)
 by_axis classes brackets tokens false h = inl h
 
-led_here : (classes : List Class) (brackets : List Bracket) (token : PlainToken) (tokens : List PlainToken) (m : Option Monad) (d : Option Dyad) → Is classes (symbol.Scalar m d) token → Led classes brackets m d tokens → Here (ClosedBy classes brackets) classes (token ∷ tokens)
+led_here : (classes : List Class) (brackets : List OpenBracket) (token : PlainToken) (tokens : List PlainToken) (m : Option Monad) (d : Option Dyad) → Is classes (symbol.Scalar m d) token → Led classes brackets m d tokens → Here (ClosedBy classes brackets) classes (token ∷ tokens)
 led_here classes brackets token tokens m d is (inl (k, e, h)) =
     monadic_here (ClosedBy classes brackets) classes (fun.Verb (verb.One k)) (token ∷ []) tokens (scalar_monad k d refl (one_is classes token (symbol.Scalar m d) (symbol.Scalar (Some k) d) is (ap (λ (x : Option Monad). symbol.Scalar x d) e))) h
 led_here classes brackets token tokens m d is (inr (bar, more, f, g, all, is_bar, e, inl h)) =
@@ -68,7 +68,7 @@ led_here classes brackets token tokens m d is (inr (bar, more, f, g, all, is_bar
     (monadic_along_here (ClosedBy classes brackets) classes (fun.Verb (folded g f)) (token ∷ bar ∷ []) more
     (operator m g f refl (two_are classes token bar (symbol.Scalar m (Some g)) (symbol.Slash f) (is ∙ ap (λ (x : Option Dyad). symbol.Scalar m x) e) is_bar)) (fold_takes_axis g f) h)
 
-function_here : (classes : List Class) (brackets : List Bracket) (token : PlainToken) (tokens : List PlainToken) (f : Fun) (d : Option Fun) → Is classes (symbol.Function (Some f) d) token
+function_here : (classes : List Class) (brackets : List OpenBracket) (token : PlainToken) (tokens : List PlainToken) (f : Fun) (d : Option Fun) → Is classes (symbol.Function (Some f) d) token
     → Here (ClosedBy classes brackets) classes tokens ⊎ ((takes_axis f ≡ true) × Along (ClosedBy classes brackets) classes tokens) → Here (ClosedBy classes brackets) classes (token ∷ tokens)
 function_here classes brackets token tokens f d is (inl h) = monadic_here (ClosedBy classes brackets) classes f (token ∷ []) tokens (other_monad d (ap (λ (x : Symbol). x ∷ []) is)) h
 function_here classes brackets token tokens f d is (inr (takes, h)) = monadic_along_here (ClosedBy classes brackets) classes f (token ∷ []) tokens (other_monad d (ap (λ (x : Symbol). x ∷ []) is)) takes h
@@ -92,7 +92,7 @@ paren_here Q classes left tokens is (inside, text, others, all, h, (close, more,
       closed,
     )
 
-pub begin_fits : (classes : List Class) (brackets : List Bracket) (token : PlainToken) (tokens : List PlainToken) (s : Symbol) → Is classes s token → FitsBy classes brackets tokens (begin s) → Here (ClosedBy classes brackets) classes (token ∷ tokens)
+pub begin_fits : (classes : List Class) (brackets : List OpenBracket) (token : PlainToken) (tokens : List PlainToken) (s : Symbol) → Is classes s token → FitsBy classes brackets tokens (begin s) → Here (ClosedBy classes brackets) classes (token ∷ tokens)
 begin_fits classes brackets token tokens symbol.Constant is h =
     one_here (ClosedBy classes brackets) classes operand.Other (constant (items_of token.kind)) token tokens (tt, record { token = token; alone = refl; is = is; are = refl }) h
 begin_fits classes brackets token tokens (symbol.Value n) is h = one_here (ClosedBy classes brackets) classes operand.Name (value n) token tokens (n, refl, record { token = token; alone = refl; is = is }) h

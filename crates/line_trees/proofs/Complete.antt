@@ -9,7 +9,7 @@ use Rattle.line_trees.specs.declared.symbol.Symbol.TheVariants as symbol
 use Rattle.line_trees.specs.declared.machine.Before.TheVariants as before
 use Rattle.line_trees.specs.declared.machine.Operand.TheVariants as operand
 use Rattle.line_trees.specs.declared.machine.Mode.TheVariants.{Begins, Ends}
-use Rattle.line_trees.specs.declared.machine.Bracket.TheVariants as bracket
+use Rattle.line_trees.specs.declared.machine.OpenBracket.TheVariants as bracket
 use Rattle.apl_arrays.specs.List.{first_of}
 use Rattle.line_trees.specs.Marks.{step, goes}
 use Rattle.line_trees.specs.Building.{Built, built_by}

@@ -24,24 +24,24 @@ use Rattle.line_trees.specs.declared.machine.Operand.{Operand}
 use Rattle.line_trees.specs.declared.machine.Operand.TheVariants as operand
 use Rattle.line_trees.specs.declared.machine.Mode.{Mode}
 use Rattle.line_trees.specs.declared.machine.Mode.TheVariants.{Begins, Ends, Jot, Factor}
-use Rattle.line_trees.specs.declared.machine.Bracket.{Bracket}
-use Rattle.line_trees.specs.declared.machine.Bracket.TheVariants as bracket
+use Rattle.line_trees.specs.declared.machine.OpenBracket.{OpenBracket}
+use Rattle.line_trees.specs.declared.machine.OpenBracket.TheVariants as bracket
 use Rattle.line_trees.specs.declared.machine.Move.{Move}
 use Rattle.apl_arrays.specs.List.{first_of}
 use Rattle.line_trees.specs.Signs.{monad_of, dyad_of, mix1_of, mix2_of, fold_of}
 use Rattle.line_trees.specs.Symbols.{symbol_of, name_symbol, arguments_of, sign_symbol, other_sign, slash_or_other}
-use Rattle.line_trees.specs.Marks.{marks_from, marked_by, with_mark, step, may_end, changed, takes_axis, begin, begin_statement, begin_line, begin_subscript, begin_axis, begin_product, begin_lead, go_on, jot_dot, factor, close_bracket, close_parenthesis, next_subscript}
+use Rattle.line_trees.specs.Marks.{marks_from, marked_by, with_mark, step, may_end, open_after, takes_axis, begin, begin_statement, begin_line, begin_subscript, begin_axis, begin_product, begin_lead, go_on, jot_dot, factor, close_bracket, close_parenthesis, next_subscript}
 
 -- tokens have marks
-abbrev pub HasMarks : List Class → ℕ → Mode → List Bracket → List PlainToken → Type 0
+abbrev pub HasMarks : List Class → ℕ → Mode → List OpenBracket → List PlainToken → Type 0
 HasMarks classes len mode brackets tokens = (marks : List Mark) × (marks_from classes len mode brackets tokens ≡ Ok marks)
 
-pub mark_before : (classes : List Class) (len : ℕ) (mode : Mode) (brackets : List Bracket) (token : PlainToken) (tokens : List PlainToken) (s : Symbol) (move : Move) → symbol_of classes token.kind ≡ s → step mode (first_of brackets) s ≡ Some move
-    → HasMarks classes len move.mode (changed move.change brackets) tokens → HasMarks classes len mode brackets (token ∷ tokens)
+pub mark_before : (classes : List Class) (len : ℕ) (mode : Mode) (brackets : List OpenBracket) (token : PlainToken) (tokens : List PlainToken) (s : Symbol) (move : Move) → symbol_of classes token.kind ≡ s → step mode (first_of brackets) s ≡ Some move
+    → HasMarks classes len move.mode (open_after move.change brackets) tokens → HasMarks classes len mode brackets (token ∷ tokens)
 unfolding marks_from
 mark_before classes len mode brackets token tokens s move is goes (marks, e) = (
   move.mark ∷ marks,
-  ap (λ (x : Option Move). marked_by x token.at (λ mode change. marks_from classes len mode (changed change brackets) tokens)) (ap (step mode (first_of brackets)) is ∙ goes) ∙ ap (with_mark move.mark) e,
+  ap (λ (x : Option Move). marked_by x token.at (λ mode change. marks_from classes len mode (open_after change brackets) tokens)) (ap (step mode (first_of brackets)) is ∙ goes) ∙ ap (with_mark move.mark) e,
 )
 
 -- ---- tokens that end a line
@@ -74,14 +74,14 @@ unfolding sign_symbol other_sign monad_of dyad_of mix1_of mix2_of fold_of
 slash_is = refl
 
 -- what closes all that is open
-abbrev closers : List Bracket → List PlainToken
+abbrev closers : List OpenBracket → List PlainToken
 closers [] = []
 closers (bracket.Parenthesis ∷ brackets) = token_of (sign glyph.right_parenthesis) ∷ closers brackets
 closers (bracket.OfName ∷ brackets) = token_of (sign glyph.right_bracket) ∷ closers brackets
 closers (bracket.OfOther ∷ brackets) = token_of (sign glyph.right_bracket) ∷ closers brackets
 closers (bracket.Axis ∷ brackets) = token_of (sign glyph.right_bracket) ∷ one ∷ closers brackets
 
-closing : (classes : List Class) (len : ℕ) (o : Operand) (brackets : List Bracket) → HasMarks classes len (Ends o) brackets (closers brackets)
+closing : (classes : List Class) (len : ℕ) (o : Operand) (brackets : List OpenBracket) → HasMarks classes len (Ends o) brackets (closers brackets)
 unfolding marks_from may_end step
 closing classes len o [] = ([], refl)
 closing classes len o (bracket.Parenthesis ∷ brackets) =
@@ -99,12 +99,12 @@ abbrev pub IsAlive : Mode → Type 0
 IsAlive (Begins (before.Lead None None)) = ⊥
 IsAlive mode = Unit {0}
 
-one_ends : (classes : List Class) (len : ℕ) (mode : Mode) (brackets : List Bracket) → step mode (first_of brackets) symbol.Constant ≡ step (Begins before.Plain) (first_of brackets) symbol.Constant → HasMarks classes len mode brackets (one ∷ closers brackets)
+one_ends : (classes : List Class) (len : ℕ) (mode : Mode) (brackets : List OpenBracket) → step mode (first_of brackets) symbol.Constant ≡ step (Begins before.Plain) (first_of brackets) symbol.Constant → HasMarks classes len mode brackets (one ∷ closers brackets)
 unfolding step
 one_ends classes len mode brackets e = mark_before classes len mode brackets one (closers brackets) symbol.Constant _ refl e (closing classes len operand.Other brackets)
 
 -- some tokens bring a mode to the end of a line
-pub ending : (classes : List Class) (len : ℕ) (mode : Mode) (brackets : List Bracket) → IsAlive mode → (tokens : List PlainToken) × HasMarks classes len mode brackets tokens
+pub ending : (classes : List Class) (len : ℕ) (mode : Mode) (brackets : List OpenBracket) → IsAlive mode → (tokens : List PlainToken) × HasMarks classes len mode brackets tokens
 unfolding step
 ending classes len (Begins before.Line) brackets h = (one ∷ closers brackets, one_ends classes len (Begins before.Line) brackets refl)
 ending classes len (Begins before.Statement) brackets h = (one ∷ closers brackets, one_ends classes len (Begins before.Statement) brackets refl)
@@ -223,28 +223,28 @@ line_alive : (s : Symbol) → IsReal s → LeadsOn (begin_line s)
 line_alive (symbol.Value n) h = tt
 line_alive s h = statement_alive s h
 
-bracket_alive : (top : Option Bracket) → LeadsOn (close_bracket top)
+bracket_alive : (top : Option OpenBracket) → LeadsOn (close_bracket top)
 bracket_alive None = tt
 bracket_alive (Some bracket.Parenthesis) = tt
 bracket_alive (Some bracket.OfName) = tt
 bracket_alive (Some bracket.OfOther) = tt
 bracket_alive (Some bracket.Axis) = tt
 
-parenthesis_alive : (top : Option Bracket) → LeadsOn (close_parenthesis top)
+parenthesis_alive : (top : Option OpenBracket) → LeadsOn (close_parenthesis top)
 parenthesis_alive None = tt
 parenthesis_alive (Some bracket.Parenthesis) = tt
 parenthesis_alive (Some bracket.OfName) = tt
 parenthesis_alive (Some bracket.OfOther) = tt
 parenthesis_alive (Some bracket.Axis) = tt
 
-next_alive : (top : Option Bracket) → LeadsOn (next_subscript top)
+next_alive : (top : Option OpenBracket) → LeadsOn (next_subscript top)
 next_alive None = tt
 next_alive (Some bracket.Parenthesis) = tt
 next_alive (Some bracket.OfName) = tt
 next_alive (Some bracket.OfOther) = tt
 next_alive (Some bracket.Axis) = tt
 
-subscript_alive : (top : Option Bracket) (s : Symbol) → IsReal s → LeadsOn (begin_subscript top s)
+subscript_alive : (top : Option OpenBracket) (s : Symbol) → IsReal s → LeadsOn (begin_subscript top s)
 subscript_alive top symbol.Semicolon h = next_alive top
 subscript_alive top symbol.RightBracket h = bracket_alive top
 subscript_alive top s h = begin_alive s h
@@ -263,7 +263,7 @@ lead_alive m None (symbol.Slash f) h = tt
 lead_alive (Some m) d s h = begin_alive s h
 lead_alive None d s h = tt
 
-go_on_alive : (o : Operand) (top : Option Bracket) (s : Symbol) → LeadsOn (go_on o top s)
+go_on_alive : (o : Operand) (top : Option OpenBracket) (s : Symbol) → LeadsOn (go_on o top s)
 go_on_alive o top (symbol.Scalar m None) = tt
 go_on_alive o top (symbol.Scalar m (Some d)) = tt
 go_on_alive o top (symbol.Function m None) = tt
@@ -300,7 +300,7 @@ factor_alive (symbol.Scalar m None) = tt
 factor_alive (symbol.Scalar m (Some d)) = tt
 factor_alive s = tt
 
-step_alive : (mode : Mode) (top : Option Bracket) (s : Symbol) → IsReal s → LeadsOn (step mode top s)
+step_alive : (mode : Mode) (top : Option OpenBracket) (s : Symbol) → IsReal s → LeadsOn (step mode top s)
 unfolding step
 step_alive (Begins before.Line) top s h = line_alive s h
 step_alive (Begins before.Statement) top s h = statement_alive s h
@@ -314,5 +314,5 @@ step_alive Jot top s h = jot_alive s
 step_alive Factor top s h = factor_alive s
 
 -- each token leads on
-pub leads_on : (classes : List Class) (mode : Mode) (top : Option Bracket) (token : PlainToken) → LeadsOn (step mode top (symbol_of classes token.kind))
+pub leads_on : (classes : List Class) (mode : Mode) (top : Option OpenBracket) (token : PlainToken) → LeadsOn (step mode top (symbol_of classes token.kind))
 leads_on classes mode top token = step_alive mode top (symbol_of classes token.kind) (real classes token.kind).is

@@ -11,10 +11,10 @@ use Rattle.line_trees.specs.declared.machine.Operand.{Operand}
 use Rattle.line_trees.specs.declared.machine.Operand.TheVariants as operand
 use Rattle.line_trees.specs.declared.machine.Mode.{Mode}
 use Rattle.line_trees.specs.declared.machine.Mode.TheVariants.{Begins, Ends, Jot, Factor}
-use Rattle.line_trees.specs.declared.machine.Bracket.{Bracket}
-use Rattle.line_trees.specs.declared.machine.Bracket.TheVariants as bracket
+use Rattle.line_trees.specs.declared.machine.OpenBracket.{OpenBracket}
+use Rattle.line_trees.specs.declared.machine.OpenBracket.TheVariants as bracket
 use Rattle.line_trees.specs.declared.machine.Move.{Move}
-use Rattle.line_trees.specs.Marks.{changed}
+use Rattle.line_trees.specs.Marks.{open_after}
 use Rattle.line_trees.specs.Trees.{Expr, value, indexed, Subscripts, Statement, LineTree}
 use Rattle.line_trees.specs.Grammar.{Is, IsOne, IsOperand, InBrackets, IsExpr, AreSubscripts, AreMore, IsStatement, IsLine}
 
@@ -59,7 +59,7 @@ Along Q classes tokens =
     (axis right : Expr) × (inside square text rest : List PlainToken) × (tokens ≡ square ++ (text ++ rest)) × InBrackets classes inside square × IsExpr classes axis inside × IsExpr classes right text × Q rest
 
 -- what closes all that is open
-abbrev pub ClosedBy : List Class → List Bracket → List PlainToken → Type 0
+abbrev pub ClosedBy : List Class → List OpenBracket → List PlainToken → Type 0
 ClosedBy classes [] rest = rest ≡ []
 ClosedBy classes (bracket.Parenthesis ∷ brackets) rest = (close : PlainToken) × (more : List PlainToken) × (rest ≡ close ∷ more) × Is classes symbol.RightParenthesis close × After (ClosedBy classes brackets) classes operand.Other more
 ClosedBy classes (bracket.OfName ∷ brackets) rest =
@@ -72,12 +72,12 @@ ClosedBy classes (bracket.Axis ∷ brackets) rest =
     (close : PlainToken) × (right : Expr) × (text more : List PlainToken) × (rest ≡ close ∷ (text ++ more)) × Is classes symbol.RightBracket close × IsExpr classes right text × ClosedBy classes brackets more
 
 -- subscripts from the first on, the bracket that closes them, and what follows the operand
-abbrev pub ListHere : List Class → List Bracket → Operand → List PlainToken → Type 0
+abbrev pub ListHere : List Class → List OpenBracket → Operand → List PlainToken → Type 0
 ListHere classes brackets o tokens =
     (subs : Subscripts) × (list : List PlainToken) × (close : PlainToken) × (more : List PlainToken) × (tokens ≡ list ++ close ∷ more) × AreSubscripts classes subs list × Is classes symbol.RightBracket close
     × After (ClosedBy classes brackets) classes o more
 
-abbrev pub SubscriptsHere : List Class → List Bracket → List PlainToken → Type 0
+abbrev pub SubscriptsHere : List Class → List OpenBracket → List PlainToken → Type 0
 SubscriptsHere classes [] tokens = Unit {0}
 SubscriptsHere classes (bracket.Parenthesis ∷ brackets) tokens = Unit {0}
 SubscriptsHere classes (bracket.OfName ∷ brackets) tokens = ListHere classes brackets operand.Target tokens
@@ -85,34 +85,34 @@ SubscriptsHere classes (bracket.OfOther ∷ brackets) tokens = ListHere classes 
 SubscriptsHere classes (bracket.Axis ∷ brackets) tokens = Unit {0}
 
 -- a dot and a factor, and an expression
-abbrev pub Factored : List Class → List Bracket → List PlainToken → Type 0
+abbrev pub Factored : List Class → List OpenBracket → List PlainToken → Type 0
 Factored classes brackets tokens = (factor : PlainToken) × (more : List PlainToken) × (n : Option Monad) × (g : Dyad) × (tokens ≡ factor ∷ more) × Is classes (symbol.Scalar n (Some g)) factor × Here (ClosedBy classes brackets) classes more
 
-abbrev pub Dotted : List Class → List Bracket → List PlainToken → Type 0
+abbrev pub Dotted : List Class → List OpenBracket → List PlainToken → Type 0
 Dotted classes brackets tokens = (dot : PlainToken) × (others : List PlainToken) × (tokens ≡ dot ∷ others) × Is classes symbol.Dot dot × Factored classes brackets others
 
 -- an expression, or a slash, perhaps an axis, and an expression
-abbrev pub Led : List Class → List Bracket → Option Monad → Option Dyad → List PlainToken → Type 0
+abbrev pub Led : List Class → List OpenBracket → Option Monad → Option Dyad → List PlainToken → Type 0
 Led classes brackets m d tokens =
     ((k : Monad) × (m ≡ Some k) × Here (ClosedBy classes brackets) classes tokens)
     ⊎ ((bar : PlainToken) × (more : List PlainToken) × (f : Fold) × (g : Dyad) × (tokens ≡ bar ∷ more) × Is classes (symbol.Slash f) bar × (d ≡ Some g) × (Here (ClosedBy classes brackets) classes more ⊎ Along (ClosedBy classes brackets) classes more))
 
 -- a statement, where nothing is open
-abbrev pub StatementHere : List Class → List Bracket → List PlainToken → Type 0
+abbrev pub StatementHere : List Class → List OpenBracket → List PlainToken → Type 0
 StatementHere classes [] tokens = (s : Statement) × IsStatement classes s tokens
 StatementHere classes (b ∷ brackets) tokens = Unit {0}
 
-abbrev pub LineHere : List Class → List Bracket → List PlainToken → Type 0
+abbrev pub LineHere : List Class → List OpenBracket → List PlainToken → Type 0
 LineHere classes [] tokens = (line : LineTree) × IsLine classes line tokens
 LineHere classes (b ∷ brackets) tokens = Unit {0}
 
 -- what follows a name at the front of a line: a colon and a statement, or what follows another name
-abbrev pub FirstHere : List Class → List Bracket → List PlainToken → Type 0
+abbrev pub FirstHere : List Class → List OpenBracket → List PlainToken → Type 0
 FirstHere classes [] tokens = After (ClosedBy classes []) classes operand.Name tokens ⊎ ((colon : PlainToken) × (rest : List PlainToken) × (s : Statement) × (tokens ≡ colon ∷ rest) × Is classes symbol.Colon colon × IsStatement classes s rest)
 FirstHere classes (b ∷ brackets) tokens = Unit {0}
 
 -- these tokens may follow a mode, under what is open
-abbrev pub Fits : List Class → Mode → List Bracket → List PlainToken → Type 0
+abbrev pub Fits : List Class → Mode → List OpenBracket → List PlainToken → Type 0
 Fits classes (Begins before.Line) brackets tokens = LineHere classes brackets tokens
 Fits classes (Begins before.Statement) brackets tokens = StatementHere classes brackets tokens
 Fits classes (Begins before.Plain) brackets tokens = Here (ClosedBy classes brackets) classes tokens
@@ -128,6 +128,6 @@ Fits classes Jot brackets tokens = Dotted classes brackets tokens
 Fits classes Factor brackets tokens = Factored classes brackets tokens
 
 -- a move after which the tokens fit
-abbrev pub FitsBy : List Class → List Bracket → List PlainToken → Option Move → Type 0
+abbrev pub FitsBy : List Class → List OpenBracket → List PlainToken → Option Move → Type 0
 FitsBy classes brackets tokens None = ⊥
-FitsBy classes brackets tokens (Some move) = Fits classes move.mode (changed move.change brackets) tokens
+FitsBy classes brackets tokens (Some move) = Fits classes move.mode (open_after move.change brackets) tokens

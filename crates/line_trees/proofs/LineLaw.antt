@@ -13,12 +13,12 @@ use Rattle.line_trees.specs.declared.machine.Before.TheVariants as before
 use Rattle.line_trees.specs.declared.machine.Operand.TheVariants as operand
 use Rattle.line_trees.specs.declared.machine.Mode.{Mode}
 use Rattle.line_trees.specs.declared.machine.Mode.TheVariants.{Begins, Ends}
-use Rattle.line_trees.specs.declared.machine.Bracket.{Bracket}
-use Rattle.line_trees.specs.declared.machine.Change.TheVariants.{Keep}
+use Rattle.line_trees.specs.declared.machine.OpenBracket.{OpenBracket}
+use Rattle.line_trees.specs.declared.machine.NestingChange.TheVariants.{Keep}
 use Rattle.line_trees.specs.declared.machine.Move.{Move}
 use Rattle.apl_arrays.specs.List.{first_of}
 use Rattle.line_trees.specs.Symbols.{symbol_of}
-use Rattle.line_trees.specs.Marks.{Marked, marks_from, marked_by, with_mark, step, may_end, changed}
+use Rattle.line_trees.specs.Marks.{Marked, marks_from, marked_by, with_mark, step, may_end, open_after}
 use Rattle.line_trees.specs.Building.{Built, nothing_built, built_by}
 use Rattle.line_trees.specs.Parsing.{Parsed, tree_of, parsed_by, parsed}
 use Rattle.line_trees.specs.Trees.{Expr, Statement, nothing, branch, whole, execute, LineTree, placed, as_nodes, nodes_of_statement}
@@ -96,21 +96,21 @@ behind_label classes len (whole e) text h =
 
 -- ---- an expression at the front of a line, of which the first name may be a label
 
-step_first : (top : Option Bracket) (s : Symbol) → (step (Ends operand.First) top s ≡ step (Ends operand.Name) top s) ⊎ (step (Ends operand.Name) top s ≡ None)
+step_first : (top : Option OpenBracket) (s : Symbol) → (step (Ends operand.First) top s ≡ step (Ends operand.Name) top s) ⊎ (step (Ends operand.Name) top s ≡ None)
 unfolding step
 step_first top symbol.Colon = inr refl
 step_first top s = inl refl
 
-marks_first_by : (classes : List Class) (len : ℕ) (brackets : List Bracket) (token : PlainToken) (tokens : List PlainToken) (marks : List Mark)
+marks_first_by : (classes : List Class) (len : ℕ) (brackets : List OpenBracket) (token : PlainToken) (tokens : List PlainToken) (marks : List Mark)
     → (step (Ends operand.First) (first_of brackets) (symbol_of classes token.kind) ≡ step (Ends operand.Name) (first_of brackets) (symbol_of classes token.kind)) ⊎ (step (Ends operand.Name) (first_of brackets) (symbol_of classes token.kind) ≡ None)
     → marks_from classes len (Ends operand.Name) brackets (token ∷ tokens) ≡ Ok marks → marks_from classes len (Ends operand.First) brackets (token ∷ tokens) ≡ Ok marks
 unfolding marks_from
-marks_first_by classes len brackets token tokens marks (inl e) h = ap (λ (r : Option Move). marked_by r token.at (λ mode change. marks_from classes len mode (changed change brackets) tokens)) e ∙ h
+marks_first_by classes len brackets token tokens marks (inl e) h = ap (λ (r : Option Move). marked_by r token.at (λ mode change. marks_from classes len mode (open_after change brackets) tokens)) e ∙ h
 marks_first_by classes len brackets token tokens marks (inr e) h =
-    let stops : Err token.at ≡ Ok marks = sym (ap (λ (r : Option Move). marked_by r token.at (λ mode change. marks_from classes len mode (changed change brackets) tokens)) e) ∙ h in
+    let stops : Err token.at ≡ Ok marks = sym (ap (λ (r : Option Move). marked_by r token.at (λ mode change. marks_from classes len mode (open_after change brackets) tokens)) e) ∙ h in
     absurd cc
 
-marks_first : (classes : List Class) (len : ℕ) (brackets : List Bracket) (tokens : List PlainToken) (marks : List Mark) → marks_from classes len (Ends operand.Name) brackets tokens ≡ Ok marks → marks_from classes len (Ends operand.First) brackets tokens ≡ Ok marks
+marks_first : (classes : List Class) (len : ℕ) (brackets : List OpenBracket) (tokens : List PlainToken) (marks : List Mark) → marks_from classes len (Ends operand.Name) brackets tokens ≡ Ok marks → marks_from classes len (Ends operand.First) brackets tokens ≡ Ok marks
 unfolding marks_from may_end
 marks_first classes len brackets [] marks h = h
 marks_first classes len brackets (token ∷ tokens) marks h = marks_first_by classes len brackets token tokens marks (step_first (first_of brackets) (symbol_of classes token.kind)) h
@@ -126,8 +126,8 @@ first_by : (classes : List Class) (len : ℕ) (token : PlainToken) (tokens : Lis
 unfolding marks_from step
 first_by classes len token tokens b (symbol.Value n) is h plain =
     let begun : read_by classes (with_mark mark.Name (marks_from classes len (Ends operand.Name) [] tokens)) (token ∷ tokens) ≡ Ok b =
-    sym (ap (λ (x : Symbol). read_by classes (marked_by (step (Begins before.Plain) None x) token.at (λ mode change. marks_from classes len mode (changed change []) tokens)) (token ∷ tokens)) is) ∙ plain in
-    ap (λ (x : Symbol). read_by classes (marked_by (step (Begins before.Line) None x) token.at (λ mode change. marks_from classes len mode (changed change []) tokens)) (token ∷ tokens)) is
+    sym (ap (λ (x : Symbol). read_by classes (marked_by (step (Begins before.Plain) None x) token.at (λ mode change. marks_from classes len mode (open_after change []) tokens)) (token ∷ tokens)) is) ∙ plain in
+    ap (λ (x : Symbol). read_by classes (marked_by (step (Begins before.Line) None x) token.at (λ mode change. marks_from classes len mode (open_after change []) tokens)) (token ∷ tokens)) is
     ∙ name_first_by classes len token tokens (marks_from classes len (Ends operand.Name) [] tokens) b refl begun
 first_by classes len token tokens b symbol.Constant is h plain = reads_same classes len (Begins before.Line) (Begins before.Plain) [] token tokens (ap (step (Begins before.Line) None) is ∙ sym (ap (step (Begins before.Plain) None) is)) ∙ plain
 first_by classes len token tokens b (symbol.Niladic n) is h plain = reads_same classes len (Begins before.Line) (Begins before.Plain) [] token tokens (ap (step (Begins before.Line) None) is ∙ sym (ap (step (Begins before.Plain) None) is)) ∙ plain

@@ -10,12 +10,12 @@ use Rattle.line_trees.specs.declared.tree.Pending.{Pending}
 use Rattle.line_trees.specs.declared.tree.Pending.TheVariants as pending
 use Rattle.line_trees.specs.declared.symbol.Symbol.{Symbol}
 use Rattle.line_trees.specs.declared.machine.Mode.{Mode}
-use Rattle.line_trees.specs.declared.machine.Bracket.{Bracket}
+use Rattle.line_trees.specs.declared.machine.OpenBracket.{OpenBracket}
 use Rattle.line_trees.specs.declared.machine.Move.{Move}
 use Rattle.apl_arrays.specs.List.{first_of, others_of}
 use Rattle.line_trees.specs.Nodes.{PlainNode, indexed}
 use Rattle.line_trees.specs.Symbols.{symbol_of}
-use Rattle.line_trees.specs.Marks.{Marked, marks_from, marked_by, with_mark, step, may_end, changed}
+use Rattle.line_trees.specs.Marks.{Marked, marks_from, marked_by, with_mark, step, may_end, open_after}
 use Rattle.line_trees.specs.Building.{Numbers, Built, attached, finished, is_indexing, subscripts, behind_subscripts, first_list, other_lists, built_by, built_from, nothing_built}
 
 -- what has a first item is that item and the others
@@ -98,28 +98,28 @@ pub token_at : (items : List Token) (plain : List PlainToken) (i : ℕ) (token :
 token_at items plain i token all lt e =
     ap (drop i) (sym all) ∙ plain_at items i token lt e ∙ ap (λ (x : List PlainToken). plain_token token ∷ drop (suc i) x) all ∙ ap (λ (k : ℕ). plain_token token ∷ drop k plain) (let n : suc i ≡ i + 1 = omega arith in n)
 
-marks_at : (classes : List Class) (len : ℕ) (mode : Mode) (brackets : List Bracket) (token : PlainToken) (tokens rest : List PlainToken) (move : Option Move) → tokens ≡ token ∷ rest
+marks_at : (classes : List Class) (len : ℕ) (mode : Mode) (brackets : List OpenBracket) (token : PlainToken) (tokens rest : List PlainToken) (move : Option Move) → tokens ≡ token ∷ rest
     → step mode (first_of brackets) (symbol_of classes token.kind) ≡ move
-    → marks_from classes len mode brackets tokens ≡ marked_by move token.at (λ mode change. marks_from classes len mode (changed change brackets) rest)
+    → marks_from classes len mode brackets tokens ≡ marked_by move token.at (λ mode change. marks_from classes len mode (open_after change brackets) rest)
 unfolding marks_from
 marks_at classes len mode brackets token tokens rest move e s =
-    ap (marks_from classes len mode brackets) e ∙ ap (λ (x : Option Move). marked_by x token.at (λ mode change. marks_from classes len mode (changed change brackets) rest)) s
+    ap (marks_from classes len mode brackets) e ∙ ap (λ (x : Option Move). marked_by x token.at (λ mode change. marks_from classes len mode (open_after change brackets) rest)) s
 
-pub marks_token : (classes : List Class) (len : ℕ) (mode : Mode) (brackets after : List Bracket) (items : List Token) (plain : List PlainToken) (i : ℕ) (token : Token) (marks more : List Mark) (move : Move) (all : Marked)
+pub marks_token : (classes : List Class) (len : ℕ) (mode : Mode) (brackets after : List OpenBracket) (items : List Token) (plain : List PlainToken) (i : ℕ) (token : Token) (marks more : List Mark) (move : Move) (all : Marked)
     → map plain_token items ≡ plain → i < length items → token ≡ get_or items i token → step mode (first_of brackets) (symbol_of classes (plain_token token).kind) ≡ Some move → more ≡ marks ++ move.mark ∷ []
-    → after ≡ changed move.change brackets → with_marks marks (marks_from classes len mode brackets (drop i plain)) ≡ all → with_marks more (marks_from classes len move.mode after (drop (i + 1) plain)) ≡ all
+    → after ≡ open_after move.change brackets → with_marks marks (marks_from classes len mode brackets (drop i plain)) ≡ all → with_marks more (marks_from classes len move.mode after (drop (i + 1) plain)) ≡ all
 marks_token classes len mode brackets after items plain i token marks more move all whole lt e s pushed change so_far =
     ap (λ (x : List Mark). with_marks x (marks_from classes len move.mode after (drop (i + 1) plain))) pushed ∙ with_marks-append marks move.mark (marks_from classes len move.mode after (drop (i + 1) plain))
-    ∙ ap (λ (x : List Bracket). with_marks marks (with_mark move.mark (marks_from classes len move.mode x (drop (i + 1) plain)))) change
+    ∙ ap (λ (x : List OpenBracket). with_marks marks (with_mark move.mark (marks_from classes len move.mode x (drop (i + 1) plain)))) change
     ∙ ap (with_marks marks) (sym (marks_at classes len mode brackets (plain_token token) (drop i plain) (drop (i + 1) plain) (Some move) (token_at items plain i token whole lt e) s)) ∙ so_far
 
-pub marks_stop : (classes : List Class) (len : ℕ) (mode : Mode) (brackets : List Bracket) (items : List Token) (plain : List PlainToken) (i : ℕ) (token : Token) (marks : List Mark) (all : Marked)
+pub marks_stop : (classes : List Class) (len : ℕ) (mode : Mode) (brackets : List OpenBracket) (items : List Token) (plain : List PlainToken) (i : ℕ) (token : Token) (marks : List Mark) (all : Marked)
     → map plain_token items ≡ plain → i < length items → token ≡ get_or items i token → step mode (first_of brackets) (symbol_of classes (plain_token token).kind) ≡ None
     → with_marks marks (marks_from classes len mode brackets (drop i plain)) ≡ all → all ≡ Err token.at
 marks_stop classes len mode brackets items plain i token marks all whole lt e s so_far =
     sym so_far ∙ ap (with_marks marks) (marks_at classes len mode brackets (plain_token token) (drop i plain) (drop (i + 1) plain) None (token_at items plain i token whole lt e) s) ∙ with_marks-err marks token.at
 
-marks_end : (classes : List Class) (len : ℕ) (mode : Mode) (brackets : List Bracket) (tokens : List PlainToken) (b : Bool) → tokens ≡ [] → may_end mode (first_of brackets) ≡ b → marks_from classes len mode brackets tokens ≡ cond b (Ok []) (Err len)
+marks_end : (classes : List Class) (len : ℕ) (mode : Mode) (brackets : List OpenBracket) (tokens : List PlainToken) (b : Bool) → tokens ≡ [] → may_end mode (first_of brackets) ≡ b → marks_from classes len mode brackets tokens ≡ cond b (Ok []) (Err len)
 unfolding marks_from
 marks_end classes len mode brackets tokens b e s = ap (marks_from classes len mode brackets) e ∙ ap (λ (x : Bool). cond x (Ok []) (Err len)) s
 
@@ -130,12 +130,12 @@ length-plain (t ∷ ts) = ap suc (length-plain ts)
 none_left : (items : List Token) (plain : List PlainToken) (i : ℕ) → map plain_token items ≡ plain → length items ≤ i → drop i plain ≡ []
 none_left items plain i e past = drop_all i plain (omega (arith, ap length e, length-plain items))
 
-pub marks_all : (classes : List Class) (len : ℕ) (mode : Mode) (brackets : List Bracket) (items : List Token) (plain : List PlainToken) (i : ℕ) (marks : List Mark) (all : Marked) → map plain_token items ≡ plain → length items ≤ i
+pub marks_all : (classes : List Class) (len : ℕ) (mode : Mode) (brackets : List OpenBracket) (items : List Token) (plain : List PlainToken) (i : ℕ) (marks : List Mark) (all : Marked) → map plain_token items ≡ plain → length items ≤ i
     → may_end mode (first_of brackets) ≡ true → with_marks marks (marks_from classes len mode brackets (drop i plain)) ≡ all → all ≡ Ok marks
 marks_all classes len mode brackets items plain i marks all e past ends so_far =
     sym so_far ∙ ap (with_marks marks) (marks_end classes len mode brackets (drop i plain) true (none_left items plain i e past) ends) ∙ with_marks-ok marks
 
-pub marks_short : (classes : List Class) (len : ℕ) (mode : Mode) (brackets : List Bracket) (items : List Token) (plain : List PlainToken) (i : ℕ) (marks : List Mark) (all : Marked) → map plain_token items ≡ plain → length items ≤ i
+pub marks_short : (classes : List Class) (len : ℕ) (mode : Mode) (brackets : List OpenBracket) (items : List Token) (plain : List PlainToken) (i : ℕ) (marks : List Mark) (all : Marked) → map plain_token items ≡ plain → length items ≤ i
     → may_end mode (first_of brackets) ≡ false → with_marks marks (marks_from classes len mode brackets (drop i plain)) ≡ all → all ≡ Err len
 marks_short classes len mode brackets items plain i marks all e past ends so_far =
     sym so_far ∙ ap (with_marks marks) (marks_end classes len mode brackets (drop i plain) false (none_left items plain i e past) ends) ∙ with_marks-err marks len
@@ -184,24 +184,24 @@ marked_length : (m : Mark) (marked : Marked) (marks : List Mark) (n : ℕ) → w
 marked_length m (Ok rest) marks n e h = ap marks_in (sym e) ∙ ap suc (h rest refl)
 marked_length m (Err at) marks n e h = absurd cc
 
-length_by : (classes : List Class) (len : ℕ) (brackets : List Bracket) (token : PlainToken) (tokens : List PlainToken) (move : Option Move) (marks : List Mark)
-    → marked_by move token.at (λ mode change. marks_from classes len mode (changed change brackets) tokens) ≡ Ok marks
-    → ((mode : Mode) (more : List Bracket) (rest : List Mark) → marks_from classes len mode more tokens ≡ Ok rest → length rest ≡ length tokens) → length marks ≡ suc (length tokens)
+length_by : (classes : List Class) (len : ℕ) (brackets : List OpenBracket) (token : PlainToken) (tokens : List PlainToken) (move : Option Move) (marks : List Mark)
+    → marked_by move token.at (λ mode change. marks_from classes len mode (open_after change brackets) tokens) ≡ Ok marks
+    → ((mode : Mode) (more : List OpenBracket) (rest : List Mark) → marks_from classes len mode more tokens ≡ Ok rest → length rest ≡ length tokens) → length marks ≡ suc (length tokens)
 length_by classes len brackets token tokens None marks e h = absurd cc
 length_by classes len brackets token tokens (Some move) marks e h =
-    marked_length move.mark (marks_from classes len move.mode (changed move.change brackets) tokens) marks (length tokens) e (λ rest f. h move.mode (changed move.change brackets) rest f)
+    marked_length move.mark (marks_from classes len move.mode (open_after move.change brackets) tokens) marks (length tokens) e (λ rest f. h move.mode (open_after move.change brackets) rest f)
 
 end_length : (b : Bool) (len : ℕ) (marks : List Mark) → cond b (Ok []) (Err len) ≡ Ok marks → length marks ≡ 0
 end_length true len [] e = refl
 end_length true len (m ∷ marks) e = absurd cc
 end_length false len marks e = absurd cc
 
-marks_length : (classes : List Class) (len : ℕ) (mode : Mode) (brackets : List Bracket) (tokens : List PlainToken) (marks : List Mark) → marks_from classes len mode brackets tokens ≡ Ok marks → length marks ≡ length tokens
+marks_length : (classes : List Class) (len : ℕ) (mode : Mode) (brackets : List OpenBracket) (tokens : List PlainToken) (marks : List Mark) → marks_from classes len mode brackets tokens ≡ Ok marks → length marks ≡ length tokens
 unfolding marks_from
 marks_length classes len mode brackets [] marks e = end_length (may_end mode (first_of brackets)) len marks e
 marks_length classes len mode brackets (token ∷ tokens) marks e =
     length_by classes len brackets token tokens (step mode (first_of brackets) (symbol_of classes token.kind)) marks e (λ mode more rest f. marks_length classes len mode more tokens rest f)
 
-pub same_length : (classes : List Class) (len : ℕ) (mode : Mode) (brackets : List Bracket) (plain : List PlainToken) (marks slice : List Mark) (items : List Token) → marks_from classes len mode brackets plain ≡ Ok marks → slice ≡ marks
+pub same_length : (classes : List Class) (len : ℕ) (mode : Mode) (brackets : List OpenBracket) (plain : List PlainToken) (marks slice : List Mark) (items : List Token) → marks_from classes len mode brackets plain ≡ Ok marks → slice ≡ marks
     → map plain_token items ≡ plain → length slice ≡ length items
 same_length classes len mode brackets plain marks slice items e s whole = ap length s ∙ marks_length classes len mode brackets plain marks e ∙ ap length (sym whole) ∙ length-plain items

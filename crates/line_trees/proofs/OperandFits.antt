@@ -14,8 +14,8 @@ use Rattle.line_trees.specs.declared.symbol.Symbol.{Symbol}
 use Rattle.line_trees.specs.declared.symbol.Symbol.TheVariants as symbol
 use Rattle.line_trees.specs.declared.machine.Operand.{Operand}
 use Rattle.line_trees.specs.declared.machine.Operand.TheVariants as operand
-use Rattle.line_trees.specs.declared.machine.Bracket.{Bracket}
-use Rattle.line_trees.specs.declared.machine.Bracket.TheVariants as bracket
+use Rattle.line_trees.specs.declared.machine.OpenBracket.{OpenBracket}
+use Rattle.line_trees.specs.declared.machine.OpenBracket.TheVariants as bracket
 use Rattle.apl_arrays.specs.List.{first_of}
 use Rattle.line_trees.specs.Signs.{between}
 use Rattle.line_trees.specs.Symbols.{symbol_of}
@@ -52,7 +52,7 @@ dyadic_along_after Q classes o f function tokens d takes (axis, right, inside, s
   closed,
 )
 
-product_after : (classes : List Class) (brackets : List Bracket) (o : Operand) (token : PlainToken) (tokens : List PlainToken) (m : Option Monad) (d : Dyad) → Is classes (symbol.Scalar m (Some d)) token
+product_after : (classes : List Class) (brackets : List OpenBracket) (o : Operand) (token : PlainToken) (tokens : List PlainToken) (m : Option Monad) (d : Dyad) → Is classes (symbol.Scalar m (Some d)) token
     → Here (ClosedBy classes brackets) classes tokens ⊎ Dotted classes brackets tokens → After (ClosedBy classes brackets) classes o (token ∷ tokens)
 product_after classes brackets o token tokens m d is (inl h) =
     dyadic_after (ClosedBy classes brackets) classes o (fun.Verb (verb.Two d)) (token ∷ []) tokens (scalar_dyad m d refl (ap (λ (x : Symbol). x ∷ []) is)) h
@@ -61,19 +61,19 @@ product_after classes brackets o token tokens m d is (inr (dot, others, all, is_
     (dyadic_after (ClosedBy classes brackets) classes o (fun.Verb (verb.Inner d g)) (token ∷ dot ∷ factor ∷ []) more
     (inner m n d g refl (three_are classes token dot factor (symbol.Scalar m (Some d)) symbol.Dot (symbol.Scalar n (Some g)) is is_dot is_factor)) h)
 
-jot_after : (classes : List Class) (brackets : List Bracket) (o : Operand) (token : PlainToken) (tokens : List PlainToken) → Is classes symbol.Jot token → Dotted classes brackets tokens → After (ClosedBy classes brackets) classes o (token ∷ tokens)
+jot_after : (classes : List Class) (brackets : List OpenBracket) (o : Operand) (token : PlainToken) (tokens : List PlainToken) → Is classes symbol.Jot token → Dotted classes brackets tokens → After (ClosedBy classes brackets) classes o (token ∷ tokens)
 jot_after classes brackets o token tokens is (dot, others, all, is_dot, (factor, more, n, g, behind, is_factor, h)) =
     subst (λ (x : List PlainToken). After (ClosedBy classes brackets) classes o (token ∷ x)) (sym (all ∙ ap (λ (x : List PlainToken). dot ∷ x) behind))
     (dyadic_after (ClosedBy classes brackets) classes o (fun.Verb (verb.Outer g)) (token ∷ dot ∷ factor ∷ []) more
     (outer n g refl (three_are classes token dot factor symbol.Jot symbol.Dot (symbol.Scalar n (Some g)) is is_dot is_factor)) h)
 
-slash_after : (classes : List Class) (brackets : List Bracket) (o : Operand) (token : PlainToken) (tokens : List PlainToken) (f : Fold) → Is classes (symbol.Slash f) token
+slash_after : (classes : List Class) (brackets : List OpenBracket) (o : Operand) (token : PlainToken) (tokens : List PlainToken) (f : Fold) → Is classes (symbol.Slash f) token
     → Here (ClosedBy classes brackets) classes tokens ⊎ Along (ClosedBy classes brackets) classes tokens → After (ClosedBy classes brackets) classes o (token ∷ tokens)
 slash_after classes brackets o token tokens f is (inl h) = dyadic_after (ClosedBy classes brackets) classes o (fun.Verb (between f)) (token ∷ []) tokens (slash f refl (ap (λ (x : Symbol). x ∷ []) is)) h
 slash_after classes brackets o token tokens f is (inr h) =
     dyadic_along_after (ClosedBy classes brackets) classes o (fun.Verb (between f)) (token ∷ []) tokens (slash f refl (ap (λ (x : Symbol). x ∷ []) is)) (between_takes_axis f) h
 
-function_after : (classes : List Class) (brackets : List Bracket) (o : Operand) (token : PlainToken) (tokens : List PlainToken) (m : Option Fun) (f : Fun) → Is classes (symbol.Function m (Some f)) token
+function_after : (classes : List Class) (brackets : List OpenBracket) (o : Operand) (token : PlainToken) (tokens : List PlainToken) (m : Option Fun) (f : Fun) → Is classes (symbol.Function m (Some f)) token
     → Here (ClosedBy classes brackets) classes tokens ⊎ ((takes_axis f ≡ true) × Along (ClosedBy classes brackets) classes tokens) → After (ClosedBy classes brackets) classes o (token ∷ tokens)
 function_after classes brackets o token tokens m f is (inl h) = dyadic_after (ClosedBy classes brackets) classes o f (token ∷ []) tokens (other_dyad m (ap (λ (x : Symbol). x ∷ []) is)) h
 function_after classes brackets o token tokens m f is (inr (takes, h)) = dyadic_along_after (ClosedBy classes brackets) classes o f (token ∷ []) tokens (other_dyad m (ap (λ (x : Symbol). x ∷ []) is)) takes h
@@ -133,7 +133,7 @@ pub nothing_extends : (classes : List Class) (o : Operand) → Extends classes o
 nothing_extends classes o v text is = (v, subst (λ (x : List PlainToken). IsExpr classes v x) (sym (append-nil text)) (as_operand classes o v text is).1)
 
 -- what closes
-closes_parenthesis : (classes : List Class) (brackets : List Bracket) (token : PlainToken) (tokens : List PlainToken) → Is classes symbol.RightParenthesis token → FitsBy classes brackets tokens (close_parenthesis (first_of brackets))
+closes_parenthesis : (classes : List Class) (brackets : List OpenBracket) (token : PlainToken) (tokens : List PlainToken) → Is classes symbol.RightParenthesis token → FitsBy classes brackets tokens (close_parenthesis (first_of brackets))
     → ClosedBy classes brackets (token ∷ tokens)
 closes_parenthesis classes [] token tokens is h = absurd h
 closes_parenthesis classes (bracket.Parenthesis ∷ brackets) token tokens is h = (token, tokens, refl, is, h)
@@ -141,7 +141,7 @@ closes_parenthesis classes (bracket.OfName ∷ brackets) token tokens is h = abs
 closes_parenthesis classes (bracket.OfOther ∷ brackets) token tokens is h = absurd h
 closes_parenthesis classes (bracket.Axis ∷ brackets) token tokens is h = absurd h
 
-closes_bracket : (classes : List Class) (brackets : List Bracket) (token : PlainToken) (tokens : List PlainToken) → Is classes symbol.RightBracket token → FitsBy classes brackets tokens (close_bracket (first_of brackets)) → ClosedBy classes brackets (token ∷ tokens)
+closes_bracket : (classes : List Class) (brackets : List OpenBracket) (token : PlainToken) (tokens : List PlainToken) → Is classes symbol.RightBracket token → FitsBy classes brackets tokens (close_bracket (first_of brackets)) → ClosedBy classes brackets (token ∷ tokens)
 closes_bracket classes [] token tokens is h = absurd h
 closes_bracket classes (bracket.Parenthesis ∷ brackets) token tokens is h = absurd h
 closes_bracket classes (bracket.OfName ∷ brackets) token tokens is h = (no_more, [], token, tokens, refl, refl, is, h)
@@ -154,18 +154,18 @@ more_of classes no_more semicolon list is h = absurd h
 more_of classes (omitted more) semicolon list is h = (semicolon, list, refl, is, h)
 more_of classes (given e more) semicolon list is (first, rest, all, h, m) = (semicolon, first, rest, ap (λ (x : List PlainToken). semicolon ∷ x) all, is, h, m)
 
-goes_on : (classes : List Class) (brackets : List Bracket) (token : PlainToken) (tokens : List PlainToken) → Is classes symbol.Semicolon token → FitsBy classes brackets tokens (next_subscript (first_of brackets)) → ClosedBy classes brackets (token ∷ tokens)
+goes_on : (classes : List Class) (brackets : List OpenBracket) (token : PlainToken) (tokens : List PlainToken) → Is classes symbol.Semicolon token → FitsBy classes brackets tokens (next_subscript (first_of brackets)) → ClosedBy classes brackets (token ∷ tokens)
 goes_on classes [] token tokens is h = absurd h
 goes_on classes (bracket.Parenthesis ∷ brackets) token tokens is h = absurd h
 goes_on classes (bracket.OfName ∷ brackets) token tokens is (subs, list, close, more, all, s, is_close, h) = (subs, token ∷ list, close, more, ap (λ (x : List PlainToken). token ∷ x) all, more_of classes subs token list is s, is_close, h)
 goes_on classes (bracket.OfOther ∷ brackets) token tokens is (subs, list, close, more, all, s, is_close, h) = (subs, token ∷ list, close, more, ap (λ (x : List PlainToken). token ∷ x) all, more_of classes subs token list is s, is_close, h)
 goes_on classes (bracket.Axis ∷ brackets) token tokens is h = absurd h
 
-closed_after : (classes : List Class) (brackets : List Bracket) (o : Operand) (tokens : List PlainToken) → ClosedBy classes brackets tokens → After (ClosedBy classes brackets) classes o tokens
+closed_after : (classes : List Class) (brackets : List OpenBracket) (o : Operand) (tokens : List PlainToken) → ClosedBy classes brackets tokens → After (ClosedBy classes brackets) classes o tokens
 closed_after classes brackets o tokens h = ([], tokens, refl, nothing_extends classes o, h)
 
 -- a token behind an operand, but for ← [ and :
-common_fits : (classes : List Class) (brackets : List Bracket) (o : Operand) (token : PlainToken) (tokens : List PlainToken) (s : Symbol) → Is classes s token → FitsBy classes brackets tokens (go_on operand.Other (first_of brackets) s)
+common_fits : (classes : List Class) (brackets : List OpenBracket) (o : Operand) (token : PlainToken) (tokens : List PlainToken) (s : Symbol) → Is classes s token → FitsBy classes brackets tokens (go_on operand.Other (first_of brackets) s)
     → (s ≡ symbol.LeftBracket → Is classes symbol.LeftBracket token → FitsBy classes brackets tokens (go_on operand.Other (first_of brackets) symbol.LeftBracket) → After (ClosedBy classes brackets) classes o (token ∷ tokens))
     → After (ClosedBy classes brackets) classes o (token ∷ tokens)
 common_fits classes brackets o token tokens (symbol.Scalar m (Some d)) is h lists = product_after classes brackets o token tokens m d is h
@@ -178,20 +178,20 @@ common_fits classes brackets o token tokens symbol.RightBracket is h lists = clo
 common_fits classes brackets o token tokens symbol.Semicolon is h lists = closed_after classes brackets o (token ∷ tokens) (goes_on classes brackets token tokens is h)
 common_fits classes brackets o token tokens s is h lists = absurd h
 
-pub other_fits : (classes : List Class) (brackets : List Bracket) (token : PlainToken) (tokens : List PlainToken) (s : Symbol) → Is classes s token → FitsBy classes brackets tokens (go_on operand.Other (first_of brackets) s)
+pub other_fits : (classes : List Class) (brackets : List OpenBracket) (token : PlainToken) (tokens : List PlainToken) (s : Symbol) → Is classes s token → FitsBy classes brackets tokens (go_on operand.Other (first_of brackets) s)
     → After (ClosedBy classes brackets) classes operand.Other (token ∷ tokens)
 other_fits classes brackets token tokens s is h =
     common_fits classes brackets operand.Other token tokens s is h
     (λ _ left k. list_after (ClosedBy classes brackets) classes operand.Other operand.Other token tokens (λ right subs list tail r a x. indexed_extends classes operand.Other token right subs list tail left r a x) k)
 
-pub target_fits : (classes : List Class) (brackets : List Bracket) (token : PlainToken) (tokens : List PlainToken) (s : Symbol) → Is classes s token → FitsBy classes brackets tokens (go_on operand.Target (first_of brackets) s)
+pub target_fits : (classes : List Class) (brackets : List OpenBracket) (token : PlainToken) (tokens : List PlainToken) (s : Symbol) → Is classes s token → FitsBy classes brackets tokens (go_on operand.Target (first_of brackets) s)
     → After (ClosedBy classes brackets) classes operand.Target (token ∷ tokens)
 target_fits classes brackets token tokens symbol.LeftArrow is h = assign_at_after (ClosedBy classes brackets) classes token tokens is h
 target_fits classes brackets token tokens s is h =
     common_fits classes brackets operand.Target token tokens s is h
     (λ _ left k. list_after (ClosedBy classes brackets) classes operand.Target operand.Other token tokens (λ right subs list tail r a x. indexed_extends classes operand.Target token right subs list tail left r a x) k)
 
-pub name_fits : (classes : List Class) (brackets : List Bracket) (token : PlainToken) (tokens : List PlainToken) (s : Symbol) → Is classes s token → FitsBy classes brackets tokens (go_on operand.Name (first_of brackets) s)
+pub name_fits : (classes : List Class) (brackets : List OpenBracket) (token : PlainToken) (tokens : List PlainToken) (s : Symbol) → Is classes s token → FitsBy classes brackets tokens (go_on operand.Name (first_of brackets) s)
     → After (ClosedBy classes brackets) classes operand.Name (token ∷ tokens)
 name_fits classes brackets token tokens symbol.LeftArrow is h = assign_after (ClosedBy classes brackets) classes token tokens is h
 name_fits classes brackets token tokens symbol.LeftBracket is h =
@@ -199,7 +199,7 @@ name_fits classes brackets token tokens symbol.LeftBracket is h =
 name_fits classes brackets token tokens s is h = common_fits classes brackets operand.Name token tokens s is h (λ same left k. absurd cc)
 
 -- a name at the front of a line
-pub first_fits : (classes : List Class) (brackets : List Bracket) (token : PlainToken) (tokens : List PlainToken) (s : Symbol) → Is classes s token → FitsBy classes brackets tokens (go_on operand.First (first_of brackets) s)
+pub first_fits : (classes : List Class) (brackets : List OpenBracket) (token : PlainToken) (tokens : List PlainToken) (s : Symbol) → Is classes s token → FitsBy classes brackets tokens (go_on operand.First (first_of brackets) s)
     → FirstHere classes brackets (token ∷ tokens)
 first_fits classes (b ∷ brackets) token tokens s is h = tt
 first_fits classes [] token tokens symbol.Colon is (statement, h) = inr (token, tokens, statement, refl, is, h)

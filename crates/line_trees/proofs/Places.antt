@@ -7,11 +7,11 @@ use Rattle.line_trees.specs.declared.tree.Mark.{Mark}
 use Rattle.line_trees.specs.declared.machine.Before.TheVariants as before
 use Rattle.line_trees.specs.declared.machine.Mode.{Mode}
 use Rattle.line_trees.specs.declared.machine.Mode.TheVariants.{Begins}
-use Rattle.line_trees.specs.declared.machine.Bracket.{Bracket}
+use Rattle.line_trees.specs.declared.machine.OpenBracket.{OpenBracket}
 use Rattle.line_trees.specs.declared.machine.Move.{Move}
 use Rattle.apl_arrays.specs.List.{first_of}
 use Rattle.line_trees.specs.Symbols.{symbol_of}
-use Rattle.line_trees.specs.Marks.{Marked, marks_from, marked_by, with_mark, step, may_end, changed}
+use Rattle.line_trees.specs.Marks.{Marked, marks_from, marked_by, with_mark, step, may_end, open_after}
 use Rattle.line_trees.specs.Parsing.{PlainTree, Parsed, parsed_by, parsed}
 use Rattle.line_trees.specs.Trees.{LineTree, as_nodes, line_tree_of}
 use Rattle.line_trees.specs.Grammar.{IsLine, BeginsLine, IsStop, stops_at, ends_early}
@@ -21,14 +21,14 @@ use Rattle.line_trees.proofs.Sound.{marked_line}
 use Rattle.line_trees.proofs.TreeLaw.{line_again}
 
 -- where the marks of tokens break off: at a token, whatever follows it, or at the end; what stands before may go on
-abbrev BreaksOff : List Class → ℕ → Mode → List Bracket → List PlainToken → ℕ → Type 0
+abbrev BreaksOff : List Class → ℕ → Mode → List OpenBracket → List PlainToken → ℕ → Type 0
 BreaksOff classes len mode brackets tokens at =
     ((front : List PlainToken) × (token : PlainToken) × (rest ending : List PlainToken) × (tokens ≡ front ++ token ∷ rest) × (at ≡ token.at) × HasMarks classes len mode brackets (front ++ ending)
     × ((more : List PlainToken) → marks_from classes len mode brackets (front ++ token ∷ more) ≡ Err at))
     ⊎ ((ending : List PlainToken) × (at ≡ len) × HasMarks classes len mode brackets (tokens ++ ending))
 
-breaks_more : (classes : List Class) (len : ℕ) (mode : Mode) (brackets : List Bracket) (token : PlainToken) (tokens : List PlainToken) (move : Move) (at : ℕ) → step mode (first_of brackets) (symbol_of classes token.kind) ≡ Some move
-    → BreaksOff classes len move.mode (changed move.change brackets) tokens at → BreaksOff classes len mode brackets (token ∷ tokens) at
+breaks_more : (classes : List Class) (len : ℕ) (mode : Mode) (brackets : List OpenBracket) (token : PlainToken) (tokens : List PlainToken) (move : Move) (at : ℕ) → step mode (first_of brackets) (symbol_of classes token.kind) ≡ Some move
+    → BreaksOff classes len move.mode (open_after move.change brackets) tokens at → BreaksOff classes len mode brackets (token ∷ tokens) at
 unfolding marks_from
 breaks_more classes len mode brackets token tokens move at s (inl (front, stop, rest, ending, all, is, has, breaks)) =
     inl (
@@ -39,17 +39,17 @@ breaks_more classes len mode brackets token tokens move at s (inl (front, stop, 
       ap (λ (x : List PlainToken). token ∷ x) all,
       is,
       mark_before classes len mode brackets token (front ++ ending) (symbol_of classes token.kind) move refl s has,
-      (λ more. ap (λ (x : Option Move). marked_by x token.at (λ mode change. marks_from classes len mode (changed change brackets) (front ++ stop ∷ more))) s ∙ ap (with_mark move.mark) (breaks more)),
+      (λ more. ap (λ (x : Option Move). marked_by x token.at (λ mode change. marks_from classes len mode (open_after change brackets) (front ++ stop ∷ more))) s ∙ ap (with_mark move.mark) (breaks more)),
     )
 breaks_more classes len mode brackets token tokens move at s (inr (ending, e, has)) =
     inr (ending, e, mark_before classes len mode brackets token (tokens ++ ending) (symbol_of classes token.kind) move refl s has)
 
-breaks_here : (classes : List Class) (len : ℕ) (mode : Mode) (brackets : List Bracket) (token : PlainToken) (tokens : List PlainToken) (at : ℕ) → IsAlive mode → step mode (first_of brackets) (symbol_of classes token.kind) ≡ None → at ≡ token.at
+breaks_here : (classes : List Class) (len : ℕ) (mode : Mode) (brackets : List OpenBracket) (token : PlainToken) (tokens : List PlainToken) (at : ℕ) → IsAlive mode → step mode (first_of brackets) (symbol_of classes token.kind) ≡ None → at ≡ token.at
     → BreaksOff classes len mode brackets (token ∷ tokens) at
 unfolding marks_from
 breaks_here classes len mode brackets token tokens at alive s is =
     let (end, has) = ending classes len mode brackets alive in
-    inl ([], token, tokens, end, refl, is, has, (λ more. ap (λ (x : Option Move). marked_by x token.at (λ mode change. marks_from classes len mode (changed change brackets) more)) s ∙ ap Err (sym is)))
+    inl ([], token, tokens, end, refl, is, has, (λ more. ap (λ (x : Option Move). marked_by x token.at (λ mode change. marks_from classes len mode (open_after change brackets) more)) s ∙ ap Err (sym is)))
 
 marked_error : (m : Mark) (marked : Marked) (at : ℕ) → with_mark m marked ≡ Err at → marked ≡ Err at
 marked_error m (Ok rest) at e = absurd cc
@@ -62,14 +62,14 @@ end_error false len m at e f = cc
 one_place : (x y : ℕ) (m : Marked) → m ≡ Err x → m ≡ Err y → y ≡ x
 one_place x y m e f = cc
 
-breaks_by : (classes : List Class) (len : ℕ) (mode : Mode) (brackets : List Bracket) (token : PlainToken) (tokens : List PlainToken) (move : Option Move) (at : ℕ) → IsAlive mode → LeadsOn move → step mode (first_of brackets) (symbol_of classes token.kind) ≡ move
-    → marked_by move token.at (λ mode change. marks_from classes len mode (changed change brackets) tokens) ≡ Err at
-    → ((next : Mode) (more : List Bracket) → IsAlive next → marks_from classes len next more tokens ≡ Err at → BreaksOff classes len next more tokens at) → BreaksOff classes len mode brackets (token ∷ tokens) at
+breaks_by : (classes : List Class) (len : ℕ) (mode : Mode) (brackets : List OpenBracket) (token : PlainToken) (tokens : List PlainToken) (move : Option Move) (at : ℕ) → IsAlive mode → LeadsOn move → step mode (first_of brackets) (symbol_of classes token.kind) ≡ move
+    → marked_by move token.at (λ mode change. marks_from classes len mode (open_after change brackets) tokens) ≡ Err at
+    → ((next : Mode) (more : List OpenBracket) → IsAlive next → marks_from classes len next more tokens ≡ Err at → BreaksOff classes len next more tokens at) → BreaksOff classes len mode brackets (token ∷ tokens) at
 breaks_by classes len mode brackets token tokens None at alive leads s e h = breaks_here classes len mode brackets token tokens at alive s (one_place token.at at (Err token.at) refl e)
 breaks_by classes len mode brackets token tokens (Some move) at alive leads s e h =
-    breaks_more classes len mode brackets token tokens move at s (h move.mode (changed move.change brackets) leads (marked_error move.mark (marks_from classes len move.mode (changed move.change brackets) tokens) at e))
+    breaks_more classes len mode brackets token tokens move at s (h move.mode (open_after move.change brackets) leads (marked_error move.mark (marks_from classes len move.mode (open_after move.change brackets) tokens) at e))
 
-breaks_off : (classes : List Class) (len : ℕ) (mode : Mode) (brackets : List Bracket) (tokens : List PlainToken) (at : ℕ) → IsAlive mode → marks_from classes len mode brackets tokens ≡ Err at → BreaksOff classes len mode brackets tokens at
+breaks_off : (classes : List Class) (len : ℕ) (mode : Mode) (brackets : List OpenBracket) (tokens : List PlainToken) (at : ℕ) → IsAlive mode → marks_from classes len mode brackets tokens ≡ Err at → BreaksOff classes len mode brackets tokens at
 unfolding marks_from
 breaks_off classes len mode brackets [] at alive e = let (end, has) = ending classes len mode brackets alive in inr (end, end_error (may_end mode (first_of brackets)) len (Err at) at e refl, has)
 breaks_off classes len mode brackets (token ∷ tokens) at alive e =

@@ -17,9 +17,9 @@ use Rattle.line_trees.specs.declared.machine.Before.TheVariants as before
 use Rattle.line_trees.specs.declared.machine.Operand.{Operand}
 use Rattle.line_trees.specs.declared.machine.Mode.{Mode}
 use Rattle.line_trees.specs.declared.machine.Mode.TheVariants.{Begins, Ends, Jot, Factor}
-use Rattle.line_trees.specs.declared.machine.Bracket.{Bracket}
-use Rattle.line_trees.specs.declared.machine.Bracket.TheVariants as bracket
-use Rattle.line_trees.specs.declared.machine.Change.TheVariants.{Open, Close}
+use Rattle.line_trees.specs.declared.machine.OpenBracket.{OpenBracket}
+use Rattle.line_trees.specs.declared.machine.OpenBracket.TheVariants as bracket
+use Rattle.line_trees.specs.declared.machine.NestingChange.TheVariants.{Open, Close}
 use Rattle.apl_arrays.specs.List.{first_of}
 use Rattle.line_trees.specs.Signs.{folded, between}
 use Rattle.line_trees.specs.Marks.{step, takes_axis, after_function}
@@ -37,7 +37,7 @@ abbrev along : Built → Placed → Placed → Built
 along b r k = record { label = b.label; nodes = k.0; waiting = pending.Expr (Some k.1) r.1 ∷ b.waiting; lists = b.lists }
 
 -- an axis in brackets before an expression is read
-axis_read : (classes : List Class) (len : ℕ) (axis right : Expr) (inside square text rest : List PlainToken) (brackets : List Bracket) (b : Built) → ReadsExpr classes len axis → ReadsExpr classes len right
+axis_read : (classes : List Class) (len : ℕ) (axis right : Expr) (inside square text rest : List PlainToken) (brackets : List OpenBracket) (b : Built) → ReadsExpr classes len axis → ReadsExpr classes len right
     → InBrackets classes inside square → IsExpr classes axis inside → IsExpr classes right text → IsClosed b.waiting → Reads classes len (Ends (ends_of right)) brackets rest b
     → Reads classes len (Begins before.Axis) brackets (square ++ (text ++ rest)) (along b (placed b.nodes right) (placed (placed b.nodes right).0 axis))
 unfolding step built_by
@@ -66,7 +66,7 @@ lead_slash None d fold axis right b waiting = refl
 lead_slash (Some m) d fold axis right b waiting = refl
 
 -- a scalar function and a slash before their argument
-operator_read : (classes : List Class) (len : ℕ) (m : Option Monad) (d : Dyad) (fold : Fold) (function rest : List PlainToken) (brackets : List Bracket) (b : Built) (axis : Option ℕ) (right : ℕ) (waiting : List Pending)
+operator_read : (classes : List Class) (len : ℕ) (m : Option Monad) (d : Dyad) (fold : Fold) (function rest : List PlainToken) (brackets : List OpenBracket) (b : Built) (axis : Option ℕ) (right : ℕ) (waiting : List Pending)
     → symbols classes function ≡ symbol.Scalar m (Some d) ∷ symbol.Slash fold ∷ [] → Reads classes len (Begins before.Axis) brackets rest (argument b axis right waiting)
     → Reads classes len (Begins before.Plain) brackets (function ++ rest) (applied b (node.apply (fun.Verb (folded d fold)) None right axis) waiting)
 unfolding step built_by
@@ -78,7 +78,7 @@ operator_read classes len m d fold function rest brackets b axis right waiting s
     (reads_token classes len (Begins before.Plain) brackets one (two ∷ rest) (symbol.Scalar m (Some d)) (keeps mark.Lead (Begins (before.Lead m (Some d)))) (record { label = b.label; nodes = b.nodes; waiting = pending.Slash fold axis right ∷ waiting; lists = b.lists }) t refl slashed)
 
 -- another monadic function before its argument
-function_read : (classes : List Class) (len : ℕ) (f : Fun) (d : Option Fun) (function rest : List PlainToken) (brackets : List Bracket) (b : Built) (axis : Option ℕ) (right : ℕ) (waiting : List Pending)
+function_read : (classes : List Class) (len : ℕ) (f : Fun) (d : Option Fun) (function rest : List PlainToken) (brackets : List OpenBracket) (b : Built) (axis : Option ℕ) (right : ℕ) (waiting : List Pending)
     → symbols classes function ≡ symbol.Function (Some f) d ∷ [] → Reads classes len (after_function f) brackets rest (argument b axis right waiting)
     → Reads classes len (Begins before.Plain) brackets (function ++ rest) (applied b (node.apply f None right axis) waiting)
 unfolding step built_by
@@ -152,7 +152,7 @@ monadic_along_read classes len f axis right along_each each text rest brackets b
 abbrev left_waits : Built → Fun → Option ℕ → ℕ → List Pending → Built
 left_waits b f axis right waiting = record { label = b.label; nodes = b.nodes; waiting = pending.Dyadic f axis right ∷ waiting; lists = b.lists }
 
-scalar_read : (classes : List Class) (len : ℕ) (o : Operand) (m : Option Monad) (d : Dyad) (function rest : List PlainToken) (brackets : List Bracket) (b : Built) (right : ℕ) (waiting : List Pending)
+scalar_read : (classes : List Class) (len : ℕ) (o : Operand) (m : Option Monad) (d : Dyad) (function rest : List PlainToken) (brackets : List OpenBracket) (b : Built) (right : ℕ) (waiting : List Pending)
     → symbols classes function ≡ symbol.Scalar m (Some d) ∷ [] → Reads classes len (Begins before.Product) brackets rest (argument b None right waiting)
     → Reads classes len (Ends o) brackets (function ++ rest) (left_waits b (fun.Verb (verb.Two d)) None right waiting)
 unfolding step built_by
@@ -161,7 +161,7 @@ scalar_read classes len o m d function rest brackets b right waiting s next =
     reads_as classes len (Ends o) brackets (function ++ rest) (token ∷ rest) _ _ (one_before token function rest alone) refl
     (reads_token classes len (Ends o) brackets token rest (symbol.Scalar m (Some d)) (keeps mark.Scalar (Begins before.Product)) (argument b None right waiting) t refl next)
 
-inner_read : (classes : List Class) (len : ℕ) (o : Operand) (m n : Option Monad) (d e : Dyad) (function rest : List PlainToken) (brackets : List Bracket) (b : Built) (right : ℕ) (waiting : List Pending)
+inner_read : (classes : List Class) (len : ℕ) (o : Operand) (m n : Option Monad) (d e : Dyad) (function rest : List PlainToken) (brackets : List OpenBracket) (b : Built) (right : ℕ) (waiting : List Pending)
     → symbols classes function ≡ symbol.Scalar m (Some d) ∷ symbol.Dot ∷ symbol.Scalar n (Some e) ∷ [] → Reads classes len (Begins before.Plain) brackets rest (argument b None right waiting)
     → Reads classes len (Ends o) brackets (function ++ rest) (left_waits b (fun.Verb (verb.Inner d e)) None right waiting)
 unfolding step built_by
@@ -173,7 +173,7 @@ inner_read classes len o m n d e function rest brackets b right waiting s next =
     reads_as classes len (Ends o) brackets (function ++ rest) (one ∷ (two ∷ three ∷ rest)) _ _ (ap (λ (x : List PlainToken). x ++ rest) all) refl
     (reads_token classes len (Ends o) brackets one (two ∷ three ∷ rest) (symbol.Scalar m (Some d)) (keeps mark.Scalar (Begins before.Product)) b1 t refl dotted)
 
-outer_read : (classes : List Class) (len : ℕ) (o : Operand) (n : Option Monad) (e : Dyad) (function rest : List PlainToken) (brackets : List Bracket) (b : Built) (right : ℕ) (waiting : List Pending)
+outer_read : (classes : List Class) (len : ℕ) (o : Operand) (n : Option Monad) (e : Dyad) (function rest : List PlainToken) (brackets : List OpenBracket) (b : Built) (right : ℕ) (waiting : List Pending)
     → symbols classes function ≡ symbol.Jot ∷ symbol.Dot ∷ symbol.Scalar n (Some e) ∷ [] → Reads classes len (Begins before.Plain) brackets rest (argument b None right waiting)
     → Reads classes len (Ends o) brackets (function ++ rest) (left_waits b (fun.Verb (verb.Outer e)) None right waiting)
 unfolding step built_by
@@ -185,7 +185,7 @@ outer_read classes len o n e function rest brackets b right waiting s next =
     reads_as classes len (Ends o) brackets (function ++ rest) (one ∷ (two ∷ three ∷ rest)) _ _ (ap (λ (x : List PlainToken). x ++ rest) all) refl
     (reads_token classes len (Ends o) brackets one (two ∷ three ∷ rest) symbol.Jot (keeps mark.Jot Jot) b1 t refl dotted)
 
-slash_read : (classes : List Class) (len : ℕ) (o : Operand) (fold : Fold) (function rest : List PlainToken) (brackets : List Bracket) (b : Built) (axis : Option ℕ) (right : ℕ) (waiting : List Pending)
+slash_read : (classes : List Class) (len : ℕ) (o : Operand) (fold : Fold) (function rest : List PlainToken) (brackets : List OpenBracket) (b : Built) (axis : Option ℕ) (right : ℕ) (waiting : List Pending)
     → symbols classes function ≡ symbol.Slash fold ∷ [] → Reads classes len (Begins before.Axis) brackets rest (argument b axis right waiting)
     → Reads classes len (Ends o) brackets (function ++ rest) (left_waits b (fun.Verb (between fold)) axis right waiting)
 unfolding step built_by
@@ -199,7 +199,7 @@ dyadic_made : (m : Option Fun) (f : Fun) (b : Built) (axis : Option ℕ) (right 
 dyadic_made None f b axis right waiting = refl
 dyadic_made (Some g) f b axis right waiting = refl
 
-other_read : (classes : List Class) (len : ℕ) (o : Operand) (m : Option Fun) (f : Fun) (function rest : List PlainToken) (brackets : List Bracket) (b : Built) (axis : Option ℕ) (right : ℕ) (waiting : List Pending)
+other_read : (classes : List Class) (len : ℕ) (o : Operand) (m : Option Fun) (f : Fun) (function rest : List PlainToken) (brackets : List OpenBracket) (b : Built) (axis : Option ℕ) (right : ℕ) (waiting : List Pending)
     → symbols classes function ≡ symbol.Function m (Some f) ∷ [] → Reads classes len (after_function f) brackets rest (argument b axis right waiting)
     → Reads classes len (Ends o) brackets (function ++ rest) (left_waits b f axis right waiting)
 unfolding step built_by
@@ -209,7 +209,7 @@ other_read classes len o m f function rest brackets b axis right waiting s next 
     (reads_token classes len (Ends o) brackets token rest (symbol.Function m (Some f)) (keeps mark.Dyadic (after_function f)) (argument b axis right waiting) t refl next)
 
 -- the function, the argument and what waits for them are these
-waits_for : (classes : List Class) (len : ℕ) (mode : Mode) (brackets : List Bracket) (tokens : List PlainToken) (b : Built) (f g : Fun) (axis : Option ℕ) (right : ℕ) (waiting : List Pending) → f ≡ g
+waits_for : (classes : List Class) (len : ℕ) (mode : Mode) (brackets : List OpenBracket) (tokens : List PlainToken) (b : Built) (f g : Fun) (axis : Option ℕ) (right : ℕ) (waiting : List Pending) → f ≡ g
     → Reads classes len mode brackets tokens (left_waits b g axis right waiting) → Reads classes len mode brackets tokens (left_waits b f axis right waiting)
 waits_for classes len mode brackets tokens b f g axis right waiting e h = h ∙ ap (λ (x : Fun). Ok (left_waits b x axis right waiting)) (sym e)
 

@@ -13,9 +13,9 @@ use Rattle.line_trees.specs.declared.machine.Operand.{Operand}
 use Rattle.line_trees.specs.declared.machine.Operand.TheVariants as operand
 use Rattle.line_trees.specs.declared.machine.Mode.{Mode}
 use Rattle.line_trees.specs.declared.machine.Mode.TheVariants.{Begins, Ends}
-use Rattle.line_trees.specs.declared.machine.Bracket.{Bracket}
-use Rattle.line_trees.specs.declared.machine.Bracket.TheVariants as bracket
-use Rattle.line_trees.specs.declared.machine.Change.TheVariants.{Keep, Open, Close}
+use Rattle.line_trees.specs.declared.machine.OpenBracket.{OpenBracket}
+use Rattle.line_trees.specs.declared.machine.OpenBracket.TheVariants as bracket
+use Rattle.line_trees.specs.declared.machine.NestingChange.TheVariants.{Keep, Open, Close}
 use Rattle.line_trees.specs.declared.machine.Move.{Move}
 use Rattle.apl_arrays.specs.List.{first_of, others_of}
 use Rattle.line_trees.specs.Marks.{step, goes, opens, closes, close_bracket, next_subscript, is_bare_name}
@@ -58,17 +58,17 @@ abbrev pub operand_on : Expr → Built → Built
 operand_on e b = attached_on b (placed b.nodes e)
 
 -- what follows is read so
-abbrev pub Reads : List Class → ℕ → Mode → List Bracket → List PlainToken → Built → Type 0
+abbrev pub Reads : List Class → ℕ → Mode → List OpenBracket → List PlainToken → Built → Type 0
 Reads classes len mode brackets tokens b = read classes len mode brackets tokens ≡ Ok b
 
 -- an operand is read
 abbrev pub ReadsOperand : List Class → ℕ → Expr → Type 0
-ReadsOperand classes len e = (text rest : List PlainToken) (brackets : List Bracket) (b : Built) → IsExpr classes e text → IsOpen b.waiting → Reads classes len (Ends (ends_of e)) brackets rest b
+ReadsOperand classes len e = (text rest : List PlainToken) (brackets : List OpenBracket) (b : Built) → IsExpr classes e text → IsOpen b.waiting → Reads classes len (Ends (ends_of e)) brackets rest b
     → Reads classes len (Begins before.Plain) brackets (text ++ rest) (operand_on e b)
 
 -- an expression is read
 abbrev pub ReadsExpr : List Class → ℕ → Expr → Type 0
-ReadsExpr classes len e = (text rest : List PlainToken) (brackets : List Bracket) (b : Built) → IsExpr classes e text → IsClosed b.waiting → Reads classes len (Ends (ends_of e)) brackets rest b
+ReadsExpr classes len e = (text rest : List PlainToken) (brackets : List OpenBracket) (b : Built) → IsExpr classes e text → IsClosed b.waiting → Reads classes len (Ends (ends_of e)) brackets rest b
     → Reads classes len (Begins before.Plain) brackets (text ++ rest) (expr_on e b)
 
 -- an operand where nothing waits is an expression
@@ -77,7 +77,7 @@ operand_whole classes len e h text rest brackets b is closed next =
     h text rest brackets b is (closed_open b.waiting closed) next ∙ ap Ok (closed_attached b.label (placed b.nodes e).1 (placed b.nodes e).0 b.waiting b.lists closed)
 
 -- other text that is the same
-pub reads_as : (classes : List Class) (len : ℕ) (mode : Mode) (brackets : List Bracket) (text other : List PlainToken) (b c : Built) → text ≡ other → b ≡ c → Reads classes len mode brackets other b → Reads classes len mode brackets text c
+pub reads_as : (classes : List Class) (len : ℕ) (mode : Mode) (brackets : List OpenBracket) (text other : List PlainToken) (b c : Built) → text ≡ other → b ≡ c → Reads classes len mode brackets other b → Reads classes len mode brackets text c
 reads_as classes len mode brackets text other b c e f h = ap (read classes len mode brackets) e ∙ h ∙ ap Ok f
 
 abbrev pub keeps : Mark → Mode → Move
@@ -125,20 +125,20 @@ paren_read classes len e each text rest brackets b (inside, p, is) h next =
 -- ---- subscripts
 
 -- the bracket is one of subscripts, and so the operand ends behind it
-pub record IsList (b : Bracket) (o : Operand) : Type 0 where
+pub record IsList (b : OpenBracket) (o : Operand) : Type 0 where
   pub closed : close_bracket (Some b) ≡ closes mark.CloseSubscripts (Ends o)
   pub next : next_subscript (Some b) ≡ goes mark.Semicolon (Begins before.Subscript)
 
 -- the mode is one at the end of a subscript
-pub record EndsSubscript (mode : Mode) (b : Bracket) : Type 0 where
+pub record EndsSubscript (mode : Mode) (b : OpenBracket) : Type 0 where
   pub closing : step mode (Some b) symbol.RightBracket ≡ close_bracket (Some b)
   pub going_on : step mode (Some b) symbol.Semicolon ≡ next_subscript (Some b)
 
-ends_subscript : (o : Operand) (b : Bracket) → EndsSubscript (Ends o) b
+ends_subscript : (o : Operand) (b : OpenBracket) → EndsSubscript (Ends o) b
 unfolding step
 ends_subscript o b = record { closing = refl; going_on = refl }
 
-omits_subscript : (b : Bracket) → EndsSubscript (Begins before.Subscript) b
+omits_subscript : (b : OpenBracket) → EndsSubscript (Begins before.Subscript) b
 unfolding step
 omits_subscript b = record { closing = refl; going_on = refl }
 
@@ -148,7 +148,7 @@ list_before b p = record { label = b.label; nodes = p.0; waiting = listed p.1 b.
 
 -- subscripts behind the first, and the bracket that closes them, are read
 abbrev pub ReadsMore : List Class → ℕ → Subscripts → Type 0
-ReadsMore classes len subs = (text rest : List PlainToken) (right : PlainToken) (brackets : List Bracket) (k : Bracket) (o : Operand) (mode : Mode) (b : Built) → IsList k o → EndsSubscript mode k → Is classes symbol.RightBracket right
+ReadsMore classes len subs = (text rest : List PlainToken) (right : PlainToken) (brackets : List OpenBracket) (k : OpenBracket) (o : Operand) (mode : Mode) (b : Built) → IsList k o → EndsSubscript mode k → Is classes symbol.RightBracket right
     → AreMore classes subs text → Reads classes len (Ends o) brackets rest b → Reads classes len mode (k ∷ brackets) (text ++ right ∷ rest) (list_before b (placed_subscripts b.nodes subs))
 
 pub no_more_read : (classes : List Class) (len : ℕ) → ReadsMore classes len no_more
@@ -183,11 +183,11 @@ indexing_on b p = record { label = b.label; nodes = p.0; waiting = target_or_ope
 
 -- subscripts in brackets are read
 abbrev pub ReadsSubscripts : List Class → ℕ → Subscripts → Type 0
-ReadsSubscripts classes len subs = (text rest : List PlainToken) (left right : PlainToken) (brackets : List Bracket) (k : Bracket) (o : Operand) (mode : Mode) (b : Built) → IsList k o
+ReadsSubscripts classes len subs = (text rest : List PlainToken) (left right : PlainToken) (brackets : List OpenBracket) (k : OpenBracket) (o : Operand) (mode : Mode) (b : Built) → IsList k o
     → step mode (first_of brackets) symbol.LeftBracket ≡ opens mark.OpenSubscripts (Begins before.Subscript) k → Is classes symbol.LeftBracket left → Is classes symbol.RightBracket right → AreSubscripts classes subs text
     → Reads classes len (Ends o) brackets rest b → Reads classes len mode brackets (left ∷ (text ++ right ∷ rest)) (indexing_on b (placed_subscripts b.nodes subs))
 
-abbrev opening : Bracket → Move
+abbrev opening : OpenBracket → Move
 opening k = record { mark = mark.OpenSubscripts; mode = Begins before.Subscript; change = Open k }
 
 pub first_omitted : (classes : List Class) (len : ℕ) (more : Subscripts) → ReadsMore classes len more → ReadsSubscripts classes len (omitted more)
@@ -215,7 +215,7 @@ pub is_list : (b : Bool) → IsList (cond b bracket.OfName bracket.OfOther) (con
 is_list true = record { closed = refl; next = refl }
 is_list false = record { closed = refl; next = refl }
 
-pub opens_list : (o : Operand) (top : Option Bracket) → step (Ends o) top symbol.LeftBracket ≡ opens mark.OpenSubscripts (Begins before.Subscript) (cond (is_bare_name o) bracket.OfName bracket.OfOther)
+pub opens_list : (o : Operand) (top : Option OpenBracket) → step (Ends o) top symbol.LeftBracket ≡ opens mark.OpenSubscripts (Begins before.Subscript) (cond (is_bare_name o) bracket.OfName bracket.OfOther)
 unfolding step
 opens_list o top = refl
 

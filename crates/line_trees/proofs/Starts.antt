@@ -11,7 +11,7 @@ use Rattle.line_trees.specs.declared.symbol.Symbol.TheVariants as symbol
 use Rattle.line_trees.specs.declared.machine.Before.TheVariants as before
 use Rattle.line_trees.specs.declared.machine.Mode.{Mode}
 use Rattle.line_trees.specs.declared.machine.Mode.TheVariants.{Begins}
-use Rattle.line_trees.specs.declared.machine.Bracket.{Bracket}
+use Rattle.line_trees.specs.declared.machine.OpenBracket.{OpenBracket}
 use Rattle.apl_arrays.specs.List.{first_of}
 use Rattle.line_trees.specs.Symbols.{symbol_of}
 use Rattle.line_trees.specs.Marks.{step, takes_axis, after_function}
@@ -81,10 +81,10 @@ expr_led classes (assign n right) text (target, gets, rest, whole, is, g, r) = (
 expr_led classes (assign_at n subs right) text (target, brackets, inner, gets, rest, whole, is, p, s, g, r) = (target, brackets ++ gets ∷ rest, whole, ap leads is)
 
 -- a mode passes each such symbol as where an expression must begin
-abbrev pub BeginsExpr : Mode → Option Bracket → Type 0
+abbrev pub BeginsExpr : Mode → Option OpenBracket → Type 0
 BeginsExpr mode top = (s : Symbol) → leads s ≡ true → step mode top s ≡ step (Begins before.Plain) top s
 
-pub at_statement : (top : Option Bracket) → BeginsExpr (Begins before.Statement) top
+pub at_statement : (top : Option OpenBracket) → BeginsExpr (Begins before.Statement) top
 unfolding step
 at_statement top symbol.Constant h = refl
 at_statement top (symbol.Value n) h = refl
@@ -94,7 +94,7 @@ at_statement top (symbol.Function m d) h = refl
 at_statement top symbol.LeftParenthesis h = refl
 at_statement top s h = absurd (false≢true h)
 
-pub at_subscript : (top : Option Bracket) → BeginsExpr (Begins before.Subscript) top
+pub at_subscript : (top : Option OpenBracket) → BeginsExpr (Begins before.Subscript) top
 unfolding step
 at_subscript top symbol.Constant h = refl
 at_subscript top (symbol.Value n) h = refl
@@ -104,7 +104,7 @@ at_subscript top (symbol.Function m d) h = refl
 at_subscript top symbol.LeftParenthesis h = refl
 at_subscript top s h = absurd (false≢true h)
 
-pub at_axis : (top : Option Bracket) → BeginsExpr (Begins before.Axis) top
+pub at_axis : (top : Option OpenBracket) → BeginsExpr (Begins before.Axis) top
 unfolding step
 at_axis top symbol.Constant h = refl
 at_axis top (symbol.Value n) h = refl
@@ -114,7 +114,7 @@ at_axis top (symbol.Function m d) h = refl
 at_axis top symbol.LeftParenthesis h = refl
 at_axis top s h = absurd (false≢true h)
 
-pub at_product : (top : Option Bracket) → BeginsExpr (Begins before.Product) top
+pub at_product : (top : Option OpenBracket) → BeginsExpr (Begins before.Product) top
 unfolding step
 at_product top symbol.Constant h = refl
 at_product top (symbol.Value n) h = refl
@@ -124,7 +124,7 @@ at_product top (symbol.Function m d) h = refl
 at_product top symbol.LeftParenthesis h = refl
 at_product top s h = absurd (false≢true h)
 
-pub at_lead : (m : Monad) (d : Option Dyad) (top : Option Bracket) → BeginsExpr (Begins (before.Lead (Some m) d)) top
+pub at_lead : (m : Monad) (d : Option Dyad) (top : Option OpenBracket) → BeginsExpr (Begins (before.Lead (Some m) d)) top
 unfolding step
 at_lead m d top symbol.Constant h = refl
 at_lead m d top (symbol.Value n) h = refl
@@ -135,15 +135,15 @@ at_lead m d top symbol.LeftParenthesis h = refl
 at_lead m d top s h = absurd (false≢true h)
 
 -- behind a function an expression may begin, whether or not an axis may stand there
-pub after_monadic : (f : Fun) (top : Option Bracket) → BeginsExpr (after_function f) top
+pub after_monadic : (f : Fun) (top : Option OpenBracket) → BeginsExpr (after_function f) top
 after_monadic f top = by_axis (takes_axis f) top
   where
-    by_axis : (b : Bool) (top : Option Bracket) → BeginsExpr (cond b (Begins before.Axis) (Begins before.Plain)) top
+    by_axis : (b : Bool) (top : Option OpenBracket) → BeginsExpr (cond b (Begins before.Axis) (Begins before.Plain)) top
     by_axis true top = at_axis top
     by_axis false top = λ s h. refl
 
 -- an expression is read in each mode where one may begin as where one must begin
-pub begins_as : (classes : List Class) (len : ℕ) (mode : Mode) (e : Expr) (text rest : List PlainToken) (brackets : List Bracket) (b : Built) → IsExpr classes e text → BeginsExpr mode (first_of brackets)
+pub begins_as : (classes : List Class) (len : ℕ) (mode : Mode) (e : Expr) (text rest : List PlainToken) (brackets : List OpenBracket) (b : Built) → IsExpr classes e text → BeginsExpr mode (first_of brackets)
     → read classes len (Begins before.Plain) brackets (text ++ rest) ≡ Ok b → read classes len mode brackets (text ++ rest) ≡ Ok b
 begins_as classes len mode e text rest brackets b h same next =
     let (token, others, whole, leading) = expr_led classes e text h in

@@ -32,7 +32,7 @@ pub record IsOne (classes : List Class) (s : Symbol) (tokens : List PlainToken) 
   pub is : Is classes s token
 
 -- one token, which is a constant of these items
-pub record IsConstant (classes : List Class) (items : PlainItems) (tokens : List PlainToken) : Type 0 where
+pub record IsConstantToken (classes : List Class) (items : PlainItems) (tokens : List PlainToken) : Type 0 where
   pub token : PlainToken
   pub alone : tokens ≡ token ∷ []
   pub is : Is classes symbol.Constant token
@@ -85,7 +85,7 @@ pub record InParentheses (classes : List Class) (inner text : List PlainToken) :
 -- these tokens are this expression; subscripts; subscripts behind the first, each after a semicolon
 abbrev mutual
   pub IsExpr : List Class → Expr → List PlainToken → Type 0
-  IsExpr classes (constant items) text = IsConstant classes items text
+  IsExpr classes (constant items) text = IsConstantToken classes items text
   IsExpr classes (value n) text = IsOne classes (symbol.Value n) text
   IsExpr classes (niladic n) text = IsOne classes (symbol.Niladic n) text
   IsExpr classes (paren e) text = (inner : List PlainToken) × InParentheses classes inner text × IsExpr classes e inner

@@ -17,10 +17,10 @@ use Rattle.line_trees.specs.declared.machine.Operand.{Operand}
 use Rattle.line_trees.specs.declared.machine.Operand.TheVariants as operand
 use Rattle.line_trees.specs.declared.machine.Mode.{Mode}
 use Rattle.line_trees.specs.declared.machine.Mode.TheVariants.{Begins, Ends, Jot, Factor}
-use Rattle.line_trees.specs.declared.machine.Bracket.{Bracket}
-use Rattle.line_trees.specs.declared.machine.Bracket.TheVariants as bracket
-use Rattle.line_trees.specs.declared.machine.Change.{Change}
-use Rattle.line_trees.specs.declared.machine.Change.TheVariants.{Keep, Open, Close}
+use Rattle.line_trees.specs.declared.machine.OpenBracket.{OpenBracket}
+use Rattle.line_trees.specs.declared.machine.OpenBracket.TheVariants as bracket
+use Rattle.line_trees.specs.declared.machine.NestingChange.{NestingChange}
+use Rattle.line_trees.specs.declared.machine.NestingChange.TheVariants.{Keep, Open, Close}
 use Rattle.line_trees.specs.declared.machine.Move.{Move}
 use Rattle.line_trees.specs.declared.refused.ParseRefused.{ParseRefused}
 use Rattle.line_trees.specs.declared.refused.ParseRefused.TheVariants.{SyntaxError, WantOfMemory}
@@ -42,7 +42,7 @@ abbrev pub goes : Mark → Mode → Option Move
 goes m mode = Some (record { mark = m; mode = mode; change = Keep })
 
 -- a move that opens a bracket
-abbrev pub opens : Mark → Mode → Bracket → Option Move
+abbrev pub opens : Mark → Mode → OpenBracket → Option Move
 opens m mode b = Some (record { mark = m; mode = mode; change = Open b })
 
 -- a move that closes the last bracket that was opened
@@ -92,7 +92,7 @@ begin_line (symbol.Value n) = goes mark.Name (Ends operand.First)
 begin_line s = begin_statement s
 
 -- what closes by ]
-abbrev pub close_bracket : Option Bracket → Option Move
+abbrev pub close_bracket : Option OpenBracket → Option Move
 close_bracket None = None
 close_bracket (Some bracket.Parenthesis) = None
 close_bracket (Some bracket.OfName) = closes mark.CloseSubscripts (Ends operand.Target)
@@ -100,7 +100,7 @@ close_bracket (Some bracket.OfOther) = closes mark.CloseSubscripts (Ends operand
 close_bracket (Some bracket.Axis) = closes mark.CloseAxis (Begins before.Plain)
 
 -- what closes by )
-abbrev pub close_parenthesis : Option Bracket → Option Move
+abbrev pub close_parenthesis : Option OpenBracket → Option Move
 close_parenthesis None = None
 close_parenthesis (Some bracket.Parenthesis) = closes mark.RightParenthesis (Ends operand.Other)
 close_parenthesis (Some bracket.OfName) = None
@@ -108,7 +108,7 @@ close_parenthesis (Some bracket.OfOther) = None
 close_parenthesis (Some bracket.Axis) = None
 
 -- ; stands between subscripts
-abbrev pub next_subscript : Option Bracket → Option Move
+abbrev pub next_subscript : Option OpenBracket → Option Move
 next_subscript None = None
 next_subscript (Some bracket.Parenthesis) = None
 next_subscript (Some bracket.OfName) = goes mark.Semicolon (Begins before.Subscript)
@@ -116,7 +116,7 @@ next_subscript (Some bracket.OfOther) = goes mark.Semicolon (Begins before.Subsc
 next_subscript (Some bracket.Axis) = None
 
 -- the first token of a subscript, which may be omitted
-abbrev pub begin_subscript : Option Bracket → Symbol → Option Move
+abbrev pub begin_subscript : Option OpenBracket → Symbol → Option Move
 begin_subscript top symbol.Semicolon = next_subscript top
 begin_subscript top symbol.RightBracket = close_bracket top
 begin_subscript top s = begin s
@@ -137,7 +137,7 @@ begin_lead m d (symbol.Slash fold) = if is_some d then goes mark.Slash (Begins b
 begin_lead m d s = if is_some m then begin s else None
 
 -- a token where an expression may begin
-abbrev pub begin_by : Before → Option Bracket → Symbol → Option Move
+abbrev pub begin_by : Before → Option OpenBracket → Symbol → Option Move
 begin_by before.Line top s = begin_line s
 begin_by before.Statement top s = begin_statement s
 begin_by before.Plain top s = begin s
@@ -173,7 +173,7 @@ scalar_move None = None
 scalar_move (Some d) = goes mark.Scalar (Begins before.Product)
 
 -- a token behind an operand
-abbrev pub go_on : Operand → Option Bracket → Symbol → Option Move
+abbrev pub go_on : Operand → Option OpenBracket → Symbol → Option Move
 go_on o top (symbol.Scalar m d) = scalar_move d
 go_on o top (symbol.Slash fold) = goes mark.Dyadic (Begins before.Axis)
 go_on o top (symbol.Function m d) = dyadic_move d
@@ -209,14 +209,14 @@ factor (symbol.Scalar m d) = factor_move d
 factor s = None
 
 -- what a token does, by what stands before it
-unfoldable pub step : Mode → Option Bracket → Symbol → Option Move
+unfoldable pub step : Mode → Option OpenBracket → Symbol → Option Move
 step (Begins b) top s = begin_by b top s
 step (Ends o) top s = go_on o top s
 step Jot top s = jot_dot s
 step Factor top s = factor s
 
 -- nothing is open
-abbrev pub none_open : Option Bracket → Bool
+abbrev pub none_open : Option OpenBracket → Bool
 none_open None = true
 none_open (Some b) = false
 
@@ -231,18 +231,18 @@ may_be_nothing before.Product = false
 may_be_nothing (before.Lead m d) = false
 
 -- the line may end here
-unfoldable pub may_end : Mode → Option Bracket → Bool
+unfoldable pub may_end : Mode → Option OpenBracket → Bool
 may_end (Begins b) top = may_be_nothing b
 may_end (Ends o) top = none_open top
 may_end Jot top = false
 may_end Factor top = false
 
 -- what is open after a change
-abbrev pub changed : Change → List Bracket → List Bracket
-changed Keep brackets = brackets
-changed (Open b) brackets = b ∷ brackets
-changed Close [] = []
-changed Close (b ∷ brackets) = brackets
+abbrev pub open_after : NestingChange → List OpenBracket → List OpenBracket
+open_after Keep brackets = brackets
+open_after (Open b) brackets = b ∷ brackets
+open_after Close [] = []
+open_after Close (b ∷ brackets) = brackets
 
 -- the marks of a line, or the place of an error
 abbrev pub Marked : Type 0
@@ -254,15 +254,15 @@ with_mark m (Ok marks) = Ok (m ∷ marks)
 with_mark m (Err at) = Err at
 
 -- a move and what follows it, or an error at this place
-abbrev pub marked_by : Option Move → ℕ → (Mode → Change → Marked) → Marked
+abbrev pub marked_by : Option Move → ℕ → (Mode → NestingChange → Marked) → Marked
 marked_by None at beyond = Err at
 marked_by (Some move) at beyond = with_mark move.mark (beyond move.mode move.change)
 
 -- the marks of tokens from a mode on and under what is open, in a line of this length
-unfoldable pub marks_from : List Class → ℕ → Mode → List Bracket → List PlainToken → Marked
+unfoldable pub marks_from : List Class → ℕ → Mode → List OpenBracket → List PlainToken → Marked
 marks_from classes length mode brackets [] = if may_end mode (first_of brackets) then Ok [] else Err length
 marks_from classes length mode brackets (token ∷ tokens) =
-    marked_by (step mode (first_of brackets) (symbol_of classes token.kind)) token.at (λ mode change. marks_from classes length mode (changed change brackets) tokens)
+    marked_by (step mode (first_of brackets) (symbol_of classes token.kind)) token.at (λ mode change. marks_from classes length mode (open_after change brackets) tokens)
 
 -- why the tokens of a line have no marks is its error, unless memory ran out
 abbrev pub IsMarkRefusal : ParseRefused → Marked → Type 0

@@ -32,7 +32,7 @@ pub struct Builder {
 }
 
 impl Builder {
-    /// Nothing has been read. No memory.
+    /// Nothing has been read.
     pub fn new(alloc: Global) -> Self
         ensures { plain_builder result ≡ nothing_built }
     {
@@ -350,7 +350,7 @@ impl Builder {
         }
     }
 
-    /// The tree, where all is read. No memory.
+    /// The tree, where all is read.
     pub fn into_tree(self) -> Tree
         ensures { plain_tree result ≡ tree_of (plain_builder self) }
     {

@@ -33,7 +33,7 @@ impl Model for Classes {
 }
 
 impl Classes {
-    /// No classes. No memory.
+    /// No classes.
     pub fn new(alloc: Global) -> Self
         ensures { result.items ≡ [] }
     {
@@ -42,7 +42,7 @@ impl Classes {
         }
     }
 
-    /// The classes, the names ascending. No memory.
+    /// The classes, the names ascending.
     pub fn as_slice(&self) -> &[Class]
         ensures items { result.now ≡ self.now.items }
         ensures ascending { NamesAscend result.now }
@@ -50,7 +50,7 @@ impl Classes {
         self.classes.as_slice()
     }
 
-    /// Whether the names of all the classes come before a name. No memory.
+    /// Whether the names of all the classes come before a name.
     pub fn come_before(&self, name: &Name) -> bool
         ensures { result ≡ come_before self.now.items name.now }
     {
@@ -60,7 +60,7 @@ impl Classes {
         }
     }
 
-    /// The classes as a `Vec`, the names ascending. No memory.
+    /// The classes as a `Vec`, the names ascending.
     pub fn into_vec(self) -> Vec<Class>
         ensures value { result.items ≡ self.items }
         ensures ascending { NamesAscend result.items }
@@ -92,8 +92,7 @@ impl Classes {
         self.classes.push(class)
     }
 
-    /// How many arguments the function of this name takes, or `None` where it is no function. A search by halves. No
-    /// memory.
+    /// How many arguments the function of this name takes, or `None` where it is no function. A search by halves.
     pub fn arguments_of(&self, name: &Name) -> Option<u8>
         ensures { result ≡ arguments_of self.now.items name.now }
     {

@@ -50,7 +50,7 @@ pub enum Mode {
 
 /// What is open.
 #[derive(Clone, Copy, Debug, PartialEq, Eq)]
-pub enum Bracket {
+pub enum OpenBracket {
     Parenthesis,
     /// Subscripts of a name of which nothing else stands yet.
     OfName,
@@ -61,9 +61,9 @@ pub enum Bracket {
 
 /// How what is open changes.
 #[derive(Clone, Copy, Debug, PartialEq, Eq)]
-pub enum Change {
+pub enum NestingChange {
     Keep,
-    Open(Bracket),
+    Open(OpenBracket),
     Close,
 }
 
@@ -72,7 +72,7 @@ pub enum Change {
 pub struct Move {
     pub mark: Mark,
     pub mode: Mode,
-    pub change: Change,
+    pub change: NestingChange,
 }
 
 fn takes_axis(function: Fun) -> bool
@@ -100,17 +100,17 @@ fn goes(mark: Mark, mode: Mode) -> Option<Move>
     Some(Move {
         mark,
         mode,
-        change: Change::Keep,
+        change: NestingChange::Keep,
     })
 }
 
-fn opens(mark: Mark, mode: Mode, bracket: Bracket) -> Option<Move>
+fn opens(mark: Mark, mode: Mode, bracket: OpenBracket) -> Option<Move>
     ensures { result ≡ opens mark mode bracket }
 {
     Some(Move {
         mark,
         mode,
-        change: Change::Open(bracket),
+        change: NestingChange::Open(bracket),
     })
 }
 
@@ -120,7 +120,7 @@ fn closes(mark: Mark, mode: Mode) -> Option<Move>
     Some(Move {
         mark,
         mode,
-        change: Change::Close,
+        change: NestingChange::Close,
     })
 }
 
@@ -150,7 +150,7 @@ fn begin(symbol: Symbol) -> Option<Move>
         Symbol::LeftParenthesis => opens(
             Mark::LeftParenthesis,
             Mode::Begins(Before::Plain),
-            Bracket::Parenthesis,
+            OpenBracket::Parenthesis,
         ),
         _ => None,
     }
@@ -175,38 +175,38 @@ fn begin_line(symbol: Symbol) -> Option<Move>
     }
 }
 
-fn close_bracket(top: Option<Bracket>) -> Option<Move>
+fn close_bracket(top: Option<OpenBracket>) -> Option<Move>
     ensures { result ≡ close_bracket top }
 {
     match top? {
-        Bracket::Parenthesis => None,
-        Bracket::OfName => closes(Mark::CloseSubscripts, Mode::Ends(Operand::Target)),
-        Bracket::OfOther => closes(Mark::CloseSubscripts, Mode::Ends(Operand::Other)),
-        Bracket::Axis => closes(Mark::CloseAxis, Mode::Begins(Before::Plain)),
+        OpenBracket::Parenthesis => None,
+        OpenBracket::OfName => closes(Mark::CloseSubscripts, Mode::Ends(Operand::Target)),
+        OpenBracket::OfOther => closes(Mark::CloseSubscripts, Mode::Ends(Operand::Other)),
+        OpenBracket::Axis => closes(Mark::CloseAxis, Mode::Begins(Before::Plain)),
     }
 }
 
-fn close_parenthesis(top: Option<Bracket>) -> Option<Move>
+fn close_parenthesis(top: Option<OpenBracket>) -> Option<Move>
     ensures { result ≡ close_parenthesis top }
 {
     match top? {
-        Bracket::Parenthesis => closes(Mark::RightParenthesis, Mode::Ends(Operand::Other)),
-        Bracket::OfName | Bracket::OfOther | Bracket::Axis => None,
+        OpenBracket::Parenthesis => closes(Mark::RightParenthesis, Mode::Ends(Operand::Other)),
+        OpenBracket::OfName | OpenBracket::OfOther | OpenBracket::Axis => None,
     }
 }
 
-fn next_subscript(top: Option<Bracket>) -> Option<Move>
+fn next_subscript(top: Option<OpenBracket>) -> Option<Move>
     ensures { result ≡ next_subscript top }
 {
     match top? {
-        Bracket::OfName | Bracket::OfOther => {
+        OpenBracket::OfName | OpenBracket::OfOther => {
             goes(Mark::Semicolon, Mode::Begins(Before::Subscript))
         }
-        Bracket::Parenthesis | Bracket::Axis => None,
+        OpenBracket::Parenthesis | OpenBracket::Axis => None,
     }
 }
 
-fn begin_subscript(top: Option<Bracket>, symbol: Symbol) -> Option<Move>
+fn begin_subscript(top: Option<OpenBracket>, symbol: Symbol) -> Option<Move>
     ensures { result ≡ begin_subscript top symbol }
 {
     match symbol {
@@ -220,7 +220,11 @@ fn begin_axis(symbol: Symbol) -> Option<Move>
     ensures { result ≡ begin_axis symbol }
 {
     match symbol {
-        Symbol::LeftBracket => opens(Mark::OpenAxis, Mode::Begins(Before::Plain), Bracket::Axis),
+        Symbol::LeftBracket => opens(
+            Mark::OpenAxis,
+            Mode::Begins(Before::Plain),
+            OpenBracket::Axis,
+        ),
         other => begin(other),
     }
 }
@@ -245,7 +249,7 @@ fn begin_lead(monad: Option<Monad>, dyad: Option<Dyad>, symbol: Symbol) -> Optio
     }
 }
 
-fn begin_by(before: Before, top: Option<Bracket>, symbol: Symbol) -> Option<Move>
+fn begin_by(before: Before, top: Option<OpenBracket>, symbol: Symbol) -> Option<Move>
     ensures { result ≡ begin_by before top symbol }
 {
     match before {
@@ -284,7 +288,7 @@ fn scalar_move(dyad: Option<Dyad>) -> Option<Move>
     goes(Mark::Scalar, Mode::Begins(Before::Product))
 }
 
-fn go_on(operand: Operand, top: Option<Bracket>, symbol: Symbol) -> Option<Move>
+fn go_on(operand: Operand, top: Option<OpenBracket>, symbol: Symbol) -> Option<Move>
     ensures { result ≡ go_on operand top symbol }
 {
     match symbol {
@@ -294,9 +298,9 @@ fn go_on(operand: Operand, top: Option<Bracket>, symbol: Symbol) -> Option<Move>
         Symbol::Jot => goes(Mark::Jot, Mode::Jot),
         Symbol::LeftBracket => {
             let bracket = if is_bare_name(operand) {
-                Bracket::OfName
+                OpenBracket::OfName
             } else {
-                Bracket::OfOther
+                OpenBracket::OfOther
             };
             opens(
                 Mark::OpenSubscripts,
@@ -341,7 +345,7 @@ fn factor(symbol: Symbol) -> Option<Move>
 /// What a token does, by what stands before it and by the bracket that was opened last, or `None` where no line goes on
 /// with it.
 #[tactic(auto, unfolding(crate::specs::Marks::step))]
-pub fn step(mode: Mode, top: Option<Bracket>, symbol: Symbol) -> Option<Move>
+pub fn step(mode: Mode, top: Option<OpenBracket>, symbol: Symbol) -> Option<Move>
     ensures { result ≡ step mode top symbol }
 {
     match mode {
@@ -360,7 +364,7 @@ fn may_be_nothing(before: Before) -> bool
 
 /// Whether the line may end.
 #[tactic(auto, unfolding(crate::specs::Marks::may_end))]
-pub fn may_end(mode: Mode, top: Option<Bracket>) -> bool
+pub fn may_end(mode: Mode, top: Option<OpenBracket>) -> bool
     ensures { result ≡ may_end mode top }
 {
     match mode {

@@ -1,10 +1,10 @@
 ghost use Rattle.std.specs.Prelude.{◌≡◌, Ok, Err, [], ◌∷◌, ◌++◌, IfOk, IfErr, OnOk, List};
 ghost use Rattle.line_scanner.specs.Token.{plain_kind, plain_token};
-ghost use Rattle.line_trees.specs.Marks.{marks_from, changed, step};
+ghost use Rattle.line_trees.specs.Marks.{marks_from, open_after, step};
 ghost use Rattle.line_trees.specs.Symbols.{symbol_of};
 ghost use Rattle.line_trees.specs.Marks.{IsMarkRefusal};
 
-use crate::machine::{Before, Bracket, Change, Mode, Move, may_end, step};
+use crate::machine::{Before, Mode, Move, NestingChange, OpenBracket, may_end, step};
 use crate::stack::Stack;
 use crate::symbol::{Symbol, name_symbol, sign_symbol, system_symbol};
 use crate::tree::Mark;
@@ -14,13 +14,13 @@ use line_scanner::{TokenKind, Tokens};
 use smallvec::SmallVec;
 use std::alloc::Global;
 
-fn make_change(brackets: &mut Stack<Bracket>, change: Change) -> Result<(), WantOfMemory>
-    ensures { OnOk result (brackets.new ≡ changed change brackets.old) }
+fn make_change(brackets: &mut Stack<OpenBracket>, change: NestingChange) -> Result<(), WantOfMemory>
+    ensures { OnOk result (brackets.new ≡ open_after change brackets.old) }
 {
     match change {
-        Change::Keep => Ok(()),
-        Change::Open(bracket) => brackets.push(bracket),
-        Change::Close => {
+        NestingChange::Keep => Ok(()),
+        NestingChange::Open(bracket) => brackets.push(bracket),
+        NestingChange::Close => {
             brackets.pop();
             Ok(())
         }
@@ -28,7 +28,12 @@ fn make_change(brackets: &mut Stack<Bracket>, change: Change) -> Result<(), Want
 }
 
 /// What a token of this kind does.
-fn step_of(classes: &Classes, mode: Mode, top: Option<Bracket>, kind: &TokenKind) -> Option<Move>
+fn step_of(
+    classes: &Classes,
+    mode: Mode,
+    top: Option<OpenBracket>,
+    kind: &TokenKind,
+) -> Option<Move>
     ensures { result ≡ step mode top (symbol_of classes.now.items (plain_kind kind.now)) }
 {
     match kind {

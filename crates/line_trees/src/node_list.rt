@@ -23,7 +23,7 @@ impl Model for NodeList {
 }
 
 impl NodeList {
-    /// No nodes. No memory.
+    /// No nodes.
     pub fn new(alloc: Global) -> Self
         ensures { result.items ≡ [] }
     {
@@ -32,14 +32,14 @@ impl NodeList {
         }
     }
 
-    /// The nodes, in order. No memory.
+    /// The nodes, in order.
     pub fn as_slice(&self) -> &[Node]
         ensures { map plain_node result.now ≡ self.now.items }
     {
         self.nodes.as_slice()
     }
 
-    /// The nodes as a `Vec`. No memory.
+    /// The nodes as a `Vec`.
     pub fn into_vec(self) -> Vec<Node>
         ensures { map plain_node result.items ≡ self.items }
     {
@@ -57,7 +57,7 @@ impl NodeList {
         self.nodes.reserve(room)
     }
 
-    /// How many nodes there are. No memory.
+    /// How many nodes there are.
     pub fn len(&self) -> usize
         ensures { result ≡ length self.now.items }
     {

@@ -22,7 +22,7 @@ impl Model for PlaceStack {
 }
 
 impl PlaceStack {
-    /// No lists. No memory.
+    /// No lists.
     pub fn new(alloc: Global) -> Self
         ensures { result ≡ [] }
     {
@@ -31,7 +31,7 @@ impl PlaceStack {
         }
     }
 
-    /// Takes the last list off; where there is none it is an empty list. No memory.
+    /// Takes the last list off; where there is none it is an empty list.
     pub fn pop(&mut self, alloc: Global) -> Places
         ensures list { result.items ≡ first_list self.old }
         ensures rest { self.new ≡ other_lists self.old }

@@ -25,7 +25,7 @@ impl<T> Model for Stack<T> {
 }
 
 impl<T> Stack<T> {
-    /// An empty stack. No memory.
+    /// An empty stack.
     pub fn new(alloc: Global) -> Self
         ensures { result ≡ [] }
     {
@@ -35,7 +35,7 @@ impl<T> Stack<T> {
         }
     }
 
-    /// The last item. No memory.
+    /// The last item.
     pub fn top(&self) -> Option<T>
     where
         T: Copy,
@@ -44,7 +44,7 @@ impl<T> Stack<T> {
         self.top
     }
 
-    /// Takes the last item off. No memory.
+    /// Takes the last item off.
     pub fn pop(&mut self) -> Option<T>
         ensures top { result ≡ first_of self.old }
         ensures rest { self.new ≡ others_of self.old }

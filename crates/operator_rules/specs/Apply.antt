@@ -7,7 +7,7 @@ use Rattle.apl_verbs.specs.declared.verb.Mix2.TheVariants as two
 use Rattle.apl_verbs.specs.declared.verb.Verb.{Verb}
 use Rattle.apl_verbs.specs.declared.verb.Verb.TheVariants.{One, Two, Mixed1, Mixed2, Reduce, Scan, Inner, Outer}
 use Rattle.apl_arrays.specs.Array.{PlainArray}
-use Rattle.apl_items.specs.Answers.{Answer}
+use Rattle.apl_items.specs.Answers.{ArrayResult}
 use Rattle.apl_display.specs.Format.{format_of}
 use Rattle.operator_rules.specs.Inner.{inner_product_of}
 use Rattle.operator_rules.specs.Outer.{outer_product_of}
@@ -47,7 +47,7 @@ wants_memory_first (Inner f g) = false
 wants_memory_first (Outer f) = false
 
 -- what a mixed function gives of one argument
-abbrev pub mixed_monadic_of : Mix1 → PlainArray → Option ℤ → Answer
+abbrev pub mixed_monadic_of : Mix1 → PlainArray → Option ℤ → ArrayResult
 mixed_monadic_of one.Shape b axis = shape_of b
 mixed_monadic_of one.Iota b axis = iota_of b
 mixed_monadic_of one.Ravel b axis = ravel_of b
@@ -58,7 +58,7 @@ mixed_monadic_of one.GradeDown b axis = grade_of falling b
 mixed_monadic_of one.Format b axis = format_of b
 
 -- what a mixed function gives of two
-abbrev pub mixed_dyadic_of : Mix2 → PlainArray → PlainArray → Option ℤ → Answer
+abbrev pub mixed_dyadic_of : Mix2 → PlainArray → PlainArray → Option ℤ → ArrayResult
 mixed_dyadic_of two.Reshape a b axis = reshape_of a b
 mixed_dyadic_of two.Catenate a b axis = catenate_of a b axis
 mixed_dyadic_of two.Take a b axis = take_of a b
@@ -73,12 +73,12 @@ mixed_dyadic_of two.Encode a b axis = encode_of a b
 mixed_dyadic_of two.Decode a b axis = decode_of a b
 
 -- what is given of a left argument; a dyadic function has one
-abbrev pub of_left : Option PlainArray → (PlainArray → Answer) → Answer
+abbrev pub of_left : Option PlainArray → (PlainArray → ArrayResult) → ArrayResult
 of_left None rule = Err Syntax
 of_left (Some a) rule = rule a
 
 -- what a function, or an operator with its operands, gives of its arguments
-abbrev pub applied : Verb → Option PlainArray → PlainArray → Option ℤ → Answer
+abbrev pub applied : Verb → Option PlainArray → PlainArray → Option ℤ → ArrayResult
 applied (One f) left b axis = monadic_of f b
 applied (Two f) left b axis = of_left left (λ a. dyadic_of f a b)
 applied (Mixed1 f) left b axis = mixed_monadic_of f b axis

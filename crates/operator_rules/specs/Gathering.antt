@@ -2,13 +2,13 @@ use Rattle.std.specs.Prelude.{◌&&◌, ℕ, ℤ, Bool, List, Option, Some, None
 use Rattle.apl_arrays.specs.declared.items.Item.{Item}
 use Rattle.apl_arrays.specs.declared.items.Item.TheVariants.{Number, Char}
 use Rattle.apl_arrays.specs.Array.{PlainItems, numbers, chars, element_count}
-use Rattle.apl_items.specs.Answers.{Answer, answer_of, shape_faults}
+use Rattle.apl_items.specs.Answers.{ArrayResult, answer_of, shape_faults}
 use Rattle.apl_items.specs.Places.{items_by, lacks_item, number_faults, numbers_by}
 
 -- ---- numbers
 
 -- the array of the numbers that a rule gives, or what is wrong with it: DOMAIN where one is lacking
-abbrev pub numbers_answer : List ℕ → (ℕ → Option ℤ) → Answer
+abbrev pub numbers_answer : List ℕ → (ℕ → Option ℤ) → ArrayResult
 numbers_answer shape rule = answer_of (number_faults shape rule) (numbers_by shape rule)
 
 -- ---- items of either kind
@@ -41,7 +41,7 @@ gathered_items count rule =
     else numbers (items_by count (λ place. number_in (rule place)))
 
 -- the array of the items that a rule gives; DOMAIN where one is lacking, or where they are of both kinds
-abbrev pub gathered : List ℕ → (ℕ → Option Item) → Answer
+abbrev pub gathered : List ℕ → (ℕ → Option Item) → ArrayResult
 gathered shape rule =
     let count = element_count shape in
     answer_of (record (shape_faults shape) { bad_domain = lacks_number count rule && lacks_char count rule }) (record { shape = shape; items = gathered_items count rule })

@@ -1,7 +1,7 @@
 use Rattle.std.specs.Prelude.{◌+◌, ◌*◌, ◌-◌, ◌/◌, ◌%◌, ◌==◌, ◌&&◌, ◌++◌, ℕ, ℤ, Bool, not, List, Option, drop, length, slice_index_or, take, if◌then◌else◌}
 use Rattle.apl_verbs.specs.declared.verb.Dyad.{Dyad}
 use Rattle.apl_arrays.specs.Array.{PlainArray, PlainItems, element_count}
-use Rattle.apl_items.specs.Answers.{Answer, answer_of}
+use Rattle.apl_items.specs.Answers.{ArrayResult, answer_of}
 use Rattle.apl_items.specs.Extension.{are_whole, is_single, item_at}
 use Rattle.apl_items.specs.Places.{number_faults, numbers_by}
 use Rattle.apl_scalar.specs.Table.{dyadic_item, pair_item, row_of_dyad}
@@ -37,7 +37,7 @@ abbrev pub inner_at : Dyad → Dyad → PlainItems → PlainItems → ℕ → �
 inner_at f g a b count columns place = reduction_of (dyadic_item f) (row_of_dyad f).identity (pair_at g a b count columns place) count
 
 -- each row of A with each column of B; the shape is that of A without its last axis, then that of B without its first
-abbrev pub inner_product_of : Dyad → Dyad → PlainArray → PlainArray → Answer
+abbrev pub inner_product_of : Dyad → Dyad → PlainArray → PlainArray → ArrayResult
 inner_product_of f g a b =
     let shape = front a.shape ++ drop 1 b.shape in
     let rule = inner_at f g a.items b.items (paired a b) (element_count (drop 1 b.shape)) in

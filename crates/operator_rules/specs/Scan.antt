@@ -5,7 +5,7 @@ use Rattle.apl_verbs.specs.declared.verb.Dyad.{Dyad}
 use Rattle.apl_arrays.specs.declared.way.Way.{Way}
 use Rattle.apl_arrays.specs.Array.{PlainArray, PlainItems, element_count}
 use Rattle.apl_items.specs.declared.shapes.Split.{Split}
-use Rattle.apl_items.specs.Answers.{Answer}
+use Rattle.apl_items.specs.Answers.{ArrayResult}
 use Rattle.apl_items.specs.Shapes.{along_of, inner_of, outer_of, place_along, split_at}
 use Rattle.apl_items.specs.Axis.{axis_of, lacks_axis}
 use Rattle.operator_rules.specs.Gathering.{gathered}
@@ -20,11 +20,11 @@ abbrev pub scanned_at : Dyad → PlainItems → Split → ℕ → Option Item
 scanned_at f items split place = reduction (joined_by f) (item_beside items split place) 0 (along_of split place)
 
 -- the scan along an axis, place by place
-abbrev pub scanned : Dyad → PlainArray → ℕ → Answer
+abbrev pub scanned : Dyad → PlainArray → ℕ → ArrayResult
 scanned f b axis = gathered b.shape (scanned_at f b.items (split_at b.shape axis))
 
 -- the scan of B along the last axis, the first or K; a scalar, and an array without items, is unchanged
-abbrev pub scan_of : Dyad → PlainArray → Way → Option ℤ → Answer
+abbrev pub scan_of : Dyad → PlainArray → Way → Option ℤ → ArrayResult
 scan_of f b way axis =
     let rank = length b.shape in
     if lacks_axis rank axis then Err Index

@@ -8,7 +8,7 @@ pub struct Finding {
 }
 
 impl Finding {
-    /// What is wanted at a place. No memory.
+    /// What is wanted at a place.
     pub fn new(at: usize, wanted: &'static str) -> Finding
         ensures { result.at ≡ at }
     {

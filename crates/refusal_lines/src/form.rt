@@ -2,7 +2,7 @@ ghost use Rattle.std.specs.Prelude.{◌≡◌, ◌≤◌, length};
 
 use crate::finding::Finding;
 use crate::heading::{LineSort, first_word, sort_of};
-use crate::number::{Numbers, numbers_finding, user_finding};
+use crate::number::{HeadingNumbers, numbers_finding, user_finding};
 use apl_arrays::FILE_NAME_LIMIT;
 
 const EMPTY: &str =
@@ -94,15 +94,15 @@ fn word_finding(line: &[u8]) -> Finding
     Finding::new(0, wanted)
 }
 
-/// What is wrong in a line that is neither a heading nor a line of input. No memory.
+/// What is wrong in a line that is neither a heading nor a line of input.
 pub fn form_finding(line: &[u8]) -> Finding
     ensures { result.at ≤ length line.now }
 {
     match sort_of(line) {
         LineSort::User => user_finding(line),
-        LineSort::Order => numbers_finding(line, 6, Numbers::Turns),
+        LineSort::Order => numbers_finding(line, 6, HeadingNumbers::Turns),
         LineSort::File => file_finding(line),
-        LineSort::Clock => numbers_finding(line, 6, Numbers::Readings),
+        LineSort::Clock => numbers_finding(line, 6, HeadingNumbers::Readings),
         LineSort::End => Finding::new(line.len().min(3), BEHIND_END),
         LineSort::Input => Finding::new(0, OTHER),
         LineSort::Other => word_finding(line),

@@ -49,7 +49,7 @@ fn text_reason(bytes: &[u8]) -> GlyphReason {
     }
 }
 
-/// Why bytes begin no glyph. No memory.
+/// Why bytes begin no glyph.
 pub fn glyph_reason(bytes: &[u8]) -> GlyphReason
     ensures tab { (rest : List ℕ) → bytes.now ≡ 9 ∷ rest → result ≡ GlyphReason.Tab }
     ensures carriage_return { (rest : List ℕ) → bytes.now ≡ 13 ∷ rest → result ≡ GlyphReason.CarriageReturn }

@@ -21,7 +21,7 @@ pub enum LineSort {
     Other,
 }
 
-/// The text up to the first blank, and what stands behind that blank; or `None` where there is no blank. No memory.
+/// The text up to the first blank, and what stands behind that blank; or `None` where there is no blank.
 pub fn cut_word(text: &[u8]) -> Option<(&[u8], &[u8])>
     ensures { IfSome result (λ found. length found.0.now + 1 + length found.1.now ≡ length text.now) }
 {
@@ -29,7 +29,7 @@ pub fn cut_word(text: &[u8]) -> Option<(&[u8], &[u8])>
     Some((&text[..place], &text[place + 1..]))
 }
 
-/// The text up to the first blank, or all of it. No memory.
+/// The text up to the first blank, or all of it.
 pub fn first_word(text: &[u8]) -> &[u8]
     ensures { length result.now ≤ length text.now }
 {
@@ -39,7 +39,7 @@ pub fn first_word(text: &[u8]) -> &[u8]
     }
 }
 
-/// What a line begins with. No memory.
+/// What a line begins with.
 pub fn sort_of(line: &[u8]) -> LineSort {
     if line.starts_with(b"|") {
         return LineSort::Input;
@@ -54,7 +54,7 @@ pub fn sort_of(line: &[u8]) -> LineSort {
     }
 }
 
-/// What the last of these lines begins with that is no line of input, or `None` where all are. No memory.
+/// What the last of these lines begins with that is no line of input, or `None` where all are.
 pub fn last_sort(lines: &[u8]) -> Option<LineSort> {
     let mut last = None;
     let mut rest = lines;

@@ -64,7 +64,7 @@ fn narrow(character: char) -> Option<char> {
     }
 }
 
-/// Whether a character looks like a blank, or like nothing, and is no blank. No memory.
+/// Whether a character looks like a blank, or like nothing, and is no blank.
 pub fn looks_blank(character: char) -> bool {
     matches!(
         character,
@@ -77,7 +77,7 @@ pub fn looks_blank(character: char) -> bool {
     )
 }
 
-/// The glyph that a character looks like and is not, if there is one. No memory.
+/// The glyph that a character looks like and is not, if there is one.
 pub fn glyph_like(character: char) -> Option<char> {
     for group in LIKENESSES.split(' ') {
         if let Some(glyph) = glyph_of_group(group, character) {

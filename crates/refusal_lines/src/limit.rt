@@ -44,7 +44,7 @@ fn input_finding(line: &[u8]) -> Finding
     }
 }
 
-/// What is wrong in a line with which a limit is passed. No memory.
+/// What is wrong in a line with which a limit is passed.
 pub fn limit_finding(line: &[u8]) -> Finding
     ensures { result.at ≤ length line.now }
 {

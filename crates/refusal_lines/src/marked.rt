@@ -37,8 +37,8 @@ fn line_at(bytes: &[u8], offset: usize) -> (&[u8], usize)
     (rest, offset - (bytes.len() - rest.len()))
 }
 
-/// The line in which an offset is, which is one of the bytes or their end. A line feed belongs to the line that it ends. No
-/// memory.
+/// The line in which an offset is, which is one of the bytes or their end. A line feed belongs to the line that it
+/// ends.
 pub fn marked_line(bytes: &[u8], offset: usize) -> MarkedLine<'_>
     requires { offset ≤ length bytes.now }
     ensures number { result.number ≡ count_by (λ byte. byte == line_feed) (take offset bytes.now) + 1 }

@@ -29,7 +29,7 @@ const BEGIN: usize = 5;
 
 /// What the numbers of a heading are.
 #[derive(Clone, Copy, Debug, PartialEq, Eq)]
-pub enum Numbers {
+pub enum HeadingNumbers {
     /// The parties of turns.
     Turns,
     /// Readings of the clock.
@@ -61,16 +61,16 @@ fn word_fault(word: &[u8]) -> Option<&'static str> {
 }
 
 // What is wrong in a word that is to be such a number.
-fn number_fault(word: &[u8], numbers: Numbers) -> Option<&'static str> {
+fn number_fault(word: &[u8], numbers: HeadingNumbers) -> Option<&'static str> {
     match word_fault(word) {
         Some(wanted) => Some(wanted),
-        None if numbers == Numbers::Readings && is_large(word) => Some(LARGE_READING),
+        None if numbers == HeadingNumbers::Readings && is_large(word) => Some(LARGE_READING),
         None => None,
     }
 }
 
 // What is wrong in a word behind which another stands.
-fn inner_fault(word: &[u8], numbers: Numbers) -> Option<&'static str> {
+fn inner_fault(word: &[u8], numbers: HeadingNumbers) -> Option<&'static str> {
     if word.is_empty() {
         Some(TWO_BLANKS)
     } else {
@@ -79,7 +79,7 @@ fn inner_fault(word: &[u8], numbers: Numbers) -> Option<&'static str> {
 }
 
 // What is wrong in the last word.
-fn last_fault(word: &[u8], numbers: Numbers) -> &'static str {
+fn last_fault(word: &[u8], numbers: HeadingNumbers) -> &'static str {
     if word.is_empty() {
         LAST_BLANK
     } else {
@@ -87,8 +87,8 @@ fn last_fault(word: &[u8], numbers: Numbers) -> &'static str {
     }
 }
 
-/// What is wrong in a heading of numbers, where the first of them is to stand behind so many bytes. No memory.
-pub fn numbers_finding(line: &[u8], begin: usize, numbers: Numbers) -> Finding
+/// What is wrong in a heading of numbers, where the first of them is to stand behind so many bytes.
+pub fn numbers_finding(line: &[u8], begin: usize, numbers: HeadingNumbers) -> Finding
     ensures { result.at ≤ length line.now }
 {
     if line.len() <= begin {
@@ -104,7 +104,7 @@ pub fn numbers_finding(line: &[u8], begin: usize, numbers: Numbers) -> Finding
     Finding::new(line.len() - rest.len(), last_fault(rest, numbers))
 }
 
-/// What is wrong in the heading of a user. No memory.
+/// What is wrong in the heading of a user.
 pub fn user_finding(line: &[u8]) -> Finding
     ensures { result.at ≤ length line.now }
 {

@@ -48,7 +48,7 @@ fn file_finding(line: &[u8], last: LineSort) -> Finding
     }
 }
 
-/// What is wrong in a line that may not stand where it does: behind a heading that begins so, or behind none. No memory.
+/// What is wrong in a line that may not stand where it does: behind a heading that begins so, or behind none.
 pub fn place_finding(line: &[u8], last: Option<LineSort>) -> Finding
     ensures { result.at ≤ length line.now }
 {

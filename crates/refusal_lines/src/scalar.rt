@@ -10,7 +10,7 @@ fn char_of(bytes: &[u8]) -> Option<char> {
     }
 }
 
-/// The character whose UTF-8 stands in front, and how many bytes that has; or `None` where none does. No memory.
+/// The character whose UTF-8 stands in front, and how many bytes that has; or `None` where none does.
 pub fn first_char(bytes: &[u8]) -> Option<(char, usize)>
     ensures { IfSome result (λ found. (0 < found.1) × (found.1 ≤ length bytes.now)) }
 {

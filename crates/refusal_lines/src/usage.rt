@@ -1,4 +1,4 @@
-/// Lines for a person whose words have no meaning: the words that there are, and what each does. No memory.
+/// Lines for a person whose words have no meaning: the words that there are, and what each does.
 pub fn usage_lines() -> &'static str {
     "\
 The program reads a bundle from standard input and writes transcripts and the journal to standard output. Its words:

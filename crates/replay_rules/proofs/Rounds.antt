@@ -3,7 +3,7 @@ use Rattle.std.proofs.Common.{◌≡◌, ℕ, zero, suc, ◌≤◌, ◌<◌, ◌
 use Rattle.std.proofs.lemmas.Bool.{leb-true, leb-false}
 use Rattle.std.specs.Prelude.{if◌then◌else◌}
 use Rattle.replay_rules.specs.TurnLaws.{TurnsMakeOneJournal, replayed}
-use Rattle.replay_rules.specs.Turns.{Replay, goes_on, ordered, beginning, round, rounds}
+use Rattle.replay_rules.specs.Turns.{Replay, some_user_stays, ordered, beginning, round, rounds}
 
 -- one number is at most another, or it is the one behind that
 up_to : (n m : ℕ) → n ≤ suc m → (n ≤ m) ⊎ (n ≡ suc m)
@@ -13,16 +13,16 @@ up_to n m le = by (leb n m) refl where
   by false e = inr (let more : m < n = leb-false n m e in omega arith)
 
 -- one round more
-one_more : (count : ℕ) (replay : Replay) → goes_on (rounds count replay) ≡ false → rounds (suc count) replay ≡ rounds count replay
+one_more : (count : ℕ) (replay : Replay) → some_user_stays (rounds count replay) ≡ false → rounds (suc count) replay ≡ rounds count replay
 one_more count replay over = ap (λ (goes : Bool). if goes then round (rounds count replay) else rounds count replay) over
 
 -- nor do so many
-pub stays : (m n : ℕ) (replay : Replay) → n ≤ m → goes_on (rounds n replay) ≡ false → rounds m replay ≡ rounds n replay
+pub stays : (m n : ℕ) (replay : Replay) → n ≤ m → some_user_stays (rounds n replay) ≡ false → rounds m replay ≡ rounds n replay
 stays zero n replay le over = ap (λ count. rounds count replay) (let none : zero ≡ n = omega arith in none)
 stays (suc m) n replay le over = elim (up_to n m le) [
   | inl before ↦
       let same : rounds m replay ≡ rounds n replay = stays m n replay before over in
-      one_more m replay (ap goes_on same ∙ over) ∙ same
+      one_more m replay (ap some_user_stays same ∙ over) ∙ same
   | inr there ↦ ap (λ count. rounds count replay) (sym there)
 ]
 

@@ -11,7 +11,7 @@ use Rattle.auxiliaries.specs.Run.{Event, began, answered}
 use Rattle.sv_access.specs.Access.{is_set}
 use Rattle.sv_access.specs.declared.access.Kind.{Kind}
 use Rattle.sv_access.specs.declared.access.Kind.TheVariants as kind
-use Rattle.sv_core.specs.Due.{command_of, customer_of, is_reply, is_service, partner_at}
+use Rattle.sv_core.specs.Due.{request_due, customer_of, is_reply, is_service, partner_at}
 use Rattle.sv_events.specs.Entry.{PlainEntry}
 use Rattle.sv_events.specs.Row.{act_row}
 use Rattle.sv_events.specs.Work.{act_of, all_controlled}
@@ -35,7 +35,7 @@ use Rattle.sv_story_laws.specs.StoryLaws.{IsAccessTo}
 use Rattle.sv_story_laws.proofs.AccessLemmas.{IsAccessOn-from_access}
 use Rattle.sv_story_laws.proofs.AuxiliaryLemmas.{untried}
 use Rattle.sv_story_laws.proofs.WorkLemmas.{first_coupled_is_lowest}
-use Rattle.session_rules.specs.Auxiliaries.{event_of, events_of, is_use_on, partner_of, partner_on, reply_to, uses, value_used}
+use Rattle.session_rules.specs.Auxiliaries.{event_of, events_of, is_use_on, partner_of, partner_on, reply_to, is_use_of, value_used}
 use Rattle.replay_rules.specs.ServingLaws.{AuxiliariesServeTheirWork, ControlsBegin, OtherWorkTellsNothing, RepliesAnswer}
 use Rattle.replay_rules.specs.Turns.{served, served_by, serving}
 
@@ -89,14 +89,14 @@ not_after users journal legal place coupling now =
     elim is.here [ inl low ↦ omega (arith, low, made, lower) | inr high ↦ omega (arith, high, made) ]
 
 -- an entry that does not try to access the offer is no use of its name
-unused : (offer : Standing) (e : PlainEntry) → tries offer e ≡ false → uses offer.party offer.local e ≡ false
+unused : (offer : Standing) (e : PlainEntry) → tries offer e ≡ false → is_use_of offer.party offer.local e ≡ false
 unused offer e h = by (eqb e.party offer.party) refl
   where
     none : (access : Option Accessing) → option_map_or (λ a. same_name a.local offer.local) access false ≡ false → option_map_or (is_use_on offer.local) access false ≡ false
     none None k = refl
     none (Some a) k = and_right (not (is_set a.kind)) (same_name a.local offer.local) k
 
-    by : (b : Bool) → eqb e.party offer.party ≡ b → uses offer.party offer.local e ≡ false
+    by : (b : Bool) → eqb e.party offer.party ≡ b → is_use_of offer.party offer.local e ≡ false
     by true own = rw own (none (act_row e.act).row.accesses (rw own at h))
     by false others = rw others refl
 
@@ -109,7 +109,7 @@ used_now journal offer e gets = by (access_on offer e) refl gets
     as_use kind.Use v is own on =
         let named : option_map_or (is_use_on offer.local) (act_row e.act).row.accesses false ≡ true =
         ap (λ (a : Act). option_map_or (is_use_on offer.local) (act_row a).row.accesses false) on.0 ∙ nat_list_eq_equiv.refl offer.local in
-        ap (λ (b : Bool). option_and_then (λ (f : PlainEntry). value_got f.answer) (cond b (Some e) (find (uses offer.party offer.local) journal)))
+        ap (λ (b : Bool). option_and_then (λ (f : PlainEntry). value_got f.answer) (cond b (Some e) (find (is_use_of offer.party offer.local) journal)))
         (and_from (eqb e.party offer.party) (option_map_or (is_use_on offer.local) (act_row e.act).row.accesses false) (eq-eqb e.party offer.party own) named)
         ∙ ap value_got on.1
 
@@ -144,7 +144,7 @@ used_is_known (e ∷ journal) offer place early owes = elim (cases_lt place (nex
     by before owed true tried =
         used_now journal offer e (sym (ap (λ (b : Bool). option_map_or (gets_value offer) (cond b (Some e) (find (tries offer) (since place journal))) false) tried) ∙ owed)
     by before owed false tried =
-        ap (λ (b : Bool). option_and_then (λ (f : PlainEntry). value_got f.answer) (cond b (Some e) (find (uses offer.party offer.local) journal))) (unused offer e tried)
+        ap (λ (b : Bool). option_and_then (λ (f : PlainEntry). value_got f.answer) (cond b (Some e) (find (is_use_of offer.party offer.local) journal))) (unused offer e tried)
         ∙ before (sym (ap (λ (b : Bool). option_map_or (gets_value offer) (cond b (Some e) (find (tries offer) (since place journal))) false) tried) ∙ owed)
         ∙ sym (ap (λ (g : Option GrantedAccess). known_after g (known journal offer)) (untried offer e tried))
 
@@ -154,7 +154,7 @@ pub record RepliesTo (journal : Entries) (party : ℕ) (local : List ℕ) (custo
   pub used : value_used journal party local ≡ Some value
 
 pub replied_to : (users : List ℕ) (journal : Entries) → IsLegal users journal → (party : ℕ) (local : List ℕ) (customer : ℕ) (value : PlainArray) → work_of journal party ≡ work.Reply local →
-    customer_of journal party ≡ Some customer → command_of journal party ≡ Some value → RepliesTo journal party local customer value
+    customer_of journal party ≡ Some customer → request_due journal party ≡ Some value → RepliesTo journal party local customer value
 replied_to users journal legal party local customer value due serves commands =
     let on = reply_is_on (is_full journal) (first_open journal party) (first_coupled journal (lacks_control journal) party) (first_coupled journal (owes_reply journal) party)
     (to_counter journal party) (first_coupled journal (has_unseen journal) party) local due in
@@ -162,7 +162,7 @@ replied_to users journal legal party local customer value due serves commands =
     let is = (first_coupled_is_lowest journal (owes_reply journal) party offer).0 on.2 in
     let is_served : customer_of journal party ≡ partner_at journal offer.place =
     ap₂ (λ (lacks owes : Option Standing). option_and_then (λ (x : Standing). partner_at journal x.place) (option_or lacks owes)) on.1 on.2 in
-    let is_known : command_of journal party ≡ known journal offer = ap (option_and_then (known journal)) on.2 in
+    let is_known : request_due journal party ≡ known journal offer = ap (option_and_then (known journal)) on.2 in
     record {
       partner = partner_there journal party local offer is.among is.here.own on.3 ∙ sym is_served ∙ serves;
       used = ap₂ (value_used journal) (sym is.here.own) (sym on.3)

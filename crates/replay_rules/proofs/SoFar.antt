@@ -11,12 +11,12 @@ use Rattle.sv_rules.specs.Entries.{Entries, counted_entries, entry_weight, has_l
 use Rattle.sv_rules.specs.Refused.{act_held, awaited, last_entry}
 use Rattle.session_rules.specs.Course.{Course}
 use Rattle.session_rules.specs.Session.{session_of}
-use Rattle.session_rules.specs.Shelf.{Exchange, replies_in}
+use Rattle.session_rules.specs.Shelf.{Exchange, shelf_replies_in}
 use Rattle.session_rules.specs.UserPart.{IsFinished, IsUserPart, acts_of, answered_entries, answers_of, before_leave}
 use Rattle.session_rules.proofs.Parties.{other_answers_none}
 use Rattle.session_rules.proofs.Taking.{next_is_taken}
 use Rattle.replay_rules.specs.SoFar.{IsSoFar, IsWaitedFor}
-use Rattle.replay_rules.specs.SoFarLaws.{Asks, IsActOf, with_answer}
+use Rattle.replay_rules.specs.SoFarLaws.{Asks, IsActEntryOf, user_with_answer}
 use Rattle.replay_rules.specs.Turns.{Participant}
 
 -- ---- one entry more
@@ -102,8 +102,8 @@ last_act : (e : PlainEntry) (entries : Entries) → acts_of (e ∷ entries) ≡ 
 last_act e entries = reverse-append (e.act ∷ []) (map (λ (f : PlainEntry). f.act) entries)
 
 -- an act that was answered
-pub answered_on : (journal : Entries) (user : Participant) (waiting : Bool) (e : PlainEntry) → IsSoFar journal user waiting → is_full journal ≡ false → IsActOf user e → is_held (kind_of e.answer) ≡ false → Asks user e.act
-    → IsSoFar (e ∷ journal) (with_answer user e.answer) false
+pub answered_on : (journal : Entries) (user : Participant) (waiting : Bool) (e : PlainEntry) → IsSoFar journal user waiting → is_full journal ≡ false → IsActEntryOf user e → is_held (kind_of e.answer) ≡ false → Asks user e.act
+    → IsSoFar (e ∷ journal) (user_with_answer user e.answer) false
 answered_on journal user waiting e h room act free asks =
     let entries : Entries = answered_entries journal user.number in
     let none : h.refused ≡ [] = none_refused h.refused journal room h.at_limit in
@@ -115,12 +115,12 @@ answered_on journal user waiting e h room act free asks =
       answers = ap (λ answers. answers ++ e.answer ∷ []) given ∙ sym (last_answer e entries) ∙ ap answers_of grown ∙ sym (append-nil (answers_of (answered_entries (e ∷ journal) user.number)));
       acts = next_is_taken user.lines user.answers user.replies e.answer e.act asks ∙ ap (λ acts. acts ++ e.act ∷ []) asked ∙ sym (last_act e entries) ∙ ap acts_of grown ∙ sym (append-nil (acts_of (answered_entries (e ∷ journal) user.number)));
       at_limit = λ some. absurd (some refl);
-      waited = subst (λ (act : Option Act). IfSome act (IsWaitedFor (with_answer user e.answer) false [])) (sym (own_awaits e journal user.number act.own ∙ ap (λ (held : Bool). if held then Some e.act else None) free)) tt;
+      waited = subst (λ (act : Option Act). IfSome act (IsWaitedFor (user_with_answer user e.answer) false [])) (sym (own_awaits e journal user.number act.own ∙ ap (λ (held : Bool). if held then Some e.act else None) free)) tt;
       going = λ is. absurd cc;
     }
 
 -- an act that is held
-pub held_on : (journal : Entries) (user : Participant) (waiting : Bool) (e : PlainEntry) → IsSoFar journal user waiting → is_full journal ≡ false → IsActOf user e → is_held (kind_of e.answer) ≡ true → Asks user e.act
+pub held_on : (journal : Entries) (user : Participant) (waiting : Bool) (e : PlainEntry) → IsSoFar journal user waiting → is_full journal ≡ false → IsActEntryOf user e → is_held (kind_of e.answer) ≡ true → Asks user e.act
     → IsSoFar (e ∷ journal) user true
 held_on journal user waiting e h room act held asks =
     let none : h.refused ≡ [] = none_refused h.refused journal room h.at_limit in
@@ -148,7 +148,7 @@ first_refused user after waiting [] act (Some other) asks h = some_is act other 
 first_refused user after waiting (first ∷ refused) act (Some other) asks h = h
 
 -- an act is answered full
-pub refused_on : (journal : Entries) (user : Participant) (waiting : Bool) (act : Act) → IsSoFar journal user waiting → IsTrue (is_full journal) → (session_of user.lines user.answers user.replies).waits ≡ Some act → IsSoFar journal (with_answer user full) false
+pub refused_on : (journal : Entries) (user : Participant) (waiting : Bool) (act : Act) → IsSoFar journal user waiting → IsTrue (is_full journal) → (session_of user.lines user.answers user.replies).waits ≡ Some act → IsSoFar journal (user_with_answer user full) false
 refused_on journal user waiting act h limit asks =
     let entries : Entries = answered_entries journal user.number in
     record {
@@ -156,7 +156,7 @@ refused_on journal user waiting act h limit asks =
       answers = ap (λ answers. answers ++ full ∷ []) h.answers ∙ append_assoc (answers_of entries) (map (λ act. full) h.refused) (full ∷ []) ∙ ap (λ fulls. answers_of entries ++ fulls) (sym (map_push (λ (a : Act). full) h.refused act));
       acts = next_is_taken user.lines user.answers user.replies full act asks ∙ ap (λ acts. acts ++ act ∷ []) h.acts ∙ append_assoc (acts_of entries) h.refused (act ∷ []);
       at_limit = λ some. limit;
-      waited = first_refused user (with_answer user full) waiting h.refused act (awaited journal user.number) asks h.waited;
+      waited = first_refused user (user_with_answer user full) waiting h.refused act (awaited journal user.number) asks h.waited;
       going = λ is. absurd cc;
     }
 
@@ -169,13 +169,13 @@ head_refused user waiting (first ∷ refused) (Some act) over h = ap (λ (a : Ac
 
 -- a user that leaves at the end of its lines has its part
 pub left_on : (journal : Entries) (user : Participant) (waiting : Bool) (exchanges : List Exchange) (e : PlainEntry) → IsSoFar journal user waiting → e.party ≡ user.number → is_leave e.act ≡ true → (session_of user.lines user.answers user.replies).waits ≡ None
-    → user.replies ≡ replies_in exchanges → (session_of user.lines user.answers user.replies).exchanges ≡ exchanges
+    → user.replies ≡ shelf_replies_in exchanges → (session_of user.lines user.answers user.replies).exchanges ≡ exchanges
     → IsUserPart (e ∷ journal) (record { number = user.number; lines = user.lines }) exchanges (session_of user.lines user.answers user.replies).terminal.transcript
 left_on journal user waiting exchanges e h own leaves over replies calls =
     let same : answered_entries journal user.number ≡ answered_entries (e ∷ journal) user.number = sym (own_leave e journal user.number own leaves) in
     let before : journal ≡ before_leave (e ∷ journal) user.number = sym (own_leave_is_after e journal user.number own leaves) in
-    let given : session_of user.lines (answers_of (answered_entries journal user.number) ++ map (λ act. full) h.refused) (replies_in exchanges) ≡ session_of user.lines user.answers user.replies =
-    ap (λ answers. session_of user.lines answers (replies_in exchanges)) (sym h.answers) ∙ ap (λ list. session_of user.lines user.answers list) (sym replies) in
+    let given : session_of user.lines (answers_of (answered_entries journal user.number) ++ map (λ act. full) h.refused) (shelf_replies_in exchanges) ≡ session_of user.lines user.answers user.replies =
+    ap (λ answers. session_of user.lines answers (shelf_replies_in exchanges)) (sym h.answers) ∙ ap (λ list. session_of user.lines user.answers list) (sym replies) in
     let finished : IsFinished user.lines (answered_entries journal user.number) h.refused exchanges (session_of user.lines user.answers user.replies).terminal.transcript = record {
       acts = ap (λ (c : Course). c.acts) given ∙ h.acts;
       waits = ap (λ (c : Course). c.waits) given ∙ over;

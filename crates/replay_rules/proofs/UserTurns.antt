@@ -17,9 +17,9 @@ use Rattle.sv_rules.specs.Refused.{awaited, refused, still_refused, waits}
 use Rattle.sv_rules.specs.Work.{is_stuck}
 use Rattle.sv_story_laws.proofs.AnswerLemmas.{Answered, answered, given_up, held_first, unrefused}
 use Rattle.session_rules.specs.Session.{session_of}
-use Rattle.replay_rules.specs.SoFarLaws.{Asks, with_answer}
-use Rattle.replay_rules.specs.Turns.{Participant, Turn, act_made, given, turn, turn_by}
-use Rattle.replay_rules.specs.UserTurnLaws.{IsUserTurn, MakesAct, TriesAgain, UsersTakeTurns, entered_and_heard, finds_no_room, gives_up, goes_through, has_gone, has_no_room, has_to_wait, is_answered, is_still_held, leaves, makes, refused_room, tries}
+use Rattle.replay_rules.specs.SoFarLaws.{Asks, user_with_answer}
+use Rattle.replay_rules.specs.Turns.{Participant, AfterTurn, act_made, answer_given, turn, turn_by}
+use Rattle.replay_rules.specs.UserTurnLaws.{IsUserTurn, MakesAct, HearsAgain, UsersTakeTurns, entered_and_heard, finds_no_room, gives_up, goes_through, has_gone, has_no_room, has_to_wait, is_answered, is_still_held, leaves, makes, refused_room, tries}
 use Rattle.replay_rules.proofs.Retrying.{waiters_are_answered}
 
 -- the turn of a user that has not left, and whose lines ask an act
@@ -33,12 +33,12 @@ turn_is numbers journal user act waiting present asks is =
 -- ---- what a user hears
 
 -- an answer that does not hold it
-heard : (answer : PlainAnswer) (user : Participant) → is_held (kind_of answer) ≡ false → given answer user ≡ with_answer user answer
-heard answer user free = ap (λ (is : Bool). if is then user else with_answer user answer) free
+heard : (answer : PlainAnswer) (user : Participant) → is_held (kind_of answer) ≡ false → answer_given answer user ≡ user_with_answer user answer
+heard answer user free = ap (λ (is : Bool). if is then user else user_with_answer user answer) free
 
 -- one that does
-unheard : (answer : PlainAnswer) (user : Participant) (hold : Hold) → answer ≡ held hold → given answer user ≡ user
-unheard answer user hold is = ap (λ (a : PlainAnswer). if is_held (kind_of a) then user else with_answer user answer) is
+unheard : (answer : PlainAnswer) (user : Participant) (hold : Hold) → answer ≡ held hold → answer_given answer user ≡ user
+unheard answer user hold is = ap (λ (a : PlainAnswer). if is_held (kind_of a) then user else user_with_answer user answer) is
 
 -- ---- an act that is made
 
@@ -49,11 +49,11 @@ module _ (numbers : List ℕ) (journal : Entries) (user : Participant) (act : Ac
   -- in a full journal, and in one with room
   made_when : (full' : Bool) → is_full journal ≡ full' →
       act_made false numbers journal user act
-      ≡ (let t : Turn = record { journal = if full' then journal else entry_for journal user.number act ∷ journal; user = given (if full' then full else answer) user } in t)
-  made_when full' is = ap (λ (b : Bool). let t : Turn = record { journal = if b then journal else entry_for journal user.number act ∷ journal; user = given (if b then full else answer) user } in t) is
+      ≡ (let t : AfterTurn = record { journal = if full' then journal else entry_for journal user.number act ∷ journal; user = answer_given (if full' then full else answer) user } in t)
+  made_when full' is = ap (λ (b : Bool). let t : AfterTurn = record { journal = if b then journal else entry_for journal user.number act ∷ journal; user = answer_given (if b then full else answer) user } in t) is
 
   -- with the entry, whoever the user is then
-  abbrev with_entry : Participant → Turn
+  abbrev with_entry : Participant → AfterTurn
   with_entry now = record { journal = entry_for journal user.number act ∷ journal; user = now }
 
   made_with_room : is_full journal ≡ false → waits journal user.number ≡ false → Answered (refused journal user.number act) (waits journal user.number) answer → MakesAct journal user act (act_made false numbers journal user act)
@@ -76,10 +76,10 @@ module _ (numbers : List ℕ) (journal : Entries) (user : Participant) (next : A
 
   -- the turn, by what the core became and what it answered
   tried_when : (after : PlainCore) (got : Option PlainAnswer) → core_retried core user.number ≡ after → retried numbers journal user.number ≡ got →
-      act_made true numbers journal user next ≡ (let t : Turn = record { journal = after.journal; user = option_map_or (λ given_now. given given_now user) got user } in t)
+      act_made true numbers journal user next ≡ (let t : AfterTurn = record { journal = after.journal; user = option_map_or (λ given_now. answer_given given_now user) got user } in t)
   tried_when after got became told =
-      ap (λ (c : PlainCore). let t : Turn = record { journal = c.journal; user = option_map_or (λ given_now. given given_now user) (retried numbers journal user.number) user } in t) became
-      ∙ ap (λ (o : Option PlainAnswer). let t : Turn = record { journal = after.journal; user = option_map_or (λ given_now. given given_now user) o user } in t) told
+      ap (λ (c : PlainCore). let t : AfterTurn = record { journal = c.journal; user = option_map_or (λ given_now. answer_given given_now user) (retried numbers journal user.number) user } in t) became
+      ∙ ap (λ (o : Option PlainAnswer). let t : AfterTurn = record { journal = after.journal; user = option_map_or (λ given_now. answer_given given_now user) o user } in t) told
 
   -- where there is no room
   tried_at_limit : is_full journal ≡ true → waits journal user.number ≡ true → act_made true numbers journal user next ≡ refused_room journal user
@@ -106,7 +106,7 @@ module _ (numbers : List ℕ) (journal : Entries) (user : Participant) (next : A
         let plain : is_held (kind_of (outcome journal user.number act).answer) ≡ false =
         sym (ap (λ (b : Bool). is_held (kind_of (if b then full else (outcome journal user.number act).answer))) room) ∙ waiters_are_answered journal user.number act waiting in
         tried_when (core_after core user.number act) (Some (outcome journal user.number act).answer) on.2 on.1
-        ∙ ap (λ (now : Participant). let t : Turn = record { journal = entry_for journal user.number act ∷ journal; user = now } in t) (heard (outcome journal user.number act).answer user plain)
+        ∙ ap (λ (now : Participant). let t : AfterTurn = record { journal = entry_for journal user.number act ∷ journal; user = now } in t) (heard (outcome journal user.number act).answer user plain)
 
     -- its answer, where it is refused
     abandons : (hold : Hold) → refused journal user.number act ≡ Some hold → Answered (refused journal user.number act) (waits journal user.number) (outcome journal user.number act).answer →
@@ -116,7 +116,7 @@ module _ (numbers : List ℕ) (journal : Entries) (user : Participant) (next : A
     abandons hold is (given_up other refused_by still same) = same ∙ ap (λ (h : Hold). abandoned h) (same_Some other hold (sym refused_by ∙ is))
 
     tried_by : (now : Option Hold) → refused journal user.number act ≡ now → (stuck : Bool) → is_stuck numbers journal ≡ stuck → (full' : Bool) → is_full journal ≡ full' →
-        TriesAgain numbers journal user act (act_made true numbers journal user next)
+        HearsAgain numbers journal user act (act_made true numbers journal user next)
     tried_by now is stuck nobody true limit = has_no_room limit (tried_at_limit limit waiting)
     tried_by None is stuck nobody false room = goes_through room is (tried_with_room room (held_when None stuck is nobody))
     tried_by (Some hold) is true nobody false room =
@@ -125,13 +125,13 @@ module _ (numbers : List ℕ) (journal : Entries) (user : Participant) (next : A
         let back = kept_back core user.number room (held_when (Some hold) false is nobody) in
         is_still_held hold room is nobody (tried_when core None (sym back.1) (sym back.0))
 
-    tried : TriesAgain numbers journal user act (act_made true numbers journal user next)
+    tried : HearsAgain numbers journal user act (act_made true numbers journal user next)
     tried = tried_by (refused journal user.number act) refl (is_stuck numbers journal) refl (is_full journal) refl
 
 -- ---- the turn
 
 -- a user that has left, and one whose lines ask no act
-left_is : (numbers : List ℕ) (journal : Entries) (user : Participant) → has_left journal user.number ≡ true → turn numbers journal user ≡ (let t : Turn = record { journal = journal; user = user } in t)
+left_is : (numbers : List ℕ) (journal : Entries) (user : Participant) → has_left journal user.number ≡ true → turn numbers journal user ≡ (let t : AfterTurn = record { journal = journal; user = user } in t)
 left_is numbers journal user left = ap (λ (b : Bool). turn_by b (session_of user.lines user.answers user.replies).waits numbers journal user) left
 
 pub last_turn : (numbers : List ℕ) (journal : Entries) (user : Participant) → has_left journal user.number ≡ false → (session_of user.lines user.answers user.replies).waits ≡ None → turn numbers journal user ≡ turn_by false None numbers journal user
@@ -156,8 +156,8 @@ users_take_turns numbers journal user = by (has_left journal user.number) refl (
     by false present None asks waited is = leaves present asks (last_turn numbers journal user present asks)
     by false present (Some act) asks None is =
         let free : waits journal user.number ≡ false = ap (λ (o : Option Act). is_some o) is in
-        makes act present asks is (subst (λ (t : Turn). MakesAct journal user act t) (sym (turn_is numbers journal user act false present asks free)) (made numbers journal user act free))
+        makes act present asks is (subst (λ (t : AfterTurn). MakesAct journal user act t) (sym (turn_is numbers journal user act false present asks free)) (made numbers journal user act free))
     by false present (Some next) asks (Some act) is =
         let waiting : waits journal user.number ≡ true = ap (λ (o : Option Act). is_some o) is in
         tries next act present asks is
-        (subst (λ (t : Turn). TriesAgain numbers journal user act t) (sym (turn_is numbers journal user next true present asks waiting)) (tried numbers journal user next act is))
+        (subst (λ (t : AfterTurn). HearsAgain numbers journal user act t) (sym (turn_is numbers journal user next true present asks waiting)) (tried numbers journal user next act is))

@@ -2,7 +2,7 @@
 use Rattle.std.specs.Prelude.{◌≡◌, ℕ, false, List, ◌∷◌, None, Some, IsTrue}
 use Rattle.apl_arrays.specs.Array.{PlainArray}
 use Rattle.auxiliaries.specs.Run.{answered, began}
-use Rattle.sv_core.specs.Due.{command_of, customer_of, is_reply, is_service}
+use Rattle.sv_core.specs.Due.{request_due, customer_of, is_reply, is_service}
 use Rattle.sv_events.specs.Work.{act_of, all_controlled}
 use Rattle.sv_events.specs.declared.event.Act.{Act}
 use Rattle.sv_events.specs.declared.event.Act.TheVariants as act
@@ -24,7 +24,7 @@ ControlsBegin =
 abbrev pub RepliesAnswer : Type 0
 RepliesAnswer =
     (users : List ℕ) (journal : Entries) → IsLegal users journal → (party : ℕ) (local : List ℕ) (customer : ℕ) (value reply : PlainArray) → work_of journal party ≡ work.Reply local
-    → customer_of journal party ≡ Some customer → command_of journal party ≡ Some value
+    → customer_of journal party ≡ Some customer → request_due journal party ≡ Some value
     → events_of (journal_after journal party (act.Set local reply)) party ≡ answered customer value reply ∷ events_of journal party
 
 -- the entry of any other work is nothing to it

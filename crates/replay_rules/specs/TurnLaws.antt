@@ -3,7 +3,7 @@ use Rattle.std.specs.Prelude.{◌≡◌, ℕ, false, List}
 use Rattle.apl_arrays.specs.Array.{PlainArray}
 use Rattle.bundle_text.specs.Rules.{PlainBundle}
 use Rattle.session_rules.specs.Run.{Dealings}
-use Rattle.replay_rules.specs.Turns.{Replay, beginning, goes_on, ordered, rounds}
+use Rattle.replay_rules.specs.Turns.{Replay, beginning, some_user_stays, ordered, rounds}
 
 -- a replay after the order and so many rounds, where the shelves and the auxiliaries give these replies
 abbrev pub replayed : PlainBundle → Dealings → (ℕ → List PlainArray) → ℕ → Replay
@@ -13,4 +13,4 @@ replayed bundle dealings replies count = rounds count (ordered bundle.order (beg
 abbrev pub TurnsMakeOneJournal : Type 0
 TurnsMakeOneJournal =
     (bundle : PlainBundle) (dealings : Dealings) (replies : ℕ → List PlainArray) (count more : ℕ)
-    → goes_on (replayed bundle dealings replies count) ≡ false → goes_on (replayed bundle dealings replies more) ≡ false → replayed bundle dealings replies count ≡ replayed bundle dealings replies more
+    → some_user_stays (replayed bundle dealings replies count) ≡ false → some_user_stays (replayed bundle dealings replies more) ≡ false → replayed bundle dealings replies count ≡ replayed bundle dealings replies more

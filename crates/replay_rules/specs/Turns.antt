@@ -21,13 +21,13 @@ use Rattle.bundle_text.specs.User.{PlainUser}
 use Rattle.session_rules.specs.Auxiliaries.{some_stay}
 use Rattle.session_rules.specs.Run.{Dealings}
 use Rattle.session_rules.specs.Session.{session_of}
-use Rattle.session_rules.specs.Shelf.{Reply, replies_in}
+use Rattle.session_rules.specs.Shelf.{ShelfReply, shelf_replies_in}
 
 -- a user in a replay: its number, its lines, all replies that its shelf will give, and the answers that the lines were given
 pub record Participant : Type 0 where
   pub number : ℕ
   pub lines : List (List ℕ)
-  pub replies : List Reply
+  pub replies : List ShelfReply
   pub answers : List PlainAnswer
 
 -- a replay between two turns: the journal, the replies that each auxiliary has still to give, and the users
@@ -39,23 +39,23 @@ pub record Replay : Type 0 where
 -- ---- the turn of an auxiliary
 
 -- the journal after an auxiliary's turn, and the replies that are left
-pub record Served : Type 0 where
+pub record AfterAuxiliaryTurn : Type 0 where
   pub journal : Entries
   pub replies : List PlainArray
 
 -- an auxiliary makes the act of its work, if there is one
-abbrev pub serving : Entries → ℕ → List PlainArray → Option Act → Served
+abbrev pub serving : Entries → ℕ → List PlainArray → Option Act → AfterAuxiliaryTurn
 serving journal party replies None = record { journal = journal; replies = replies }
 serving journal party replies (Some act) = record { journal = journal_after journal party act; replies = replies }
 
 -- an auxiliary does some work: a reply is the next one that it has to give
-abbrev pub served_by : Entries → ℕ → List PlainArray → Work → Served
+abbrev pub served_by : Entries → ℕ → List PlainArray → Work → AfterAuxiliaryTurn
 served_by journal party [] (work.Reply local) = record { journal = journal; replies = [] }
 served_by journal party (reply ∷ replies) (work.Reply local) = serving journal party replies (act_of (work.Reply local) (next_place journal) (Some reply))
 served_by journal party replies due = serving journal party replies (act_of due (next_place journal) None)
 
 -- the turn of an auxiliary
-abbrev pub served : Entries → ℕ → List PlainArray → Served
+abbrev pub served : Entries → ℕ → List PlainArray → AfterAuxiliaryTurn
 served journal party replies = served_by journal party replies (work_of journal party)
 
 -- the replies that are left, where a party has these left and others what they had
@@ -75,39 +75,39 @@ auxiliary_turns (row ∷ rows) replay = auxiliary_turns rows (auxiliary_turn row
 -- ---- the turn of a user
 
 -- the journal after a user's turn, and the user
-pub record Turn : Type 0 where
+pub record AfterTurn : Type 0 where
   pub journal : Entries
   pub user : Participant
 
 -- a user is given an answer; while it is to wait, it is given none
-abbrev pub given : PlainAnswer → Participant → Participant
-given answer user = if is_held (kind_of answer) then user else record user { answers = user.answers ++ answer ∷ [] }
+abbrev pub answer_given : PlainAnswer → Participant → Participant
+answer_given answer user = if is_held (kind_of answer) then user else record user { answers = user.answers ++ answer ∷ [] }
 
 -- a user makes its act, or tries again the one that it waits for
-abbrev pub act_made : Bool → List ℕ → Entries → Participant → Act → Turn
+abbrev pub act_made : Bool → List ℕ → Entries → Participant → Act → AfterTurn
 act_made true numbers journal user act = record {
   journal = (core_retried (record { users = numbers; journal = journal }) user.number).journal;
-  user = option_map_or (λ answer. given answer user) (retried numbers journal user.number) user;
+  user = option_map_or (λ answer. answer_given answer user) (retried numbers journal user.number) user;
 }
-act_made false numbers journal user act = record { journal = journal_after journal user.number act; user = given (answer_to journal user.number act) user }
+act_made false numbers journal user act = record { journal = journal_after journal user.number act; user = answer_given (answer_to journal user.number act) user }
 
 -- a user that has left does nothing; one whose lines are done leaves; another goes on to its next act
-abbrev pub turn_by : Bool → Option Act → List ℕ → Entries → Participant → Turn
+abbrev pub turn_by : Bool → Option Act → List ℕ → Entries → Participant → AfterTurn
 turn_by true next numbers journal user = record { journal = journal; user = user }
 turn_by false None numbers journal user = record { journal = entry_for journal user.number Leave ∷ journal; user = user }
 turn_by false (Some act) numbers journal user = act_made (waits journal user.number) numbers journal user act
 
 -- the turn of a user
-abbrev pub turn : List ℕ → Entries → Participant → Turn
+abbrev pub turn : List ℕ → Entries → Participant → AfterTurn
 turn numbers journal user = turn_by (has_left journal user.number) (session_of user.lines user.answers user.replies).waits numbers journal user
 
 -- the journal after the turns of users, and these
-pub record Turns : Type 0 where
+pub record AfterTurns : Type 0 where
   pub journal : Entries
   pub users : List Participant
 
 -- a turn for each of these users for which a test holds, in their order
-abbrev pub turns_where : (Participant → Bool) → List ℕ → Entries → List Participant → Turns
+abbrev pub turns_where : (Participant → Bool) → List ℕ → Entries → List Participant → AfterTurns
 turns_where test numbers journal [] = record { journal = journal; users = [] }
 turns_where test numbers journal (user ∷ users) =
     let first = (if test user then turn numbers journal user else record { journal = journal; user = user }) in
@@ -126,8 +126,8 @@ user_turns test replay =
 -- ---- the turns of the order, and rounds
 
 -- some user of a replay has not left
-abbrev pub goes_on : Replay → Bool
-goes_on replay = some_stay (numbers_of replay.users) replay.journal
+abbrev pub some_user_stays : Replay → Bool
+some_user_stays replay = some_stay (numbers_of replay.users) replay.journal
 
 -- the turn of a party by its number: that of an auxiliary, or of a user
 abbrev pub party_turn : ℕ → Replay → Replay
@@ -136,7 +136,7 @@ party_turn party replay = if is_auxiliary party then auxiliary_turn party replay
 -- the turns of an order, one after another; behind the last leave nothing is done
 abbrev pub ordered : List ℕ → Replay → Replay
 ordered [] replay = replay
-ordered (party ∷ order) replay = ordered order (if goes_on replay then party_turn party replay else replay)
+ordered (party ∷ order) replay = ordered order (if some_user_stays replay then party_turn party replay else replay)
 
 -- a round: the auxiliaries, in the order of their table, and the users
 abbrev pub round : Replay → Replay
@@ -145,11 +145,11 @@ round replay = user_turns (λ user. true) (auxiliary_turns auxiliaries replay)
 -- so many rounds; behind the last leave nothing is done
 abbrev pub rounds : ℕ → Replay → Replay
 rounds zero replay = replay
-rounds (suc count) replay = let before = rounds count replay in if goes_on before then round before else before
+rounds (suc count) replay = let before = rounds count replay in if some_user_stays before then round before else before
 
 -- a user whose lines were given no answer yet
 abbrev pub newcomer : Dealings → PlainUser → Participant
-newcomer dealings user = record { number = user.number; lines = user.lines; replies = replies_in (dealings user.number); answers = [] }
+newcomer dealings user = record { number = user.number; lines = user.lines; replies = shelf_replies_in (dealings user.number); answers = [] }
 
 -- before the first turn, where the shelves and the auxiliaries will give these replies
 abbrev pub beginning : PlainBundle → Dealings → (ℕ → List PlainArray) → Replay

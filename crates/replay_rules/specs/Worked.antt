@@ -15,8 +15,8 @@ abbrev pub user : ℕ → List (List ℕ) → PlainUser
 user number lines = record { number = number; lines = texts lines }
 
 -- a bundle of these users, with these turns first
-abbrev pub bundle_of : List PlainUser → List ℕ → PlainBundle
-bundle_of users order = record { users = users; order = order; files = []; clock = [] }
+abbrev pub worked_bundle : List PlainUser → List ℕ → PlainBundle
+worked_bundle users order = record { users = users; order = order; files = []; clock = [] }
 
 -- no shelf is asked
 abbrev pub no_dealings : Dealings
@@ -31,21 +31,21 @@ abbrev pub gives : ℕ → List PlainArray → ℕ → List PlainArray
 gives party replies = with_left party replies no_replies
 
 -- the journal after so many rounds, where the auxiliaries give these replies
-abbrev pub journal_of : PlainBundle → (ℕ → List PlainArray) → ℕ → Entries
-journal_of bundle replies count = (replayed bundle no_dealings replies count).journal
+abbrev pub worked_journal : PlainBundle → (ℕ → List PlainArray) → ℕ → Entries
+worked_journal bundle replies count = (replayed bundle no_dealings replies count).journal
 
 -- a user of the clock, which sets a value and uses the answer
 abbrev pub clock_bundle : PlainBundle
-clock_bundle = bundle_of (user 1001 (codes "10 ⎕SVO 'C'" ∷ codes "C←0" ∷ codes "C" ∷ []) ∷ []) []
+clock_bundle = worked_bundle (user 1001 (codes "10 ⎕SVO 'C'" ∷ codes "C←0" ∷ codes "C" ∷ []) ∷ []) []
 
 -- a user of the text files, which controls the name, asks for a file and uses the answer
 abbrev pub text_bundle : PlainBundle
-text_bundle = bundle_of (user 1001 (codes "20 ⎕SVO 'T'" ∷ codes "1 1 1 1 ⎕SVC 'T'" ∷ codes "T←'READ GONE'" ∷ codes "T" ∷ []) ∷ []) []
+text_bundle = worked_bundle (user 1001 (codes "20 ⎕SVO 'T'" ∷ codes "1 1 1 1 ⎕SVC 'T'" ∷ codes "T←'READ GONE'" ∷ codes "T" ∷ []) ∷ []) []
 
 -- one that controls the name, and uses an answer for which it never asked
 abbrev pub stuck_bundle : PlainBundle
-stuck_bundle = bundle_of (user 1001 (codes "20 ⎕SVO 'T'" ∷ codes "1 1 1 1 ⎕SVC 'T'" ∷ codes "T" ∷ []) ∷ []) []
+stuck_bundle = worked_bundle (user 1001 (codes "20 ⎕SVO 'T'" ∷ codes "1 1 1 1 ⎕SVC 'T'" ∷ codes "T" ∷ []) ∷ []) []
 
 -- a user that offers a name, whose line was given these answers
-abbrev pub offering : List PlainAnswer → Participant
-offering answers = record { number = 1001; lines = texts (codes "1002 ⎕SVO 'X'" ∷ []); replies = []; answers = answers }
+abbrev pub offering_user : List PlainAnswer → Participant
+offering_user answers = record { number = 1001; lines = texts (codes "1002 ⎕SVO 'X'" ∷ []); replies = []; answers = answers }

@@ -1,27 +1,26 @@
 ghost use Rattle.replay_rules.specs.ServingLaws.{AuxiliariesServeTheirWork, ControlsBegin, OtherWorkTellsNothing, RepliesAnswer, WaitersAreAnswered};
 
-/// Where an auxiliary sets a control, what answers behind it begins with the partner. The call does nothing. No memory.
+/// Where an auxiliary sets a control, what answers behind it begins with the partner. The call does nothing.
 pub fn controls_begin()
     ensures { ControlsBegin }
 {}
 
-/// Where an auxiliary replies, what answers behind it gave the reply to the partner's value. The call does nothing. No
-/// memory.
+/// Where an auxiliary replies, what answers behind it gave the reply to the partner's value. The call does nothing.
 pub fn replies_answer()
     ensures { RepliesAnswer }
 {}
 
-/// Any other work of an auxiliary is nothing to what answers behind it. The call does nothing. No memory.
+/// Any other work of an auxiliary is nothing to what answers behind it. The call does nothing.
 pub fn other_work_tells_nothing()
     ensures { OtherWorkTellsNothing }
 {}
 
-/// The turn of an auxiliary makes the act of its work. The call does nothing. No memory.
+/// The turn of an auxiliary makes the act of its work. The call does nothing.
 pub fn auxiliaries_serve_their_work()
     ensures { AuxiliariesServeTheirWork }
 {}
 
-/// A party that waits is not held again by what it does. The call does nothing. No memory.
+/// A party that waits is not held again by what it does. The call does nothing.
 pub fn waiters_are_answered()
     ensures { WaitersAreAnswered }
 {}

@@ -4,7 +4,7 @@ use Rattle.std.specs.Prelude.{Option, Some, None}
 use Rattle.sv_events.specs.Answer.{PlainAnswer}
 use Rattle.sv_events.specs.declared.event.Act.{Act}
 use Rattle.apl_meaning.specs.Meaning.{most_statements}
-use Rattle.session_rules.specs.Course.{Course, beginning}
+use Rattle.session_rules.specs.Course.{Course, course_beginning}
 use Rattle.session_rules.specs.Session.{lines_done, next_line}
 use Rattle.session_rules.specs.SessionLaws.{TranscriptsGrow}
 use Rattle.session_rules.proofs.MoreAnswers.{next_more, waits_on}
@@ -47,4 +47,4 @@ lines_with_more left (line ∷ lines) more c =
 
 -- what was echoed and printed with some answers is the beginning of what is with more
 pub transcripts_grow : TranscriptsGrow
-transcripts_grow lines answers more replies = let h = lines_with_more most_statements lines more (beginning answers replies) in (h.lines, h.same)
+transcripts_grow lines answers more replies = let h = lines_with_more most_statements lines more (course_beginning answers replies) in (h.lines, h.same)

@@ -4,7 +4,7 @@ use Rattle.std.specs.Prelude.{Option, Some, None}
 use Rattle.sv_events.specs.Answer.{PlainAnswer}
 use Rattle.sv_events.specs.declared.event.Act.{Act}
 use Rattle.apl_meaning.specs.Meaning.{most_statements}
-use Rattle.session_rules.specs.Course.{Course, beginning}
+use Rattle.session_rules.specs.Course.{Course, course_beginning}
 use Rattle.session_rules.specs.Session.{lines_done, next_line}
 use Rattle.session_rules.specs.SessionLaws.{MoreAnswersComeBack}
 use Rattle.session_rules.proofs.Parts.{tame_next}
@@ -48,4 +48,4 @@ lines_more left (line ∷ lines) c more over =
 
 -- a session that is finished takes no more answers
 pub more_comes_back : MoreAnswersComeBack
-more_comes_back lines answers more replies over = lines_more most_statements lines (beginning answers replies) more over
+more_comes_back lines answers more replies over = lines_more most_statements lines (course_beginning answers replies) more over

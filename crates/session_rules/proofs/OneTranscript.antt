@@ -10,7 +10,7 @@ use Rattle.session_rules.specs.Course.{Course}
 use Rattle.session_rules.specs.Run.{AreUserParts, Dealings}
 use Rattle.session_rules.specs.RunLaws.{PartsMakeOneTranscript}
 use Rattle.session_rules.specs.Session.{session_of}
-use Rattle.session_rules.specs.Shelf.{Exchange, Reply, replies_in}
+use Rattle.session_rules.specs.Shelf.{Exchange, ShelfReply, shelf_replies_in}
 use Rattle.session_rules.specs.UserPart.{IsFinished, answered_entries, answers_of}
 use Rattle.session_rules.proofs.MoreAnswers.{more_comes_back}
 
@@ -38,7 +38,7 @@ fronts (act ∷ refused) (other ∷ others) = one_more (fronts refused others) w
   one_more (inr front) = inr (one_refusal_more (refusals others) (refusals refused) front)
 
 -- what lines printed that are finished is what they print with further refusals
-same_behind : (lines : List (List ℕ)) (replies : List Reply) (answers front longer : List PlainAnswer) → (session_of lines (answers ++ front) replies).waits ≡ None → IsFront front longer →
+same_behind : (lines : List (List ℕ)) (replies : List ShelfReply) (answers front longer : List PlainAnswer) → (session_of lines (answers ++ front) replies).waits ≡ None → IsFront front longer →
     (session_of lines (answers ++ longer) replies).terminal.transcript ≡ (session_of lines (answers ++ front) replies).terminal.transcript
 same_behind lines replies answers front longer finished begins =
     ap (λ behind. (session_of lines (answers ++ behind) replies).terminal.transcript) begins.same
@@ -49,9 +49,9 @@ same_behind lines replies answers front longer finished begins =
 same_printed : (lines : List (List ℕ)) (entries : Entries) (refused others : List Act) (exchanges : List Exchange) (transcript other : List (List ℕ)) → IsFinished lines entries refused exchanges transcript → IsFinished lines entries others exchanges other
     → IsFront (refusals refused) (refusals others) ⊎ IsFront (refusals others) (refusals refused) → transcript ≡ other
 same_printed lines entries refused others exchanges transcript other one another (inl front) =
-    sym one.printed ∙ (sym (same_behind lines (replies_in exchanges) (answers_of entries) (refusals refused) (refusals others) one.waits front) ∙ another.printed)
+    sym one.printed ∙ (sym (same_behind lines (shelf_replies_in exchanges) (answers_of entries) (refusals refused) (refusals others) one.waits front) ∙ another.printed)
 same_printed lines entries refused others exchanges transcript other one another (inr front) =
-    sym one.printed ∙ (same_behind lines (replies_in exchanges) (answers_of entries) (refusals others) (refusals refused) another.waits front ∙ another.printed)
+    sym one.printed ∙ (same_behind lines (shelf_replies_in exchanges) (answers_of entries) (refusals others) (refusals refused) another.waits front ∙ another.printed)
 
 -- a user has one transcript, and so have all users
 same_transcripts : (dealings : Dealings) (journal : Entries) (users : List PlainUser) (transcripts others : List PlainTranscript) → AreUserParts dealings journal users transcripts → AreUserParts dealings journal users others → transcripts ≡ others

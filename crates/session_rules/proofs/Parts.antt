@@ -12,7 +12,7 @@ use Rattle.fn_editor.specs.Editor.{PlainEditor, defined_function}
 use Rattle.fn_editor.specs.Opening.{opened}
 use Rattle.fn_editor.specs.Prompt.{prompt_text}
 use Rattle.sv_events.specs.Answer.{PlainAnswer}
-use Rattle.sv_events.specs.Fits.{is_full}
+use Rattle.sv_events.specs.Fits.{is_full_kind}
 use Rattle.sv_events.specs.Row.{answer_row}
 use Rattle.sv_events.specs.declared.event.Act.{Act}
 use Rattle.sv_events.specs.declared.event.Act.TheVariants as act
@@ -30,12 +30,12 @@ use Rattle.ws_commands.specs.Step.{Step}
 use Rattle.ws_commands.specs.Todo.{PlainTodo}
 use Rattle.apl_terminal.specs.Commands.{finishing, telling, unsharing}
 use Rattle.apl_terminal.specs.LineKind.{is_command, is_opening}
-use Rattle.apl_terminal.specs.Terminal.{PlainTerminal, closing, defining, echoing, editing, free_prompt, glyph_count, printing, reporting, showing}
-use Rattle.session_rules.specs.Commands.{asking, called, change_made, command_done, lines_told, offer_again, remaking, retracting, shared_again, step_done, todo_done}
-use Rattle.session_rules.specs.Course.{Course, behind, with_terminal}
-use Rattle.session_rules.specs.Session.{free_line, line_by, next_line, opening_done, statement_done}
+use Rattle.apl_terminal.specs.Terminal.{PlainTerminal, closing, taking_definition, echoing, editing, free_prompt, glyph_count, printing, reporting, showing}
+use Rattle.session_rules.specs.Commands.{asking_act, shelf_called, change_made, command_done, lines_told, offer_again, remaking, retracting, shared_again, shelf_step_done, todo_done}
+use Rattle.session_rules.specs.Course.{Course, course_behind, with_terminal}
+use Rattle.session_rules.specs.Session.{free_line, line_done_by, next_line, opening_done, statement_done}
 use Rattle.session_rules.specs.SessionLaws.{tells_full}
-use Rattle.session_rules.specs.Shelf.{Reply, call_of, next_reply, todo_by}
+use Rattle.session_rules.specs.Shelf.{ShelfReply, call_of, next_reply, todo_by}
 use Rattle.session_rules.proofs.Tame.{Grows, InNeed, IsTame, NextIs, OnlyAdds, Took, and_further, by, grows_on, stays, tame_after, tame_asking, tame_by, tame_by_replies, tame_by_terminal, tame_called, tame_nothing, tame_terminal, waiting_count}
 
 -- ---- the editor
@@ -80,7 +80,7 @@ tame_retracting (name ∷ names) next h =
 tame_remaking : (offers : List Remake) (next : Course → Course) → IsTame next → IsTame (remaking offers next)
 tame_remaking [] next h = record { more = h.more; grows = h.grows; further = h.further; took = h.took; next = h.next }
 tame_remaking (offer ∷ offers) next h =
-    let k = tame_by_terminal (λ t. asking (offer_again offer t.workspace) (λ _ t. shared_again offer t) (remaking offers next)) (λ t.
+    let k = tame_by_terminal (λ t. asking_act (offer_again offer t.workspace) (λ _ t. shared_again offer t) (remaking offers next)) (λ t.
     tame_asking (offer_again offer t.workspace) (λ _ t. shared_again offer t) (remaking offers next) refl (λ answer t. stays t.transcript) (tame_remaking offers next h)) in
     record { more = k.more; grows = k.grows; further = k.further; took = k.took; next = k.next }
 
@@ -93,13 +93,13 @@ tame_change line todo = tame_after (finishing todo.change) (remaking todo.remake
 pub tame_todo : (line : List ℕ) (todo : PlainTodo) → IsTame (todo_done line todo)
 tame_todo line todo = tame_retracting todo.retract (change_made line todo) (tame_change line todo)
 
-tame_step : (line : List ℕ) (step : Step) → IsTame (step_done line step)
+tame_step : (line : List ℕ) (step : Step) → IsTame (shelf_step_done line step)
 tame_step line step =
-    tame_by_replies (λ replies c. todo_done line (todo_by step (next_reply replies)) (called (call_of step) c)) (λ replies.
+    tame_by_replies (λ replies c. todo_done line (todo_by step (next_reply replies)) (shelf_called (call_of step) c)) (λ replies.
     tame_called (call_of step) (todo_done line (todo_by step (next_reply replies))) (tame_todo line (todo_by step (next_reply replies))))
 
 tame_command : (line : List ℕ) → IsTame (command_done line)
-tame_command line = tame_by_terminal (λ t. step_done line (step_of line t.workspace t.id)) (λ t. tame_step line (step_of line t.workspace t.id))
+tame_command line = tame_by_terminal (λ t. shelf_step_done line (step_of line t.workspace t.id)) (λ t. tame_step line (step_of line t.workspace t.id))
 
 -- ---- statements
 
@@ -115,7 +115,7 @@ line_more : (read : Read) (line : List ℕ) (w : PlainWorkspace) (answers more :
 line_more (Ok tree) line w answers more left over = rest_comes_back tree line w answers more left over
 line_more (Err report) line w answers more left over = refl
 
-behind_more : (c : Course) (more : List PlainAnswer) (end : Effect) → IsOver end → behind (and_further more c) (and_more more end) ≡ and_further more (behind c end)
+behind_more : (c : Course) (more : List PlainAnswer) (end : Effect) → IsOver end → course_behind (and_further more c) (and_more more end) ≡ and_further more (course_behind c end)
 behind_more c more (gives nothing s) over = refl
 behind_more c more (refuses report s) over = refl
 behind_more c more (asks act s) over = absurd over
@@ -124,7 +124,7 @@ statement_more : (left : ℕ) (line : List ℕ) (c : Course) (more : List PlainA
 statement_more left line c more over =
     let end : Effect = mean_of_line line c.terminal.workspace c.answers left in
     let done : IsOver end = is_over end over in
-    ap (behind (and_further more c)) (line_more (read_with c.terminal.workspace line) line c.terminal.workspace c.answers more left done) ∙ behind_more c more end done
+    ap (course_behind (and_further more c)) (line_more (read_with c.terminal.workspace line) line c.terminal.workspace c.answers more left done) ∙ behind_more c more end done
 
 read_grows : (read : Read) (line : List ℕ) (w : PlainWorkspace) (answers more : List PlainAnswer) (left : ℕ)
     → Grows (state_of (mean_of_read read line w answers left)).printed (state_of (mean_of_read read line w (answers ++ more) left)).printed
@@ -139,7 +139,7 @@ read_takes (Ok tree) line w answers left = line_takes tree line w answers left
 read_takes (Err report) line w answers left = record { taken = []; acts = []; answers = refl; asked = refl; one_by_one = refl; reported = omega arith; in_need = tt }
 
 -- an answer that tells that the journal is full is reported
-full_is_reported : (k : AnswerKind) → cond (is_full k) 1 0 ≤ cond (is_some (report_of_kind k)) 1 0
+full_is_reported : (k : AnswerKind) → cond (is_full_kind k) 1 0 ≤ cond (is_some (report_of_kind k)) 1 0
 full_is_reported kind.Degree = omega arith
 full_is_reported kind.Granted = omega arith
 full_is_reported kind.Value = omega arith
@@ -166,7 +166,7 @@ no_more_full (answer ∷ answers) =
       no_more_full answers,
     )
 
-took_effect : (c : Course) (line : List ℕ) (left : ℕ) (end : Effect) → Takes (start_of line c.terminal.workspace c.answers left) end → Took c (behind c end) 1
+took_effect : (c : Course) (line : List ℕ) (left : ℕ) (end : Effect) → Takes (start_of line c.terminal.workspace c.answers left) end → Took c (course_behind c end) 1
 took_effect c line left (gives nothing s) k = record { taken = k.taken; acts = k.acts; answers = k.answers; asked = ap (λ acts. c.acts ++ acts) k.asked; one_by_one = k.one_by_one; full = omega (arith, k.reported, no_more_full k.taken); in_need = tt }
 took_effect c line left (refuses report s) k = record { taken = k.taken; acts = k.acts; answers = k.answers; asked = ap (λ acts. c.acts ++ acts) k.asked; one_by_one = k.one_by_one; full = omega (arith, k.reported, no_more_full k.taken); in_need = tt }
 took_effect c line left (asks act s) k = record { taken = k.taken; acts = k.acts; answers = k.answers; asked = ap (λ acts. c.acts ++ acts) k.asked; one_by_one = k.one_by_one; full = omega (arith, k.reported, no_more_full k.taken); in_need = k.in_need }
@@ -176,7 +176,7 @@ read_next : (read : Read) (line : List ℕ) (w : PlainWorkspace) (answers more :
 read_next (Ok tree) line w answers more answer left = line_next tree line w answers more answer left
 read_next (Err report) line w answers more answer left = tt
 
-effect_next : (c d : Course) (end after : Effect) (asked : Act) → d.acts ≡ c.acts → waiting_act end ≡ Some asked → GoesOnIn end after → NextIs (behind c end) (behind d after) asked
+effect_next : (c d : Course) (end after : Effect) (asked : Act) → d.acts ≡ c.acts → waiting_act end ≡ Some asked → GoesOnIn end after → NextIs (course_behind c end) (course_behind d after) asked
 effect_next c d (gives nothing s) after asked same is h = absurd (let no : None ≡ Some asked = is in cc)
 effect_next c d (refuses report s) after asked same is h = absurd (let no : None ≡ Some asked = is in cc)
 effect_next c d (asks act s) after asked same is h =
@@ -209,7 +209,7 @@ tame_free left line =
     tame_by (is_opening line) (opening_done line) (λ c. if is_command line then command_done line c else statement_done left line c) (tame_opening line)
     (tame_by (is_command line) (command_done line) (statement_done left line) (tame_command line) (tame_statement left line))
 
-tame_line : (left : ℕ) (line : List ℕ) (definition : Option PlainEditor) → IsTame (line_by left line definition)
+tame_line : (left : ℕ) (line : List ℕ) (definition : Option PlainEditor) → IsTame (line_done_by left line definition)
 tame_line left line None =
     let h = tame_after (echoing free_prompt line) (free_line left line) (echoing_adds free_prompt line) (tame_free left line) in
     record { more = h.more; grows = h.grows; further = h.further; took = h.took; next = h.next }
@@ -223,5 +223,5 @@ tame_line left line (Some editor) =
 pub tame_next : (left : ℕ) (ended : Bool) (line : List ℕ) → IsTame (next_line left None ended line)
 tame_next left true line = let h = tame_nothing in record { more = h.more; grows = h.grows; further = h.further; took = h.took; next = h.next }
 tame_next left false line =
-    let h = tame_by_terminal (λ t. line_by left line t.definition) (λ t. tame_line left line t.definition) in
+    let h = tame_by_terminal (λ t. line_done_by left line t.definition) (λ t. tame_line left line t.definition) in
     record { more = h.more; grows = h.grows; further = h.further; took = h.took; next = h.next }

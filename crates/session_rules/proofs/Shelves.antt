@@ -7,16 +7,16 @@ use Rattle.apl_io.specs.declared.store_error.StoreError.{StoreError}
 use Rattle.apl_io.specs.declared.store_error.StoreError.TheVariants.{Failed, WantOfMemory}
 use Rattle.sv_events.specs.Answer.{PlainAnswer}
 use Rattle.sv_events.specs.declared.event.Act.{Act}
-use Rattle.ws_commands.specs.Shelf.{CountsFaults, Follows, IsCall, Takes}
+use Rattle.ws_commands.specs.Shelf.{CountsFaults, FollowsCall, IsCall, Takes}
 use Rattle.ws_commands.specs.Step.{Step, does, reads, writes, removes, lists}
 use Rattle.ws_commands.specs.Todo.{PlainTodo, faulted}
 use Rattle.apl_terminal.specs.Terminal.{PlainTerminal}
-use Rattle.session_rules.specs.Commands.{called, step_done, todo_done}
+use Rattle.session_rules.specs.Commands.{shelf_called, shelf_step_done, todo_done}
 use Rattle.session_rules.specs.Course.{course_at}
-use Rattle.session_rules.specs.Shelf.{Call, Exchange, IsReplied, IsShelfRun, Reply, Serves, browse, browsed, call_of, discard, discarded, failed, fetch, fetched, replies_in, store, stored, todo_by}
+use Rattle.session_rules.specs.Shelf.{Call, Exchange, IsReplied, IsShelfRun, ShelfReply, Serves, browse, browsed, call_of, discard, discarded, failed, fetch, fetched, shelf_replies_in, store, stored, todo_by}
 
 -- the replies of later exchanges come behind those of earlier ones
-pub replies_behind : (more earlier : List Exchange) → replies_in (more ++ earlier) ≡ replies_in earlier ++ replies_in more
+pub replies_behind : (more earlier : List Exchange) → shelf_replies_in (more ++ earlier) ≡ shelf_replies_in earlier ++ shelf_replies_in more
 replies_behind more earlier =
     ap reverse (map-append (λ (e : Exchange). e.reply) more earlier) ∙ reverse-append (map (λ (e : Exchange). e.reply) more) (map (λ (e : Exchange). e.reply) earlier)
 
@@ -30,22 +30,22 @@ module _ {K : Type 0} (told : K → Option (Told (ℕ × List ℕ))) (faults : K
   pub record IsStepped (line : List ℕ) (step : Step) (todo : PlainTodo) (old new : K) : Type 0 where
     pub more : List Exchange
     pub run : IsShelfRun told faults user old more new
-    pub same : (t : PlainTerminal) (acts : List Act) (exchanges : List Exchange) (further : List PlainAnswer) (rest : List Reply)
-        → step_done line step (course_at t acts exchanges further (replies_in more ++ rest)) ≡ todo_done line todo (course_at t acts (more ++ exchanges) further rest)
+    pub same : (t : PlainTerminal) (acts : List Act) (exchanges : List Exchange) (further : List PlainAnswer) (rest : List ShelfReply)
+        → shelf_step_done line step (course_at t acts exchanges further (shelf_replies_in more ++ rest)) ≡ todo_done line todo (course_at t acts (more ++ exchanges) further rest)
 
   -- a step that is a call, and its reply
-  replied : (line : List ℕ) (step : Step) (todo : PlainTodo) (call : Call) (reply : Reply) (old new : K) → call_of step ≡ Some call → todo_by step reply ≡ todo → Serves told faults user call old reply new → IsStepped line step todo old new
+  replied : (line : List ℕ) (step : Step) (todo : PlainTodo) (call : Call) (reply : ShelfReply) (old new : K) → call_of step ≡ Some call → todo_by step reply ≡ todo → Serves told faults user call old reply new → IsStepped line step todo old new
   replied line step todo call reply old new is by served = record {
     more = record { call = call; reply = reply } ∷ [];
     run = (old, refl, served);
     same = λ t acts exchanges further rest.
-        ap₂ (λ (o : Option Call) (found : PlainTodo). todo_done line found (called o (course_at t acts exchanges further (reply ∷ rest)))) is by;
+        ap₂ (λ (o : Option Call) (found : PlainTodo). todo_done line found (shelf_called o (course_at t acts exchanges further (reply ∷ rest)))) is by;
   }
 
-  module _ {T : Type 0} (line : List ℕ) (step : Step) (call : Call) (said : T → Reply) (next : T → PlainTodo) (Tells : Option (Told (ℕ × List ℕ)) → Result T StoreError → Option (Told (ℕ × List ℕ)) → Type 0) (old : K) (todo : PlainTodo) (new : K)
+  module _ {T : Type 0} (line : List ℕ) (step : Step) (call : Call) (said : T → ShelfReply) (next : T → PlainTodo) (Tells : Option (Told (ℕ × List ℕ)) → Result T StoreError → Option (Told (ℕ × List ℕ)) → Type 0) (old : K) (todo : PlainTodo) (new : K)
       (is : call_of step ≡ Some call) (goes : (found : T) → todo_by step (said found) ≡ next found) (fails : todo_by step failed ≡ faulted)
-      (serves : (reply : Reply) → IsReplied told faults Tells said old reply new → Serves told faults user call old reply new) where
-    answered : (answer : Result T StoreError) → Tells (told old) answer (told new) → CountsFaults (faults old) (faults new) answer → Follows next answer todo → IsStepped line step todo old new
+      (serves : (reply : ShelfReply) → IsReplied told faults Tells said old reply new → Serves told faults user call old reply new) where
+    answered : (answer : Result T StoreError) → Tells (told old) answer (told new) → CountsFaults (faults old) (faults new) answer → FollowsCall next answer todo → IsStepped line step todo old new
     answered (Ok found) tells counts after =
         replied line step todo call (said found) old new is (goes found ∙ sym after) (serves (said found) (record { answer = Ok found; told_answer = tells; fault = counts; is_reply = refl }))
     answered (Err Failed) tells counts after =

@@ -7,10 +7,10 @@ use Rattle.sv_events.specs.Answer.{PlainAnswer}
 use Rattle.sv_events.specs.declared.event.Act.{Act}
 use Rattle.sv_rules.specs.Entries.{is_leave}
 use Rattle.apl_meaning.specs.Meaning.{most_statements}
-use Rattle.session_rules.specs.Course.{Course, beginning}
+use Rattle.session_rules.specs.Course.{Course, course_beginning}
 use Rattle.session_rules.specs.Session.{lines_done, next_line, session_of}
 use Rattle.session_rules.specs.SessionLaws.{AnswersAreTakenOneByOne, FullEndsItsLine, NoLineLeaves, TheNextAnswerIsTaken, tells_full}
-use Rattle.session_rules.specs.Shelf.{Reply}
+use Rattle.session_rules.specs.Shelf.{ShelfReply}
 use Rattle.session_rules.proofs.MoreAnswers.{next_more, waits_on}
 use Rattle.session_rules.proofs.Parts.{tame_next}
 use Rattle.session_rules.proofs.Tame.{InNeed, IsTame, NextIs, Took, and_further, waiting_count}
@@ -66,7 +66,7 @@ needs : (c : Course) (asked : Act) → c.waits ≡ Some asked → InNeed c.answe
 needs c asked is h = subst (λ waits. InNeed c.answers waits) is h
 
 -- so the session took all that it was given
-all_taken : (lines : List (List ℕ)) (answers : List PlainAnswer) (replies : List Reply) (asked : Act) → (session_of lines answers replies).waits ≡ Some asked → (k : Took (beginning answers replies) (session_of lines answers replies) (length lines)) → answers ≡ k.taken
+all_taken : (lines : List (List ℕ)) (answers : List PlainAnswer) (replies : List ShelfReply) (asked : Act) → (session_of lines answers replies).waits ≡ Some asked → (k : Took (course_beginning answers replies) (session_of lines answers replies) (length lines)) → answers ≡ k.taken
 all_taken lines answers replies asked is k = k.answers ∙ ap (λ rest. k.taken ++ rest) (needs (session_of lines answers replies) asked is k.in_need).0 ∙ append-nil k.taken
 
 some_act : (waits : Option Act) → IsSome waits → (asked : Act) × (waits ≡ Some asked)
@@ -77,20 +77,20 @@ some_act (Some asked) some = (asked, refl)
 pub one_by_one : AnswersAreTakenOneByOne
 one_by_one lines answers replies some =
     let waits = some_act (session_of lines answers replies).waits some in
-    let k = lines_took most_statements lines (beginning answers replies) refl in
+    let k = lines_took most_statements lines (course_beginning answers replies) refl in
     let whole : answers ≡ k.taken = all_taken lines answers replies waits.0 waits.1 k in
     ((needs (session_of lines answers replies) waits.0 waits.1 k.in_need).0, ap length k.asked ∙ k.one_by_one ∙ ap length (sym whole))
 
 -- no line asks to leave
 pub none_leaves : NoLineLeaves
 none_leaves lines answers replies asked is =
-    let k = lines_took most_statements lines (beginning answers replies) refl in ap not (needs (session_of lines answers replies) asked is k.in_need).1
+    let k = lines_took most_statements lines (course_beginning answers replies) refl in ap not (needs (session_of lines answers replies) asked is k.in_need).1
 
 -- while an act waits, fewer answers than lines told that the journal is full
 pub full_is_rare : FullEndsItsLine
 full_is_rare lines answers replies some =
     let waits = some_act (session_of lines answers replies).waits some in
-    let k = lines_took most_statements lines (beginning answers replies) refl in
+    let k = lines_took most_statements lines (course_beginning answers replies) refl in
     let whole : answers ≡ k.taken = all_taken lines answers replies waits.0 waits.1 k in
     omega (arith, k.full, ap (count_by tells_full) whole, ap waiting_count waits.1)
 
@@ -146,8 +146,8 @@ nothing_more (act ∷ acts) few = absurd (omega arith)
 -- an act that waits takes the next answer, and no other does
 pub next_is_taken : TheNextAnswerIsTaken
 next_is_taken lines answers replies answer asked is =
-    let n = lines_next most_statements lines answer [] (beginning answers replies) refl asked is in
-    let k = lines_took most_statements lines (beginning (answers ++ answer ∷ []) replies) refl in
+    let n = lines_next most_statements lines answer [] (course_beginning answers replies) refl asked is in
+    let k = lines_took most_statements lines (course_beginning (answers ++ answer ∷ []) replies) refl in
     let few : length n.acts ≤ 0 =
     omega (
       arith,
@@ -167,7 +167,7 @@ nothing_taken [] rest e = refl
 nothing_taken (answer ∷ taken) rest e = absurd cc
 
 -- without answers no act was answered
-pub none_asked : (lines : List (List ℕ)) (replies : List Reply) → (session_of lines [] replies).acts ≡ []
+pub none_asked : (lines : List (List ℕ)) (replies : List ShelfReply) → (session_of lines [] replies).acts ≡ []
 none_asked lines replies =
-    let k = lines_took most_statements lines (beginning [] replies) refl in
+    let k = lines_took most_statements lines (course_beginning [] replies) refl in
     k.asked ∙ nothing_more k.acts (omega (arith, k.one_by_one, ap length (nothing_taken k.taken (session_of lines [] replies).answers k.answers)))

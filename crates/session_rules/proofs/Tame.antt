@@ -6,7 +6,7 @@ use Rattle.std.specs.Prelude.{Option, Some, None, count_by, if◌then◌else◌}
 use Rattle.apl_arrays.specs.Report.{report_text}
 use Rattle.apl_arrays.specs.declared.report.Report.{Report}
 use Rattle.sv_events.specs.Answer.{PlainAnswer}
-use Rattle.sv_events.specs.Fits.{is_full}
+use Rattle.sv_events.specs.Fits.{is_full_kind}
 use Rattle.sv_events.specs.Row.{answer_row}
 use Rattle.sv_events.specs.declared.event.Act.{Act}
 use Rattle.sv_events.specs.declared.row.AnswerKind.{AnswerKind}
@@ -14,10 +14,10 @@ use Rattle.sv_events.specs.declared.row.AnswerKind.TheVariants as kind
 use Rattle.sv_rules.specs.Entries.{is_leave}
 use Rattle.apl_terminal.specs.Commands.{naming_alone}
 use Rattle.apl_terminal.specs.Terminal.{PlainTerminal}
-use Rattle.session_rules.specs.Commands.{asked_by, asking, called, command_end, unless_ended}
+use Rattle.session_rules.specs.Commands.{asking_act_by, asking_act, shelf_called, command_end, unless_reported}
 use Rattle.session_rules.specs.Course.{Course, with_terminal}
 use Rattle.session_rules.specs.SessionLaws.{tells_full}
-use Rattle.session_rules.specs.Shelf.{Call, Reply}
+use Rattle.session_rules.specs.Shelf.{Call, ShelfReply}
 
 -- a session with more answers behind those that are left
 abbrev pub and_further : List PlainAnswer → Course → Course
@@ -152,7 +152,7 @@ tame_by_terminal f h = record {
 }
 
 -- a part by the replies
-pub tame_by_replies : (f : List Reply → Course → Course) → ((replies : List Reply) → IsTame (f replies)) → IsTame (λ c. f c.replies c)
+pub tame_by_replies : (f : List ShelfReply → Course → Course) → ((replies : List ShelfReply) → IsTame (f replies)) → IsTame (λ c. f c.replies c)
 tame_by_replies f h = record {
   more = λ c more over. (h c.replies).more c more over;
   grows = λ c. (h c.replies).grows c;
@@ -162,27 +162,27 @@ tame_by_replies f h = record {
 }
 
 -- a part behind a call of the shelf
-pub tame_called : (call : Option Call) (f : Course → Course) → IsTame f → IsTame (λ c. f (called call c))
+pub tame_called : (call : Option Call) (f : Course → Course) → IsTame f → IsTame (λ c. f (shelf_called call c))
 tame_called None f h = record { more = h.more; grows = h.grows; further = h.further; took = h.took; next = h.next }
 tame_called (Some call) f h = record {
-  more = λ c more over. h.more (called (Some call) c) more over;
-  grows = λ c. h.grows (called (Some call) c);
-  further = λ c more. h.further (called (Some call) c) more;
-  took = λ c none. took_from (called (Some call) c) c (f (called (Some call) c)) 1 refl refl (h.took (called (Some call) c) none);
-  next = λ c answer more asked none is. h.next (called (Some call) c) answer more asked none is;
+  more = λ c more over. h.more (shelf_called (Some call) c) more over;
+  grows = λ c. h.grows (shelf_called (Some call) c);
+  further = λ c more. h.further (shelf_called (Some call) c) more;
+  took = λ c none. took_from (shelf_called (Some call) c) c (f (shelf_called (Some call) c)) 1 refl refl (h.took (shelf_called (Some call) c) none);
+  next = λ c answer more asked none is. h.next (shelf_called (Some call) c) answer more asked none is;
 }
 
 -- ---- an act of a command
 
 -- an answer may end it
-pub tame_unless : (ended : Option Report) (next : Course → Course) → IsTame next → IsTame (unless_ended ended next)
+pub tame_unless : (ended : Option Report) (next : Course → Course) → IsTame next → IsTame (unless_reported ended next)
 tame_unless None next h = record { more = h.more; grows = h.grows; further = h.further; took = h.took; next = h.next }
 tame_unless (Some report) next h =
     let k = tame_terminal (naming_alone report) (λ t. by t.transcript (report_text report ∷ [])) in
     record { more = k.more; grows = k.grows; further = k.further; took = k.took; next = k.next }
 
 -- one that tells that the journal is full does
-full_ends : (k : AnswerKind) → command_end k ≡ None → is_full k ≡ false
+full_ends : (k : AnswerKind) → command_end k ≡ None → is_full_kind k ≡ false
 full_ends kind.Degree none = refl
 full_ends kind.Granted none = refl
 full_ends kind.Value none = refl
@@ -205,7 +205,7 @@ module _ (asked : Act) (leaves : PlainAnswer → PlainTerminal → PlainTerminal
 
   -- what comes behind an answer
   abbrev told : PlainAnswer → Course → Course
-  told answer d = unless_ended (command_end (answer_row answer).row.kind) (going answer) d
+  told answer d = unless_reported (command_end (answer_row answer).row.kind) (going answer) d
 
   -- with the act asked, and these answers left
   abbrev taking : List PlainAnswer → Course → Course
@@ -215,20 +215,20 @@ module _ (asked : Act) (leaves : PlainAnswer → PlainTerminal → PlainTerminal
     tame_told : (answer : PlainAnswer) → IsTame (told answer)
     tame_told answer = tame_unless (command_end (answer_row answer).row.kind) (going answer) (tame_after (leaves answer) next (adds answer) h)
 
-    more_by : (list : List PlainAnswer) (c : Course) (more : List PlainAnswer) → (asked_by list asked leaves next c).waits ≡ None → asked_by (list ++ more) asked leaves next (and_further more c) ≡ and_further more (asked_by list asked leaves next c)
+    more_by : (list : List PlainAnswer) (c : Course) (more : List PlainAnswer) → (asking_act_by list asked leaves next c).waits ≡ None → asking_act_by (list ++ more) asked leaves next (and_further more c) ≡ and_further more (asking_act_by list asked leaves next c)
     more_by [] c more over = absurd (let no : Some asked ≡ None = over in cc)
     more_by (answer ∷ list) c more over = (tame_told answer).more (taking list c) more over
 
-    grows_by : (list : List PlainAnswer) (c : Course) → Grows c.terminal.transcript (asked_by list asked leaves next c).terminal.transcript
+    grows_by : (list : List PlainAnswer) (c : Course) → Grows c.terminal.transcript (asking_act_by list asked leaves next c).terminal.transcript
     grows_by [] c = stays c.terminal.transcript
     grows_by (answer ∷ list) c = (tame_told answer).grows (taking list c)
 
-    further_by : (list : List PlainAnswer) (c : Course) (more : List PlainAnswer) → Grows (asked_by list asked leaves next c).terminal.transcript (asked_by (list ++ more) asked leaves next (and_further more c)).terminal.transcript
+    further_by : (list : List PlainAnswer) (c : Course) (more : List PlainAnswer) → Grows (asking_act_by list asked leaves next c).terminal.transcript (asking_act_by (list ++ more) asked leaves next (and_further more c)).terminal.transcript
     further_by [] c more = grows_by more (and_further more c)
     further_by (answer ∷ list) c more = (tame_told answer).further (taking list c) more
 
     -- the answer ended it
-    took_end : (c : Course) (answer : PlainAnswer) (list : List PlainAnswer) (report : Report) → c.answers ≡ answer ∷ list → c.waits ≡ None → Took c (unless_ended (Some report) (going answer) (taking list c)) 1
+    took_end : (c : Course) (answer : PlainAnswer) (list : List PlainAnswer) (report : Report) → c.answers ≡ answer ∷ list → c.waits ≡ None → Took c (unless_reported (Some report) (going answer) (taking list c)) 1
     took_end c answer list report is none = record {
       taken = answer ∷ [];
       acts = asked ∷ [];
@@ -251,12 +251,12 @@ module _ (asked : Act) (leaves : PlainAnswer → PlainTerminal → PlainTerminal
       in_need = k.in_need;
     }
 
-    took_told : (ended : Option Report) (c : Course) (answer : PlainAnswer) (list : List PlainAnswer) → command_end (answer_row answer).row.kind ≡ ended → c.answers ≡ answer ∷ list → c.waits ≡ None → Took c (unless_ended ended (going answer) (taking list c)) 1
+    took_told : (ended : Option Report) (c : Course) (answer : PlainAnswer) (list : List PlainAnswer) → command_end (answer_row answer).row.kind ≡ ended → c.answers ≡ answer ∷ list → c.waits ≡ None → Took c (unless_reported ended (going answer) (taking list c)) 1
     took_told None c answer list e is none =
         took_on c answer list (going answer (taking list c)) is (full_ends (answer_row answer).row.kind e) ((tame_after (leaves answer) next (adds answer) h).took (taking list c) none)
     took_told (Some report) c answer list e is none = took_end c answer list report is none
 
-    took_by : (list : List PlainAnswer) (c : Course) → c.answers ≡ list → c.waits ≡ None → Took c (asked_by list asked leaves next c) 1
+    took_by : (list : List PlainAnswer) (c : Course) → c.answers ≡ list → c.waits ≡ None → Took c (asking_act_by list asked leaves next c) 1
     took_by [] c is none = record {
       taken = [];
       acts = [];
@@ -268,8 +268,8 @@ module _ (asked : Act) (leaves : PlainAnswer → PlainTerminal → PlainTerminal
     }
     took_by (answer ∷ list) c is none = took_told (command_end (answer_row answer).row.kind) c answer list refl is none
 
-    next_by : (list : List PlainAnswer) (c : Course) (answer : PlainAnswer) (more : List PlainAnswer) (other : Act) → c.waits ≡ None → (asked_by list asked leaves next c).waits ≡ Some other
-        → NextIs (asked_by list asked leaves next c) (asked_by (list ++ answer ∷ more) asked leaves next (and_further (answer ∷ more) c)) other
+    next_by : (list : List PlainAnswer) (c : Course) (answer : PlainAnswer) (more : List PlainAnswer) (other : Act) → c.waits ≡ None → (asking_act_by list asked leaves next c).waits ≡ Some other
+        → NextIs (asking_act_by list asked leaves next c) (asking_act_by (list ++ answer ∷ more) asked leaves next (and_further (answer ∷ more) c)) other
     next_by [] c answer more other none is =
         let same : asked ≡ other = let both : Some asked ≡ Some other = is in cc in
         let k = (tame_told answer).took (taking more c) none in
@@ -277,7 +277,7 @@ module _ (asked : Act) (leaves : PlainAnswer → PlainTerminal → PlainTerminal
     next_by (first ∷ list) c answer more other none is = (tame_told first).next (taking list c) answer more other none is
 
     -- an act that is no leave, behind whose answer lines are only added, before a tame part
-    pub tame_asking : IsTame (asking asked leaves next)
+    pub tame_asking : IsTame (asking_act asked leaves next)
     tame_asking = record {
       more = λ c more over. more_by c.answers c more over;
       grows = λ c. grows_by c.answers c;

@@ -33,12 +33,12 @@ abbrev pub is_use_on : List ℕ → Accessing → Bool
 is_use_on local access = not (is_set access.kind) && same_name access.local local
 
 -- an entry is a party's use of a name
-abbrev pub uses : ℕ → List ℕ → PlainEntry → Bool
-uses party local e = e.party == party && option_map_or (is_use_on local) (act_row e.act).row.accesses false
+abbrev pub is_use_of : ℕ → List ℕ → PlainEntry → Bool
+is_use_of party local e = e.party == party && option_map_or (is_use_on local) (act_row e.act).row.accesses false
 
 -- the value that a party got by its last use of a name
 abbrev pub value_used : Entries → ℕ → List ℕ → Option PlainArray
-value_used journal party local = option_and_then (λ e. value_got e.answer) (find (uses party local) journal)
+value_used journal party local = option_and_then (λ e. value_got e.answer) (find (is_use_of party local) journal)
 
 -- the reply to the value that a party used last on a name, where it was set on this name
 abbrev pub reply_to : Option PlainArray → Option ℕ → Option PlainArray → Option Event

@@ -14,10 +14,10 @@ use Rattle.sv_events.specs.declared.row.AnswerKind.TheVariants as kind
 use Rattle.ws_commands.specs.Reading.{step_of}
 use Rattle.ws_commands.specs.Step.{Step}
 use Rattle.ws_commands.specs.Todo.{PlainTodo}
-use Rattle.apl_terminal.specs.Commands.{finishing, naming_alone, sharing, telling, unsharing}
+use Rattle.apl_terminal.specs.Commands.{finishing, naming_alone, terminal_sharing, telling, unsharing}
 use Rattle.apl_terminal.specs.Terminal.{PlainTerminal}
 use Rattle.session_rules.specs.Course.{Course, with_terminal}
-use Rattle.session_rules.specs.Shelf.{Call, Exchange, Reply, call_of, next_reply, todo_by}
+use Rattle.session_rules.specs.Shelf.{Call, Exchange, ShelfReply, call_of, next_reply, todo_by}
 
 -- ---- acts of a command
 
@@ -28,24 +28,24 @@ command_end kind.OfferLimit = Some SvLimit
 command_end _ = None
 
 -- a command is ended by the name of a report, alone, or it goes on
-abbrev pub unless_ended : Option Report → (Course → Course) → Course → Course
-unless_ended None next c = next c
-unless_ended (Some report) next c = with_terminal (naming_alone report c.terminal) c
+abbrev pub unless_reported : Option Report → (Course → Course) → Course → Course
+unless_reported None next c = next c
+unless_reported (Some report) next c = with_terminal (naming_alone report c.terminal) c
 
 -- an act of a command takes the first of these answers, and the command goes on behind what that leaves, unless it ends; without an answer the act waits
-abbrev pub asked_by : List PlainAnswer → Act → (PlainAnswer → PlainTerminal → PlainTerminal) → (Course → Course) → Course → Course
-asked_by [] asked leaves next c = record c { waits = Some asked }
-asked_by (answer ∷ answers) asked leaves next c =
-    unless_ended (command_end (answer_row answer).row.kind) (λ d. next (with_terminal (leaves answer d.terminal) d)) (record c { acts = c.acts ++ asked ∷ []; answers = answers })
+abbrev pub asking_act_by : List PlainAnswer → Act → (PlainAnswer → PlainTerminal → PlainTerminal) → (Course → Course) → Course → Course
+asking_act_by [] asked leaves next c = record c { waits = Some asked }
+asking_act_by (answer ∷ answers) asked leaves next c =
+    unless_reported (command_end (answer_row answer).row.kind) (λ d. next (with_terminal (leaves answer d.terminal) d)) (record c { acts = c.acts ++ asked ∷ []; answers = answers })
 
 -- an act of a command, and what comes behind it
-abbrev pub asking : Act → (PlainAnswer → PlainTerminal → PlainTerminal) → (Course → Course) → Course → Course
-asking asked leaves next c = asked_by c.answers asked leaves next c
+abbrev pub asking_act : Act → (PlainAnswer → PlainTerminal → PlainTerminal) → (Course → Course) → Course → Course
+asking_act asked leaves next c = asking_act_by c.answers asked leaves next c
 
 -- shared names are retracted, one after another
 abbrev pub retracting : List (List ℕ) → (Course → Course) → Course → Course
 retracting [] next c = next c
-retracting (name ∷ names) next c = asking (act.Retract name) (unsharing name) (retracting names next) c
+retracting (name ∷ names) next c = asking_act (act.Retract name) (unsharing name) (retracting names next) c
 
 -- an offer with the value that its name has
 abbrev pub offer_again : Remake → PlainWorkspace → Act
@@ -53,12 +53,12 @@ offer_again offer w = act.Offer offer.to offer.local offer.surrogate (value_of (
 
 -- a name that was offered again is shared, with the value that it has
 abbrev pub shared_again : Remake → PlainTerminal → PlainTerminal
-shared_again offer t = sharing offer (value_of (global_in t.workspace offer.local)) t
+shared_again offer t = terminal_sharing offer (value_of (global_in t.workspace offer.local)) t
 
 -- offers are made again, one after another
 abbrev pub remaking : List Remake → (Course → Course) → Course → Course
 remaking [] next c = next c
-remaking (offer ∷ offers) next c = asking (offer_again offer c.terminal.workspace) (λ _ t. shared_again offer t) (remaking offers next) c
+remaking (offer ∷ offers) next c = asking_act (offer_again offer c.terminal.workspace) (λ _ t. shared_again offer t) (remaking offers next) c
 
 -- ---- a command
 
@@ -75,14 +75,14 @@ abbrev pub todo_done : List ℕ → PlainTodo → Course → Course
 todo_done line todo c = retracting todo.retract (change_made line todo) c
 
 -- a call of the shelf takes the next reply
-abbrev pub called : Option Call → Course → Course
-called None c = c
-called (Some call) c = record c { exchanges = record { call = call; reply = next_reply c.replies } ∷ c.exchanges; replies = drop 1 c.replies }
+abbrev pub shelf_called : Option Call → Course → Course
+shelf_called None c = c
+shelf_called (Some call) c = record c { exchanges = record { call = call; reply = next_reply c.replies } ∷ c.exchanges; replies = drop 1 c.replies }
 
 -- a step takes the next reply, if it is a call, and then is done what is to be done by it
-abbrev pub step_done : List ℕ → Step → Course → Course
-step_done line step c = todo_done line (todo_by step (next_reply c.replies)) (called (call_of step) c)
+abbrev pub shelf_step_done : List ℕ → Step → Course → Course
+shelf_step_done line step c = todo_done line (todo_by step (next_reply c.replies)) (shelf_called (call_of step) c)
 
 -- a line that is a command
 abbrev pub command_done : List ℕ → Course → Course
-command_done line c = step_done line (step_of line c.terminal.workspace c.terminal.id) c
+command_done line c = shelf_step_done line (step_of line c.terminal.workspace c.terminal.id) c

@@ -7,7 +7,7 @@ use Rattle.sv_rules.specs.Entries.{Entries, has_left, is_full, is_held, is_leave
 use Rattle.sv_rules.specs.Refused.{awaited}
 use Rattle.bundle_text.specs.User.{PlainUser}
 use Rattle.session_rules.specs.Session.{session_of}
-use Rattle.session_rules.specs.Shelf.{Exchange, replies_in}
+use Rattle.session_rules.specs.Shelf.{Exchange, shelf_replies_in}
 
 -- the entry is a party's, and answers an act of its lines: it is no leave, and the party does not wait behind it
 abbrev pub answers_line : ℕ → PlainEntry → Bool
@@ -32,10 +32,10 @@ before_leave (e ∷ journal) party = if e.party == party && is_leave e.act then 
 
 -- a user's lines, given the answers of these entries and then full for some acts, and the replies of these exchanges, ask the acts of the entries and then those acts, wait for none, make the calls of the exchanges, and print this transcript
 pub record IsFinished (lines : List (List ℕ)) (entries : Entries) (refused : List Act) (exchanges : List Exchange) (transcript : List (List ℕ)) : Type 0 where
-  pub acts : (session_of lines (answers_of entries ++ map (λ act. full) refused) (replies_in exchanges)).acts ≡ acts_of entries ++ refused
-  pub waits : (session_of lines (answers_of entries ++ map (λ act. full) refused) (replies_in exchanges)).waits ≡ None
-  pub calls : (session_of lines (answers_of entries ++ map (λ act. full) refused) (replies_in exchanges)).exchanges ≡ exchanges
-  pub printed : (session_of lines (answers_of entries ++ map (λ act. full) refused) (replies_in exchanges)).terminal.transcript ≡ transcript
+  pub acts : (session_of lines (answers_of entries ++ map (λ act. full) refused) (shelf_replies_in exchanges)).acts ≡ acts_of entries ++ refused
+  pub waits : (session_of lines (answers_of entries ++ map (λ act. full) refused) (shelf_replies_in exchanges)).waits ≡ None
+  pub calls : (session_of lines (answers_of entries ++ map (λ act. full) refused) (shelf_replies_in exchanges)).exchanges ≡ exchanges
+  pub printed : (session_of lines (answers_of entries ++ map (λ act. full) refused) (shelf_replies_in exchanges)).terminal.transcript ≡ transcript
 
 -- a user's part. It has left. Its lines are finished by the answers of its entries, and by full for further acts, with these exchanges with its shelf. There are such acts only where the journal was full before the user left; and where the user waited when it left, the act that it waited for is the first of them
 pub record IsUserPart (journal : Entries) (user : PlainUser) (exchanges : List Exchange) (transcript : List (List ℕ)) : Type 0 where

@@ -13,8 +13,8 @@ use Rattle.sv_access.specs.declared.access.Kind.{Kind}
 use Rattle.sv_access.specs.declared.access.Kind.TheVariants.{Set, Use}
 use Rattle.sv_access.specs.declared.cases.Case.{Case}
 use Rattle.sv_access.specs.declared.control.Control.{Control}
-use Rattle.sv_access.specs.declared.state.State.{State}
-use Rattle.sv_access.specs.declared.state.State.TheVariants.{Quiet, UnseenA, UnseenB}
+use Rattle.sv_access.specs.declared.state.AccessState.{AccessState}
+use Rattle.sv_access.specs.declared.state.AccessState.TheVariants.{Quiet, UnseenA, UnseenB}
 use Rattle.sv_access.specs.Access.{same_side, same_kind}
 use Rattle.sv_access.specs.Control.{four_elements, same_control}
 use Rattle.sv_access.specs.State.{same_state}
@@ -22,7 +22,7 @@ use Rattle.sv_access.specs.Table.{verdict_of}
 use Rattle.sv_access.specs.Cases.{case_of, is_case_of, HasEachCaseOnce}
 
 -- the line on a control and an access, as the code pairs them
-abbrev pub case_on : Control → State × Side × Kind → Case
+abbrev pub case_on : Control → AccessState × Side × Kind → Case
 case_on control access = case_of control access.0 access.1 access.2
 
 -- stands for a line where there is none
@@ -30,18 +30,18 @@ abbrev pub no_case : Case
 no_case = case_of (four_elements false false false false) Quiet A Set
 
 -- the line at a place: each control in turn with the twelve accesses in turn
-abbrev pub case_at : List Control → List (State × Side × Kind) → ℕ → Case
+abbrev pub case_at : List Control → List (AccessState × Side × Kind) → ℕ → Case
 case_at controls accesses place =
     case_on (get_or controls (place / 12) (four_elements false false false false)) (get_or accesses (place % 12) (Quiet, A, Set))
 
 -- of 192 places, those below this one have their lines
-pub record AreFilledBelow (controls : List Control) (accesses : List (State × Side × Kind)) (cases : List Case) (place : ℕ) : Type 0 where
+pub record AreFilledBelow (controls : List Control) (accesses : List (AccessState × Side × Kind)) (cases : List Case) (place : ℕ) : Type 0 where
   pub room : length cases ≡ 192
   pub lines : (k : ℕ) → k < place → get_or cases k no_case ≡ case_at controls accesses k
 
 -- one line more is filled in, from whatever a read past the end would give
-pub filled_more : {controls : List Control} {accesses : List (State × Side × Kind)} {cases : List Case} {place : ℕ} {case : Case}
-    (control : Control) (access : State × Side × Kind) →
+pub filled_more : {controls : List Control} {accesses : List (AccessState × Side × Kind)} {cases : List Case} {place : ℕ} {case : Case}
+    (control : Control) (access : AccessState × Side × Kind) →
     place < 192 →
     length controls ≡ 16 →
     length accesses ≡ 12 →
@@ -66,7 +66,7 @@ every_control =
     []
 
 -- the twelve accesses in a state, in the code's order
-abbrev pub every_access : List (State × Side × Kind)
+abbrev pub every_access : List (AccessState × Side × Kind)
 every_access =
     (Quiet, A, Set) ∷ (Quiet, B, Set) ∷ (Quiet, A, Use) ∷ (Quiet, B, Use) ∷
     (UnseenA, A, Set) ∷ (UnseenA, B, Set) ∷ (UnseenA, A, Use) ∷ (UnseenA, B, Use) ∷
@@ -93,7 +93,7 @@ table_verdicts =
     (case_at every_control every_access) (range_with_len 0 192) (λ k d below. refl)
 
 -- an access is once in the row of its control, and in no other
-row_has : (same : Bool) (state : State) (side : Side) (kind : Kind) →
+row_has : (same : Bool) (state : AccessState) (side : Side) (kind : Kind) →
     count_by (λ access. same && same_state state access.0 && same_side side access.1 && same_kind kind access.2) every_access ≡ cond same 1 0
 row_has false state side kind = refl
 row_has true Quiet A Set = refl
@@ -110,7 +110,7 @@ row_has true UnseenB A Use = refl
 row_has true UnseenB B Use = refl
 
 -- an access is in the rows of these controls as often as its control is among them
-rows_have : (control : Control) (state : State) (side : Side) (kind : Kind) (controls : List Control) →
+rows_have : (control : Control) (state : AccessState) (side : Side) (kind : Kind) (controls : List Control) →
     count_by (is_case_of control state side kind) (flat_map row controls) ≡ count_by (same_control control) controls
 rows_have control state side kind [] = refl
 rows_have control state side kind (first ∷ controls) =

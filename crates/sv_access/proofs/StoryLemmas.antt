@@ -7,8 +7,8 @@ use Rattle.sv_access.specs.declared.access.Side.TheVariants.{A, B}
 use Rattle.sv_access.specs.declared.access.Kind.{Kind}
 use Rattle.sv_access.specs.declared.access.Kind.TheVariants.{Set, Use}
 use Rattle.sv_access.specs.declared.control.Control.{Control}
-use Rattle.sv_access.specs.declared.state.State.{State}
-use Rattle.sv_access.specs.declared.state.State.TheVariants.{Quiet, UnseenA, UnseenB}
+use Rattle.sv_access.specs.declared.state.AccessState.{AccessState}
+use Rattle.sv_access.specs.declared.state.AccessState.TheVariants.{Quiet, UnseenA, UnseenB}
 use Rattle.sv_access.specs.declared.verdict.Verdict.TheVariants.{Granted, Held}
 use Rattle.sv_access.specs.Access.{other_side, same_side}
 use Rattle.sv_access.specs.Control.{has_element, swapped, combined}
@@ -18,7 +18,7 @@ use Rattle.sv_access.specs.Story.{Story, is_last_setter, is_unseen, is_early, ve
 use Rattle.sv_access.specs.Law.{SaysWhoseSetIsUnseen}
 
 -- a state says whether a set of this side is unseen
-abbrev pub says_unseen : State → Side → Bool
+abbrev pub says_unseen : AccessState → Side → Bool
 says_unseen Quiet side = false
 says_unseen UnseenA A = true
 says_unseen UnseenA B = false
@@ -43,13 +43,13 @@ is_unseen_others_use A value story = and-false (is_last_setter A story)
 is_unseen_others_use B value story = and-false (is_last_setter B story)
 
 -- the table moves a state as an access moves what is unseen
-pub says_unseen_set : (state : State) (by side : Side) → says_unseen (state_after state by Set) side ≡ same_side by side
+pub says_unseen_set : (state : AccessState) (by side : Side) → says_unseen (state_after state by Set) side ≡ same_side by side
 says_unseen_set state A A = refl
 says_unseen_set state A B = refl
 says_unseen_set state B A = refl
 says_unseen_set state B B = refl
 
-pub says_unseen_own_use : (state : State) (side : Side) → says_unseen (state_after state side Use) side ≡ says_unseen state side
+pub says_unseen_own_use : (state : AccessState) (side : Side) → says_unseen (state_after state side Use) side ≡ says_unseen state side
 says_unseen_own_use Quiet A = refl
 says_unseen_own_use Quiet B = refl
 says_unseen_own_use UnseenA A = refl
@@ -57,7 +57,7 @@ says_unseen_own_use UnseenA B = refl
 says_unseen_own_use UnseenB A = refl
 says_unseen_own_use UnseenB B = refl
 
-pub says_unseen_others_use : (state : State) (side : Side) → says_unseen (state_after state (other_side side) Use) side ≡ false
+pub says_unseen_others_use : (state : AccessState) (side : Side) → says_unseen (state_after state (other_side side) Use) side ≡ false
 says_unseen_others_use Quiet A = refl
 says_unseen_others_use Quiet B = refl
 says_unseen_others_use UnseenA A = refl
@@ -86,25 +86,25 @@ pub is_early_by_state : {V : Type 0} (story : Story V) (side : Side) (kind : Kin
     is_early story side kind ≡ has_element (vector_of_state (state_of_story story) A) (element_of side kind)
 is_early_by_state story A Set = is_unseen_by_state story A ∙ own_set (state_of_story story)
   where
-    own_set : (state : State) → says_unseen state A ≡ has_element (vector_of_state state A) 1
+    own_set : (state : AccessState) → says_unseen state A ≡ has_element (vector_of_state state A) 1
     own_set Quiet = refl
     own_set UnseenA = refl
     own_set UnseenB = refl
 is_early_by_state story B Set = is_unseen_by_state story B ∙ own_set (state_of_story story)
   where
-    own_set : (state : State) → says_unseen state B ≡ has_element (vector_of_state state A) 2
+    own_set : (state : AccessState) → says_unseen state B ≡ has_element (vector_of_state state A) 2
     own_set Quiet = refl
     own_set UnseenA = refl
     own_set UnseenB = refl
 is_early_by_state story A Use = ap not (is_unseen_by_state story B) ∙ no_others (state_of_story story)
   where
-    no_others : (state : State) → not (says_unseen state B) ≡ has_element (vector_of_state state A) 3
+    no_others : (state : AccessState) → not (says_unseen state B) ≡ has_element (vector_of_state state A) 3
     no_others Quiet = refl
     no_others UnseenA = refl
     no_others UnseenB = refl
 is_early_by_state story B Use = ap not (is_unseen_by_state story A) ∙ no_others (state_of_story story)
   where
-    no_others : (state : State) → not (says_unseen state A) ≡ has_element (vector_of_state state A) 4
+    no_others : (state : AccessState) → not (says_unseen state A) ≡ has_element (vector_of_state state A) 4
     no_others Quiet = refl
     no_others UnseenA = refl
     no_others UnseenB = refl
@@ -122,7 +122,7 @@ verdict_by_state joint story side kind = rw (← is_early_by_state story side ki
 pub vector_by_state : {V : Type 0} (story : Story V) (side : Side) → vector_of_state (state_of_story story) side ≡ vector_of_story story side
 vector_by_state story side = rw (is_unseen_by_state story side, is_unseen_by_state story (other_side side)) (vector_where (state_of_story story) side)
   where
-    vector_where : (state : State) (side : Side) →
+    vector_where : (state : AccessState) (side : Side) →
         vector_of_state state side ≡ cond (says_unseen state side) own_unseen_vector (cond (says_unseen state (other_side side)) partners_unseen_vector quiet_vector)
     vector_where Quiet side = refl
     vector_where UnseenA A = refl
@@ -138,17 +138,17 @@ state_by_unseen story = record {
   of_neither = rw (is_unseen_by_state story A, is_unseen_by_state story B) (of_neither_where (state_of_story story));
 }
   where
-    of_a_where : (state : State) → (state ≡ UnseenA) ↔ IsTrue (says_unseen state A)
+    of_a_where : (state : AccessState) → (state ≡ UnseenA) ↔ IsTrue (says_unseen state A)
     of_a_where Quiet = ((λ h. cc), (λ h. cc))
     of_a_where UnseenA = ((λ h. refl), (λ h. refl))
     of_a_where UnseenB = ((λ h. cc), (λ h. cc))
 
-    of_b_where : (state : State) → (state ≡ UnseenB) ↔ IsTrue (says_unseen state B)
+    of_b_where : (state : AccessState) → (state ≡ UnseenB) ↔ IsTrue (says_unseen state B)
     of_b_where Quiet = ((λ h. cc), (λ h. cc))
     of_b_where UnseenA = ((λ h. cc), (λ h. cc))
     of_b_where UnseenB = ((λ h. refl), (λ h. refl))
 
-    of_neither_where : (state : State) → (state ≡ Quiet) ↔ (IsTrue (not (says_unseen state A)) × IsTrue (not (says_unseen state B)))
+    of_neither_where : (state : AccessState) → (state ≡ Quiet) ↔ (IsTrue (not (says_unseen state A)) × IsTrue (not (says_unseen state B)))
     of_neither_where Quiet = ((λ h. (refl, refl)), (λ h. refl))
     of_neither_where UnseenA = ((λ h. cc), (λ h. cc))
     of_neither_where UnseenB = ((λ h. cc), (λ h. cc))

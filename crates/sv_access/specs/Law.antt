@@ -4,8 +4,8 @@ use Rattle.sv_access.specs.declared.access.Side.TheVariants.{A, B}
 use Rattle.sv_access.specs.declared.access.Kind.{Kind}
 use Rattle.sv_access.specs.declared.access.Kind.TheVariants.{Set, Use}
 use Rattle.sv_access.specs.declared.control.Control.{Control}
-use Rattle.sv_access.specs.declared.state.State.{State}
-use Rattle.sv_access.specs.declared.state.State.TheVariants.{Quiet, UnseenA, UnseenB}
+use Rattle.sv_access.specs.declared.state.AccessState.{AccessState}
+use Rattle.sv_access.specs.declared.state.AccessState.TheVariants.{Quiet, UnseenA, UnseenB}
 use Rattle.sv_access.specs.Access.{Access, other_side}
 use Rattle.sv_access.specs.Control.{has_element, combined, in_view}
 use Rattle.sv_access.specs.State.{state_after, vector_of_state}
@@ -44,7 +44,7 @@ VectorsFollowStories V = (story : Story V) (side : Side) → vector_of_state (st
 
 -- a state's vector in a side's view is its vector in A's view as that side sees it
 abbrev pub StatesHaveOneVector : Type 0
-StatesHaveOneVector = (state : State) (side : Side) → vector_of_state state side ≡ in_view side (vector_of_state state A)
+StatesHaveOneVector = (state : AccessState) (side : Side) → vector_of_state state side ≡ in_view side (vector_of_state state A)
 
 -- what B sees of the control in force is what A would, were the two vectors exchanged
 abbrev pub SidesJoinAlike : Type 0

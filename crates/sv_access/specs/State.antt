@@ -4,12 +4,12 @@ use Rattle.sv_access.specs.declared.access.Side.TheVariants.{A, B}
 use Rattle.sv_access.specs.declared.access.Kind.{Kind}
 use Rattle.sv_access.specs.declared.access.Kind.TheVariants.{Set, Use}
 use Rattle.sv_access.specs.declared.control.Control.{Control}
-use Rattle.sv_access.specs.declared.state.State.{State}
-use Rattle.sv_access.specs.declared.state.State.TheVariants.{Quiet, UnseenA, UnseenB}
+use Rattle.sv_access.specs.declared.state.AccessState.{AccessState}
+use Rattle.sv_access.specs.declared.state.AccessState.TheVariants.{Quiet, UnseenA, UnseenB}
 use Rattle.sv_access.specs.Control.{four_elements}
 
 -- the two are one state
-abbrev pub same_state : State → State → Bool
+abbrev pub same_state : AccessState → AccessState → Bool
 same_state Quiet Quiet = true
 same_state UnseenA UnseenA = true
 same_state UnseenB UnseenB = true
@@ -21,7 +21,7 @@ same_state UnseenB Quiet = false
 same_state UnseenB UnseenA = false
 
 -- the state once a side has used the value: what the other side had set is unseen no longer
-abbrev pub state_after_use : State → Side → State
+abbrev pub state_after_use : AccessState → Side → AccessState
 state_after_use Quiet side = Quiet
 state_after_use UnseenA A = UnseenA
 state_after_use UnseenA B = Quiet
@@ -29,7 +29,7 @@ state_after_use UnseenB A = Quiet
 state_after_use UnseenB B = UnseenB
 
 -- the state after a granted access
-abbrev pub state_after : State → Side → Kind → State
+abbrev pub state_after : AccessState → Side → Kind → AccessState
 state_after state A Set = UnseenA
 state_after state B Set = UnseenB
 state_after state side Use = state_after_use state side
@@ -48,7 +48,7 @@ partners_unseen_vector = four_elements false true false true
 
 -- which accesses come early in a state, as a side counts them: a set of its own, of the other side, a use of its own,
 -- of the other side
-abbrev pub vector_of_state : State → Side → Control
+abbrev pub vector_of_state : AccessState → Side → Control
 vector_of_state Quiet side = quiet_vector
 vector_of_state UnseenA A = own_unseen_vector
 vector_of_state UnseenA B = partners_unseen_vector

@@ -5,8 +5,8 @@ use Rattle.sv_access.specs.declared.access.Side.{Side}
 use Rattle.sv_access.specs.declared.access.Kind.{Kind}
 use Rattle.sv_access.specs.declared.access.Kind.TheVariants.{Set, Use}
 use Rattle.sv_access.specs.declared.control.Control.{Control}
-use Rattle.sv_access.specs.declared.state.State.{State}
-use Rattle.sv_access.specs.declared.state.State.TheVariants.{Quiet}
+use Rattle.sv_access.specs.declared.state.AccessState.{AccessState}
+use Rattle.sv_access.specs.declared.state.AccessState.TheVariants.{Quiet}
 use Rattle.sv_access.specs.declared.verdict.Verdict.{Verdict}
 use Rattle.sv_access.specs.declared.verdict.Verdict.TheVariants.{Granted, Held}
 use Rattle.sv_access.specs.Access.{Access, other_side, same_side, is_set}
@@ -63,6 +63,6 @@ vector_of_story story side =
     if is_unseen side story then own_unseen_vector else (if is_unseen (other_side side) story then partners_unseen_vector else quiet_vector)
 
 -- the state of a story: Quiet before the first access, and then as each access leaves it
-abbrev pub state_of_story : {V : Type 0} → Story V → State
+abbrev pub state_of_story : {V : Type 0} → Story V → AccessState
 state_of_story [] = Quiet
 state_of_story (access ∷ story) = state_after (state_of_story story) access.side access.kind

@@ -4,7 +4,7 @@ use Rattle.sv_access.specs.declared.access.Side.TheVariants.{A, B}
 use Rattle.sv_access.specs.declared.access.Kind.{Kind}
 use Rattle.sv_access.specs.declared.access.Kind.TheVariants.{Set, Use}
 use Rattle.sv_access.specs.declared.control.Control.{Control}
-use Rattle.sv_access.specs.declared.state.State.{State}
+use Rattle.sv_access.specs.declared.state.AccessState.{AccessState}
 use Rattle.sv_access.specs.declared.verdict.Verdict.{Verdict}
 use Rattle.sv_access.specs.declared.verdict.Verdict.TheVariants.{Granted, Held}
 use Rattle.sv_access.specs.declared.verdict.Owners.{Owners}
@@ -20,12 +20,12 @@ element_of A Use = 3
 element_of B Use = 4
 
 -- the element of the access, as A numbers them, is 1 both in the control in force and in the state's vector
-abbrev pub is_refused : Control → State → Side → Kind → Bool
+abbrev pub is_refused : Control → AccessState → Side → Kind → Bool
 is_refused control state side kind =
     has_element control (element_of side kind) && has_element (vector_of_state state A) (element_of side kind)
 
 -- the verdict of the table: held by the element of the access where that is refused, else granted
-abbrev pub verdict_of : Control → State → Side → Kind → Verdict
+abbrev pub verdict_of : Control → AccessState → Side → Kind → Verdict
 verdict_of control state side kind =
     if is_refused control state side kind then Held (element_of side kind) else Granted
 

@@ -4,7 +4,7 @@ ghost use Rattle.sv_access.specs.Cases.{case_of, HasEachCaseOnce};
 
 use crate::access::{Kind, Side};
 use crate::control::Control;
-use crate::state::State;
+use crate::state::AccessState;
 use crate::table::decide;
 use crate::verdict::Verdict;
 
@@ -12,7 +12,7 @@ use crate::verdict::Verdict;
 #[derive(Clone, Copy, Debug, PartialEq, Eq)]
 pub struct Case {
     pub control: Control,
-    pub state: State,
+    pub state: AccessState,
     pub side: Side,
     pub kind: Kind,
     pub verdict: Verdict,
@@ -40,10 +40,10 @@ macro_rules! controls {
 macro_rules! accesses {
     ($($state:ident)*) => {
         [$(
-            (State::$state, Side::A, Kind::Set),
-            (State::$state, Side::B, Kind::Set),
-            (State::$state, Side::A, Kind::Use),
-            (State::$state, Side::B, Kind::Use)
+            (AccessState::$state, Side::A, Kind::Set),
+            (AccessState::$state, Side::B, Kind::Set),
+            (AccessState::$state, Side::A, Kind::Use),
+            (AccessState::$state, Side::B, Kind::Use)
         ),*]
     };
 }
@@ -67,7 +67,7 @@ impl Cases<192> {
 }
 
 // The line of the table on one access.
-fn case_of(control: Control, access: (State, Side, Kind)) -> Case
+fn case_of(control: Control, access: (AccessState, Side, Kind)) -> Case
     ensures { result ≡ case_of control access.0 access.1 access.2 }
 {
     let (state, side, kind) = access;

@@ -9,7 +9,7 @@ pub struct Control(pub [bool; 4]);
 /// Nothing is controlled.
 pub const NO_CONTROL: Control = Control([false, false, false, false]);
 
-/// The same control as the partner sees it, in the order 2 1 4 3. No memory.
+/// The same control as the partner sees it, in the order 2 1 4 3.
 pub fn swap(c: Control) -> Control
     ensures { result ≡ swapped c }
 {
@@ -18,7 +18,7 @@ pub fn swap(c: Control) -> Control
 }
 
 /// The control in force for a coupling, in A's view: each element is 1 where one of the two
-/// vectors has it. `a` is in A's view and `b` in B's. No memory.
+/// vectors has it. `a` is in A's view and `b` in B's.
 pub fn join(a: Control, b: Control) -> Control
     ensures { result ≡ combined a b }
 {

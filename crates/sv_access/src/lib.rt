@@ -14,6 +14,6 @@ pub use access::{Kind, Side};
 pub use cases::{Case, Cases};
 pub use control::{Control, NO_CONTROL, join, swap};
 pub use law::table_is_the_stories_law;
-pub use state::{State, after, view};
+pub use state::{AccessState, after, view};
 pub use table::{decide, owners};
 pub use verdict::{Owners, Verdict};

@@ -6,34 +6,35 @@ use crate::control::Control;
 
 /// Whose set the other side has not used yet, of two offers that are coupled or of one that is open.
 #[derive(Clone, Copy, Debug, PartialEq, Eq)]
-pub enum State {
+pub enum AccessState {
     Quiet,
     UnseenA,
     UnseenB,
 }
 
-/// The state after a granted access. No memory.
-pub fn after(state: State, side: Side, kind: Kind) -> State
+/// The state after a granted access.
+pub fn after(state: AccessState, side: Side, kind: Kind) -> AccessState
     ensures { result ≡ state_after state side kind }
 {
     match (side, kind, state) {
-        (Side::A, Kind::Set, _) => State::UnseenA,
-        (Side::B, Kind::Set, _) => State::UnseenB,
-        (Side::A, Kind::Use, State::UnseenB) | (Side::B, Kind::Use, State::UnseenA) => State::Quiet,
+        (Side::A, Kind::Set, _) => AccessState::UnseenA,
+        (Side::B, Kind::Set, _) => AccessState::UnseenB,
+        (Side::A, Kind::Use, AccessState::UnseenB) | (Side::B, Kind::Use, AccessState::UnseenA) =>
+            AccessState::Quiet,
         (_, Kind::Use, _) => state,
     }
 }
 
-/// The accesses that a state lets control hold, as a side sees them. No memory.
-pub fn view(state: State, side: Side) -> Control
+/// The accesses that a state lets control hold, as a side sees them.
+pub fn view(state: AccessState, side: Side) -> Control
     ensures { result ≡ vector_of_state state side }
 {
     match (state, side) {
-        (State::Quiet, _) => Control([false, false, true, true]),
-        (State::UnseenA, Side::A) | (State::UnseenB, Side::B) => {
+        (AccessState::Quiet, _) => Control([false, false, true, true]),
+        (AccessState::UnseenA, Side::A) | (AccessState::UnseenB, Side::B) => {
             Control([true, false, true, false])
         }
-        (State::UnseenA, Side::B) | (State::UnseenB, Side::A) => {
+        (AccessState::UnseenA, Side::B) | (AccessState::UnseenB, Side::A) => {
             Control([false, true, false, true])
         }
     }

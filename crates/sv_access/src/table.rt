@@ -4,12 +4,12 @@ ghost use Rattle.sv_access.specs.Table.{element_of, verdict_of, owners_among, ow
 
 use crate::access::{Kind, Side};
 use crate::control::{Control, swap};
-use crate::state::{State, view};
+use crate::state::{AccessState, view};
 use crate::verdict::{Owners, Verdict};
 
 /// What becomes of an access under the control in force, which is in A's view. Its element there
-/// holds it where the state's vector has 1 at that element too; else it is granted. No memory.
-pub fn decide(control: Control, state: State, side: Side, kind: Kind) -> Verdict
+/// holds it where the state's vector has 1 at that element too; else it is granted.
+pub fn decide(control: Control, state: AccessState, side: Side, kind: Kind) -> Verdict
     ensures table { result ≡ verdict_of control state side kind }
     ensures element { NamesAnElement control result }
 {
@@ -22,7 +22,7 @@ pub fn decide(control: Control, state: State, side: Side, kind: Kind) -> Verdict
 }
 
 /// Whose 1 refuses an access of a side, as that side sees it. `a` is A's vector and `b` is B's,
-/// each in its owner's view, and the element is in A's view. No memory.
+/// each in its owner's view, and the element is in A's view.
 pub fn owners(a: Control, b: Control, side: Side, element: u8) -> Owners
     requires lowest { 1 ≤ element }
     requires highest { element ≤ 4 }

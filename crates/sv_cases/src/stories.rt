@@ -4,7 +4,7 @@ use apl_arrays::Array;
 use case_fields::{stated, value_text};
 use case_tables::Trial;
 use std::alloc::Global;
-use sv_access::{Side, State};
+use sv_access::{AccessState, Side};
 use sv_kept::Share;
 
 /// Stories of a coupling: what its two sides know, and what they do since. Found are whose set is unseen, the value set
@@ -77,32 +77,32 @@ fn story_of(alloc: Global, a: Option<i64>, b: Option<i64>, field: &str) -> Resul
 }
 
 // Whose set is unseen: the last set's side, where no use by the other side follows it.
-fn scanned(story: &[Told]) -> State {
+fn scanned(story: &[Told]) -> AccessState {
     let mut seen = [false; 2];
     for told in story.iter().rev() {
         match (told.side, told.set) {
             (Side::A, None) => seen[0] = true,
             (Side::B, None) => seen[1] = true,
             (Side::A, Some(_)) => return if seen[1] {
-                State::Quiet
+                AccessState::Quiet
             } else {
-                State::UnseenA
+                AccessState::UnseenA
             },
             (Side::B, Some(_)) => return if seen[0] {
-                State::Quiet
+                AccessState::Quiet
             } else {
-                State::UnseenB
+                AccessState::UnseenB
             },
         }
     }
-    State::Quiet
+    AccessState::Quiet
 }
 
-fn state_text(state: State) -> &'static str {
+fn state_text(state: AccessState) -> &'static str {
     match state {
-        State::Quiet => "-",
-        State::UnseenA => "A",
-        State::UnseenB => "B",
+        AccessState::Quiet => "-",
+        AccessState::UnseenA => "A",
+        AccessState::UnseenB => "B",
     }
 }
 

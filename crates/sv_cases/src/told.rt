@@ -24,7 +24,7 @@ fn is_told_to_reply(core: &Core, party: u32, name: Name) -> bool
     requires work { work_of core.now.journal party ≡ Reply name }
 {
     let entries = core.journal();
-    last_used(entries, party, &name) == Some(core.command(party))
+    last_used(entries, party, &name) == Some(core.request(party))
         && partner(entries, party, &name) == Some(core.customer(party))
 }
 

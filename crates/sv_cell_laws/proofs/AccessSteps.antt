@@ -10,8 +10,8 @@ use Rattle.sv_events.specs.Entry.{PlainEntry}
 use Rattle.sv_kept.specs.Cell.{known_alone, answered, holding}
 use Rattle.sv_kept.specs.Cells.{cell_at}
 use Rattle.sv_kept.specs.declared.cell.Cell.{Cell}
-use Rattle.sv_kept.specs.declared.cell.Held.{Held}
-use Rattle.sv_kept.specs.declared.cell.Held.TheVariants.{Alone, Shared}
+use Rattle.sv_kept.specs.declared.cell.CellContent.{CellContent}
+use Rattle.sv_kept.specs.declared.cell.CellContent.TheVariants.{Alone, Shared}
 use Rattle.sv_kept.specs.declared.cells.Cells.{Cells}
 use Rattle.sv_rules.specs.Control.{control_on, side_at}
 use Rattle.sv_rules.specs.Coupling.{coupling_now}
@@ -59,7 +59,7 @@ held_apart : (users : List ℕ) (journal : Entries) (e : PlainEntry) (own : Stan
 held_apart users journal e own access legal makes offer has other cell (is_open alone is) apart =
     alone_then alone
     (is ∙ ap (λ (a : Option GrantedAccess). Alone (known_after a (known journal offer))) (sym (makes.no_other offer has other))
-    ∙ ap (λ (h : Held). Alone (known_after (access_on offer e) (known_alone h))) (sym is))
+    ∙ ap (λ (h : CellContent). Alone (known_after (access_on offer e) (known_alone h))) (sym is))
 held_apart users journal e own access legal makes offer has other cell (is_coupled now some holds) apart = by holds
   where
     is : IsCouplingOf journal offer.place now
@@ -180,7 +180,7 @@ module _ (users : List ℕ) (journal : Entries) (e : PlainEntry) (own : Standing
       of : HoldsShare journal other (side_at other offer.place) cell.held → HeldAfter journal e offer (coupling_now journal offer.place) cell.held (with_access_in cell.held own_side access)
       of (has_share a share held fits) =
           shared_then other some share held
-          (ap (λ (h : Held). with_access_in h own_side access) held ∙ ap Shared (share_answered share ∙ ap (λ (c : Coupling). with_entry share c e) (sym same)))
+          (ap (λ (h : CellContent). with_access_in h own_side access) held ∙ ap Shared (share_answered share ∙ ap (λ (c : Coupling). with_entry share c e) (sym same)))
       of (has_none b held) =
           absurd (let at_a = eq-eqb coupling.a.place offer.place (ap (λ (o : Standing). o.place) low) in
           let a : A ≡ B = ap (λ (t : Bool). if t then A else B) (sym at_a) ∙ ap (λ (c : Coupling). side_at c offer.place) (sym same) ∙ b in cc)

@@ -9,8 +9,8 @@ use Rattle.sv_events.specs.Entry.{PlainEntry}
 use Rattle.sv_kept.specs.Share.{PlainShare}
 use Rattle.sv_kept.specs.Cell.{known_alone}
 use Rattle.sv_kept.specs.declared.cell.Cell.{Cell}
-use Rattle.sv_kept.specs.declared.cell.Held.{Held}
-use Rattle.sv_kept.specs.declared.cell.Held.TheVariants.{Alone, Shared, Lent}
+use Rattle.sv_kept.specs.declared.cell.CellContent.{CellContent}
+use Rattle.sv_kept.specs.declared.cell.CellContent.TheVariants.{Alone, Shared, Lent}
 use Rattle.sv_kept.specs.declared.cells.Cells.{Cells}
 use Rattle.sv_rules.specs.Control.{control_on, side_at, vector_of}
 use Rattle.sv_rules.specs.Coupling.{coupling_at, coupling_now, couplings}
@@ -107,7 +107,7 @@ share_later users journal e legal place coupling now share fits =
 
 -- what an offer of a coupling holds goes on
 holds_later : (users : List ℕ) (journal : Entries) (e : PlainEntry) → IsLegal users (e ∷ journal) → (offer : Standing) (coupling : Coupling) → coupling_now journal offer.place ≡ Some coupling →
-    (side : Side) (old new : Held) → HoldsShare journal coupling side old → HeldAfter journal e offer (coupling_now journal offer.place) old new → HoldsShare (e ∷ journal) coupling side new
+    (side : Side) (old new : CellContent) → HoldsShare journal coupling side old → HeldAfter journal e offer (coupling_now journal offer.place) old new → HoldsShare (e ∷ journal) coupling side new
 holds_later users journal e legal offer coupling now side old new (has_share a share is fits) (alone_then none is_new) = absurd (none-some coupling (sym none ∙ now))
 holds_later users journal e legal offer coupling now side old new (has_share a share is fits) (shared_then also some other was is_new) =
     let same : also ≡ coupling = same_Some also coupling (sym some ∙ now) in
@@ -130,7 +130,7 @@ held_later users journal e legal offer has same cell cell' (is_open none is) aft
     alone : HeldAfter journal e offer (coupling_now journal offer.place) cell.held cell'.held → FitsHeld (e ∷ journal) offer cell' (coupling_now (e ∷ journal) offer.place)
     alone (alone_then also new) =
         is_open (same ∙ none)
-        (new ∙ ap (λ (h : Held). Alone (known_after (access_on offer e) (known_alone h))) is ∙ ap Alone (sym (known_later e journal offer (placed journal offer has))))
+        (new ∙ ap (λ (h : CellContent). Alone (known_after (access_on offer e) (known_alone h))) is ∙ ap Alone (sym (known_later e journal offer (placed journal offer has))))
     alone (shared_then now some share old new) = absurd (none-some now (sym none ∙ some))
     alone (lent_then now some old new) = absurd (none-some now (sym none ∙ some))
 held_later users journal e legal offer has same cell cell' (is_coupled now some holds) after =

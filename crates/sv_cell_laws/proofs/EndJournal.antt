@@ -9,7 +9,7 @@ use Rattle.sv_events.specs.Entry.{PlainEntry}
 use Rattle.sv_events.specs.Row.{act_row}
 use Rattle.sv_events.specs.declared.row.Ending.{Ending}
 use Rattle.sv_kept.specs.declared.cell.Cell.{Cell}
-use Rattle.sv_kept.specs.declared.cell.Held.TheVariants.{Alone}
+use Rattle.sv_kept.specs.declared.cell.CellContent.TheVariants.{Alone}
 use Rattle.sv_kept.specs.declared.cells.Cells.{Cells}
 use Rattle.sv_rules.specs.Control.{side_at, vector_of}
 use Rattle.sv_rules.specs.Coupling.{couplings, coupling_at, coupling_now}
@@ -26,7 +26,7 @@ use Rattle.sv_offer_laws.proofs.LookupLemmas.{found_as_made}
 use Rattle.sv_offer_laws.proofs.Members.{Contains-filter, Contains-from_filter, filter_passed, list_any_member}
 use Rattle.sv_offer_laws.proofs.NowLemmas.{coupling_places, coupling_was}
 use Rattle.sv_story_laws.proofs.OpeningLemmas.{known_later}
-use Rattle.sv_cell_laws.specs.Ends.{FitsIn, CellsIn, IsTable, ends_one, if_older, older_now, unless_ended, coupled_without}
+use Rattle.sv_cell_laws.specs.Ends.{FitsCoupling, CellsIn, IsOfferTable, ends_one, if_older, older_now, unless_offer_ends, coupled_without}
 use Rattle.sv_cell_laws.specs.Fits.{FitsShare, HoldsShare, has_share, has_none, FitsHeld, is_open, is_coupled, FitsCell, FitCells}
 use Rattle.sv_cell_laws.specs.Steps.{Untouched}
 use Rattle.sv_cell_laws.proofs.CellSteps.{found_at_a, found_at_b, placed, share_later, vector_later, lacks_later, owes_later}
@@ -41,7 +41,7 @@ untouched_share users journal e legal none place c now share fits =
     subst (FitsShare (e ∷ journal) c) (share_stays share c e (none c.a is.has_a).access (none c.b is.has_b).access) (share_later users journal e legal place c now share fits)
 
 -- the offers that stand, and their couplings, are a table
-pub table_is : (users : List ℕ) (journal : Entries) → IsLegal users journal → IsTable (standing journal) (couplings journal)
+pub table_is : (users : List ℕ) (journal : Entries) → IsLegal users journal → IsOfferTable (standing journal) (couplings journal)
 table_is users journal legal = record {
   one = one_place journal;
   has_a = λ place c now. (found_as_made users journal legal place c now).has_a;
@@ -66,7 +66,7 @@ held_later_in users journal e legal none offer has cell coupling at (is_coupled 
     of (has_none b held) = has_none b held
 
 fits_later_in : (users : List ℕ) (journal : Entries) (e : PlainEntry) → IsLegal users (e ∷ journal) → ((o : Standing) → Contains (standing journal) o → Untouched e o) → (offer : Standing) → Contains (standing journal) offer →
-    (cell : Cell) → FitsCell journal offer cell → FitsIn (e ∷ journal) offer cell (coupling_now journal offer.place)
+    (cell : Cell) → FitsCell journal offer cell → FitsCoupling (e ∷ journal) offer cell (coupling_now journal offer.place)
 fits_later_in users journal e legal none offer has cell fits = record {
   vector = fits.vector ∙ sym (vector_later e journal offer (placed journal offer has) ∙ ap (λ c. unwrap_or c (vector_of journal offer)) (none offer has).control);
   held = held_later_in users journal e legal none offer has cell (coupling_now journal offer.place) refl fits.held;
@@ -146,7 +146,7 @@ module _ (users : List ℕ) (journal : Entries) (e : PlainEntry) (ending : Endin
 
   -- it is an older one of the journal with the entry, unless an offer of it ends
   older_unless_ended : (place : ℕ) (c : Coupling) → coupling_now journal place ≡ Some c → (b : Bool) → list_any (ends_one e.party ending c) (standing journal) ≡ b →
-      (now : Option Coupling) → coupling_now (e ∷ journal) place ≡ now → unless_ended (standing journal) e.party ending (Some c) ≡ if_older (e ∷ journal) now
+      (now : Option Coupling) → coupling_now (e ∷ journal) place ≡ now → unless_offer_ends (standing journal) e.party ending (Some c) ≡ if_older (e ∷ journal) now
   older_unless_ended place c was false none now is_now =
       ap (λ (b : Bool). if b then None else Some c) none
       ∙ sym (ap (if_older (e ∷ journal)) (sym is_now ∙ stays_whole place c was none)
@@ -165,7 +165,7 @@ module _ (users : List ℕ) (journal : Entries) (e : PlainEntry) (ending : Endin
   without_is_older q has_q = by (coupling_now journal q.place) refl (coupling_now (e ∷ journal) q.place) refl
     where
       by : (was : Option Coupling) → coupling_now journal q.place ≡ was → (now : Option Coupling) → coupling_now (e ∷ journal) q.place ≡ now →
-          unless_ended (standing journal) e.party ending was ≡ if_older (e ∷ journal) now
+          unless_offer_ends (standing journal) e.party ending was ≡ if_older (e ∷ journal) now
       by None was None now = refl
       by None was (Some c) now = sym (newer_is_none journal e c (λ old. none-some c (sym was ∙ coupling_was users e journal legal q.place c now old)))
       by (Some c) was now is_now = older_unless_ended q.place c was (list_any (ends_one e.party ending c) (standing journal)) refl now is_now

@@ -9,7 +9,7 @@ use Rattle.sv_access.specs.declared.access.Side.TheVariants.{A, B}
 use Rattle.sv_kept.specs.Cell.{holding, share_in}
 use Rattle.sv_kept.specs.Cells.{PartsAt, cell_at}
 use Rattle.sv_kept.specs.declared.cell.Cell.{Cell}
-use Rattle.sv_kept.specs.declared.cell.Held.TheVariants.{Alone, Shared}
+use Rattle.sv_kept.specs.declared.cell.CellContent.TheVariants.{Alone, Shared}
 use Rattle.sv_kept.specs.declared.cells.Cells.{Cells}
 use Rattle.sv_rules.specs.Control.{side_at}
 use Rattle.sv_rules.specs.Coupling.{coupling_at}
@@ -20,17 +20,17 @@ use Rattle.sv_rules.specs.declared.coupling.Coupling.{Coupling}
 use Rattle.sv_rules.specs.declared.coupling.Made.{Made}
 use Rattle.sv_rules.specs.declared.standing.Standing.{Standing}
 use Rattle.sv_kept.specs.Share.{PlainShare}
-use Rattle.sv_cell_laws.specs.Ends.{FitsIn, CellsIn, IsTable, Parts, ends_one, share_at, unless_ended, coupled_without}
+use Rattle.sv_cell_laws.specs.Ends.{FitsCoupling, CellsIn, IsOfferTable, Uncouples, ends_one, share_at, unless_offer_ends, coupled_without}
 use Rattle.sv_cell_laws.specs.Fits.{FitsShare, HoldsShare, has_share, has_none, FitsHeld, is_open, is_coupled}
 use Rattle.sv_cell_laws.proofs.PutSteps.{cells_put}
 
 -- cells fit alike where the couplings are the same
 pub cells_alike : (journal : Entries) (among : Standing → Type 0) (f g : ℕ → Option Coupling) (cells : Cells) → ((place : ℕ) → f place ≡ g place) → CellsIn journal among f cells → CellsIn journal among g cells
 cells_alike journal among f g cells same fit offer has =
-    let old = fit offer has in (old.0, old.1, subst (FitsIn journal offer old.0) (same offer.place) old.2)
+    let old = fit offer has in (old.0, old.1, subst (FitsCoupling journal offer old.0) (same offer.place) old.2)
 
 -- what a side of a coupling holds
-pub share_of_a : (journal : Entries) (offer : Standing) (cell : Cell) (coupling : Coupling) → FitsIn journal offer cell (Some coupling) → eqb coupling.a.place offer.place ≡ true →
+pub share_of_a : (journal : Entries) (offer : Standing) (cell : Cell) (coupling : Coupling) → FitsCoupling journal offer cell (Some coupling) → eqb coupling.a.place offer.place ≡ true →
     (share : PlainShare) × (cell.held ≡ Shared share) × FitsShare journal coupling share
 share_of_a journal offer cell coupling fits low = by fits.held
   where
@@ -56,14 +56,14 @@ cells_parted journal offers f g c one has_a has_b lower at_a at_b gone others ce
     cells_put journal (Contains offers) f g c.a c.b one has_a has_b (λ place x y. others place (or_from (eqb c.a.place place) (eqb c.b.place place) x y)) cells cells' fit low high
     (parts of_a.0 of_b.0 shared.0 of_a.1 (ap share_in shared.1) of_b.1) low_fits high_fits
   where
-    of_a : (cell : Cell) × (cell_at cells c.a.place ≡ Some cell) × FitsIn journal c.a cell (f c.a.place)
+    of_a : (cell : Cell) × (cell_at cells c.a.place ≡ Some cell) × FitsCoupling journal c.a cell (f c.a.place)
     of_a = fit c.a has_a
 
-    of_b : (cell : Cell) × (cell_at cells c.b.place ≡ Some cell) × FitsIn journal c.b cell (f c.b.place)
+    of_b : (cell : Cell) × (cell_at cells c.b.place ≡ Some cell) × FitsCoupling journal c.b cell (f c.b.place)
     of_b = fit c.b has_b
 
     shared : (share : PlainShare) × ((of_a.0).held ≡ Shared share) × FitsShare journal c share
-    shared = share_of_a journal c.a of_a.0 c (subst (FitsIn journal c.a of_a.0) at_a of_a.2) (eq-eqb c.a.place c.a.place refl)
+    shared = share_of_a journal c.a of_a.0 c (subst (FitsCoupling journal c.a of_a.0) at_a of_a.2) (eq-eqb c.a.place c.a.place refl)
 
     low : Cell
     low = holding of_a.0 (Alone (shared.0).a)
@@ -71,7 +71,7 @@ cells_parted journal offers f g c one has_a has_b lower at_a at_b gone others ce
     high : Cell
     high = holding of_b.0 (Alone (shared.0).b)
 
-    low_fits : FitsIn journal c.a low (g c.a.place)
+    low_fits : FitsCoupling journal c.a low (g c.a.place)
     low_fits =
         let none = gone c.a.place (or_left (eqb c.a.place c.a.place) (eqb c.b.place c.a.place) (eq-eqb c.a.place c.a.place refl)) in
         record {
@@ -80,7 +80,7 @@ cells_parted journal offers f g c one has_a has_b lower at_a at_b gone others ce
           work = λ auxiliary now some. absurd (none-some now (sym none ∙ some));
         }
 
-    high_fits : FitsIn journal c.b high (g c.b.place)
+    high_fits : FitsCoupling journal c.b high (g c.b.place)
     high_fits =
         let none = gone c.b.place (or_right (eqb c.a.place c.b.place) (eqb c.b.place c.b.place) (eq-eqb c.b.place c.b.place refl)) in
         record {
@@ -105,7 +105,7 @@ pub list_any-more : {X : Type 0} (p : X → Bool) (xs : List X) (x : X) → list
 list_any-more p xs x = list_any-append p xs (x ∷ []) ∙ ap (λ (b : Bool). list_any p xs || b) (or-false (p x))
 
 -- a coupling of a table is that of each place that it has
-found_here : (offers : List Standing) (coupled : List Made) → IsTable offers coupled → (place here : ℕ) (c : Coupling) → coupling_at offers coupled place ≡ Some c → has_place_of c here ≡ true →
+found_here : (offers : List Standing) (coupled : List Made) → IsOfferTable offers coupled → (place here : ℕ) (c : Coupling) → coupling_at offers coupled place ≡ Some c → has_place_of c here ≡ true →
     coupling_at offers coupled here ≡ Some c
 found_here offers coupled table place here c now h = elim (or_cases (eqb c.a.place here) (eqb c.b.place here) h) [
   | inl low ↦ ap (coupling_at offers coupled) (sym (eqb-true c.a.place here low)) ∙ table.at_a place c now
@@ -114,11 +114,11 @@ found_here offers coupled table place here c now h = elim (or_cases (eqb c.a.pla
 
 -- one more offer that may end a coupling
 unless_more : (gone : List Standing) (o : Standing) (party : ℕ) (ending : Ending) (c : Coupling) → ends_one party ending c o ≡ false →
-    unless_ended (gone ++ o ∷ []) party ending (Some c) ≡ unless_ended gone party ending (Some c)
+    unless_offer_ends (gone ++ o ∷ []) party ending (Some c) ≡ unless_offer_ends gone party ending (Some c)
 unless_more gone o party ending c h =
     ap (λ (b : Bool). if b then None else Some c) (list_any-more (ends_one party ending c) gone o ∙ ap (λ (b : Bool). list_any (ends_one party ending c) gone || b) h ∙ or-false (list_any (ends_one party ending c) gone))
 
-unless_gone : (gone : List Standing) (o : Standing) (party : ℕ) (ending : Ending) (c : Coupling) → ends_one party ending c o ≡ true → unless_ended (gone ++ o ∷ []) party ending (Some c) ≡ None
+unless_gone : (gone : List Standing) (o : Standing) (party : ℕ) (ending : Ending) (c : Coupling) → ends_one party ending c o ≡ true → unless_offer_ends (gone ++ o ∷ []) party ending (Some c) ≡ None
 unless_gone gone o party ending c h =
     ap (λ (b : Bool). if b then None else Some c)
     (list_any-more (ends_one party ending c) gone o ∙ ap (λ (b : Bool). list_any (ends_one party ending c) gone || b) h ∙ or-true (list_any (ends_one party ending c) gone))
@@ -128,12 +128,12 @@ pub parts_none : (offers : List Standing) (coupled : List Made) (gone : List Sta
     coupled_without offers coupled gone party ending place ≡ coupled_without offers coupled (gone ++ o ∷ []) party ending place
 parts_none offers coupled gone party ending o stays place = by (coupling_at offers coupled place)
   where
-    by : (c : Option Coupling) → unless_ended gone party ending c ≡ unless_ended (gone ++ o ∷ []) party ending c
+    by : (c : Option Coupling) → unless_offer_ends gone party ending c ≡ unless_offer_ends (gone ++ o ∷ []) party ending c
     by None = refl
     by (Some c) = sym (unless_more gone o party ending c (ap (λ (b : Bool). b && has_place_of c o.place) stays))
 
 -- nor does an open one
-pub open_parts_none : (offers : List Standing) (coupled : List Made) → IsTable offers coupled → (gone : List Standing) (party : ℕ) (ending : Ending) (o : Standing) → coupling_at offers coupled o.place ≡ None → (place : ℕ) →
+pub open_parts_none : (offers : List Standing) (coupled : List Made) → IsOfferTable offers coupled → (gone : List Standing) (party : ℕ) (ending : Ending) (o : Standing) → coupling_at offers coupled o.place ≡ None → (place : ℕ) →
     coupled_without offers coupled gone party ending place ≡ coupled_without offers coupled (gone ++ o ∷ []) party ending place
 open_parts_none offers coupled table gone party ending o none place = by (coupling_at offers coupled place) refl
   where
@@ -141,37 +141,37 @@ open_parts_none offers coupled table gone party ending o none place = by (coupli
     apart c now true h = absurd (none-some c (sym none ∙ found_here offers coupled table place o.place c now h))
     apart c now false h = ap (λ (b : Bool). is_ended party ending o && b) h ∙ and-false (is_ended party ending o)
 
-    by : (c : Option Coupling) → coupling_at offers coupled place ≡ c → unless_ended gone party ending c ≡ unless_ended (gone ++ o ∷ []) party ending c
+    by : (c : Option Coupling) → coupling_at offers coupled place ≡ c → unless_offer_ends gone party ending c ≡ unless_offer_ends (gone ++ o ∷ []) party ending c
     by None now = refl
     by (Some c) now = sym (unless_more gone o party ending c (apart c now (has_place_of c o.place) refl))
 
 -- where its coupling was parted, an offer that ends parts nobody
-parted_parts_none : (offers : List Standing) (coupled : List Made) → IsTable offers coupled → (gone : List Standing) (party : ℕ) (ending : Ending) (o : Standing) (c0 : Coupling) →
+parted_parts_none : (offers : List Standing) (coupled : List Made) → IsOfferTable offers coupled → (gone : List Standing) (party : ℕ) (ending : Ending) (o : Standing) (c0 : Coupling) →
     coupling_at offers coupled o.place ≡ Some c0 → list_any (ends_one party ending c0) gone ≡ true → (place : ℕ) →
     coupled_without offers coupled gone party ending place ≡ coupled_without offers coupled (gone ++ o ∷ []) party ending place
 parted_parts_none offers coupled table gone party ending o c0 at_o parted place = by (coupling_at offers coupled place) refl
   where
-    more : (c : Coupling) → coupling_at offers coupled place ≡ Some c → (b : Bool) → ends_one party ending c o ≡ b → unless_ended gone party ending (Some c) ≡ unless_ended (gone ++ o ∷ []) party ending (Some c)
+    more : (c : Coupling) → coupling_at offers coupled place ≡ Some c → (b : Bool) → ends_one party ending c o ≡ b → unless_offer_ends gone party ending (Some c) ≡ unless_offer_ends (gone ++ o ∷ []) party ending (Some c)
     more c now false h = sym (unless_more gone o party ending c h)
     more c now true h =
         let same : c0 ≡ c = same_Some c0 c (sym at_o ∙ found_here offers coupled table place o.place c now (and_parts (is_ended party ending o) (has_place_of c o.place) h).1) in
         ap (λ (b : Bool). if b then None else Some c) (ap (λ (x : Coupling). list_any (ends_one party ending x) gone) (sym same) ∙ parted) ∙ sym (unless_gone gone o party ending c h)
 
-    by : (c : Option Coupling) → coupling_at offers coupled place ≡ c → unless_ended gone party ending c ≡ unless_ended (gone ++ o ∷ []) party ending c
+    by : (c : Option Coupling) → coupling_at offers coupled place ≡ c → unless_offer_ends gone party ending c ≡ unless_offer_ends (gone ++ o ∷ []) party ending c
     by None now = refl
     by (Some c) now = more c now (ends_one party ending c o) refl
 
 -- the coupling of a table at each place of another
 whole_at : (offers : List Standing) (coupled : List Made) (gone : List Standing) (party : ℕ) (ending : Ending) (place : ℕ) (c : Coupling) → coupling_at offers coupled place ≡ Some c →
     list_any (ends_one party ending c) gone ≡ false → coupled_without offers coupled gone party ending place ≡ Some c
-whole_at offers coupled gone party ending place c now whole = ap (unless_ended gone party ending) now ∙ ap (λ (b : Bool). if b then None else Some c) whole
+whole_at offers coupled gone party ending place c now whole = ap (unless_offer_ends gone party ending) now ∙ ap (λ (b : Bool). if b then None else Some c) whole
 
 parted_at : (offers : List Standing) (coupled : List Made) (gone : List Standing) (party : ℕ) (ending : Ending) (place : ℕ) (c : Coupling) → coupling_at offers coupled place ≡ Some c →
     list_any (ends_one party ending c) gone ≡ true → coupled_without offers coupled gone party ending place ≡ None
-parted_at offers coupled gone party ending place c now parted = ap (unless_ended gone party ending) now ∙ ap (λ (b : Bool). if b then None else Some c) parted
+parted_at offers coupled gone party ending place c now parted = ap (unless_offer_ends gone party ending) now ∙ ap (λ (b : Bool). if b then None else Some c) parted
 
 -- an offer that is coupled no more has no share
-pub no_share : (journal : Entries) (offer : Standing) (cells : Cells) (cell : Cell) (coupling : Option Coupling) → cell_at cells offer.place ≡ Some cell → FitsIn journal offer cell coupling → coupling ≡ None → share_at cells offer.place ≡ None
+pub no_share : (journal : Entries) (offer : Standing) (cells : Cells) (cell : Cell) (coupling : Option Coupling) → cell_at cells offer.place ≡ Some cell → FitsCoupling journal offer cell coupling → coupling ≡ None → share_at cells offer.place ≡ None
 no_share journal offer cells cell coupling at fits none = ap (option_and_then (λ (x : Cell). share_in x.held)) at ∙ by fits.held
   where
     by : FitsHeld journal offer cell coupling → share_in cell.held ≡ None
@@ -179,13 +179,13 @@ no_share journal offer cells cell coupling at fits none = ap (option_and_then (�
     by (is_coupled now some holds) = absurd (none-some now (sym none ∙ some))
 
 -- the cells of an offer that ends, and its partner
-pub cells_part : (journal : Entries) (offers : List Standing) (coupled : List Made) → IsTable offers coupled → (gone : List Standing) (party : ℕ) (ending : Ending) (o : Standing) → is_ended party ending o ≡ true →
-    (coupling : Option Coupling) → coupling_at offers coupled o.place ≡ coupling → (cells cells' : Cells) → CellsIn journal (Contains offers) (coupled_without offers coupled gone party ending) cells → Parts cells cells' coupling →
+pub cells_part : (journal : Entries) (offers : List Standing) (coupled : List Made) → IsOfferTable offers coupled → (gone : List Standing) (party : ℕ) (ending : Ending) (o : Standing) → is_ended party ending o ≡ true →
+    (coupling : Option Coupling) → coupling_at offers coupled o.place ≡ coupling → (cells cells' : Cells) → CellsIn journal (Contains offers) (coupled_without offers coupled gone party ending) cells → Uncouples cells cells' coupling →
     CellsIn journal (Contains offers) (coupled_without offers coupled (gone ++ o ∷ []) party ending) cells'
 cells_part journal offers coupled table gone party ending o ends None none cells cells' fit keeps =
     λ offer has.
     let old = fit offer has in
-    (old.0, keeps offer.place ∙ old.1, subst (FitsIn journal offer old.0) (open_parts_none offers coupled table gone party ending o none offer.place) old.2)
+    (old.0, keeps offer.place ∙ old.1, subst (FitsCoupling journal offer old.0) (open_parts_none offers coupled table gone party ending o none offer.place) old.2)
 cells_part journal offers coupled table gone party ending o ends (Some c) now cells cells' fit parts = by (list_any (ends_one party ending c) gone) refl
   where
     at_a : coupling_at offers coupled c.a.place ≡ Some c
@@ -196,9 +196,9 @@ cells_part journal offers coupled table gone party ending o ends (Some c) now ce
 
     others : (place : ℕ) → has_place_of c place ≡ false → (at : Option Coupling) → coupling_at offers coupled place ≡ at →
         coupled_without offers coupled (gone ++ o ∷ []) party ending place ≡ coupled_without offers coupled gone party ending place
-    others place h None at = ap (unless_ended (gone ++ o ∷ []) party ending) at ∙ sym (ap (unless_ended gone party ending) at)
+    others place h None at = ap (unless_offer_ends (gone ++ o ∷ []) party ending) at ∙ sym (ap (unless_offer_ends gone party ending) at)
     others place h (Some d) at =
-        ap (unless_ended (gone ++ o ∷ []) party ending) at ∙ unless_more gone o party ending d (apart (has_place_of d o.place) refl) ∙ sym (ap (unless_ended gone party ending) at)
+        ap (unless_offer_ends (gone ++ o ∷ []) party ending) at ∙ unless_more gone o party ending d (apart (has_place_of d o.place) refl) ∙ sym (ap (unless_offer_ends gone party ending) at)
       where
         apart : (b : Bool) → has_place_of d o.place ≡ b → ends_one party ending d o ≡ false
         apart false k = ap (λ (x : Bool). is_ended party ending o && x) k ∙ and-false (is_ended party ending o)
@@ -211,13 +211,13 @@ cells_part journal offers coupled table gone party ending o ends (Some c) now ce
         let of_a = fit c.a (table.has_a o.place c now) in
         let keeps = parts.0 (no_share journal c.a cells of_a.0 _ of_a.1 of_a.2 (parted_at offers coupled gone party ending c.a.place c at_a parted)) in
         let old = fit offer has in
-        (old.0, keeps offer.place ∙ old.1, subst (FitsIn journal offer old.0) (parted_parts_none offers coupled table gone party ending o c now parted offer.place) old.2)
+        (old.0, keeps offer.place ∙ old.1, subst (FitsCoupling journal offer old.0) (parted_parts_none offers coupled table gone party ending o c now parted offer.place) old.2)
     by false whole =
         let of_a = fit c.a (table.has_a o.place c now) in
-        let share = share_of_a journal c.a of_a.0 c (subst (FitsIn journal c.a of_a.0) (whole_at offers coupled gone party ending c.a.place c at_a whole) of_a.2) (eq-eqb c.a.place c.a.place refl) in
+        let share = share_of_a journal c.a of_a.0 c (subst (FitsCoupling journal c.a of_a.0) (whole_at offers coupled gone party ending c.a.place c at_a whole) of_a.2) (eq-eqb c.a.place c.a.place refl) in
         let there : share_at cells c.a.place ≡ Some share.0 = ap (option_and_then (λ (x : Cell). share_in x.held)) of_a.1 ∙ ap share_in share.1 in
         cells_parted journal offers (coupled_without offers coupled gone party ending) (coupled_without offers coupled (gone ++ o ∷ []) party ending) c table.one (table.has_a o.place c now) (table.has_b o.place c now)
         (table.lower o.place c now) (whole_at offers coupled gone party ending c.a.place c at_a whole) (whole_at offers coupled gone party ending c.b.place c (table.at_b o.place c now) whole)
-        (λ place h. ap (unless_ended (gone ++ o ∷ []) party ending) (found_here offers coupled table o.place place c now h) ∙ unless_gone gone o party ending c ends_c)
+        (λ place h. ap (unless_offer_ends (gone ++ o ∷ []) party ending) (found_here offers coupled table o.place place c now h) ∙ unless_gone gone o party ending c ends_c)
         (λ place h. others place h (coupling_at offers coupled place) refl)
         cells cells' fit (parts.1 (subst (λ (s : Option PlainShare). IsSome s) (sym there) refl))

@@ -10,7 +10,7 @@ use Rattle.sv_events.specs.declared.entry.Pair.{Pair}
 use Rattle.sv_kept.specs.Cell.{coupled_with, known_alone, share_in}
 use Rattle.sv_kept.specs.Cells.{CouplesAt, cell_at}
 use Rattle.sv_kept.specs.declared.cell.Cell.{Cell}
-use Rattle.sv_kept.specs.declared.cell.Held.TheVariants.{Shared, Lent}
+use Rattle.sv_kept.specs.declared.cell.CellContent.TheVariants.{Shared, Lent}
 use Rattle.sv_kept.specs.declared.cells.Cells.{Cells}
 use Rattle.sv_rules.specs.Coupling.{couplings, couplings_among, coupling_now, has_place}
 use Rattle.sv_rules.specs.Entries.{Entries, next_place}
@@ -27,7 +27,7 @@ use Rattle.sv_offer_laws.proofs.LookupLemmas.{found_as_made, found_where_coupled
 use Rattle.sv_offer_laws.proofs.Members.{list_any_member}
 use Rattle.sv_offer_laws.proofs.CouplingLemmas.{has_made_at}
 use Rattle.sv_offer_laws.proofs.NowLemmas.{coupling_among, made_is_found}
-use Rattle.sv_cell_laws.specs.Ends.{FitsIn, CellsIn, Joins, has_pair, if_older, if_taken, older_now, share_at, taken_now}
+use Rattle.sv_cell_laws.specs.Ends.{FitsCoupling, CellsIn, Couples, has_pair, if_older, if_taken, older_now, share_at, taken_now}
 use Rattle.sv_cell_laws.specs.Fits.{FitsShare, has_share, has_none, is_coupled, FitCells}
 use Rattle.sv_cell_laws.proofs.CellSteps.{found_at_a, found_at_b}
 use Rattle.sv_cell_laws.proofs.EndSteps.{list_any-more, no_share, or-false, or-true, share_of_a}
@@ -80,10 +80,10 @@ cells_joined users journal e legal place c now at f g none_a none_b now_a now_b 
     is : IsCouplingOf (e ∷ journal) place c
     is = found_as_made users (e ∷ journal) legal place c now
 
-    of_a : (cell : Cell) × (cell_at cells c.a.place ≡ Some cell) × FitsIn (e ∷ journal) c.a cell (f c.a.place)
+    of_a : (cell : Cell) × (cell_at cells c.a.place ≡ Some cell) × FitsCoupling (e ∷ journal) c.a cell (f c.a.place)
     of_a = fit c.a is.has_a
 
-    of_b : (cell : Cell) × (cell_at cells c.b.place ≡ Some cell) × FitsIn (e ∷ journal) c.b cell (f c.b.place)
+    of_b : (cell : Cell) × (cell_at cells c.b.place ≡ Some cell) × FitsCoupling (e ∷ journal) c.b cell (f c.b.place)
     of_b = fit c.b is.has_b
 
     share : PlainShare
@@ -101,14 +101,14 @@ cells_joined users journal e legal place c now at f g none_a none_b now_a now_b 
         (subst (λ v. FitsShare (e ∷ journal) c (share_of (known (e ∷ journal) c.a) v)) (sym (alone_known (e ∷ journal) c.b of_b.0 (f c.b.place) none_b (of_b.2).held))
         (new_share_fits users (e ∷ journal) legal place c now (omega (arith, at))))
 
-    low_fits : FitsIn (e ∷ journal) c.a low (g c.a.place)
+    low_fits : FitsCoupling (e ∷ journal) c.a low (g c.a.place)
     low_fits = record {
       vector = (of_a.2).vector;
       held = is_coupled c now_a (has_share (ap (λ (b : Bool). if b then A else B) (eq-eqb c.a.place c.a.place refl)) share refl shared);
       work = λ auxiliary d found. work_new journal e c.a low c d at (sym now_a ∙ found) refl refl;
     }
 
-    high_fits : FitsIn (e ∷ journal) c.b high (g c.b.place)
+    high_fits : FitsCoupling (e ∷ journal) c.b high (g c.b.place)
     high_fits = record {
       vector = (of_b.2).vector;
       held = is_coupled c now_b (has_none (ap (λ (b : Bool). if b then A else B) (ne_eqb c.a.place c.b.place (λ same. omega (arith, is.lower_first, same)))) refl);
@@ -182,18 +182,18 @@ module _ (users : List ℕ) (journal : Entries) (e : PlainEntry) (legal : IsLega
       elim here [ inl low ↦ eqb-false c.a.place q not_a low | inr high ↦ eqb-false c.b.place q not_b high ]
 
   -- the two share already where the pair was taken, and else they are coupled
-  join_by : (b : Bool) → has_pair taken c ≡ b → (cells cells' : Cells) → CellsIn (e ∷ journal) (Contains (standing (e ∷ journal))) (taken_now (e ∷ journal) taken) cells → Joins cells cells' pair →
+  join_by : (b : Bool) → has_pair taken c ≡ b → (cells cells' : Cells) → CellsIn (e ∷ journal) (Contains (standing (e ∷ journal))) (taken_now (e ∷ journal) taken) cells → Couples cells cells' pair →
       CellsIn (e ∷ journal) (Contains (standing (e ∷ journal))) (taken_now (e ∷ journal) (taken ++ pair ∷ [])) cells'
   join_by true taken_c cells cells' fit joins = λ offer has_offer.
       let of_a = fit c.a as_made.has_a in
-      let share = share_of_a (e ∷ journal) c.a of_a.0 c (subst (FitsIn (e ∷ journal) c.a of_a.0) (taken_at taken c.a.place true at_a taken_c) of_a.2) (eq-eqb c.a.place c.a.place refl) in
+      let share = share_of_a (e ∷ journal) c.a of_a.0 c (subst (FitsCoupling (e ∷ journal) c.a of_a.0) (taken_at taken c.a.place true at_a taken_c) of_a.2) (eq-eqb c.a.place c.a.place refl) in
       let there : share_at cells pair.a ≡ Some share.0 =
       ap (share_at cells) (sym is_a) ∙ ap (option_and_then (λ (x : Cell). share_in x.held)) of_a.1 ∙ ap share_in share.1 in
       let keeps = joins.0 (subst (λ (s : Option PlainShare). IsSome s) (sym there) refl) in
       let old = fit offer has_offer in (
         old.0,
         keeps offer.place ∙ old.1,
-        subst (FitsIn (e ∷ journal) offer old.0)
+        subst (FitsCoupling (e ∷ journal) offer old.0)
             (sym (taken_as_before (e ∷ journal) taken pair (coupling_now (e ∷ journal) offer.place) (λ d found h. ap (has_pair taken) (sym (one_pair offer.place d found h)) ∙ taken_c))) old.2,
       )
   join_by false untaken cells cells' fit joins =
@@ -208,7 +208,7 @@ module _ (users : List ℕ) (journal : Entries) (e : PlainEntry) (legal : IsLega
 
 -- the offers of a pair that the newest entry makes are coupled
 pub cells_join : (users : List ℕ) (journal : Entries) (e : PlainEntry) → IsLegal users (e ∷ journal) → (taken : List Pair) (pair : Pair) → Contains e.made pair → (cells cells' : Cells) →
-    CellsIn (e ∷ journal) (Contains (standing (e ∷ journal))) (taken_now (e ∷ journal) taken) cells → Joins cells cells' pair →
+    CellsIn (e ∷ journal) (Contains (standing (e ∷ journal))) (taken_now (e ∷ journal) taken) cells → Couples cells cells' pair →
     CellsIn (e ∷ journal) (Contains (standing (e ∷ journal))) (taken_now (e ∷ journal) (taken ++ pair ∷ [])) cells'
 cells_join users journal e legal taken pair has cells cells' fit joins =
     let w = pair_coupling users journal e legal pair has in
@@ -233,5 +233,5 @@ pub cells_end : (users : List ℕ) (journal : Entries) (e : PlainEntry) → IsLe
     CellsIn (e ∷ journal) (Contains (standing (e ∷ journal))) (taken_now (e ∷ journal) e.made) cells → FitCells (e ∷ journal) cells
 cells_end users journal e legal cells fit offer has =
     let old = fit offer has in
-    let now = subst (FitsIn (e ∷ journal) offer old.0) (all_taken users journal e legal offer.place) old.2 in
+    let now = subst (FitsCoupling (e ∷ journal) offer old.0) (all_taken users journal e legal offer.place) old.2 in
     (old.0, old.1, record { vector = now.vector; held = now.held; work = now.work })

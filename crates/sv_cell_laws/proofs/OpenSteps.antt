@@ -12,7 +12,7 @@ use Rattle.sv_events.specs.declared.entry.Pair.{Pair}
 use Rattle.sv_kept.specs.Cell.{coupled_with, known_alone, new_cell}
 use Rattle.sv_kept.specs.Cells.{PutsTwo, cell_at}
 use Rattle.sv_kept.specs.declared.cell.Cell.{Cell}
-use Rattle.sv_kept.specs.declared.cell.Held.TheVariants.{Alone, Shared, Lent}
+use Rattle.sv_kept.specs.declared.cell.CellContent.TheVariants.{Alone, Shared, Lent}
 use Rattle.sv_kept.specs.declared.cells.Cells.{Cells}
 use Rattle.sv_rules.specs.Control.{vector_of}
 use Rattle.sv_rules.specs.Coupling.{coupling_now, made_in, pair_of}

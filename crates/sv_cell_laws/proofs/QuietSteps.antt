@@ -26,7 +26,7 @@ use Rattle.apl_arrays.specs.Name.{same_name}
 use Rattle.sv_events.specs.Fits.{is_degree}
 use Rattle.sv_rules.specs.Entries.{Entries, next_place, kind_of}
 use Rattle.sv_rules.specs.Legal.{IsLegal, MayFollow, entry_for}
-use Rattle.sv_rules.specs.Outcome.{Outcome, outcome, answer_only, joined_to, offer_outcome, retraction_outcome, access_answer, unless_refused, refusal_answer, granted_answer, value_answer, value_for}
+use Rattle.sv_rules.specs.Outcome.{ActOutcome, outcome, answer_only, joined_to, offer_outcome, retraction_outcome, access_answer, unless_refused, refusal_answer, granted_answer, value_answer, value_for}
 use Rattle.sv_rules.specs.Refused.{hold_of, hold_on, waits}
 use Rattle.sv_rules.specs.Standing.{standing, own_offer, offer_count, with_offer}
 use Rattle.sv_rules.specs.Story.{GrantedAccess, access_on, granted_on}
@@ -39,7 +39,7 @@ use Rattle.sv_offer_laws.proofs.OwnLemmas.{same_name-is, own_offer-is, own_offer
 use Rattle.sv_story_laws.specs.StoryLaws.{IsAccessOn}
 use Rattle.sv_story_laws.proofs.AccessLemmas.{IsAccessOn-from_access, access_on-from_IsAccessOn}
 use Rattle.sv_story_laws.proofs.AuxiliaryLemmas.{auxiliaries_are_never_refused}
-use Rattle.sv_cell_laws.specs.Steps.{Stays, TouchesNothing, SetsControl, MakesAccess, set_of, use_of}
+use Rattle.sv_cell_laws.specs.Steps.{Stays, TouchesNothing, SetsControl, MakesAccess, set_access, use_access}
 
 -- what can be nothing is none
 none_if : {X : Type 0} (o : Option X) → ((x : X) → o ≡ Some x → ⊥) → o ≡ None
@@ -117,9 +117,9 @@ offer_again journal party (Offer to local surrogate handed) opening old h own =
     let new : Standing = record { place = next_place journal; party = party; to = to; local = local; surrogate = surrogate } in
     let out : outcome journal party (Offer to local surrogate handed) ≡ answer_only (degree (degree_at (couplings journal) old.place)) = ap (offer_outcome (standing journal) (couplings journal) new) stands in
     untouching journal (entry_for journal party (Offer to local surrogate handed))
-    (ap (λ (o : Outcome). cond (is_degree (kind_of o.answer)) (with_offer (standing journal) new) (standing journal)) out
+    (ap (λ (o : ActOutcome). cond (is_degree (kind_of o.answer)) (with_offer (standing journal) new) (standing journal)) out
     ∙ ap (λ (o : Option Standing). cond (is_none o) (standing journal ++ new ∷ []) (standing journal)) stands)
-    (ap (λ (o : Outcome). o.made) out) refl refl
+    (ap (λ (o : ActOutcome). o.made) out) refl refl
 offer_again journal party _ opening old h own = absurd (none-some opening h)
 
 -- one more offer than a party may have
@@ -132,8 +132,8 @@ offer_past_limit journal party (Offer to local surrogate handed) opening h own m
     let out : outcome journal party (Offer to local surrogate handed) ≡ answer_only offer_limit =
     ap (offer_outcome (standing journal) (couplings journal) new) fresh ∙ ap (λ (b : Bool). cond b (answer_only offer_limit) (joined_to new (open_match (standing journal) (couplings journal) new))) many in
     untouching journal (entry_for journal party (Offer to local surrogate handed))
-    (ap (λ (o : Outcome). cond (is_degree (kind_of o.answer)) (with_offer (standing journal) new) (standing journal)) out)
-    (ap (λ (o : Outcome). o.made) out) refl refl
+    (ap (λ (o : ActOutcome). cond (is_degree (kind_of o.answer)) (with_offer (standing journal) new) (standing journal)) out)
+    (ap (λ (o : ActOutcome). o.made) out) refl refl
 offer_past_limit journal party _ opening h own many = absurd (none-some opening h)
 
 -- what a party tries is its own offer of the name
@@ -229,7 +229,7 @@ ungranted_touches_nothing journal party act access h no_grant no_v not_own =
     let parts = answer_of_access journal party act access h in
     let e : PlainEntry = entry_for journal party act in
     record {
-      stays = stays_of journal e parts.1 (ap (λ (o : Outcome). o.made) parts.0);
+      stays = stays_of journal e parts.1 (ap (λ (o : ActOutcome). o.made) parts.0);
       none = λ offer has. record {
         access = ungranted e offer no_grant no_v;
         control = no_control_by_row e offer parts.2;
@@ -245,7 +245,7 @@ access_of_none journal party act access h none =
     (λ offer auxiliary has own. none-some offer (sym none ∙ own))
   where
     is : (outcome journal party act).answer ≡ not_shared
-    is = ap (λ (o : Outcome). o.answer) (answer_of_access journal party act access h).0 ∙ ap (access_answer journal party access.kind) none
+    is = ap (λ (o : ActOutcome). o.answer) (answer_of_access journal party act access h).0 ∙ ap (access_answer journal party access.kind) none
 
 -- a refused access
 pub refused_touches_nothing : (users : List ℕ) (journal : Entries) (party : ℕ) (act : Act) (access : Accessing) (own : Standing) (hold : Hold) → IsLegal users journal →
@@ -255,7 +255,7 @@ refused_touches_nothing users journal party act access own hold legal may h stan
     ungranted_touches_nothing journal party act access h (λ k. no_grant (waits journal party) (sym is ∙ k)) (λ v k. no_v (waits journal party) v (sym is ∙ k)) not_own
   where
     is : (outcome journal party act).answer ≡ refusal_answer (waits journal party) hold
-    is = ap (λ (o : Outcome). o.answer) (answer_of_access journal party act access h).0 ∙ ap (access_answer journal party access.kind) stands ∙ ap (unless_refused journal party own access.kind) refuses
+    is = ap (λ (o : ActOutcome). o.answer) (answer_of_access journal party act access h).0 ∙ ap (access_answer journal party access.kind) stands ∙ ap (unless_refused journal party own access.kind) refuses
 
     no_grant : (b : Bool) → refusal_answer b hold ≡ granted → ⊥
     no_grant true k = cc
@@ -290,7 +290,7 @@ untried e access offer row h =
 access_of_own : (journal : Entries) (party : ℕ) (act : Act) (access : Accessing) (own : Standing) (made : Option GrantedAccess) → (act_row act).row.accesses ≡ Some access →
     own_offer (standing journal) party access.local ≡ Some own → access_on own (entry_for journal party act) ≡ made → MakesAccess journal (entry_for journal party act) own made
 access_of_own journal party act access own made row stands is = record {
-  stays = stays_of journal e parts.1 (ap (λ (o : Outcome). o.made) parts.0);
+  stays = stays_of journal e parts.1 (ap (λ (o : ActOutcome). o.made) parts.0);
   makes = is;
   tried = tried_own;
   no_control = λ offer has. no_control_by_row e offer parts.2;
@@ -319,14 +319,14 @@ access_of_own journal party act access own made row stands is = record {
 granted_is : (journal : Entries) (party : ℕ) (act : Act) (access : Accessing) (own : Standing) → (act_row act).row.accesses ≡ Some access → own_offer (standing journal) party access.local ≡ Some own →
     hold_on journal access.kind (Some own) ≡ None → (outcome journal party act).answer ≡ granted_answer journal own access.kind
 granted_is journal party act access own row stands free =
-    ap (λ (o : Outcome). o.answer) (answer_of_access journal party act access row).0 ∙ ap (access_answer journal party access.kind) stands ∙ ap (unless_refused journal party own access.kind) free
+    ap (λ (o : ActOutcome). o.answer) (answer_of_access journal party act access row).0 ∙ ap (access_answer journal party access.kind) stands ∙ ap (unless_refused journal party own access.kind) free
 
 -- a set that is not refused
 pub set_makes_access : (journal : Entries) (party : ℕ) (act : Act) (access : Accessing) (own : Standing) (v : PlainArray) → (act_row act).row.accesses ≡ Some access → access.kind ≡ kind.Set →
     own_offer (standing journal) party access.local ≡ Some own → hold_on journal access.kind (Some own) ≡ None → (act_row act).hands_in ≡ Some v →
-    MakesAccess journal (entry_for journal party act) own (set_of v)
+    MakesAccess journal (entry_for journal party act) own (set_access v)
 set_makes_access journal party act access own v row set stands free handed =
-    access_of_own journal party act access own (set_of v) row stands
+    access_of_own journal party act access own (set_access v) row stands
     (access_on-from_IsAccessOn own (entry_for journal party act) (record { kind = kind.Set; value = v })
     (sym of.0, (act_is act row handed, granted_is journal party act access own row stands free ∙ ap (granted_answer journal own) set)))
   where
@@ -341,9 +341,9 @@ set_makes_access journal party act access own v row set stands free handed =
 -- a use that is not refused
 pub use_makes_access : (journal : Entries) (party : ℕ) (act : Act) (access : Accessing) (own : Standing) → (act_row act).row.accesses ≡ Some access → access.kind ≡ kind.Use →
     own_offer (standing journal) party access.local ≡ Some own → hold_on journal access.kind (Some own) ≡ None →
-    MakesAccess journal (entry_for journal party act) own (use_of (value_for journal own (coupling_now journal own.place)))
+    MakesAccess journal (entry_for journal party act) own (use_access (value_for journal own (coupling_now journal own.place)))
 use_makes_access journal party act access own row used stands free =
-    access_of_own journal party act access own (use_of found) row stands (by found refl)
+    access_of_own journal party act access own (use_access found) row stands (by found refl)
   where
     found : Option PlainArray
     found = value_for journal own (coupling_now journal own.place)
@@ -359,9 +359,9 @@ use_makes_access journal party act access own row used stands free =
     act_is (Use local) r = ap Use (ap (λ (x : Accessing). x.local) (same_Some _ access r) ∙ sym of.1)
     act_is _ r = absurd (none-some access r)
 
-    by : (got : Option PlainArray) → found ≡ got → access_on own (entry_for journal party act) ≡ use_of found
+    by : (got : Option PlainArray) → found ≡ got → access_on own (entry_for journal party act) ≡ use_access found
     by None h =
         ungranted (entry_for journal party act) own (λ k. let other : no_value ≡ granted = sym (is ∙ ap value_answer h) ∙ k in cc) (λ v k. let other : no_value ≡ value v = sym (is ∙ ap value_answer h) ∙ k in cc)
-        ∙ ap use_of (sym h)
+        ∙ ap use_access (sym h)
     by (Some v) h =
-        access_on-from_IsAccessOn own (entry_for journal party act) (record { kind = kind.Use; value = v }) (sym of.0, (act_is act row, is ∙ ap value_answer h)) ∙ ap use_of (sym h)
+        access_on-from_IsAccessOn own (entry_for journal party act) (record { kind = kind.Use; value = v }) (sym of.0, (act_is act row, is ∙ ap value_answer h)) ∙ ap use_access (sym h)

@@ -9,8 +9,8 @@ use Rattle.sv_events.specs.Entry.{PlainEntry}
 use Rattle.sv_kept.specs.Cell.{known_alone, controlled}
 use Rattle.sv_kept.specs.Cells.{cell_at, ChangesAt}
 use Rattle.sv_kept.specs.declared.cell.Cell.{Cell}
-use Rattle.sv_kept.specs.declared.cell.Held.{Held}
-use Rattle.sv_kept.specs.declared.cell.Held.TheVariants.{Alone, Shared}
+use Rattle.sv_kept.specs.declared.cell.CellContent.{CellContent}
+use Rattle.sv_kept.specs.declared.cell.CellContent.TheVariants.{Alone, Shared}
 use Rattle.sv_kept.specs.declared.cells.Cells.{Cells}
 use Rattle.sv_rules.specs.Control.{side_at}
 use Rattle.sv_rules.specs.Coupling.{coupling_now}
@@ -35,7 +35,7 @@ share_stays share coupling e none_a none_b =
 
 -- what a coupled offer holds stays, where no access is made
 pub holds_stays : (journal : Entries) (e : PlainEntry) (offer : Standing) (now : Coupling) → coupling_now journal offer.place ≡ Some now → access_on now.a e ≡ None → access_on now.b e ≡ None →
-    (side : Side) (held : Held) → HoldsShare journal now side held → HeldAfter journal e offer (coupling_now journal offer.place) held held
+    (side : Side) (held : CellContent) → HoldsShare journal now side held → HeldAfter journal e offer (coupling_now journal offer.place) held held
 holds_stays journal e offer now some none_a none_b side held (has_share a share is fits) = shared_then now some share is (is ∙ ap Shared (sym (share_stays share now e none_a none_b)))
 holds_stays journal e offer now some none_a none_b side held (has_none b is) = lent_then now some is is
 
@@ -49,7 +49,7 @@ held_stays : (users : List ℕ) (journal : Entries) (e : PlainEntry) → IsLegal
 held_stays users journal e legal none offer has cell (is_open alone is) =
     alone_then alone
     (is ∙ ap (λ (a : Option GrantedAccess). Alone (known_after a (known journal offer))) (sym (none offer has))
-    ∙ ap (λ (h : Held). Alone (known_after (access_on offer e) (known_alone h))) (sym is))
+    ∙ ap (λ (h : CellContent). Alone (known_after (access_on offer e) (known_alone h))) (sym is))
 held_stays users journal e legal none offer has cell (is_coupled now some holds) =
     let is = found_as_made users journal legal offer.place now some in
     holds_stays journal e offer now some (none now.a is.has_a) (none now.b is.has_b) (side_at now offer.place) cell.held holds

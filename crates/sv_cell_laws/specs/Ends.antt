@@ -23,7 +23,7 @@ use Rattle.sv_rules.specs.declared.standing.Standing.{Standing}
 use Rattle.sv_kept.specs.Share.{PlainShare}
 
 -- the cell is that of an offer with this coupling, or with none
-pub record FitsIn (journal : Entries) (offer : Standing) (cell : Cell) (coupling : Option Coupling) : Type 0 where
+pub record FitsCoupling (journal : Entries) (offer : Standing) (cell : Cell) (coupling : Option Coupling) : Type 0 where
   pub vector : cell.vector ≡ vector_of journal offer
   pub held : FitsHeld journal offer cell coupling
   pub work : IsTrue (is_auxiliary offer.party) → (now : Coupling) → coupling ≡ Some now → FitsWork journal offer cell now
@@ -31,10 +31,10 @@ pub record FitsIn (journal : Entries) (offer : Standing) (cell : Cell) (coupling
 -- each of some offers has its cell, where they are coupled so
 abbrev pub CellsIn : Entries → (Standing → Type 0) → (ℕ → Option Coupling) → Cells → Type 0
 CellsIn journal among coupled cells =
-    (offer : Standing) → among offer → (cell : Cell) × (cell_at cells offer.place ≡ Some cell) × FitsIn journal offer cell (coupled offer.place)
+    (offer : Standing) → among offer → (cell : Cell) × (cell_at cells offer.place ≡ Some cell) × FitsCoupling journal offer cell (coupled offer.place)
 
 -- a table of offers: their places differ, and each coupling is of two of them, and found at both
-pub record IsTable (offers : List Standing) (coupled : List Made) : Type 0 where
+pub record IsOfferTable (offers : List Standing) (coupled : List Made) : Type 0 where
   pub one : (o p : Standing) → Contains offers o → Contains offers p → o.place ≡ p.place → o ≡ p
   pub has_a : (place : ℕ) (c : Coupling) → coupling_at offers coupled place ≡ Some c → Contains offers c.a
   pub has_b : (place : ℕ) (c : Coupling) → coupling_at offers coupled place ≡ Some c → Contains offers c.b
@@ -48,13 +48,13 @@ abbrev pub ends_one : ℕ → Ending → Coupling → Standing → Bool
 ends_one party ending coupling offer = is_ended party ending offer && (coupling.a.place == offer.place || coupling.b.place == offer.place)
 
 -- the coupling, unless one of these offers ends it
-abbrev pub unless_ended : List Standing → ℕ → Ending → Option Coupling → Option Coupling
-unless_ended gone party ending None = None
-unless_ended gone party ending (Some coupling) = if list_any (ends_one party ending coupling) gone then None else Some coupling
+abbrev pub unless_offer_ends : List Standing → ℕ → Ending → Option Coupling → Option Coupling
+unless_offer_ends gone party ending None = None
+unless_offer_ends gone party ending (Some coupling) = if list_any (ends_one party ending coupling) gone then None else Some coupling
 
 -- the couplings of a table without those that these offers end
 abbrev pub coupled_without : List Standing → List Made → List Standing → ℕ → Ending → ℕ → Option Coupling
-coupled_without offers coupled gone party ending place = unless_ended gone party ending (coupling_at offers coupled place)
+coupled_without offers coupled gone party ending place = unless_offer_ends gone party ending (coupling_at offers coupled place)
 
 -- the coupling, where it is older than the newest entry
 abbrev pub if_older : Entries → Option Coupling → Option Coupling
@@ -75,15 +75,15 @@ MayPart cells None = Unit {0}
 MayPart cells (Some c) = (¬ (c.a.place ≡ c.b.place)) × IsSome (cell_at cells c.b.place)
 
 -- the offers of a coupling part, where they still share
-abbrev pub Parts : Cells → Cells → Option Coupling → Type 0
-Parts old new None = KeepsCells old new
-Parts old new (Some c) = (share_at old c.a.place ≡ None → KeepsCells old new) × (IsSome (share_at old c.a.place) → PartsAt old new c.a.place c.b.place)
+abbrev pub Uncouples : Cells → Cells → Option Coupling → Type 0
+Uncouples old new None = KeepsCells old new
+Uncouples old new (Some c) = (share_at old c.a.place ≡ None → KeepsCells old new) × (IsSome (share_at old c.a.place) → PartsAt old new c.a.place c.b.place)
 
 -- an offer that ends, and its partner, part: the cells are then those without its coupling
 abbrev pub CellsPart : Type 0
 CellsPart =
-    (journal : Entries) (offers : List Standing) (coupled : List Made) → IsTable offers coupled → (gone : List Standing) (party : ℕ) (ending : Ending) (o : Standing) → IsTrue (is_ended party ending o) →
-    (coupling : Option Coupling) → coupling_at offers coupled o.place ≡ coupling → (cells cells' : Cells) → CellsIn journal (Contains offers) (coupled_without offers coupled gone party ending) cells → Parts cells cells' coupling →
+    (journal : Entries) (offers : List Standing) (coupled : List Made) → IsOfferTable offers coupled → (gone : List Standing) (party : ℕ) (ending : Ending) (o : Standing) → IsTrue (is_ended party ending o) →
+    (coupling : Option Coupling) → coupling_at offers coupled o.place ≡ coupling → (cells cells' : Cells) → CellsIn journal (Contains offers) (coupled_without offers coupled gone party ending) cells → Uncouples cells cells' coupling →
     CellsIn journal (Contains offers) (coupled_without offers coupled (gone ++ o ∷ []) party ending) cells'
 
 -- the pair of the coupling is among these
@@ -100,12 +100,12 @@ abbrev pub taken_now : Entries → List Pair → ℕ → Option Coupling
 taken_now journal pairs place = if_taken journal pairs (coupling_now journal place)
 
 -- the offers of a pair are coupled, unless they share already
-abbrev pub Joins : Cells → Cells → Pair → Type 0
-Joins old new pair = (IsSome (share_at old pair.a) → KeepsCells old new) × (share_at old pair.a ≡ None → CouplesAt old new pair.a pair.b)
+abbrev pub Couples : Cells → Cells → Pair → Type 0
+Couples old new pair = (IsSome (share_at old pair.a) → KeepsCells old new) × (share_at old pair.a ≡ None → CouplesAt old new pair.a pair.b)
 
 -- the offers that stand and their couplings are a table
 abbrev pub OffersAreTables : Type 0
-OffersAreTables = (users : List ℕ) (journal : Entries) → IsLegal users journal → IsTable (standing journal) (couplings journal)
+OffersAreTables = (users : List ℕ) (journal : Entries) → IsLegal users journal → IsOfferTable (standing journal) (couplings journal)
 
 -- cells that fit a journal fit it with an entry that touches no offer, by the couplings of before
 abbrev pub CellsBegin : Type 0
@@ -123,7 +123,7 @@ WithoutEndedAreOlder =
 abbrev pub CellsJoin : Type 0
 CellsJoin =
     (users : List ℕ) (journal : Entries) (e : PlainEntry) → IsLegal users (e ∷ journal) → (taken : List Pair) (pair : Pair) → Contains e.made pair → (cells cells' : Cells) →
-    CellsIn (e ∷ journal) (Contains (standing (e ∷ journal))) (taken_now (e ∷ journal) taken) cells → Joins cells cells' pair →
+    CellsIn (e ∷ journal) (Contains (standing (e ∷ journal))) (taken_now (e ∷ journal) taken) cells → Couples cells cells' pair →
     CellsIn (e ∷ journal) (Contains (standing (e ∷ journal))) (taken_now (e ∷ journal) (taken ++ pair ∷ [])) cells'
 
 -- once all are, each standing offer has its cell

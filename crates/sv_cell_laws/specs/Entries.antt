@@ -3,7 +3,7 @@ use Rattle.std.specs.Prelude.{◌≡◌, ℕ, List, Some, None, true, nat_le}
 use Rattle.apl_arrays.specs.Array.{PlainArray}
 use Rattle.apl_arrays.specs.Limits.{most_offers}
 use Rattle.sv_access.specs.declared.access.Kind.TheVariants as kind
-use Rattle.sv_cell_laws.specs.Steps.{MakesAccess, SetsControl, TouchesNothing, set_of, use_of}
+use Rattle.sv_cell_laws.specs.Steps.{MakesAccess, SetsControl, TouchesNothing, set_access, use_access}
 use Rattle.sv_events.specs.Row.{act_row}
 use Rattle.sv_events.specs.declared.event.Act.{Act}
 use Rattle.sv_events.specs.declared.event.Hold.{Hold}
@@ -70,10 +70,10 @@ abbrev pub SetsAreMade : Type 0
 SetsAreMade =
     (journal : Entries) (party : ℕ) (act : Act) (access : Accessing) (own : Standing) (v : PlainArray) → (act_row act).row.accesses ≡ Some access → access.kind ≡ kind.Set →
     own_offer (standing journal) party access.local ≡ Some own → hold_on journal access.kind (Some own) ≡ None → (act_row act).hands_in ≡ Some v →
-    MakesAccess journal (entry_for journal party act) own (set_of v)
+    MakesAccess journal (entry_for journal party act) own (set_access v)
 
 abbrev pub UsesAreMade : Type 0
 UsesAreMade =
     (journal : Entries) (party : ℕ) (act : Act) (access : Accessing) (own : Standing) → (act_row act).row.accesses ≡ Some access → access.kind ≡ kind.Use →
     own_offer (standing journal) party access.local ≡ Some own → hold_on journal access.kind (Some own) ≡ None →
-    MakesAccess journal (entry_for journal party act) own (use_of (value_for journal own (coupling_now journal own.place)))
+    MakesAccess journal (entry_for journal party act) own (use_access (value_for journal own (coupling_now journal own.place)))

@@ -4,8 +4,8 @@ use Rattle.sv_access.specs.declared.access.Side.TheVariants.{A, B}
 use Rattle.sv_kept.specs.Share.{PlainShare, IsShareOf}
 use Rattle.sv_kept.specs.Cells.{cell_at}
 use Rattle.sv_kept.specs.declared.cell.Cell.{Cell}
-use Rattle.sv_kept.specs.declared.cell.Held.{Held}
-use Rattle.sv_kept.specs.declared.cell.Held.TheVariants.{Alone, Shared, Lent}
+use Rattle.sv_kept.specs.declared.cell.CellContent.{CellContent}
+use Rattle.sv_kept.specs.declared.cell.CellContent.TheVariants.{Alone, Shared, Lent}
 use Rattle.sv_kept.specs.declared.cells.Cells.{Cells}
 use Rattle.sv_rules.specs.Control.{side_at, vector_of}
 use Rattle.sv_rules.specs.Coupling.{coupling_now}
@@ -24,7 +24,7 @@ pub record FitsShare (journal : Entries) (coupling : Coupling) (share : PlainSha
   pub told : IsShareOf (story journal coupling) share
 
 -- what an offer on a side of a coupling holds: side A has the share
-pub data HoldsShare (journal : Entries) (coupling : Coupling) (side : Side) (held : Held) : Type 0 where
+pub data HoldsShare (journal : Entries) (coupling : Coupling) (side : Side) (held : CellContent) : Type 0 where
   has_share : side ≡ A → (share : PlainShare) → held ≡ Shared share → FitsShare journal coupling share → HoldsShare journal coupling side held
   has_none : side ≡ B → held ≡ Lent → HoldsShare journal coupling side held
 

@@ -11,8 +11,8 @@ use Rattle.sv_access.specs.Access.{is_set}
 use Rattle.sv_kept.specs.Cell.{answered, coupled_with, holding, known_alone, new_cell}
 use Rattle.sv_kept.specs.Cells.{ChangesAt, PutsAt, PutsTwo, cell_at}
 use Rattle.sv_kept.specs.declared.cell.Cell.{Cell}
-use Rattle.sv_kept.specs.declared.cell.Held.{Held}
-use Rattle.sv_kept.specs.declared.cell.Held.TheVariants.{Alone, Shared, Lent}
+use Rattle.sv_kept.specs.declared.cell.CellContent.{CellContent}
+use Rattle.sv_kept.specs.declared.cell.CellContent.TheVariants.{Alone, Shared, Lent}
 use Rattle.sv_kept.specs.declared.cells.Cells.{Cells}
 use Rattle.sv_cell_laws.specs.Fits.{FitsCell}
 use Rattle.sv_events.specs.Entry.{PlainEntry}
@@ -44,7 +44,7 @@ pub record Stays (journal : Entries) (e : PlainEntry) : Type 0 where
   pub coupled : couplings (e ∷ journal) ≡ couplings journal
 
 -- what is held after the entry, by what was held before
-pub data HeldAfter (journal : Entries) (e : PlainEntry) (offer : Standing) (coupling : Option Coupling) (old new : Held) : Type 0 where
+pub data HeldAfter (journal : Entries) (e : PlainEntry) (offer : Standing) (coupling : Option Coupling) (old new : CellContent) : Type 0 where
   alone_then : coupling ≡ None → new ≡ Alone (known_after (access_on offer e) (known_alone old)) → HeldAfter journal e offer coupling old new
   shared_then : (now : Coupling) → coupling ≡ Some now → (share : PlainShare) → old ≡ Shared share → new ≡ Shared (with_entry share now e) → HeldAfter journal e offer coupling old new
   lent_then : (now : Coupling) → coupling ≡ Some now → old ≡ Lent → new ≡ Lent → HeldAfter journal e offer coupling old new
@@ -100,19 +100,19 @@ abbrev pub is_use : Option GrantedAccess → Bool
 is_use access = option_map_or (λ access. not (is_set access.kind)) access false
 
 -- the use that a value makes, if there is one
-abbrev pub use_of : Option PlainArray → Option GrantedAccess
-use_of value = option_map (λ v. record { kind = kind.Use; value = v }) value
+abbrev pub use_access : Option PlainArray → Option GrantedAccess
+use_access value = option_map (λ v. record { kind = kind.Use; value = v }) value
 
 -- the set of a value
-abbrev pub set_of : PlainArray → Option GrantedAccess
-set_of v = Some (record { kind = kind.Set; value = v })
+abbrev pub set_access : PlainArray → Option GrantedAccess
+set_access v = Some (record { kind = kind.Set; value = v })
 
 -- the cell of an open offer after an access of its party
 abbrev pub answered_alone : Option GrantedAccess → Cell → Cell
 answered_alone access cell = answered (holding cell (Alone (known_after access (known_alone cell.held)))) (is_use access)
 
 -- what is held after an access of a side, where it is a share
-abbrev pub with_access_in : Held → Side → Option GrantedAccess → Held
+abbrev pub with_access_in : CellContent → Side → Option GrantedAccess → CellContent
 with_access_in (Alone value) side access = Alone value
 with_access_in (Shared share) side access = Shared (with_access share side access)
 with_access_in Lent side access = Lent

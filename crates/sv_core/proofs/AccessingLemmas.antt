@@ -4,12 +4,12 @@ use Rattle.std.proofs.lemmas.Option.{none-some, same_Some}
 use Rattle.std.specs.Prelude.{Contains, IsSome, option_and_then}
 use Rattle.apl_arrays.specs.Array.{PlainArray}
 use Rattle.sv_cell_laws.specs.Fits.{FitCells, FitsHeld, FitsShare, is_coupled, is_open}
-use Rattle.sv_cell_laws.specs.Steps.{use_of}
+use Rattle.sv_cell_laws.specs.Steps.{use_access}
 use Rattle.sv_kept.specs.Cell.{known_alone, share_in}
 use Rattle.sv_kept.specs.Cells.{cell_at}
 use Rattle.sv_kept.specs.declared.cell.Cell.{Cell}
-use Rattle.sv_kept.specs.declared.cell.Held.{Held}
-use Rattle.sv_kept.specs.declared.cell.Held.TheVariants.{Alone, Lent, Shared}
+use Rattle.sv_kept.specs.declared.cell.CellContent.{CellContent}
+use Rattle.sv_kept.specs.declared.cell.CellContent.TheVariants.{Alone, Lent, Shared}
 use Rattle.sv_kept.specs.declared.cells.Cells.{Cells}
 use Rattle.sv_rules.specs.Coupling.{coupling_now}
 use Rattle.sv_rules.specs.Entries.{Entries}
@@ -22,15 +22,15 @@ use Rattle.sv_rules.specs.declared.standing.Standing.{Standing}
 use Rattle.sv_kept.specs.Share.{PlainShare, shared_value}
 use Rattle.sv_core.proofs.EndingLemmas.{some_cell}
 use Rattle.sv_core.proofs.HoldingLemmas.{a_stands, at_its_a, known_is, share_is}
-use Rattle.sv_core.specs.Invariant.{IsKept, Parts}
-use Rattle.sv_core.specs.Updating.{Answers, IsReady, value_at}
+use Rattle.sv_core.specs.Invariant.{IsWholeCore, CoreParts}
+use Rattle.sv_core.specs.Updating.{AfterAccess, IsReady, value_at}
 
 -- what is held alone, and what is shared
 alone_is : (journal : Entries) (offer : Standing) (cell : Cell) → coupling_now journal offer.place ≡ None → FitsHeld journal offer cell (coupling_now journal offer.place) → cell.held ≡ Alone (known journal offer)
 alone_is journal offer cell none (is_open alone held) = held
 alone_is journal offer cell none (is_coupled now some holds) = absurd (none-some now (sym none ∙ some))
 
-in_share : (held : Held) (share : PlainShare) → share_in held ≡ Some share → held ≡ Shared share
+in_share : (held : CellContent) (share : PlainShare) → share_in held ≡ Some share → held ≡ Shared share
 in_share (Alone value) share h = absurd (none-some share h)
 in_share (Shared s) share h = ap Shared (same_Some s share h)
 in_share Lent share h = absurd (none-some share h)
@@ -68,22 +68,22 @@ value_is users journal legal cells fit own has = by (coupling_now journal own.pl
         ∙ ap (λ (o : Option PlainShare). option_and_then shared_value o) low.3 ∙ low.4.told.value
 
 -- the same of a core, by the coupling that was found
-pub ready_with : (core : Parts) → IsKept core → (own : Standing) → Contains (standing core.journal) own → (found : Option Coupling) → found ≡ coupling_now core.journal own.place → IsReady core.cells own found
+pub ready_with : (core : CoreParts) → IsWholeCore core → (own : Standing) → Contains (standing core.journal) own → (found : Option Coupling) → found ≡ coupling_now core.journal own.place → IsReady core.cells own found
 ready_with core k own has found is = subst (λ (o : Option Coupling). IsReady core.cells own o) (sym is) (ready_is core.users core.journal k.legal core.cells k.fit own has)
 
 -- an offer has a cell
-pub some_cell_in : (core : Parts) → IsKept core → (own : Standing) → Contains (standing core.journal) own → IsSome (cell_at core.cells own.place)
+pub some_cell_in : (core : CoreParts) → IsWholeCore core → (own : Standing) → Contains (standing core.journal) own → IsSome (cell_at core.cells own.place)
 some_cell_in core k own has = let old = k.fit own has in some_cell core.cells own.place old.0 old.1
 
 -- the cells after an access, by the coupling of the journal
-pub answers_with : (core : Parts) (own : Standing) (cells : Cells) (access : Option GrantedAccess) (found : Option Coupling) → found ≡ coupling_now core.journal own.place → Answers core.cells cells own access found →
-    Answers core.cells cells own access (coupling_now core.journal own.place)
-answers_with core own cells access found is h = subst (λ (o : Option Coupling). Answers core.cells cells own access o) is h
+pub answers_with : (core : CoreParts) (own : Standing) (cells : Cells) (access : Option GrantedAccess) (found : Option Coupling) → found ≡ coupling_now core.journal own.place → AfterAccess core.cells cells own access found →
+    AfterAccess core.cells cells own access (coupling_now core.journal own.place)
+answers_with core own cells access found is h = subst (λ (o : Option Coupling). AfterAccess core.cells cells own access o) is h
 
 -- and the use of the value that it gives
-pub uses_with : (core : Parts) → IsKept core → (own : Standing) (cells : Cells) → Contains (standing core.journal) own → (found : Option Coupling) → found ≡ coupling_now core.journal own.place →
-    Answers core.cells cells own (use_of (value_at core.cells own found)) found →
-    Answers core.cells cells own (use_of (value_for core.journal own (coupling_now core.journal own.place))) (coupling_now core.journal own.place)
+pub uses_with : (core : CoreParts) → IsWholeCore core → (own : Standing) (cells : Cells) → Contains (standing core.journal) own → (found : Option Coupling) → found ≡ coupling_now core.journal own.place →
+    AfterAccess core.cells cells own (use_access (value_at core.cells own found)) found →
+    AfterAccess core.cells cells own (use_access (value_for core.journal own (coupling_now core.journal own.place))) (coupling_now core.journal own.place)
 uses_with core k own cells has found is h =
-    subst (λ (v : Option PlainArray). Answers core.cells cells own (use_of v) (coupling_now core.journal own.place)) (value_is core.users core.journal k.legal core.cells k.fit own has)
-    (subst (λ (o : Option Coupling). Answers core.cells cells own (use_of (value_at core.cells own o)) o) is h)
+    subst (λ (v : Option PlainArray). AfterAccess core.cells cells own (use_access v) (coupling_now core.journal own.place)) (value_is core.users core.journal k.legal core.cells k.fit own has)
+    (subst (λ (o : Option Coupling). AfterAccess core.cells cells own (use_access (value_at core.cells own o)) o) is h)

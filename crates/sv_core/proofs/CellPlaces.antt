@@ -6,12 +6,12 @@ use Rattle.std.proofs.lemmas.Option.{none-some}
 use Rattle.std.specs.List.{list_any}
 use Rattle.std.specs.Prelude.{Contains, IsSome, if◌then◌else◌, option_and_then, option_map}
 use Rattle.sv_cell_laws.proofs.EndJournal.{left_from}
-use Rattle.sv_cell_laws.specs.Ends.{Joins, MayPart, Parts, share_at}
+use Rattle.sv_cell_laws.specs.Ends.{Couples, MayPart, Uncouples, share_at}
 use Rattle.sv_cell_laws.specs.Steps.{answered_alone, shared_at}
 use Rattle.sv_kept.specs.Cell.{coupled_with, holding, known_alone, share_in}
 use Rattle.sv_kept.specs.Cells.{ChangesAt, CouplesAt, KeepsCells, PartsAt, PutsAt, PutsTwo, cell_at}
 use Rattle.sv_kept.specs.declared.cell.Cell.{Cell}
-use Rattle.sv_kept.specs.declared.cell.Held.TheVariants.{Alone, Lent, Shared}
+use Rattle.sv_kept.specs.declared.cell.CellContent.TheVariants.{Alone, Lent, Shared}
 use Rattle.sv_kept.specs.declared.cells.Cells.{Cells}
 use Rattle.sv_events.specs.Entry.{PlainEntry}
 use Rattle.sv_events.specs.declared.entry.Pair.{Pair}
@@ -25,7 +25,7 @@ use Rattle.sv_rules.specs.Story.{GrantedAccess}
 use Rattle.sv_rules.specs.declared.coupling.Coupling.{Coupling}
 use Rattle.sv_rules.specs.declared.standing.Standing.{Standing}
 use Rattle.sv_kept.specs.Share.{PlainShare, share_of}
-use Rattle.sv_core.specs.Updating.{AddsNone, Answers, ClearsAll, Closes, HasNoOther, IsVacant, Joined, MayJoin}
+use Rattle.sv_core.specs.Updating.{AddsNone, AfterAccess, ClearsAll, Closes, HasNoOther, IsVacant, Joined, MayJoin}
 
 -- the same cells, and none more
 pub keeps_add_none : (old new : Cells) → KeepsCells old new → AddsNone old new
@@ -43,7 +43,7 @@ changes_add_none old new place change changes at none = by (eqb place at) refl
     by false apart = changes at ∙ ap (λ (t : Bool). if t then option_map change (cell_at old place) else cell_at old at) apart ∙ none
 
 -- so are those of an access
-pub answers_add_none : (old new : Cells) (own : Standing) (access : Option GrantedAccess) (coupling : Option Coupling) → Answers old new own access coupling → AddsNone old new
+pub answers_add_none : (old new : Cells) (own : Standing) (access : Option GrantedAccess) (coupling : Option Coupling) → AfterAccess old new own access coupling → AddsNone old new
 answers_add_none old new own access None answers = changes_add_none old new own.place (answered_alone access) answers
 answers_add_none old new own access (Some coupling) answers =
     λ at none. answers at ∙ ap (λ (o : Option Cell). option_map (shared_at coupling.a.place own.place (side_at coupling own.place) access at) o) none
@@ -77,7 +77,7 @@ parted_add_none old new a b share shared some_b parts = by (cell_at old a) (cell
     by (Some x) (Some y) at_a at_b h k = two_add_none old new a b (holding x (Alone share.a)) (holding y (Alone share.b)) x y at_a at_b (parts x y share at_a h at_b)
 
 -- the offers of a coupling part, where they still share
-pub parts_add_none : (old new : Cells) (coupling : Option Coupling) → MayPart old coupling → Parts old new coupling → AddsNone old new
+pub parts_add_none : (old new : Cells) (coupling : Option Coupling) → MayPart old coupling → Uncouples old new coupling → AddsNone old new
 parts_add_none old new None may parts = keeps_add_none old new parts
 parts_add_none old new (Some c) may parts = by (share_at old c.a.place) refl
   where
@@ -86,7 +86,7 @@ parts_add_none old new (Some c) may parts = by (share_at old c.a.place) refl
     by (Some share) shared = parted_add_none old new c.a.place c.b.place share shared may.1 (parts.1 (subst (λ (o : Option PlainShare). IsSome o) (sym shared) refl))
 
 -- those of a pair are coupled, unless they share already
-pub joins_add_none : (old new : Cells) (pair : Pair) → IsSome (cell_at old pair.a) → IsSome (cell_at old pair.b) → Joins old new pair → AddsNone old new
+pub joins_add_none : (old new : Cells) (pair : Pair) → IsSome (cell_at old pair.a) → IsSome (cell_at old pair.b) → Couples old new pair → AddsNone old new
 joins_add_none old new pair some_a some_b joins = by (share_at old pair.a) refl
   where
     by : (s : Option PlainShare) → share_at old pair.a ≡ s → AddsNone old new

@@ -10,8 +10,8 @@ use Rattle.sv_access.specs.Access.{other_side}
 use Rattle.sv_access.specs.Story.{Story, is_unseen, state_of_story}
 use Rattle.sv_access.specs.declared.access.Side.{Side}
 use Rattle.sv_access.specs.declared.access.Side.TheVariants.{A, B}
-use Rattle.sv_access.specs.declared.state.State.{State}
-use Rattle.sv_access.specs.declared.state.State.TheVariants.{Quiet, UnseenA, UnseenB}
+use Rattle.sv_access.specs.declared.state.AccessState.{AccessState}
+use Rattle.sv_access.specs.declared.state.AccessState.TheVariants.{Quiet, UnseenA, UnseenB}
 use Rattle.sv_access.proofs.StoryLemmas.{is_unseen_by_state, says_unseen}
 use Rattle.sv_offer_laws.proofs.Members.{Contains-from_filter, filter_passed, find_passed}
 use Rattle.sv_rules.specs.Coupling.{coupling_now}
@@ -73,7 +73,7 @@ own_is_auxiliary journal party offer auxiliary has =
 pub partners_unseen : (told : Story PlainArray) (side : Side) → is_unseen (other_side side) told ≡ is_partners_unseen (state_of_story told) side
 partners_unseen told side = is_unseen_by_state told (other_side side) ∙ by (state_of_story told) side
   where
-    by : (s : State) (own : Side) → says_unseen s (other_side own) ≡ is_partners_unseen s own
+    by : (s : AccessState) (own : Side) → says_unseen s (other_side own) ≡ is_partners_unseen s own
     by Quiet A = refl
     by Quiet B = refl
     by UnseenA A = refl

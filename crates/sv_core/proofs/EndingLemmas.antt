@@ -8,7 +8,7 @@ use Rattle.apl_arrays.specs.Name.{same_name}
 use Rattle.sv_kept.specs.Cells.{PutsAt, cell_at}
 use Rattle.sv_kept.specs.declared.cell.Cell.{Cell}
 use Rattle.sv_kept.specs.declared.cells.Cells.{Cells}
-use Rattle.sv_cell_laws.specs.Ends.{IsTable, Joins, MayPart, Parts, coupled_without, ends_one, unless_ended}
+use Rattle.sv_cell_laws.specs.Ends.{IsOfferTable, Couples, MayPart, Uncouples, coupled_without, ends_one, unless_offer_ends}
 use Rattle.sv_cell_laws.proofs.JoinSteps.{cells_join, pair_coupling}
 use Rattle.sv_cell_laws.proofs.EndSteps.{cells_alike, cells_part, list_any-more, parts_none}
 use Rattle.sv_events.specs.declared.entry.Pair.{Pair}
@@ -31,7 +31,7 @@ pub parts_begin : (offers : List Standing) (coupled : List Made) (party : ℕ) (
 parts_begin offers coupled party ending cells journal fit =
     cells_alike journal (Contains offers) (coupling_at offers coupled) (coupled_without offers coupled [] party ending) cells (λ place. by (coupling_at offers coupled place)) fit
   where
-    by : (c : Option Coupling) → c ≡ unless_ended [] party ending c
+    by : (c : Option Coupling) → c ≡ unless_offer_ends [] party ending c
     by None = refl
     by (Some c) = refl
 
@@ -40,7 +40,7 @@ pub some_cell : (cells : Cells) (place : ℕ) (cell : Cell) → cell_at cells pl
 some_cell cells place cell at = subst (λ (c : Option Cell). IsSome c) (sym at) refl
 
 -- the offers of a coupling may part
-pub may_part : (offers : List Standing) (coupled : List Made) (party : ℕ) (ending : Ending) (gone : List Standing) (old cells : Cells) → IsTable offers coupled → FitsSome offers coupled old →
+pub may_part : (offers : List Standing) (coupled : List Made) (party : ℕ) (ending : Ending) (gone : List Standing) (old cells : Cells) → IsOfferTable offers coupled → FitsSome offers coupled old →
     PartsAll offers coupled party ending gone old cells → (place : ℕ) (coupling : Option Coupling) → coupling_at offers coupled place ≡ coupling → MayPart cells coupling
 may_part offers coupled party ending gone old cells table fits parts place None at = tt
 may_part offers coupled party ending gone old cells table fits parts place (Some c) at =
@@ -48,8 +48,8 @@ may_part offers coupled party ending gone old cells table fits parts place (Some
     ((λ same. let lower = table.lower place c at in omega arith), some_cell cells c.b.place cell.0 cell.1)
 
 -- an offer that ends and its partner part
-pub parts_more : (offers : List Standing) (coupled : List Made) (party : ℕ) (ending : Ending) (gone : List Standing) (o : Standing) (old cells cells' : Cells) → IsTable offers coupled → is_ended party ending o ≡ true →
-    PartsAll offers coupled party ending gone old cells → (coupling : Option Coupling) → coupling_at offers coupled o.place ≡ coupling → Parts cells cells' coupling →
+pub parts_more : (offers : List Standing) (coupled : List Made) (party : ℕ) (ending : Ending) (gone : List Standing) (o : Standing) (old cells cells' : Cells) → IsOfferTable offers coupled → is_ended party ending o ≡ true →
+    PartsAll offers coupled party ending gone old cells → (coupling : Option Coupling) → coupling_at offers coupled o.place ≡ coupling → Uncouples cells cells' coupling →
     PartsAll offers coupled party ending (gone ++ o ∷ []) old cells'
 parts_more offers coupled party ending gone o old cells cells' table ends so_far coupling at parts journal fit =
     cells_part journal offers coupled table gone party ending o ends coupling at cells cells' (so_far journal fit) parts
@@ -79,7 +79,7 @@ parts_own offers coupled party ending old new own journal fit =
     cells_alike journal (Contains offers) (coupled_without offers coupled (own_of party offers) party ending) (coupled_without offers coupled offers party ending) new
     (λ place. by (coupling_at offers coupled place)) (own journal fit)
   where
-    by : (c : Option Coupling) → unless_ended (own_of party offers) party ending c ≡ unless_ended offers party ending c
+    by : (c : Option Coupling) → unless_offer_ends (own_of party offers) party ending c ≡ unless_offer_ends offers party ending c
     by None = refl
     by (Some c) =
         ap (λ (b : Bool). if b then None else Some c)
@@ -132,6 +132,6 @@ may_couple pairs taken pair old cells ready has so_far =
     )
 
 -- one pair more
-pub couples_more : (pairs taken : List Pair) (pair : Pair) (old cells cells' : Cells) → Contains pairs pair → CouplesAll pairs old cells taken → Joins cells cells' pair → CouplesAll pairs old cells' (taken ++ pair ∷ [])
+pub couples_more : (pairs taken : List Pair) (pair : Pair) (old cells cells' : Cells) → Contains pairs pair → CouplesAll pairs old cells taken → Couples cells cells' pair → CouplesAll pairs old cells' (taken ++ pair ∷ [])
 couples_more pairs taken pair old cells cells' has so_far joins ready =
     cells_join ready.users ready.journal ready.e ready.legal taken pair (subst (λ ps. Contains ps pair) (sym ready.made) has) cells cells' (so_far ready) joins

@@ -15,7 +15,7 @@ use Rattle.sv_access.specs.Control.{no_control}
 use Rattle.sv_kept.specs.Cell.{coupled_with, known_alone, new_cell}
 use Rattle.sv_kept.specs.Cells.{CouplesAt, PutsAt, cell_at}
 use Rattle.sv_kept.specs.declared.cell.Cell.{Cell}
-use Rattle.sv_kept.specs.declared.cell.Held.TheVariants.{Shared, Lent}
+use Rattle.sv_kept.specs.declared.cell.CellContent.TheVariants.{Shared, Lent}
 use Rattle.sv_kept.specs.declared.cells.Cells.{Cells}
 use Rattle.sv_cell_laws.specs.Fits.{FitCells}
 use Rattle.sv_cell_laws.specs.Steps.{OpensCells}
@@ -38,13 +38,13 @@ use Rattle.sv_offer_laws.proofs.RowLemmas.{outcome_of_ending}
 use Rattle.sv_events.specs.Answer.{done, kept}
 use Rattle.sv_events.specs.declared.row.Ending.TheVariants as how
 use Rattle.sv_events.specs.declared.row.Ending.TheVariants.{One}
-use Rattle.sv_rules.specs.Outcome.{Outcome, outcome, retraction_outcome}
+use Rattle.sv_rules.specs.Outcome.{ActOutcome, outcome, retraction_outcome}
 use Rattle.sv_rules.specs.Questions.{degree_of}
 use Rattle.sv_rules.specs.Story.{known}
 use Rattle.sv_core.proofs.People.{people_are}
 use Rattle.std.proofs.lemmas.Bool.{not-true}
 use Rattle.sv_core.specs.Core.{IsSpare, MayMake, PlainCore, present}
-use Rattle.sv_core.specs.Invariant.{Parts, IsKept}
+use Rattle.sv_core.specs.Invariant.{CoreParts, IsWholeCore}
 use Rattle.sv_core.specs.Updating.{HasNoOther, IsEnding, Joined}
 use Rattle.sv_core.proofs.Kept.{entry_is, whole_core}
 use Rattle.sv_core.proofs.TogetherLemmas.{ending_pairs}
@@ -69,12 +69,12 @@ may_step core party act legal member here on due stays room = record { legal = l
         user (inr aux) = absurd (both_ways (is_auxiliary party) person aux)
 
 -- after an act that ends offers
-pub end_core : (core new : Parts) → IsKept core → (party : ℕ) (act : Act) (ending : Ending) → MayFollow core.users core.journal (entry_for core.journal party act) → (act_row act).row.ends ≡ Some ending →
+pub end_core : (core new : CoreParts) → IsWholeCore core → (party : ℕ) (act : Act) (ending : Ending) → MayFollow core.users core.journal (entry_for core.journal party act) → (act_row act).row.ends ≡ Some ending →
     new.users ≡ core.users → new.journal ≡ entry_for core.journal party act ∷ core.journal →
     (let table : PlainOffers = record { offers = new.offers; coupled = new.coupled } in table) ≡ after_ending (next_place core.journal) (record { offers = core.offers; coupled = core.coupled }) party ending →
     FitCells (entry_for core.journal party act ∷ core.journal) new.cells → HasNoOther (entry_for core.journal party act ∷ core.journal) new.cells →
     present core.users (entry_for core.journal party act ∷ core.journal) ≤ new.room →
-    present core.users (entry_for core.journal party act ∷ core.journal) ≤ length new.spares → All IsSpare new.spares → IsKept new
+    present core.users (entry_for core.journal party act ∷ core.journal) ≤ length new.spares → All IsSpare new.spares → IsWholeCore new
 end_core core new k party act ending may ends users journal table fit no_other room count spare =
     whole_core core new e k may users journal
     (ap (λ (t : PlainOffers). t.offers) is ∙ sym left)
@@ -189,10 +189,10 @@ may_end users journal offers cells at party act ending legal stand couple fit ma
     e = entry_for journal party act
 
 -- a user that has not left may leave, and one user fewer is present then
-pub leave_may : (core : Parts) → IsKept core → (user : ℕ) → is_user core.users user ≡ true → not (has_left core.journal user) ≡ true → MayFollow core.users core.journal (entry_for core.journal user Leave)
+pub leave_may : (core : CoreParts) → IsWholeCore core → (user : ℕ) → is_user core.users user ≡ true → not (has_left core.journal user) ≡ true → MayFollow core.users core.journal (entry_for core.journal user Leave)
 leave_may core k user member here = leaves_may_follow core.users core.journal user (record { user = member; person = people_are core.users k.people user member; present = here })
 
-pub leave_falls : (core : Parts) (user : ℕ) → is_user core.users user ≡ true → not (has_left core.journal user) ≡ true →
+pub leave_falls : (core : CoreParts) (user : ℕ) → is_user core.users user ≡ true → not (has_left core.journal user) ≡ true →
     present core.users (entry_for core.journal user Leave ∷ core.journal) + 1 ≤ present core.users core.journal
 leave_falls core user member here = present-falls core.users core.journal (entry_for core.journal user Leave) refl member (not-true (has_left core.journal user) here)
 
@@ -200,16 +200,16 @@ leave_falls core user member here = present-falls core.users core.journal (entry
 pub retraction_answer : (journal : Entries) (party : ℕ) (act : Act) (local : List ℕ) (offer : Standing) → (act_row act).row.ends ≡ Some (One local) → own_offer (standing journal) party local ≡ Some offer →
     kept (degree_of journal (Some offer)) (known journal offer) ≡ (outcome journal party act).answer
 retraction_answer journal party act local offer row own =
-    sym (ap (λ (o : Outcome). o.answer) (outcome_of_ending journal party act (One local) row ∙ ap (retraction_outcome journal party local) own))
+    sym (ap (λ (o : ActOutcome). o.answer) (outcome_of_ending journal party act (One local) row ∙ ap (retraction_outcome journal party local) own))
 
 -- its offers end by the leave
-pub leave_ends : (core : Parts) → IsKept core → (offers : PlainOffers) (at user : ℕ) → offers.offers ≡ core.offers → offers.coupled ≡ core.coupled → at ≡ next_place core.journal → is_user core.users user ≡ true → not (has_left core.journal user) ≡ true →
+pub leave_ends : (core : CoreParts) → IsWholeCore core → (offers : PlainOffers) (at user : ℕ) → offers.offers ≡ core.offers → offers.coupled ≡ core.coupled → at ≡ next_place core.journal → is_user core.users user ≡ true → not (has_left core.journal user) ≡ true →
     IsEnding offers core.cells at user how.All core.users core.journal (entry_for core.journal user Leave)
 leave_ends core k offers at user offered coupled place member here =
     may_end core.users core.journal offers core.cells at user Leave how.All k.legal (offered ∙ k.stand) (coupled ∙ k.couple) k.fit (leave_may core k user member here) refl place
 
 -- the entry of the leave has the pairs that are made
-pub leave_entry : (core : Parts) (offers : PlainOffers) (at user : ℕ) → IsEnding offers core.cells at user how.All core.users core.journal (entry_for core.journal user Leave) → (made : List Pair) → made ≡ pairs_made at offers user how.All →
+pub leave_entry : (core : CoreParts) (offers : PlainOffers) (at user : ℕ) → IsEnding offers core.cells at user how.All core.users core.journal (entry_for core.journal user Leave) → (made : List Pair) → made ≡ pairs_made at offers user how.All →
     (let e : PlainEntry = record { party = user; act = Leave; answer = done; made = made } in e) ≡ entry_for core.journal user Leave
 leave_entry core offers at user ends made pairs =
     entry_is core.journal user Leave done made refl (pairs ∙ sym (ending_pairs offers core.cells at user how.All core.users core.journal (entry_for core.journal user Leave) ends))

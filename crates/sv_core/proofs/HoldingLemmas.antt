@@ -12,7 +12,7 @@ use Rattle.sv_kept.specs.declared.cell.Cell.{Cell}
 use Rattle.sv_kept.specs.declared.cells.Cells.{Cells}
 use Rattle.sv_rules.specs.Control.{side_at}
 use Rattle.sv_access.specs.Story.{state_of_story}
-use Rattle.sv_access.specs.declared.state.State.TheVariants.{Quiet}
+use Rattle.sv_access.specs.declared.state.AccessState.TheVariants.{Quiet}
 use Rattle.sv_rules.specs.Coupling.{coupling_now, couplings, is_coupled as is_coupled_there}
 use Rattle.sv_rules.specs.Entries.{Entries}
 use Rattle.sv_rules.specs.Legal.{IsLegal}

@@ -20,7 +20,7 @@ use Rattle.sv_rules.specs.Outcome.{outcome}
 use Rattle.sv_rules.specs.Standing.{standing}
 use Rattle.sv_core.specs.Core.{ArePeople, IsSpare, PlainCore, core_after, present}
 use Rattle.sv_core.proofs.CellPlaces.{keeps_add_none, no_other_later, no_other_still}
-use Rattle.sv_core.specs.Invariant.{IsKept, Parts}
+use Rattle.sv_core.specs.Invariant.{IsWholeCore, CoreParts}
 use Rattle.sv_core.specs.Updating.{AddsNone, HasNoOther}
 
 and-false : (b : Bool) → (b && false) ≡ false
@@ -88,9 +88,9 @@ fit_kept : (journal : Entries) (cells cells' : Cells) → KeepsCells cells cells
 fit_kept journal cells cells' keeps fit offer has = let old = fit offer has in (old.0, keeps offer.place ∙ old.1, old.2)
 
 -- what a core keeps, after an entry more
-pub whole_core : (core new : Parts) (e : PlainEntry) → IsKept core → MayFollow core.users core.journal e → new.users ≡ core.users → new.journal ≡ e ∷ core.journal →
+pub whole_core : (core new : CoreParts) (e : PlainEntry) → IsWholeCore core → MayFollow core.users core.journal e → new.users ≡ core.users → new.journal ≡ e ∷ core.journal →
     new.offers ≡ standing (e ∷ core.journal) → new.coupled ≡ couplings (e ∷ core.journal) → FitCells (e ∷ core.journal) new.cells → HasNoOther (e ∷ core.journal) new.cells →
-    present core.users (e ∷ core.journal) ≤ new.room → present core.users (e ∷ core.journal) ≤ length new.spares → All IsSpare new.spares → IsKept new
+    present core.users (e ∷ core.journal) ≤ new.room → present core.users (e ∷ core.journal) ≤ length new.spares → All IsSpare new.spares → IsWholeCore new
 whole_core core new e k may users journal stand couple fit no_other room count spare =
     let here : present new.users new.journal ≡ present core.users (e ∷ core.journal) = ap (λ us. present us new.journal) users ∙ ap (present core.users) journal in
     record {
@@ -106,8 +106,8 @@ whole_core core new e k may users journal stand couple fit no_other room count s
     }
 
 -- after an entry that is no leave, and opens and ends no offers
-pub entry_core : (core new : Parts) (e : PlainEntry) → IsKept core → MayFollow core.users core.journal e → is_leave e.act ≡ false → Stays core.journal e → new.users ≡ core.users → new.journal ≡ e ∷ core.journal →
-    new.offers ≡ core.offers → new.coupled ≡ core.coupled → new.spares ≡ core.spares → FitCells (e ∷ core.journal) new.cells → AddsNone core.cells new.cells → length core.users ≤ new.room → IsKept new
+pub entry_core : (core new : CoreParts) (e : PlainEntry) → IsWholeCore core → MayFollow core.users core.journal e → is_leave e.act ≡ false → Stays core.journal e → new.users ≡ core.users → new.journal ≡ e ∷ core.journal →
+    new.offers ≡ core.offers → new.coupled ≡ core.coupled → new.spares ≡ core.spares → FitCells (e ∷ core.journal) new.cells → AddsNone core.cells new.cells → length core.users ≤ new.room → IsWholeCore new
 entry_core core new e k may leaves stays users journal offers coupled spares fit adds room =
     let stay = present-stay core.users core.journal e leaves in
     whole_core core new e k may users journal (offers ∙ k.stand ∙ sym stays.offers) (coupled ∙ k.couple ∙ sym stays.coupled) fit
@@ -115,16 +115,16 @@ entry_core core new e k may leaves stays users journal offers coupled spares fit
     (omega (arith, stay, present-le-length core.users core.journal, room)) (omega (arith, stay, k.spare_count, ap length spares)) (subst (All IsSpare) (sym spares) k.spare_room)
 
 -- after an entry that touches nothing
-pub quiet_core : (core new : Parts) (e : PlainEntry) → IsKept core → MayFollow core.users core.journal e → is_leave e.act ≡ false → TouchesNothing core.journal e → new.users ≡ core.users → new.journal ≡ e ∷ core.journal →
-    new.offers ≡ core.offers → new.coupled ≡ core.coupled → new.spares ≡ core.spares → KeepsCells core.cells new.cells → length core.users ≤ new.room → IsKept new
+pub quiet_core : (core new : CoreParts) (e : PlainEntry) → IsWholeCore core → MayFollow core.users core.journal e → is_leave e.act ≡ false → TouchesNothing core.journal e → new.users ≡ core.users → new.journal ≡ e ∷ core.journal →
+    new.offers ≡ core.offers → new.coupled ≡ core.coupled → new.spares ≡ core.spares → KeepsCells core.cells new.cells → length core.users ≤ new.room → IsWholeCore new
 quiet_core core new e k may leaves nothing users journal offers coupled spares cells room =
     entry_core core new e k may leaves nothing.stays users journal offers coupled spares
     (cells_stay core.users core.journal e (may, k.legal) nothing new.cells (fit_kept core.journal core.cells new.cells cells k.fit))
     (keeps_add_none core.cells new.cells cells) room
 
 -- where nothing was entered
-pub same_core : (core new : Parts) → IsKept core → new.users ≡ core.users → new.journal ≡ core.journal → new.offers ≡ core.offers → new.coupled ≡ core.coupled → new.spares ≡ core.spares →
-    KeepsCells core.cells new.cells → core.room ≤ new.room → IsKept new
+pub same_core : (core new : CoreParts) → IsWholeCore core → new.users ≡ core.users → new.journal ≡ core.journal → new.offers ≡ core.offers → new.coupled ≡ core.coupled → new.spares ≡ core.spares →
+    KeepsCells core.cells new.cells → core.room ≤ new.room → IsWholeCore new
 same_core core new k users journal offers coupled spares cells room =
     let here : present new.users new.journal ≡ present core.users core.journal = ap (λ us. present us new.journal) users ∙ ap (present core.users) journal in
     record {
@@ -140,8 +140,8 @@ same_core core new k users journal offers coupled spares cells room =
     }
 
 -- what a core keeps that is new
-pub new_core : (core : Parts) (users : List ℕ) → ArePeople users → core.users ≡ users → core.journal ≡ [] → core.offers ≡ [] → core.coupled ≡ [] → ((at : ℕ) → cell_at core.cells at ≡ None) → length users ≤ core.room →
-    length users ≤ length core.spares → All IsSpare core.spares → IsKept core
+pub new_core : (core : CoreParts) (users : List ℕ) → ArePeople users → core.users ≡ users → core.journal ≡ [] → core.offers ≡ [] → core.coupled ≡ [] → ((at : ℕ) → cell_at core.cells at ≡ None) → length users ≤ core.room →
+    length users ≤ length core.spares → All IsSpare core.spares → IsWholeCore core
 new_core core users people same none offers coupled cells room count spare = record {
   people = subst ArePeople (sym same) people;
   legal = subst (IsLegal core.users) (sym none) tt;

@@ -25,20 +25,20 @@ use Rattle.sv_rules.specs.Coupling.{coupling_now, couplings, is_coupled, is_open
 use Rattle.sv_events.specs.Fits.{is_degree}
 use Rattle.sv_rules.specs.Entries.{Entries, next_place, is_leave, kind_of}
 use Rattle.sv_rules.specs.Legal.{IsLegal, MayFollow, entry_for}
-use Rattle.sv_rules.specs.Outcome.{Outcome, outcome, answer_only, joined_to, new_offer, offer_outcome}
+use Rattle.sv_rules.specs.Outcome.{ActOutcome, outcome, answer_only, joined_to, new_offer, offer_outcome}
 use Rattle.sv_rules.specs.Standing.{is_match, standing, own_offer, offer_count, with_offer}
 use Rattle.sv_rules.specs.Story.{GrantedAccess}
 use Rattle.sv_rules.specs.declared.coupling.Coupling.{Coupling}
 use Rattle.sv_rules.specs.declared.standing.Standing.{Standing}
-use Rattle.sv_core.specs.Invariant.{Parts, IsKept}
-use Rattle.sv_core.specs.Updating.{Answers}
+use Rattle.sv_core.specs.Invariant.{CoreParts, IsWholeCore}
+use Rattle.sv_core.specs.Updating.{AfterAccess}
 use Rattle.sv_core.proofs.CellPlaces.{answers_add_none, changes_add_none}
 use Rattle.sv_core.proofs.Kept.{entry_core}
 
 -- a control that is set
-pub control_core : (core new : Parts) → IsKept core → (party : ℕ) (act : Act) (set : Controlling) (own : Standing) → MayFollow core.users core.journal (entry_for core.journal party act) → is_leave act ≡ false →
+pub control_core : (core new : CoreParts) → IsWholeCore core → (party : ℕ) (act : Act) (set : Controlling) (own : Standing) → MayFollow core.users core.journal (entry_for core.journal party act) → is_leave act ≡ false →
     (act_row act).row.controls ≡ Some set → own_offer (standing core.journal) party set.local ≡ Some own → new.users ≡ core.users → new.journal ≡ entry_for core.journal party act ∷ core.journal →
-    new.offers ≡ core.offers → new.coupled ≡ core.coupled → new.spares ≡ core.spares → ChangesAt core.cells new.cells own.place (λ cell. controlled cell set.control) → length core.users ≤ new.room → IsKept new
+    new.offers ≡ core.offers → new.coupled ≡ core.coupled → new.spares ≡ core.spares → ChangesAt core.cells new.cells own.place (λ cell. controlled cell set.control) → length core.users ≤ new.room → IsWholeCore new
 control_core core new k party act set own may leaves row stands users journal offers coupled spares changes room =
     let e : PlainEntry = entry_for core.journal party act in
     let sets = control_of_own core.journal party act set own row stands in
@@ -48,14 +48,14 @@ control_core core new k party act set own may leaves row stands users journal of
 
 -- the cells after an access, by the coupling of its offer
 cells_answered : (users : List ℕ) (journal : Entries) (e : PlainEntry) (own : Standing) (access : Option GrantedAccess) → IsLegal users (e ∷ journal) → Contains (standing journal) own → MakesAccess journal e own access →
-    (coupling : Option Coupling) → coupling_now journal own.place ≡ coupling → (cells cells' : Cells) → FitCells journal cells → Answers cells cells' own access coupling → FitCells (e ∷ journal) cells'
+    (coupling : Option Coupling) → coupling_now journal own.place ≡ coupling → (cells cells' : Cells) → FitCells journal cells → AfterAccess cells cells' own access coupling → FitCells (e ∷ journal) cells'
 cells_answered users journal e own access legal has makes None now cells cells' fit answers = cells_answered_open users journal e own access legal has makes now cells cells' fit answers
 cells_answered users journal e own access legal has makes (Some c) now cells cells' fit answers = cells_answered_shared users journal e own access c legal has makes now cells cells' fit answers
 
 -- an access that is made
-pub access_core : (core new : Parts) → IsKept core → (e : PlainEntry) (own : Standing) (access : Option GrantedAccess) → MayFollow core.users core.journal e → is_leave e.act ≡ false → Contains (standing core.journal) own →
+pub access_core : (core new : CoreParts) → IsWholeCore core → (e : PlainEntry) (own : Standing) (access : Option GrantedAccess) → MayFollow core.users core.journal e → is_leave e.act ≡ false → Contains (standing core.journal) own →
     MakesAccess core.journal e own access → new.users ≡ core.users → new.journal ≡ e ∷ core.journal → new.offers ≡ core.offers → new.coupled ≡ core.coupled → new.spares ≡ core.spares →
-    Answers core.cells new.cells own access (coupling_now core.journal own.place) → length core.users ≤ new.room → IsKept new
+    AfterAccess core.cells new.cells own access (coupling_now core.journal own.place) → length core.users ≤ new.room → IsWholeCore new
 access_core core new k e own access may leaves has makes users journal offers coupled spares answers room =
     entry_core core new e k may leaves makes.stays users journal offers coupled spares
     (cells_answered core.users core.journal e own access (may, k.legal) has makes (coupling_now core.journal own.place) refl core.cells new.cells k.fit answers)
@@ -81,12 +81,12 @@ pub opens_offer : (users : List ℕ) (journal : Entries) (act : Act) (new : Stan
     OpensOffer journal (entry_for journal new.party act) new (open_match (standing journal) (couplings journal) new)
 opens_offer users journal (Offer to local surrogate handed) new row place fresh few = record {
   offers =
-      ap (λ (o : Outcome). cond (is_degree (kind_of o.answer)) (with_offer (standing journal) made) (standing journal)) out
+      ap (λ (o : ActOutcome). cond (is_degree (kind_of o.answer)) (with_offer (standing journal) made) (standing journal)) out
       ∙ ap (λ (b : Bool). cond b (with_offer (standing journal) made) (standing journal)) (joined_degree new match)
       ∙ ap (with_offer (standing journal)) same
       ∙ ap (λ (o : Option Standing). cond (is_none o) (standing journal ++ new ∷ []) (standing journal)) fresh;
   place = place;
-  made = ap (λ (o : Outcome). o.made) out ∙ joined_made new match;
+  made = ap (λ (o : ActOutcome). o.made) out ∙ joined_made new match;
   matched = λ other found.
       let passed = find_passed (is_open_match (couplings journal) new) (standing journal) other found in
       (passed.1, none_now journal other.place (not-true (is_coupled (couplings journal) other.place) (and_parts (not (is_coupled (couplings journal) other.place)) (is_match new other) passed.0).0));

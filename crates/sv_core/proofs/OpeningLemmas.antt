@@ -21,7 +21,7 @@ use Rattle.sv_offer_laws.specs.LegalLaws.{made_at}
 use Rattle.sv_rules.specs.Coupling.{couplings, couplings_among, open_match, pair_of}
 use Rattle.sv_rules.specs.Entries.{Entries, is_leave, next_place}
 use Rattle.sv_rules.specs.Legal.{MayFollow, entry_for}
-use Rattle.sv_rules.specs.Outcome.{Outcome, joined_to, offer_outcome, outcome}
+use Rattle.sv_rules.specs.Outcome.{ActOutcome, joined_to, offer_outcome, outcome}
 use Rattle.sv_rules.specs.Standing.{offer_count, own_offer, standing}
 use Rattle.sv_rules.specs.Story.{handed_in}
 use Rattle.sv_rules.specs.declared.coupling.Made.{Made}
@@ -33,7 +33,7 @@ use Rattle.sv_core.proofs.Kept.{entry_is, present-le-length, present-stay, whole
 use Rattle.sv_core.proofs.MakingLemmas.{opens_offer, opens_out}
 use Rattle.sv_core.proofs.OutcomeLemmas.{outcome_of_opening}
 use Rattle.sv_core.specs.Core.{IsSpare, present}
-use Rattle.sv_core.specs.Invariant.{IsKept, Parts}
+use Rattle.sv_core.specs.Invariant.{IsWholeCore, CoreParts}
 use Rattle.sv_core.specs.Updating.{Joined, MayJoin, degree_with}
 
 -- a standing offer is older than what comes next
@@ -62,11 +62,11 @@ pair_made at new None same = refl
 pair_made at new (Some other) same = ap (λ n. (let m : Made = record { pair = pair_of other new; at = n } in m) ∷ []) (sym same)
 
 -- what a core keeps, after an act that opens an offer
-pub open_core : (core new : Parts) → IsKept core → (act : Act) (offer : Standing) (match : Option Standing) → MayFollow core.users core.journal (entry_for core.journal offer.party act) → is_leave act ≡ false →
+pub open_core : (core new : CoreParts) → IsWholeCore core → (act : Act) (offer : Standing) (match : Option Standing) → MayFollow core.users core.journal (entry_for core.journal offer.party act) → is_leave act ≡ false →
     OpensOffer core.journal (entry_for core.journal offer.party act) offer match → new.users ≡ core.users → new.journal ≡ entry_for core.journal offer.party act ∷ core.journal →
     new.offers ≡ core.offers ++ offer ∷ [] →
     new.coupled ≡ core.coupled ++ option_to_list (option_map (λ (other : Standing). let m : Made = record { pair = pair_of other offer; at = offer.place } in m) match) →
-    new.spares ≡ core.spares → (between : Cells) → PutsAt core.cells between offer.place (Some (new_cell (handed_in act))) → Joined between new.cells offer match → length core.users ≤ new.room → IsKept new
+    new.spares ≡ core.spares → (between : Cells) → PutsAt core.cells between offer.place (Some (new_cell (handed_in act))) → Joined between new.cells offer match → length core.users ≤ new.room → IsWholeCore new
 open_core core new k act offer match may leaves opens users journal offers coupled spares between puts joined room =
     whole_core core new e k may users journal
     (offers ∙ ap (λ (os : List Standing). os ++ offer ∷ []) k.stand ∙ sym opens.offers) (coupled ∙ ap (λ (ms : List Made). ms ++ pairs) k.couple ∙ sym couplings_are)
@@ -94,11 +94,11 @@ open_core core new k act offer match may leaves opens users journal offers coupl
         ∙ ap (λ (ms : List Made). couplings core.journal ++ ms) (pair_made (next_place core.journal) offer match opens.place)
 
 -- the match by the table of a core is that of the journal
-match_in : (core : Parts) → IsKept core → (new : Standing) (match : Option Standing) → match ≡ open_match core.offers core.coupled new → match ≡ open_match (standing core.journal) (couplings core.journal) new
+match_in : (core : CoreParts) → IsWholeCore core → (new : Standing) (match : Option Standing) → match ≡ open_match core.offers core.coupled new → match ≡ open_match (standing core.journal) (couplings core.journal) new
 match_in core k new match is = is ∙ ap (λ (os : List Standing). open_match os core.coupled new) k.stand ∙ ap (λ (ms : List Made). open_match (standing core.journal) ms new) k.couple
 
 -- an act opens an offer in a core, and couples it with its match
-pub opens_in : (core : Parts) → IsKept core → (act : Act) (new : Standing) → (act_row act).row.opens ≡ Some (record { to = new.to; local = new.local; surrogate = new.surrogate }) → new.place ≡ next_place core.journal →
+pub opens_in : (core : CoreParts) → IsWholeCore core → (act : Act) (new : Standing) → (act_row act).row.opens ≡ Some (record { to = new.to; local = new.local; surrogate = new.surrogate }) → new.place ≡ next_place core.journal →
     own_offer (standing core.journal) new.party new.local ≡ None → offer_count (standing core.journal) new.party < 64 → (match : Option Standing) → match ≡ open_match core.offers core.coupled new →
     OpensOffer core.journal (entry_for core.journal new.party act) new match
 opens_in core k act new row place fresh few match is =
@@ -106,7 +106,7 @@ opens_in core k act new row place fresh few match is =
     (opens_offer core.users core.journal act new row place fresh (lt-leb 64 (offer_count (standing core.journal) new.party) few))
 
 -- what becomes of the act
-pub opened_as : (core : Parts) → IsKept core → (act : Act) (new : Standing) → (act_row act).row.opens ≡ Some (record { to = new.to; local = new.local; surrogate = new.surrogate }) → new.place ≡ next_place core.journal →
+pub opened_as : (core : CoreParts) → IsWholeCore core → (act : Act) (new : Standing) → (act_row act).row.opens ≡ Some (record { to = new.to; local = new.local; surrogate = new.surrogate }) → new.place ≡ next_place core.journal →
     own_offer (standing core.journal) new.party new.local ≡ None → offer_count (standing core.journal) new.party < 64 → (match : Option Standing) → match ≡ open_match core.offers core.coupled new →
     outcome core.journal new.party act ≡ joined_to new match
 opened_as core k act new row place fresh few match is =
@@ -125,11 +125,11 @@ joined_pairs new None = refl
 joined_pairs new (Some other) = refl
 
 -- the entry of an offer that opens
-pub opening_entry : (core : Parts) → IsKept core → (act : Act) (new : Standing) → (act_row act).row.opens ≡ Some (record { to = new.to; local = new.local; surrogate = new.surrogate }) → new.place ≡ next_place core.journal →
+pub opening_entry : (core : CoreParts) → IsWholeCore core → (act : Act) (new : Standing) → (act_row act).row.opens ≡ Some (record { to = new.to; local = new.local; surrogate = new.surrogate }) → new.place ≡ next_place core.journal →
     own_offer (standing core.journal) new.party new.local ≡ None → offer_count (standing core.journal) new.party < 64 → (match : Option Standing) → match ≡ open_match core.offers core.coupled new →
     (given : ℕ) (made : List Pair) → given ≡ degree_with match → made ≡ made_with new match →
     (let e : PlainEntry = record { party = new.party; act = act; answer = degree given; made = made } in e) ≡ entry_for core.journal new.party act
 opening_entry core k act new row place fresh few match is given made told pairs =
     let becomes = opened_as core k act new row place fresh few match is in
-    entry_is core.journal new.party act (degree given) made (ap degree told ∙ joined_answer new match ∙ sym (ap (λ (o : Outcome). o.answer) becomes))
-    (pairs ∙ joined_pairs new match ∙ sym (ap (λ (o : Outcome). o.made) becomes))
+    entry_is core.journal new.party act (degree given) made (ap degree told ∙ joined_answer new match ∙ sym (ap (λ (o : ActOutcome). o.answer) becomes))
+    (pairs ∙ joined_pairs new match ∙ sym (ap (λ (o : ActOutcome). o.made) becomes))

@@ -13,7 +13,7 @@ use Rattle.sv_events.specs.declared.row.Opening.{Opening}
 use Rattle.sv_rules.specs.Control.{in_force_with}
 use Rattle.sv_rules.specs.Coupling.{coupling_now}
 use Rattle.sv_rules.specs.Entries.{Entries}
-use Rattle.sv_rules.specs.Outcome.{Outcome, access_answer, access_outcome, control_answer, control_outcome, granted_answer, opening_outcome, outcome, unless_refused, value_answer, value_for}
+use Rattle.sv_rules.specs.Outcome.{ActOutcome, access_answer, access_outcome, control_answer, control_outcome, granted_answer, opening_outcome, outcome, unless_refused, value_answer, value_for}
 use Rattle.sv_rules.specs.Refused.{hold_on}
 use Rattle.sv_rules.specs.Standing.{own_offer, standing}
 use Rattle.sv_rules.specs.declared.standing.Standing.{Standing}
@@ -36,13 +36,13 @@ outcome_of_access journal party _ access h = absurd (none-some access h)
 pub control_answered : (journal : Entries) (party : ℕ) (act : Act) (set : Controlling) (offer : Standing) → (act_row act).row.controls ≡ Some set → own_offer (standing journal) party set.local ≡ Some offer →
     vector (in_force_with journal set.control offer) ≡ (outcome journal party act).answer
 control_answered journal party act set offer row own =
-    sym (ap (λ (o : Outcome). o.answer) (outcome_of_control journal party act set row) ∙ ap (control_answer journal set.control) own)
+    sym (ap (λ (o : ActOutcome). o.answer) (outcome_of_control journal party act set row) ∙ ap (control_answer journal set.control) own)
 
 -- the answer to an access of a standing offer that nothing refuses
 answered_as : (journal : Entries) (party : ℕ) (act : Act) (access : Accessing) (offer : Standing) (k : Kind) → (act_row act).row.accesses ≡ Some access → access.kind ≡ k → own_offer (standing journal) party access.local ≡ Some offer →
     hold_on journal access.kind (Some offer) ≡ None → granted_answer journal offer k ≡ (outcome journal party act).answer
 answered_as journal party act access offer k row is own free =
-    sym (ap (λ (o : Outcome). o.answer) (outcome_of_access journal party act access row)
+    sym (ap (λ (o : ActOutcome). o.answer) (outcome_of_access journal party act access row)
     ∙ ap (access_answer journal party access.kind) own
     ∙ ap (unless_refused journal party offer access.kind) free
     ∙ ap (granted_answer journal offer) is)

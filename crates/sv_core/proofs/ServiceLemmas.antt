@@ -17,7 +17,7 @@ use Rattle.sv_rules.specs.Story.{GrantedAccess, access_on, handed_in, known, kno
 use Rattle.sv_rules.specs.Work.{first_coupled, first_open, gets_value, has_unseen, lacks_control, own_offers, owes_reply, to_counter, tries, work_of}
 use Rattle.sv_rules.specs.declared.coupling.Coupling.{Coupling}
 use Rattle.sv_rules.specs.declared.standing.Standing.{Standing}
-use Rattle.sv_core.specs.Due.{command_of, customer_of, is_reply, is_service, partner_at, partner_of}
+use Rattle.sv_core.specs.Due.{request_due, customer_of, is_reply, is_service, partner_at, partner_in}
 
 -- the work by what is found: an open offer, offers that lack a control and owe a reply, one to counter, and one to use
 abbrev work_by : Bool → Option Standing → Option Standing → Option Standing → Option Standing → Option Standing → Work
@@ -107,7 +107,7 @@ not_after users journal legal place coupling now =
     ]
 
 -- where the work is a reply, there is a value to reply to
-pub commands_are_there : (users : List ℕ) (journal : Entries) → IsLegal users journal → (party : ℕ) → is_reply (work_of journal party) ≡ true → command_of journal party ≡ None → ⊥
+pub commands_are_there : (users : List ℕ) (journal : Entries) → IsLegal users journal → (party : ℕ) → is_reply (work_of journal party) ≡ true → request_due journal party ≡ None → ⊥
 commands_are_there users journal legal party reply none =
     let on = reply_on (is_full journal) (first_open journal party) (first_coupled journal (lacks_control journal) party) (first_coupled journal (owes_reply journal) party)
     (to_counter journal party) (first_coupled journal (has_unseen journal) party) reply in
@@ -131,4 +131,4 @@ customers_are_there journal party serves none =
   where
     unpaired : {P : Coupling → Type 0} (offer : Standing) → ((coupling : Coupling) × (coupling_now journal offer.place ≡ Some coupling) × P coupling) → partner_at journal offer.place ≡ None → ⊥
     unpaired offer found missing =
-        none-some (partner_of found.0 offer.place) (sym missing ∙ ap (λ (c : Option Coupling). option_map (λ (k : Coupling). partner_of k offer.place) c) found.1)
+        none-some (partner_in found.0 offer.place) (sym missing ∙ ap (λ (c : Option Coupling). option_map (λ (k : Coupling). partner_in k offer.place) c) found.1)

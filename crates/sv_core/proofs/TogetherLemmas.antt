@@ -10,7 +10,7 @@ use Rattle.sv_events.specs.declared.entry.Pair.{Pair}
 use Rattle.sv_events.specs.declared.row.Ending.{Ending}
 use Rattle.sv_kept.specs.Cells.{cell_at}
 use Rattle.sv_kept.specs.declared.cells.Cells.{Cells}
-use Rattle.sv_cell_laws.specs.Ends.{CellsIn, FitsIn, IsTable, coupled_without, taken_now}
+use Rattle.sv_cell_laws.specs.Ends.{CellsIn, FitsCoupling, IsOfferTable, coupled_without, taken_now}
 use Rattle.sv_cell_laws.specs.Fits.{FitCells}
 use Rattle.sv_cell_laws.proofs.EndJournal.{cells_later_in, left_is, table_is, without_is_older}
 use Rattle.sv_cell_laws.proofs.JoinSteps.{cells_end, none_taken}
@@ -45,9 +45,9 @@ next_above users journal legal offers stand couple place next = record {
 }
 
 -- the table is one
-pub ending_table : (offers : PlainOffers) (cells : Cells) (at party : ℕ) (ending : Ending) → IsToEnd offers cells at party ending → IsTable offers.offers offers.coupled
+pub ending_table : (offers : PlainOffers) (cells : Cells) (at party : ℕ) (ending : Ending) → IsToEnd offers cells at party ending → IsOfferTable offers.offers offers.coupled
 ending_table offers cells at party ending ready =
-    let e = ready.3 in tables offers ready.1 e.stand e.couple IsTable (table_is ready.0 ready.1 (e.legal).1)
+    let e = ready.3 in tables offers ready.1 e.stand e.couple IsOfferTable (table_is ready.0 ready.1 (e.legal).1)
 
 -- the cells fit the journal with the entry, by the couplings of before
 first_fit : (offers : PlainOffers) (cells : Cells) (at party : ℕ) (ending : Ending) (users : List ℕ) (journal : Entries) (e : PlainEntry) → IsEnding offers cells at party ending users journal e →
@@ -102,7 +102,7 @@ ready_to_couple offers cells c1 c2 at party ending users journal e is parts keep
         ∙ ap (λ ms. coupled_without (standing journal) ms (standing journal) party ending q.place) is.couple
         ∙ ap (λ p. coupled_without (standing journal) (couplings journal) (standing journal) p ending q.place) (sym is.own)
         ∙ without_is_older users journal e ending is.legal is.ends q has ∙ none_taken (e ∷ journal) q.place in
-        (old.0, keeps q.place ∙ ap (λ (b : Bool). if b then None else cell_at c1 q.place) (none_there q left.0 stays _ refl) ∙ old.1, subst (FitsIn (e ∷ journal) q old.0) same old.2)
+        (old.0, keeps q.place ∙ ap (λ (b : Bool). if b then None else cell_at c1 q.place) (none_there q left.0 stays _ refl) ∙ old.1, subst (FitsCoupling (e ∷ journal) q old.0) same old.2)
 
 -- and once these are coupled, they fit
 pub ends_all : (offers : PlainOffers) (cells c1 c2 c3 : Cells) (at party : ℕ) (ending : Ending) (pairs : List Pair) → PartsAll offers.offers offers.coupled party ending offers.offers cells c1 →

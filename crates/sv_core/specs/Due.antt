@@ -4,8 +4,8 @@ use Rattle.std.specs.Option.{option_map_or, option_or}
 use Rattle.apl_arrays.specs.Array.{PlainArray}
 use Rattle.sv_access.specs.declared.access.Side.{Side}
 use Rattle.sv_access.specs.declared.access.Side.TheVariants.{A, B}
-use Rattle.sv_access.specs.declared.state.State.{State}
-use Rattle.sv_access.specs.declared.state.State.TheVariants.{UnseenA, UnseenB}
+use Rattle.sv_access.specs.declared.state.AccessState.{AccessState}
+use Rattle.sv_access.specs.declared.state.AccessState.TheVariants.{UnseenA, UnseenB}
 use Rattle.sv_core.specs.declared.working.Due.{Due}
 use Rattle.sv_core.specs.declared.working.Due.TheVariants as due
 use Rattle.sv_events.specs.declared.work.Work.{Work}
@@ -35,15 +35,15 @@ is_service (work.Reply local) = true
 is_service _ = false
 
 -- the value to reply to: what is known of the first offer on which a reply is owed
-abbrev pub command_of : Entries → ℕ → Option PlainArray
-command_of journal party = option_and_then (known journal) (first_coupled journal (owes_reply journal) party)
+abbrev pub request_due : Entries → ℕ → Option PlainArray
+request_due journal party = option_and_then (known journal) (first_coupled journal (owes_reply journal) party)
 
 -- the party of the other offer of a coupling
-abbrev pub partner_of : Coupling → ℕ → ℕ
-partner_of coupling place = if coupling.a.place == place then coupling.b.party else coupling.a.party
+abbrev pub partner_in : Coupling → ℕ → ℕ
+partner_in coupling place = if coupling.a.place == place then coupling.b.party else coupling.a.party
 
 -- by the state, a set of the other side is unseen
-abbrev pub is_partners_unseen : State → Side → Bool
+abbrev pub is_partners_unseen : AccessState → Side → Bool
 is_partners_unseen UnseenB A = true
 is_partners_unseen UnseenA B = true
 is_partners_unseen _ _ = false
@@ -63,13 +63,13 @@ work_among journal party own =
     (find (is_due_on journal due.Use) own)
 
 -- the coupled offer on which a party has to set a control, else the one on which it has to reply
-abbrev pub served_by : Entries → ℕ → Option Standing
-served_by journal party = option_or (first_coupled journal (lacks_control journal) party) (first_coupled journal (owes_reply journal) party)
+abbrev pub offer_to_serve : Entries → ℕ → Option Standing
+offer_to_serve journal party = option_or (first_coupled journal (lacks_control journal) party) (first_coupled journal (owes_reply journal) party)
 
 -- the party of the other offer of the coupling of the offer at a place
 abbrev pub partner_at : Entries → ℕ → Option ℕ
-partner_at journal place = option_map (λ coupling. partner_of coupling place) (coupling_now journal place)
+partner_at journal place = option_map (λ coupling. partner_in coupling place) (coupling_now journal place)
 
 -- the partner on that offer
 abbrev pub customer_of : Entries → ℕ → Option ℕ
-customer_of journal party = option_and_then (λ offer. partner_at journal offer.place) (served_by journal party)
+customer_of journal party = option_and_then (λ offer. partner_at journal offer.place) (offer_to_serve journal party)

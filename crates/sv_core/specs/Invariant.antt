@@ -15,7 +15,7 @@ use Rattle.sv_rules.specs.declared.standing.Standing.{Standing}
 
 -- what a core has: its users, its journal and the room for entries; the offers that stand, the couplings, and what is kept of
 -- the offers; and the lists for the pairs of leaves
-pub record Parts : Type 0 where
+pub record CoreParts : Type 0 where
   pub users : List ℕ
   pub journal : Entries
   pub room : ℕ
@@ -26,7 +26,7 @@ pub record Parts : Type 0 where
 
 -- users have the numbers of users, the journal is legal, the tables are those of the journal, no cell stands where no offer does, and
 -- there is room for each leave
-pub record IsKept (core : Parts) : Type 0 where
+pub record IsWholeCore (core : CoreParts) : Type 0 where
   pub people : ArePeople core.users
   pub legal : IsLegal core.users core.journal
   pub stand : core.offers ≡ standing core.journal
@@ -37,8 +37,8 @@ pub record IsKept (core : Parts) : Type 0 where
   pub spare_count : present core.users core.journal ≤ length core.spares
   pub spare_room : All IsSpare core.spares
 
-abbrev pub parts_of : Inside → Parts
-parts_of c = record {
+abbrev pub core_parts : Inside → CoreParts
+core_parts c = record {
   users = c.log.users;
   journal = c.log.journal;
   room = c.log.room;
@@ -50,4 +50,4 @@ parts_of c = record {
 
 -- what a core keeps
 abbrev pub IsCore : Inside → Type 0
-IsCore c = IsKept (parts_of c)
+IsCore c = IsWholeCore (core_parts c)

@@ -5,7 +5,7 @@ use Rattle.apl_arrays.specs.Array.{PlainArray}
 use Rattle.sv_kept.specs.Cell.{known_alone, share_in}
 use Rattle.sv_kept.specs.Cells.{CouplesAt, KeepsCells, cell_at}
 use Rattle.sv_kept.specs.declared.cell.Cell.{Cell}
-use Rattle.sv_kept.specs.declared.cell.Held.TheVariants.{Alone, Shared}
+use Rattle.sv_kept.specs.declared.cell.CellContent.TheVariants.{Alone, Shared}
 use Rattle.sv_kept.specs.declared.cells.Cells.{Cells}
 use Rattle.sv_cell_laws.specs.Ends.{CellsIn, coupled_without, taken_now}
 use Rattle.sv_cell_laws.specs.Fits.{FitCells}
@@ -26,9 +26,9 @@ use Rattle.sv_rules.specs.declared.standing.Standing.{Standing}
 use Rattle.sv_kept.specs.Share.{PlainShare, shared_value}
 
 -- the cells after an access on an offer, by its coupling
-abbrev pub Answers : Cells → Cells → Standing → Option GrantedAccess → Option Coupling → Type 0
-Answers old new own access None = AnswersOpen old new own access
-Answers old new own access (Some coupling) = AnswersShared old new coupling own access
+abbrev pub AfterAccess : Cells → Cells → Standing → Option GrantedAccess → Option Coupling → Type 0
+AfterAccess old new own access None = AnswersOpen old new own access
+AfterAccess old new own access (Some coupling) = AnswersShared old new coupling own access
 
 -- the cell at a place holds a value alone
 pub record HoldsAlone (cells : Cells) (place : ℕ) : Type 0 where

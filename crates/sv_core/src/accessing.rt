@@ -1,10 +1,10 @@
 ghost use Rattle.std.specs.Prelude.{◌≡◌, ◌+◌, ◌≤◌, length, IfOk, IfSome, IsSome, OnOk, OnErr, Some, None};
 ghost use Rattle.std.specs.Option.{option_copied};
 ghost use Rattle.apl_arrays.specs.Array.{PlainArray};
-ghost use Rattle.sv_cell_laws.specs.Steps.{set_of, use_of};
+ghost use Rattle.sv_cell_laws.specs.Steps.{set_access, use_access};
 ghost use Rattle.sv_kept.specs.Cells.{KeepsCells};
 ghost use Rattle.sv_core.specs.Core.{IsFound, MayMake, core_after};
-ghost use Rattle.sv_core.specs.Updating.{Answers, IsReady, value_at};
+ghost use Rattle.sv_core.specs.Updating.{AfterAccess, IsReady, value_at};
 ghost use Rattle.sv_events.specs.Answer.{plain_answer};
 ghost use Rattle.sv_events.specs.Row.{act_row};
 ghost use Rattle.sv_rules.specs.Coupling.{coupling_now};
@@ -207,7 +207,7 @@ fn set_handed(
     ensures journal { log.new.journal ≡ log.old.journal }
     ensures kept { log.old.room ≤ log.new.room }
     ensures room { OnOk result (length log.old.users + 1 ≤ log.new.room) }
-    ensures set { OnOk result ((value : PlainArray) → (act_row act.now).hands_in ≡ Some value → Answers cells.old cells.new offer.now (set_of value) coupling.now) }
+    ensures set { OnOk result ((value : PlainArray) → (act_row act.now).hands_in ≡ Some value → AfterAccess cells.old cells.new offer.now (set_access value) coupling.now) }
     ensures err { OnErr result (KeepsCells cells.old cells.new) }
 {
     log.reserve()?;
@@ -246,7 +246,7 @@ fn use_given(
     ensures kept { log.old.room ≤ log.new.room }
     ensures room { OnOk result (length log.old.users + 1 ≤ log.new.room) }
     ensures answer { IfOk result (λ kept. plain_answer kept ≡ value_answer (option_copied value.entry)) }
-    ensures ok { OnOk result (Answers cells.old cells.new offer.now (use_of (value_at cells.old offer.now coupling.now)) coupling.now) }
+    ensures ok { OnOk result (AfterAccess cells.old cells.new offer.now (use_access (value_at cells.old offer.now coupling.now)) coupling.now) }
     ensures err { OnErr result (KeepsCells cells.old cells.new) }
 {
     log.reserve()?;

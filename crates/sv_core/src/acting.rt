@@ -8,7 +8,7 @@ ghost use Rattle.sv_rules.specs.Outcome.{outcome};
 ghost use Rattle.sv_rules.specs.Standing.{own_offer, standing};
 
 use crate::Core;
-use crate::telling::{Told, enter, no_act, told_twice};
+use crate::telling::{ToldAnswer, enter, no_act, told_twice};
 use apl_arrays::{List, WantOfMemory};
 use sv_events::{Act, Answer, Controlling, Ending, Question};
 use sv_rules::Standing;
@@ -145,7 +145,7 @@ impl Core {
             return no_act(act);
         }
         self.cells.control(offer.place, set.control);
-        let told = Told {
+        let told = ToldAnswer {
             answer: Answer::Vector(vector),
             kept: Answer::Vector(vector),
         };

@@ -17,9 +17,9 @@ ghost use Rattle.sv_story_laws.specs.StoryLaws.{offer_on};
 
 use crate::Core;
 use apl_arrays::Array;
-use sv_access::{Control, Kind, NO_CONTROL, Side, State, join, view};
+use sv_access::{AccessState, Control, Kind, NO_CONTROL, Side, join, view};
 use sv_events::Hold;
-use sv_kept::{Held, Share, alone};
+use sv_kept::{CellContent, Share, alone};
 use sv_rules::{Coupling, Standing, hold_by_state, side_at};
 
 impl Core {
@@ -92,12 +92,12 @@ impl Core {
     }
 
     // The state of a coupling.
-    fn state(&self, coupling: &Coupling) -> State
+    fn state(&self, coupling: &Coupling) -> AccessState
         requires { coupling_now self.now.journal coupling.now.a.place ≡ Some coupling.now }
         ensures { result ≡ state_of_story (story self.now.journal coupling.now) }
     {
         match self.share(coupling) {
-            None => State::Quiet,
+            None => AccessState::Quiet,
             Some(share) => share.state(),
         }
     }
@@ -238,25 +238,25 @@ impl Core {
 #[derive(Clone, Copy, Debug, PartialEq, Eq)]
 struct VectorAndState {
     vector: Control,
-    state: State,
+    state: AccessState,
 }
 
 // The state of the share that is held.
-fn state_held(held: &Held) -> State
+fn state_held(held: &CellContent) -> AccessState
     ensures { (share : PlainShare) → share_in held.now ≡ Some share → result ≡ share.state }
 {
     match held.share() {
-        None => State::Quiet,
+        None => AccessState::Quiet,
         Some(share) => share.state(),
     }
 }
 
 // Whether a set of the other side is unseen, by the state.
-fn is_partners_unseen(state: State, side: Side) -> bool
+fn is_partners_unseen(state: AccessState, side: Side) -> bool
     ensures { result ≡ is_partners_unseen state side }
 {
     match side {
-        Side::A => matches!(state, State::UnseenB),
-        Side::B => matches!(state, State::UnseenA),
+        Side::A => matches!(state, AccessState::UnseenB),
+        Side::B => matches!(state, AccessState::UnseenA),
     }
 }

@@ -27,7 +27,7 @@ fn spare_list(alloc: Global) -> Result<PairList, WantOfMemory>
     Ok(pairs)
 }
 
-/// Takes out one of such lists. No memory.
+/// Takes out one of such lists.
 pub fn take_spare(spares: &mut Vec<PairList>) -> PairList
     requires some { 0 < vec_len spares.old }
     requires room { All IsSpare spares.old.items }

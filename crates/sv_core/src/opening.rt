@@ -16,7 +16,7 @@ ghost use Rattle.sv_rules.specs.Standing.{offer_count, own_offer, standing};
 ghost use Rattle.sv_rules.specs.Story.{handed_in, known};
 
 use crate::Core;
-use crate::telling::{Told, enter, no_act, told_twice};
+use crate::telling::{ToldAnswer, enter, no_act, told_twice};
 use crate::updating::{end_together, join};
 use apl_arrays::{List, Name, WantOfMemory};
 use std::alloc::Global;
@@ -103,7 +103,7 @@ impl Core {
             }
             Ok(other) => {
                 let degree = join(&mut self.cells, new, &other, &mut made);
-                let told = Told {
+                let told = ToldAnswer {
                     answer: Answer::Degree(degree),
                     kept: Answer::Degree(degree),
                 };
@@ -169,7 +169,7 @@ impl Core {
     }
 
     // The answer to the party that takes a standing offer back, twice.
-    fn kept(&self, offer: &Standing) -> Result<Told, WantOfMemory>
+    fn kept(&self, offer: &Standing) -> Result<ToldAnswer, WantOfMemory>
         requires { Contains (standing self.now.journal) offer.now }
         ensures answer { IfOk result (λ told. plain_answer told.answer ≡ kept (degree_of self.now.journal (Some offer.now)) (known self.now.journal offer.now)) }
         ensures kept { IfOk result (λ told. plain_answer told.kept ≡ kept (degree_of self.now.journal (Some offer.now)) (known self.now.journal offer.now)) }

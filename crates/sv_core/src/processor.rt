@@ -77,14 +77,14 @@ impl Core {
         }
     }
 
-    /// Whether a party has left. No memory.
+    /// Whether a party has left.
     pub fn has_left(&self, party: u32) -> bool
         ensures { result ≡ has_left self.now.journal party }
     {
         self.member(party).has_left
     }
 
-    /// Whether a party waits. No memory.
+    /// Whether a party waits.
     pub fn waits(&self, party: u32) -> bool
         ensures { result ≡ waits self.now.journal party }
     {
@@ -109,7 +109,7 @@ impl Core {
         }
     }
 
-    /// Whether the journal takes no more entries but leaves. No memory.
+    /// Whether the journal takes no more entries but leaves.
     pub fn is_full(&self) -> bool
         ensures { result ≡ is_full self.now.journal }
     {
@@ -117,7 +117,7 @@ impl Core {
     }
 
     /// The entries, oldest first. Of what a side sends in a coupling nothing is lost but what the other side set over, while
-    /// control holds back its second sets and the other's second uses. No memory.
+    /// control holds back its second sets and the other's second uses.
     pub fn journal(&self) -> &[Entry]
         ensures value { journal_of result.now ≡ self.now.journal }
         ensures legal { IsLegal self.now.users self.now.journal }
@@ -127,7 +127,7 @@ impl Core {
         self.log.entries()
     }
 
-    /// The entries as they are kept, oldest first. No memory.
+    /// The entries as they are kept, oldest first.
     pub fn into_journal(self) -> Journal
         ensures value { reverse result.items ≡ self.journal }
         ensures legal { IsLegal self.users self.journal }
@@ -196,7 +196,7 @@ impl Core {
     }
 
     /// The user leaves and takes all its offers along. The partners that this sets free look for new ones, the oldest offer
-    /// first, each among its open matches for the oldest. No memory.
+    /// first, each among its open matches for the oldest.
     pub fn leave(&mut self, user: u32)
         requires member { IsTrue (is_user self.old.users user) }
         requires present { IsTrue (not (has_left self.old.journal user)) }

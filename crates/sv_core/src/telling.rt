@@ -9,18 +9,18 @@ use sv_kept::Log;
 
 /// An answer, for the party and for the journal.
 #[derive(Debug, Drop)]
-pub struct Told {
+pub struct ToldAnswer {
     pub answer: Answer,
     pub kept: Answer,
 }
 
 /// An answer twice. It takes memory for the second.
-pub fn told_twice(alloc: Global, answer: Answer) -> Result<Told, WantOfMemory>
+pub fn told_twice(alloc: Global, answer: Answer) -> Result<ToldAnswer, WantOfMemory>
     ensures answer { IfOk result (λ told. plain_answer told.answer ≡ plain_answer answer) }
     ensures kept { IfOk result (λ told. plain_answer told.kept ≡ plain_answer answer) }
 {
     match answer.copy(alloc) {
-        Ok(kept) => Ok(Told { answer, kept }),
+        Ok(kept) => Ok(ToldAnswer { answer, kept }),
         Err(_) => {
             drop(answer);
             Err(WantOfMemory)
@@ -28,8 +28,8 @@ pub fn told_twice(alloc: Global, answer: Answer) -> Result<Told, WantOfMemory>
     }
 }
 
-/// Adds an entry, where there is room, and gives its answer to the party. No memory.
-pub fn enter(log: &mut Log, party: u32, act: Act, told: Told, made: PairList) -> Answer
+/// Adds an entry, where there is room, and gives its answer to the party.
+pub fn enter(log: &mut Log, party: u32, act: Act, told: ToldAnswer, made: PairList) -> Answer
     requires { 0 < log.old.room }
     ensures answer { result ≡ told.answer }
     ensures users { log.new.users ≡ log.old.users }

@@ -1,12 +1,12 @@
 ghost use Rattle.std.specs.Prelude.{◌≡◌, ◌≢◌, ◌≤◌, ℕ, [], Option, None, Some, IsSome, OnOk, OnErr, length, option_map};
 ghost use Rattle.apl_arrays.specs.Array.{PlainArray};
-ghost use Rattle.sv_cell_laws.specs.Steps.{answered_alone, made_with, set_of, shared_at, use_of};
+ghost use Rattle.sv_cell_laws.specs.Steps.{answered_alone, made_with, set_access, shared_at, use_access};
 ghost use Rattle.sv_kept.specs.declared.cell.Cell.{Cell};
-ghost use Rattle.sv_kept.specs.declared.cell.Held.TheVariants.{Alone, Shared};
+ghost use Rattle.sv_kept.specs.declared.cell.CellContent.TheVariants.{Alone, Shared};
 ghost use Rattle.sv_kept.specs.Share.{PlainShare, shared_value};
-ghost use Rattle.sv_cell_laws.specs.Ends.{IsTable, MayPart, Parts, share_at};
+ghost use Rattle.sv_cell_laws.specs.Ends.{IsOfferTable, MayPart, Uncouples, share_at};
 ghost use Rattle.sv_kept.specs.Cells.{ChangesAt, CouplesAt, KeepsCells, PartsAt, cell_at};
-ghost use Rattle.sv_core.specs.Updating.{AddsNone, Answers, ClearsAll, CouplesAll, EndsAll, FitsSome, IsReady, IsToCouple, IsToEnd, Joined, Closes, MayJoin, PartsAll, degree_with, value_at};
+ghost use Rattle.sv_core.specs.Updating.{AddsNone, AfterAccess, ClearsAll, CouplesAll, EndsAll, FitsSome, IsReady, IsToCouple, IsToEnd, Joined, Closes, MayJoin, PartsAll, degree_with, value_at};
 ghost use Rattle.sv_offers.specs.Table.{after_ending, pairs_made};
 ghost use Rattle.sv_rules.specs.Coupling.{coupling_at, pair_of, reopened_by_ending};
 
@@ -17,7 +17,7 @@ use sv_kept::Cells;
 use sv_offers::{Offers, is_ended};
 use sv_rules::{Coupling, Standing, pair_of, side_at};
 
-// The offers at two places part, where they still share. No memory.
+// The offers at two places part, where they still share.
 fn part_shared(cells: &mut Cells, a: u64, b: u64)
     requires apart { a ≢ b }
     requires some { IsSome (cell_at cells.old b) }
@@ -29,10 +29,10 @@ fn part_shared(cells: &mut Cells, a: u64, b: u64)
     }
 }
 
-// The offers of a coupling part, where they still share. No memory.
+// The offers of a coupling part, where they still share.
 fn part_coupled(cells: &mut Cells, coupling: Option<Coupling>)
     requires { MayPart cells.old coupling }
-    ensures { Parts cells.old cells.new coupling }
+    ensures { Uncouples cells.old cells.new coupling }
 {
     match coupling {
         None => (),
@@ -40,9 +40,9 @@ fn part_coupled(cells: &mut Cells, coupling: Option<Coupling>)
     }
 }
 
-// The offers that an act of a party ends, and their partners, part. No memory.
+// The offers that an act of a party ends, and their partners, part.
 fn part_all(offers: &Offers, cells: &mut Cells, party: u32, ending: &Ending)
-    requires table { IsTable offers.now.offers offers.now.coupled }
+    requires table { IsOfferTable offers.now.offers offers.now.coupled }
     requires fit { FitsSome offers.now.offers offers.now.coupled cells.old }
     ensures parts { PartsAll offers.now.offers offers.now.coupled party ending.now offers.now.offers cells.old cells.new }
     ensures no_more { AddsNone cells.old cells.new }
@@ -54,7 +54,7 @@ fn part_all(offers: &Offers, cells: &mut Cells, party: u32, ending: &Ending)
     }
 }
 
-// The cells of the offers that an act of a party ends go. No memory.
+// The cells of the offers that an act of a party ends go.
 fn close_all(offers: &[Standing], cells: &mut Cells, party: u32, ending: &Ending)
     ensures { Closes offers.now party ending.now cells.old cells.new }
 {
@@ -65,7 +65,7 @@ fn close_all(offers: &[Standing], cells: &mut Cells, party: u32, ending: &Ending
     }
 }
 
-// The offers of a pair are coupled, unless they share already. No memory.
+// The offers of a pair are coupled, unless they share already.
 fn couple_pair(cells: &mut Cells, pair: &Pair)
     requires apart { pair.now.a ≢ pair.now.b }
     requires a { IsSome (cell_at cells.old pair.now.a) }
@@ -78,7 +78,7 @@ fn couple_pair(cells: &mut Cells, pair: &Pair)
     }
 }
 
-// The offers of the pairs that the newest entry makes are coupled. No memory.
+// The offers of the pairs that the newest entry makes are coupled.
 fn couple_all(cells: &mut Cells, made: &[Pair])
     requires { IsToCouple cells.old made.now }
     ensures couples { CouplesAll made.now cells.old cells.new made.now }
@@ -90,7 +90,7 @@ fn couple_all(cells: &mut Cells, made: &[Pair])
 }
 
 /// Offers of a party end together by its act at a place, in the table and in the cells; the pairs that this makes go last
-/// in `made`. No memory.
+/// in `made`.
 pub fn end_together(
     offers: &mut Offers,
     cells: &mut Cells,
@@ -113,10 +113,10 @@ pub fn end_together(
     couple_all(cells, made.as_slice());
 }
 
-/// The cells after a set that is granted, by the offer's coupling. No memory.
+/// The cells after a set that is granted, by the offer's coupling.
 pub fn note_set(cells: &mut Cells, offer: &Standing, coupling: &Option<Coupling>, value: Array)
     requires { IsReady cells.old offer.now coupling.now }
-    ensures { Answers cells.old cells.new offer.now (set_of value) coupling.now }
+    ensures { AfterAccess cells.old cells.new offer.now (set_access value) coupling.now }
 {
     match coupling {
         None => cells.learn(offer.place, value),
@@ -136,7 +136,7 @@ pub fn note_use(
     coupling: &Option<Coupling>,
 ) -> Result<(), WantOfMemory>
     requires { IsReady cells.old offer.now coupling.now }
-    ensures ok { OnOk result (Answers cells.old cells.new offer.now (use_of (value_at cells.old offer.now coupling.now)) coupling.now) }
+    ensures ok { OnOk result (AfterAccess cells.old cells.new offer.now (use_access (value_at cells.old offer.now coupling.now)) coupling.now) }
     ensures err { OnErr result (KeepsCells cells.old cells.new) }
 {
     match coupling {
@@ -151,11 +151,11 @@ pub fn note_use(
     }
 }
 
-// The party of an open offer uses what it knows. No memory.
+// The party of an open offer uses what it knows.
 fn use_alone(cells: &mut Cells, place: u64)
     requires { IsSome (cell_at cells.old place) }
     ensures { (cell : Cell) (value : Option PlainArray) → cell_at cells.old place ≡ Some cell → cell.held ≡ Alone value →
-        ChangesAt cells.old cells.new place (answered_alone (use_of value)) }
+        ChangesAt cells.old cells.new place (answered_alone (use_access value)) }
 {
     let got = cells.knows(place);
     cells.answered(place, got);
@@ -167,7 +167,7 @@ fn use_shared(cells: &mut Cells, home: u64, place: u64, side: Side) -> Result<()
     requires home { IsSome (share_at cells.old home) }
     requires own { IsSome (cell_at cells.old place) }
     ensures ok { (cell : Cell) (share : PlainShare) → cell_at cells.old home ≡ Some cell → cell.held ≡ Shared share →
-        OnOk result ((at : ℕ) → cell_at cells.new at ≡ option_map (shared_at home place side (use_of (shared_value share)) at) (cell_at cells.old at)) }
+        OnOk result ((at : ℕ) → cell_at cells.new at ≡ option_map (shared_at home place side (use_access (shared_value share)) at) (cell_at cells.old at)) }
     ensures err { OnErr result (KeepsCells cells.old cells.new) }
 {
     let got = cells.use_value(home, side)?;
@@ -176,7 +176,7 @@ fn use_shared(cells: &mut Cells, home: u64, place: u64, side: Side) -> Result<()
 }
 
 /// The cells of a new offer and of its match share what they know, if it has one; the pair goes last in `made`, and the
-/// degree of the new offer is answered. No memory.
+/// degree of the new offer is answered.
 pub fn join(cells: &mut Cells, new: &Standing, other: &Option<Standing>, made: &mut PairList) -> u8
     requires ready { MayJoin cells.old new.now other.now }
     requires none { made.old.items ≡ [] }

@@ -1,7 +1,7 @@
 ghost use Rattle.std.specs.Prelude.{◌≡◌, true, false, not, find, nat_lt, All, Contains, IsTrue, Some, is_some, unwrap_or};
 ghost use Rattle.std.specs.List.{list_all, list_any};
 ghost use Rattle.std.specs.Option.{option_copied, option_map_or};
-ghost use Rattle.sv_core.specs.Due.{command_of, customer_of, is_due, is_due_on, is_open, is_reply, is_service, partner_at, partner_of, served_by, work_among};
+ghost use Rattle.sv_core.specs.Due.{request_due, customer_of, is_due, is_due_on, is_open, is_reply, is_service, partner_at, partner_in, offer_to_serve, work_among};
 ghost use Rattle.sv_kept.specs.Member.{waiting_at};
 ghost use Rattle.sv_rules.specs.Coupling.{coupling_now, open_to};
 ghost use Rattle.sv_rules.specs.Entries.{has_left};
@@ -19,7 +19,7 @@ use sv_events::{Accessing, Act, Work};
 use sv_rules::{Coupling, Standing};
 
 impl Core {
-    /// The work of an auxiliary: none where the journal is full. No memory.
+    /// The work of an auxiliary: none where the journal is full.
     pub fn work_of(&self, party: u32) -> Work
         requires { IsTrue (is_auxiliary party) }
         ensures { result ≡ work_of self.now.journal party }
@@ -195,11 +195,11 @@ impl Core {
         self.offers.oldest_to(party)
     }
 
-    /// The value that an auxiliary is to reply to, where its work is a reply. No memory.
-    pub fn command(&self, party: u32) -> &Array
+    /// The value that an auxiliary is to reply to, where its work is a reply.
+    pub fn request(&self, party: u32) -> &Array
         requires auxiliary { IsTrue (is_auxiliary party) }
         requires reply { IsTrue (is_reply (work_of self.now.journal party)) }
-        ensures { command_of self.now.journal party ≡ Some result.now }
+        ensures { request_due self.now.journal party ≡ Some result.now }
     {
         // It is legal, so that a reply is owed to a value that is known.
         self.journal();
@@ -212,7 +212,7 @@ impl Core {
     // What is known of the first offer on which an auxiliary is to reply, if there is one.
     fn known_to_reply(&self, party: u32) -> Option<&Array>
         requires { IsTrue (is_auxiliary party) }
-        ensures { option_copied result ≡ command_of self.now.journal party }
+        ensures { option_copied result ≡ request_due self.now.journal party }
     {
         match self.first_coupled(party, Due::Reply) {
             None => None,
@@ -221,7 +221,7 @@ impl Core {
     }
 
     /// The party of the other offer of the coupling on which an auxiliary is to set a control, or to reply, where its
-    /// work is one of these. No memory.
+    /// work is one of these.
     pub fn customer(&self, party: u32) -> u32
         requires auxiliary { IsTrue (is_auxiliary party) }
         requires serves { IsTrue (is_service (work_of self.now.journal party)) }
@@ -247,7 +247,7 @@ impl Core {
     // The coupled offer on which an auxiliary is to set a control, else the one on which it is to reply.
     fn served_by(&self, party: u32) -> Option<&Standing>
         requires { IsTrue (is_auxiliary party) }
-        ensures { option_copied result ≡ served_by self.now.journal party }
+        ensures { option_copied result ≡ offer_to_serve self.now.journal party }
     {
         match self.first_coupled(party, Due::Control) {
             None => self.first_coupled(party, Due::Reply),
@@ -321,7 +321,7 @@ impl Core {
     }
 
     /// Whether nobody can go on: some user stays, whoever stays waits and is refused still, and no auxiliary has work. It
-    /// looks once at what each user waits for. No memory.
+    /// looks once at what each user waits for.
     pub fn is_stuck(&self) -> bool
         ensures { result ≡ is_stuck self.now.users self.now.journal }
     {
@@ -377,7 +377,7 @@ impl Core {
 
 // The party of the other offer of a coupling.
 fn partner_of(coupling: &Coupling, place: u64) -> u32
-    ensures { result ≡ partner_of coupling.now place }
+    ensures { result ≡ partner_in coupling.now place }
 {
     if coupling.a.place == place {
         coupling.b.party

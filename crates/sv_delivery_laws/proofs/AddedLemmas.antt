@@ -10,8 +10,8 @@ use Rattle.sv_access.specs.declared.access.Side.TheVariants.{A, B}
 use Rattle.sv_access.specs.declared.access.Kind.{Kind}
 use Rattle.sv_access.specs.declared.access.Kind.TheVariants as kind
 use Rattle.sv_access.specs.declared.control.Control.{Control}
-use Rattle.sv_access.specs.declared.state.State.{State}
-use Rattle.sv_access.specs.declared.state.State.TheVariants.{Quiet, UnseenA}
+use Rattle.sv_access.specs.declared.state.AccessState.{AccessState}
+use Rattle.sv_access.specs.declared.state.AccessState.TheVariants.{Quiet, UnseenA}
 use Rattle.sv_access.specs.declared.verdict.Verdict.TheVariants.{Granted, Held}
 use Rattle.sv_access.specs.Access.{Access}
 use Rattle.sv_access.specs.Control.{combined, has_element, in_view, no_control}
@@ -208,8 +208,8 @@ late_while_coupled users e journal giver coupling legal now side k v h = record 
 early_alone : (side : Side) (k : Kind) (knows : Bool) (one other : Story PlainArray) → state_of_story one ≡ cond knows (unseen_by side) Quiet →
     state_of_story other ≡ cond knows UnseenA Quiet → is_early one side k ≡ is_early other A k
 early_alone side k knows one other is_one is_other =
-    is_early_by_state one side k ∙ ap (λ (s : State). has_element (vector_of_state s A) (element_of side k)) is_one ∙ by side k knows
-    ∙ sym (is_early_by_state other A k ∙ ap (λ (s : State). has_element (vector_of_state s A) (element_of A k)) is_other)
+    is_early_by_state one side k ∙ ap (λ (s : AccessState). has_element (vector_of_state s A) (element_of side k)) is_one ∙ by side k knows
+    ∙ sym (is_early_by_state other A k ∙ ap (λ (s : AccessState). has_element (vector_of_state s A) (element_of A k)) is_other)
   where
     by : (s : Side) (l : Kind) (b : Bool) → has_element (vector_of_state (cond b (unseen_by s) Quiet) A) (element_of s l) ≡ has_element (vector_of_state (cond b UnseenA Quiet) A) (element_of A l)
     by A l b = refl

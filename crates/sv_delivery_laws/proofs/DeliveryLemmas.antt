@@ -14,7 +14,7 @@ use Rattle.sv_access.specs.Story.{Story, last_value, is_unseen, is_early}
 use Rattle.sv_access.proofs.StoryLemmas.{is_unseen_others_use}
 use Rattle.sv_rules.specs.Story.{first_set}
 use Rattle.sv_delivery_laws.specs.DeliveryLaws.{IsUsedInOrder}
-use Rattle.sv_delivery_laws.specs.Sent.{Sent, is_by, just_sent, with_set_over, sent, set_by, used_by, unseen_value, values_sent, taken_out, remaining}
+use Rattle.sv_delivery_laws.specs.Sent.{Sent, is_by, just_sent, with_set_over, sent, set_by, used_by, unseen_value, values_sent, taken_out, values_remaining}
 use Rattle.sv_delivery_laws.proofs.SentLemmas.{newest_is_unseen, unseen_value-none, unseen_value-some, one_is_unseen, kept, kept_just_sent, all_kept, sent_is_unseen_and_set}
 
 -- no access of this side and kind in a stretch comes early
@@ -30,7 +30,7 @@ UsesGetLast (access ∷ stretch) before = (access.kind ≡ Use → last_value (s
 
 -- what remains is what was used, and the unseen value
 abbrev pub IsInOrder : {V : Type 0} → Side → Story V → Story V → Type 0
-IsInOrder side stretch before = remaining side stretch before ≡ unseen_value side (stretch ++ before) ++ used_by (other_side side) stretch
+IsInOrder side stretch before = values_remaining side stretch before ≡ unseen_value side (stretch ++ before) ++ used_by (other_side side) stretch
 
 -- the values that remain, where the unseen one is set over
 without_newest : {V : Type 0} (side : Side) (stretch before : Story V) → is_unseen side (stretch ++ before) ≡ true → IsInOrder side stretch before →
@@ -53,7 +53,7 @@ next_in_order {V} side who kind v stretch before sets uses gets so_far = by side
     told : Story V
     told = stretch ++ before
 
-    own_set : (s : Side) → is_unseen s told ≡ false → IsInOrder s stretch before → v ∷ remaining s stretch before ≡ v ∷ used_by (other_side s) stretch
+    own_set : (s : Side) → is_unseen s told ≡ false → IsInOrder s stretch before → v ∷ values_remaining s stretch before ≡ v ∷ used_by (other_side s) stretch
     own_set s seen before' = ap (λ rest. v ∷ rest) (before' ∙ ap (λ (vs : List V). vs ++ used_by (other_side s) stretch) (unseen_value-none s told seen))
 
     over : (s : Side) (unseen : Bool) → is_unseen s told ≡ unseen → IsInOrder s stretch before →
@@ -61,7 +61,7 @@ next_in_order {V} side who kind v stretch before sets uses gets so_far = by side
     over s true is before' = without_newest s stretch before is before'
     over s false is before' = before' ∙ ap (λ (vs : List V). vs ++ used_by (other_side s) stretch) (unseen_value-none s told is)
 
-    used : (s : Side) → is_unseen s told ≡ true → last_value told ≡ Some v → IsInOrder s stretch before → remaining s stretch before ≡ v ∷ used_by (other_side s) stretch
+    used : (s : Side) → is_unseen s told ≡ true → last_value told ≡ Some v → IsInOrder s stretch before → values_remaining s stretch before ≡ v ∷ used_by (other_side s) stretch
     used s unseen last before' = before' ∙ ap (λ (vs : List V). vs ++ used_by (other_side s) stretch) (unseen_value-some s told v unseen last)
 
     by : (s w : Side) (k : Kind) → (w ≡ s → k ≡ Set → is_early told s Set ≡ false) → (w ≡ other_side s → k ≡ Use → is_early told (other_side s) Use ≡ false) →
@@ -88,11 +88,11 @@ in_order side (access ∷ stretch) before sets uses gets =
 
 -- and at most one more remains than was used
 pub one_more : {V : Type 0} (side : Side) (stretch before : Story V) → IsInOrder side stretch before →
-    length (remaining side stretch before) ≡ length (used_by (other_side side) stretch) + cond (is_unseen side (stretch ++ before)) 1 0
+    length (values_remaining side stretch before) ≡ length (used_by (other_side side) stretch) + cond (is_unseen side (stretch ++ before)) 1 0
 one_more {V} side stretch before h =
     let told : Story V = stretch ++ before in
     let used : List V = used_by (other_side side) stretch in
-    let both : length (remaining side stretch before) ≡ length (unseen_value side told) + length used = ap length h ∙ length-append (unseen_value side told) used in
+    let both : length (values_remaining side stretch before) ≡ length (unseen_value side told) + length used = ap length h ∙ length-append (unseen_value side told) used in
     let one : length (unseen_value side told) ≡ cond (is_unseen side told) 1 0 = one_is_unseen side told in omega (arith, both, one)
 
 -- where nothing is taken out all remains

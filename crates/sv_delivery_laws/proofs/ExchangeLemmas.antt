@@ -14,7 +14,7 @@ use Rattle.sv_access.specs.Story.{Story, last_value, is_unseen, is_early}
 use Rattle.sv_access.proofs.StoryLemmas.{is_unseen_others_use}
 use Rattle.sv_delivery_laws.specs.DeliveryLaws.{from_the_oldest}
 use Rattle.sv_delivery_laws.specs.Sent.{set_by, used_by, unseen_value}
-use Rattle.sv_delivery_laws.specs.Turns.{turn_of, takes_turns}
+use Rattle.sv_delivery_laws.specs.Turns.{kind_in_turn, takes_turns}
 use Rattle.sv_delivery_laws.proofs.DeliveryLemmas.{NeverEarly, UsesGetLast}
 use Rattle.sv_delivery_laws.proofs.SentLemmas.{unseen_value-none, unseen_value-some}
 
@@ -77,8 +77,8 @@ is_answered v round turn unseen got (reply w asking replying quiet_a quiet_r las
 -- how far the exchange is that a side began
 abbrev pub round_of : {V : Type 0} → Side → Story V → Story V → Round V
 round_of side stretch before = record {
-  asking = turn_of Set side stretch;
-  replying = turn_of Use (other_side side) stretch;
+  asking = kind_in_turn Set side stretch;
+  replying = kind_in_turn Use (other_side side) stretch;
   asked_unseen = is_unseen side (stretch ++ before);
   reply_unseen = is_unseen (other_side side) (stretch ++ before);
   last = last_value (stretch ++ before);
@@ -96,8 +96,8 @@ same_kind-is Use Set h = cc
 
 -- one access more, by whose it is and whose turn it is
 next_round : {V : Type 0} (side who : Side) (kind : Kind) (v : V) (stretch before : Story V) →
-    (not (same_side who side) || same_kind kind (turn_of Set side stretch)) ≡ true →
-    (not (same_side who (other_side side)) || same_kind kind (turn_of Use (other_side side) stretch)) ≡ true →
+    (not (same_side who side) || same_kind kind (kind_in_turn Set side stretch)) ≡ true →
+    (not (same_side who (other_side side)) || same_kind kind (kind_in_turn Use (other_side side) stretch)) ≡ true →
     (who ≡ A → kind ≡ Use → is_early (stretch ++ before) A Use ≡ false) → (who ≡ B → kind ≡ Use → is_early (stretch ++ before) B Use ≡ false) →
     (kind ≡ Use → last_value (stretch ++ before) ≡ Some v) →
     IsAt V (round_of side stretch before) → IsAt V (round_of side (record { side = who; kind = kind; value = v } ∷ stretch) before)
@@ -115,29 +115,29 @@ next_round {V} side who kind v stretch before = by side who kind
         IsAt V (record round { reply_unseen = is_unseen s (record { side = other_side s; kind = Use; value = v } ∷ told) })
     reply_seen s round at is = subst (λ b. IsAt V (record round { reply_unseen = b })) (sym is) at
 
-    by : (s w : Side) (k : Kind) → (not (same_side w s) || same_kind k (turn_of Set s stretch)) ≡ true →
-        (not (same_side w (other_side s)) || same_kind k (turn_of Use (other_side s) stretch)) ≡ true →
+    by : (s w : Side) (k : Kind) → (not (same_side w s) || same_kind k (kind_in_turn Set s stretch)) ≡ true →
+        (not (same_side w (other_side s)) || same_kind k (kind_in_turn Use (other_side s) stretch)) ≡ true →
         (w ≡ A → k ≡ Use → is_early told A Use ≡ false) → (w ≡ B → k ≡ Use → is_early told B Use ≡ false) → (k ≡ Use → last_value told ≡ Some v) →
         IsAt V (round_of s stretch before) → IsAt V (round_of s (record { side = w; kind = k; value = v } ∷ stretch) before)
-    by A A Set own others late_a late_b last at = asks v (round_of A stretch before) (same_kind-is Set (turn_of Set A stretch) own) at
-    by B B Set own others late_a late_b last at = asks v (round_of B stretch before) (same_kind-is Set (turn_of Set B stretch) own) at
-    by A B Set own others late_a late_b last at = replies v (round_of A stretch before) (same_kind-is Set (turn_of Use B stretch) others) at
-    by B A Set own others late_a late_b last at = replies v (round_of B stretch before) (same_kind-is Set (turn_of Use A stretch) others) at
+    by A A Set own others late_a late_b last at = asks v (round_of A stretch before) (same_kind-is Set (kind_in_turn Set A stretch) own) at
+    by B B Set own others late_a late_b last at = asks v (round_of B stretch before) (same_kind-is Set (kind_in_turn Set B stretch) own) at
+    by A B Set own others late_a late_b last at = replies v (round_of A stretch before) (same_kind-is Set (kind_in_turn Use B stretch) others) at
+    by B A Set own others late_a late_b last at = replies v (round_of B stretch before) (same_kind-is Set (kind_in_turn Use A stretch) others) at
     by A A Use own others late_a late_b last at =
         reply_seen B (round_of A (record { side = A; kind = Use; value = v } ∷ stretch) before)
-        (is_answered v (round_of A stretch before) (same_kind-is Use (turn_of Set A stretch) own) (not-false (is_unseen B told) (late_a refl refl)) (last refl) at)
+        (is_answered v (round_of A stretch before) (same_kind-is Use (kind_in_turn Set A stretch) own) (not-false (is_unseen B told) (late_a refl refl)) (last refl) at)
         (is_unseen_others_use B v told)
     by B B Use own others late_a late_b last at =
         reply_seen A (round_of B (record { side = B; kind = Use; value = v } ∷ stretch) before)
-        (is_answered v (round_of B stretch before) (same_kind-is Use (turn_of Set B stretch) own) (not-false (is_unseen A told) (late_b refl refl)) (last refl) at)
+        (is_answered v (round_of B stretch before) (same_kind-is Use (kind_in_turn Set B stretch) own) (not-false (is_unseen A told) (late_b refl refl)) (last refl) at)
         (is_unseen_others_use A v told)
     by A B Use own others late_a late_b last at =
         seen A (round_of A (record { side = B; kind = Use; value = v } ∷ stretch) before)
-        (hears v (round_of A stretch before) (same_kind-is Use (turn_of Use B stretch) others) (not-false (is_unseen A told) (late_b refl refl)) (last refl) at)
+        (hears v (round_of A stretch before) (same_kind-is Use (kind_in_turn Use B stretch) others) (not-false (is_unseen A told) (late_b refl refl)) (last refl) at)
         (is_unseen_others_use A v told)
     by B A Use own others late_a late_b last at =
         seen B (round_of B (record { side = A; kind = Use; value = v } ∷ stretch) before)
-        (hears v (round_of B stretch before) (same_kind-is Use (turn_of Use A stretch) others) (not-false (is_unseen B told) (late_a refl refl)) (last refl) at)
+        (hears v (round_of B stretch before) (same_kind-is Use (kind_in_turn Use A stretch) others) (not-false (is_unseen B told) (late_a refl refl)) (last refl) at)
         (is_unseen_others_use B v told)
 
 -- the exchange after a stretch at whose start nothing was unseen
@@ -146,8 +146,8 @@ pub exchange_is_at : {V : Type 0} (side : Side) (stretch before : Story V) → i
     NeverEarly A Use stretch before → NeverEarly B Use stretch before → UsesGetLast stretch before → IsAt V (round_of side stretch before)
 exchange_is_at side [] before quiet_a quiet_r own others late_a late_b last = calm refl refl quiet_a quiet_r refl refl
 exchange_is_at side (access ∷ stretch) before quiet_a quiet_r own others late_a late_b last =
-    let turn = and_parts (not (same_side access.side side) || same_kind access.kind (turn_of Set side stretch)) (takes_turns Set side stretch) own in
-    let turn' = and_parts (not (same_side access.side (other_side side)) || same_kind access.kind (turn_of Use (other_side side) stretch)) (takes_turns Use (other_side side) stretch) others in
+    let turn = and_parts (not (same_side access.side side) || same_kind access.kind (kind_in_turn Set side stretch)) (takes_turns Set side stretch) own in
+    let turn' = and_parts (not (same_side access.side (other_side side)) || same_kind access.kind (kind_in_turn Use (other_side side) stretch)) (takes_turns Use (other_side side) stretch) others in
     next_round side access.side access.kind access.value stretch before turn.0 turn'.0 late_a.0 late_b.0 last.0
     (exchange_is_at side stretch before quiet_a quiet_r turn.1 turn'.1 late_a.1 late_b.1 last.1)
 

@@ -9,7 +9,7 @@ use Rattle.sv_access.specs.declared.access.Side.TheVariants.{A, B}
 use Rattle.sv_access.specs.declared.access.Kind.{Kind}
 use Rattle.sv_access.specs.declared.access.Kind.TheVariants.{Set, Use}
 use Rattle.sv_access.specs.declared.control.Control.{Control}
-use Rattle.sv_access.specs.declared.state.State.TheVariants.{Quiet}
+use Rattle.sv_access.specs.declared.state.AccessState.TheVariants.{Quiet}
 use Rattle.sv_access.specs.Access.{other_side}
 use Rattle.sv_access.specs.Control.{combined, has_element, in_view, no_control}
 use Rattle.sv_access.specs.Story.{Story, is_early, is_unseen, last_value, state_of_story}
@@ -27,7 +27,7 @@ use Rattle.sv_offer_laws.proofs.NowLemmas.{coupling_places, none_now}
 use Rattle.sv_offer_laws.proofs.PlaceLemmas.{IsPlaceIn, places_within}
 use Rattle.sv_story_laws.specs.StoryLaws.{offer_on}
 use Rattle.sv_delivery_laws.specs.DeliveryLaws.{StretchesAddToTheStory, StandsOrIsOpenThroughout, StretchesStandOrAreOpen, IsHeldFor, LosesNothing, LosesNothingUnderControl, IsUsedInOrder, FeedsLoseNothing, IsExchange, EachIsUsed, RequestsHaveOneReply, WhatControlGives, FullVectorsHoldForBoth}
-use Rattle.sv_delivery_laws.specs.Sent.{set_by, used_by, unseen_value, remaining}
+use Rattle.sv_delivery_laws.specs.Sent.{set_by, used_by, unseen_value, values_remaining}
 use Rattle.sv_delivery_laws.specs.Stretch.{Stretch, IsStretch, IsStretchIn, added_by, added_in, control_then, has_throughout, is_controlled, is_full_throughout, is_full_vector, story_after, story_before, story_in, story_then, last_opening}
 use Rattle.sv_delivery_laws.proofs.AddedLemmas.{AddsLate, adds_late, joint_then, adds_nothing, adds_one, story_grows, vector_then}
 use Rattle.sv_delivery_laws.proofs.DeliveryLemmas.{IsInOrder, NeverEarly, UsesGetLast, all_sent, feeds_in_order, in_order, one_more}
@@ -188,7 +188,7 @@ loses_nothing side stretch whole h =
     let used : List PlainArray = used_by (other_side side) added in
     record {
       in_order = h ∙ ap (λ (s : Story PlainArray). unseen_value side s ++ used) (sym whole);
-      by_number = λ k within. same_by_number (unseen_value side (added ++ before)) used (remaining side added before) k h within;
+      by_number = λ k within. same_by_number (unseen_value side (added ++ before)) used (values_remaining side added before) k h within;
       one_more = one_more side added before h ∙ ap (λ (s : Story PlainArray). length used + cond (is_unseen side s) 1 0) (sym whole);
       all_sent = λ none. all_sent side added before h none ∙ ap (λ (s : Story PlainArray). unseen_value side s ++ used) (sym whole);
     }

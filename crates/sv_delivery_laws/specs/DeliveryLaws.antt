@@ -4,14 +4,14 @@ use Rattle.apl_arrays.specs.Array.{PlainArray}
 use Rattle.sv_access.specs.declared.access.Side.{Side}
 use Rattle.sv_access.specs.declared.access.Side.TheVariants.{A, B}
 use Rattle.sv_access.specs.declared.access.Kind.TheVariants.{Set, Use}
-use Rattle.sv_access.specs.declared.state.State.TheVariants.{Quiet}
+use Rattle.sv_access.specs.declared.state.AccessState.TheVariants.{Quiet}
 use Rattle.sv_access.specs.Access.{other_side}
 use Rattle.sv_access.specs.Story.{Story, is_unseen, last_value, state_of_story}
 use Rattle.sv_rules.specs.Coupling.{coupling_now}
 use Rattle.sv_rules.specs.Entries.{Entries}
 use Rattle.sv_rules.specs.Legal.{IsLegal}
 use Rattle.sv_rules.specs.Story.{first_set}
-use Rattle.sv_delivery_laws.specs.Sent.{Sent, just_sent, sent, set_by, used_by, unseen_value, values_sent, taken_out, remaining}
+use Rattle.sv_delivery_laws.specs.Sent.{Sent, just_sent, sent, set_by, used_by, unseen_value, values_sent, taken_out, values_remaining}
 use Rattle.sv_delivery_laws.specs.Stretch.{Stretch, IsStretch, IsStretchIn, giver_of, StandsOrIsOpen, story_before, story_in, story_after, is_controlled, is_full_for}
 use Rattle.sv_delivery_laws.specs.Turns.{takes_turns}
 
@@ -70,14 +70,14 @@ from_the_oldest values number = slice_get (reverse values) number
 -- that the side sent
 pub record LosesNothing (side : Side) (stretch : Stretch) : Type 0 where
   pub in_order :
-      remaining side (story_in stretch) (story_before stretch) ≡
+      values_remaining side (story_in stretch) (story_before stretch) ≡
       unseen_value side (story_after stretch) ++ used_by (other_side side) (story_in stretch)
   pub by_number :
       (number : ℕ) → number < length (used_by (other_side side) (story_in stretch)) →
       from_the_oldest (used_by (other_side side) (story_in stretch)) number ≡
-      from_the_oldest (remaining side (story_in stretch) (story_before stretch)) number
+      from_the_oldest (values_remaining side (story_in stretch) (story_before stretch)) number
   pub one_more :
-      length (remaining side (story_in stretch) (story_before stretch)) ≡
+      length (values_remaining side (story_in stretch) (story_before stretch)) ≡
       length (used_by (other_side side) (story_in stretch)) + (if is_unseen side (story_after stretch) then 1 else 0)
   pub all_sent :
       taken_out side (story_in stretch) (story_before stretch) ≡ [] →

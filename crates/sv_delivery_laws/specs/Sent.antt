@@ -57,5 +57,5 @@ abbrev pub taken_out : {V : Type 0} → Side → Story V → Story V → List V
 taken_out side stretch before = map (λ one. one.value) (filter (λ one. one.set_over) (sent side stretch before))
 
 -- those that remain
-abbrev pub remaining : {V : Type 0} → Side → Story V → Story V → List V
-remaining side stretch before = map (λ one. one.value) (filter (λ one. not one.set_over) (sent side stretch before))
+abbrev pub values_remaining : {V : Type 0} → Side → Story V → Story V → List V
+values_remaining side stretch before = map (λ one. one.value) (filter (λ one. not one.set_over) (sent side stretch before))

@@ -12,12 +12,12 @@ other_kind Set = Use
 other_kind Use = Set
 
 -- the kind whose turn it is with a side that began with this one, or is to begin
-abbrev pub turn_of : {V : Type 0} → Kind → Side → Story V → Kind
-turn_of first side [] = first
-turn_of first side (access ∷ story) = if same_side access.side side then other_kind access.kind else turn_of first side story
+abbrev pub kind_in_turn : {V : Type 0} → Kind → Side → Story V → Kind
+kind_in_turn first side [] = first
+kind_in_turn first side (access ∷ story) = if same_side access.side side then other_kind access.kind else kind_in_turn first side story
 
 -- the sets and uses of a side take turns, and it begins with this kind
 abbrev pub takes_turns : {V : Type 0} → Kind → Side → Story V → Bool
 takes_turns first side [] = true
 takes_turns first side (access ∷ story) =
-    (not (same_side access.side side) || same_kind access.kind (turn_of first side story)) && takes_turns first side story
+    (not (same_side access.side side) || same_kind access.kind (kind_in_turn first side story)) && takes_turns first side story

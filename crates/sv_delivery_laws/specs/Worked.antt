@@ -21,8 +21,8 @@ users = 1001 ∷ 1002 ∷ 1003 ∷ []
 abbrev pub x : List ℕ
 x = codes "X"
 
-abbrev pub number : ℕ → PlainArray
-number n = scalar (pos n)
+abbrev pub number_value : ℕ → PlainArray
+number_value n = scalar (pos n)
 
 -- each access is controlled; a set by me and a use by the partner are; the other two are
 abbrev pub all_four : Control
@@ -35,8 +35,8 @@ abbrev pub second_and_third : Control
 second_and_third = four_elements false true true false
 
 -- a party offers X to another, or to any, and it stays open, or is coupled at once
-abbrev pub offers : ℕ → ℕ → Option PlainArray → PlainEntry
-offers party to handed = uncoupled party (Offer to x x handed) (degree 1)
+abbrev pub offers_x : ℕ → ℕ → Option PlainArray → PlainEntry
+offers_x party to handed = uncoupled party (Offer to x x handed) (degree 1)
 
 abbrev pub joins : ℕ → ℕ → Option PlainArray → ℕ → ℕ → PlainEntry
 joins party to handed a b = record { party = party; act = Offer to x x handed; answer = degree 2; made = record { a = a; b = b } ∷ [] }
@@ -46,57 +46,57 @@ abbrev pub leaves_two : ℕ → ℕ → ℕ → PlainEntry
 leaves_two party a b = record { party = party; act = Leave; answer = done; made = record { a = a; b = b } ∷ [] }
 
 -- a set and a use of X; a set that is held by the party's own vector; and a control that then is in force
-abbrev pub sets : ℕ → ℕ → PlainEntry
-sets party n = uncoupled party (Set x (number n)) granted
+abbrev pub sets_x : ℕ → ℕ → PlainEntry
+sets_x party n = uncoupled party (Set x (number_value n)) granted
 
-abbrev pub uses : ℕ → ℕ → PlainEntry
-uses party n = uncoupled party (Use x) (value (number n))
+abbrev pub uses_x : ℕ → ℕ → PlainEntry
+uses_x party n = uncoupled party (Use x) (value (number_value n))
 
 abbrev pub set_is_held : ℕ → ℕ → PlainEntry
-set_is_held party n = uncoupled party (Set x (number n)) (held (record { element = 1; owners = Mine }))
+set_is_held party n = uncoupled party (Set x (number_value n)) (held (record { element = 1; owners = Mine }))
 
-abbrev pub controls : ℕ → Control → PlainEntry
-controls party control = uncoupled party (SetControl x control) (vector control)
+abbrev pub controls_x : ℕ → Control → PlainEntry
+controls_x party control = uncoupled party (SetControl x control) (vector control)
 
 -- a retraction of X, which was coupled, by a party that knows no value of it
 abbrev pub retracts : ℕ → PlainEntry
 retracts party = uncoupled party (Retract x) (kept 2 None)
 
 -- the standing offer of X
-abbrev pub offer_of_x : ℕ → ℕ → ℕ → Standing
-offer_of_x place party to = record { place = place; party = party; to = to; local = x; surrogate = x }
+abbrev pub standing_offer_of_x : ℕ → ℕ → ℕ → Standing
+standing_offer_of_x place party to = record { place = place; party = party; to = to; local = x; surrogate = x }
 
 -- the coupling of two such offers of 1001 and 1002
 abbrev pub coupling_of_x : ℕ → ℕ → Coupling
-coupling_of_x second at = record { a = offer_of_x 1 1001 1002; b = offer_of_x second 1002 1001; at = at }
+coupling_of_x second at = record { a = standing_offer_of_x 1 1001 1002; b = standing_offer_of_x second 1002 1001; at = at }
 
 -- 1001 and 1002 share X, no value is known, and 1001 sets a control; then come a stretch's entries
 abbrev pub shared_under : Control → List PlainEntry → Stretch
 shared_under control entries = record {
   entries = reverse entries;
-  before = reverse (offers 1001 1002 None ∷ joins 1002 1001 None 1 2 ∷ controls 1001 control ∷ []);
+  before = reverse (offers_x 1001 1002 None ∷ joins 1002 1001 None 1 2 ∷ controls_x 1001 control ∷ []);
   coupling = coupling_of_x 2 2;
   giver = B;
 }
 
 -- 1002 sets over the 1 of 1001, which it has not seen
 abbrev pub set_over_unseen : Stretch
-set_over_unseen = shared_under all_four (sets 1001 1 ∷ sets 1002 9 ∷ uses 1001 9 ∷ sets 1001 2 ∷ uses 1002 2 ∷ [])
+set_over_unseen = shared_under all_four (sets_x 1001 1 ∷ sets_x 1002 9 ∷ uses_x 1001 9 ∷ sets_x 1001 2 ∷ uses_x 1002 2 ∷ [])
 
 -- the same stretch without its last entry
 abbrev pub ends_unseen : Stretch
-ends_unseen = shared_under all_four (sets 1001 1 ∷ sets 1002 9 ∷ uses 1001 9 ∷ sets 1001 2 ∷ [])
+ends_unseen = shared_under all_four (sets_x 1001 1 ∷ sets_x 1002 9 ∷ uses_x 1001 9 ∷ sets_x 1001 2 ∷ [])
 
 abbrev pub seen_later : Entries
-seen_later = uses 1002 2 ∷ []
+seen_later = uses_x 1002 2 ∷ []
 
 -- 1001 has no partner yet, and its second set is held until 1002 has used the first
 abbrev pub before_a_partner : Entries
-before_a_partner = reverse (offers 1001 1002 None ∷ controls 1001 first_and_fourth ∷ [])
+before_a_partner = reverse (offers_x 1001 1002 None ∷ controls_x 1001 first_and_fourth ∷ [])
 
 abbrev pub begins_alone : Stretch
 begins_alone = record {
-  entries = reverse (sets 1001 1 ∷ set_is_held 1001 2 ∷ joins 1002 1001 None 1 5 ∷ uses 1002 1 ∷ sets 1001 2 ∷ uses 1002 2 ∷ []);
+  entries = reverse (sets_x 1001 1 ∷ set_is_held 1001 2 ∷ joins 1002 1001 None 1 5 ∷ uses_x 1002 1 ∷ sets_x 1001 2 ∷ uses_x 1002 2 ∷ []);
   before = before_a_partner;
   coupling = coupling_of_x 5 5;
   giver = A;
@@ -104,21 +104,21 @@ begins_alone = record {
 
 -- the same stretch up to the first set
 abbrev pub ends_alone : Stretch
-ends_alone = record begins_alone { entries = sets 1001 1 ∷ [] }
+ends_alone = record begins_alone { entries = sets_x 1001 1 ∷ [] }
 
 abbrev pub joined_later : Entries
-joined_later = reverse (set_is_held 1001 2 ∷ joins 1002 1001 None 1 5 ∷ uses 1002 1 ∷ sets 1001 2 ∷ uses 1002 2 ∷ [])
+joined_later = reverse (set_is_held 1001 2 ∷ joins 1002 1001 None 1 5 ∷ uses_x 1002 1 ∷ sets_x 1001 2 ∷ uses_x 1002 2 ∷ [])
 
 -- 1001 sets X before 1002 retracts it, so that its own offer opens again with the 1; then 1002 offers anew
 abbrev pub until_retracted : Entries
-until_retracted = reverse (offers 1001 1002 None ∷ joins 1002 1001 None 1 2 ∷ sets 1001 1 ∷ [])
+until_retracted = reverse (offers_x 1001 1002 None ∷ joins 1002 1001 None 1 2 ∷ sets_x 1001 1 ∷ [])
 
 abbrev pub since_retracted : Entries
-since_retracted = reverse (retracts 1002 ∷ controls 1001 first_and_fourth ∷ [])
+since_retracted = reverse (retracts 1002 ∷ controls_x 1001 first_and_fourth ∷ [])
 
 abbrev pub opens_again : Stretch
 opens_again = record {
-  entries = reverse (joins 1002 1001 None 1 6 ∷ uses 1002 1 ∷ sets 1001 2 ∷ uses 1002 2 ∷ []);
+  entries = reverse (joins 1002 1001 None 1 6 ∷ uses_x 1002 1 ∷ sets_x 1001 2 ∷ uses_x 1002 2 ∷ []);
   before = since_retracted ++ until_retracted;
   coupling = coupling_of_x 6 6;
   giver = A;
@@ -131,8 +131,8 @@ begins_too_early = record opens_again { entries = opens_again.entries ++ since_r
 -- the coupling with the first offer of 1002, up to its retraction
 abbrev pub ends_retracted : Stretch
 ends_retracted = record {
-  entries = reverse (sets 1001 1 ∷ retracts 1002 ∷ []);
-  before = reverse (offers 1001 1002 None ∷ joins 1002 1001 None 1 2 ∷ []);
+  entries = reverse (sets_x 1001 1 ∷ retracts 1002 ∷ []);
+  before = reverse (offers_x 1001 1002 None ∷ joins 1002 1001 None 1 2 ∷ []);
   coupling = coupling_of_x 2 2;
   giver = B;
 }
@@ -140,23 +140,23 @@ ends_retracted = record {
 -- 1002 sets X while its partner-to-be is coupled with 1003, and is the giver and side B once 1003 has left
 abbrev pub given_by_b : Stretch
 given_by_b = record {
-  entries = reverse (sets 1002 5 ∷ set_is_held 1002 6 ∷ leaves_two 1003 1 3 ∷ uses 1001 5 ∷ sets 1002 6 ∷ uses 1001 6 ∷ []);
-  before = reverse (offers 1001 0 None ∷ joins 1003 1001 None 1 2 ∷ offers 1002 1001 None ∷ controls 1002 first_and_fourth ∷ []);
-  coupling = record { a = offer_of_x 1 1001 0; b = offer_of_x 3 1002 1001; at = 7 };
+  entries = reverse (sets_x 1002 5 ∷ set_is_held 1002 6 ∷ leaves_two 1003 1 3 ∷ uses_x 1001 5 ∷ sets_x 1002 6 ∷ uses_x 1001 6 ∷ []);
+  before = reverse (offers_x 1001 0 None ∷ joins 1003 1001 None 1 2 ∷ offers_x 1002 1001 None ∷ controls_x 1002 first_and_fourth ∷ []);
+  coupling = record { a = standing_offer_of_x 1 1001 0; b = standing_offer_of_x 3 1002 1001; at = 7 };
   giver = B;
 }
 
 -- the control is lifted after the first set: the second is granted, and 1002 never sees the first
 abbrev pub control_is_lifted : Stretch
-control_is_lifted = shared_under first_and_fourth (sets 1001 1 ∷ controls 1001 no_control ∷ sets 1001 2 ∷ uses 1002 2 ∷ [])
+control_is_lifted = shared_under first_and_fourth (sets_x 1001 1 ∷ controls_x 1001 no_control ∷ sets_x 1001 2 ∷ uses_x 1002 2 ∷ [])
 
 -- under a control one user sets two values, and the other uses the second
 abbrev pub set_twice : Control → ℕ → ℕ → Stretch
-set_twice control one other = shared_under control (sets one 1 ∷ sets one 2 ∷ uses other 2 ∷ [])
+set_twice control one other = shared_under control (sets_x one 1 ∷ sets_x one 2 ∷ uses_x other 2 ∷ [])
 
 -- under a control one user sets a value, and the other uses it twice
 abbrev pub used_twice : Control → ℕ → ℕ → Stretch
-used_twice control one other = shared_under control (sets one 1 ∷ uses other 1 ∷ uses other 1 ∷ [])
+used_twice control one other = shared_under control (sets_x one 1 ∷ uses_x other 1 ∷ uses_x other 1 ∷ [])
 
 abbrev pub third_and_fourth : Control
 third_and_fourth = four_elements false false true true
@@ -176,19 +176,19 @@ only_fourth = four_elements false false false true
 
 -- two sets of 1001, of which control would hold the second
 abbrev pub two_unseen : Stretch
-two_unseen = shared_under first_and_fourth (sets 1001 1 ∷ sets 1001 2 ∷ [])
+two_unseen = shared_under first_and_fourth (sets_x 1001 1 ∷ sets_x 1001 2 ∷ [])
 
 -- 1001 asks and 1002 replies; the last reply is unseen
 abbrev pub asked_twice : Stretch
 asked_twice =
     shared_under all_four
-    (sets 1001 1 ∷ uses 1002 1 ∷ sets 1002 10 ∷ uses 1001 10 ∷ sets 1001 2 ∷ uses 1002 2 ∷ sets 1002 20 ∷ [])
+    (sets_x 1001 1 ∷ uses_x 1002 1 ∷ sets_x 1002 10 ∷ uses_x 1001 10 ∷ sets_x 1001 2 ∷ uses_x 1002 2 ∷ sets_x 1002 20 ∷ [])
 
 -- 1002 uses a 1 that was unseen at the start, and sets over the 2 that follows
 abbrev pub begins_unseen : Stretch
 begins_unseen = record {
-  entries = reverse (uses 1002 1 ∷ sets 1001 2 ∷ sets 1002 10 ∷ []);
-  before = reverse (offers 1001 1002 None ∷ joins 1002 1001 None 1 2 ∷ controls 1001 all_four ∷ sets 1001 1 ∷ []);
+  entries = reverse (uses_x 1002 1 ∷ sets_x 1001 2 ∷ sets_x 1002 10 ∷ []);
+  before = reverse (offers_x 1001 1002 None ∷ joins 1002 1001 None 1 2 ∷ controls_x 1001 all_four ∷ sets_x 1001 1 ∷ []);
   coupling = coupling_of_x 2 2;
   giver = B;
 }
@@ -197,24 +197,24 @@ begins_unseen = record {
 abbrev pub reply_unseen : Stretch
 reply_unseen = record {
   entries = [];
-  before = reverse (offers 1001 1002 None ∷ joins 1002 1001 None 1 2 ∷ controls 1001 all_four ∷ sets 1002 5 ∷ []);
+  before = reverse (offers_x 1001 1002 None ∷ joins 1002 1001 None 1 2 ∷ controls_x 1001 all_four ∷ sets_x 1002 5 ∷ []);
   coupling = coupling_of_x 2 2;
   giver = B;
 }
 
 -- 1001 uses its own 1, as only the uses of 1002 are held
 abbrev pub asks_itself : Stretch
-asks_itself = shared_under only_fourth (sets 1001 1 ∷ uses 1001 1 ∷ [])
+asks_itself = shared_under only_fourth (sets_x 1001 1 ∷ uses_x 1001 1 ∷ [])
 
 -- 1002 replies to 1 and then uses its own reply, as only the uses of 1001 are held
 abbrev pub replies_to_itself : Stretch
-replies_to_itself = shared_under only_third (sets 1001 1 ∷ uses 1002 1 ∷ sets 1002 10 ∷ uses 1002 10 ∷ [])
+replies_to_itself = shared_under only_third (sets_x 1001 1 ∷ uses_x 1002 1 ∷ sets_x 1002 10 ∷ uses_x 1002 10 ∷ [])
 
 -- 1001 hands in 7 with its offer, and sets 8
 abbrev pub hands_in : Stretch
 hands_in = record {
-  entries = reverse (joins 1002 1001 None 1 3 ∷ uses 1002 7 ∷ sets 1001 8 ∷ []);
-  before = reverse (offers 1001 1002 (Some (number 7)) ∷ controls 1001 first_and_fourth ∷ []);
+  entries = reverse (joins 1002 1001 None 1 3 ∷ uses_x 1002 7 ∷ sets_x 1001 8 ∷ []);
+  before = reverse (offers_x 1001 1002 (Some (number_value 7)) ∷ controls_x 1001 first_and_fourth ∷ []);
   coupling = coupling_of_x 3 3;
   giver = A;
 }
@@ -222,8 +222,8 @@ hands_in = record {
 -- 1002 uses the 7 twice that was handed in, before 1001 sets its control and 8
 abbrev pub used_before : Stretch
 used_before = record {
-  entries = reverse (sets 1001 8 ∷ uses 1002 8 ∷ []);
-  before = reverse (offers 1001 1002 (Some (number 7)) ∷ joins 1002 1001 None 1 2 ∷ uses 1002 7 ∷ uses 1002 7 ∷ controls 1001 first_and_fourth ∷ []);
+  entries = reverse (sets_x 1001 8 ∷ uses_x 1002 8 ∷ []);
+  before = reverse (offers_x 1001 1002 (Some (number_value 7)) ∷ joins 1002 1001 None 1 2 ∷ uses_x 1002 7 ∷ uses_x 1002 7 ∷ controls_x 1001 first_and_fourth ∷ []);
   coupling = coupling_of_x 2 2;
   giver = A;
 }

@@ -5,11 +5,11 @@ ghost use Rattle.sv_access.specs.declared.access.Side.TheVariants.{A, B};
 ghost use Rattle.sv_access.specs.declared.access.Kind.TheVariants.{Set, Use};
 ghost use Rattle.sv_rules.specs.Legal.{IsLegal};
 ghost use Rattle.sv_rules.specs.Story.{first_set};
-ghost use Rattle.sv_delivery_laws.specs.Sent.{set_by, used_by, unseen_value, values_sent, taken_out, remaining};
+ghost use Rattle.sv_delivery_laws.specs.Sent.{set_by, used_by, unseen_value, values_sent, taken_out, values_remaining};
 ghost use Rattle.sv_delivery_laws.specs.Turns.{takes_turns};
 ghost use Rattle.sv_delivery_laws.specs.Stretch.{IsStretch, story_before, story_in, story_after, is_controlled, is_full_for};
 ghost use Rattle.sv_delivery_laws.specs.DeliveryLaws.{IsHeldFor, LosesNothing, IsUsedInOrder, IsFeed, AreUsesHeld, IsExchange, EachIsUsed};
-ghost use Rattle.sv_delivery_laws.specs.Worked.{users, number, set_over_unseen, ends_unseen, seen_later, begins_alone, ends_alone, joined_later, opens_again, begins_too_early, ends_retracted, given_by_b, control_is_lifted, first_and_fourth, second_and_third, only_first, only_second, only_third, only_fourth, set_twice, used_twice, used_before, two_unseen, asked_twice, begins_unseen, reply_unseen, asks_itself, replies_to_itself, third_and_fourth, hands_in, to_the_end};
+ghost use Rattle.sv_delivery_laws.specs.Worked.{users, number_value, set_over_unseen, ends_unseen, seen_later, begins_alone, ends_alone, joined_later, opens_again, begins_too_early, ends_retracted, given_by_b, control_is_lifted, first_and_fourth, second_and_third, only_first, only_second, only_third, only_fourth, set_twice, used_twice, used_before, two_unseen, asked_twice, begins_unseen, reply_unseen, asks_itself, replies_to_itself, third_and_fourth, hands_in, to_the_end};
 
 /// A value that its receiver sets over is taken out, and then no more remains than was used. Without the taking out the
 /// statement would be wrong: what was sent is not what was used.
@@ -18,16 +18,16 @@ pub fn set_over_is_taken_out()
     ensures stretch { IsStretch [] set_over_unseen }
     ensures held_for_a { IsHeldFor A set_over_unseen }
     ensures held_for_b { IsHeldFor B set_over_unseen }
-    ensures sent { values_sent A (story_in set_over_unseen) (story_before set_over_unseen) ≡ number 2 ∷ number 1 ∷ [] }
-    ensures taken_out { taken_out A (story_in set_over_unseen) (story_before set_over_unseen) ≡ number 1 ∷ [] }
-    ensures remaining { remaining A (story_in set_over_unseen) (story_before set_over_unseen) ≡ number 2 ∷ [] }
-    ensures used { used_by B (story_in set_over_unseen) ≡ number 2 ∷ [] }
+    ensures sent { values_sent A (story_in set_over_unseen) (story_before set_over_unseen) ≡ number_value 2 ∷ number_value 1 ∷ [] }
+    ensures taken_out { taken_out A (story_in set_over_unseen) (story_before set_over_unseen) ≡ number_value 1 ∷ [] }
+    ensures values_remaining { values_remaining A (story_in set_over_unseen) (story_before set_over_unseen) ≡ number_value 2 ∷ [] }
+    ensures used { used_by B (story_in set_over_unseen) ≡ number_value 2 ∷ [] }
     ensures seen { unseen_value A (story_after set_over_unseen) ≡ [] }
-    ensures sent_back { remaining B (story_in set_over_unseen) (story_before set_over_unseen) ≡ number 9 ∷ [] }
-    ensures used_back { used_by A (story_in set_over_unseen) ≡ number 9 ∷ [] }
+    ensures sent_back { values_remaining B (story_in set_over_unseen) (story_before set_over_unseen) ≡ number_value 9 ∷ [] }
+    ensures used_back { used_by A (story_in set_over_unseen) ≡ number_value 9 ∷ [] }
     ensures not_in_order { IsUsedInOrder A (story_after set_over_unseen) → ⊥ }
     ensures all_sent { ¬ (values_sent A (story_in set_over_unseen) (story_before set_over_unseen) ≡ used_by B (story_in set_over_unseen)) }
-    ensures one_more { ¬ (length (remaining A (story_in set_over_unseen) (story_before set_over_unseen)) ≡ length (used_by B (story_in set_over_unseen)) + 1) }
+    ensures one_more { ¬ (length (values_remaining A (story_in set_over_unseen) (story_before set_over_unseen)) ≡ length (used_by B (story_in set_over_unseen)) + 1) }
 {}
 
 /// A stretch may end while a value is unseen, which then is the one that remains beside those used; two do not remain, and
@@ -36,11 +36,11 @@ pub fn one_remains_unseen()
     ensures legal { IsLegal users (to_the_end ends_unseen) }
     ensures stretch { IsStretch [] ends_unseen }
     ensures in_the_middle { IsStretch seen_later ends_unseen }
-    ensures remaining { remaining A (story_in ends_unseen) (story_before ends_unseen) ≡ number 2 ∷ [] }
+    ensures values_remaining { values_remaining A (story_in ends_unseen) (story_before ends_unseen) ≡ number_value 2 ∷ [] }
     ensures used { used_by B (story_in ends_unseen) ≡ [] }
-    ensures unseen { unseen_value A (story_after ends_unseen) ≡ number 2 ∷ [] }
-    ensures two_more { ¬ (length (remaining A (story_in ends_unseen) (story_before ends_unseen)) ≡ length (used_by B (story_in ends_unseen)) + 2) }
-    ensures two_unseen { remaining A (story_in two_unseen) (story_before two_unseen) ≡ number 2 ∷ number 1 ∷ [] }
+    ensures unseen { unseen_value A (story_after ends_unseen) ≡ number_value 2 ∷ [] }
+    ensures two_more { ¬ (length (values_remaining A (story_in ends_unseen) (story_before ends_unseen)) ≡ length (used_by B (story_in ends_unseen)) + 2) }
+    ensures two_unseen { values_remaining A (story_in two_unseen) (story_before two_unseen) ≡ number_value 2 ∷ number_value 1 ∷ [] }
     ensures two_controlled { IsHeldFor A two_unseen }
     ensures two_illegal { ¬ IsLegal users (to_the_end two_unseen) }
 {}
@@ -51,12 +51,12 @@ pub fn stretches_begin_before_the_coupling()
     ensures stretch { IsStretch [] begins_alone }
     ensures held { IsHeldFor A begins_alone }
     ensures not_for_b { is_controlled 2 begins_alone ≡ false }
-    ensures sent { remaining A (story_in begins_alone) (story_before begins_alone) ≡ number 2 ∷ number 1 ∷ [] }
-    ensures used { used_by B (story_in begins_alone) ≡ number 2 ∷ number 1 ∷ [] }
+    ensures sent { values_remaining A (story_in begins_alone) (story_before begins_alone) ≡ number_value 2 ∷ number_value 1 ∷ [] }
+    ensures used { used_by B (story_in begins_alone) ≡ number_value 2 ∷ number_value 1 ∷ [] }
     ensures ends { IsStretch joined_later ends_alone }
     ensures ends_held { IsHeldFor A ends_alone }
-    ensures sent_alone { remaining A (story_in ends_alone) (story_before ends_alone) ≡ number 1 ∷ [] }
-    ensures unseen_alone { unseen_value A (story_after ends_alone) ≡ number 1 ∷ [] }
+    ensures sent_alone { values_remaining A (story_in ends_alone) (story_before ends_alone) ≡ number_value 1 ∷ [] }
+    ensures unseen_alone { unseen_value A (story_after ends_alone) ≡ number_value 1 ∷ [] }
     ensures used_alone { used_by B (story_in ends_alone) ≡ [] }
 {}
 
@@ -66,9 +66,9 @@ pub fn stretches_begin_behind_the_opening()
     ensures legal { IsLegal users (to_the_end opens_again) }
     ensures stretch { IsStretch [] opens_again }
     ensures held { IsHeldFor A opens_again }
-    ensures first { story_before opens_again ≡ first_set A (Some (number 1)) }
-    ensures sent { remaining A (story_in opens_again) (story_before opens_again) ≡ number 2 ∷ number 1 ∷ [] }
-    ensures used { used_by B (story_in opens_again) ≡ number 2 ∷ number 1 ∷ [] }
+    ensures first { story_before opens_again ≡ first_set A (Some (number_value 1)) }
+    ensures sent { values_remaining A (story_in opens_again) (story_before opens_again) ≡ number_value 2 ∷ number_value 1 ∷ [] }
+    ensures used { used_by B (story_in opens_again) ≡ number_value 2 ∷ number_value 1 ∷ [] }
     ensures feed { IsFeed A opens_again }
     ensures not_earlier { IsStretch [] begins_too_early → ⊥ }
     ensures legal_to_its_end { IsLegal users (to_the_end ends_retracted) }
@@ -83,8 +83,8 @@ pub fn side_b_gives()
     ensures held { IsHeldFor B given_by_b }
     ensures not_for_a { is_controlled 1 given_by_b ≡ false }
     ensures nor_so { is_controlled 4 given_by_b ≡ false }
-    ensures sent { remaining B (story_in given_by_b) (story_before given_by_b) ≡ number 6 ∷ number 5 ∷ [] }
-    ensures used { used_by A (story_in given_by_b) ≡ number 6 ∷ number 5 ∷ [] }
+    ensures sent { values_remaining B (story_in given_by_b) (story_before given_by_b) ≡ number_value 6 ∷ number_value 5 ∷ [] }
+    ensures used { used_by A (story_in given_by_b) ≡ number_value 6 ∷ number_value 5 ∷ [] }
     ensures feed { IsFeed B given_by_b }
 {}
 
@@ -135,10 +135,10 @@ pub fn handed_in_is_sent_first()
     ensures stretch { IsStretch [] hands_in }
     ensures held { IsHeldFor A hands_in }
     ensures feed { IsFeed A hands_in }
-    ensures first { story_before hands_in ≡ first_set A (Some (number 7)) }
-    ensures sent { set_by A (story_after hands_in) ≡ number 8 ∷ number 7 ∷ [] }
-    ensures used { used_by B (story_after hands_in) ≡ number 7 ∷ [] }
-    ensures unseen { unseen_value A (story_after hands_in) ≡ number 8 ∷ [] }
+    ensures first { story_before hands_in ≡ first_set A (Some (number_value 7)) }
+    ensures sent { set_by A (story_after hands_in) ≡ number_value 8 ∷ number_value 7 ∷ [] }
+    ensures used { used_by B (story_after hands_in) ≡ number_value 7 ∷ [] }
+    ensures unseen { unseen_value A (story_after hands_in) ≡ number_value 8 ∷ [] }
 {}
 
 /// A feed begins before its values are used: of one that was used twice nothing makes the whole story one.
@@ -147,7 +147,7 @@ pub fn feeds_begin_in_order()
     ensures stretch { IsStretch [] used_before }
     ensures held { IsHeldFor A used_before }
     ensures one_way { set_by B (story_in used_before) ≡ [] }
-    ensures stretch_used { used_by B (story_in used_before) ≡ number 8 ∷ [] }
+    ensures stretch_used { used_by B (story_in used_before) ≡ number_value 8 ∷ [] }
     ensures not_begun { IsUsedInOrder A (story_before used_before) → ⊥ }
     ensures not_in_order { IsUsedInOrder A (story_after used_before) → ⊥ }
 {}
@@ -162,11 +162,11 @@ pub fn requests_are_answered()
     ensures held_for_b { IsHeldFor B asked_twice }
     ensures uses { AreUsesHeld asked_twice }
     ensures exchange { IsExchange A asked_twice }
-    ensures asked { set_by A (story_in asked_twice) ≡ number 2 ∷ number 1 ∷ [] }
-    ensures heard { used_by B (story_in asked_twice) ≡ number 2 ∷ number 1 ∷ [] }
-    ensures replied { set_by B (story_in asked_twice) ≡ number 20 ∷ number 10 ∷ [] }
-    ensures answered { used_by A (story_in asked_twice) ≡ number 10 ∷ [] }
-    ensures unseen { unseen_value B (story_after asked_twice) ≡ number 20 ∷ [] }
+    ensures asked { set_by A (story_in asked_twice) ≡ number_value 2 ∷ number_value 1 ∷ [] }
+    ensures heard { used_by B (story_in asked_twice) ≡ number_value 2 ∷ number_value 1 ∷ [] }
+    ensures replied { set_by B (story_in asked_twice) ≡ number_value 20 ∷ number_value 10 ∷ [] }
+    ensures answered { used_by A (story_in asked_twice) ≡ number_value 10 ∷ [] }
+    ensures unseen { unseen_value B (story_after asked_twice) ≡ number_value 20 ∷ [] }
 {}
 
 /// Of requests nothing is said where one side does not take turns, or the other begins with a set.
@@ -191,11 +191,11 @@ pub fn requests_begin_quietly()
     ensures held { AreUsesHeld begins_unseen }
     ensures asks { IsTrue (takes_turns Set A (story_in begins_unseen)) }
     ensures replies { IsTrue (takes_turns Use B (story_in begins_unseen)) }
-    ensures unseen { unseen_value A (story_before begins_unseen) ≡ number 1 ∷ [] }
+    ensures unseen { unseen_value A (story_before begins_unseen) ≡ number_value 1 ∷ [] }
     ensures lost { EachIsUsed A begins_unseen → ⊥ }
     ensures reply_legal { IsLegal users (to_the_end reply_unseen) }
     ensures reply_stretch { IsStretch [] reply_unseen }
-    ensures reply_first { unseen_value B (story_before reply_unseen) ≡ number 5 ∷ [] }
+    ensures reply_first { unseen_value B (story_before reply_unseen) ≡ number_value 5 ∷ [] }
     ensures reply_unused { EachIsUsed B reply_unseen → ⊥ }
 {}
 

@@ -95,9 +95,9 @@ answers_question (Some question.Parties) of = are_parties of
 answers_question (Some (question.Names party)) of = are_names of
 
 -- the journal is full
-abbrev pub is_full : AnswerKind → Bool
-is_full answer.Full = true
-is_full _ = false
+abbrev pub is_full_kind : AnswerKind → Bool
+is_full_kind answer.Full = true
+is_full_kind _ = false
 
 -- the act ends all offers of its party
 abbrev pub ends_all : Option Ending → Bool
@@ -109,7 +109,7 @@ ends_all (Some All) = true
 abbrev pub fits_kind : ActRow → AnswerKind → Bool
 fits_kind row of =
     (is_some row.opens && answers_opening of) || answers_ending row.ends of || (is_some row.controls && answers_control of)
-    || answers_access row.accesses of || answers_question row.asks of || (is_full of && not (ends_all row.ends))
+    || answers_access row.accesses of || answers_question row.asks of || (is_full_kind of && not (ends_all row.ends))
 
 -- a degree is at most 2
 abbrev pub is_degree_in_range : Option ℕ → Bool
@@ -125,5 +125,5 @@ is_hold_in_range (Some hold) = nat_le 1 hold.element && nat_le hold.element 4
 abbrev pub fits_row : ActRow → AnswerRow → Bool
 fits_row act given = is_degree_in_range given.degree && is_hold_in_range given.hold && fits_kind act given.kind
 
-abbrev pub fits : Act → PlainAnswer → Bool
-fits act given = fits_row (act_row act).row (answer_row given).row
+abbrev pub answer_fits : Act → PlainAnswer → Bool
+answer_fits act given = fits_row (act_row act).row (answer_row given).row

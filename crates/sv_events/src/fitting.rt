@@ -1,11 +1,11 @@
 ghost use Rattle.std.specs.Prelude.{◌≡◌};
-ghost use Rattle.sv_events.specs.Fits.{answers_opening, answers_ending, answers_control, answers_access, answers_access_of, answers_question, is_full, ends_all, fits_kind, is_degree_in_range, is_hold_in_range, fits_row};
+ghost use Rattle.sv_events.specs.Fits.{answers_opening, answers_ending, answers_control, answers_access, answers_access_of, answers_question, is_full_kind, ends_all, fits_kind, is_degree_in_range, is_hold_in_range, fits_row};
 
 use crate::event::Hold;
 use crate::row::{Accessing, ActRow, AnswerKind, AnswerRow, Ending, Question};
 use sv_access::Kind;
 
-/// Whether the answer of one row may be given to the act of the other. No memory.
+/// Whether the answer of one row may be given to the act of the other.
 pub fn fits_row(act: &ActRow, answer: &AnswerRow) -> bool
     ensures { result ≡ fits_row act.now answer.now }
 {
@@ -89,7 +89,7 @@ fn answers_question(asks: Option<Question>, kind: AnswerKind) -> bool
 }
 
 fn is_full(kind: AnswerKind) -> bool
-    ensures { result ≡ is_full kind }
+    ensures { result ≡ is_full_kind kind }
 {
     matches!(kind, AnswerKind::Full)
 }

@@ -23,7 +23,7 @@ impl Model for Journal {
 }
 
 impl Journal {
-    /// No entries. It takes no memory.
+    /// No entries.
     pub fn new(alloc: Global) -> Self
         ensures { result.items ≡ [] }
     {
@@ -32,14 +32,14 @@ impl Journal {
         }
     }
 
-    /// The entries, oldest first. It takes no memory.
+    /// The entries, oldest first.
     pub fn as_slice(&self) -> &[Entry]
         ensures { map plain_entry result.now ≡ self.now.items }
     {
         self.entries.as_slice()
     }
 
-    /// The entries as a `Vec`. It takes no memory.
+    /// The entries as a `Vec`.
     pub fn into_vec(self) -> Vec<Entry>
         ensures { map plain_entry result.items ≡ self.items }
     {
@@ -68,7 +68,7 @@ impl Journal {
         self.entries.push(entry)
     }
 
-    /// Adds an entry at the end, where there is room. It takes no memory.
+    /// Adds an entry at the end, where there is room.
     pub fn push_reserved(&mut self, entry: Entry)
         requires { 0 < self.old.room }
         ensures items { self.new.items ≡ self.old.items ++ plain_entry entry ∷ [] }

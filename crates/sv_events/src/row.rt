@@ -1,7 +1,7 @@
 ghost use Rattle.std.specs.Prelude.{◌≡◌};
 ghost use Rattle.std.specs.Option.{option_copied};
 ghost use Rattle.sv_events.specs.Answer.{plain_answer};
-ghost use Rattle.sv_events.specs.Fits.{fits};
+ghost use Rattle.sv_events.specs.Fits.{answer_fits};
 ghost use Rattle.sv_events.specs.Row.{act_row, answer_row, asking};
 
 use crate::event::{Act, Answer, Hold};
@@ -89,7 +89,7 @@ pub struct AnswerRow {
 }
 
 impl Act {
-    /// What the act does. No memory.
+    /// What the act does.
     pub fn row(&self) -> ActRow
         ensures { result ≡ (act_row self.now).row }
     {
@@ -143,7 +143,7 @@ impl Act {
 }
 
 impl Act {
-    /// The access that the act makes, if it makes one, without the rest of its row. No memory.
+    /// The access that the act makes, if it makes one, without the rest of its row.
     pub fn access(&self) -> Option<Accessing>
         ensures { result ≡ (act_row self.now).row.accesses }
     {
@@ -160,7 +160,7 @@ impl Act {
         }
     }
 
-    /// The value that the act hands in, if it does. No memory.
+    /// The value that the act hands in, if it does.
     pub fn hands_in(&self) -> Option<&Array>
         ensures { option_copied result ≡ (act_row self.now).hands_in }
     {
@@ -186,7 +186,7 @@ fn asking(question: Question) -> ActRow
 }
 
 impl Answer {
-    /// What the answer says. No memory.
+    /// What the answer says.
     pub fn row(&self) -> AnswerRow
         ensures { result ≡ (answer_row (plain_answer self.now)).row }
     {
@@ -218,7 +218,7 @@ impl Answer {
         }
     }
 
-    /// The value in the answer, if it has one. No memory.
+    /// The value in the answer, if it has one.
     pub fn value(&self) -> Option<&Array>
         ensures { option_copied result ≡ (answer_row (plain_answer self.now)).value }
     {
@@ -229,7 +229,7 @@ impl Answer {
         }
     }
 
-    /// The parties that the answer lists, if it does. No memory.
+    /// The parties that the answer lists, if it does.
     pub fn parties(&self) -> Option<&[u32]>
         ensures { option_copied result ≡ (answer_row (plain_answer self.now)).parties }
     {
@@ -239,7 +239,7 @@ impl Answer {
         }
     }
 
-    /// The names that the answer lists, if it does. No memory.
+    /// The names that the answer lists, if it does.
     pub fn names(&self) -> Option<&[Name]>
         ensures { option_copied result ≡ (answer_row (plain_answer self.now)).names }
     {
@@ -273,9 +273,9 @@ impl Answer {
 }
 
 /// Whether the answer may be given to the act: it is of a kind that answers it, a degree is 0, 1 or 2, and an element is
-/// from 1 to 4. `Full` may be given to every act but a leave. No memory.
+/// from 1 to 4. `Full` may be given to every act but a leave.
 pub fn fits(act: &Act, answer: &Answer) -> bool
-    ensures { result ≡ fits act.now (plain_answer answer.now) }
+    ensures { result ≡ answer_fits act.now (plain_answer answer.now) }
 {
     fits_row(&act.row(), &answer.row())
 }

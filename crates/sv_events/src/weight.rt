@@ -11,7 +11,7 @@ use apl_arrays::Array;
 const LISTED_WEIGHT: u64 = 8;
 
 impl Act {
-    /// How many elements the act weighs: those of the value that it hands in. No memory.
+    /// How many elements the act weighs: those of the value that it hands in.
     pub fn weight(&self) -> u64
         ensures count { result ≡ act_weight self.now }
         ensures limit { result ≤ most_elements }
@@ -22,7 +22,7 @@ impl Act {
 
 impl Answer {
     /// How many elements the answer weighs: those of its value, and 8 for each party or name that it lists; the greatest
-    /// number of 64 bits where they are more. No memory.
+    /// number of 64 bits where they are more.
     pub fn weight(&self) -> u64
         ensures { result ≡ min (answer_weight (plain_answer self.now)) (2 ^ 64 - 1) }
     {

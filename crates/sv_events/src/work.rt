@@ -31,7 +31,7 @@ const ALL_CONTROLLED: Control = Control([true, true, true, true]);
 // Most glyphs of the local name of a counter-offer: a letter and the digits of a number of 64 bits.
 const COUNTER_NAME_LIMIT: usize = 21;
 
-/// The act of some work, whose entry has this place, with the reply where the work is one. No memory.
+/// The act of some work, whose entry has this place, with the reply where the work is one.
 pub fn act_of(work: Work, place: u64, reply: Option<Array>) -> Act
     requires { IsSome (act_of work place reply) }
     ensures { act_of work place reply ≡ Some result }
@@ -72,7 +72,7 @@ fn replied_name(work: Work) -> Name
     }
 }
 
-// The local name of a counter-offer: S and the place of its entry. No memory.
+// The local name of a counter-offer: S and the place of its entry.
 fn counter_name(place: u64) -> Name
     ensures { result ≡ counter_name place }
 {

@@ -7,9 +7,9 @@ use Rattle.sv_access.specs.declared.control.Control.{Control}
 use Rattle.sv_access.specs.Control.{four_elements}
 use Rattle.sv_events.specs.declared.event.Act.{Act}
 use Rattle.sv_events.specs.declared.event.Act.TheVariants as act
-use Rattle.text_reader.specs.Reading.{Reader, ◌>>=◌, as_read, literal_at}
+use Rattle.text_reader.specs.Reading.{Reader, ◌>>=◌, as_read, read_literal}
 use Rattle.sv_text.specs.Value.{IsValue, IsValueOrNone}
-use Rattle.sv_text.specs.ValueReading.{array_at, value_at}
+use Rattle.sv_text.specs.ValueReading.{read_array, read_value}
 use Rattle.sv_text.specs.ValueText.{array_text, value_text}
 use Rattle.sv_text.proofs.ArrayForms.{reads_array, reads_value, a_value}
 use Rattle.text_reader.proofs.NameForms.{NoName}
@@ -17,12 +17,12 @@ use Rattle.text_reader.proofs.NumberForms.{NoDigit}
 use Rattle.text_reader.proofs.Readers.{SameFirst, Anything, IsReader, reformed, after_text, then_read, made, made_of, nothing_more, no_further}
 use Rattle.sv_journal.specs.declared.act_word.ActWord.{ActWord}
 use Rattle.sv_journal.specs.declared.act_word.ActWord.TheVariants.{Offer, Retract, SetControl, AskControl, AskState, AskDegree, AskParties, AskNames, Set, Use, Leave}
-use Rattle.sv_journal.specs.ActReading.{local_at, party_at, OfferParts, make_offer, offer_parts_at, set_control_parts_at, set_parts_at, act_behind, act_at}
-use Rattle.sv_journal.specs.ActWord.{act_words, act_word, word_of}
+use Rattle.sv_journal.specs.ActReading.{read_local, read_party, OfferParts, make_offer, read_offer_parts, read_set_control_parts, read_set_parts, act_behind, read_act}
+use Rattle.sv_journal.specs.ActWord.{act_words, act_word, word_of_act}
 use Rattle.sv_journal.specs.EntryText.{act_text}
-use Rattle.sv_journal.specs.HoldReading.{control_at}
+use Rattle.sv_journal.specs.HoldReading.{read_control}
 use Rattle.sv_journal.specs.IsEntry.{IsPartyNumber, IsControl, IsAct}
-use Rattle.sv_journal.specs.WordReading.{word_at}
+use Rattle.sv_journal.specs.WordReading.{read_word}
 use Rattle.sv_journal.proofs.WordForms.{Member, AreApart, reads_word}
 use Rattle.sv_journal.proofs.FieldForms.{Ends, party_text, local_text, reads_party, a_name, reads_local}
 use Rattle.sv_journal.proofs.ControlForms.{control_behind_text, reads_control, some_control, some_control_is}
@@ -70,13 +70,13 @@ abbrev pub offer_parts_text : OfferParts → List ℕ
 offer_parts_text p = party_text p.0 ++ local_part p
 
 handed_at : ℕ → List ℕ → List ℕ → Reader OfferParts
-handed_at to local surrogate line = literal_at (codes " ") line >>= λ rest. as_read (λ v. parts_of to local surrogate v) (value_at rest)
+handed_at to local surrogate line = read_literal (codes " ") line >>= λ rest. as_read (λ v. parts_of to local surrogate v) (read_value rest)
 
 reads_handed : (to : ℕ) (local surrogate : List ℕ) → IsPartyNumber to → IsName local → IsName surrogate → IsReader value_part (AtSurrogate to local surrogate) NoDigit SameFirst (handed_at to local surrogate)
 unfolding handed_at parts_of
 reads_handed to local surrogate a b c =
-    after_text (codes " ") (λ p. value_text p.3) (AtSurrogate to local surrogate) NoDigit SameFirst (λ rest. as_read (λ v. parts_of to local surrogate v) (value_at rest)) (parts_of to local surrogate None) (parts_fit to local surrogate a b c None tt)
-    (made value_text IsValueOrNone NoDigit SameFirst value_at (λ v. parts_of to local surrogate v) (λ p. p.3) (AtSurrogate to local surrogate) reads_value (parts_value to local surrogate) (parts_again to local surrogate) (parts_fit to local surrogate a b c) (λ v h. refl))
+    after_text (codes " ") (λ p. value_text p.3) (AtSurrogate to local surrogate) NoDigit SameFirst (λ rest. as_read (λ v. parts_of to local surrogate v) (read_value rest)) (parts_of to local surrogate None) (parts_fit to local surrogate a b c None tt)
+    (made value_text IsValueOrNone NoDigit SameFirst read_value (λ v. parts_of to local surrogate v) (λ p. p.3) (AtSurrogate to local surrogate) reads_value (parts_value to local surrogate) (parts_again to local surrogate) (parts_fit to local surrogate a b c) (λ v h. refl))
 
 surrogate_fits : (to : ℕ) (local : List ℕ) (p : OfferParts) → AtLocal to local p → IsName p.2
 unfolding AtLocal AtParty OfferOk
@@ -109,25 +109,25 @@ some_party to a =
     (parts_of to (65 ∷ []) (65 ∷ []) None, h.1.1.0, h.1.1.1)
 
 surrogate_at : ℕ → List ℕ → Reader OfferParts
-surrogate_at to local line = local_at line >>= λ found. handed_at to local found.0 found.1
+surrogate_at to local line = read_local line >>= λ found. handed_at to local found.0 found.1
 
 reads_surrogate : (to : ℕ) (local : List ℕ) → IsPartyNumber to → IsName local → IsReader surrogate_part (AtLocal to local) NoDigit SameFirst (surrogate_at to local)
 unfolding surrogate_at AtSurrogate
 reads_surrogate to local a b =
-    then_read local_text IsName NoName (λ p. p.2) value_part (AtLocal to local) NoDigit SameFirst local_at (handed_at to local) no_further reads_local (λ s c. reads_handed to local s a b c) (surrogate_fits to local) (λ e behind h follow. refl) (λ s c. some_surrogate to local s a b c)
+    then_read local_text IsName NoName (λ p. p.2) value_part (AtLocal to local) NoDigit SameFirst read_local (handed_at to local) no_further reads_local (λ s c. reads_handed to local s a b c) (surrogate_fits to local) (λ e behind h follow. refl) (λ s c. some_surrogate to local s a b c)
 
 local_and_more_at : ℕ → Reader OfferParts
-local_and_more_at to line = local_at line >>= λ found. surrogate_at to found.0 found.1
+local_and_more_at to line = read_local line >>= λ found. surrogate_at to found.0 found.1
 
 reads_local_part : (to : ℕ) → IsPartyNumber to → IsReader local_part (AtParty to) NoDigit SameFirst (local_and_more_at to)
 unfolding local_and_more_at AtLocal
 reads_local_part to a =
-    then_read local_text IsName NoName (λ p. p.1) surrogate_part (AtParty to) NoDigit SameFirst local_at (surrogate_at to) no_further reads_local (λ l b. reads_surrogate to l a b) (local_fits to) (λ e behind h follow. refl) (λ l b. some_local to l a b)
+    then_read local_text IsName NoName (λ p. p.1) surrogate_part (AtParty to) NoDigit SameFirst read_local (surrogate_at to) no_further reads_local (λ l b. reads_surrogate to l a b) (local_fits to) (λ e behind h follow. refl) (λ l b. some_local to l a b)
 
-reads_offer_parts : IsReader offer_parts_text OfferOk NoDigit SameFirst offer_parts_at
-unfolding offer_parts_at local_and_more_at surrogate_at handed_at parts_of AtParty
+reads_offer_parts : IsReader offer_parts_text OfferOk NoDigit SameFirst read_offer_parts
+unfolding read_offer_parts local_and_more_at surrogate_at handed_at parts_of AtParty
 reads_offer_parts =
-    then_read party_text IsPartyNumber NoDigit (λ p. p.0) local_part OfferOk NoDigit SameFirst party_at local_and_more_at no_further reads_party reads_local_part party_fits (λ e behind h follow. refl) some_party
+    then_read party_text IsPartyNumber NoDigit (λ p. p.0) local_part OfferOk NoDigit SameFirst read_party local_and_more_at no_further reads_party reads_local_part party_fits (λ e behind h follow. refl) some_party
 
 -- a name and a control
 
@@ -140,11 +140,11 @@ ControlOk p = IsName p.0 × IsControl p.1
 control_parts : List ℕ → Control → ControlParts
 control_parts local control = (local, control)
 
-reads_control_parts : IsReader (λ p. local_text p.0 ++ control_behind_text p.1) ControlOk NoDigit SameFirst set_control_parts_at
-unfolding set_control_parts_at ControlOk control_parts some_control
+reads_control_parts : IsReader (λ p. local_text p.0 ++ control_behind_text p.1) ControlOk NoDigit SameFirst read_set_control_parts
+unfolding read_set_control_parts ControlOk control_parts some_control
 reads_control_parts =
-    then_read local_text IsName NoName (λ p. p.0) (λ p. control_behind_text p.1) ControlOk NoDigit SameFirst local_at (λ l line. as_read (control_parts l) (control_at line)) no_further reads_local
-    (λ l h. made control_behind_text IsControl NoDigit SameFirst control_at (control_parts l) (λ p. p.1) (λ p. (p.0 ≡ l) × ControlOk p) reads_control (λ e f. f.1.1) (λ e f. ap (λ x. control_parts x e.1) (sym f.0)) (λ c f. (refl, (h, f))) (λ c f. refl))
+    then_read local_text IsName NoName (λ p. p.0) (λ p. control_behind_text p.1) ControlOk NoDigit SameFirst read_local (λ l line. as_read (control_parts l) (read_control line)) no_further reads_local
+    (λ l h. made control_behind_text IsControl NoDigit SameFirst read_control (control_parts l) (λ p. p.1) (λ p. (p.0 ≡ l) × ControlOk p) reads_control (λ e f. f.1.1) (λ e f. ap (λ x. control_parts x e.1) (sym f.0)) (λ c f. (refl, (h, f))) (λ c f. refl))
     (λ e h. h.0) (λ e behind h follow. refl) (λ l h. ((l, some_control), refl, (h, some_control_is)))
 
 -- a name and an array
@@ -158,12 +158,12 @@ SetOk p = IsName p.0 × IsValue p.1
 set_parts : List ℕ → PlainArray → SetParts
 set_parts local new = (local, new)
 
-reads_set_parts : IsReader (λ p. local_text p.0 ++ (codes " " ++ array_text p.1)) SetOk NoDigit SameFirst set_parts_at
-unfolding set_parts_at SetOk set_parts
+reads_set_parts : IsReader (λ p. local_text p.0 ++ (codes " " ++ array_text p.1)) SetOk NoDigit SameFirst read_set_parts
+unfolding read_set_parts SetOk set_parts
 reads_set_parts =
-    then_read local_text IsName NoName (λ p. p.0) (λ p. codes " " ++ array_text p.1) SetOk NoDigit SameFirst local_at (λ l line. literal_at (codes " ") line >>= λ rest. as_read (set_parts l) (array_at rest)) no_further reads_local
-    (λ l h. after_text (codes " ") (λ p. array_text p.1) (λ p. (p.0 ≡ l) × SetOk p) NoDigit SameFirst (λ rest. as_read (set_parts l) (array_at rest)) (l, a_value.0) (refl, (h, a_value.1))
-    (made array_text IsValue NoDigit SameFirst array_at (set_parts l) (λ p. p.1) (λ p. (p.0 ≡ l) × SetOk p) reads_array (λ e f. f.1.1) (λ e f. ap (λ x. set_parts x e.1) (sym f.0)) (λ c f. (refl, (h, f))) (λ c f. refl)))
+    then_read local_text IsName NoName (λ p. p.0) (λ p. codes " " ++ array_text p.1) SetOk NoDigit SameFirst read_local (λ l line. read_literal (codes " ") line >>= λ rest. as_read (set_parts l) (read_array rest)) no_further reads_local
+    (λ l h. after_text (codes " ") (λ p. array_text p.1) (λ p. (p.0 ≡ l) × SetOk p) NoDigit SameFirst (λ rest. as_read (set_parts l) (read_array rest)) (l, a_value.0) (refl, (h, a_value.1))
+    (made array_text IsValue NoDigit SameFirst read_array (set_parts l) (λ p. p.1) (λ p. (p.0 ≡ l) × SetOk p) reads_array (λ e f. f.1.1) (λ e f. ap (λ x. set_parts x e.1) (sym f.0)) (λ c f. (refl, (h, f))) (λ c f. refl)))
     (λ e h. h.0) (λ e behind h follow. refl) (λ l h. ((l, a_value.0), refl, (h, a_value.1)))
 
 -- what stands behind the word of an act
@@ -180,7 +180,7 @@ args_text (act.Set local new) = local_text local ++ (codes " " ++ array_text new
 args_text (act.Use local) = local_text local
 args_text act.Leave = []
 
-act_spelled : (a : Act) → act_word (word_of a) ++ args_text a ≡ act_text a
+act_spelled : (a : Act) → act_word (word_of_act a) ++ args_text a ≡ act_text a
 act_spelled (act.Offer to local surrogate handed) = refl
 act_spelled (act.Retract local) = refl
 act_spelled (act.SetControl local control) = refl
@@ -207,7 +207,7 @@ ActOk Set a = (p : SetParts) × (a ≡ act.Set p.0 p.1) × SetOk p
 ActOk Use a = (l : List ℕ) × (a ≡ act.Use l) × IsName l
 ActOk Leave a = a ≡ act.Leave
 
-act_parts : (a : Act) → IsAct a → ActOk (word_of a) a
+act_parts : (a : Act) → IsAct a → ActOk (word_of_act a) a
 unfolding ActOk OfferOk ControlOk SetOk
 act_parts (act.Offer to local surrogate handed) h = ((to, local, surrogate, handed), refl, h)
 act_parts (act.Retract local) h = (local, refl, h)
@@ -222,7 +222,7 @@ act_parts (act.Use local) h = (local, refl, h)
 act_parts act.Leave h = refl
 
 abbrev pub IsOf : ActWord → Act → Type 0
-IsOf word a = (word_of a ≡ word) × IsAct a
+IsOf word a = (word_of_act a ≡ word) × IsAct a
 
 act_there : (word : ActWord) (a : Act) → ActOk word a → IsOf word a
 unfolding ActOk OfferOk ControlOk SetOk
@@ -245,9 +245,9 @@ local_ends : (reader : Reader (List ℕ)) → IsReader local_text IsName NoName 
 local_ends reader is =
     reformed local_text local_text IsName IsName NoName Ends SameFirst reader (λ e h. h) (λ e h. h) (λ e h. refl) (λ behind h. h.names) is
 
-reads_named : (make : List ℕ → Act) → ((l : List ℕ) → local_text l ≡ args_text (make l)) → IsReader args_text (λ a. (l : List ℕ) × (a ≡ make l) × IsName l) Ends SameFirst (λ line. as_read make (local_at line))
+reads_named : (make : List ℕ → Act) → ((l : List ℕ) → local_text l ≡ args_text (make l)) → IsReader args_text (λ a. (l : List ℕ) × (a ≡ make l) × IsName l) Ends SameFirst (λ line. as_read make (read_local line))
 reads_named make same =
-    made_of local_text IsName Ends SameFirst local_at make args_text (λ l h. same l) (local_ends local_at reads_local)
+    made_of local_text IsName Ends SameFirst read_local make args_text (λ l h. same l) (local_ends read_local reads_local)
 
 numbers_end : {V : Type 0} (text : V → List ℕ) (ok : V → Type 0) (reader : Reader V) → IsReader text ok NoDigit SameFirst reader → IsReader text ok Ends SameFirst reader
 numbers_end text ok reader is =
@@ -260,18 +260,18 @@ alone a none =
 reads_behind : (word : ActWord) → IsReader args_text (ActOk word) Ends SameFirst (act_behind word)
 unfolding ActOk
 reads_behind Offer =
-    made_of offer_parts_text OfferOk Ends SameFirst offer_parts_at make_offer args_text (λ p h. refl) (numbers_end offer_parts_text OfferOk offer_parts_at reads_offer_parts)
+    made_of offer_parts_text OfferOk Ends SameFirst read_offer_parts make_offer args_text (λ p h. refl) (numbers_end offer_parts_text OfferOk read_offer_parts reads_offer_parts)
 reads_behind Retract = reads_named act.Retract (λ l. refl)
 reads_behind SetControl =
-    made_of (λ p. local_text p.0 ++ control_behind_text p.1) ControlOk Ends SameFirst set_control_parts_at (λ parts. act.SetControl parts.0 parts.1) args_text (λ p h. refl) (numbers_end (λ p. local_text p.0 ++ control_behind_text p.1) ControlOk set_control_parts_at reads_control_parts)
+    made_of (λ p. local_text p.0 ++ control_behind_text p.1) ControlOk Ends SameFirst read_set_control_parts (λ parts. act.SetControl parts.0 parts.1) args_text (λ p h. refl) (numbers_end (λ p. local_text p.0 ++ control_behind_text p.1) ControlOk read_set_control_parts reads_control_parts)
 reads_behind AskControl = reads_named act.AskControl (λ l. refl)
 reads_behind AskState = reads_named act.AskState (λ l. refl)
 reads_behind AskDegree = reads_named act.AskDegree (λ l. refl)
 reads_behind AskParties = alone act.AskParties refl
 reads_behind AskNames =
-    made_of party_text IsPartyNumber Ends SameFirst party_at act.AskNames args_text (λ n h. refl) (numbers_end party_text IsPartyNumber party_at reads_party)
+    made_of party_text IsPartyNumber Ends SameFirst read_party act.AskNames args_text (λ n h. refl) (numbers_end party_text IsPartyNumber read_party reads_party)
 reads_behind Set =
-    made_of (λ p. local_text p.0 ++ (codes " " ++ array_text p.1)) SetOk Ends SameFirst set_parts_at (λ parts. act.Set parts.0 parts.1) args_text (λ p h. refl) (numbers_end (λ p. local_text p.0 ++ (codes " " ++ array_text p.1)) SetOk set_parts_at reads_set_parts)
+    made_of (λ p. local_text p.0 ++ (codes " " ++ array_text p.1)) SetOk Ends SameFirst read_set_parts (λ parts. act.Set parts.0 parts.1) args_text (λ p h. refl) (numbers_end (λ p. local_text p.0 ++ (codes " " ++ array_text p.1)) SetOk read_set_parts reads_set_parts)
 reads_behind Use = reads_named act.Use (λ l. refl)
 reads_behind Leave = alone act.Leave refl
 
@@ -308,7 +308,7 @@ every_word Set = inr (inr (inr (inr (inr (inr (inr (inr (inl refl))))))))
 every_word Use = inr (inr (inr (inr (inr (inr (inr (inr (inr (inl refl)))))))))
 every_word Leave = inr (inr (inr (inr (inr (inr (inr (inr (inr (inr (inl refl))))))))))
 
-pub some_act : (w : ActWord) → (a : Act) × (word_of a ≡ w) × IsAct a
+pub some_act : (w : ActWord) → (a : Act) × (word_of_act a ≡ w) × IsAct a
 some_act Offer = (act.Offer 0 (65 ∷ []) (65 ∷ []) None, refl, (omega arith, a_name, a_name, tt))
 some_act Retract = (act.Retract (65 ∷ []), refl, a_name)
 some_act SetControl = (act.SetControl (65 ∷ []) (four_elements true true true true), refl, (a_name, refl))
@@ -322,11 +322,11 @@ some_act Use = (act.Use (65 ∷ []), refl, a_name)
 some_act Leave = (act.Leave, refl, tt)
 
 -- an act is read
-pub reads_act : IsReader act_text IsAct Ends SameFirst act_at
-unfolding act_at
+pub reads_act : IsReader act_text IsAct Ends SameFirst read_act
+unfolding read_act
 reads_act line a =
-    let both : IsReader (λ e. act_word (word_of e) ++ args_text e) IsAct Ends SameFirst (λ line. word_at act_word 0 act_words line >>= λ word. act_behind word.0 word.1) =
-    then_read act_word (λ w. Member w act_words) Anything word_of args_text IsAct Ends SameFirst (word_at act_word 0 act_words) act_behind no_further (reads_word act_word act_words acts_apart Offer (inl refl))
+    let both : IsReader (λ e. act_word (word_of_act e) ++ args_text e) IsAct Ends SameFirst (λ line. read_word act_word 0 act_words line >>= λ word. act_behind word.0 word.1) =
+    then_read act_word (λ w. Member w act_words) Anything word_of_act args_text IsAct Ends SameFirst (read_word act_word 0 act_words) act_behind no_further (reads_word act_word act_words acts_apart Offer (inl refl))
     (λ w h. reformed args_text args_text (ActOk w) (IsOf w) Ends Ends SameFirst (act_behind w) (act_back w) (act_there w) (λ e f. refl) (λ behind f. f) (reads_behind w))
-    (λ e h. every_word (word_of e)) (λ e behind h follow. tt) (λ w h. some_act w) in
-    reformed (λ e. act_word (word_of e) ++ args_text e) act_text IsAct IsAct Ends Ends SameFirst (λ line. word_at act_word 0 act_words line >>= λ word. act_behind word.0 word.1) (λ e h. h) (λ e h. h) (λ e h. act_spelled e) (λ behind h. h) both line a
+    (λ e h. every_word (word_of_act e)) (λ e behind h follow. tt) (λ w h. some_act w) in
+    reformed (λ e. act_word (word_of_act e) ++ args_text e) act_text IsAct IsAct Ends Ends SameFirst (λ line. read_word act_word 0 act_words line >>= λ word. act_behind word.0 word.1) (λ e h. h) (λ e h. h) (λ e h. act_spelled e) (λ behind h. h) both line a

@@ -12,19 +12,19 @@ use Rattle.sv_events.specs.Row.{answer_row}
 use Rattle.sv_events.specs.declared.event.Hold.{Hold}
 use Rattle.sv_events.specs.declared.row.AnswerKind.{AnswerKind}
 use Rattle.sv_events.specs.declared.row.AnswerKind.TheVariants.{Degree, Granted, Value, NoValue, Held, Abandoned, NotShared, OfferLimit, Full, Vector, Parties, Names, Kept, Done}
-use Rattle.text_reader.specs.Reading.{Reader, ◌>>=◌, as_read, literal_at}
-use Rattle.text_reader.specs.NumberReading.{number_at}
+use Rattle.text_reader.specs.Reading.{Reader, ◌>>=◌, as_read, read_literal}
+use Rattle.text_reader.specs.NumberReading.{read_number}
 use Rattle.sv_text.specs.Value.{IsValue, IsValueOrNone}
-use Rattle.sv_text.specs.ValueReading.{array_at, value_at}
+use Rattle.sv_text.specs.ValueReading.{read_array, read_value}
 use Rattle.sv_text.specs.ValueText.{array_text, value_text}
 use Rattle.sv_text.proofs.ArrayForms.{reads_array, reads_value, a_value}
 use Rattle.text_reader.proofs.NumberForms.{InRange, NoDigit, reads_number}
 use Rattle.text_reader.proofs.Readers.{SameFirst, Anything, IsReader, farther, reformed, after_text, then_read, made, made_of, nothing_more, no_further}
-use Rattle.sv_journal.specs.AnswerReading.{kind_word, degree_at, told_at, kept_parts_at, parties_at, names_at, answer_behind, answer_at}
+use Rattle.sv_journal.specs.AnswerReading.{kind_word, read_degree, read_told, read_kept_parts, read_parties, read_names, answer_behind, read_answer}
 use Rattle.sv_journal.specs.EntryText.{owners_text, hold_text, answer_text}
-use Rattle.sv_journal.specs.HoldReading.{control_at, hold_at}
+use Rattle.sv_journal.specs.HoldReading.{read_control, read_hold}
 use Rattle.sv_journal.specs.IsEntry.{IsPartyNumber, IsControl}
-use Rattle.sv_journal.specs.WordReading.{word_at}
+use Rattle.sv_journal.specs.WordReading.{read_word}
 use Rattle.sv_journal.proofs.ControlForms.{control_behind_text, reads_control}
 use Rattle.sv_journal.proofs.FieldForms.{party_text, local_text}
 use Rattle.sv_journal.proofs.SameEntries.{listed, names_listed}
@@ -42,16 +42,16 @@ IsDegree d = InRange 0 2 d
 nought_is_degree : IsDegree 0
 nought_is_degree = record { least = omega arith; most = omega arith }
 
-reads_degree : IsReader degree_behind_text IsDegree NoDigit SameFirst degree_at
-unfolding degree_at degree_behind_text
-reads_degree = after_text (codes " ") decimal IsDegree NoDigit SameFirst (number_at 0 2) 0 nought_is_degree (reads_number 0 2 (omega arith) (omega arith))
+reads_degree : IsReader degree_behind_text IsDegree NoDigit SameFirst read_degree
+unfolding read_degree degree_behind_text
+reads_degree = after_text (codes " ") decimal IsDegree NoDigit SameFirst (read_number 0 2) 0 nought_is_degree (reads_number 0 2 (omega arith) (omega arith))
 
 value_behind_text : PlainArray → List ℕ
 value_behind_text v = 32 ∷ array_text v
 
-reads_told : IsReader value_behind_text IsValue NoDigit SameFirst told_at
-unfolding told_at value_behind_text
-reads_told = after_text (codes " ") array_text IsValue NoDigit SameFirst array_at a_value.0 a_value.1 reads_array
+reads_told : IsReader value_behind_text IsValue NoDigit SameFirst read_told
+unfolding read_told value_behind_text
+reads_told = after_text (codes " ") array_text IsValue NoDigit SameFirst read_array a_value.0 a_value.1 reads_array
 
 abbrev pub HoldOk : Hold → Type 0
 HoldOk h = InRange 1 4 h.element
@@ -70,20 +70,20 @@ every_owner Mine = inl refl
 every_owner Partner = inr (inl refl)
 every_owner Both = inr (inr (inl refl))
 
-owners_part : (element : ℕ) → InRange 1 4 element → IsReader (λ h. codes " " ++ owners_text h.owners) (λ h. (h.element ≡ element) × HoldOk h) Anything SameFirst (λ line. literal_at (codes " ") line >>= λ rest. as_read (hold_of element) (word_at owners_text 0 (Mine ∷ Partner ∷ Both ∷ []) rest))
+owners_part : (element : ℕ) → InRange 1 4 element → IsReader (λ h. codes " " ++ owners_text h.owners) (λ h. (h.element ≡ element) × HoldOk h) Anything SameFirst (λ line. read_literal (codes " ") line >>= λ rest. as_read (hold_of element) (read_word owners_text 0 (Mine ∷ Partner ∷ Both ∷ []) rest))
 unfolding hold_of
 owners_part element fits =
-    after_text (codes " ") (λ h. owners_text h.owners) (λ h. (h.element ≡ element) × HoldOk h) Anything SameFirst (λ rest. as_read (hold_of element) (word_at owners_text 0 (Mine ∷ Partner ∷ Both ∷ []) rest)) (hold_of element Mine) (refl, fits)
-    (made owners_text (λ o. Member o (Mine ∷ Partner ∷ Both ∷ [])) Anything SameFirst (word_at owners_text 0 (Mine ∷ Partner ∷ Both ∷ [])) (hold_of element) (λ h. h.owners) (λ h. (h.element ≡ element) × HoldOk h) (reads_word owners_text (Mine ∷ Partner ∷ Both ∷ []) owners_apart Mine (inl refl)) (λ h f. every_owner h.owners) (λ h f. ap (λ e. hold_of e h.owners) (sym f.0)) (λ o f. (refl, fits)) (λ o f. refl))
+    after_text (codes " ") (λ h. owners_text h.owners) (λ h. (h.element ≡ element) × HoldOk h) Anything SameFirst (λ rest. as_read (hold_of element) (read_word owners_text 0 (Mine ∷ Partner ∷ Both ∷ []) rest)) (hold_of element Mine) (refl, fits)
+    (made owners_text (λ o. Member o (Mine ∷ Partner ∷ Both ∷ [])) Anything SameFirst (read_word owners_text 0 (Mine ∷ Partner ∷ Both ∷ [])) (hold_of element) (λ h. h.owners) (λ h. (h.element ≡ element) × HoldOk h) (reads_word owners_text (Mine ∷ Partner ∷ Both ∷ []) owners_apart Mine (inl refl)) (λ h f. every_owner h.owners) (λ h f. ap (λ e. hold_of e h.owners) (sym f.0)) (λ o f. (refl, fits)) (λ o f. refl))
 
 hold_behind_text : Hold → List ℕ
 hold_behind_text h = 32 ∷ hold_text h
 
-reads_hold : IsReader hold_behind_text HoldOk Anything SameFirst hold_at
-unfolding hold_at hold_behind_text hold_of
+reads_hold : IsReader hold_behind_text HoldOk Anything SameFirst read_hold
+unfolding read_hold hold_behind_text hold_of
 reads_hold =
-    after_text (codes " ") (λ h. decimal h.element ++ (codes " " ++ owners_text h.owners)) HoldOk Anything SameFirst (λ rest. number_at 1 4 rest >>= λ found. (literal_at (codes " ") found.1 >>= λ behind. as_read (hold_of found.0) (word_at owners_text 0 (Mine ∷ Partner ∷ Both ∷ []) behind))) (hold_of 1 Mine) (record { least = omega arith; most = omega arith })
-    (then_read decimal (InRange 1 4) NoDigit (λ h. h.element) (λ h. codes " " ++ owners_text h.owners) HoldOk Anything SameFirst (number_at 1 4) (λ element line. literal_at (codes " ") line >>= λ behind. as_read (hold_of element) (word_at owners_text 0 (Mine ∷ Partner ∷ Both ∷ []) behind)) no_further (reads_number 1 4 (omega arith) (omega arith)) owners_part (λ h f. f) (λ h behind f follow. refl) (λ n f. (hold_of n Mine, refl, f)))
+    after_text (codes " ") (λ h. decimal h.element ++ (codes " " ++ owners_text h.owners)) HoldOk Anything SameFirst (λ rest. read_number 1 4 rest >>= λ found. (read_literal (codes " ") found.1 >>= λ behind. as_read (hold_of found.0) (read_word owners_text 0 (Mine ∷ Partner ∷ Both ∷ []) behind))) (hold_of 1 Mine) (record { least = omega arith; most = omega arith })
+    (then_read decimal (InRange 1 4) NoDigit (λ h. h.element) (λ h. codes " " ++ owners_text h.owners) HoldOk Anything SameFirst (read_number 1 4) (λ element line. read_literal (codes " ") line >>= λ behind. as_read (hold_of element) (read_word owners_text 0 (Mine ∷ Partner ∷ Both ∷ []) behind)) no_further (reads_number 1 4 (omega arith) (omega arith)) owners_part (λ h f. f) (λ h behind f follow. refl) (λ n f. (hold_of n Mine, refl, f)))
 
 -- what is kept
 
@@ -96,12 +96,12 @@ KeptOk p = IsDegree p.0 × IsValueOrNone p.1
 kept_parts : ℕ → Option PlainArray → KeptParts
 kept_parts d known = (d, known)
 
-reads_kept_parts : IsReader (λ p. degree_behind_text p.0 ++ (codes " " ++ value_text p.1)) KeptOk NoDigit SameFirst kept_parts_at
-unfolding kept_parts_at kept_parts
+reads_kept_parts : IsReader (λ p. degree_behind_text p.0 ++ (codes " " ++ value_text p.1)) KeptOk NoDigit SameFirst read_kept_parts
+unfolding read_kept_parts kept_parts
 reads_kept_parts =
-    then_read degree_behind_text IsDegree NoDigit (λ p. p.0) (λ p. codes " " ++ value_text p.1) KeptOk NoDigit SameFirst degree_at (λ d line. literal_at (codes " ") line >>= λ rest. as_read (kept_parts d) (value_at rest)) no_further reads_degree
-    (λ d h. after_text (codes " ") (λ p. value_text p.1) (λ p. (p.0 ≡ d) × KeptOk p) NoDigit SameFirst (λ rest. as_read (kept_parts d) (value_at rest)) (d, None) (refl, (h, tt))
-    (made value_text IsValueOrNone NoDigit SameFirst value_at (kept_parts d) (λ p. p.1) (λ p. (p.0 ≡ d) × KeptOk p) reads_value (λ e f. f.1.1) (λ e f. ap (λ x. kept_parts x e.1) (sym f.0)) (λ v f. (refl, (h, f))) (λ v f. refl)))
+    then_read degree_behind_text IsDegree NoDigit (λ p. p.0) (λ p. codes " " ++ value_text p.1) KeptOk NoDigit SameFirst read_degree (λ d line. read_literal (codes " ") line >>= λ rest. as_read (kept_parts d) (read_value rest)) no_further reads_degree
+    (λ d h. after_text (codes " ") (λ p. value_text p.1) (λ p. (p.0 ≡ d) × KeptOk p) NoDigit SameFirst (λ rest. as_read (kept_parts d) (read_value rest)) (d, None) (refl, (h, tt))
+    (made value_text IsValueOrNone NoDigit SameFirst read_value (kept_parts d) (λ p. p.1) (λ p. (p.0 ≡ d) × KeptOk p) reads_value (λ e f. f.1.1) (λ e f. ap (λ x. kept_parts x e.1) (sym f.0)) (λ v f. (refl, (h, f))) (λ v f. refl)))
     (λ e h. h.0) (λ e behind h follow. refl) (λ d h. ((d, None), refl, (h, tt)))
 
 -- answers by their kinds
@@ -230,19 +230,19 @@ alone a none =
 
 reads_behind : (kind : AnswerKind) → IsReader args_text (AnswerOk kind) PairsBehind Farther (answer_behind kind)
 unfolding AnswerOk args_text
-reads_behind Degree = made_of degree_behind_text IsDegree PairsBehind Farther degree_at degree args_text (λ d h. refl) (nearer degree_behind_text IsDegree NoDigit degree_at digits_end reads_degree)
+reads_behind Degree = made_of degree_behind_text IsDegree PairsBehind Farther read_degree degree args_text (λ d h. refl) (nearer degree_behind_text IsDegree NoDigit read_degree digits_end reads_degree)
 reads_behind Granted = alone granted refl
-reads_behind Value = made_of value_behind_text IsValue PairsBehind Farther told_at value args_text (λ d h. refl) (nearer value_behind_text IsValue NoDigit told_at digits_end reads_told)
+reads_behind Value = made_of value_behind_text IsValue PairsBehind Farther read_told value args_text (λ d h. refl) (nearer value_behind_text IsValue NoDigit read_told digits_end reads_told)
 reads_behind NoValue = alone no_value refl
-reads_behind Held = made_of hold_behind_text HoldOk PairsBehind Farther hold_at held args_text (λ d h. refl) (nearer hold_behind_text HoldOk Anything hold_at (λ behind h. tt) reads_hold)
-reads_behind Abandoned = made_of hold_behind_text HoldOk PairsBehind Farther hold_at abandoned args_text (λ d h. refl) (nearer hold_behind_text HoldOk Anything hold_at (λ behind h. tt) reads_hold)
+reads_behind Held = made_of hold_behind_text HoldOk PairsBehind Farther read_hold held args_text (λ d h. refl) (nearer hold_behind_text HoldOk Anything read_hold (λ behind h. tt) reads_hold)
+reads_behind Abandoned = made_of hold_behind_text HoldOk PairsBehind Farther read_hold abandoned args_text (λ d h. refl) (nearer hold_behind_text HoldOk Anything read_hold (λ behind h. tt) reads_hold)
 reads_behind NotShared = alone not_shared refl
 reads_behind OfferLimit = alone offer_limit refl
 reads_behind Full = alone full refl
-reads_behind Vector = made_of control_behind_text IsControl PairsBehind Farther control_at vector args_text (λ d h. refl) (nearer control_behind_text IsControl NoDigit control_at digits_end reads_control)
-reads_behind Parties = made_of (flat_map party_text) (AllByRecursion IsPartyNumber) PairsBehind Farther parties_at parties args_text (λ d h. refl) reads_parties
-reads_behind Names = made_of (flat_map local_text) (AllByRecursion IsName) PairsBehind Farther names_at names args_text (λ d h. refl) reads_names
-reads_behind Kept = made_of (λ p. degree_behind_text p.0 ++ (codes " " ++ value_text p.1)) KeptOk PairsBehind Farther kept_parts_at (λ parts. kept parts.0 parts.1) args_text (λ d h. refl) (nearer (λ p. degree_behind_text p.0 ++ (codes " " ++ value_text p.1)) KeptOk NoDigit kept_parts_at digits_end reads_kept_parts)
+reads_behind Vector = made_of control_behind_text IsControl PairsBehind Farther read_control vector args_text (λ d h. refl) (nearer control_behind_text IsControl NoDigit read_control digits_end reads_control)
+reads_behind Parties = made_of (flat_map party_text) (AllByRecursion IsPartyNumber) PairsBehind Farther read_parties parties args_text (λ d h. refl) reads_parties
+reads_behind Names = made_of (flat_map local_text) (AllByRecursion IsName) PairsBehind Farther read_names names args_text (λ d h. refl) reads_names
+reads_behind Kept = made_of (λ p. degree_behind_text p.0 ++ (codes " " ++ value_text p.1)) KeptOk PairsBehind Farther read_kept_parts (λ parts. kept parts.0 parts.1) args_text (λ d h. refl) (nearer (λ p. degree_behind_text p.0 ++ (codes " " ++ value_text p.1)) KeptOk NoDigit read_kept_parts digits_end reads_kept_parts)
 reads_behind Done = alone done refl
 
 first_letters : List ℕ → ℕ
@@ -302,11 +302,11 @@ some_listed kinds kind h =
     (some.0, some.1, record { kind = subst (λ k. Member k kinds) (sym some.1) h; ranged = some.2 })
 
 -- an answer is read
-pub reads_answer : (kinds : List AnswerKind) (some : AnswerKind) → Member some kinds → IsReader answer_text (Listed kinds) PairsBehind Farther (answer_at kinds)
-unfolding answer_at
+pub reads_answer : (kinds : List AnswerKind) (some : AnswerKind) → Member some kinds → IsReader answer_text (Listed kinds) PairsBehind Farther (read_answer kinds)
+unfolding read_answer
 reads_answer kinds some here line a =
-    let both : IsReader (λ e. kind_word (kind_of e) ++ args_text e) (Listed kinds) PairsBehind Farther (λ line. word_at kind_word 0 kinds line >>= λ kind. answer_behind kind.0 kind.1) =
-    then_read kind_word (λ k. Member k kinds) Anything kind_of args_text (Listed kinds) PairsBehind Farther (word_at kind_word 0 kinds) answer_behind no_farther (reads_word kind_word kinds kinds_apart some here)
+    let both : IsReader (λ e. kind_word (kind_of e) ++ args_text e) (Listed kinds) PairsBehind Farther (λ line. read_word kind_word 0 kinds line >>= λ kind. answer_behind kind.0 kind.1) =
+    then_read kind_word (λ k. Member k kinds) Anything kind_of args_text (Listed kinds) PairsBehind Farther (read_word kind_word 0 kinds) answer_behind no_farther (reads_word kind_word kinds kinds_apart some here)
     (λ k h. reformed args_text args_text (AnswerOk k) (λ e. (kind_of e ≡ k) × Listed kinds e) PairsBehind PairsBehind Farther (answer_behind k) (listed_back kinds k) (listed_there kinds k h) (λ e f. refl) (λ behind f. f) (reads_behind k))
     (λ e h. h.kind) (λ e behind h follow. tt) (some_listed kinds) in
-    reformed (λ e. kind_word (kind_of e) ++ args_text e) answer_text (Listed kinds) (Listed kinds) PairsBehind PairsBehind Farther (λ line. word_at kind_word 0 kinds line >>= λ kind. answer_behind kind.0 kind.1) (λ e h. h) (λ e h. h) (λ e h. answer_spelled e) (λ behind h. h) both line a
+    reformed (λ e. kind_word (kind_of e) ++ args_text e) answer_text (Listed kinds) (Listed kinds) PairsBehind PairsBehind Farther (λ line. read_word kind_word 0 kinds line >>= λ kind. answer_behind kind.0 kind.1) (λ e h. h) (λ e h. h) (λ e h. answer_spelled e) (λ behind h. h) both line a

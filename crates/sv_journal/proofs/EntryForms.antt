@@ -9,17 +9,17 @@ use Rattle.sv_events.specs.declared.entry.Pair.{Pair}
 use Rattle.sv_events.specs.declared.row.AnswerKind.{AnswerKind}
 use Rattle.sv_events.specs.declared.row.AnswerKind.TheVariants as told
 use Rattle.apl_arrays.specs.List.{first_of, others_of}
-use Rattle.text_reader.specs.Reading.{Reader, Reading, ◌>>=◌, as_read, begins_with, literal_at}
-use Rattle.text_reader.specs.NumberReading.{number_at}
+use Rattle.text_reader.specs.Reading.{Reader, Reading, ◌>>=◌, as_read, begins_with, read_literal}
+use Rattle.text_reader.specs.NumberReading.{read_number}
 use Rattle.text_reader.proofs.NumberForms.{InRange, NoDigit, reads_number}
 use Rattle.text_reader.proofs.Told.{second_told}
 use Rattle.text_reader.proofs.Readers.{SameFirst, Found, Stopped, Reads, IsReader, AreGlyphs, glyphs_behind, same_behind, same_end, cancelled, reformed, after_text, then_read, then_stopped, made, no_further}
 use Rattle.sv_journal.specs.declared.act_word.ActWord.{ActWord}
 use Rattle.sv_journal.specs.declared.act_word.ActWord.TheVariants.{Offer, Retract, SetControl, AskControl, AskState, AskDegree, AskParties, AskNames, Set, Use, Leave}
-use Rattle.sv_journal.specs.ActReading.{act_at, party_at}
-use Rattle.sv_journal.specs.ActWord.{word_of, answers_to}
-use Rattle.sv_journal.specs.AnswerReading.{answer_at}
-use Rattle.sv_journal.specs.EntryReading.{pairs_at, entry_at}
+use Rattle.sv_journal.specs.ActReading.{read_act, read_party}
+use Rattle.sv_journal.specs.ActWord.{word_of_act, answers_to}
+use Rattle.sv_journal.specs.AnswerReading.{read_answer}
+use Rattle.sv_journal.specs.EntryReading.{read_pairs, read_entry}
 use Rattle.sv_journal.specs.EntryText.{act_text, answer_text, entry_text}
 use Rattle.sv_journal.specs.IsEntry.{IsPartyNumber, IsAct, IsPair}
 use Rattle.sv_journal.proofs.ActForms.{reads_act, some_act}
@@ -89,7 +89,7 @@ pub record EntryOk (e : Placed) : Type 0 where
   pub place : IsPlace e.0
   pub party : IsPartyNumber e.1.party
   pub act : IsAct e.1.act
-  pub answer : Listed (answers_to (word_of e.1.act)) e.1.answer
+  pub answer : Listed (answers_to (word_of_act e.1.act)) e.1.answer
   pub made : AllByRecursion IsPair e.1.made
 
 AtPlace : ℕ → Placed → Type 0
@@ -109,7 +109,7 @@ record Known (place party : ℕ) (act : Act) (answer : PlainAnswer) : Type 0 whe
   place_is : IsPlace place
   party_is : IsPartyNumber party
   act_is : IsAct act
-  answer_is : Listed (answers_to (word_of act)) answer
+  answer_is : Listed (answers_to (word_of_act act)) answer
 
 entry_there : (place party : ℕ) (act : Act) (answer : PlainAnswer) → Known place party act answer → (made : List Pair) → AllByRecursion IsPair made → AtAnswer place party act answer (entry_of place party act answer made)
 unfolding entry_of AtAnswer AtAct AtParty AtPlace
@@ -131,12 +131,12 @@ abbrev pub made_part : Placed → List ℕ
 made_part e = pairs_text e.1.made
 
 made_at : ℕ → ℕ → Act → PlainAnswer → Reader Placed
-made_at place party act answer line = as_read (entry_of place party act answer) (pairs_at line)
+made_at place party act answer line = as_read (entry_of place party act answer) (read_pairs line)
 
 reads_made : (place party : ℕ) (act : Act) (answer : PlainAnswer) → Known place party act answer → IsReader made_part (AtAnswer place party act answer) Nothing SameFirst (made_at place party act answer)
 unfolding made_at entry_of
 reads_made place party act answer k =
-    made pairs_text (AllByRecursion IsPair) Nothing SameFirst pairs_at (entry_of place party act answer) (λ e. e.1.made) (AtAnswer place party act answer) reads_pairs (made_fits place party act answer) (entry_again place party act answer) (entry_there place party act answer k) (λ made h. refl)
+    made pairs_text (AllByRecursion IsPair) Nothing SameFirst read_pairs (entry_of place party act answer) (λ e. e.1.made) (AtAnswer place party act answer) reads_pairs (made_fits place party act answer) (entry_again place party act answer) (entry_there place party act answer k) (λ made h. refl)
 
 made_takes : (place party : ℕ) (act : Act) (answer : PlainAnswer) → Known place party act answer → (line : List ℕ) (left : ℕ) (g : Stopped made_part (AtAnswer place party act answer) Nothing line left) → begins_with 32 line ≡ true → g.part ≡ [] → ⊥
 unfolding entry_of
@@ -154,7 +154,7 @@ as_read_ends make (Err gone) ends y left e = absurd (let none : ⊥ = cc in none
 made_ends : (place party : ℕ) (act : Act) (answer : PlainAnswer) (line : List ℕ) → AreGlyphs line → (e : Placed) (left : List ℕ) → made_at place party act answer line ≡ Ok (e, left) → left ≡ []
 unfolding made_at
 made_ends place party act answer line a e left same =
-    as_read_ends (entry_of place party act answer) (pairs_at line) (pairs_end line a) e left same
+    as_read_ends (entry_of place party act answer) (read_pairs line) (pairs_end line a) e left same
 
 -- each act has some answer
 some_kind : (w : ActWord) → (kind : AnswerKind) × Member kind (answers_to w)
@@ -171,7 +171,7 @@ some_kind Use = (told.Value, inl refl)
 some_kind Leave = (told.Done, inl refl)
 
 answer_and_made_at : ℕ → ℕ → Act → Reader Placed
-answer_and_made_at place party act line = answer_at (answers_to (word_of act)) line >>= λ found. made_at place party act found.0 found.1
+answer_and_made_at place party act line = read_answer (answers_to (word_of_act act)) line >>= λ found. made_at place party act found.0 found.1
 
 abbrev pub answer_part : Placed → List ℕ
 answer_part e = answer_text e.1.answer ++ made_part e
@@ -181,45 +181,45 @@ record KnownAct (place party : ℕ) (act : Act) : Type 0 where
   party_is : IsPartyNumber party
   act_is : IsAct act
 
-with_answer : (place party : ℕ) (act : Act) (answer : PlainAnswer) → KnownAct place party act → Listed (answers_to (word_of act)) answer → Known place party act answer
+with_answer : (place party : ℕ) (act : Act) (answer : PlainAnswer) → KnownAct place party act → Listed (answers_to (word_of_act act)) answer → Known place party act answer
 with_answer place party act answer k h = record { place_is = k.place_is; party_is = k.party_is; act_is = k.act_is; answer_is = h }
 
-answer_fits : (place party : ℕ) (act : Act) (e : Placed) → AtAct place party act e → Listed (answers_to (word_of act)) e.1.answer
+answer_fits : (place party : ℕ) (act : Act) (e : Placed) → AtAct place party act e → Listed (answers_to (word_of_act act)) e.1.answer
 unfolding AtAct AtParty AtPlace
-answer_fits place party act e h = subst (λ a. Listed (answers_to (word_of a)) e.1.answer) h.0 h.1.1.1.answer
+answer_fits place party act e h = subst (λ a. Listed (answers_to (word_of_act a)) e.1.answer) h.0 h.1.1.1.answer
 
-some_answered : (place party : ℕ) (act : Act) → KnownAct place party act → (answer : PlainAnswer) → Listed (answers_to (word_of act)) answer → (e : Placed) × (e.1.answer ≡ answer) × AtAct place party act e
+some_answered : (place party : ℕ) (act : Act) → KnownAct place party act → (answer : PlainAnswer) → Listed (answers_to (word_of_act act)) answer → (e : Placed) × (e.1.answer ≡ answer) × AtAct place party act e
 unfolding entry_of AtAnswer
 some_answered place party act k answer h =
     let there = entry_there place party act answer (with_answer place party act answer k h) [] tt in
     (entry_of place party act answer [], there.0, there.1)
 
-answer_reading : (place party : ℕ) (act : Act) → KnownAct place party act → (line : List ℕ) → AreGlyphs line → (read : Reading PlainAnswer) → Reads answer_text (Listed (answers_to (word_of act))) PairsBehind Farther line read → Reads answer_part (AtAct place party act) Nothing SameFirst line (read >>= λ found. made_at place party act found.0 found.1)
+answer_reading : (place party : ℕ) (act : Act) → KnownAct place party act → (line : List ℕ) → AreGlyphs line → (read : Reading PlainAnswer) → Reads answer_text (Listed (answers_to (word_of_act act))) PairsBehind Farther line read → Reads answer_part (AtAct place party act) Nothing SameFirst line (read >>= λ found. made_at place party act found.0 found.1)
 unfolding AtAnswer
 answer_reading place party act k line a (Ok found) h =
     let known = with_answer place party act found.0 k h.fits in
     let rest = glyphs_behind line (answer_text found.0) found.1 h.whole a in
-    far_found answer_text (Listed (answers_to (word_of act))) (λ e. e.1.answer) made_part (AtAct place party act) (answer_fits place party act) (λ e behind fit nothing. subst (λ t. PairsBehind (made_part e ++ t)) (sym nothing) (pairs_behind e.1.made)) line found.0 found.1 h (made_at place party act found.0 found.1) (reads_made place party act found.0 known found.1 rest) (made_ends place party act found.0 found.1 rest) (made_takes place party act found.0 known found.1)
+    far_found answer_text (Listed (answers_to (word_of_act act))) (λ e. e.1.answer) made_part (AtAct place party act) (answer_fits place party act) (λ e behind fit nothing. subst (λ t. PairsBehind (made_part e ++ t)) (sym nothing) (pairs_behind e.1.made)) line found.0 found.1 h (made_at place party act found.0 found.1) (reads_made place party act found.0 known found.1 rest) (made_ends place party act found.0 found.1 rest) (made_takes place party act found.0 known found.1)
 answer_reading place party act k line a (Err left) h =
-    then_stopped answer_text (Listed (answers_to (word_of act))) PairsBehind (λ e. e.1.answer) made_part (AtAct place party act) Nothing (answer_fits place party act) (λ e behind fit nothing. subst (λ t. PairsBehind (made_part e ++ t)) (sym nothing) (pairs_behind e.1.made)) (some_answered place party act k) line left h
+    then_stopped answer_text (Listed (answers_to (word_of_act act))) PairsBehind (λ e. e.1.answer) made_part (AtAct place party act) Nothing (answer_fits place party act) (λ e behind fit nothing. subst (λ t. PairsBehind (made_part e ++ t)) (sym nothing) (pairs_behind e.1.made)) (some_answered place party act k) line left h
 
 reads_answered : (place party : ℕ) (act : Act) → KnownAct place party act → IsReader answer_part (AtAct place party act) Nothing SameFirst (answer_and_made_at place party act)
 unfolding answer_and_made_at
 reads_answered place party act k line a =
-    let kind = some_kind (word_of act) in
-    answer_reading place party act k line a (answer_at (answers_to (word_of act)) line) (reads_answer (answers_to (word_of act)) kind.0 kind.1 line a)
+    let kind = some_kind (word_of_act act) in
+    answer_reading place party act k line a (read_answer (answers_to (word_of_act act)) line) (reads_answer (answers_to (word_of_act act)) kind.0 kind.1 line a)
 
 abbrev pub behind_act_part : Placed → List ℕ
 behind_act_part e = codes " : " ++ answer_part e
 
 behind_act_at : ℕ → ℕ → Act → Reader Placed
-behind_act_at place party act line = literal_at (codes " : ") line >>= λ behind. answer_and_made_at place party act behind
+behind_act_at place party act line = read_literal (codes " : ") line >>= λ behind. answer_and_made_at place party act behind
 
 some_at_act : (place party : ℕ) (act : Act) → KnownAct place party act → (e : Placed) × (e.1.act ≡ act) × AtParty place party e
 unfolding AtAct
 some_at_act place party act k =
-    let kind = some_kind (word_of act) in
-    let answer = some_listed (answers_to (word_of act)) kind.0 kind.1 in
+    let kind = some_kind (word_of_act act) in
+    let answer = some_listed (answers_to (word_of_act act)) kind.0 kind.1 in
     let e = some_answered place party act k answer.0 answer.2 in
     (e.0, e.2.0, e.2.1)
 
@@ -233,7 +233,7 @@ abbrev pub act_part : Placed → List ℕ
 act_part e = codes " " ++ (act_text e.1.act ++ behind_act_part e)
 
 act_and_more_at : ℕ → ℕ → Reader Placed
-act_and_more_at place party line = literal_at (codes " ") line >>= λ rest. (act_at rest >>= λ found. behind_act_at place party found.0 found.1)
+act_and_more_at place party line = read_literal (codes " ") line >>= λ rest. (read_act rest >>= λ found. behind_act_at place party found.0 found.1)
 
 act_fits : (place party : ℕ) (e : Placed) → AtParty place party e → IsAct e.1.act
 unfolding AtParty AtPlace
@@ -250,14 +250,14 @@ reads_act_part : (place party : ℕ) → IsPlace place → IsPartyNumber party �
 unfolding act_and_more_at AtAct AtParty
 reads_act_part place party p q =
     let e = some_at_party place party p q in
-    after_text (codes " ") (λ e. act_text e.1.act ++ behind_act_part e) (AtParty place party) Nothing SameFirst (λ rest. act_at rest >>= λ found. behind_act_at place party found.0 found.1) e.0 (e.1, e.2)
-    (then_read act_text IsAct Ends (λ e. e.1.act) behind_act_part (AtParty place party) Nothing SameFirst act_at (behind_act_at place party) no_further reads_act (λ act h. reads_behind_act place party act (record { place_is = p; party_is = q; act_is = h })) (act_fits place party) (λ e behind h nothing. record { digits = refl; names = refl }) (λ act h. some_at_act place party act (record { place_is = p; party_is = q; act_is = h })))
+    after_text (codes " ") (λ e. act_text e.1.act ++ behind_act_part e) (AtParty place party) Nothing SameFirst (λ rest. read_act rest >>= λ found. behind_act_at place party found.0 found.1) e.0 (e.1, e.2)
+    (then_read act_text IsAct Ends (λ e. e.1.act) behind_act_part (AtParty place party) Nothing SameFirst read_act (behind_act_at place party) no_further reads_act (λ act h. reads_behind_act place party act (record { place_is = p; party_is = q; act_is = h })) (act_fits place party) (λ e behind h nothing. record { digits = refl; names = refl }) (λ act h. some_at_act place party act (record { place_is = p; party_is = q; act_is = h })))
 
 abbrev pub party_part : Placed → List ℕ
 party_part e = party_text e.1.party ++ act_part e
 
 party_and_more_at : ℕ → Reader Placed
-party_and_more_at place line = party_at line >>= λ found. act_and_more_at place found.0 found.1
+party_and_more_at place line = read_party line >>= λ found. act_and_more_at place found.0 found.1
 
 party_fits : (place : ℕ) (e : Placed) → AtPlace place e → IsPartyNumber e.1.party
 unfolding AtPlace
@@ -272,24 +272,24 @@ some_at_place place p =
 reads_party_part : (place : ℕ) → IsPlace place → IsReader party_part (AtPlace place) Nothing SameFirst (party_and_more_at place)
 unfolding party_and_more_at AtParty
 reads_party_part place p =
-    then_read party_text IsPartyNumber NoDigit (λ e. e.1.party) act_part (AtPlace place) Nothing SameFirst party_at (act_and_more_at place) no_further reads_party (λ party q. reads_act_part place party p q) (party_fits place) (λ e behind h nothing. refl) (λ party q. some_at_party place party p q)
+    then_read party_text IsPartyNumber NoDigit (λ e. e.1.party) act_part (AtPlace place) Nothing SameFirst read_party (act_and_more_at place) no_further reads_party (λ party q. reads_act_part place party p q) (party_fits place) (λ e behind h nothing. refl) (λ party q. some_at_party place party p q)
 
 abbrev pub placed_text : Placed → List ℕ
 placed_text e = decimal e.0 ++ party_part e
 
-reads_placed : IsReader placed_text EntryOk Nothing SameFirst entry_at
-unfolding entry_at party_and_more_at act_and_more_at behind_act_at answer_and_made_at made_at entry_of AtPlace
+reads_placed : IsReader placed_text EntryOk Nothing SameFirst read_entry
+unfolding read_entry party_and_more_at act_and_more_at behind_act_at answer_and_made_at made_at entry_of AtPlace
 reads_placed =
-    then_read decimal IsPlace NoDigit (λ e. e.0) party_part EntryOk Nothing SameFirst (number_at 1 (2 ^ 64 - 1)) party_and_more_at no_further (reads_number 1 (2 ^ 64 - 1) (omega arith) (omega arith)) reads_party_part (λ e h. h.place) (λ e behind h nothing. refl) some_at_place
+    then_read decimal IsPlace NoDigit (λ e. e.0) party_part EntryOk Nothing SameFirst (read_number 1 (2 ^ 64 - 1)) party_and_more_at no_further (reads_number 1 (2 ^ 64 - 1) (omega arith) (omega arith)) reads_party_part (λ e h. h.place) (λ e behind h nothing. refl) some_at_place
 
 placed_is : (e : Placed) → placed_text e ≡ entry_text e.0 e.1
 unfolding after_party
 placed_is e = sym (entry_parts e.0 e.1)
 
 -- an entry is read
-pub reads_entry : IsReader (λ e. entry_text e.0 e.1) EntryOk Nothing SameFirst entry_at
+pub reads_entry : IsReader (λ e. entry_text e.0 e.1) EntryOk Nothing SameFirst read_entry
 reads_entry =
-    reformed placed_text (λ e. entry_text e.0 e.1) EntryOk EntryOk Nothing Nothing SameFirst entry_at (λ e h. h) (λ e h. h) (λ e h. placed_is e) (λ behind h. h) reads_placed
+    reformed placed_text (λ e. entry_text e.0 e.1) EntryOk EntryOk Nothing Nothing SameFirst read_entry (λ e h. h) (λ e h. h) (λ e h. placed_is e) (λ behind h. h) reads_placed
 
 -- nothing is left behind an entry
 
@@ -297,11 +297,11 @@ ends_behind : {V E : Type 0} (text : V → List ℕ) (ok : V → Type 0) (follow
 ends_behind text ok follows agrees next inner line a (Ok found) h e left same = inner found.0 found.1 (glyphs_behind line (text found.0) found.1 h.whole a) e left same
 ends_behind text ok follows agrees next inner line a (Err gone) h e left same = absurd (let none : ⊥ = cc in none)
 
-text_by : {E : Type 0} (front : List ℕ) (next : Reader E) (x : ℕ) (line : List ℕ) (e : E) (left : List ℕ) → ((literal_at front line >>= next) ≡ Ok (e, left) → left ≡ []) → (b : Bool) → (cond b (literal_at front line) (Err (length (x ∷ line))) >>= next) ≡ Ok (e, left) → left ≡ []
+text_by : {E : Type 0} (front : List ℕ) (next : Reader E) (x : ℕ) (line : List ℕ) (e : E) (left : List ℕ) → ((read_literal front line >>= next) ≡ Ok (e, left) → left ≡ []) → (b : Bool) → (cond b (read_literal front line) (Err (length (x ∷ line))) >>= next) ≡ Ok (e, left) → left ≡ []
 text_by front next x line e left inner true same = inner same
 text_by front next x line e left inner false same = absurd (let none : ⊥ = cc in none)
 
-text_ends : {E : Type 0} (front : List ℕ) (next : Reader E) → ((rest : List ℕ) → AreGlyphs rest → (e : E) (left : List ℕ) → next rest ≡ Ok (e, left) → left ≡ []) → (line : List ℕ) → AreGlyphs line → (e : E) (left : List ℕ) → (literal_at front line >>= next) ≡ Ok (e, left) → left ≡ []
+text_ends : {E : Type 0} (front : List ℕ) (next : Reader E) → ((rest : List ℕ) → AreGlyphs rest → (e : E) (left : List ℕ) → next rest ≡ Ok (e, left) → left ≡ []) → (line : List ℕ) → AreGlyphs line → (e : E) (left : List ℕ) → (read_literal front line >>= next) ≡ Ok (e, left) → left ≡ []
 text_ends [] next inner line a e left same = inner line a e left same
 text_ends (c ∷ front) next inner [] a e left same = absurd (let none : ⊥ = cc in none)
 text_ends (c ∷ front) next inner (x ∷ line) a e left same = text_by front next x line e left (text_ends front next inner line a.1 e left) (eqb x c) same
@@ -309,25 +309,25 @@ text_ends (c ∷ front) next inner (x ∷ line) a e left same = text_by front ne
 answered_ends : (place party : ℕ) (act : Act) (line : List ℕ) → AreGlyphs line → (e : Placed) (left : List ℕ) → answer_and_made_at place party act line ≡ Ok (e, left) → left ≡ []
 unfolding answer_and_made_at
 answered_ends place party act line a =
-    let kind = some_kind (word_of act) in
-    ends_behind answer_text (Listed (answers_to (word_of act))) PairsBehind Farther (made_at place party act) (λ v rest b. made_ends place party act v rest b) line a (answer_at (answers_to (word_of act)) line) (reads_answer (answers_to (word_of act)) kind.0 kind.1 line a)
+    let kind = some_kind (word_of_act act) in
+    ends_behind answer_text (Listed (answers_to (word_of_act act))) PairsBehind Farther (made_at place party act) (λ v rest b. made_ends place party act v rest b) line a (read_answer (answers_to (word_of_act act)) line) (reads_answer (answers_to (word_of_act act)) kind.0 kind.1 line a)
 
 behind_act_ends : (place party : ℕ) (act : Act) (line : List ℕ) → AreGlyphs line → (e : Placed) (left : List ℕ) → behind_act_at place party act line ≡ Ok (e, left) → left ≡ []
 unfolding behind_act_at
 behind_act_ends place party act line a = text_ends (codes " : ") (answer_and_made_at place party act) (answered_ends place party act) line a
 
-acts_end : (place party : ℕ) (line : List ℕ) → AreGlyphs line → (e : Placed) (left : List ℕ) → (act_at line >>= λ found. behind_act_at place party found.0 found.1) ≡ Ok (e, left) → left ≡ []
-acts_end place party line a = ends_behind act_text IsAct Ends SameFirst (behind_act_at place party) (behind_act_ends place party) line a (act_at line) (reads_act line a)
+acts_end : (place party : ℕ) (line : List ℕ) → AreGlyphs line → (e : Placed) (left : List ℕ) → (read_act line >>= λ found. behind_act_at place party found.0 found.1) ≡ Ok (e, left) → left ≡ []
+acts_end place party line a = ends_behind act_text IsAct Ends SameFirst (behind_act_at place party) (behind_act_ends place party) line a (read_act line) (reads_act line a)
 
 act_part_ends : (place party : ℕ) (line : List ℕ) → AreGlyphs line → (e : Placed) (left : List ℕ) → act_and_more_at place party line ≡ Ok (e, left) → left ≡ []
 unfolding act_and_more_at
-act_part_ends place party line a = text_ends (codes " ") (λ rest. act_at rest >>= λ found. behind_act_at place party found.0 found.1) (acts_end place party) line a
+act_part_ends place party line a = text_ends (codes " ") (λ rest. read_act rest >>= λ found. behind_act_at place party found.0 found.1) (acts_end place party) line a
 
 party_part_ends : (place : ℕ) (line : List ℕ) → AreGlyphs line → (e : Placed) (left : List ℕ) → party_and_more_at place line ≡ Ok (e, left) → left ≡ []
 unfolding party_and_more_at
-party_part_ends place line a = ends_behind party_text IsPartyNumber NoDigit SameFirst (act_and_more_at place) (act_part_ends place) line a (party_at line) (reads_party line a)
+party_part_ends place line a = ends_behind party_text IsPartyNumber NoDigit SameFirst (act_and_more_at place) (act_part_ends place) line a (read_party line) (reads_party line a)
 
-pub entry_ends : (line : List ℕ) → AreGlyphs line → (e : Placed) (left : List ℕ) → entry_at line ≡ Ok (e, left) → left ≡ []
-unfolding entry_at party_and_more_at act_and_more_at behind_act_at answer_and_made_at made_at entry_of
+pub entry_ends : (line : List ℕ) → AreGlyphs line → (e : Placed) (left : List ℕ) → read_entry line ≡ Ok (e, left) → left ≡ []
+unfolding read_entry party_and_more_at act_and_more_at behind_act_at answer_and_made_at made_at entry_of
 entry_ends line a =
-    ends_behind decimal IsPlace NoDigit SameFirst party_and_more_at party_part_ends line a (number_at 1 (2 ^ 64 - 1) line) (reads_number 1 (2 ^ 64 - 1) (omega arith) (omega arith) line a)
+    ends_behind decimal IsPlace NoDigit SameFirst party_and_more_at party_part_ends line a (read_number 1 (2 ^ 64 - 1) line) (reads_number 1 (2 ^ 64 - 1) (omega arith) (omega arith) line a)

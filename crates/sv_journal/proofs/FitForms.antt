@@ -6,14 +6,14 @@ use Rattle.std.proofs.lemmas.List.Elements.{recursion_from_All, All-from_recursi
 use Rattle.apl_arrays.specs.Name.{IsName}
 use Rattle.sv_events.specs.Answer.{PlainAnswer, degree, granted, value, no_value, held, abandoned, not_shared, offer_limit, full, vector, parties, names, kept, done}
 use Rattle.sv_events.specs.Entry.{PlainEntry}
-use Rattle.sv_events.specs.Fits.{fits_kind, is_full, is_degree_in_range, is_hold_in_range, fits}
+use Rattle.sv_events.specs.Fits.{fits_kind, is_full_kind, is_degree_in_range, is_hold_in_range, answer_fits}
 use Rattle.sv_events.specs.Row.{act_row, answer_row}
 use Rattle.sv_events.specs.declared.event.Act.{Act}
 use Rattle.sv_events.specs.declared.event.Act.TheVariants as act
 use Rattle.sv_events.specs.declared.row.AnswerKind.{AnswerKind}
 use Rattle.sv_events.specs.declared.row.AnswerKind.TheVariants.{Degree, Granted, Value, NoValue, Held, Abandoned, NotShared, OfferLimit, Full, Vector, Parties, Names, Kept, Done}
 use Rattle.text_reader.proofs.NumberForms.{InRange}
-use Rattle.sv_journal.specs.ActWord.{word_of, answers_to}
+use Rattle.sv_journal.specs.ActWord.{word_of_act, answers_to}
 use Rattle.sv_journal.specs.IsEntry.{IsPartyNumber, IsAnswer, IsPair, IsEntry}
 use Rattle.sv_journal.proofs.AnswerForms.{kind_of, Ranged, Listed}
 use Rattle.sv_journal.proofs.EntryForms.{EntryOk}
@@ -22,9 +22,9 @@ use Rattle.sv_journal.proofs.WordForms.{Member}
 -- an answer other than Full that fits is listed
 
 NotFull : AnswerKind → Type 0
-NotFull kind = is_full kind ≡ false
+NotFull kind = is_full_kind kind ≡ false
 
-fit_is_listed : (a : Act) (kind : AnswerKind) → NotFull kind → fits_kind (act_row a).row kind ≡ true → Member kind (answers_to (word_of a))
+fit_is_listed : (a : Act) (kind : AnswerKind) → NotFull kind → fits_kind (act_row a).row kind ≡ true → Member kind (answers_to (word_of_act a))
 unfolding NotFull
 fit_is_listed (act.Offer to local surrogate handed) Degree other e = inl refl
 fit_is_listed (act.Offer to local surrogate handed) OfferLimit other e = inr (inl refl)
@@ -70,7 +70,7 @@ fit_is_listed act.Leave Done other e = inl refl
 fit_is_listed act.Leave kind other e = absurd (false≢true e)
 
 -- what is listed fits
-listed_fits : (a : Act) (kind : AnswerKind) → Member kind (answers_to (word_of a)) → fits_kind (act_row a).row kind ≡ true
+listed_fits : (a : Act) (kind : AnswerKind) → Member kind (answers_to (word_of_act a)) → fits_kind (act_row a).row kind ≡ true
 listed_fits (act.Offer to local surrogate handed) kind (inl e) = ap (fits_kind (act_row (act.Offer to local surrogate handed)).row) e
 listed_fits (act.Offer to local surrogate handed) kind (inr (inl e)) = ap (fits_kind (act_row (act.Offer to local surrogate handed)).row) e
 listed_fits (act.Retract local) kind (inl e) = ap (fits_kind (act_row (act.Retract local)).row) e
@@ -105,29 +105,29 @@ listed_fits (act.Use local) kind (inr (inr (inr (inr (inr none))))) = absurd non
 listed_fits act.Leave kind (inr none) = absurd none
 
 -- and is not Full
-listed_not_full : (a : Act) (kind : AnswerKind) → Member kind (answers_to (word_of a)) → NotFull kind
+listed_not_full : (a : Act) (kind : AnswerKind) → Member kind (answers_to (word_of_act a)) → NotFull kind
 unfolding NotFull
-listed_not_full (act.Offer to local surrogate handed) kind (inl e) = ap is_full e
-listed_not_full (act.Offer to local surrogate handed) kind (inr (inl e)) = ap is_full e
-listed_not_full (act.Retract local) kind (inl e) = ap is_full e
-listed_not_full (act.Retract local) kind (inr (inl e)) = ap is_full e
-listed_not_full (act.SetControl local control) kind (inl e) = ap is_full e
-listed_not_full (act.SetControl local control) kind (inr (inl e)) = ap is_full e
-listed_not_full (act.AskControl local) kind (inl e) = ap is_full e
-listed_not_full (act.AskState local) kind (inl e) = ap is_full e
-listed_not_full (act.AskDegree local) kind (inl e) = ap is_full e
-listed_not_full act.AskParties kind (inl e) = ap is_full e
-listed_not_full (act.AskNames party) kind (inl e) = ap is_full e
-listed_not_full (act.Set local new) kind (inl e) = ap is_full e
-listed_not_full (act.Set local new) kind (inr (inl e)) = ap is_full e
-listed_not_full (act.Set local new) kind (inr (inr (inl e))) = ap is_full e
-listed_not_full (act.Set local new) kind (inr (inr (inr (inl e)))) = ap is_full e
-listed_not_full (act.Use local) kind (inl e) = ap is_full e
-listed_not_full (act.Use local) kind (inr (inl e)) = ap is_full e
-listed_not_full (act.Use local) kind (inr (inr (inl e))) = ap is_full e
-listed_not_full (act.Use local) kind (inr (inr (inr (inl e)))) = ap is_full e
-listed_not_full (act.Use local) kind (inr (inr (inr (inr (inl e))))) = ap is_full e
-listed_not_full act.Leave kind (inl e) = ap is_full e
+listed_not_full (act.Offer to local surrogate handed) kind (inl e) = ap is_full_kind e
+listed_not_full (act.Offer to local surrogate handed) kind (inr (inl e)) = ap is_full_kind e
+listed_not_full (act.Retract local) kind (inl e) = ap is_full_kind e
+listed_not_full (act.Retract local) kind (inr (inl e)) = ap is_full_kind e
+listed_not_full (act.SetControl local control) kind (inl e) = ap is_full_kind e
+listed_not_full (act.SetControl local control) kind (inr (inl e)) = ap is_full_kind e
+listed_not_full (act.AskControl local) kind (inl e) = ap is_full_kind e
+listed_not_full (act.AskState local) kind (inl e) = ap is_full_kind e
+listed_not_full (act.AskDegree local) kind (inl e) = ap is_full_kind e
+listed_not_full act.AskParties kind (inl e) = ap is_full_kind e
+listed_not_full (act.AskNames party) kind (inl e) = ap is_full_kind e
+listed_not_full (act.Set local new) kind (inl e) = ap is_full_kind e
+listed_not_full (act.Set local new) kind (inr (inl e)) = ap is_full_kind e
+listed_not_full (act.Set local new) kind (inr (inr (inl e))) = ap is_full_kind e
+listed_not_full (act.Set local new) kind (inr (inr (inr (inl e)))) = ap is_full_kind e
+listed_not_full (act.Use local) kind (inl e) = ap is_full_kind e
+listed_not_full (act.Use local) kind (inr (inl e)) = ap is_full_kind e
+listed_not_full (act.Use local) kind (inr (inr (inl e))) = ap is_full_kind e
+listed_not_full (act.Use local) kind (inr (inr (inr (inl e)))) = ap is_full_kind e
+listed_not_full (act.Use local) kind (inr (inr (inr (inr (inl e))))) = ap is_full_kind e
+listed_not_full act.Leave kind (inl e) = ap is_full_kind e
 listed_not_full (act.Offer to local surrogate handed) kind (inr (inr none)) = absurd none
 listed_not_full (act.Retract local) kind (inr (inr none)) = absurd none
 listed_not_full (act.SetControl local control) kind (inr (inr none)) = absurd none

@@ -13,8 +13,8 @@ use Rattle.text_reader.specs.Reading.{Reader, begins_with}
 use Rattle.text_reader.proofs.NameForms.{NoName}
 use Rattle.text_reader.proofs.NumberForms.{NoDigit}
 use Rattle.text_reader.proofs.Readers.{SameFirst, Stopped, IsReader, same_behind}
-use Rattle.sv_journal.specs.ActReading.{local_at, party_at}
-use Rattle.sv_journal.specs.AnswerReading.{goes_on, parties_at, names_at}
+use Rattle.sv_journal.specs.ActReading.{read_local, read_party}
+use Rattle.sv_journal.specs.AnswerReading.{list_goes_on, read_parties, read_names}
 use Rattle.sv_journal.specs.IsEntry.{IsPartyNumber}
 use Rattle.sv_journal.proofs.FieldForms.{Ends, party_text, local_text, reads_party, reads_local, a_name}
 use Rattle.sv_journal.proofs.SameEntries.{begins_letter}
@@ -75,14 +75,14 @@ unlike_pairs text ok follows item s behind more x (inr p) h same =
     let inner : 43 ∷ p.0 ≡ text x ++ more = cc (p.1, same) in
     false≢true (sym s.plus ∙ (ap (begins s.begin) inner ∙ s.begun x more h))
 
-ends_spaced : {A : Type 0} (text : A → List ℕ) (ok : A → Type 0) (follows : List ℕ → Type 0) (item : Reader A) → Spaced text ok follows item → (line more z : List ℕ) (x : A) → goes_on line ≡ false → ok x → (32 ∷ text x) ++ more ≡ z → Farther z line → ⊥
+ends_spaced : {A : Type 0} (text : A → List ℕ) (ok : A → Type 0) (follows : List ℕ → Type 0) (item : Reader A) → Spaced text ok follows item → (line more z : List ℕ) (x : A) → list_goes_on line ≡ false → ok x → (32 ∷ text x) ++ more ≡ z → Farther z line → ⊥
 ends_spaced text ok follows item s line more z x never h e agree =
     let blank : begins_with 32 line ≡ true = sym (begins_with_same 32 z line agree.first) ∙ ap (begins_with 32) (sym e) in
     let plus : begins_with 43 (others_of line) ≡ false = sym (begins_with_same 43 (others_of z) (others_of line) (agree.second blank)) ∙ (ap (λ t. begins_with 43 (others_of t)) (sym e) ∙ no_plus s.begin s.plus (text x ++ more) (s.begun x more h)) in
-    let going : goes_on line ≡ true = ap (λ b. b && not (begins_with 43 (others_of line))) blank ∙ ap (λ b. true && not b) plus in
+    let going : list_goes_on line ≡ true = ap (λ b. b && not (begins_with 43 (others_of line))) blank ∙ ap (λ b. true && not b) plus in
     false≢true (sym never ∙ going)
 
-none_in : (first : List ℕ) (line part rest : List ℕ) → goes_on line ≡ true → line ≡ part ++ rest → ((z : List ℕ) → 32 ∷ first ≡ part ++ z → SameFirst z rest → ⊥) → (behind z : List ℕ) → PairsBehind behind → behind ≡ part ++ z → SameFirst z rest → ⊥
+none_in : (first : List ℕ) (line part rest : List ℕ) → list_goes_on line ≡ true → line ≡ part ++ rest → ((z : List ℕ) → 32 ∷ first ≡ part ++ z → SameFirst z rest → ⊥) → (behind z : List ℕ) → PairsBehind behind → behind ≡ part ++ z → SameFirst z rest → ⊥
 none_in first line [] rest going whole never behind z follow e same =
     let blank : begins_with 32 line ≡ true = (and_parts (begins_with 32 line) (not (begins_with 43 (others_of line))) going).0 in
     never (32 ∷ first) refl (sym (ap first_of (sym whole) ∙ blank_first line blank))
@@ -94,11 +94,11 @@ none_in first line (c ∷ part) rest going whole never behind z (inr p) e same =
     let other : not (begins_with 43 (others_of line)) ≡ true = (and_parts (begins_with 32 line) (not (begins_with 43 (others_of line))) going).1 in
     false≢true (sym (ap not second) ∙ other)
 
-none_spaced : {A : Type 0} (text : A → List ℕ) (ok : A → Type 0) (follows : List ℕ → Type 0) (item : Reader A) → Spaced text ok follows item → (line : List ℕ) (left : ℕ) (behind z : List ℕ) → goes_on line ≡ true → (h : Stopped (λ x. 32 ∷ text x) ok follows line left) → PairsBehind behind → behind ≡ h.part ++ z → SameFirst z h.rest → ⊥
+none_spaced : {A : Type 0} (text : A → List ℕ) (ok : A → Type 0) (follows : List ℕ → Type 0) (item : Reader A) → Spaced text ok follows item → (line : List ℕ) (left : ℕ) (behind z : List ℕ) → list_goes_on line ≡ true → (h : Stopped (λ x. 32 ∷ text x) ok follows line left) → PairsBehind behind → behind ≡ h.part ++ z → SameFirst z h.rest → ⊥
 none_spaced text ok follows item s line left behind z going h follow e same =
     none_in (text s.one ++ []) line h.part h.rest going h.whole (λ y whole agree. h.none s.one [] y s.fits (s.last [] (inl refl)) whole agree) behind z follow e same
 
-spaced_goes_on : {A : Type 0} (text : A → List ℕ) (ok : A → Type 0) (follows : List ℕ → Type 0) (item : Reader A) → Spaced text ok follows item → GoesOn (λ x. 32 ∷ text x) ok follows PairsBehind Farther goes_on item
+spaced_goes_on : {A : Type 0} (text : A → List ℕ) (ok : A → Type 0) (follows : List ℕ → Type 0) (item : Reader A) → Spaced text ok follows item → GoesOn (λ x. 32 ∷ text x) ok follows PairsBehind Farther list_goes_on item
 spaced_goes_on text ok follows item s = record {
   reads = s.reads;
   some = λ x h. omega arith;
@@ -111,7 +111,7 @@ spaced_goes_on text ok follows item s = record {
   ahead = no_farther;
 }
 
-party_list : Spaced decimal IsPartyNumber NoDigit party_at
+party_list : Spaced decimal IsPartyNumber NoDigit read_party
 party_list = record {
   reads = reads_party;
   begin = is_digit;
@@ -123,7 +123,7 @@ party_list = record {
   fits = omega arith;
 }
 
-name_list : Spaced (λ name. name) IsName NoName local_at
+name_list : Spaced (λ name. name) IsName NoName read_local
 name_list = record {
   reads = reads_local;
   begin = is_letter;
@@ -135,10 +135,10 @@ name_list = record {
   fits = a_name;
 }
 
-pub reads_parties : IsReader (flat_map party_text) (AllByRecursion IsPartyNumber) PairsBehind Farther parties_at
+pub reads_parties : IsReader (flat_map party_text) (AllByRecursion IsPartyNumber) PairsBehind Farther read_parties
 reads_parties line a =
-    (reads_all party_text IsPartyNumber NoDigit PairsBehind Farther goes_on party_at (spaced_goes_on decimal IsPartyNumber NoDigit party_at party_list) (length line) line a (omega arith)).reads
+    (reads_all party_text IsPartyNumber NoDigit PairsBehind Farther list_goes_on read_party (spaced_goes_on decimal IsPartyNumber NoDigit read_party party_list) (length line) line a (omega arith)).reads
 
-pub reads_names : IsReader (flat_map local_text) (AllByRecursion IsName) PairsBehind Farther names_at
+pub reads_names : IsReader (flat_map local_text) (AllByRecursion IsName) PairsBehind Farther read_names
 reads_names line a =
-    (reads_all local_text IsName NoName PairsBehind Farther goes_on local_at (spaced_goes_on (λ name. name) IsName NoName local_at name_list) (length line) line a (omega arith)).reads
+    (reads_all local_text IsName NoName PairsBehind Farther list_goes_on read_local (spaced_goes_on (λ name. name) IsName NoName read_local name_list) (length line) line a (omega arith)).reads

@@ -7,11 +7,11 @@ use Rattle.apl_arrays.specs.Glyph.{is_digit}
 use Rattle.apl_arrays.specs.Run.{begins}
 use Rattle.sv_events.specs.declared.entry.Pair.{Pair}
 use Rattle.apl_arrays.specs.List.{first_of}
-use Rattle.text_reader.specs.Reading.{◌>>=◌, as_read, literal_at}
-use Rattle.text_reader.specs.NumberReading.{number_at}
+use Rattle.text_reader.specs.Reading.{◌>>=◌, as_read, read_literal}
+use Rattle.text_reader.specs.NumberReading.{read_number}
 use Rattle.text_reader.proofs.NumberForms.{InRange, NoDigit, reads_number}
 use Rattle.text_reader.proofs.Readers.{SameFirst, Stopped, IsReader, AreGlyphs, same_end, after_text, then_read, made, no_further}
-use Rattle.sv_journal.specs.EntryReading.{pair_at, is_left, pairs_at}
+use Rattle.sv_journal.specs.EntryReading.{read_pair, is_left, read_pairs}
 use Rattle.sv_journal.specs.EntryText.{pair_text}
 use Rattle.sv_journal.specs.IsEntry.{IsPair}
 use Rattle.sv_journal.proofs.ListedForms.{PairsBehind}
@@ -45,12 +45,12 @@ pair_there : (a : ℕ) → IsLower a → (b : ℕ) → IsHigher a b → (a ≡ a
 unfolding pair_of
 pair_there a h b k = (refl, record { least = h.least; lower = omega (arith, k.least); most = omega (arith, k.most) })
 
-reads_higher : (a : ℕ) → IsLower a → IsReader higher_text (λ p. (p.a ≡ a) × IsPair p) NoDigit SameFirst (λ line. literal_at (codes " ") line >>= λ rest. as_read (pair_of a) (number_at (a + 1) (2 ^ 64 - 1) rest))
+reads_higher : (a : ℕ) → IsLower a → IsReader higher_text (λ p. (p.a ≡ a) × IsPair p) NoDigit SameFirst (λ line. read_literal (codes " ") line >>= λ rest. as_read (pair_of a) (read_number (a + 1) (2 ^ 64 - 1) rest))
 unfolding pair_of
 reads_higher a h =
     let some : IsHigher a (a + 1) = record { least = omega arith; most = omega (arith, h.most) } in
-    after_text (codes " ") (λ p. decimal p.b) (λ p. (p.a ≡ a) × IsPair p) NoDigit SameFirst (λ rest. as_read (pair_of a) (number_at (a + 1) (2 ^ 64 - 1) rest)) (pair_of a (a + 1)) (pair_there a h (a + 1) some)
-    (made decimal (IsHigher a) NoDigit SameFirst (number_at (a + 1) (2 ^ 64 - 1)) (pair_of a) (λ p. p.b) (λ p. (p.a ≡ a) × IsPair p) (reads_number (a + 1) (2 ^ 64 - 1) (omega arith) (omega (arith, h.most))) (pair_higher a) (λ p k. ap (λ x. pair_of x p.b) (sym k.0)) (pair_there a h) (λ b k. refl))
+    after_text (codes " ") (λ p. decimal p.b) (λ p. (p.a ≡ a) × IsPair p) NoDigit SameFirst (λ rest. as_read (pair_of a) (read_number (a + 1) (2 ^ 64 - 1) rest)) (pair_of a (a + 1)) (pair_there a h (a + 1) some)
+    (made decimal (IsHigher a) NoDigit SameFirst (read_number (a + 1) (2 ^ 64 - 1)) (pair_of a) (λ p. p.b) (λ p. (p.a ≡ a) × IsPair p) (reads_number (a + 1) (2 ^ 64 - 1) (omega arith) (omega (arith, h.most))) (pair_higher a) (λ p k. ap (λ x. pair_of x p.b) (sym k.0)) (pair_there a h) (λ b k. refl))
 
 some_pair : (a : ℕ) → IsLower a → (p : Pair) × (p.a ≡ a) × IsPair p
 unfolding pair_of
@@ -62,12 +62,12 @@ pub first_pair : IsPair (pair_of 1 2)
 unfolding pair_of
 first_pair = record { least = omega arith; lower = omega arith; most = omega arith }
 
-reads_pair : IsReader pair_text IsPair NoDigit SameFirst pair_at
-unfolding pair_at pair_of
+reads_pair : IsReader pair_text IsPair NoDigit SameFirst read_pair
+unfolding read_pair pair_of
 reads_pair line a =
-    let both : IsReader (λ p. decimal p.a ++ higher_text p) IsPair NoDigit SameFirst (λ rest. number_at 1 (2 ^ 64 - 2) rest >>= λ found. (literal_at (codes " ") found.1 >>= λ behind. as_read (pair_of found.0) (number_at (found.0 + 1) (2 ^ 64 - 1) behind))) =
-    then_read decimal IsLower NoDigit (λ p. p.a) higher_text IsPair NoDigit SameFirst (number_at 1 (2 ^ 64 - 2)) (λ n rest. literal_at (codes " ") rest >>= λ behind. as_read (pair_of n) (number_at (n + 1) (2 ^ 64 - 1) behind)) no_further (reads_number 1 (2 ^ 64 - 2) (omega arith) (omega arith)) reads_higher pair_lower (λ e behind h follow. refl) some_pair in
-    after_text (codes " + ") (λ p. decimal p.a ++ higher_text p) IsPair NoDigit SameFirst (λ rest. number_at 1 (2 ^ 64 - 2) rest >>= λ found. (literal_at (codes " ") found.1 >>= λ behind. as_read (pair_of found.0) (number_at (found.0 + 1) (2 ^ 64 - 1) behind))) (pair_of 1 2) first_pair both line a
+    let both : IsReader (λ p. decimal p.a ++ higher_text p) IsPair NoDigit SameFirst (λ rest. read_number 1 (2 ^ 64 - 2) rest >>= λ found. (read_literal (codes " ") found.1 >>= λ behind. as_read (pair_of found.0) (read_number (found.0 + 1) (2 ^ 64 - 1) behind))) =
+    then_read decimal IsLower NoDigit (λ p. p.a) higher_text IsPair NoDigit SameFirst (read_number 1 (2 ^ 64 - 2)) (λ n rest. read_literal (codes " ") rest >>= λ behind. as_read (pair_of n) (read_number (n + 1) (2 ^ 64 - 1) behind)) no_further (reads_number 1 (2 ^ 64 - 2) (omega arith) (omega arith)) reads_higher pair_lower (λ e behind h follow. refl) some_pair in
+    after_text (codes " + ") (λ p. decimal p.a ++ higher_text p) IsPair NoDigit SameFirst (λ rest. read_number 1 (2 ^ 64 - 2) rest >>= λ found. (read_literal (codes " ") found.1 >>= λ behind. as_read (pair_of found.0) (read_number (found.0 + 1) (2 ^ 64 - 1) behind))) (pair_of 1 2) first_pair both line a
 
 left_none : (line : List ℕ) → is_left line ≡ false → line ≡ []
 left_none [] e = refl
@@ -95,7 +95,7 @@ pairs_none line left behind z going h nothing e same =
 pairs_begin : (x : Pair) (more : List ℕ) → [] ≡ pair_text x ++ more → ⊥
 pairs_begin x more e = let wrong : first_of [] ≡ first_of (pair_text x ++ more) = ap first_of e in cc wrong
 
-pairs_go_on : GoesOn pair_text IsPair NoDigit Nothing SameFirst is_left pair_at
+pairs_go_on : GoesOn pair_text IsPair NoDigit Nothing SameFirst is_left read_pair
 pairs_go_on = record {
   reads = reads_pair;
   some = λ x h. omega arith;
@@ -108,17 +108,17 @@ pairs_go_on = record {
   ahead = no_further;
 }
 
-pairs_all : (line : List ℕ) → AreGlyphs line → ReadsAll pair_text IsPair Nothing SameFirst is_left line (pairs_at line)
+pairs_all : (line : List ℕ) → AreGlyphs line → ReadsAll pair_text IsPair Nothing SameFirst is_left line (read_pairs line)
 pairs_all line a =
-    reads_all pair_text IsPair NoDigit Nothing SameFirst is_left pair_at pairs_go_on (length line) line a (omega arith)
+    reads_all pair_text IsPair NoDigit Nothing SameFirst is_left read_pair pairs_go_on (length line) line a (omega arith)
 
 abbrev pub pairs_text : List Pair → List ℕ
 pairs_text pairs = flat_map pair_text pairs
 
-pub reads_pairs : IsReader pairs_text (AllByRecursion IsPair) Nothing SameFirst pairs_at
+pub reads_pairs : IsReader pairs_text (AllByRecursion IsPair) Nothing SameFirst read_pairs
 reads_pairs line a = (pairs_all line a).reads
 
-pub pairs_end : (line : List ℕ) → AreGlyphs line → (pairs : List Pair) (rest : List ℕ) → pairs_at line ≡ Ok (pairs, rest) → rest ≡ []
+pub pairs_end : (line : List ℕ) → AreGlyphs line → (pairs : List Pair) (rest : List ℕ) → read_pairs line ≡ Ok (pairs, rest) → rest ≡ []
 pairs_end line a pairs rest e = left_none rest ((pairs_all line a).all pairs rest e)
 
 starts_pair : (more : List ℕ) → PairsBehind (32 ∷ 43 ∷ more)

@@ -11,7 +11,7 @@ use Rattle.text_reader.specs.declared.unread.Unread.TheVariants.{Left, WantOfMem
 use Rattle.text_reader.specs.Reading.{Reading, Stops}
 use Rattle.text_reader.proofs.Readers.{SameFirst, Found, Stopped, Reads, AreGlyphs, same_behind, again}
 use Rattle.text_reader.proofs.Told.{tell, first_told}
-use Rattle.sv_journal.specs.EntryReading.{entry_at}
+use Rattle.sv_journal.specs.EntryReading.{read_entry}
 use Rattle.sv_journal.specs.EntryText.{entry_text}
 use Rattle.sv_journal.specs.IsEntry.{IsEntry, IsEntryText, BeginsEntry, DepartsAt}
 use Rattle.sv_journal.specs.declared.entry_reading.EntryRefused.TheVariants.{WantOfMemory as NoMemory}
@@ -24,7 +24,7 @@ abbrev pub placed : Placed → List ℕ
 placed e = entry_text e.0 e.1
 
 -- an entry that is read has the line as its text
-pub entry_found : (line : List ℕ) → AreGlyphs line → (place : ℕ) (entry : PlainEntry) (rest : List ℕ) → entry_at line ≡ Ok ((place, entry), rest) → IsEntry place entry × (line ≡ entry_text place entry)
+pub entry_found : (line : List ℕ) → AreGlyphs line → (place : ℕ) (entry : PlainEntry) (rest : List ℕ) → read_entry line ≡ Ok ((place, entry), rest) → IsEntry place entry × (line ≡ entry_text place entry)
 entry_found line a place entry rest e =
     let h = subst (Reads placed EntryOk Nothing SameFirst line) e (reads_entry line a) in
     let none : rest ≡ [] = entry_ends line a (place, entry) rest e in
@@ -64,7 +64,7 @@ no_longer line left h longer within b =
     ]
 
 -- where the reading stops
-pub entry_departs : (line : List ℕ) → AreGlyphs line → (left : ℕ) → entry_at line ≡ Err left → DepartsAt line (length line - left)
+pub entry_departs : (line : List ℕ) → AreGlyphs line → (left : ℕ) → read_entry line ≡ Err left → DepartsAt line (length line - left)
 entry_departs line a left e =
     let h = subst (Reads placed EntryOk Nothing SameFirst line) e (reads_entry line a) in
     let part = part_is line h.part h.rest left h.whole h.left_is in
@@ -76,13 +76,13 @@ entry_departs line a left e =
     }
 
 -- the text of an entry is read as the entry
-pub text_is_read : (line : List ℕ) → AreGlyphs line → (place : ℕ) (entry : PlainEntry) → IsEntry place entry → line ≡ entry_text place entry → entry_at line ≡ Ok ((place, entry), [])
+pub text_is_read : (line : List ℕ) → AreGlyphs line → (place : ℕ) (entry : PlainEntry) → IsEntry place entry → line ≡ entry_text place entry → read_entry line ≡ Ok ((place, entry), [])
 text_is_read line a place entry is text =
     let plain : line ≡ entry_text place entry ++ [] = text ∙ sym (append-nil (entry_text place entry)) in
-    ap entry_at plain
-    ∙ again placed EntryOk Nothing SameFirst entry_at reads_entry (place, entry) [] (λ rest. refl) (entry_is_ok place entry is) refl (subst AreGlyphs plain a)
+    ap read_entry plain
+    ∙ again placed EntryOk Nothing SameFirst read_entry reads_entry (place, entry) [] (λ rest. refl) (entry_is_ok place entry is) refl (subst AreGlyphs plain a)
 
-pub found_is_this : (line : List ℕ) → AreGlyphs line → (found place : ℕ) (read entry : PlainEntry) (rest : List ℕ) → entry_at line ≡ Ok ((found, read), rest) → IsEntry place entry → line ≡ entry_text place entry → (found ≡ place) × (read ≡ entry)
+pub found_is_this : (line : List ℕ) → AreGlyphs line → (found place : ℕ) (read entry : PlainEntry) (rest : List ℕ) → read_entry line ≡ Ok ((found, read), rest) → IsEntry place entry → line ≡ entry_text place entry → (found ≡ place) × (read ≡ entry)
 found_is_this line a found place read entry rest e is text =
     let placed_read : Placed = (found, read) in
     let placed_entry : Placed = (place, entry) in
@@ -91,11 +91,11 @@ found_is_this line a found place read entry rest e is text =
     (ap (λ p. p.0) same, ap (λ p. p.1) same)
 
 -- what is answered where the reading stops
-pub departs_so : (line : List ℕ) → AreGlyphs line → (why : Unread) → Stops why (entry_at line) → Departs (refusal (length line) why) line
+pub departs_so : (line : List ℕ) → AreGlyphs line → (why : Unread) → Stops why (read_entry line) → Departs (refusal (length line) why) line
 departs_so line a (Left left) stop = entry_departs line a left stop
 departs_so line a WantOfMemory stop = tt
 
-pub never_so : (line : List ℕ) → AreGlyphs line → (why : Unread) → Stops why (entry_at line) → (place : ℕ) (entry : PlainEntry) → IsEntry place entry → line ≡ entry_text place entry → refusal (length line) why ≡ NoMemory
+pub never_so : (line : List ℕ) → AreGlyphs line → (why : Unread) → Stops why (read_entry line) → (place : ℕ) (entry : PlainEntry) → IsEntry place entry → line ≡ entry_text place entry → refusal (length line) why ≡ NoMemory
 never_so line a (Left left) stop place entry is text =
     absurd ((entry_departs line a left stop).none (record { place = place; entry = entry; is = is; text = text }))
 never_so line a WantOfMemory stop place entry is text = refl

@@ -3,7 +3,7 @@ use Rattle.std.proofs.Common.{◌≡◌, ℕ, zero, suc, ◌+◌, ◌<◌, ◌�
 use Rattle.std.proofs.lemmas.Bool.{false≢true, cases_Bool}
 use Rattle.std.specs.List.{flat_map, AllByRecursion}
 use Rattle.apl_arrays.specs.List.{first_of}
-use Rattle.text_reader.specs.Reading.{Reader, Reading, ◌>>=◌, list_at, read_behind}
+use Rattle.text_reader.specs.Reading.{Reader, Reading, ◌>>=◌, read_list, read_behind}
 use Rattle.text_reader.proofs.Told.{second_told}
 use Rattle.text_reader.proofs.Readers.{SameFirst, Found, Stopped, Reads, IsReader, AreGlyphs, glyphs_behind, same_behind, cancelled}
 
@@ -112,19 +112,19 @@ stopped_all text ok follows after agrees test item g line left going h = record 
   all = λ list rest e. absurd (let none : ⊥ = cc in none);
 }
 
-goes_by : {A : Type 0} (text : A → List ℕ) (ok : A → Type 0) (follows after : List ℕ → Type 0) (agrees : List ℕ → List ℕ → Type 0) (test : List ℕ → Bool) (item : Reader A) → GoesOn text ok follows after agrees test item → (n : ℕ) (line : List ℕ) → AreGlyphs line → length line ≤ suc n → test line ≡ true → ((rest : List ℕ) → AreGlyphs rest → length rest ≤ n → ReadsAll text ok after agrees test rest (list_at test item n rest)) → (read : Reading A) → Reads text ok follows SameFirst line read → ReadsAll text ok after agrees test line (read >>= λ first. read_behind (first.0 ∷ []) (list_at test item n first.1))
+goes_by : {A : Type 0} (text : A → List ℕ) (ok : A → Type 0) (follows after : List ℕ → Type 0) (agrees : List ℕ → List ℕ → Type 0) (test : List ℕ → Bool) (item : Reader A) → GoesOn text ok follows after agrees test item → (n : ℕ) (line : List ℕ) → AreGlyphs line → length line ≤ suc n → test line ≡ true → ((rest : List ℕ) → AreGlyphs rest → length rest ≤ n → ReadsAll text ok after agrees test rest (read_list test item n rest)) → (read : Reading A) → Reads text ok follows SameFirst line read → ReadsAll text ok after agrees test line (read >>= λ first. read_behind (first.0 ∷ []) (read_list test item n first.1))
 goes_by text ok follows after agrees test item g n line a fits going inner (Ok found) h =
     let shorter : length found.1 ≤ n = omega (arith, fits, ap length h.whole, length-append (text found.0) found.1, g.some found.0 h.fits) in
-    one_more text ok follows after agrees test item g line found.0 found.1 h (list_at test item n found.1) (inner found.1 (glyphs_behind line (text found.0) found.1 h.whole a) shorter)
+    one_more text ok follows after agrees test item g line found.0 found.1 h (read_list test item n found.1) (inner found.1 (glyphs_behind line (text found.0) found.1 h.whole a) shorter)
 goes_by text ok follows after agrees test item g n line a fits going inner (Err left) h = stopped_all text ok follows after agrees test item g line left going h
 
-all_by : {A : Type 0} (text : A → List ℕ) (ok : A → Type 0) (follows after : List ℕ → Type 0) (agrees : List ℕ → List ℕ → Type 0) (test : List ℕ → Bool) (item : Reader A) → GoesOn text ok follows after agrees test item → (n : ℕ) (line : List ℕ) → AreGlyphs line → length line ≤ suc n → ((rest : List ℕ) → AreGlyphs rest → length rest ≤ n → ReadsAll text ok after agrees test rest (list_at test item n rest)) → (b : Bool) → test line ≡ b → ReadsAll text ok after agrees test line (cond b (item line >>= λ first. read_behind (first.0 ∷ []) (list_at test item n first.1)) (Ok ([], line)))
+all_by : {A : Type 0} (text : A → List ℕ) (ok : A → Type 0) (follows after : List ℕ → Type 0) (agrees : List ℕ → List ℕ → Type 0) (test : List ℕ → Bool) (item : Reader A) → GoesOn text ok follows after agrees test item → (n : ℕ) (line : List ℕ) → AreGlyphs line → length line ≤ suc n → ((rest : List ℕ) → AreGlyphs rest → length rest ≤ n → ReadsAll text ok after agrees test rest (read_list test item n rest)) → (b : Bool) → test line ≡ b → ReadsAll text ok after agrees test line (cond b (item line >>= λ first. read_behind (first.0 ∷ []) (read_list test item n first.1)) (Ok ([], line)))
 all_by text ok follows after agrees test item g n line a fits inner true going = goes_by text ok follows after agrees test item g n line a fits going inner (item line) (g.reads line a)
 all_by text ok follows after agrees test item g n line a fits inner false never = list_ends text ok follows after agrees test item g line never
 
 -- a list is read to its end
-pub reads_all : {A : Type 0} (text : A → List ℕ) (ok : A → Type 0) (follows after : List ℕ → Type 0) (agrees : List ℕ → List ℕ → Type 0) (test : List ℕ → Bool) (item : Reader A) → GoesOn text ok follows after agrees test item → (n : ℕ) (line : List ℕ) → AreGlyphs line → length line ≤ n → ReadsAll text ok after agrees test line (list_at test item n line)
-unfolding list_at
+pub reads_all : {A : Type 0} (text : A → List ℕ) (ok : A → Type 0) (follows after : List ℕ → Type 0) (agrees : List ℕ → List ℕ → Type 0) (test : List ℕ → Bool) (item : Reader A) → GoesOn text ok follows after agrees test item → (n : ℕ) (line : List ℕ) → AreGlyphs line → length line ≤ n → ReadsAll text ok after agrees test line (read_list test item n line)
+unfolding read_list
 reads_all text ok follows after agrees test item g zero [] a fits = list_ends text ok follows after agrees test item g [] g.nothing
 reads_all text ok follows after agrees test item g zero (x ∷ line) a fits = absurd (omega (arith, fits))
 reads_all text ok follows after agrees test item g (suc n) line a fits =

@@ -4,9 +4,9 @@ use Rattle.std.proofs.lemmas.Bool.{cases_Bool}
 use Rattle.std.proofs.lemmas.Bool.Decides.{nat_tests}
 use Rattle.std.proofs.lemmas.List.{take-append-drop}
 use Rattle.apl_arrays.specs.List.{first_of}
-use Rattle.text_reader.specs.Reading.{Reader, Reading, ◌>>=◌, literal_at, shared_length}
+use Rattle.text_reader.specs.Reading.{Reader, Reading, ◌>>=◌, read_literal, shared_length}
 use Rattle.text_reader.proofs.Readers.{SameFirst, Anything, Found, Stopped, Reads, IsReader, AreGlyphs}
-use Rattle.sv_journal.specs.WordReading.{word_at}
+use Rattle.sv_journal.specs.WordReading.{read_word}
 
 -- one of these
 abbrev pub Member : {W : Type 0} → W → List W → Type 0
@@ -66,7 +66,7 @@ departs (suc n) (glyph ∷ text) (first ∷ rest) behind z most less within e ag
 -- a text that is shared whole stands at the front
 record StandsThere (text line : List ℕ) : Type 0 where
   rest : List ℕ
-  read : literal_at text line ≡ Ok rest
+  read : read_literal text line ≡ Ok rest
   whole : line ≡ text ++ rest
 
 stands_there : (text line : List ℕ) → shared_length text line ≡ length text → StandsThere text line
@@ -77,7 +77,7 @@ stands_there (glyph ∷ text) (first ∷ rest) e =
       | inl h ↦
           let same : first ≡ glyph = grind (arith, nat_tests, h) in
           let inner = stands_there text rest (omega (arith, e, shared_by glyph first text rest true h)) in
-          record { rest = inner.rest; read = ap (λ b. cond b (literal_at text rest) (Err (length (first ∷ rest)))) h ∙ inner.read; whole = cc (same, inner.whole) }
+          record { rest = inner.rest; read = ap (λ b. cond b (read_literal text rest) (Err (length (first ∷ rest)))) h ∙ inner.read; whole = cc (same, inner.whole) }
       | inr h ↦ absurd (omega (arith, e, shared_by glyph first text rest false h))
     ]
 
@@ -90,7 +90,7 @@ record IsPast {W : Type 0} (text : W → List ℕ) (shared : ℕ) (line : List �
   most : shared_length (text w) line ≤ shared
   less : shared_length (text w) line < length (text w)
 
-word_found : {W : Type 0} (text : W → List ℕ) (all : List W) → AreApart text → (line : List ℕ) (word : W) → Member word all → StandsThere (text word) line → Reads text (λ w. Member w all) Anything SameFirst line (literal_at (text word) line >>= λ rest. Ok (word, rest))
+word_found : {W : Type 0} (text : W → List ℕ) (all : List W) → AreApart text → (line : List ℕ) (word : W) → Member word all → StandsThere (text word) line → Reads text (λ w. Member w all) Anything SameFirst line (read_literal (text word) line >>= λ rest. Ok (word, rest))
 word_found text all apart line word here h =
     subst (λ read. Reads text (λ w. Member w all) Anything SameFirst line (read >>= λ rest. Ok (word, rest))) (sym h.read)
     (record { fits = here; whole = h.whole; only = λ w behind z fit follow e agree. apart w word behind z e })
@@ -122,20 +122,20 @@ of_two text all line shared word best this here long false e =
     let more : shared < shared_length (text word) line = grind (arith, nat_tests, e) in
     record { word = word; here = this; long = omega (arith, more) }
 
-word_reads : {W : Type 0} (text : W → List ℕ) (all : List W) → AreApart text → (line : List ℕ) (words : List W) (shared : ℕ) → ((w : W) → Member w words → Member w all) → ((w : W) → Member w all → Member w words ⊎ IsPast text shared line w) → (best : W) → Member best all → shared ≤ shared_length (text best) line → Reads text (λ w. Member w all) Anything SameFirst line (word_at text shared words line)
+word_reads : {W : Type 0} (text : W → List ℕ) (all : List W) → AreApart text → (line : List ℕ) (words : List W) (shared : ℕ) → ((w : W) → Member w words → Member w all) → ((w : W) → Member w all → Member w words ⊎ IsPast text shared line w) → (best : W) → Member best all → shared ≤ shared_length (text best) line → Reads text (λ w. Member w all) Anything SameFirst line (read_word text shared words line)
 word_reads text all apart line [] shared among past best here long =
     word_stopped text all line shared best here long (λ w fit. elim (past w fit) [ inl none ↦ absurd none | inr p ↦ p ])
 word_reads {W} text all apart line (word ∷ words) shared among past best here long =
     elim (cases_Bool (eqb (shared_length (text word) line) (length (text word)))) [
       | inl h ↦
           let same : shared_length (text word) line ≡ length (text word) = grind (arith, nat_tests, h) in
-          subst (λ b. Reads text (λ w. Member w all) Anything SameFirst line (cond b (literal_at (text word) line >>= λ rest. Ok (word, rest)) (word_at text (max shared (shared_length (text word) line)) words line))) (sym h)
+          subst (λ b. Reads text (λ w. Member w all) Anything SameFirst line (cond b (read_literal (text word) line >>= λ rest. Ok (word, rest)) (read_word text (max shared (shared_length (text word) line)) words line))) (sym h)
           (word_found text all apart line word (among word (inl refl)) (stands_there (text word) line same))
       | inr h ↦
           let count : ℕ = shared_length (text word) line in
           let fewer : count < length (text word) = let other : count ≡ length (text word) → ⊥ = λ e. grind (arith, nat_tests, h, e) in omega (arith, other, (shared_within (text word) line).0) in
           let next = of_two text all line shared word best (among word (inl refl)) here long (leb count shared) refl in
-          subst (λ b. Reads text (λ w. Member w all) Anything SameFirst line (cond b (literal_at (text word) line >>= λ rest. Ok (word, rest)) (word_at text (max shared count) words line))) (sym h)
+          subst (λ b. Reads text (λ w. Member w all) Anything SameFirst line (cond b (read_literal (text word) line >>= λ rest. Ok (word, rest)) (read_word text (max shared count) words line))) (sym h)
           (word_reads text all apart line words (max shared count) (λ w fit. among w (inr fit))
           (λ w fit. elim (past w fit) [
             | inl there ↦ elim there [
@@ -148,6 +148,6 @@ word_reads {W} text all apart line (word ∷ words) shared among past best here 
     ]
 
 -- one of the words is read
-pub reads_word : {W : Type 0} (text : W → List ℕ) (all : List W) → AreApart text → (some : W) → Member some all → IsReader text (λ w. Member w all) Anything SameFirst (word_at text 0 all)
+pub reads_word : {W : Type 0} (text : W → List ℕ) (all : List W) → AreApart text → (some : W) → Member some all → IsReader text (λ w. Member w all) Anything SameFirst (read_word text 0 all)
 reads_word text all apart some here line a =
     word_reads text all apart line all 0 (λ w fit. fit) (λ w fit. inl fit) some here (omega arith)

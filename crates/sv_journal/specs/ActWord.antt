@@ -27,18 +27,18 @@ act_word Use = codes "use"
 act_word Leave = codes "leave"
 
 -- an act's word
-abbrev pub word_of : Act → ActWord
-word_of (act.Offer to local surrogate handed) = Offer
-word_of (act.Retract local) = Retract
-word_of (act.SetControl local control) = SetControl
-word_of (act.AskControl local) = AskControl
-word_of (act.AskState local) = AskState
-word_of (act.AskDegree local) = AskDegree
-word_of act.AskParties = AskParties
-word_of (act.AskNames party) = AskNames
-word_of (act.Set local new) = Set
-word_of (act.Use local) = Use
-word_of act.Leave = Leave
+abbrev pub word_of_act : Act → ActWord
+word_of_act (act.Offer to local surrogate handed) = Offer
+word_of_act (act.Retract local) = Retract
+word_of_act (act.SetControl local control) = SetControl
+word_of_act (act.AskControl local) = AskControl
+word_of_act (act.AskState local) = AskState
+word_of_act (act.AskDegree local) = AskDegree
+word_of_act act.AskParties = AskParties
+word_of_act (act.AskNames party) = AskNames
+word_of_act (act.Set local new) = Set
+word_of_act (act.Use local) = Use
+word_of_act act.Leave = Leave
 
 -- the answers that an entry of such an act may have
 abbrev pub answers_to : ActWord → List AnswerKind

@@ -5,16 +5,16 @@ use Rattle.sv_access.specs.declared.verdict.Owners.{Owners}
 use Rattle.sv_access.specs.declared.verdict.Owners.TheVariants.{Mine, Partner, Both}
 use Rattle.sv_access.specs.Control.{four_elements}
 use Rattle.sv_events.specs.declared.event.Hold.{Hold}
-use Rattle.text_reader.specs.Reading.{Reader, Reading, ◌>>=◌, as_read, literal_at}
-use Rattle.text_reader.specs.NumberReading.{number_at}
+use Rattle.text_reader.specs.Reading.{Reader, Reading, ◌>>=◌, as_read, read_literal}
+use Rattle.text_reader.specs.NumberReading.{read_number}
 use Rattle.sv_journal.specs.EntryText.{owners_text}
-use Rattle.sv_journal.specs.WordReading.{word_at}
+use Rattle.sv_journal.specs.WordReading.{read_word}
 
 -- an element of a control or of a state, behind a blank
-unfoldable pub bit_at : Reader Bool
-bit_at line = do
-  rest ← literal_at (codes " ") line
-  bit ← number_at 0 1 rest
+unfoldable pub read_bit : Reader Bool
+read_bit line = do
+  rest ← read_literal (codes " ") line
+  bit ← read_number 0 1 rest
   Ok (bit.0 == 1, bit.1)
 
 -- the four elements of a control or of a state
@@ -24,22 +24,22 @@ Bits = Bool × Bool × Bool × Bool
 abbrev pub control_of : Bits → Control
 control_of bits = four_elements bits.0 bits.1 bits.2 bits.3
 
-unfoldable pub bits_at : Reader Bits
-bits_at line = do
-  first ← bit_at line
-  second ← bit_at first.1
-  third ← bit_at second.1
-  fourth ← bit_at third.1
+unfoldable pub read_bits : Reader Bits
+read_bits line = do
+  first ← read_bit line
+  second ← read_bit first.1
+  third ← read_bit second.1
+  fourth ← read_bit third.1
   Ok ((first.0, second.0, third.0, fourth.0), fourth.1)
 
-abbrev pub control_at : Reader Control
-control_at line = as_read control_of (bits_at line)
+abbrev pub read_control : Reader Control
+read_control line = as_read control_of (read_bits line)
 
 -- what refuses an access, behind a blank
-unfoldable pub hold_at : Reader Hold
-hold_at line = do
-  rest ← literal_at (codes " ") line
-  element ← number_at 1 4 rest
-  behind ← literal_at (codes " ") element.1
-  owners ← word_at owners_text 0 (Mine ∷ Partner ∷ Both ∷ []) behind
+unfoldable pub read_hold : Reader Hold
+read_hold line = do
+  rest ← read_literal (codes " ") line
+  element ← read_number 1 4 rest
+  behind ← read_literal (codes " ") element.1
+  owners ← read_word owners_text 0 (Mine ∷ Partner ∷ Both ∷ []) behind
   Ok (record { element = element.0; owners = owners.0 }, owners.1)

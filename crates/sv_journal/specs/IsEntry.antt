@@ -4,7 +4,7 @@ use Rattle.apl_arrays.specs.Name.{IsName}
 use Rattle.sv_access.specs.declared.control.Control.{Control}
 use Rattle.sv_events.specs.Answer.{PlainAnswer, degree, granted, value, no_value, held, abandoned, not_shared, offer_limit, full, vector, parties, names, kept, done}
 use Rattle.sv_events.specs.Entry.{PlainEntry}
-use Rattle.sv_events.specs.Fits.{fits}
+use Rattle.sv_events.specs.Fits.{answer_fits}
 use Rattle.sv_events.specs.declared.event.Act.{Act}
 use Rattle.sv_events.specs.declared.event.Act.TheVariants.{Offer, Retract, SetControl, AskControl, AskState, AskDegree, AskParties, AskNames, Set, Use, Leave}
 use Rattle.sv_events.specs.declared.entry.Pair.{Pair}
@@ -63,7 +63,7 @@ pub record IsEntry (place : ℕ) (entry : PlainEntry) : Type 0 where
   pub party : IsPartyNumber entry.party
   pub act : IsAct entry.act
   pub answer : IsAnswer entry.answer
-  pub answered : fits entry.act entry.answer ≡ true
+  pub answered : answer_fits entry.act entry.answer ≡ true
   pub made : All IsPair entry.made
 
 -- a text that is an entry's

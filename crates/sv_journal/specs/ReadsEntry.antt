@@ -25,6 +25,6 @@ ReadsEntry (Ok found) line = IsEntry found.0 (plain_entry found.1) × (line ≡ 
 ReadsEntry (Err why) line = Departs why line
 
 -- this entry at this place, unless memory ran out
-abbrev pub ReadsThis : Result (ℕ × Entry) EntryRefused → ℕ → PlainEntry → Type 0
-ReadsThis (Ok found) place entry = (found.0 ≡ place) × (plain_entry found.1 ≡ entry)
-ReadsThis (Err why) place entry = why ≡ WantOfMemory
+abbrev pub ReadsThisEntry : Result (ℕ × Entry) EntryRefused → ℕ → PlainEntry → Type 0
+ReadsThisEntry (Ok found) place entry = (found.0 ≡ place) × (plain_entry found.1 ≡ entry)
+ReadsThisEntry (Err why) place entry = why ≡ WantOfMemory

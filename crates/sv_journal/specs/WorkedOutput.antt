@@ -25,8 +25,8 @@ plain_path_entries =
     ∷ []
 
 -- the line X←n, where the arrow is one glyph
-abbrev pub assignment : List ℕ → List ℕ → List ℕ
-assignment arrow n = codes "      X" ++ (arrow ++ n)
+abbrev pub line_assigning : List ℕ → List ℕ → List ℕ
+line_assigning arrow n = codes "      X" ++ (arrow ++ n)
 
 -- the line that offers X to a party, where the quad is one glyph
 abbrev pub offer_line : List ℕ → List ℕ → List ℕ
@@ -35,7 +35,7 @@ offer_line quad party = codes "      " ++ (party ++ (codes " " ++ (quad ++ codes
 -- what the two users saw, in codes of glyphs
 abbrev pub plain_path_transcripts : List PlainTranscript
 plain_path_transcripts =
-    record { user = 1001; lines = assignment (left_arrow ∷ []) (codes "3") ∷ offer_line (quad ∷ []) (codes "1002") ∷ codes "1" ∷ assignment (left_arrow ∷ []) (codes "4") ∷ [] }
+    record { user = 1001; lines = line_assigning (left_arrow ∷ []) (codes "3") ∷ offer_line (quad ∷ []) (codes "1002") ∷ codes "1" ∷ line_assigning (left_arrow ∷ []) (codes "4") ∷ [] }
     ∷ record { user = 1002; lines = offer_line (quad ∷ []) (codes "1001") ∷ codes "2" ∷ codes "      X" ∷ codes "4" ∷ [] }
     ∷ []
 
@@ -52,10 +52,10 @@ abbrev pub plain_path_output : List ℕ
 plain_path_output =
     flat_map (λ line. line ++ line_feed ∷ [])
     (codes "user 1001"
-    ∷ (bar ∷ assignment arrow_utf8 (codes "3"))
+    ∷ (bar ∷ line_assigning arrow_utf8 (codes "3"))
     ∷ (bar ∷ offer_line quad_utf8 (codes "1002"))
     ∷ codes "|1"
-    ∷ (bar ∷ assignment arrow_utf8 (codes "4"))
+    ∷ (bar ∷ line_assigning arrow_utf8 (codes "4"))
     ∷ codes "user 1002"
     ∷ (bar ∷ offer_line quad_utf8 (codes "1001"))
     ∷ codes "|2"

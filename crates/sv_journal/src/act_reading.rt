@@ -1,6 +1,6 @@
 ghost use Rattle.std.specs.Prelude.{◌≡◌, IfErr};
 ghost use Rattle.text_reader.specs.Reading.{Gives, IsLeft};
-ghost use Rattle.sv_journal.specs.ActReading.{act_at, act_behind, offer_at, set_control_at, set_at, local_at, party_at};
+ghost use Rattle.sv_journal.specs.ActReading.{read_act, act_behind, read_offer, read_set_control, read_set, read_local, read_party};
 
 use crate::act_word::{ACT_WORDS, ActWord};
 use crate::hold_reading::read_control;
@@ -12,9 +12,9 @@ use sv_text::{read_array, read_value};
 use text_reader::{Cursor, Unread};
 
 /// Reads an act. It takes memory for its value.
-#[tactic(auto, unfolding(crate::specs::ActReading::act_at))]
+#[tactic(auto, unfolding(crate::specs::ActReading::read_act))]
 pub(crate) fn read_act(alloc: Global, cursor: &mut Cursor<'_>) -> Result<Act, Unread>
-    ensures { Gives (λ act. (act, cursor.new)) result (act_at cursor.old) }
+    ensures { Gives (λ act. (act, cursor.new)) result (read_act cursor.old) }
 {
     let word = read_word(cursor, &ACT_WORDS)?;
     read_act_behind(alloc, cursor, word)
@@ -40,9 +40,9 @@ fn read_act_behind(alloc: Global, cursor: &mut Cursor<'_>, word: ActWord) -> Res
 }
 
 // Reads to whom an offer is made, its names and the value that is handed in.
-#[tactic(auto, unfolding(crate::specs::ActReading::offer_parts_at))]
+#[tactic(auto, unfolding(crate::specs::ActReading::read_offer_parts))]
 fn read_offer(alloc: Global, cursor: &mut Cursor<'_>) -> Result<Act, Unread>
-    ensures { Gives (λ act. (act, cursor.new)) result (offer_at cursor.old) }
+    ensures { Gives (λ act. (act, cursor.new)) result (read_offer cursor.old) }
 {
     let to = read_party(cursor)?;
     let local = read_local(cursor)?;
@@ -58,18 +58,18 @@ fn read_offer(alloc: Global, cursor: &mut Cursor<'_>) -> Result<Act, Unread>
 }
 
 // Reads the name whose control is set, and the control.
-#[tactic(auto, unfolding(crate::specs::ActReading::set_control_parts_at))]
+#[tactic(auto, unfolding(crate::specs::ActReading::read_set_control_parts))]
 fn read_set_control(cursor: &mut Cursor<'_>) -> Result<Act, Unread>
-    ensures { Gives (λ act. (act, cursor.new)) result (set_control_at cursor.old) }
+    ensures { Gives (λ act. (act, cursor.new)) result (read_set_control cursor.old) }
 {
     let local = read_local(cursor)?;
     Ok(Act::SetControl(local, read_control(cursor)?))
 }
 
 // Reads the name that is set, and the value.
-#[tactic(auto, unfolding(crate::specs::ActReading::set_parts_at))]
+#[tactic(auto, unfolding(crate::specs::ActReading::read_set_parts))]
 fn read_set(alloc: Global, cursor: &mut Cursor<'_>) -> Result<Act, Unread>
-    ensures { Gives (λ act. (act, cursor.new)) result (set_at cursor.old) }
+    ensures { Gives (λ act. (act, cursor.new)) result (read_set cursor.old) }
 {
     let local = read_local(cursor)?;
     cursor.text(b" ")?;
@@ -77,20 +77,20 @@ fn read_set(alloc: Global, cursor: &mut Cursor<'_>) -> Result<Act, Unread>
     Ok(Act::Set(local, value))
 }
 
-/// Reads a name behind a blank. No memory.
-#[tactic(auto, unfolding(crate::specs::ActReading::local_at))]
+/// Reads a name behind a blank. It takes no memory.
+#[tactic(auto, unfolding(crate::specs::ActReading::read_local))]
 pub(crate) fn read_local(cursor: &mut Cursor<'_>) -> Result<Name, Unread>
-    ensures value { Gives (λ name. (name, cursor.new)) result (local_at cursor.old) }
+    ensures value { Gives (λ name. (name, cursor.new)) result (read_local cursor.old) }
     ensures free { IfErr result IsLeft }
 {
     cursor.text(b" ")?;
     cursor.name()
 }
 
-/// Reads a party behind a blank. No memory.
-#[tactic(auto, unfolding(crate::specs::ActReading::party_at))]
+/// Reads a party behind a blank. It takes no memory.
+#[tactic(auto, unfolding(crate::specs::ActReading::read_party))]
 pub(crate) fn read_party(cursor: &mut Cursor<'_>) -> Result<u32, Unread>
-    ensures value { Gives (λ party. (party, cursor.new)) result (party_at cursor.old) }
+    ensures value { Gives (λ party. (party, cursor.new)) result (read_party cursor.old) }
     ensures free { IfErr result IsLeft }
 {
     cursor.text(b" ")?;

@@ -1,7 +1,7 @@
 ghost use Rattle.std.specs.Prelude.{◌≡◌};
-ghost use Rattle.sv_journal.specs.ActWord.{act_word, word_of, answers_to};
+ghost use Rattle.sv_journal.specs.ActWord.{act_word, word_of_act, answers_to};
 
-use crate::word::Word;
+use crate::word::EntryWord;
 use sv_events::{Act, AnswerKind};
 
 /// The word with which an act begins.
@@ -35,7 +35,7 @@ pub(crate) const ACT_WORDS: [ActWord; 11] = [
     ActWord::Leave,
 ];
 
-impl Word for ActWord {
+impl EntryWord for ActWord {
     ghost use Rattle.sv_journal.specs.ActWord.{act_word};
 
     ghost text = { act_word };
@@ -58,9 +58,9 @@ impl Word for ActWord {
 }
 
 impl ActWord {
-    /// The word of an act. No memory.
+    /// The word of an act.
     pub(crate) fn of(act: &Act) -> ActWord
-        ensures { result ≡ word_of act.now }
+        ensures { result ≡ word_of_act act.now }
     {
         match act {
             Act::Offer { .. } => ActWord::Offer,
@@ -77,7 +77,7 @@ impl ActWord {
         }
     }
 
-    /// The answers that an entry of such an act may have. No memory.
+    /// The answers that an entry of such an act may have.
     pub(crate) fn answers(self) -> &'static [AnswerKind]
         ensures { result.now ≡ answers_to self }
     {

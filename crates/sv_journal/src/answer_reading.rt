@@ -1,19 +1,19 @@
 ghost use Rattle.std.specs.Prelude.{◌≡◌};
 ghost use Rattle.sv_events.specs.Answer.{plain_answer};
-ghost use Rattle.text_reader.specs.Reading.{Gives, step_at};
-ghost use Rattle.sv_journal.specs.ActReading.{local_at, party_at};
-ghost use Rattle.sv_journal.specs.AnswerReading.{answer_at, answer_behind, degree_at, kept_at, parties_at, names_at, told_at, goes_on};
+ghost use Rattle.text_reader.specs.Reading.{Gives, read_step};
+ghost use Rattle.sv_journal.specs.ActReading.{read_local, read_party};
+ghost use Rattle.sv_journal.specs.AnswerReading.{read_answer, answer_behind, read_degree, read_kept, read_parties, read_names, read_told, list_goes_on};
 
 use crate::act_reading::{read_local, read_party};
 use crate::hold_reading::{read_control, read_hold};
-use crate::word::{Word, read_word};
+use crate::word::{EntryWord, read_word};
 use apl_arrays::{Array, Glyph, List, NameList, PartyList};
 use std::alloc::Global;
 use sv_events::{Answer, AnswerKind};
 use sv_text::{read_array, read_value};
 use text_reader::{Cursor, Unread};
 
-impl Word for AnswerKind {
+impl EntryWord for AnswerKind {
     ghost use Rattle.sv_journal.specs.AnswerReading.{kind_word};
 
     ghost text = { kind_word };
@@ -39,13 +39,13 @@ impl Word for AnswerKind {
 }
 
 /// Reads an answer of one of these kinds. It takes memory for its value or its list.
-#[tactic(auto, unfolding(crate::specs::AnswerReading::answer_at))]
+#[tactic(auto, unfolding(crate::specs::AnswerReading::read_answer))]
 pub(crate) fn read_answer(
     alloc: Global,
     cursor: &mut Cursor<'_>,
     kinds: &[AnswerKind],
 ) -> Result<Answer, Unread>
-    ensures { Gives (λ answer. (plain_answer answer, cursor.new)) result (answer_at kinds.now cursor.old) }
+    ensures { Gives (λ answer. (plain_answer answer, cursor.new)) result (read_answer kinds.now cursor.old) }
 {
     let kind = read_word(cursor, kinds)?;
     read_answer_behind(alloc, cursor, kind)
@@ -78,9 +78,9 @@ fn read_answer_behind(
 }
 
 // Reads a degree behind a blank.
-#[tactic(auto, unfolding(crate::specs::AnswerReading::degree_at))]
+#[tactic(auto, unfolding(crate::specs::AnswerReading::read_degree))]
 fn read_degree(cursor: &mut Cursor<'_>) -> Result<u8, Unread>
-    ensures { Gives (λ degree. (degree, cursor.new)) result (degree_at cursor.old) }
+    ensures { Gives (λ degree. (degree, cursor.new)) result (read_degree cursor.old) }
 {
     cursor.text(b" ")?;
     let degree = cursor.number(0, 2)?;
@@ -88,18 +88,18 @@ fn read_degree(cursor: &mut Cursor<'_>) -> Result<u8, Unread>
 }
 
 // Reads a value that is told, behind a blank.
-#[tactic(auto, unfolding(crate::specs::AnswerReading::told_at))]
+#[tactic(auto, unfolding(crate::specs::AnswerReading::read_told))]
 fn read_told(alloc: Global, cursor: &mut Cursor<'_>) -> Result<Array, Unread>
-    ensures { Gives (λ value. (value, cursor.new)) result (told_at cursor.old) }
+    ensures { Gives (λ value. (value, cursor.new)) result (read_told cursor.old) }
 {
     cursor.text(b" ")?;
     read_array(alloc, cursor)
 }
 
 // Reads the degree before a retraction, and the value that is kept.
-#[tactic(auto, unfolding(crate::specs::AnswerReading::kept_parts_at))]
+#[tactic(auto, unfolding(crate::specs::AnswerReading::read_kept_parts))]
 fn read_kept(alloc: Global, cursor: &mut Cursor<'_>) -> Result<Answer, Unread>
-    ensures { Gives (λ answer. (plain_answer answer, cursor.new)) result (kept_at cursor.old) }
+    ensures { Gives (λ answer. (plain_answer answer, cursor.new)) result (read_kept cursor.old) }
 {
     let degree = read_degree(cursor)?;
     cursor.text(b" ")?;
@@ -109,7 +109,7 @@ fn read_kept(alloc: Global, cursor: &mut Cursor<'_>) -> Result<Answer, Unread>
 
 // Reads parties, each behind a blank, up to the pairs or the end.
 fn read_parties(alloc: Global, cursor: &mut Cursor<'_>) -> Result<PartyList, Unread>
-    ensures { Gives (λ list. (list.items, cursor.new)) result (parties_at cursor.old) }
+    ensures { Gives (λ list. (list.items, cursor.new)) result (read_parties cursor.old) }
 {
     let mut parties = List::new(alloc);
     let most = cursor.left();
@@ -121,7 +121,7 @@ fn read_parties(alloc: Global, cursor: &mut Cursor<'_>) -> Result<PartyList, Unr
 
 // Reads a party more, where the list goes on.
 fn add_party(cursor: &mut Cursor<'_>, parties: &mut PartyList) -> Result<(), Unread>
-    ensures { Gives (λ _. (parties.new.items, cursor.new)) result (step_at goes_on party_at parties.old.items cursor.old) }
+    ensures { Gives (λ _. (parties.new.items, cursor.new)) result (read_step list_goes_on read_party parties.old.items cursor.old) }
 {
     if goes_on(cursor) {
         let party = read_party(cursor)?;
@@ -134,7 +134,7 @@ fn add_party(cursor: &mut Cursor<'_>, parties: &mut PartyList) -> Result<(), Unr
 
 // Reads names, each behind a blank, up to the pairs or the end.
 fn read_names(alloc: Global, cursor: &mut Cursor<'_>) -> Result<NameList, Unread>
-    ensures { Gives (λ list. (list.items, cursor.new)) result (names_at cursor.old) }
+    ensures { Gives (λ list. (list.items, cursor.new)) result (read_names cursor.old) }
 {
     let mut names = List::new(alloc);
     let most = cursor.left();
@@ -146,7 +146,7 @@ fn read_names(alloc: Global, cursor: &mut Cursor<'_>) -> Result<NameList, Unread
 
 // Reads a name more, where the list goes on.
 fn add_name(cursor: &mut Cursor<'_>, names: &mut NameList) -> Result<(), Unread>
-    ensures { Gives (λ _. (names.new.items, cursor.new)) result (step_at goes_on local_at names.old.items cursor.old) }
+    ensures { Gives (λ _. (names.new.items, cursor.new)) result (read_step list_goes_on read_local names.old.items cursor.old) }
 {
     if goes_on(cursor) {
         let name = read_local(cursor)?;
@@ -159,7 +159,7 @@ fn add_name(cursor: &mut Cursor<'_>, names: &mut NameList) -> Result<(), Unread>
 
 // Whether a list goes on: a blank stands there, and no pair begins with it.
 fn goes_on(cursor: &Cursor<'_>) -> bool
-    ensures { result ≡ goes_on cursor.now }
+    ensures { result ≡ list_goes_on cursor.now }
 {
     cursor.first() == Some(Glyph::BLANK) && cursor.second() != Some(Glyph::PLUS)
 }

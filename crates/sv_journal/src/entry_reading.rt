@@ -1,10 +1,10 @@
 ghost use Rattle.std.specs.Prelude.{◌≡◌, ◌-◌, ℕ, length};
 ghost use Rattle.sv_events.specs.Entry.{PlainEntry, plain_entry};
-ghost use Rattle.text_reader.specs.Reading.{Gives, step_at};
-ghost use Rattle.sv_journal.specs.EntryReading.{entry_at, is_left, pair_at, pairs_at};
+ghost use Rattle.text_reader.specs.Reading.{Gives, read_step};
+ghost use Rattle.sv_journal.specs.EntryReading.{read_entry, is_left, read_pair, read_pairs};
 ghost use Rattle.sv_journal.specs.EntryText.{entry_text};
 ghost use Rattle.sv_journal.specs.IsEntry.{IsEntry};
-ghost use Rattle.sv_journal.specs.ReadsEntry.{ReadsEntry, ReadsThis, refusal};
+ghost use Rattle.sv_journal.specs.ReadsEntry.{ReadsEntry, ReadsThisEntry, refusal};
 
 use crate::act_reading::{read_act, read_party};
 use crate::act_word::ActWord;
@@ -40,7 +40,7 @@ impl Error for EntryRefused {}
 /// memory for the values and lists of the entry.
 pub fn read(alloc: Global, line: &Line) -> Result<(u64, Entry), EntryRefused>
     ensures value { ReadsEntry result line.now.items }
-    ensures again { (place : ℕ) (entry : PlainEntry) → IsEntry place entry → line.now.items ≡ entry_text place entry → ReadsThis result place entry }
+    ensures again { (place : ℕ) (entry : PlainEntry) → IsEntry place entry → line.now.items ≡ entry_text place entry → ReadsThisEntry result place entry }
 {
     let mut cursor = Cursor::new(line.as_slice());
     match read_entry(alloc, &mut cursor) {
@@ -67,9 +67,9 @@ fn read_part(line: &Line, left: usize) -> u64
 }
 
 // Reads an entry to the end of the line.
-#[tactic(auto, unfolding(crate::specs::EntryReading::entry_at))]
+#[tactic(auto, unfolding(crate::specs::EntryReading::read_entry))]
 fn read_entry(alloc: Global, cursor: &mut Cursor<'_>) -> Result<(u64, Entry), Unread>
-    ensures { Gives (λ found. ((found.0, plain_entry found.1), cursor.new)) result (entry_at cursor.old) }
+    ensures { Gives (λ found. ((found.0, plain_entry found.1), cursor.new)) result (read_entry cursor.old) }
 {
     let place = cursor.number(1, u64::MAX)?;
     let party = read_party(cursor)?;
@@ -89,7 +89,7 @@ fn read_entry(alloc: Global, cursor: &mut Cursor<'_>) -> Result<(u64, Entry), Un
 
 // Reads pairs to the end of the line.
 fn read_pairs(alloc: Global, cursor: &mut Cursor<'_>) -> Result<PairList, Unread>
-    ensures { Gives (λ pairs. (pairs.items, cursor.new)) result (pairs_at cursor.old) }
+    ensures { Gives (λ pairs. (pairs.items, cursor.new)) result (read_pairs cursor.old) }
 {
     let mut pairs = List::new(alloc);
     let most = cursor.left();
@@ -101,7 +101,7 @@ fn read_pairs(alloc: Global, cursor: &mut Cursor<'_>) -> Result<PairList, Unread
 
 // Reads a pair more, where the line is not at its end.
 fn add_pair(cursor: &mut Cursor<'_>, pairs: &mut PairList) -> Result<(), Unread>
-    ensures { Gives (λ _. (pairs.new.items, cursor.new)) result (step_at is_left pair_at pairs.old.items cursor.old) }
+    ensures { Gives (λ _. (pairs.new.items, cursor.new)) result (read_step is_left read_pair pairs.old.items cursor.old) }
 {
     if cursor.first().is_some() {
         let pair = read_pair(cursor)?;
@@ -113,9 +113,9 @@ fn add_pair(cursor: &mut Cursor<'_>, pairs: &mut PairList) -> Result<(), Unread>
 }
 
 // Reads a pair, the lower place first.
-#[tactic(auto, unfolding(crate::specs::EntryReading::pair_at))]
+#[tactic(auto, unfolding(crate::specs::EntryReading::read_pair))]
 fn read_pair(cursor: &mut Cursor<'_>) -> Result<Pair, Unread>
-    ensures { Gives (λ pair. (pair, cursor.new)) result (pair_at cursor.old) }
+    ensures { Gives (λ pair. (pair, cursor.new)) result (read_pair cursor.old) }
 {
     cursor.text(b" + ")?;
     let a = cursor.number(1, u64::MAX - 1)?;

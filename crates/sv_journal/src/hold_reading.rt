@@ -1,8 +1,8 @@
 ghost use Rattle.std.specs.Prelude.{◌≡◌, IfErr};
 ghost use Rattle.text_reader.specs.Reading.{Gives, IsLeft};
-ghost use Rattle.sv_journal.specs.HoldReading.{bit_at, control_at, hold_at};
+ghost use Rattle.sv_journal.specs.HoldReading.{read_bit, read_control, read_hold};
 
-use crate::word::{Word, read_word};
+use crate::word::{EntryWord, read_word};
 use sv_access::{Control, Owners};
 use sv_events::Hold;
 use text_reader::{Cursor, Unread};
@@ -10,7 +10,7 @@ use text_reader::{Cursor, Unread};
 // Whose 1 it may be.
 const OWNERS: [Owners; 3] = [Owners::Mine, Owners::Partner, Owners::Both];
 
-impl Word for Owners {
+impl EntryWord for Owners {
     ghost use Rattle.sv_journal.specs.EntryText.{owners_text};
 
     ghost text = { owners_text };
@@ -24,10 +24,10 @@ impl Word for Owners {
     }
 }
 
-/// Reads the four elements of a control or of a state, each behind a blank. No memory.
-#[tactic(auto, unfolding(crate::specs::HoldReading::bits_at))]
+/// Reads the four elements of a control or of a state, each behind a blank. It takes no memory.
+#[tactic(auto, unfolding(crate::specs::HoldReading::read_bits))]
 pub(crate) fn read_control(cursor: &mut Cursor<'_>) -> Result<Control, Unread>
-    ensures value { Gives (λ control. (control, cursor.new)) result (control_at cursor.old) }
+    ensures value { Gives (λ control. (control, cursor.new)) result (read_control cursor.old) }
     ensures free { IfErr result IsLeft }
 {
     let first = read_bit(cursor)?;
@@ -38,9 +38,9 @@ pub(crate) fn read_control(cursor: &mut Cursor<'_>) -> Result<Control, Unread>
 }
 
 // Reads an element behind a blank.
-#[tactic(auto, unfolding(crate::specs::HoldReading::bit_at))]
+#[tactic(auto, unfolding(crate::specs::HoldReading::read_bit))]
 fn read_bit(cursor: &mut Cursor<'_>) -> Result<bool, Unread>
-    ensures value { Gives (λ bit. (bit, cursor.new)) result (bit_at cursor.old) }
+    ensures value { Gives (λ bit. (bit, cursor.new)) result (read_bit cursor.old) }
     ensures free { IfErr result IsLeft }
 {
     cursor.text(b" ")?;
@@ -48,10 +48,10 @@ fn read_bit(cursor: &mut Cursor<'_>) -> Result<bool, Unread>
     Ok(bit == 1)
 }
 
-/// Reads what refuses an access behind a blank: the element, and whose 1 it is. No memory.
-#[tactic(auto, unfolding(crate::specs::HoldReading::hold_at))]
+/// Reads what refuses an access behind a blank: the element, and whose 1 it is. It takes no memory.
+#[tactic(auto, unfolding(crate::specs::HoldReading::read_hold))]
 pub(crate) fn read_hold(cursor: &mut Cursor<'_>) -> Result<Hold, Unread>
-    ensures value { Gives (λ hold. (hold, cursor.new)) result (hold_at cursor.old) }
+    ensures value { Gives (λ hold. (hold, cursor.new)) result (read_hold cursor.old) }
     ensures free { IfErr result IsLeft }
 {
     cursor.text(b" ")?;

@@ -1,30 +1,34 @@
 ghost use Rattle.std.specs.Prelude.{◌≡◌, ◌≤◌, IfErr, ℕ, List, length};
 ghost use Rattle.text_reader.specs.Reading.{Gives, IsLeft};
-ghost use Rattle.sv_journal.specs.WordReading.{word_at};
+ghost use Rattle.sv_journal.specs.WordReading.{read_word};
 
 use text_reader::{Cursor, Unread};
 
 /// What has a word of its own in the texts of entries.
-pub(crate) trait Word: Copy {
+pub(crate) trait EntryWord: Copy {
     ghost text: { Self → List ℕ };
 
-    /// Its word. No memory.
+    /// Its word.
     fn text(self) -> &'static [u8]
         ensures { result.now ≡ text self };
 }
 
-/// Reads the word of one of these, none of whose words begins another one's. No memory.
-pub(crate) fn read_word<W: Word>(cursor: &mut Cursor<'_>, words: &[W]) -> Result<W, Unread>
-    ensures value { Gives (λ word. (word, cursor.new)) result (word_at W.text 0 words.now cursor.old) }
+/// Reads the word of one of these, none of whose words begins another one's. It takes no memory.
+pub(crate) fn read_word<W: EntryWord>(cursor: &mut Cursor<'_>, words: &[W]) -> Result<W, Unread>
+    ensures value { Gives (λ word. (word, cursor.new)) result (read_word W.text 0 words.now cursor.old) }
     ensures free { IfErr result IsLeft }
 {
     read_one_of(cursor, words, 0)
 }
 
 // Reads the word of one of these, where so many glyphs stand there that another word begins with.
-fn read_one_of<W: Word>(cursor: &mut Cursor<'_>, words: &[W], shared: usize) -> Result<W, Unread>
+fn read_one_of<W: EntryWord>(
+    cursor: &mut Cursor<'_>,
+    words: &[W],
+    shared: usize,
+) -> Result<W, Unread>
     requires { shared ≤ length cursor.old }
-    ensures value { Gives (λ word. (word, cursor.new)) result (word_at W.text shared words.now cursor.old) }
+    ensures value { Gives (λ word. (word, cursor.new)) result (read_word W.text shared words.now cursor.old) }
     ensures free { IfErr result IsLeft }
 {
     match words {

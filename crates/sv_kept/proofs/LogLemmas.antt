@@ -9,7 +9,7 @@ use Rattle.sv_events.specs.Entry.{PlainEntry}
 use Rattle.sv_rules.specs.Entries.{Entries, next_place, has_left, is_leave, kind_of, is_held, counted_entries, held_elements, entry_weight}
 use Rattle.sv_rules.specs.Legal.{is_user}
 use Rattle.sv_kept.specs.declared.member.Member.{Member}
-use Rattle.sv_kept.specs.Member.{HasMembers, member_of, noted, waiting_at}
+use Rattle.sv_kept.specs.Member.{HasMembers, user_member, noted, waiting_at}
 
 -- where a party waits since an entry
 abbrev pub waiting_since : Entries → PlainEntry → Option ℕ
@@ -17,13 +17,13 @@ waiting_since journal e = if is_held (kind_of e.answer) then Some (next_place jo
 
 -- who is found after an entry
 found_noted : (journal : Entries) (e : PlainEntry) (users : List ℕ) (party : ℕ) →
-    let found = if is_user users party then Some (member_of journal party) else None in
+    let found = if is_user users party then Some (user_member journal party) else None in
     (if eqb e.party party then option_map (noted (is_leave e.act) (waiting_since journal e)) found else found)
-    ≡ (if is_user users party then Some (member_of (e ∷ journal) party) else None)
+    ≡ (if is_user users party then Some (user_member (e ∷ journal) party) else None)
 found_noted journal e users party = by (eqb e.party party) (is_user users party)
   where
     by : (own is : Bool) →
-        let found = if is then Some (member_of journal party) else None in
+        let found = if is then Some (user_member journal party) else None in
         (if own then option_map (noted (is_leave e.act) (waiting_since journal e)) found else found)
         ≡ (if is then Some (record { has_left = (own && is_leave e.act) || has_left journal party; waiting = if own then waiting_since journal e else waiting_at journal party }) else None)
     by true true = refl

@@ -7,15 +7,15 @@ use Rattle.sv_access.specs.declared.access.Side.{Side}
 use Rattle.sv_access.specs.declared.access.Side.TheVariants.{A, B}
 use Rattle.sv_access.specs.declared.access.Kind.{Kind}
 use Rattle.sv_access.specs.declared.access.Kind.TheVariants.{Set, Use}
-use Rattle.sv_access.specs.declared.state.State.{State}
+use Rattle.sv_access.specs.declared.state.AccessState.{AccessState}
 use Rattle.sv_access.specs.Access.{Access}
 use Rattle.sv_access.specs.State.{state_after}
 use Rattle.sv_access.specs.Story.{Story, last_value, state_of_story}
-use Rattle.sv_kept.specs.Laws.{IsBy, SidesKnowTheirLast, given, known_since, share_since}
+use Rattle.sv_kept.specs.Laws.{IsBy, SidesKnowTheirLast, value_given, known_since, share_since}
 use Rattle.sv_kept.specs.Share.{IsShareOf, PlainShare, after_access, giver, known_to, share_of, unseen_by_other}
 
 -- a set leaves the same state, whatever the state was
-set_from_any : (state : State) (side : Side) → state_after state side Set ≡ unseen_by_other side true
+set_from_any : (state : AccessState) (side : Side) → state_after state side Set ≡ unseen_by_other side true
 set_from_any state A = refl
 set_from_any state B = refl
 
@@ -31,7 +31,7 @@ next_state : (side : Side) (kind : Kind) (value : PlainArray) (story : Story Pla
     → state_of_story (record { side = side; kind = kind; value = value } ∷ story) ≡ unseen_by_other side (is_some (last_value {V = PlainArray} (record { side = side; kind = kind; value = value } ∷ story)))
 next_state side Set value story so_far = set_from_any (state_of_story story) side
 next_state side Use value story so_far =
-    ap (λ (state : State). state_after state side Use) so_far ∙ own_use side (is_some (last_value story))
+    ap (λ (state : AccessState). state_after state side Use) so_far ∙ own_use side (is_some (last_value story))
 
 -- an access by this side
 abbrev IsOf : Side → Access PlainArray → Type 0
@@ -45,7 +45,7 @@ state_of_one side (access ∷ story) by =
     (sym (All-head (IsOf side) access story by)) (next_state side access.kind access.value story (state_of_one side story (All-tail (IsOf side) access story by)))
 
 -- two offers that couple have the giver's story
-pub begins : (story : Story PlainArray) (a b : Option PlainArray) → IsBy (giver a) story → last_value story ≡ given a b → IsShareOf story (share_of a b)
+pub begins : (story : Story PlainArray) (a b : Option PlainArray) → IsBy (giver a) story → last_value story ≡ value_given a b → IsShareOf story (share_of a b)
 begins story (Some value) b by is = record {
   state = sym (state_of_one A story by ∙ ap (λ (last : Option PlainArray). unseen_by_other A (is_some last)) is);
   value = sym is;

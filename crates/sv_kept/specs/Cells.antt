@@ -4,7 +4,7 @@ use Rattle.std.specs.Option.{option_map_or}
 use Rattle.sv_kept.specs.Share.{PlainShare, share_of}
 use Rattle.sv_kept.specs.Cell.{coupled_with, holding, is_alone, known_alone, share_in}
 use Rattle.sv_kept.specs.declared.cell.Cell.{Cell}
-use Rattle.sv_kept.specs.declared.cell.Held.TheVariants.{Alone, Shared, Lent}
+use Rattle.sv_kept.specs.declared.cell.CellContent.TheVariants.{Alone, Shared, Lent}
 use Rattle.sv_kept.specs.declared.cells.Cells.{Cells}
 
 -- the cell at a place, if there is one

@@ -24,13 +24,13 @@ abbrev pub IsBy : Side → Story PlainArray → Type 0
 IsBy side story = All (λ access. access.side ≡ side) story
 
 -- the value that the giver knows
-abbrev pub given : Option PlainArray → Option PlainArray → Option PlainArray
-given (Some a) b = Some a
-given None b = b
+abbrev pub value_given : Option PlainArray → Option PlainArray → Option PlainArray
+value_given (Some a) b = Some a
+value_given None b = b
 
 -- two offers that couple have the giver's story, which ends in what the giver knows
 abbrev pub CouplingsBegin : Type 0
-CouplingsBegin = (story : Story PlainArray) (a b : Option PlainArray) → IsBy (giver a) story → last_value story ≡ given a b → IsShareOf story (share_of a b)
+CouplingsBegin = (story : Story PlainArray) (a b : Option PlainArray) → IsBy (giver a) story → last_value story ≡ value_given a b → IsShareOf story (share_of a b)
 
 -- an open offer's story is its party's alone, as side A, and its state is told by whether it has a value
 abbrev pub OpenOffersAreAlone : Type 0

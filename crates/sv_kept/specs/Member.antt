@@ -11,8 +11,8 @@ waiting_at (e ∷ journal) party =
     if e.party == party then (if is_held (kind_of e.answer) then Some (next_place journal) else None) else waiting_at journal party
 
 -- what is kept of a user
-abbrev pub member_of : Entries → ℕ → Member
-member_of journal user = record { has_left = has_left journal user; waiting = waiting_at journal user }
+abbrev pub user_member : Entries → ℕ → Member
+user_member journal user = record { has_left = has_left journal user; waiting = waiting_at journal user }
 
 -- what is kept of a user after an entry of its own, by which it leaves or not, and waits since or not
 abbrev pub noted : Bool → Option ℕ → Member → Member
@@ -20,4 +20,4 @@ noted leaves waiting member = record { has_left = leaves || member.has_left; wai
 
 -- what is kept is found by the number of each user, and by no other
 abbrev pub HasMembers : {S : Type 0} → Entries → List ℕ → HashMap ℕ Member S → Type 0
-HasMembers journal users members = (party : ℕ) → get nat_eq members party ≡ (if is_user users party then Some (member_of journal party) else None)
+HasMembers journal users members = (party : ℕ) → get nat_eq members party ≡ (if is_user users party then Some (user_member journal party) else None)

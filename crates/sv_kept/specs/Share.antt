@@ -4,8 +4,8 @@ use Rattle.sv_access.specs.declared.access.Side.{Side}
 use Rattle.sv_access.specs.declared.access.Side.TheVariants.{A, B}
 use Rattle.sv_access.specs.declared.access.Kind.{Kind}
 use Rattle.sv_access.specs.declared.access.Kind.TheVariants.{Set, Use}
-use Rattle.sv_access.specs.declared.state.State.{State}
-use Rattle.sv_access.specs.declared.state.State.TheVariants.{Quiet}
+use Rattle.sv_access.specs.declared.state.AccessState.{AccessState}
+use Rattle.sv_access.specs.declared.state.AccessState.TheVariants.{Quiet}
 use Rattle.sv_access.specs.State.{state_after}
 use Rattle.sv_access.specs.Story.{Story, last_value, state_of_story}
 
@@ -13,16 +13,16 @@ use Rattle.sv_access.specs.Story.{Story, last_value, state_of_story}
 pub record PlainShare : Type 0 where
   pub a : Option PlainArray
   pub b : Option PlainArray
-  pub state : State
+  pub state : AccessState
   pub last : Side
 
 -- the state where a side set all that was set, and the other has seen nothing
-abbrev pub unseen_by_other : Side → Bool → State
+abbrev pub unseen_by_other : Side → Bool → AccessState
 unseen_by_other side true = state_after Quiet side Set
 unseen_by_other side false = Quiet
 
 -- the state of an offer that is open, by whether its party knows a value: the party is side A
-abbrev pub alone : Bool → State
+abbrev pub alone : Bool → AccessState
 alone known = unseen_by_other A known
 
 -- the side that gives the first value: A where it knows one, else B
@@ -45,7 +45,7 @@ abbrev pub shared_value : PlainShare → Option PlainArray
 shared_value share = known_to share share.last
 
 -- the state that the giver's value leaves: unseen where it knows one
-abbrev pub given_state : PlainShare → State
+abbrev pub given_state : PlainShare → AccessState
 given_state share = unseen_by_other share.last (is_some (shared_value share))
 
 -- the share of two offers that couple, by the values that their parties know

@@ -9,7 +9,7 @@ use sv_access::{Control, NO_CONTROL, Side};
 
 /// What the cell of an offer holds.
 #[derive(Debug, Drop)]
-pub enum Held {
+pub enum CellContent {
     /// The value that its party knows, while the offer is open.
     Alone(Option<Array>),
     /// What it shares, where it is the lower offer of a coupling.
@@ -25,38 +25,38 @@ pub struct Cell {
     pub vector: Control,
     pub lacks_control: bool,
     pub owes_reply: bool,
-    pub held: Held,
+    pub held: CellContent,
 }
 
-impl Held {
-    /// The value that is known alone: none where the offer is coupled. No memory.
+impl CellContent {
+    /// The value that is known alone: none where the offer is coupled.
     pub fn known(&self) -> Option<&Array>
         ensures { option_copied result ≡ known_alone self.now }
     {
         match self {
-            Held::Alone(value) => value.as_ref(),
-            Held::Shared(_) | Held::Lent => None,
+            CellContent::Alone(value) => value.as_ref(),
+            CellContent::Shared(_) | CellContent::Lent => None,
         }
     }
 
-    /// The share that is held, if one is. No memory.
+    /// The share that is held, if one is.
     pub fn share(&self) -> Option<&Share>
         ensures { option_copied result ≡ share_in self.now }
     {
         match self {
-            Held::Shared(share) => Some(share),
-            Held::Alone(_) | Held::Lent => None,
+            CellContent::Shared(share) => Some(share),
+            CellContent::Alone(_) | CellContent::Lent => None,
         }
     }
 
-    /// The value that was known alone. No memory.
+    /// The value that was known alone.
     pub fn into_known(self) -> Option<Array>
         ensures { result ≡ known_alone self }
     {
         match self {
-            Held::Alone(value) => value,
-            Held::Shared(share) => no_value(share),
-            Held::Lent => None,
+            CellContent::Alone(value) => value,
+            CellContent::Shared(share) => no_value(share),
+            CellContent::Lent => None,
         }
     }
 }
@@ -69,7 +69,7 @@ fn no_value(_share: Share) -> Option<Array>
 }
 
 impl Cell {
-    /// The cell of a new offer that was handed this value. No memory.
+    /// The cell of a new offer that was handed this value.
     pub fn new(value: Option<Array>) -> Cell
         ensures { result ≡ new_cell value }
     {
@@ -77,11 +77,11 @@ impl Cell {
             vector: NO_CONTROL,
             lacks_control: true,
             owes_reply: false,
-            held: Held::Alone(value),
+            held: CellContent::Alone(value),
         }
     }
 
-    /// Its party sets a control. No memory.
+    /// Its party sets a control.
     pub fn control(&mut self, control: Control)
         ensures { self.new ≡ controlled self.old control }
     {
@@ -89,21 +89,21 @@ impl Cell {
         self.lacks_control = false;
     }
 
-    /// It holds something else. No memory.
-    pub fn hold(&mut self, held: Held)
+    /// It holds something else.
+    pub fn hold(&mut self, held: CellContent)
         ensures { self.new ≡ holding self.old held }
     {
         self.held = held;
     }
 
-    /// A side sets a value, which moves into the share. No memory.
+    /// A side sets a value, which moves into the share.
     pub fn set(&mut self, side: Side, value: Array)
         requires { IsSome (share_in self.old.held) }
         ensures { self.new ≡ holding self.old (after_set_in self.old.held side value) }
     {
         match &mut self.held {
-            Held::Shared(share) => set_shared(share, side, value),
-            Held::Alone(_) | Held::Lent => unreachable!(),
+            CellContent::Shared(share) => set_shared(share, side, value),
+            CellContent::Alone(_) | CellContent::Lent => unreachable!(),
         }
     }
 
@@ -116,12 +116,12 @@ impl Cell {
         ensures err { OnErr result (self.new ≡ self.old) }
     {
         match &mut self.held {
-            Held::Shared(share) => share.learn_last(side),
-            Held::Alone(_) | Held::Lent => unreachable!(),
+            CellContent::Shared(share) => share.learn_last(side),
+            CellContent::Alone(_) | CellContent::Lent => unreachable!(),
         }
     }
 
-    /// Its party set or used, and got a value or did not. No memory.
+    /// Its party set or used, and got a value or did not.
     pub fn answer(&mut self, got: bool)
         ensures { self.new ≡ answered self.old got }
     {
@@ -129,8 +129,8 @@ impl Cell {
     }
 }
 
-/// The cell of an offer that was coupled, with the vector of before. No memory.
-pub fn coupled_with(vector: Control, held: Held) -> Cell
+/// The cell of an offer that was coupled, with the vector of before.
+pub fn coupled_with(vector: Control, held: CellContent) -> Cell
     ensures { result ≡ coupled_with vector held }
 {
     Cell {
@@ -141,7 +141,7 @@ pub fn coupled_with(vector: Control, held: Held) -> Cell
     }
 }
 
-// A side of a share sets a value. No memory.
+// A side of a share sets a value.
 fn set_shared(share: &mut Share, side: Side, value: Array)
     ensures { share.new ≡ after_set share.old side value }
 {
@@ -158,11 +158,11 @@ pub struct Parted {
     pub b: Cell,
 }
 
-/// The cells of two offers whose coupling ends, by that with the share and the other. No memory.
+/// The cells of two offers whose coupling ends, by that with the share and the other.
 pub fn part_cells(a: Cell, mut b: Cell) -> Parted
     requires { IsSome (share_in a.held) }
-    ensures a { (share : PlainShare) → share_in a.held ≡ Some share → result.a ≡ holding a (Held.Alone share.a) }
-    ensures b { (share : PlainShare) → share_in a.held ≡ Some share → result.b ≡ holding b (Held.Alone share.b) }
+    ensures a { (share : PlainShare) → share_in a.held ≡ Some share → result.a ≡ holding a (CellContent.Alone share.a) }
+    ensures b { (share : PlainShare) → share_in a.held ≡ Some share → result.b ≡ holding b (CellContent.Alone share.b) }
 {
     let Cell {
         vector,
@@ -170,17 +170,17 @@ pub fn part_cells(a: Cell, mut b: Cell) -> Parted
         owes_reply,
         held,
     } = a;
-    let Held::Shared(share) = held else {
+    let CellContent::Shared(share) = held else {
         unreachable!()
     };
     let known = share.into_known();
-    b.hold(Held::Alone(known.b));
+    b.hold(CellContent::Alone(known.b));
     Parted {
         a: Cell {
             vector,
             lacks_control,
             owes_reply,
-            held: Held::Alone(known.a),
+            held: CellContent::Alone(known.a),
         },
         b,
     }

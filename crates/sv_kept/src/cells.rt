@@ -5,7 +5,7 @@ ghost use Rattle.sv_kept.specs.Cells.{CouplesAt, ChangesAt, KeepsCells, PartsAt,
 ghost use Rattle.sv_kept.specs.Share.{shared_value};
 
 use crate::Share;
-use crate::cell::{Cell, Held, Parted, coupled_with, part_cells};
+use crate::cell::{Cell, CellContent, Parted, coupled_with, part_cells};
 use apl_arrays::{Array, WantOfMemory};
 use std::alloc::Global;
 use std::collections::HashMap;
@@ -19,7 +19,7 @@ pub struct Cells {
 }
 
 impl Cells {
-    /// No cells. No memory.
+    /// No cells.
     pub fn new(alloc: Global) -> Cells
         ensures { (at : ℕ) → cell_at result at ≡ None }
     {
@@ -29,14 +29,14 @@ impl Cells {
         }
     }
 
-    /// The cell at a place, if there is one. No memory.
+    /// The cell at a place, if there is one.
     pub fn get(&self, place: u64) -> Option<&Cell>
         ensures { option_copied result ≡ cell_at self.now place }
     {
         self.cells.get(&place)
     }
 
-    /// Whether the party of the open offer at a place knows a value. No memory.
+    /// Whether the party of the open offer at a place knows a value.
     pub fn knows(&self, place: u64) -> bool
         ensures { result ≡ is_some (option_and_then (λ cell. known_alone cell.held) (cell_at self.now place)) }
     {
@@ -46,7 +46,7 @@ impl Cells {
         }
     }
 
-    /// Whether the cell at a place has a share. No memory.
+    /// Whether the cell at a place has a share.
     pub fn shares(&self, place: u64) -> bool
         ensures { result ≡ is_some (option_and_then (λ cell. share_in cell.held) (cell_at self.now place)) }
     {
@@ -65,7 +65,7 @@ impl Cells {
         Ok(())
     }
 
-    /// The cell of a new offer that was handed a value, where there is room. No memory.
+    /// The cell of a new offer that was handed a value, where there is room.
     pub fn open(&mut self, place: u64, value: Option<Array>)
         requires { 0 < room_of self.old }
         ensures { PutsAt self.old self.new place (Some (new_cell value)) }
@@ -76,14 +76,14 @@ impl Cells {
         }
     }
 
-    /// The cell at a place goes. No memory.
+    /// The cell at a place goes.
     pub fn close(&mut self, place: u64)
         ensures { PutsAt self.old self.new place None }
     {
         self.cells.remove(&place);
     }
 
-    // Puts a cell in place of one, which is answered. No memory.
+    // Puts a cell in place of one, which is answered.
     fn replace(&mut self, place: u64, cell: Cell) -> Cell
         requires { IsSome (cell_at self.old place) }
         ensures value { cell_at self.old place ≡ Some result }
@@ -95,7 +95,7 @@ impl Cells {
         }
     }
 
-    // Takes the cell at a place out, and leaves an empty one. No memory.
+    // Takes the cell at a place out, and leaves an empty one.
     fn take(&mut self, place: u64) -> Cell
         requires { IsSome (cell_at self.old place) }
         ensures value { cell_at self.old place ≡ Some result }
@@ -104,7 +104,7 @@ impl Cells {
         self.replace(place, Cell::new(None))
     }
 
-    // Puts a cell in place of one that is not wanted. No memory.
+    // Puts a cell in place of one that is not wanted.
     fn put(&mut self, place: u64, cell: Cell)
         requires { IsSome (cell_at self.old place) }
         ensures { PutsAt self.old self.new place (Some cell) }
@@ -112,7 +112,7 @@ impl Cells {
         drop(self.replace(place, cell));
     }
 
-    /// The party of the offer at a place sets a control. No memory.
+    /// The party of the offer at a place sets a control.
     pub fn control(&mut self, place: u64, control: Control)
         requires { IsSome (cell_at self.old place) }
         ensures { ChangesAt self.old self.new place (λ cell. controlled cell control) }
@@ -123,7 +123,7 @@ impl Cells {
         }
     }
 
-    /// The party of the offer at a place set or used, and got a value or did not. No memory.
+    /// The party of the offer at a place set or used, and got a value or did not.
     pub fn answered(&mut self, place: u64, got: bool)
         requires { IsSome (cell_at self.old place) }
         ensures { ChangesAt self.old self.new place (λ cell. answered cell got) }
@@ -134,18 +134,18 @@ impl Cells {
         }
     }
 
-    /// The party of the open offer at a place knows a value, which moves in. No memory.
+    /// The party of the open offer at a place knows a value, which moves in.
     pub fn learn(&mut self, place: u64, value: Array)
         requires { IsTrue (is_alone_at self.old place) }
-        ensures { ChangesAt self.old self.new place (λ cell. holding cell (Held.Alone (Some value))) }
+        ensures { ChangesAt self.old self.new place (λ cell. holding cell (CellContent.Alone (Some value))) }
     {
         match self.cells.get_mut(&place) {
-            Some(cell) => cell.hold(Held::Alone(Some(value))),
+            Some(cell) => cell.hold(CellContent::Alone(Some(value))),
             None => unreachable!(),
         }
     }
 
-    /// A side of the coupling whose lower offer is at a place sets a value, which moves in. No memory.
+    /// A side of the coupling whose lower offer is at a place sets a value, which moves in.
     pub fn set(&mut self, place: u64, side: Side, value: Array)
         requires { IsSome (option_and_then (λ cell. share_in cell.held) (cell_at self.old place)) }
         ensures { ChangesAt self.old self.new place (λ cell. holding cell (after_set_in cell.held side value)) }
@@ -170,7 +170,7 @@ impl Cells {
         }
     }
 
-    /// Two open offers are coupled: what their parties know is shared, and the lower offer's cell has the share. No memory.
+    /// Two open offers are coupled: what their parties know is shared, and the lower offer's cell has the share.
     pub fn couple(&mut self, a: u64, b: u64)
         requires apart { a ≢ b }
         requires a { IsSome (cell_at self.old a) }
@@ -182,11 +182,11 @@ impl Cells {
         let vector_a = of_a.vector;
         let vector_b = of_b.vector;
         let share = Share::new(self.alloc, of_a.held.into_known(), of_b.held.into_known());
-        self.put(a, coupled_with(vector_a, Held::Shared(share)));
-        self.put(b, coupled_with(vector_b, Held::Lent));
+        self.put(a, coupled_with(vector_a, CellContent::Shared(share)));
+        self.put(b, coupled_with(vector_b, CellContent::Lent));
     }
 
-    /// The coupling of two offers ends: each cell holds again what its party knows. No memory.
+    /// The coupling of two offers ends: each cell holds again what its party knows.
     pub fn part(&mut self, a: u64, b: u64)
         requires apart { a ≢ b }
         requires a { IsSome (option_and_then (λ cell. share_in cell.held) (cell_at self.old a)) }

@@ -10,7 +10,7 @@ mod log;
 mod member;
 mod share;
 
-pub use cell::{Cell, Held};
+pub use cell::{Cell, CellContent};
 pub use cells::Cells;
 pub use laws::shares_follow_stories;
 pub use log::Log;

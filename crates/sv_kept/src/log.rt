@@ -1,7 +1,7 @@
 ghost use Rattle.std.specs.Prelude.{◌≡◌, ◌+◌, ◌≤◌, ◌<◌, ◌∷◌, [], Some, None, min, reverse, length, IfOk, OnOk, if◌then◌else◌};
 ghost use Rattle.sv_rules.specs.Limits.{most_entries, most_journal_elements};
 ghost use Rattle.sv_events.specs.Entry.{plain_entry};
-ghost use Rattle.sv_kept.specs.Member.{member_of};
+ghost use Rattle.sv_kept.specs.Member.{user_member};
 ghost use Rattle.sv_rules.specs.Entries.{is_full, next_place};
 ghost use Rattle.sv_rules.specs.Journal.{journal_of};
 ghost use Rattle.sv_rules.specs.Legal.{is_user};
@@ -81,42 +81,42 @@ impl Log {
         })
     }
 
-    /// The entries, oldest first. No memory.
+    /// The entries, oldest first.
     pub fn entries(&self) -> &[Entry]
         ensures { journal_of result.now ≡ self.now.journal }
     {
         self.journal.as_slice()
     }
 
-    /// The entries as they are kept, oldest first. No memory.
+    /// The entries as they are kept, oldest first.
     pub fn into_journal(self) -> Journal
         ensures { reverse result.items ≡ self.journal }
     {
         self.journal
     }
 
-    /// The users. No memory.
+    /// The users.
     pub fn users(&self) -> &[u32]
         ensures { result.now ≡ self.now.users }
     {
         &self.users
     }
 
-    /// What is kept of a user. No memory.
+    /// What is kept of a user.
     pub fn member(&self, user: u32) -> Option<Member>
-        ensures { result ≡ (if is_user self.now.users user then Some (member_of self.now.journal user) else None) }
+        ensures { result ≡ (if is_user self.now.users user then Some (user_member self.now.journal user) else None) }
     {
         self.members.get(&user).copied()
     }
 
-    /// Whether the journal takes no more entries but leaves. No memory.
+    /// Whether the journal takes no more entries but leaves.
     pub fn is_full(&self) -> bool
         ensures { result ≡ is_full self.now.journal }
     {
         self.counted >= ENTRY_LIMIT || self.elements >= HELD_LIMIT
     }
 
-    /// The place of the entry that comes next. No memory.
+    /// The place of the entry that comes next.
     pub fn next_place(&self) -> u64
         ensures { result ≡ next_place self.now.journal }
     {
@@ -134,7 +134,7 @@ impl Log {
         self.journal.reserve(self.users.len() + 1)
     }
 
-    /// Adds an entry, where there is room. No memory.
+    /// Adds an entry, where there is room.
     pub fn push(&mut self, entry: Entry)
         requires { 0 < self.old.room }
         ensures users { self.new.users ≡ self.old.users }

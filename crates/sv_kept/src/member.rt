@@ -33,7 +33,7 @@ pub fn members_of(alloc: Global, users: &[u32]) -> Result<Members, WantOfMemory>
     Ok(members)
 }
 
-/// Notes an entry of a party, if it is a user: it leaves by it or not, and waits since or not. No memory.
+/// Notes an entry of a party, if it is a user: it leaves by it or not, and waits since or not.
 pub fn note(members: &mut Members, party: u32, leaves: bool, waiting: Option<u64>)
     ensures { (user : ℕ) → get nat_eq members.new user
         ≡ (if party == user then option_map (noted leaves waiting) (get nat_eq members.old user) else get nat_eq members.old user) }

@@ -7,7 +7,7 @@ ghost use Rattle.sv_kept.specs.Share.{after_get, after_set, alone, giver, given_
 use apl_arrays::{Array, WantOfMemory, renew_value};
 use std::alloc::Global;
 use std::marker::Model;
-use sv_access::{Kind, Side, State, after};
+use sv_access::{AccessState, Kind, Side, after};
 
 /// The values that the two sides of a coupling know.
 #[derive(Debug, Drop)]
@@ -22,7 +22,7 @@ pub struct Share {
     alloc: Global,
     a: Option<Array>,
     b: Option<Array>,
-    state: State,
+    state: AccessState,
     last: Side,
 }
 
@@ -34,21 +34,21 @@ impl Model for Share {
     ghost view = { λ s. record { a = s.a; b = s.b; state = s.state; last = s.last } };
 }
 
-/// The state of an open offer, by whether its party knows a value. No memory.
-pub fn alone(known: bool) -> State
+/// The state of an open offer, by whether its party knows a value.
+pub fn alone(known: bool) -> AccessState
     ensures { result ≡ alone known }
 {
     unseen_by_other(Side::A, known)
 }
 
 // The state where a side set all that was set, and the other has seen nothing.
-fn unseen_by_other(side: Side, known: bool) -> State
+fn unseen_by_other(side: Side, known: bool) -> AccessState
     ensures { result ≡ unseen_by_other side known }
 {
     if known {
-        after(State::Quiet, side, Kind::Set)
+        after(AccessState::Quiet, side, Kind::Set)
     } else {
-        State::Quiet
+        AccessState::Quiet
     }
 }
 
@@ -80,7 +80,6 @@ fn renew_known(
 
 impl Share {
     /// The share of two offers that couple, by the values that their parties know: the first value is A's, else B's.
-    /// No memory.
     pub fn new(alloc: Global, a: Option<Array>, b: Option<Array>) -> Share
         ensures { result ≡ share_of a b }
     {
@@ -98,14 +97,14 @@ impl Share {
         }
     }
 
-    /// Whose set is unseen. No memory.
-    pub fn state(&self) -> State
+    /// Whose set is unseen.
+    pub fn state(&self) -> AccessState
         ensures { result ≡ self.now.state }
     {
         self.state
     }
 
-    /// The value that a side knows: the last that it set or got, else the one that it had at coupling. No memory.
+    /// The value that a side knows: the last that it set or got, else the one that it had at coupling.
     pub fn known(&self, side: Side) -> Option<&Array>
         ensures { option_copied result ≡ known_to self.now side }
     {
@@ -115,7 +114,7 @@ impl Share {
         }
     }
 
-    /// The value that was set last, if one was: the one that the side knows that set it. No memory.
+    /// The value that was set last, if one was: the one that the side knows that set it.
     pub fn last(&self) -> Option<&Array>
         ensures { option_copied result ≡ shared_value self.now }
     {
@@ -177,7 +176,7 @@ impl Share {
         }
     }
 
-    // A side comes to know a value. No memory.
+    // A side comes to know a value.
     fn learn(&mut self, side: Side, value: Array)
         ensures { self.new ≡ knowing self.old side value }
     {
@@ -187,7 +186,7 @@ impl Share {
         }
     }
 
-    /// The values that both sides know. No memory.
+    /// The values that both sides know.
     pub fn into_known(self) -> Known
         ensures a { result.a ≡ self.a }
         ensures b { result.b ≡ self.b }

@@ -15,7 +15,7 @@ use Rattle.sv_rules.specs.declared.coupling.Made.{Made}
 use Rattle.sv_rules.specs.Entries.{Entries, next_place, kind_of}
 use Rattle.sv_rules.specs.Standing.{standing, own_offer, is_own, is_ended, without_ended, is_match}
 use Rattle.sv_rules.specs.Coupling.{made_in, stands_at, both_stand, couplings, couplings_among, has_place, is_coupled, is_open_match, open_match, pair_of, recoupled, reopened_by_leave, kept_by_ending, reopened_by_ending, made_by_ending}
-use Rattle.sv_rules.specs.Outcome.{Outcome, ending_outcome, retraction_outcome, pairs_by_ending}
+use Rattle.sv_rules.specs.Outcome.{ActOutcome, ending_outcome, retraction_outcome, pairs_by_ending}
 use Rattle.sv_rules.specs.Legal.{IsLegal, MayFollow}
 use Rattle.sv_offer_laws.specs.LegalLaws.{made_at}
 use Rattle.sv_offer_laws.specs.EndingLaws.{IsOpen, CouldCouple, NoneMatch, IsNextPair, couplings_then}
@@ -176,7 +176,7 @@ pairs_of_ending journal party (One local) = by (own_offer (standing journal) par
 pub made_of_ending : (users : List ℕ) (journal : Entries) (e : PlainEntry) (ending : Ending) → MayFollow users journal e → (act_row e.act).row.ends ≡ Some ending →
     e.made ≡ map (λ one. one.pair) (made_by_ending (next_place journal) (standing journal) (couplings journal) e.party ending)
 made_of_ending users journal e ending may ends =
-    may.made ∙ ap (λ (o : Outcome). o.made) (outcome_of_ending journal e.party e.act ending ends) ∙ pairs_of_ending journal e.party ending
+    may.made ∙ ap (λ (o : ActOutcome). o.made) (outcome_of_ending journal e.party e.act ending ends) ∙ pairs_of_ending journal e.party ending
 
 pub standing_left : (journal : Entries) (e : PlainEntry) (ending : Ending) → (act_row e.act).row.ends ≡ Some ending → standing (e ∷ journal) ≡ without_ended (standing journal) e.party ending
 standing_left journal e ending ends = standing_ended (standing journal) (next_place journal) e.party (kind_of e.answer) e.act ending ends

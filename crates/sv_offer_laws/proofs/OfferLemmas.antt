@@ -16,10 +16,10 @@ use Rattle.sv_rules.specs.declared.standing.Standing.{Standing}
 use Rattle.sv_rules.specs.Coupling.{both_stand, couplings, degree_at, has_place, is_open_match, made_in, open_match, pair_of}
 use Rattle.sv_rules.specs.Entries.{Entries, next_place}
 use Rattle.sv_rules.specs.Legal.{IsLegal}
-use Rattle.sv_rules.specs.Outcome.{Outcome, answer_only, joined_to, new_offer, offer_outcome, outcome, retraction_outcome}
+use Rattle.sv_rules.specs.Outcome.{ActOutcome, answer_only, joined_to, new_offer, offer_outcome, outcome, retraction_outcome}
 use Rattle.sv_rules.specs.Standing.{standing, offer_count, own_offer}
 use Rattle.sv_rules.specs.Story.{known}
-use Rattle.sv_offer_laws.specs.OfferLaws.{HasDegree, IsNewlyAnswered, IsOwn, matched, offered, past_limit, places, unmatched}
+use Rattle.sv_offer_laws.specs.OfferLaws.{HasDegree, IsNewlyAnswered, IsOwn, matched, offered, past_limit, pair_of_places, unmatched}
 use Rattle.sv_offer_laws.proofs.CouplingLemmas.{none_is_taken_of_none, oldest_match_is_taken}
 use Rattle.sv_offer_laws.proofs.LegalLemmas.{IsSound-from_legal}
 use Rattle.sv_offer_laws.proofs.Members.{Contains-behind, Contains-head, list_any_member}
@@ -46,11 +46,11 @@ pub own_is : (journal : Entries) (party : ℕ) (local : List ℕ) (offer : Stand
 own_is journal party local offer is = ap₂ (own_offer (standing journal)) (sym is.own) (sym is.named) ∙ own_offer-is journal offer is.stands
 
 -- what becomes of an act in a legal journal
-pub answer_is : (users : List ℕ) (journal : Entries) (e : PlainEntry) → IsLegal users (e ∷ journal) → (act : Act) → e.act ≡ act → (becomes : Outcome) → outcome journal e.party act ≡ becomes → e.answer ≡ becomes.answer
-answer_is users journal e legal act is becomes out = legal.0.answer ∙ ap (λ (a : Act). (outcome journal e.party a).answer) is ∙ ap (λ (o : Outcome). o.answer) out
+pub answer_is : (users : List ℕ) (journal : Entries) (e : PlainEntry) → IsLegal users (e ∷ journal) → (act : Act) → e.act ≡ act → (becomes : ActOutcome) → outcome journal e.party act ≡ becomes → e.answer ≡ becomes.answer
+answer_is users journal e legal act is becomes out = legal.0.answer ∙ ap (λ (a : Act). (outcome journal e.party a).answer) is ∙ ap (λ (o : ActOutcome). o.answer) out
 
-pub made_is : (users : List ℕ) (journal : Entries) (e : PlainEntry) → IsLegal users (e ∷ journal) → (act : Act) → e.act ≡ act → (becomes : Outcome) → outcome journal e.party act ≡ becomes → e.made ≡ becomes.made
-made_is users journal e legal act is becomes out = legal.0.made ∙ ap (λ (a : Act). (outcome journal e.party a).made) is ∙ ap (λ (o : Outcome). o.made) out
+pub made_is : (users : List ℕ) (journal : Entries) (e : PlainEntry) → IsLegal users (e ∷ journal) → (act : Act) → e.act ≡ act → (becomes : ActOutcome) → outcome journal e.party act ≡ becomes → e.made ≡ becomes.made
+made_is users journal e legal act is becomes out = legal.0.made ∙ ap (λ (a : Act). (outcome journal e.party a).made) is ∙ ap (λ (o : ActOutcome). o.made) out
 
 pub offers_again_tell_their_degree : (users : List ℕ) (journal : Entries) (e : PlainEntry) → IsLegal users (e ∷ journal) → (to : ℕ) (local surrogate : List ℕ) (handed : Option PlainArray) → e.act ≡ Offer to local surrogate handed →
     (offer : Standing) → IsOwn journal e.party local offer → (d : ℕ) × (e.answer ≡ degree d) × (e.made ≡ []) × HasDegree journal offer d
@@ -61,7 +61,7 @@ offers_again_tell_their_degree users journal e legal to local surrogate handed i
   degree_is journal offer,
 )
   where
-    again : Outcome
+    again : ActOutcome
     again = answer_only (degree (degree_at (couplings journal) offer.place))
 
     out : outcome journal e.party (Offer to local surrogate handed) ≡ again
@@ -78,9 +78,9 @@ couplings_stay journal e same none =
     both offers made = both_stand offers made.pair
 
 -- the pair of an offer and a lower one
-lower_first : (match new : Standing) → match.place < new.place → pair_of match new ≡ places match.place new.place
+lower_first : (match new : Standing) → match.place < new.place → pair_of match new ≡ pair_of_places match.place new.place
 lower_first match new low =
-    ap (λ (b : Bool). if b then places match.place new.place else places new.place match.place) (lt-ltb match.place new.place low)
+    ap (λ (b : Bool). if b then pair_of_places match.place new.place else pair_of_places new.place match.place) (lt-ltb match.place new.place low)
 
 pub new_offers_are_answered : (users : List ℕ) (journal : Entries) (e : PlainEntry) → IsLegal users (e ∷ journal) → (to : ℕ) (local surrogate : List ℕ) (handed : Option PlainArray) → e.act ≡ Offer to local surrogate handed →
     own_offer (standing journal) e.party local ≡ None → IsNewlyAnswered journal e (offered journal e.party to local surrogate)

@@ -36,8 +36,8 @@ abbrev pub offered : Entries → ℕ → ℕ → List ℕ → List ℕ → Stand
 offered journal party to local surrogate = record { place = next_place journal; party = party; to = to; local = local; surrogate = surrogate }
 
 -- the pair of two places
-abbrev pub places : ℕ → ℕ → Pair
-places low high = record { a = low; b = high }
+abbrev pub pair_of_places : ℕ → ℕ → Pair
+pair_of_places low high = record { a = low; b = high }
 
 -- what a new offer is answered, and which pair it makes: OfferLimit and none, where its party has 64; else degree 1 and none,
 -- where no standing offer is open and matches it; else degree 2, and the pair with the one of the lowest place
@@ -45,7 +45,7 @@ pub data IsNewlyAnswered (journal : Entries) (e : PlainEntry) (new : Standing) :
   past_limit : offer_count (standing journal) new.party ≡ 64 → e.answer ≡ offer_limit → e.made ≡ [] → IsNewlyAnswered journal e new
   unmatched : offer_count (standing journal) new.party < 64 → ((other : Standing) → Contains (standing journal) other → ¬ IsTrue (is_open_match (couplings journal) new other)) → e.answer ≡ degree 1 → e.made ≡ [] →
       IsNewlyAnswered journal e new
-  matched : offer_count (standing journal) new.party < 64 → (match : Standing) → IsOldestOpenMatch (standing journal) (couplings journal) new match → e.answer ≡ degree 2 → e.made ≡ places match.place new.place ∷ [] →
+  matched : offer_count (standing journal) new.party < 64 → (match : Standing) → IsOldestOpenMatch (standing journal) (couplings journal) new match → e.answer ≡ degree 2 → e.made ≡ pair_of_places match.place new.place ∷ [] →
       IsNewlyAnswered journal e new
 
 -- in a legal journal an offer of a name that does not stand is answered so

@@ -8,8 +8,8 @@ use Rattle.std.proofs.lemmas.List.{map_push}
 use Rattle.apl_arrays.specs.Name.{same_name}
 use Rattle.sv_offer_laws.proofs.OwnLemmas.{same_name-is}
 use Rattle.sv_offers.proofs.SetLemmas.{last_place_gone}
-use Rattle.sv_offers.proofs.ShelfLemmas.{pushed, taken}
-use Rattle.sv_offers.specs.Addressed.{is_made_to, places_to, same_list, without}
+use Rattle.sv_offers.proofs.PartyListLemmas.{pushed, taken}
+use Rattle.sv_offers.specs.Addressed.{is_made_to, places_to, same_list, other_places}
 use Rattle.sv_offers.specs.Places.{ByPlace, without_place}
 use Rattle.sv_offers.specs.declared.place_set.PlaceSet.{PlaceSet}
 use Rattle.sv_rules.specs.declared.standing.Standing.{Standing}
@@ -50,7 +50,7 @@ kept_there false new old same = refl
 
 -- a place that went last in a list and goes again leaves those that were
 pub added_and_gone : (here : Bool) (places : List ℕ) (place : ℕ) → (here ≡ true → All (λ other. other < place) places) →
-    (let added : List ℕ = cond here (places ++ place ∷ []) places in cond here (without added place) added) ≡ places
+    (let added : List ℕ = cond here (places ++ place ∷ []) places in cond here (other_places added place) added) ≡ places
 added_and_gone true places place above = last_place_gone places place (above refl)
 added_and_gone false places place above = refl
 
@@ -65,18 +65,18 @@ places_with : (b : Bool) (offers : List Standing) (new : Standing) →
 places_with true offers new = sym (map_push (λ (o : Standing). o.place) offers new)
 places_with false offers new = refl
 
-places_without : (offers : List Standing) (place : ℕ) → without (map (λ o. o.place) offers) place ≡ map (λ o. o.place) (without_place offers place)
+places_without : (offers : List Standing) (place : ℕ) → other_places (map (λ o. o.place) offers) place ≡ map (λ o. o.place) (without_place offers place)
 places_without [] place = refl
 places_without (offer ∷ offers) place = by (not (eqb offer.place place)) (places_without offers place)
   where
-    by : (b : Bool) → without (map (λ o. o.place) offers) place ≡ map (λ o. o.place) (without_place offers place) →
-        cond b (offer.place ∷ without (map (λ o. o.place) offers) place) (without (map (λ o. o.place) offers) place)
+    by : (b : Bool) → other_places (map (λ o. o.place) offers) place ≡ map (λ o. o.place) (without_place offers place) →
+        cond b (offer.place ∷ other_places (map (λ o. o.place) offers) place) (other_places (map (λ o. o.place) offers) place)
         ≡ map (λ o. o.place) (cond b (offer ∷ without_place offers place) (without_place offers place))
     by true rest = ap (λ ps. offer.place ∷ ps) rest
     by false rest = rest
 
 places_but : (b : Bool) (offers : List Standing) (place : ℕ) →
-    cond b (without (map (λ o. o.place) offers) place) (map (λ o. o.place) offers) ≡ map (λ o. o.place) (cond b (without_place offers place) offers)
+    cond b (other_places (map (λ o. o.place) offers) place) (map (λ o. o.place) offers) ≡ map (λ o. o.place) (cond b (without_place offers place) offers)
 places_but true offers place = places_without offers place
 places_but false offers place = refl
 
@@ -88,7 +88,7 @@ pushed_place party surrogate offers new =
     places_with (p new) (filter p offers) new ∙ ap (map (λ o. o.place)) (pushed p offers new)
 
 pub taken_place : (party : ℕ) (surrogate : Option (List ℕ)) (offers : List Standing) (offer : Standing) → ByPlace offers → Contains offers offer →
-    cond (is_made_to party surrogate offer) (without (places_to offers party surrogate) offer.place) (places_to offers party surrogate) ≡ places_to (without_place offers offer.place) party surrogate
+    cond (is_made_to party surrogate offer) (other_places (places_to offers party surrogate) offer.place) (places_to offers party surrogate) ≡ places_to (without_place offers offer.place) party surrogate
 taken_place party surrogate offers offer by_place there =
     let p : Standing → Bool = is_made_to party surrogate in
     places_but (p offer) (filter p offers) offer.place ∙ ap (map (λ o. o.place)) (taken p offers offer by_place there)

@@ -6,7 +6,7 @@ use Rattle.std.specs.Option.{IsSomeAnd}
 use Rattle.std.proofs.lemmas.Bool.{cases_Bool, eq-eqb, eqb-false, eqb-true, false_from_ne_true, ltb-false, ltb-true, le-ltb, lt-ltb, ne_eqb, not-true, not_from_false}
 use Rattle.std.proofs.lemmas.List.Elements.{All-cons, All-head, All-tail, All-weaker, filter_passes}
 use Rattle.sv_offer_laws.proofs.Members.{filter_whole}
-use Rattle.sv_offers.specs.Senders.{is_above}
+use Rattle.sv_offers.specs.Senders.{is_party_above}
 use Rattle.sv_rules.specs.Questions.{ascending, with_number}
 
 abbrev Below : ℕ → List ℕ → Type 0
@@ -62,35 +62,35 @@ ascending_below top (number ∷ numbers) below =
 
 -- the numbers up to the last one
 abbrev pub upto_last : Option ℕ → List ℕ → List ℕ
-upto_last last numbers = filter (λ number. not (is_above last number)) numbers
+upto_last last numbers = filter (λ number. not (is_party_above last number)) numbers
 
 -- the number comes next: it is above the last one, and no lower one is
 record IsNextAbove (last : Option ℕ) (next : ℕ) (numbers : List ℕ) : Type 0 where
-  above : is_above last next ≡ true
-  lowest : All (λ number. is_above last number ≡ true → next ≤ number) numbers
+  above : is_party_above last next ≡ true
+  lowest : All (λ number. is_party_above last number ≡ true → next ≤ number) numbers
 
 -- what is not above the last is below the next
-stays_below : (last : Option ℕ) (next number : ℕ) → is_above last next ≡ true → is_above last number ≡ false → number < next
+stays_below : (last : Option ℕ) (next number : ℕ) → is_party_above last next ≡ true → is_party_above last number ≡ false → number < next
 stays_below None next number above stays = cc
 stays_below (Some last) next number above stays = omega (arith, ltb-true last next above, ltb-false last number stays)
 
-upto_below : (last : Option ℕ) (next : ℕ) (numbers : List ℕ) → is_above last next ≡ true → Below next (upto_last last numbers)
+upto_below : (last : Option ℕ) (next : ℕ) (numbers : List ℕ) → is_party_above last next ≡ true → Below next (upto_last last numbers)
 upto_below last next numbers above =
-    All-weaker (λ n. not (is_above last n) ≡ true) (λ n. n < next) (λ n stays. stays_below last next n above (not-true (is_above last n) stays)) (upto_last last numbers)
-    (filter_passes (λ n. not (is_above last n)) numbers)
+    All-weaker (λ n. not (is_party_above last n) ≡ true) (λ n. n < next) (λ n stays. stays_below last next n above (not-true (is_party_above last n) stays)) (upto_last last numbers)
+    (filter_passes (λ n. not (is_party_above last n)) numbers)
 
 -- with the next number the list is that of all up to it, if it is among them; else nothing is new
 next_listed : (last : Option ℕ) (next : ℕ) (numbers : List ℕ) → IsNextAbove last next numbers →
     ascending (upto_last (Some next) numbers) ≡ cond (list_any (λ n. eqb n next) numbers) (ascending (upto_last last numbers) ++ next ∷ []) (ascending (upto_last last numbers))
 next_listed last next [] is_next = refl
 next_listed last next (number ∷ numbers) is_next =
-    let behind : IsNextAbove last next numbers = record { above = is_next.above; lowest = All-tail (λ n. is_above last n ≡ true → next ≤ n) number numbers is_next.lowest } in
+    let behind : IsNextAbove last next numbers = record { above = is_next.above; lowest = All-tail (λ n. is_party_above last n ≡ true → next ≤ n) number numbers is_next.lowest } in
     let before : List ℕ = ascending (upto_last last numbers) in
     let below : Below next before = ascending_below next (upto_last last numbers) (upto_below last next numbers is_next.above) in
     let rest = next_listed last next numbers behind in
-    elim (cases_Bool (is_above last number)) [
+    elim (cases_Bool (is_party_above last number)) [
       | inl up ↦
-          let from : next ≤ number = All-head (λ n. is_above last n ≡ true → next ≤ n) number numbers is_next.lowest up in
+          let from : next ≤ number = All-head (λ n. is_party_above last n ≡ true → next ≤ n) number numbers is_next.lowest up in
           elim (cases_Bool (eqb number next)) [
             | inl same ↦
                 let is : number ≡ next = eqb-true number next same in
@@ -113,10 +113,10 @@ next_listed last next (number ∷ numbers) is_next =
     in_front false before lower = refl
 
 -- where none comes next, these are all
-pub none_next : (last : Option ℕ) (numbers : List ℕ) → All (λ n. is_above last n ≡ true → IsSomeAnd None (λ next. next ≤ n)) numbers → upto_last last numbers ≡ numbers
+pub none_next : (last : Option ℕ) (numbers : List ℕ) → All (λ n. is_party_above last n ≡ true → IsSomeAnd None (λ next. next ≤ n)) numbers → upto_last last numbers ≡ numbers
 none_next last numbers none =
-    filter_whole (λ n. not (is_above last n)) numbers
-    (All-weaker (λ n. is_above last n ≡ true → ⊥) (λ n. not (is_above last n) ≡ true) (λ n stays. not_from_false (is_above last n) (false_from_ne_true (is_above last n) stays)) numbers none)
+    filter_whole (λ n. not (is_party_above last n)) numbers
+    (All-weaker (λ n. is_party_above last n ≡ true → ⊥) (λ n. not (is_party_above last n) ≡ true) (λ n stays. not_from_false (is_party_above last n) (false_from_ne_true (is_party_above last n) stays)) numbers none)
 
 -- before the first there are none
 pub list_before : (numbers : List ℕ) → upto_last None numbers ≡ []
@@ -124,7 +124,7 @@ list_before [] = refl
 list_before (number ∷ numbers) = list_before numbers
 
 -- the list up to the number that comes next, which is among them or not
-pub looked_at : (last : Option ℕ) (next : ℕ) (numbers : List ℕ) (b : Bool) → is_above last next ≡ true → All (λ n. is_above last n ≡ true → next ≤ n) numbers →
+pub looked_at : (last : Option ℕ) (next : ℕ) (numbers : List ℕ) (b : Bool) → is_party_above last next ≡ true → All (λ n. is_party_above last n ≡ true → next ≤ n) numbers →
     list_any (λ n. eqb n next) numbers ≡ b →
     ascending (upto_last (Some next) numbers) ≡ cond b (ascending (upto_last last numbers) ++ next ∷ []) (ascending (upto_last last numbers))
 looked_at last next numbers b above lowest is =

@@ -11,13 +11,13 @@ use Rattle.sv_offer_laws.proofs.Members.{list_any_member}
 use Rattle.sv_offer_laws.proofs.OwnLemmas.{own-itself, same_name-is}
 use Rattle.sv_offers.proofs.FilterLemmas.{found_among}
 use Rattle.sv_offers.proofs.PlaceLemmas.{found_elsewhere}
-use Rattle.sv_offers.proofs.ShelfLemmas.{of_party}
+use Rattle.sv_offers.proofs.PartyListLemmas.{of_party}
 use Rattle.sv_offers.specs.Addressed.{listed_at, places_to}
 use Rattle.sv_offers.specs.Finding.{same_key}
 use Rattle.sv_offers.specs.Inside.{AreFound}
 use Rattle.sv_offers.specs.Places.{ByPlace, without_place}
 use Rattle.sv_offers.specs.Senders.{has_sent, is_sent}
-use Rattle.sv_offers.specs.Shelf.{shelf_at}
+use Rattle.sv_offers.specs.PartyList.{list_at}
 use Rattle.sv_offers.specs.declared.standings.Standings.TheInside.{Inside}
 use Rattle.sv_rules.specs.Standing.{is_own, own_offer}
 use Rattle.sv_rules.specs.declared.standing.Standing.{Standing}
@@ -78,7 +78,7 @@ name_replaced offers gone next by_place there is party local =
     ]
 
 -- where the lists and the map answer as before, the offers are found as before
-pub found_as_before : (old new : Inside) → AreFound old → new.placed ≡ old.placed → ((party : ℕ) → shelf_at new.own party ≡ shelf_at old.own party) →
+pub found_as_before : (old new : Inside) → AreFound old → new.placed ≡ old.placed → ((party : ℕ) → list_at new.own party ≡ list_at old.own party) →
     ((party : ℕ) (surrogate : Option (List ℕ)) → listed_at new.made_to party surrogate ≡ listed_at old.made_to party surrogate) →
     ((to from place : ℕ) → has_sent new.senders to from place ≡ has_sent old.senders to from place) →
     ((key : ℕ × List ℕ) → get same_key new.named key ≡ get same_key old.named key) → AreFound new

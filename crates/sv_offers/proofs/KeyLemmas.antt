@@ -15,7 +15,7 @@ use Rattle.std.proofs.lemmas.Cmp.{ranked}
 use Rattle.std.proofs.lemmas.List.Elements.{All-contains, filter_passes}
 use Rattle.std.proofs.lemmas.List.Folds.{Any-from_list_any}
 use Rattle.sv_offer_laws.proofs.Members.{Contains-filter, Contains-from_filter, list_any_member}
-use Rattle.sv_offers.specs.Senders.{is_above, key_order, start_after}
+use Rattle.sv_offers.specs.Senders.{is_party_above, key_order, start_after}
 use Rattle.sv_rules.specs.Coupling.{is_coupled}
 use Rattle.sv_rules.specs.declared.coupling.Made.{Made}
 
@@ -78,7 +78,7 @@ upto_key one other upto = by (nat_cmp one.0 other.0) (nat_cmp one.1 other.1) ref
 
 -- from the start on the offers are to the party or a higher one, and those to it by parties above the last
 pub from_start : (to : ℕ) (last : Option ℕ) (key : ℕ × ℕ × ℕ) → IsFromStart key_order (start_after to last) key →
-    (to ≤ key.0) × (to ≡ key.0 → key.2 < 2 ^ 64 → is_above last key.1 ≡ true)
+    (to ≤ key.0) × (to ≡ key.0 → key.2 < 2 ^ 64 → is_party_above last key.1 ≡ true)
 from_start to None key inside = ((upto_key (to, 0, 0) key inside).0, λ same fits. refl)
 from_start to (Some last) key inside = by (nat_cmp to key.0) (nat_cmp last key.1) refl refl inside
   where
@@ -93,10 +93,10 @@ from_start to (Some last) key inside = by (nat_cmp to key.0) (nat_cmp last key.1
 
 -- so a party that is found there is above the last, has a key there, and no offer's at a later key is lower
 pub found_above : (to : ℕ) (last : Option ℕ) (key : ℕ × ℕ × ℕ) (found : Option ℕ) → IsFromStart key_order (start_after to last) key → key.2 < 2 ^ 64 →
-    found ≡ cond (eqb key.0 to) (Some key.1) None → IfSome found (λ from. is_above last from ≡ true)
-found_above to last key found inside fits is = subst (λ o. IfSome o (λ from. is_above last from ≡ true)) (sym is) (by (eqb key.0 to) refl)
+    found ≡ cond (eqb key.0 to) (Some key.1) None → IfSome found (λ from. is_party_above last from ≡ true)
+found_above to last key found inside fits is = subst (λ o. IfSome o (λ from. is_party_above last from ≡ true)) (sym is) (by (eqb key.0 to) refl)
   where
-    by : (b : Bool) → eqb key.0 to ≡ b → IfSome (cond b (Some key.1) None) (λ from. is_above last from ≡ true)
+    by : (b : Bool) → eqb key.0 to ≡ b → IfSome (cond b (Some key.1) None) (λ from. is_party_above last from ≡ true)
     by true here = (from_start to last key inside).1 (sym (eqb-true key.0 to here)) fits
     by false other = tt
 
@@ -116,7 +116,7 @@ found_lowest to last key found from place inside upto is =
     subst (λ o. IsSomeAnd o (λ next. next ≤ from)) (sym (is ∙ ap (λ b. cond b (Some key.1) None) (eq-eqb key.0 to here))) (first.1 here)
 
 -- an offer to the party by one above the last is behind the start
-pub behind_start : (to : ℕ) (last : Option ℕ) (from place : ℕ) → is_above last from ≡ true → IsFromStart key_order (start_after to last) (to, from, place)
+pub behind_start : (to : ℕ) (last : Option ℕ) (from place : ℕ) → is_party_above last from ≡ true → IsFromStart key_order (start_after to last) (to, from, place)
 behind_start to None from place above =
     rw (ties_itself to) (neither_behind (nat_cmp 0 from) (nat_cmp 0 place) (not_behind 0 from (omega arith)) (not_behind 0 place (omega arith)))
 behind_start to (Some last) from place above = rw (ties_itself to, comes_before last from (ltb-true last from above)) refl

@@ -12,6 +12,6 @@ mod OrderLemmas
 mod PlaceLemmas
 mod SenderLemmas
 mod SetLemmas
-mod ShelfLemmas
+mod PartyListLemmas
 mod SlotLemmas
 mod TableLemmas

@@ -14,7 +14,7 @@ use Rattle.sv_offer_laws.proofs.Members.{list_any_member}
 use Rattle.sv_offers.proofs.KeyLemmas.{keys_tie}
 use Rattle.sv_offers.proofs.PlaceLemmas.{found_elsewhere}
 use Rattle.sv_offers.specs.Places.{ByPlace, without_place}
-use Rattle.sv_offers.specs.Senders.{is_above, is_sent, key_order}
+use Rattle.sv_offers.specs.Senders.{is_party_above, is_sent, key_order}
 use Rattle.sv_offers.specs.Table.{is_open_by, is_open_to}
 use Rattle.sv_rules.specs.Coupling.{is_coupled}
 use Rattle.sv_rules.specs.declared.coupling.Made.{Made}
@@ -75,10 +75,10 @@ some_sent offers to from place sent =
 
 -- what is no higher than any party that the set has is no higher than any that made one of the offers
 pub lowest_sender : (offers : List Standing) (to : ℕ) (last next : Option ℕ) →
-    ((from place : ℕ) → is_above last from ≡ true → list_any (is_sent to from place) offers ≡ true → IsSomeAnd next (λ n. n ≤ from)) →
-    All (λ offer. offer.to ≡ to → is_above last offer.party ≡ true → IsSomeAnd next (λ n. n ≤ offer.party)) offers
+    ((from place : ℕ) → is_party_above last from ≡ true → list_any (is_sent to from place) offers ≡ true → IsSomeAnd next (λ n. n ≤ from)) →
+    All (λ offer. offer.to ≡ to → is_party_above last offer.party ≡ true → IsSomeAnd next (λ n. n ≤ offer.party)) offers
 lowest_sender offers to last next lowest =
-    All-weaker (Contains offers) (λ offer. offer.to ≡ to → is_above last offer.party ≡ true → IsSomeAnd next (λ n. n ≤ offer.party))
+    All-weaker (Contains offers) (λ offer. offer.to ≡ to → is_party_above last offer.party ≡ true → IsSomeAnd next (λ n. n ≤ offer.party))
     (λ offer there same above. lowest offer.party offer.place above (subst (λ (n : ℕ). list_any (is_sent n offer.party offer.place) offers ≡ true) same (own_sent offers offer there)))
     offers (All-contains_itself offers)
 
@@ -136,12 +136,12 @@ has_party (offer ∷ offers) coupled to from = by (is_open_to coupled to offer) 
     by false rest = ap (λ b. b || list_any (is_open_by coupled to from) offers) (and-false (eqb offer.party from)) ∙ rest
 
 pub lowest_open : (offers : List Standing) (coupled : List Made) (to : ℕ) (last next : Option ℕ) →
-    All (λ offer. offer.to ≡ to → is_above last offer.party ≡ true → IsSomeAnd next (λ n. n ≤ offer.party)) offers →
-    All (λ party. is_above last party ≡ true → IsSomeAnd next (λ n. n ≤ party)) (map (λ o. o.party) (filter (is_open_to coupled to) offers))
+    All (λ offer. offer.to ≡ to → is_party_above last offer.party ≡ true → IsSomeAnd next (λ n. n ≤ offer.party)) offers →
+    All (λ party. is_party_above last party ≡ true → IsSomeAnd next (λ n. n ≤ party)) (map (λ o. o.party) (filter (is_open_to coupled to) offers))
 lowest_open offers coupled to last next lowest =
-    All-map (λ party. is_above last party ≡ true → IsSomeAnd next (λ n. n ≤ party)) (λ (o : Standing). o.party) (filter (is_open_to coupled to) offers)
-    (All-weaker (λ offer. (offer.to ≡ to → is_above last offer.party ≡ true → IsSomeAnd next (λ n. n ≤ offer.party)) × (is_open_to coupled to offer ≡ true))
-    (λ offer. is_above last offer.party ≡ true → IsSomeAnd next (λ n. n ≤ offer.party))
+    All-map (λ party. is_party_above last party ≡ true → IsSomeAnd next (λ n. n ≤ party)) (λ (o : Standing). o.party) (filter (is_open_to coupled to) offers)
+    (All-weaker (λ offer. (offer.to ≡ to → is_party_above last offer.party ≡ true → IsSomeAnd next (λ n. n ≤ offer.party)) × (is_open_to coupled to offer ≡ true))
+    (λ offer. is_party_above last offer.party ≡ true → IsSomeAnd next (λ n. n ≤ offer.party))
     (λ offer h. h.0 (eqb-true offer.to to (and_parts (eqb offer.to to) (not (is_coupled coupled offer.place)) h.1).0))
     (filter (is_open_to coupled to) offers)
-    (λ k d within. (All-filter (is_open_to coupled to) (λ offer. offer.to ≡ to → is_above last offer.party ≡ true → IsSomeAnd next (λ n. n ≤ offer.party)) offers lowest k d within, filter_passes (is_open_to coupled to) offers k d within)))
+    (λ k d within. (All-filter (is_open_to coupled to) (λ offer. offer.to ≡ to → is_party_above last offer.party ≡ true → IsSomeAnd next (λ n. n ≤ offer.party)) offers lowest k d within, filter_passes (is_open_to coupled to) offers k d within)))

@@ -11,7 +11,7 @@ use Rattle.std.proofs.lemmas.List.{append-nil}
 use Rattle.std.proofs.lemmas.List.Elements.{All-head, All-tail, All-weaker, filter-append}
 use Rattle.sv_offer_laws.proofs.Members.{filter_whole}
 use Rattle.sv_offers.proofs.OrderLemmas.{same_test}
-use Rattle.sv_offers.specs.Addressed.{without}
+use Rattle.sv_offers.specs.Addressed.{other_places}
 
 -- places behind one are above it, and ascend
 behind_above : (place : ℕ) (places : List ℕ) → AllPairs (λ one other. one < other) (place ∷ places) → All (λ other. place < other) places
@@ -31,7 +31,7 @@ place_goes_last (other ∷ places) place above =
     ∙ ap (λ rest. other ∷ rest) (place_goes_last places place (All-tail (λ (p : ℕ). p < place) other places above))
 
 -- a place that is taken out is in none that are left
-pub place_goes : (places : List ℕ) (place : ℕ) → AllPairs (λ one other. one < other) places → remove_key (is_at (nat_cmp place)) places ≡ without places place
+pub place_goes : (places : List ℕ) (place : ℕ) → AllPairs (λ one other. one < other) places → remove_key (is_at (nat_cmp place)) places ≡ other_places places place
 place_goes [] place ascend = refl
 place_goes (other ∷ places) place ascend =
     let test = same_test place other in
@@ -41,15 +41,15 @@ place_goes (other ∷ places) place ascend =
           let is : other ≡ place = eqb-true other place here in
           let all = filter_whole (λ (p : ℕ). not (eqb p place)) places
           (All-weaker (λ (p : ℕ). other < p) (λ p. not (eqb p place) ≡ true) (λ p above. ap not (ne_eqb p place (λ same. omega arith))) places (behind_above other places ascend)) in
-          ap (λ b. cond b places (other ∷ rest)) (test ∙ here) ∙ sym all ∙ sym (ap (λ b. cond (not b) (other ∷ without places place) (without places place)) here)
+          ap (λ b. cond b places (other ∷ rest)) (test ∙ here) ∙ sym all ∙ sym (ap (λ b. cond (not b) (other ∷ other_places places place) (other_places places place)) here)
       | inr elsewhere ↦
           ap (λ b. cond b places (other ∷ rest)) (test ∙ elsewhere)
           ∙ ap (λ ps. other ∷ ps) (place_goes places place (behind_ascend other places ascend))
-          ∙ sym (ap (λ b. cond (not b) (other ∷ without places place) (without places place)) elsewhere)
+          ∙ sym (ap (λ b. cond (not b) (other ∷ other_places places place) (other_places places place)) elsewhere)
     ]
 
 -- a place that went last and goes again leaves those that were
-pub last_place_gone : (places : List ℕ) (place : ℕ) → All (λ other. other < place) places → without (places ++ place ∷ []) place ≡ places
+pub last_place_gone : (places : List ℕ) (place : ℕ) → All (λ other. other < place) places → other_places (places ++ place ∷ []) place ≡ places
 last_place_gone places place above =
     let others : ℕ → Bool = λ (p : ℕ). not (eqb p place) in
     filter-append others places (place ∷ [])

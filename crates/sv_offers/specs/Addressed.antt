@@ -24,8 +24,8 @@ abbrev pub listed_at : Addressed → ℕ → Option (List ℕ) → List ℕ
 listed_at addressed party surrogate = unwrap_or (get same_list addressed.lists (party, surrogate)) []
 
 -- the places but one
-abbrev pub without : List ℕ → ℕ → List ℕ
-without places place = filter (λ other. not (other == place)) places
+abbrev pub other_places : List ℕ → ℕ → List ℕ
+other_places places place = filter (λ other. not (other == place)) places
 
 -- one list is another now, if it is there; the others are as before
 abbrev pub ChangesList : Addressed → Addressed → (ℕ × Option (List ℕ)) → (List ℕ → List ℕ) → Type 0

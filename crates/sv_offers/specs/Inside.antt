@@ -5,7 +5,7 @@ use Rattle.sv_offers.specs.Addressed.{HasMadeTo}
 use Rattle.sv_offers.specs.Finding.{FindsMates, FindsNames}
 use Rattle.sv_offers.specs.Places.{ByPlace}
 use Rattle.sv_offers.specs.Senders.{HasSent}
-use Rattle.sv_offers.specs.Shelf.{HasOwn}
+use Rattle.sv_offers.specs.PartyList.{HasOwn}
 use Rattle.sv_offers.specs.Slots.{SlotsByMaking, couplings_in}
 use Rattle.sv_offers.specs.declared.couplings.Couplings.TheInside as couplings
 use Rattle.sv_offers.specs.declared.standings.Standings.TheInside as standings

@@ -9,7 +9,7 @@ abbrev pub plain_offers : Inside → PlainOffers
 plain_offers t = record { offers = t.offers; coupled = t.coupled.items }
 
 -- they fit together, and as many offers as stand may be noted, and coupled anew
-pub record IsKept (t : Inside) : Type 0 where
+pub record IsWholeIndex (t : Inside) : Type 0 where
   pub fit : FitTogether (plain_offers t)
   pub note_room : length t.offers ≤ vec_capacity t.reopened
   pub pair_room : length t.offers ≤ t.coupled.room

@@ -6,6 +6,6 @@ pub mod PlaceSet
 pub mod Placed
 pub mod Places
 pub mod Senders
-pub mod Shelf
+pub mod PartyList
 pub mod Slots
 pub mod Table

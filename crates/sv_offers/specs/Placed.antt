@@ -2,7 +2,7 @@
 use Rattle.std.specs.Prelude.{◌≡◌, ℕ, All}
 use Rattle.std.specs.BTreeMap.{BTreeMap, values}
 use Rattle.sv_offers.specs.Places.{ByPlace}
-use Rattle.sv_offers.specs.declared.placed.Placed.TheInside.{Inside}
+use Rattle.sv_offers.specs.declared.placed.PlacedOffers.TheInside.{Inside}
 use Rattle.sv_rules.specs.declared.standing.Standing.{Standing}
 
 -- each offer is kept under its place

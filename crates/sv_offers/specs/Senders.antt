@@ -26,9 +26,9 @@ abbrev pub HasSent : Senders → List Standing → Type 0
 HasSent senders offers = (to from place : ℕ) → has_sent senders to from place ≡ list_any (is_sent to from place) offers
 
 -- a party is above the last one; where there is no last one, each is
-abbrev pub is_above : Option ℕ → ℕ → Bool
-is_above None party = true
-is_above (Some last) party = nat_lt last party
+abbrev pub is_party_above : Option ℕ → ℕ → Bool
+is_party_above None party = true
+is_party_above (Some last) party = nat_lt last party
 
 -- where the offers to a party begin, or where those of one that made some end
 abbrev pub start_after : ℕ → Option ℕ → Bound (ℕ × ℕ × ℕ)

@@ -1,7 +1,7 @@
 ghost use Rattle.std.specs.Prelude.{◌≡◌, ◌≢◌, ◌<◌, ◌++◌, ◌∷◌, ℕ, [], List, All, Option, Some, IsSome, OnOk, OnErr, if◌then◌else◌};
 ghost use Rattle.std.specs.HashMap.{get};
 ghost use Rattle.std.specs.Option.{option_copied, unwrap_or};
-ghost use Rattle.sv_offers.specs.Addressed.{ChangesList, KeepsLists, is_made_to, listed_at, same_list, without};
+ghost use Rattle.sv_offers.specs.Addressed.{ChangesList, KeepsLists, is_made_to, listed_at, same_list, other_places};
 
 use crate::place_set::PlaceSet;
 use apl_arrays::{Name, WantOfMemory};
@@ -18,7 +18,7 @@ pub struct Addressed {
 }
 
 impl Addressed {
-    /// No offers. No memory.
+    /// No offers.
     pub fn new(alloc: Global) -> Addressed
         ensures { (party : ℕ) (surrogate : Option (List ℕ)) → listed_at result party surrogate ≡ [] }
     {
@@ -28,7 +28,7 @@ impl Addressed {
         }
     }
 
-    /// The places of the offers made to a party, of one surrogate or of all, if there are any. No memory.
+    /// The places of the offers made to a party, of one surrogate or of all, if there are any.
     pub fn of(&self, party: u32, surrogate: Option<Name>) -> Option<&PlaceSet>
         ensures { unwrap_or (option_copied result) [] ≡ listed_at self.now party surrogate }
     {
@@ -53,10 +53,10 @@ impl Addressed {
         }
     }
 
-    /// An offer goes from both its lists. No memory.
+    /// An offer goes from both its lists.
     pub fn remove(&mut self, offer: &Standing)
         ensures { (party : ℕ) (surrogate : Option (List ℕ)) → listed_at self.new party surrogate
-            ≡ (if is_made_to party surrogate offer.now then without (listed_at self.old party surrogate) offer.now.place else listed_at self.old party surrogate) }
+            ≡ (if is_made_to party surrogate offer.now then other_places (listed_at self.old party surrogate) offer.now.place else listed_at self.old party surrogate) }
     {
         self.remove_from(None, offer);
         self.remove_from(Some(offer.surrogate), offer);
@@ -80,10 +80,10 @@ impl Addressed {
         }
     }
 
-    // An offer goes from one of its lists, and the list where it was the last. No memory.
+    // An offer goes from one of its lists, and the list where it was the last.
     fn remove_from(&mut self, surrogate: Option<Name>, offer: &Standing)
         ensures { (party : ℕ) (name : Option (List ℕ)) → listed_at self.new party name
-            ≡ (if same_list (offer.now.to, surrogate) (party, name) then without (listed_at self.old party name) offer.now.place else listed_at self.old party name) }
+            ≡ (if same_list (offer.now.to, surrogate) (party, name) then other_places (listed_at self.old party name) offer.now.place else listed_at self.old party name) }
     {
         let key = (offer.to, surrogate);
         self.take_out(&key, offer.place);
@@ -114,9 +114,9 @@ impl Addressed {
         }
     }
 
-    // From a list a place goes, if there is the list. No memory.
+    // From a list a place goes, if there is the list.
     fn take_out(&mut self, key: &(u32, Option<Name>), place: u64)
-        ensures { ChangesList self.old self.new key.now (λ places. without places place) }
+        ensures { ChangesList self.old self.new key.now (λ places. other_places places place) }
     {
         match self.lists.get_mut(key) {
             Some(list) => list.remove(place),
@@ -124,7 +124,7 @@ impl Addressed {
         }
     }
 
-    // A list without a place goes. No memory.
+    // A list without a place goes.
     fn close(&mut self, key: &(u32, Option<Name>))
         ensures same { (party : ℕ) (name : Option (List ℕ)) → listed_at self.new party name ≡ listed_at self.old party name }
         ensures gone { get same_list self.new.lists key.now ≢ Some [] }

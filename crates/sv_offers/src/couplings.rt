@@ -35,7 +35,7 @@ impl Model for Couplings {
 }
 
 impl Couplings {
-    /// No couplings. No memory.
+    /// No couplings.
     pub fn new(alloc: Global) -> Couplings
         ensures { result ≡ record { items = []; room = 0 } }
     {
@@ -46,14 +46,14 @@ impl Couplings {
         }
     }
 
-    /// The coupling of the offer at a place, if it has one. No memory.
+    /// The coupling of the offer at a place, if it has one.
     pub fn with(&self, place: u64) -> Option<Made>
         ensures { result ≡ find (has_place place) self.now.items }
     {
         self.mated.get(&place).copied()
     }
 
-    /// Whether the offer at a place is coupled. No memory.
+    /// Whether the offer at a place is coupled.
     #[tactic(auto, using(crate::proofs::FindingLemmas::found_any))]
     pub fn has(&self, place: u64) -> bool
         ensures { result ≡ is_coupled self.now.items place }
@@ -80,7 +80,7 @@ impl Couplings {
         Ok(())
     }
 
-    /// One coupling more, which goes last, where there is room and none was made later. No memory.
+    /// One coupling more, which goes last, where there is room and none was made later.
     pub fn push(&mut self, made: Made)
         requires room { 0 < self.old.room }
         requires later { All (λ other. other.at ≤ made.at) self.old.items }
@@ -92,7 +92,7 @@ impl Couplings {
         self.room -= 1;
     }
 
-    /// The coupling of the offer at a place goes, and is answered, if it has one. It leaves no room. No memory.
+    /// The coupling of the offer at a place goes, and is answered, if it has one. It leaves no room.
     pub fn part(&mut self, place: u64) -> Option<Made>
         requires { AreOnce self.old.items }
         ensures found { result ≡ find (has_place place) self.old.items }

@@ -78,7 +78,6 @@ fn end_one(
 }
 
 /// The offers that an act of a party ends go, and their couplings; the partners that this sets free are noted by place.
-/// No memory.
 pub fn end_all(
     offers: &mut Standings,
     coupled: &mut Couplings,

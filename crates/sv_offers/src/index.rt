@@ -15,7 +15,7 @@ pub type Named = HashMap<(u32, Name), Standing>;
 /// Couplings by the places of both their offers.
 pub type Mated = HashMap<u64, Made>;
 
-/// An offer is found by its party and its local name, unless another is. No memory.
+/// An offer is found by its party and its local name, unless another is.
 pub fn note_name(named: &mut Named, offer: &Standing)
     requires { 0 < spare named.old }
     ensures { (party : ℕ) (local : List ℕ) → get same_key named.new (party, local)
@@ -30,7 +30,7 @@ pub fn note_name(named: &mut Named, offer: &Standing)
     }
 }
 
-/// By the party and the local name of an offer that went the next is found, or none. No memory.
+/// By the party and the local name of an offer that went the next is found, or none.
 pub fn replace_name(named: &mut Named, gone: &Standing, next: Option<Standing>)
     requires { IsSome (get same_key named.old (gone.now.party, gone.now.local)) }
     ensures { (party : ℕ) (local : List ℕ) → get same_key named.new (party, local)
@@ -48,7 +48,7 @@ pub fn replace_name(named: &mut Named, gone: &Standing, next: Option<Standing>)
     }
 }
 
-// A coupling is found by a place, unless another is. No memory.
+// A coupling is found by a place, unless another is.
 fn note_mate(mated: &mut Mated, at: u64, made: &Made)
     requires { 0 < spare mated.old }
     ensures finds { (place : ℕ) → get nat_eq mated.new place
@@ -63,7 +63,7 @@ fn note_mate(mated: &mut Mated, at: u64, made: &Made)
     }
 }
 
-/// A coupling is found by the places of both its offers, unless others are. No memory.
+/// A coupling is found by the places of both its offers, unless others are.
 pub fn note_mates(mated: &mut Mated, made: &Made)
     requires { 2 ≤ spare mated.old }
     ensures finds { (place : ℕ) → get nat_eq mated.new place
@@ -74,7 +74,7 @@ pub fn note_mates(mated: &mut Mated, made: &Made)
     note_mate(mated, made.pair.b, made);
 }
 
-/// No coupling is found by the places of a pair any more. No memory.
+/// No coupling is found by the places of a pair any more.
 pub fn forget_mates(mated: &mut Mated, made: &Made)
     ensures finds { (place : ℕ) → get nat_eq mated.new place ≡ (if has_place place made.now then None else get nat_eq mated.old place) }
     ensures room { spare mated.old ≤ spare mated.new }

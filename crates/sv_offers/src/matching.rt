@@ -55,7 +55,7 @@ fn match_of_any(offers: &Standings, coupled: &Couplings, offer: &Standing) -> Op
     None
 }
 
-/// Of the open matches of an offer the oldest, if it has any. No memory.
+/// Of the open matches of an offer the oldest, if it has any.
 pub fn open_match(offers: &Standings, coupled: &Couplings, offer: &Standing) -> Option<Standing>
     ensures { result ≡ open_match offers.now coupled.now.items offer.now }
 {
@@ -66,8 +66,7 @@ pub fn open_match(offers: &Standings, coupled: &Couplings, offer: &Standing) -> 
     }
 }
 
-/// The pair that a reopened offer makes at a place: with its open match, where it is still open itself and has one. No
-/// memory.
+/// The pair that a reopened offer makes at a place: with its open match, where it is still open itself and has one.
 pub fn rejoined(at: u64, offers: &Standings, coupled: &Couplings, offer: &Standing) -> Option<Made>
     ensures { result ≡ rejoined at offers.now coupled.now.items offer.now }
 {
@@ -89,7 +88,7 @@ fn coupling_of(offers: &Standings, made: &Made) -> Option<Coupling>
     Some(Coupling { a, b, at: made.at })
 }
 
-/// The coupling of the offer at a place, if it has one. No memory.
+/// The coupling of the offer at a place, if it has one.
 pub fn coupling_at(offers: &Standings, coupled: &Couplings, place: u64) -> Option<Coupling>
     ensures { result ≡ coupling_at offers.now coupled.now.items place }
 {
@@ -119,7 +118,7 @@ fn coupling_with(offers: &Standings, made: &Made, offer: &Standing) -> Option<Co
     Some(Coupling { a, b, at: made.at })
 }
 
-/// The coupling of an offer that stands, if it has one: only its partner is looked up. No memory.
+/// The coupling of an offer that stands, if it has one: only its partner is looked up.
 pub fn coupling_on(offers: &Standings, coupled: &Couplings, offer: &Standing) -> Option<Coupling>
     requires { offer_at offers.now offer.now.place ≡ Some offer.now }
     ensures { result ≡ coupling_at offers.now coupled.now.items offer.now.place }

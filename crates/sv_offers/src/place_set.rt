@@ -26,7 +26,7 @@ impl Model for PlaceSet {
 }
 
 impl PlaceSet {
-    /// No places. No memory.
+    /// No places.
     pub fn new(alloc: Global) -> PlaceSet
         ensures { result ≡ [] }
     {
@@ -35,14 +35,14 @@ impl PlaceSet {
         }
     }
 
-    /// How many places there are. No memory.
+    /// How many places there are.
     pub fn len(&self) -> usize
         ensures { result ≡ length self.now }
     {
         self.places.len()
     }
 
-    /// The places, ascending. No memory.
+    /// The places, ascending.
     pub fn iter(&self) -> Iter<'_, u64>
         ensures rest { result ≡ self.now }
         ensures runs { ShowsInOrder (deref {X = ℕ}) }
@@ -60,7 +60,7 @@ impl PlaceSet {
         Ok(())
     }
 
-    /// A place goes, if it is there. No memory.
+    /// A place goes, if it is there.
     pub fn remove(&mut self, place: u64)
         ensures { self.new ≡ filter (λ other. not (other == place)) self.old }
     {

@@ -10,11 +10,11 @@ use sv_rules::Standing;
 
 /// Offers in the order of their places, each found by its own.
 #[derive(Drop)]
-pub struct Placed {
+pub struct PlacedOffers {
     offers: BTreeMap<u64, Standing>,
 }
 
-impl Model for Placed {
+impl Model for PlacedOffers {
     ghost use Rattle.std.specs.Prelude.{List};
     ghost use Rattle.std.specs.BTreeMap.{values};
     ghost use Rattle.sv_offers.specs.Placed.{ArePlaced};
@@ -27,24 +27,24 @@ impl Model for Placed {
     ghost invariant = { ArePlaced };
 }
 
-impl Placed {
-    /// No offers. No memory.
-    pub fn new(alloc: Global) -> Placed
+impl PlacedOffers {
+    /// No offers.
+    pub fn new(alloc: Global) -> PlacedOffers
         ensures { result ≡ [] }
     {
-        Placed {
+        PlacedOffers {
             offers: BTreeMap::new(alloc),
         }
     }
 
-    /// How many offers there are. No memory.
+    /// How many offers there are.
     pub fn len(&self) -> usize
         ensures { result ≡ length self.now }
     {
         self.offers.len()
     }
 
-    /// The offer at a place, if there is one. No memory.
+    /// The offer at a place, if there is one.
     pub fn at(&self, place: u64) -> Option<Standing>
         ensures { result ≡ offer_at self.now place }
     {
@@ -61,7 +61,7 @@ impl Placed {
         Ok(())
     }
 
-    /// The offer at a place goes, if there is one. No memory.
+    /// The offer at a place goes, if there is one.
     pub fn remove(&mut self, place: u64)
         ensures { self.new ≡ without_place self.old place }
     {

@@ -14,7 +14,7 @@ fn lower(offers: &[Standing], place: u64) -> usize
     offers.partition_point(|offer| offer.place < place)
 }
 
-/// Takes the offer at a place out, if there is one. No memory.
+/// Takes the offer at a place out, if there is one.
 pub fn take_out(offers: &mut Vec<Standing>, place: u64)
     requires { ByPlace offers.old.items }
     ensures items { offers.new.items ≡ without_place offers.old.items place }
@@ -25,7 +25,7 @@ pub fn take_out(offers: &mut Vec<Standing>, place: u64)
     }
 }
 
-/// Puts an offer in by its place, where there is room. No memory.
+/// Puts an offer in by its place, where there is room.
 pub fn put_in(offers: &mut Vec<Standing>, new: &Standing)
     requires by_place { ByPlace offers.old.items }
     requires room { vec_len offers.old < vec_capacity offers.old }

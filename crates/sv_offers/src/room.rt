@@ -7,7 +7,7 @@ use crate::standings::Standings;
 use sv_events::PairList;
 use sv_rules::{Made, Standing, pair_of};
 
-/// Couples a new offer with its open match, if there is one. No memory.
+/// Couples a new offer with its open match, if there is one.
 pub fn join(coupled: &mut Couplings, other: &Option<Standing>, new: &Standing)
     requires room { 0 < coupled.old.room }
     requires later { All (λ made. made.at ≤ new.now.place) coupled.old.items }
@@ -23,7 +23,7 @@ pub fn join(coupled: &mut Couplings, other: &Option<Standing>, new: &Standing)
     }
 }
 
-/// Couples reopened offers, one after another. No memory.
+/// Couples reopened offers, one after another.
 pub fn recouple(
     at: u64,
     offers: &Standings,

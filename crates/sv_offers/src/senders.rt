@@ -1,7 +1,7 @@
 ghost use Rattle.std.specs.Prelude.{◌≡◌, ◌==◌, ◌≤◌, ◌<◌, ◌^◌, ◌&&◌, ◌||◌, ℕ, true, false, not, None, Some, IfSome, OnOk, OnErr, if◌then◌else◌};
 ghost use Rattle.std.specs.Bool.{OnFalse, OnTrue};
 ghost use Rattle.std.specs.Option.{IsSomeAnd};
-ghost use Rattle.sv_offers.specs.Senders.{has_sent, is_above, is_sent, start_after};
+ghost use Rattle.sv_offers.specs.Senders.{has_sent, is_party_above, is_sent, start_after};
 ghost use Rattle.sv_rules.specs.Coupling.{is_coupled};
 
 use crate::couplings::Couplings;
@@ -47,7 +47,7 @@ fn sender(key: Key, to: u32) -> Option<u32>
 }
 
 impl Senders {
-    /// No offers. No memory.
+    /// No offers.
     pub fn new(alloc: Global) -> Senders
         ensures { (to from place : ℕ) → has_sent result to from place ≡ false }
     {
@@ -66,7 +66,7 @@ impl Senders {
         Ok(())
     }
 
-    /// An offer goes. No memory.
+    /// An offer goes.
     pub fn remove(&mut self, offer: &Standing)
         ensures { (to from place : ℕ) → has_sent self.new to from place ≡ (not (is_sent to from place offer.now) && has_sent self.old to from place) }
     {
@@ -74,18 +74,18 @@ impl Senders {
             .remove(&key_of(offer.to, offer.party, offer.place));
     }
 
-    /// Of the parties that made offers to a party the lowest, or the lowest above another, if there is one. No memory.
+    /// Of the parties that made offers to a party the lowest, or the lowest above another, if there is one.
     pub fn next(&self, to: u32, last: Option<u32>) -> Option<u32>
-        ensures above { IfSome result (λ from. is_above last from ≡ true) }
+        ensures above { IfSome result (λ from. is_party_above last from ≡ true) }
         ensures made { IfSome result (λ from. (place : ℕ) × (has_sent self.now to from place ≡ true)) }
-        ensures lowest { (from place : ℕ) → is_above last from ≡ true → has_sent self.now to from place ≡ true → IsSomeAnd result (λ next. next ≤ from) }
+        ensures lowest { (from place : ℕ) → is_party_above last from ≡ true → has_sent self.now to from place ≡ true → IsSomeAnd result (λ next. next ≤ from) }
     {
         let range = (start_after(to, last), Bound::Unbounded);
         let key = self.sent.range(range).next()?;
         sender(*key, to)
     }
 
-    /// Whether some offer of a party to another is in none of these couplings. No memory.
+    /// Whether some offer of a party to another is in none of these couplings.
     pub fn has_open(&self, coupled: &Couplings, to: u32, from: u32) -> bool
         ensures some { OnTrue result ((place : ℕ) × (has_sent self.now to from place ≡ true) × (is_coupled coupled.now.items place ≡ false)) }
         ensures none { OnFalse result ((place : ℕ) → place < 2 ^ 64 → has_sent self.now to from place ≡ true → is_coupled coupled.now.items place ≡ true) }

@@ -38,7 +38,7 @@ fn place_of(slots: &[Slot], slot: &Slot) -> usize
     unreachable!()
 }
 
-/// One of the couplings goes, that of the offer at a place; its slot is left empty. No memory.
+/// One of the couplings goes, that of the offer at a place; its slot is left empty.
 pub fn take_out(slots: &mut Vec<Slot>, made: &Made, place: u64)
     requires by_making { SlotsByMaking slots.old.items }
     requires once { AreOnce (couplings_in slots.old.items) }
@@ -77,7 +77,7 @@ fn trim(slots: &mut Vec<Slot>)
     }
 }
 
-/// One coupling more goes last, where there is room and none was made later. No memory.
+/// One coupling more goes last, where there is room and none was made later.
 pub fn put_last(slots: &mut Vec<Slot>, made: &Made)
     requires by_making { SlotsByMaking slots.old.items }
     requires later { All (λ other. other.at ≤ made.now.at) (couplings_in slots.old.items) }
@@ -91,7 +91,7 @@ pub fn put_last(slots: &mut Vec<Slot>, made: &Made)
     slots.push_reserved(slot_of(made));
 }
 
-/// The empty slots go, where there are more slots than so many. No memory.
+/// The empty slots go, where there are more slots than so many.
 pub fn tidy(slots: &mut Vec<Slot>, most: usize)
     requires { SlotsByMaking slots.old.items }
     ensures items { couplings_in slots.new.items ≡ couplings_in slots.old.items }

@@ -3,7 +3,7 @@ ghost use Rattle.std.specs.List.{list_any};
 ghost use Rattle.std.specs.Option.{IsSomeAnd, option_copied, unwrap_or};
 ghost use Rattle.sv_offers.specs.Addressed.{places_to};
 ghost use Rattle.sv_offers.specs.Places.{ByPlace, without_place};
-ghost use Rattle.sv_offers.specs.Senders.{is_above};
+ghost use Rattle.sv_offers.specs.Senders.{is_party_above};
 ghost use Rattle.sv_offers.specs.Table.{is_open_by};
 ghost use Rattle.sv_rules.specs.Coupling.{offer_at};
 ghost use Rattle.sv_rules.specs.Standing.{is_ended, offer_count, own_offer};
@@ -11,10 +11,10 @@ ghost use Rattle.sv_rules.specs.Standing.{is_ended, offer_count, own_offer};
 use crate::addressed::Addressed;
 use crate::couplings::Couplings;
 use crate::index::{Named, note_name, replace_name};
+use crate::lists::PartyLists;
 use crate::place_set::PlaceSet;
-use crate::placed::Placed;
+use crate::placed::PlacedOffers;
 use crate::senders::Senders;
-use crate::shelves::Shelves;
 use apl_arrays::{Name, WantOfMemory};
 use std::alloc::Global;
 use std::collections::HashMap;
@@ -22,7 +22,7 @@ use std::marker::Model;
 use sv_events::Ending;
 use sv_rules::{Standing, own_offer};
 
-/// Whether an act of a party ends an offer. No memory.
+/// Whether an act of a party ends an offer.
 pub fn is_ended(party: u32, ending: &Ending, offer: &Standing) -> bool
     ensures { result ≡ is_ended party ending.now offer.now }
 {
@@ -36,8 +36,8 @@ pub fn is_ended(party: u32, ending: &Ending, offer: &Standing) -> bool
 /// to and its surrogate, and by its party and its local name; and who made offers to a party, from one to the next.
 #[derive(Drop)]
 pub struct Standings {
-    placed: Placed,
-    own: Shelves,
+    placed: PlacedOffers,
+    own: PartyLists,
     made_to: Addressed,
     senders: Senders,
     named: Named,
@@ -56,34 +56,34 @@ impl Model for Standings {
 }
 
 impl Standings {
-    /// No offers. No memory.
+    /// No offers.
     pub fn new(alloc: Global) -> Standings
         ensures { result ≡ [] }
     {
         Standings {
-            placed: Placed::new(alloc),
-            own: Shelves::new(alloc),
+            placed: PlacedOffers::new(alloc),
+            own: PartyLists::new(alloc),
             made_to: Addressed::new(alloc),
             senders: Senders::new(alloc),
             named: HashMap::new(alloc),
         }
     }
 
-    /// How many offers there are. No memory.
+    /// How many offers there are.
     pub fn len(&self) -> usize
         ensures { result ≡ length self.now }
     {
         self.placed.len()
     }
 
-    /// A party's offers, by place. No memory.
+    /// A party's offers, by place.
     pub fn of(&self, party: u32) -> &[Standing]
         ensures { result.now ≡ filter (λ offer. offer.party == party) self.now }
     {
         self.own.of(party)
     }
 
-    /// The places of the offers made to a party by its number, of one surrogate or of all, if there are any. No memory.
+    /// The places of the offers made to a party by its number, of one surrogate or of all, if there are any.
     pub fn places_to(&self, party: u32, surrogate: Option<Name>) -> Option<&PlaceSet>
         ensures places { unwrap_or (option_copied result) [] ≡ places_to self.now party surrogate }
         ensures by_place { ByPlace self.now }
@@ -91,38 +91,38 @@ impl Standings {
         self.made_to.of(party, surrogate)
     }
 
-    /// Of the parties that made offers to a party by its number the lowest, or the lowest above another, if there is one. No
-    /// memory.
+    /// Of the parties that made offers to a party by its number the lowest, or the lowest above another, if there is
+    /// one.
     pub fn next_sender(&self, to: u32, last: Option<u32>) -> Option<u32>
-        ensures above { IfSome result (λ next. is_above last next ≡ true) }
+        ensures above { IfSome result (λ next. is_party_above last next ≡ true) }
         ensures made { IfSome result (λ next. list_any (λ offer. offer.to == to && offer.party == next) self.now ≡ true) }
-        ensures lowest { All (λ offer. offer.to ≡ to → is_above last offer.party ≡ true → IsSomeAnd result (λ next. next ≤ offer.party)) self.now }
+        ensures lowest { All (λ offer. offer.to ≡ to → is_party_above last offer.party ≡ true → IsSomeAnd result (λ next. next ≤ offer.party)) self.now }
     {
         self.senders.next(to, last)
     }
 
-    /// Whether a party has an open offer that is made to another by its number. No memory.
+    /// Whether a party has an open offer that is made to another by its number.
     pub fn has_open(&self, coupled: &Couplings, to: u32, from: u32) -> bool
         ensures { result ≡ list_any (is_open_by coupled.now.items to from) self.now }
     {
         self.senders.has_open(coupled, to, from)
     }
 
-    /// The offer of a party of a local name, if there is one. No memory.
+    /// The offer of a party of a local name, if there is one.
     pub fn find(&self, party: u32, local: &Name) -> Option<Standing>
         ensures { result ≡ own_offer self.now party local.now }
     {
         self.named.get(&(party, *local)).copied()
     }
 
-    /// The offer at a place, if there is one. No memory.
+    /// The offer at a place, if there is one.
     pub fn at(&self, place: u64) -> Option<Standing>
         ensures { result ≡ offer_at self.now place }
     {
         self.placed.at(place)
     }
 
-    /// How many offers are a party's. No memory.
+    /// How many offers are a party's.
     pub fn count(&self, party: u32) -> usize
         ensures { result ≡ offer_count self.now party }
     {
@@ -152,7 +152,7 @@ impl Standings {
         Ok(())
     }
 
-    /// The first offer that an act of a party ends, if there is one. No memory.
+    /// The first offer that an act of a party ends, if there is one.
     pub fn first_ended(&self, party: u32, ending: &Ending) -> Option<Standing>
         ensures { result ≡ find (is_ended party ending.now) self.now }
     {
@@ -162,7 +162,7 @@ impl Standings {
             .copied()
     }
 
-    /// One of the offers goes. No memory.
+    /// One of the offers goes.
     pub fn remove(&mut self, offer: &Standing)
         requires { Contains self.old offer.now }
         ensures { self.new ≡ without_place self.old offer.now.place }

@@ -31,15 +31,15 @@ impl Model for Offers {
 
     ghost Value = { PlainOffers };
 
-    ghost use Rattle.sv_offers.specs.Kept.{IsKept, plain_offers};
+    ghost use Rattle.sv_offers.specs.Kept.{IsWholeIndex, plain_offers};
 
     ghost view = { plain_offers };
 
-    ghost invariant = { IsKept };
+    ghost invariant = { IsWholeIndex };
 }
 
 impl Offers {
-    /// No offers. No memory.
+    /// No offers.
     pub fn new(alloc: Global) -> Offers
         ensures { result ≡ record { offers = []; coupled = [] } }
     {
@@ -50,49 +50,49 @@ impl Offers {
         }
     }
 
-    /// A party's offers that stand, by place. No memory.
+    /// A party's offers that stand, by place.
     pub fn of(&self, party: u32) -> &[Standing]
         ensures { result.now ≡ filter (λ offer. offer.party == party) self.now.offers }
     {
         self.offers.of(party)
     }
 
-    /// The offer of a party of a local name, if it stands. No memory.
+    /// The offer of a party of a local name, if it stands.
     pub fn find(&self, party: u32, local: &Name) -> Option<Standing>
         ensures { result ≡ own_offer self.now.offers party local.now }
     {
         self.offers.find(party, local)
     }
 
-    /// How many offers of a party stand. No memory.
+    /// How many offers of a party stand.
     pub fn count(&self, party: u32) -> usize
         ensures { result ≡ offer_count self.now.offers party }
     {
         self.offers.count(party)
     }
 
-    /// 2 where the offer at a place is coupled, else 1. No memory.
+    /// 2 where the offer at a place is coupled, else 1.
     pub fn degree(&self, place: u64) -> u8
         ensures { result ≡ degree_at self.now.coupled place }
     {
         if self.coupled.has(place) { 2 } else { 1 }
     }
 
-    /// Whether the offer at a place is coupled. No memory.
+    /// Whether the offer at a place is coupled.
     pub fn is_coupled(&self, place: u64) -> bool
         ensures { result ≡ is_coupled self.now.coupled place }
     {
         self.coupled.has(place)
     }
 
-    /// The coupling of the offer at a place, if it has one. No memory.
+    /// The coupling of the offer at a place, if it has one.
     pub fn coupling(&self, place: u64) -> Option<Coupling>
         ensures { result ≡ coupling_at self.now.offers self.now.coupled place }
     {
         coupling_at(&self.offers, &self.coupled, place)
     }
 
-    /// The coupling of an offer that stands, if it has one: only its partner is looked up. No memory.
+    /// The coupling of an offer that stands, if it has one: only its partner is looked up.
     pub fn coupling_on(&self, offer: &Standing) -> Option<Coupling>
         requires { offer_at self.now.offers offer.now.place ≡ Some offer.now }
         ensures { result ≡ coupling_at self.now.offers self.now.coupled offer.now.place }
@@ -100,14 +100,14 @@ impl Offers {
         coupling_on(&self.offers, &self.coupled, offer)
     }
 
-    /// The open match of an offer, of the lowest place, if there is one. No memory.
+    /// The open match of an offer, of the lowest place, if there is one.
     pub fn oldest_match(&self, offer: &Standing) -> Option<Standing>
         ensures { result ≡ open_match self.now.offers self.now.coupled offer.now }
     {
         open_match(&self.offers, &self.coupled, offer)
     }
 
-    /// The open offer of the lowest place that is made to a party by its number, if there is one. No memory.
+    /// The open offer of the lowest place that is made to a party by its number, if there is one.
     pub fn oldest_to(&self, party: u32) -> Option<Standing>
         ensures { result ≡ find (λ _. true) (open_among self.now party) }
     {
@@ -148,7 +148,7 @@ impl Offers {
 
     /// An act of a party, at a place, ends its offer of one local name or all that it has. Once these are gone, the partners
     /// that are set free are matched anew, in the order of their places, if nobody was matched with them before; what pairs
-    /// this makes is appended to `made`. No memory.
+    /// this makes is appended to `made`.
     pub fn end(&mut self, at: u64, party: u32, ending: Ending, made: &mut PairList)
         requires next { IsNext self.old at }
         requires room { length (reopened_by_ending self.old.offers self.old.coupled party ending) ≤ made.old.room }

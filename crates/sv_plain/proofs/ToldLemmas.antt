@@ -11,8 +11,8 @@ use Rattle.sv_access.specs.declared.access.Kind.{Kind}
 use Rattle.sv_access.specs.declared.access.Kind.TheVariants as kind
 use Rattle.sv_access.specs.declared.access.Side.{Side}
 use Rattle.sv_access.specs.declared.access.Side.TheVariants.{A, B}
-use Rattle.sv_access.specs.declared.state.State.{State}
-use Rattle.sv_access.specs.declared.state.State.TheVariants.{Quiet, UnseenA, UnseenB}
+use Rattle.sv_access.specs.declared.state.AccessState.{AccessState}
+use Rattle.sv_access.specs.declared.state.AccessState.TheVariants.{Quiet, UnseenA, UnseenB}
 use Rattle.sv_access.proofs.StoryLemmas.{says_unseen, is_unseen_by_state}
 use Rattle.sv_events.specs.Entry.{PlainEntry}
 use Rattle.sv_plain.specs.Told.{state_with, state_with_both, value_with, value_with_both, is_unseen_by}
@@ -116,7 +116,7 @@ use_by_kind None = refl
 use_by_kind (Some access) = refl
 
 -- what the state says of a side
-unseen_alike : (state : State) (side : Side) → says_unseen state side ≡ is_unseen_by state side
+unseen_alike : (state : AccessState) (side : Side) → says_unseen state side ≡ is_unseen_by state side
 unseen_alike Quiet side = refl
 unseen_alike UnseenA A = refl
 unseen_alike UnseenA B = refl

@@ -23,8 +23,8 @@ abbrev pub one_user : List ℕ
 one_user = 1001 ∷ []
 
 -- the number as a value
-abbrev pub number : ℕ → PlainArray
-number n = scalar (pos n)
+abbrev pub number_value : ℕ → PlainArray
+number_value n = scalar (pos n)
 
 -- a control of four bits
 abbrev pub bits : ℕ → ℕ → ℕ → ℕ → Control
@@ -48,7 +48,7 @@ offer_x to handed = Offer to x x handed
 
 -- a set and a use of X, and a leave
 abbrev pub set_x : ℕ → ℕ → PlainAnswer → PlainEntry
-set_x party n answer = uncoupled party (Set x (number n)) answer
+set_x party n answer = uncoupled party (Set x (number_value n)) answer
 
 abbrev pub use_x : ℕ → PlainAnswer → PlainEntry
 use_x party answer = uncoupled party (Use x) answer
@@ -57,8 +57,8 @@ abbrev pub left : ℕ → PlainEntry
 left party = uncoupled party Leave done
 
 -- a value, a hold, and a hold that is given up
-abbrev pub got : ℕ → PlainAnswer
-got n = value (number n)
+abbrev pub answered_value : ℕ → PlainAnswer
+answered_value n = value (number_value n)
 
 abbrev pub holds : ℕ → Owners → PlainAnswer
 holds element owners = held (record { element = element; owners = owners })

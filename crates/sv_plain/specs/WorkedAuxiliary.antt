@@ -6,7 +6,7 @@ use Rattle.sv_events.specs.Answer.{degree, granted, value, vector, kept}
 use Rattle.sv_events.specs.Entry.{PlainEntry, uncoupled}
 use Rattle.sv_events.specs.declared.event.Act.TheVariants.{Offer, Retract, SetControl, Set, Use}
 use Rattle.sv_rules.specs.Entries.{Entries}
-use Rattle.sv_plain.specs.Worked.{number, bits, joining, x, offer_x, set_x, use_x, left, got, holds}
+use Rattle.sv_plain.specs.Worked.{number_value, bits, joining, x, offer_x, set_x, use_x, left, answered_value, holds}
 
 -- characters as a value
 abbrev pub text : List ℕ → PlainArray
@@ -39,10 +39,10 @@ text_files_answer reply =
 abbrev pub clock_answers : Entries
 clock_answers =
     countered 10
-    (set_x 1001 0 granted ∷ uncoupled 10 (Use s2) (got 0) ∷ use_x 1001 (holds 3 Both) ∷ set_s2 (number 100) ∷ use_x 1001 (got 100)
-    ∷ set_x 1001 0 granted ∷ uncoupled 10 (Use s2) (got 0) ∷ use_x 1001 (holds 3 Both) ∷ set_s2 (scalar (negsuc 1))
+    (set_x 1001 0 granted ∷ uncoupled 10 (Use s2) (answered_value 0) ∷ use_x 1001 (holds 3 Both) ∷ set_s2 (number_value 100) ∷ use_x 1001 (answered_value 100)
+    ∷ set_x 1001 0 granted ∷ uncoupled 10 (Use s2) (answered_value 0) ∷ use_x 1001 (holds 3 Both) ∷ set_s2 (scalar (negsuc 1))
     ∷ use_x 1001 (value (scalar (negsuc 1)))
-    ∷ set_x 1001 7 granted ∷ uncoupled 10 (Use s2) (got 7) ∷ use_x 1001 (holds 3 Both) ∷ set_s2 (scalar (negsuc 0))
+    ∷ set_x 1001 7 granted ∷ uncoupled 10 (Use s2) (answered_value 7) ∷ use_x 1001 (holds 3 Both) ∷ set_s2 (scalar (negsuc 0))
     ∷ use_x 1001 (value (scalar (negsuc 0))) ∷ left 1001 ∷ [])
 
 -- once its partner has left, the auxiliary takes its offer back, and is told a degree
@@ -55,13 +55,13 @@ second_control = countered 20 (uncoupled 20 (SetControl s2 (bits 1 1 1 1)) (vect
 
 -- it uses a value that it has seen
 abbrev pub use_of_a_seen_value : Entries
-use_of_a_seen_value = countered 10 (set_x 1001 0 granted ∷ uncoupled 10 (Use s2) (got 0) ∷ uncoupled 10 (Use s2) (got 0) ∷ [])
+use_of_a_seen_value = countered 10 (set_x 1001 0 granted ∷ uncoupled 10 (Use s2) (answered_value 0) ∷ uncoupled 10 (Use s2) (answered_value 0) ∷ [])
 
 -- it replies twice
 abbrev pub second_reply : Entries
 second_reply =
     countered 10
-    (set_x 1001 0 granted ∷ uncoupled 10 (Use s2) (got 0) ∷ uncoupled 10 (Set s2 (number 100)) granted ∷ uncoupled 10 (Set s2 (number 101)) granted ∷ [])
+    (set_x 1001 0 granted ∷ uncoupled 10 (Use s2) (answered_value 0) ∷ uncoupled 10 (Set s2 (number_value 100)) granted ∷ uncoupled 10 (Set s2 (number_value 101)) granted ∷ [])
 
 -- 20 answers the second offer, but the first, which is general and has the surrogate too, takes its counter-offer; so the
 -- second is left without a partner

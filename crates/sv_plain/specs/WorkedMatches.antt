@@ -8,7 +8,7 @@ use Rattle.sv_events.specs.declared.entry.Pair.{Pair}
 use Rattle.sv_events.specs.declared.event.Act.{Act}
 use Rattle.sv_events.specs.declared.event.Act.TheVariants.{Offer, Leave}
 use Rattle.sv_rules.specs.Entries.{Entries}
-use Rattle.sv_plain.specs.Worked.{number, joining, x, offer_x, left}
+use Rattle.sv_plain.specs.Worked.{number_value, joining, x, offer_x, left}
 
 -- two users offer X to any
 abbrev pub two_general_offers : Entries
@@ -23,7 +23,7 @@ two_open_matches =
 abbrev pub offered_twice : Entries
 offered_twice =
     reverse
-    (uncoupled 1001 (offer_x 1002 None) (degree 1) ∷ uncoupled 1001 (offer_x 1002 (Some (number 5))) (degree 1)
+    (uncoupled 1001 (offer_x 1002 None) (degree 1) ∷ uncoupled 1001 (offer_x 1002 (Some (number_value 5))) (degree 1)
     ∷ joining 1002 (offer_x 1001 None) (degree 2) 1 3 ∷ uncoupled 1001 (offer_x 0 None) (degree 2) ∷ [])
 
 -- 1002 leaves two couplings, with 1001 and with 1003, whose offers to any stand again: the older is coupled with the

@@ -6,7 +6,7 @@ use Rattle.sv_events.specs.Answer.{PlainAnswer, degree, granted, value, vector, 
 use Rattle.sv_events.specs.Entry.{PlainEntry, uncoupled}
 use Rattle.sv_events.specs.declared.event.Act.TheVariants.{Offer, Retract, SetControl, AskState, AskDegree, AskParties, AskNames, Set, Leave}
 use Rattle.sv_rules.specs.Entries.{Entries}
-use Rattle.sv_plain.specs.Worked.{number, bits, joining, x, offer_x, set_x, use_x, left, got, holds, shared_x}
+use Rattle.sv_plain.specs.Worked.{number_value, bits, joining, x, offer_x, set_x, use_x, left, answered_value, holds, shared_x}
 
 -- a degree that is asked for
 abbrev pub asked_degree : ℕ → ℕ → PlainEntry
@@ -42,27 +42,27 @@ retract_x party answer = uncoupled party (Retract x) answer
 -- each side keeps the value that it knows
 abbrev pub each_keeps_its_own : Entries
 each_keeps_its_own =
-    shared_x (Some (number 1)) (Some (number 2))
-    (set_x 1001 5 granted ∷ retract_x 1001 (kept 2 (Some (number 5))) ∷ left 1001 ∷ retract_x 1002 (kept 1 (Some (number 2))) ∷ left 1002 ∷ [])
+    shared_x (Some (number_value 1)) (Some (number_value 2))
+    (set_x 1001 5 granted ∷ retract_x 1001 (kept 2 (Some (number_value 5))) ∷ left 1001 ∷ retract_x 1002 (kept 1 (Some (number_value 2))) ∷ left 1002 ∷ [])
 
 -- the older offer's value is unseen by 1002, until it uses it
 abbrev pub older_value_unseen : Entries
 older_value_unseen =
-    shared_x (Some (number 1)) (Some (number 2))
-    (uncoupled 1002 (AskState x) (vector (bits 0 1 0 1)) ∷ use_x 1002 (got 1) ∷ uncoupled 1001 (AskState x) (vector (bits 0 0 1 1))
+    shared_x (Some (number_value 1)) (Some (number_value 2))
+    (uncoupled 1002 (AskState x) (vector (bits 0 1 0 1)) ∷ use_x 1002 (answered_value 1) ∷ uncoupled 1001 (AskState x) (vector (bits 0 0 1 1))
     ∷ left 1002 ∷ left 1001 ∷ [])
 
 -- three numbers
-abbrev pub three : ℕ → ℕ → ℕ → PlainArray
-three a b c = record { shape = 3 ∷ []; items = numbers (pos a ∷ pos b ∷ pos c ∷ []) }
+abbrev pub three_numbers : ℕ → ℕ → ℕ → PlainArray
+three_numbers a b c = record { shape = 3 ∷ []; items = numbers (pos a ∷ pos b ∷ pos c ∷ []) }
 
 -- one item is set: a use that is held until the partner has set, and a set
 abbrev pub item_is_set : Entries
 item_is_set =
-    shared_x (Some (three 1 2 3)) None
-    (uncoupled 1001 (SetControl x (bits 0 0 1 0)) (vector (bits 0 0 1 0)) ∷ use_x 1001 (holds 3 Mine) ∷ uncoupled 1002 (Set x (three 4 5 6)) granted
-    ∷ use_x 1001 (value (three 4 5 6)) ∷ use_x 1002 (value (three 4 5 6)) ∷ uncoupled 1001 (Set x (three 4 7 6)) granted
-    ∷ use_x 1002 (value (three 4 7 6)) ∷ left 1001 ∷ left 1002 ∷ [])
+    shared_x (Some (three_numbers 1 2 3)) None
+    (uncoupled 1001 (SetControl x (bits 0 0 1 0)) (vector (bits 0 0 1 0)) ∷ use_x 1001 (holds 3 Mine) ∷ uncoupled 1002 (Set x (three_numbers 4 5 6)) granted
+    ∷ use_x 1001 (value (three_numbers 4 5 6)) ∷ use_x 1002 (value (three_numbers 4 5 6)) ∷ uncoupled 1001 (Set x (three_numbers 4 7 6)) granted
+    ∷ use_x 1002 (value (three_numbers 4 7 6)) ∷ left 1001 ∷ left 1002 ∷ [])
 
 -- who offers, and under which surrogates
 abbrev pub asked_who_offers : Entries
@@ -84,9 +84,9 @@ asked_among_many =
 -- an offer that reopens has the value that it knows unseen, though the partner had seen it
 abbrev pub reopened_is_unseen : Entries
 reopened_is_unseen =
-    shared_x (Some (number 1)) None
-    (uncoupled 1001 (SetControl x (bits 1 0 0 0)) (vector (bits 1 0 0 0)) ∷ use_x 1002 (got 1) ∷ retract_x 1002 (kept 2 (Some (number 1)))
-    ∷ set_x 1001 2 (holds 1 Mine) ∷ joining 1002 (offer_x 1001 None) (degree 2) 1 7 ∷ use_x 1002 (got 1) ∷ set_x 1001 2 granted ∷ [])
+    shared_x (Some (number_value 1)) None
+    (uncoupled 1001 (SetControl x (bits 1 0 0 0)) (vector (bits 1 0 0 0)) ∷ use_x 1002 (answered_value 1) ∷ retract_x 1002 (kept 2 (Some (number_value 1)))
+    ∷ set_x 1001 2 (holds 1 Mine) ∷ joining 1002 (offer_x 1001 None) (degree 2) 1 7 ∷ use_x 1002 (answered_value 1) ∷ set_x 1001 2 granted ∷ [])
 
 -- the vector of an offer that was taken back does not count for the next one
 abbrev pub vector_begins_anew : Entries

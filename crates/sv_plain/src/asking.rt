@@ -12,7 +12,7 @@ use std::alloc::Global;
 use sv_events::{Answer, Entry, Question};
 use sv_rules::{Made, Standing, degree_at, is_coupled, names_of, own_offer, parties_of};
 
-/// The degree of a name: 0 without an offer, 2 where it is coupled, else 1. No memory.
+/// The degree of a name: 0 without an offer, 2 where it is coupled, else 1.
 pub fn degree_of(coupled: &[Made], own: Option<Standing>) -> u8
     ensures { (journal : Entries) → coupled.now ≡ couplings journal → result ≡ degree_of journal own }
 {

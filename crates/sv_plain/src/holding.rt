@@ -1,5 +1,5 @@
 ghost use Rattle.std.specs.Prelude.{◌≡◌, Some, IfOk};
-ghost use Rattle.sv_rules.specs.Control.{control_in_force, in_force_with, sharing_of, state_of, state_vector};
+ghost use Rattle.sv_rules.specs.Control.{control_in_force, in_force_with, sharing_of, state_vector_of, state_vector};
 ghost use Rattle.sv_rules.specs.Coupling.{couplings};
 ghost use Rattle.sv_rules.specs.Journal.{journal_of};
 ghost use Rattle.sv_rules.specs.Refused.{hold_on, hold_under};
@@ -59,7 +59,7 @@ pub fn hold_on(
     hold_in(alloc, entries, offer, kind, coupling)
 }
 
-/// The control in force with a vector of the party's own, in its own view. No memory.
+/// The control in force with a vector of the party's own, in its own view.
 pub fn in_force_with(
     entries: &[Entry],
     offers: &[Standing],
@@ -75,7 +75,7 @@ pub fn in_force_with(
     join(own, partners_vector(entries, offer.place, coupling))
 }
 
-/// The control in force, in the party's own view: none without an offer. No memory.
+/// The control in force, in the party's own view: none without an offer.
 pub fn control_in_force(
     entries: &[Entry],
     offers: &[Standing],
@@ -121,7 +121,7 @@ fn state_of(
     place: u64,
     coupling: Option<Coupling>,
 ) -> Result<Control, WantOfMemory>
-    ensures { IfOk result (λ vector. vector ≡ state_of (journal_of entries.now) place coupling) }
+    ensures { IfOk result (λ vector. vector ≡ state_vector_of (journal_of entries.now) place coupling) }
 {
     match coupling {
         None => Ok(NO_CONTROL),

@@ -11,7 +11,7 @@ use std::alloc::Global;
 use sv_events::{AnswerKind, Ending, Entry, Opening};
 use sv_rules::{Standing, end_together, is_degree, own_offer};
 
-/// The offer that an act of a party opens at a place. No memory.
+/// The offer that an act of a party opens at a place.
 pub fn offer_made(place: u64, party: u32, opening: Opening) -> Standing
     ensures { result ≡ offer_made place party opening }
 {

@@ -26,15 +26,15 @@ use sv_rules::{
 
 /// What becomes of an act: its answer, and the pairs that it couples.
 #[derive(Debug, Drop)]
-pub struct Outcome {
+pub struct ActOutcome {
     pub answer: Answer,
     pub made: PairList,
 }
 
-fn answer_only(alloc: Global, answer: Answer) -> Outcome
+fn answer_only(alloc: Global, answer: Answer) -> ActOutcome
     ensures { plain_outcome result ≡ answer_only (plain_answer answer) }
 {
-    Outcome {
+    ActOutcome {
         answer,
         made: List::new(alloc),
     }
@@ -44,7 +44,7 @@ fn joined_to(
     alloc: Global,
     new: &Standing,
     other: Option<Standing>,
-) -> Result<Outcome, WantOfMemory>
+) -> Result<ActOutcome, WantOfMemory>
     ensures { IfOk result (λ got. plain_outcome got ≡ joined_to new.now other) }
 {
     match other {
@@ -52,7 +52,7 @@ fn joined_to(
         Some(other) => {
             let mut made = List::new(alloc);
             made.push(pair_of(&other, new))?;
-            Ok(Outcome {
+            Ok(ActOutcome {
                 answer: Answer::Degree(2),
                 made,
             })
@@ -65,7 +65,7 @@ fn new_offer(
     offers: &[Standing],
     coupled: &[Made],
     new: &Standing,
-) -> Result<Outcome, WantOfMemory>
+) -> Result<ActOutcome, WantOfMemory>
     ensures { IfOk result (λ got. plain_outcome got ≡ new_offer offers.now coupled.now new.now) }
 {
     if offer_count(offers, new.party) >= OFFER_LIMIT {
@@ -79,7 +79,7 @@ fn offer_outcome(
     offers: &[Standing],
     coupled: &[Made],
     new: &Standing,
-) -> Result<Outcome, WantOfMemory>
+) -> Result<ActOutcome, WantOfMemory>
     ensures { IfOk result
         (λ got. plain_outcome got ≡ offer_outcome offers.now coupled.now new.now (own_offer offers.now new.now.party new.now.local)) }
 {
@@ -125,7 +125,7 @@ fn retraction_outcome(
     coupled: &[Made],
     party: u32,
     local: &Name,
-) -> Result<Outcome, WantOfMemory>
+) -> Result<ActOutcome, WantOfMemory>
     requires offers { offers.now ≡ standing (journal_of entries.now) }
     requires coupled { coupled.now ≡ couplings (journal_of entries.now) }
     ensures { IfOk result
@@ -144,7 +144,7 @@ fn retraction_outcome(
             )?;
             let value = sv_events::copy_value(alloc, known_value(entries, &offer))?;
             let degree = degree_of(coupled, Some(offer));
-            Ok(Outcome {
+            Ok(ActOutcome {
                 answer: Answer::Kept { degree, value },
                 made,
             })
@@ -159,7 +159,7 @@ fn ending_outcome(
     coupled: &[Made],
     party: u32,
     ending: Ending,
-) -> Result<Outcome, WantOfMemory>
+) -> Result<ActOutcome, WantOfMemory>
     requires offers { offers.now ≡ standing (journal_of entries.now) }
     requires coupled { coupled.now ≡ couplings (journal_of entries.now) }
     ensures { IfOk result (λ got. plain_outcome got ≡ ending_outcome (journal_of entries.now) party ending) }
@@ -168,7 +168,7 @@ fn ending_outcome(
         Ending::One(local) => retraction_outcome(alloc, entries, offers, coupled, party, &local),
         Ending::All => {
             let made = pairs_by_ending(alloc, entries, offers, coupled, party, Ending::All)?;
-            Ok(Outcome {
+            Ok(ActOutcome {
                 answer: Answer::Done,
                 made,
             })
@@ -267,7 +267,7 @@ fn outcome_of_row(
     coupled: &[Made],
     party: u32,
     row: &ActRow,
-) -> Result<Outcome, WantOfMemory>
+) -> Result<ActOutcome, WantOfMemory>
     requires offers { offers.now ≡ standing (journal_of entries.now) }
     requires coupled { coupled.now ≡ couplings (journal_of entries.now) }
     ensures { IfOk result (λ got. plain_outcome got ≡ outcome_of_row (journal_of entries.now) party row.now) }
@@ -299,7 +299,7 @@ pub fn outcome_of(
     entries: &[Entry],
     party: u32,
     act: &Act,
-) -> Result<Outcome, WantOfMemory>
+) -> Result<ActOutcome, WantOfMemory>
     ensures { IfOk result (λ got. plain_outcome got ≡ outcome (journal_of entries.now) party act.now) }
 {
     let offers = standing_offers(alloc, entries)?;

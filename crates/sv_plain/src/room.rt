@@ -28,7 +28,7 @@ fn capped_elements(entries: &[Entry]) -> u64
     held
 }
 
-/// Whether the entries leave room for none but leaves. No memory.
+/// Whether the entries leave room for none but leaves.
 pub fn is_full(entries: &[Entry]) -> bool
     ensures { result ≡ is_full (journal_of entries.now) }
 {

@@ -12,7 +12,7 @@ ghost use Rattle.sv_rules.specs.Story.{access_on, first_set, giver_story, known,
 use crate::{couplings_of, standing_offers};
 use apl_arrays::{Array, WantOfMemory};
 use std::alloc::Global;
-use sv_access::{Kind, Side, State, after};
+use sv_access::{AccessState, Kind, Side, after};
 use sv_events::Entry;
 use sv_rules::{
     Coupling, Made, Standing, is_coupled, keep_couplings, kind_on, known_value, value_on,
@@ -44,17 +44,17 @@ fn opens_at(
 }
 
 // The state where a story begins with a set of the value that is known, if one is.
-fn first_state(side: Side, known: Option<&Array>) -> State
+fn first_state(side: Side, known: Option<&Array>) -> AccessState
     ensures { result ≡ state_of_story (first_set side (option_copied known.entry)) }
 {
     match known {
-        None => State::Quiet,
-        Some(_) => after(State::Quiet, side, Kind::Set),
+        None => AccessState::Quiet,
+        Some(_) => after(AccessState::Quiet, side, Kind::Set),
     }
 }
 
 // The state once a side made an access, if it made one.
-fn state_with(state: State, side: Side, access: Option<Kind>) -> State
+fn state_with(state: AccessState, side: Side, access: Option<Kind>) -> AccessState
     ensures { result ≡ state_with state side access }
 {
     match access {
@@ -71,8 +71,8 @@ fn opening_state_after(
     entry: &Entry,
     offer: &Standing,
     side: Side,
-    state: State,
-) -> Result<State, WantOfMemory>
+    state: AccessState,
+) -> Result<AccessState, WantOfMemory>
     requires entry { journal_of upto.now ≡ plain_entry entry.now ∷ journal_of before.now }
     requires state { state ≡ state_of_story (opening side (journal_of before.now) offer.now) }
     ensures { IfOk result (λ got. got ≡ state_of_story (opening side (journal_of upto.now) offer.now)) }
@@ -92,10 +92,10 @@ pub fn opening_state(
     entries: &[Entry],
     offer: &Standing,
     side: Side,
-) -> Result<State, WantOfMemory>
+) -> Result<AccessState, WantOfMemory>
     ensures { IfOk result (λ state. state ≡ state_of_story (opening side (journal_of entries.now) offer.now)) }
 {
-    let mut state = State::Quiet;
+    let mut state = AccessState::Quiet;
     for i in 0..entries.len() {
         state = opening_state_after(
             alloc,
@@ -169,7 +169,11 @@ fn opening_value<'a>(
 }
 
 // The state of the giver's story: A's where A knows a value, else B's.
-fn giver_state(alloc: Global, entries: &[Entry], coupling: &Coupling) -> Result<State, WantOfMemory>
+fn giver_state(
+    alloc: Global,
+    entries: &[Entry],
+    coupling: &Coupling,
+) -> Result<AccessState, WantOfMemory>
     ensures { IfOk result
         (λ state. state ≡ state_of_story (giver_story (journal_of entries.now) coupling.now (known (journal_of entries.now) coupling.now.a))) }
 {
@@ -218,7 +222,7 @@ fn entries_before(entries: &[Entry], coupling: &Coupling) -> usize
 }
 
 // The state of a coupling's story after an entry, by that before.
-fn state_after(state: State, coupling: &Coupling, entry: &Entry) -> State
+fn state_after(state: AccessState, coupling: &Coupling, entry: &Entry) -> AccessState
     ensures { result ≡ state_with_both state coupling.now (plain_entry entry.now) }
 {
     let of_b = state_with(state, Side::B, kind_on(&coupling.b, entry));
@@ -242,7 +246,7 @@ pub fn story_state(
     alloc: Global,
     entries: &[Entry],
     coupling: &Coupling,
-) -> Result<State, WantOfMemory>
+) -> Result<AccessState, WantOfMemory>
     ensures { IfOk result (λ state. state ≡ state_of_story (story (journal_of entries.now) coupling.now)) }
 {
     let start = entries_before(entries, coupling);

@@ -6,7 +6,7 @@ use sv_access::{Control, NO_CONTROL};
 use sv_events::Entry;
 use sv_rules::{Coupling, Standing, control_on};
 
-/// The vector of an offer, in its party's view: the last control that its party set on it since, else none. No memory.
+/// The vector of an offer, in its party's view: the last control that its party set on it since, else none.
 pub fn vector_of(entries: &[Entry], offer: &Standing) -> Control
     ensures { result ≡ vector_of (journal_of entries.now) offer.now }
 {
@@ -23,7 +23,7 @@ pub fn vector_of(entries: &[Entry], offer: &Standing) -> Control
     NO_CONTROL
 }
 
-/// The vector of the partner of the offer at a place, in the partner's view: none while the offer is open. No memory.
+/// The vector of the partner of the offer at a place, in the partner's view: none while the offer is open.
 pub fn partners_vector(entries: &[Entry], place: u64, coupling: Option<Coupling>) -> Control
     ensures { result ≡ partners_vector (journal_of entries.now) place coupling }
 {

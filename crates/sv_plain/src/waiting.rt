@@ -49,7 +49,7 @@ fn act_held(entry: &Entry) -> Option<&Act>
     }
 }
 
-/// The act that a party waits for: that of its last entry, where this is held. No memory.
+/// The act that a party waits for: that of its last entry, where this is held.
 pub fn awaited(entries: &[Entry], party: u32) -> Option<&Act>
     ensures { option_copied result ≡ awaited (journal_of entries.now) party }
 {
@@ -64,7 +64,7 @@ pub fn awaited(entries: &[Entry], party: u32) -> Option<&Act>
     None
 }
 
-/// Whether the party waits. No memory.
+/// Whether the party waits.
 pub fn waits(entries: &[Entry], party: u32) -> bool
     ensures { result ≡ waits (journal_of entries.now) party }
 {

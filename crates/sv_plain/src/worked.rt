@@ -5,18 +5,18 @@ ghost use Rattle.sv_access.specs.declared.verdict.Owners.TheVariants.{Mine, Part
 ghost use Rattle.sv_events.specs.Answer.{degree, done, granted, no_value, not_shared, offer_limit, value, vector, parties, names, kept};
 ghost use Rattle.sv_events.specs.declared.event.Act.TheVariants.{Leave, Offer, SetControl, Use};
 ghost use Rattle.sv_rules.specs.Legal.{IsLegal};
-ghost use Rattle.sv_plain.specs.Worked.{one_user, two_users, three_users, number, bits, pair, x, offer_x, set_x, left, got, holds, gives_up, with_answer, with_act, with_made};
+ghost use Rattle.sv_plain.specs.Worked.{one_user, two_users, three_users, number_value, bits, pair, x, offer_x, set_x, left, answered_value, holds, gives_up, with_answer, with_act, with_made};
 ghost use Rattle.sv_plain.specs.WorkedValues.{b, value_is_shared, use_without_a_value, shared_by_surrogates, offered_again};
 ghost use Rattle.sv_plain.specs.WorkedControl.{second_set_is_held, held_by_the_partner, view_is_swapped, both_hold, second_set_before_a_partner, set_over_unseen, given_up_too_soon, acts_while_it_waits, control_without_an_offer};
 ghost use Rattle.sv_plain.specs.WorkedMatches.{two_general_offers, two_open_matches, offered_twice, leave_of_two, two_open_matches_left, one_more_offer, last_of_64, back_again};
-ghost use Rattle.sv_plain.specs.WorkedShares.{matched_again, matched_after_a_retraction, reopened_compete, each_keeps_its_own, older_value_unseen, three, item_is_set, asked_who_offers, asked_among_many, reopened_is_unseen, vector_begins_anew};
+ghost use Rattle.sv_plain.specs.WorkedShares.{matched_again, matched_after_a_retraction, reopened_compete, each_keeps_its_own, older_value_unseen, three_numbers, item_is_set, asked_who_offers, asked_among_many, reopened_is_unseen, vector_begins_anew};
 ghost use Rattle.sv_plain.specs.WorkedAuxiliary.{s2, countered, text_files_answer, clock_answers, counter_offer_taken_back, second_control, use_of_a_seen_value, second_reply, counter_couples_with_an_older_one, second_counter};
 ghost use Rattle.sv_plain.specs.WorkedCopy.{file_is_copied};
 
 /// A value that is set is used by the partner.
 pub fn value_is_shared_is_legal()
     ensures legal { IsLegal two_users value_is_shared }
-    ensures older { ¬ IsLegal two_users (with_answer 4 (got 3) value_is_shared) }
+    ensures older { ¬ IsLegal two_users (with_answer 4 (answered_value 3) value_is_shared) }
     ensures uncoupled { ¬ IsLegal two_users (with_made 2 [] value_is_shared) }
     ensures degree { ¬ IsLegal two_users (with_answer 2 (degree 1) value_is_shared) }
 {}
@@ -24,14 +24,14 @@ pub fn value_is_shared_is_legal()
 /// A use may find no value.
 pub fn use_without_a_value_is_legal()
     ensures legal { IsLegal one_user use_without_a_value }
-    ensures value { ¬ IsLegal one_user (with_answer 2 (got 0) use_without_a_value) }
+    ensures value { ¬ IsLegal one_user (with_answer 2 (answered_value 0) use_without_a_value) }
     ensures held { ¬ IsLegal one_user (with_answer 2 (holds 3 Mine) use_without_a_value) }
 {}
 
 /// Two names with one surrogate are one variable.
 pub fn shared_by_surrogates_is_legal()
     ensures legal { IsLegal two_users shared_by_surrogates }
-    ensures own_value { ¬ IsLegal two_users (with_answer 5 (got 1) shared_by_surrogates) }
+    ensures own_value { ¬ IsLegal two_users (with_answer 5 (answered_value 1) shared_by_surrogates) }
     ensures surrogate { ¬ IsLegal two_users (with_act 2 (Offer 1001 b b None) shared_by_surrogates) }
     ensures local { ¬ IsLegal two_users (with_act 3 (Use x) shared_by_surrogates) }
 {}
@@ -39,7 +39,7 @@ pub fn shared_by_surrogates_is_legal()
 /// A name that was taken back is offered again.
 pub fn offered_again_is_legal()
     ensures legal { IsLegal one_user offered_again }
-    ensures degree { ¬ IsLegal one_user (with_answer 2 (kept 2 (Some (number 3))) offered_again) }
+    ensures degree { ¬ IsLegal one_user (with_answer 2 (kept 2 (Some (number_value 3))) offered_again) }
     ensures no_offer { ¬ IsLegal one_user (with_answer 4 not_shared offered_again) }
 {}
 
@@ -85,8 +85,8 @@ pub fn second_set_before_a_partner_is_legal()
 /// A value that was not seen may be set over.
 pub fn set_over_unseen_is_legal()
     ensures legal { IsLegal two_users set_over_unseen }
-    ensures first_value { ¬ IsLegal two_users (with_answer 8 (got 1) set_over_unseen) }
-    ensures own_value { ¬ IsLegal two_users (with_answer 6 (got 1) set_over_unseen) }
+    ensures first_value { ¬ IsLegal two_users (with_answer 8 (answered_value 1) set_over_unseen) }
+    ensures own_value { ¬ IsLegal two_users (with_answer 6 (answered_value 1) set_over_unseen) }
     ensures held { ¬ IsLegal two_users (with_answer 5 (holds 2 Partner) set_over_unseen) }
 {}
 
@@ -149,9 +149,9 @@ pub fn offers_are_matched_again()
 /// Each side keeps the value that it knows.
 pub fn each_keeps_its_own_is_legal()
     ensures legal { IsLegal two_users each_keeps_its_own }
-    ensures partners { ¬ IsLegal two_users (with_answer 6 (kept 1 (Some (number 5))) each_keeps_its_own) }
-    ensures degree { ¬ IsLegal two_users (with_answer 6 (kept 2 (Some (number 2))) each_keeps_its_own) }
-    ensures handed_in { ¬ IsLegal two_users (with_answer 4 (kept 2 (Some (number 1))) each_keeps_its_own) }
+    ensures partners { ¬ IsLegal two_users (with_answer 6 (kept 1 (Some (number_value 5))) each_keeps_its_own) }
+    ensures degree { ¬ IsLegal two_users (with_answer 6 (kept 2 (Some (number_value 2))) each_keeps_its_own) }
+    ensures handed_in { ¬ IsLegal two_users (with_answer 4 (kept 2 (Some (number_value 1))) each_keeps_its_own) }
 {}
 
 /// The state vector says whose set is unseen.
@@ -164,7 +164,7 @@ pub fn older_value_unseen_is_legal()
 /// An item is set by a use and a set.
 pub fn item_is_set_is_legal()
     ensures legal { IsLegal two_users item_is_set }
-    ensures early { ¬ IsLegal two_users (with_answer 4 (value (three 1 2 3)) item_is_set) }
+    ensures early { ¬ IsLegal two_users (with_answer 4 (value (three_numbers 1 2 3)) item_is_set) }
 {}
 
 /// Questions tell open offers made by number.
@@ -187,17 +187,17 @@ pub fn offers_open_anew()
 
 /// The text files answer a command.
 pub fn text_files_answer_is_legal()
-    ensures legal { IsLegal one_user (text_files_answer (number 1)) }
-    ensures other_reply { IsLegal one_user (text_files_answer (number 2)) }
-    ensures owner { ¬ IsLegal one_user (with_answer 7 (holds 3 Mine) (text_files_answer (number 1))) }
-    ensures name { ¬ IsLegal one_user (with_act 2 (Offer 1001 (codes "S1") x None) (text_files_answer (number 1))) }
-    ensures control { ¬ IsLegal one_user (with_act 4 (SetControl s2 (bits 1 1 1 0)) (text_files_answer (number 1))) }
+    ensures legal { IsLegal one_user (text_files_answer (number_value 1)) }
+    ensures other_reply { IsLegal one_user (text_files_answer (number_value 2)) }
+    ensures owner { ¬ IsLegal one_user (with_answer 7 (holds 3 Mine) (text_files_answer (number_value 1))) }
+    ensures name { ¬ IsLegal one_user (with_act 2 (Offer 1001 (codes "S1") x None) (text_files_answer (number_value 1))) }
+    ensures control { ¬ IsLegal one_user (with_act 4 (SetControl s2 (bits 1 1 1 0)) (text_files_answer (number_value 1))) }
 {}
 
 /// The clock answers.
 pub fn clock_answers_is_legal()
     ensures legal { IsLegal one_user clock_answers }
-    ensures own_value { ¬ IsLegal one_user (with_answer 9 (got 0) clock_answers) }
+    ensures own_value { ¬ IsLegal one_user (with_answer 9 (answered_value 0) clock_answers) }
     ensures owners { ¬ IsLegal one_user (with_answer 12 (holds 3 Partner) clock_answers) }
     ensures reply { ¬ IsLegal one_user (with_act 13 (SetControl s2 (bits 1 1 1 1)) clock_answers) }
 {}

@@ -15,7 +15,7 @@ use crate::{couplings_of, is_full, standing_offers};
 use apl_arrays::WantOfMemory;
 use aux_parties::most_counters;
 use std::alloc::Global;
-use sv_access::{Kind, Side, State};
+use sv_access::{AccessState, Kind, Side};
 use sv_events::{Entry, Work};
 use sv_rules::{
     Coupling, Made, Standing, control_on, coupling_at, is_coupled, kind_on, offer_count, side_at,
@@ -66,12 +66,12 @@ fn owes_reply(entries: &[Entry], offer: &Standing, coupling: &Coupling) -> bool
 }
 
 // Whether a set of the partner of a side is unseen, by the state.
-fn is_partners_unseen(state: State, side: Side) -> bool
+fn is_partners_unseen(state: AccessState, side: Side) -> bool
     ensures { result ≡ is_unseen_by state (other_side side) }
 {
     match side {
-        Side::A => matches!(state, State::UnseenB),
-        Side::B => matches!(state, State::UnseenA),
+        Side::A => matches!(state, AccessState::UnseenB),
+        Side::B => matches!(state, AccessState::UnseenA),
     }
 }
 

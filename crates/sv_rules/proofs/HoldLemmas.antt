@@ -9,7 +9,7 @@ use Rattle.sv_access.specs.Table.{owners_of, verdict_of}
 use Rattle.sv_access.specs.declared.access.Kind.{Kind}
 use Rattle.sv_access.specs.declared.access.Side.{Side}
 use Rattle.sv_access.specs.declared.control.Control.{Control}
-use Rattle.sv_access.specs.declared.state.State.{State}
+use Rattle.sv_access.specs.declared.state.AccessState.{AccessState}
 use Rattle.sv_access.specs.declared.verdict.Owners.{Owners}
 use Rattle.sv_access.specs.declared.verdict.Verdict.{Verdict}
 use Rattle.sv_access.specs.declared.verdict.Verdict.TheVariants.{Granted, Held}
@@ -26,19 +26,19 @@ hold_of_element : (own : ℕ → Owners) (refusing : Option ℕ) → hold_in own
 hold_of_element own None = refl
 hold_of_element own (Some element) = refl
 
-hold_by_verdict : (a b : Control) (state : State) (side : Side) (kind : Kind) (told : Story PlainArray) → state_of_story told ≡ state →
+hold_by_verdict : (a b : Control) (state : AccessState) (side : Side) (kind : Kind) (told : Story PlainArray) → state_of_story told ≡ state →
     hold_in (owners_of a b side) (verdict_of (combined a b) state side kind) ≡ hold_under (record { story = told; a = a; b = b; side = side }) kind
 hold_by_verdict a b state side kind told is =
-    ap (λ (s : State). hold_in (owners_of a b side) (verdict_of (combined a b) s side kind)) (sym is)
+    ap (λ (s : AccessState). hold_in (owners_of a b side) (verdict_of (combined a b) s side kind)) (sym is)
     ∙ ap (hold_in (owners_of a b side)) (verdict_by_state (combined a b) told side kind)
     ∙ hold_of_element (owners_of a b side) (refused_element (combined a b) told side kind)
 
 -- where the verdict grants nothing refuses, and where it holds its element does
-pub hold_where_granted : (a b : Control) (state : State) (side : Side) (kind : Kind) → Granted ≡ verdict_of (combined a b) state side kind →
+pub hold_where_granted : (a b : Control) (state : AccessState) (side : Side) (kind : Kind) → Granted ≡ verdict_of (combined a b) state side kind →
     (told : Story PlainArray) → state_of_story told ≡ state → None ≡ hold_under (record { story = told; a = a; b = b; side = side }) kind
 hold_where_granted a b state side kind verdict told is = ap (hold_in (owners_of a b side)) verdict ∙ hold_by_verdict a b state side kind told is
 
-pub hold_where_held : (a b : Control) (state : State) (side : Side) (kind : Kind) (element : ℕ) → Held element ≡ verdict_of (combined a b) state side kind →
+pub hold_where_held : (a b : Control) (state : AccessState) (side : Side) (kind : Kind) (element : ℕ) → Held element ≡ verdict_of (combined a b) state side kind →
     (told : Story PlainArray) → state_of_story told ≡ state →
     Some (record { element = element; owners = owners_of a b side element }) ≡ hold_under (record { story = told; a = a; b = b; side = side }) kind
 hold_where_held a b state side kind element verdict told is = ap (hold_in (owners_of a b side)) verdict ∙ hold_by_verdict a b state side kind told is

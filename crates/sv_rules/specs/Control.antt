@@ -71,11 +71,11 @@ control_in_force journal None = no_control
 control_in_force journal (Some offer) = in_force_with journal (vector_of journal offer) offer
 
 -- the state vector of a coupling, in the view of the offer at a place; none below degree 2
-abbrev pub state_of : Entries → ℕ → Option Coupling → Control
-state_of journal place None = no_control
-state_of journal place (Some coupling) = vector_of_story (story journal coupling) (side_at coupling place)
+abbrev pub state_vector_of : Entries → ℕ → Option Coupling → Control
+state_vector_of journal place None = no_control
+state_vector_of journal place (Some coupling) = vector_of_story (story journal coupling) (side_at coupling place)
 
 -- the state vector, in the party's own view
 abbrev pub state_vector : Entries → Option Standing → Control
 state_vector journal None = no_control
-state_vector journal (Some offer) = state_of journal offer.place (coupling_now journal offer.place)
+state_vector journal (Some offer) = state_vector_of journal offer.place (coupling_now journal offer.place)

@@ -30,31 +30,31 @@ use Rattle.sv_rules.specs.declared.coupling.Made.{Made}
 use Rattle.sv_rules.specs.declared.standing.Standing.{Standing}
 
 -- what becomes of an act: its answer, and the pairs that it couples
-pub record Outcome : Type 0 where
+pub record ActOutcome : Type 0 where
   pub answer : PlainAnswer
   pub made : List Pair
 
 -- an answer that couples nothing
-abbrev pub answer_only : PlainAnswer → Outcome
+abbrev pub answer_only : PlainAnswer → ActOutcome
 answer_only answer = record { answer = answer; made = [] }
 
 -- a new offer is coupled with its open match, if there is one
-abbrev pub joined_to : Standing → Option Standing → Outcome
+abbrev pub joined_to : Standing → Option Standing → ActOutcome
 joined_to new None = answer_only (degree 1)
 joined_to new (Some match) = record { answer = degree 2; made = pair_of match new ∷ [] }
 
 -- an offer of a name that the party has not offered: refused where the party has 64 offers
-abbrev pub new_offer : List Standing → List Made → Standing → Outcome
+abbrev pub new_offer : List Standing → List Made → Standing → ActOutcome
 new_offer offers coupled new =
     if nat_le most_offers (offer_count offers new.party) then answer_only offer_limit else joined_to new (open_match offers coupled new)
 
 -- an offer of a name that stands answers its degree, and changes nothing
-abbrev pub offer_outcome : List Standing → List Made → Standing → Option Standing → Outcome
+abbrev pub offer_outcome : List Standing → List Made → Standing → Option Standing → ActOutcome
 offer_outcome offers coupled new None = new_offer offers coupled new
 offer_outcome offers coupled new (Some old) = answer_only (degree (degree_at coupled old.place))
 
 -- what becomes of an act that opens an offer
-abbrev pub opening_outcome : Entries → ℕ → Opening → Outcome
+abbrev pub opening_outcome : Entries → ℕ → Opening → ActOutcome
 opening_outcome journal party opening =
     offer_outcome (standing journal) (couplings journal) (offer_made (next_place journal) party opening)
     (own_offer (standing journal) party opening.local)
@@ -65,7 +65,7 @@ pairs_by_ending journal party ending =
     map (λ made. made.pair) (made_by_ending (next_place journal) (standing journal) (couplings journal) party ending)
 
 -- a name that is taken back: its degree before, and the value that its party knows
-abbrev pub retraction_outcome : Entries → ℕ → List ℕ → Option Standing → Outcome
+abbrev pub retraction_outcome : Entries → ℕ → List ℕ → Option Standing → ActOutcome
 retraction_outcome journal party local None = answer_only not_shared
 retraction_outcome journal party local (Some offer) = record {
   answer = kept (degree_of journal (Some offer)) (known journal offer);
@@ -73,7 +73,7 @@ retraction_outcome journal party local (Some offer) = record {
 }
 
 -- what becomes of an act that ends offers
-abbrev pub ending_outcome : Entries → ℕ → Ending → Outcome
+abbrev pub ending_outcome : Entries → ℕ → Ending → ActOutcome
 ending_outcome journal party (One local) = retraction_outcome journal party local (own_offer (standing journal) party local)
 ending_outcome journal party All = record { answer = done; made = pairs_by_ending journal party All }
 
@@ -83,7 +83,7 @@ control_answer journal control None = not_shared
 control_answer journal control (Some offer) = vector (in_force_with journal control offer)
 
 -- what becomes of an act that sets a control
-abbrev pub control_outcome : Entries → ℕ → Controlling → Outcome
+abbrev pub control_outcome : Entries → ℕ → Controlling → ActOutcome
 control_outcome journal party set = answer_only (control_answer journal set.control (own_offer (standing journal) party set.local))
 
 -- a value, or that there is none
@@ -117,16 +117,16 @@ access_answer journal party kind None = not_shared
 access_answer journal party kind (Some offer) = unless_refused journal party offer kind (hold_on journal kind (Some offer))
 
 -- what becomes of an access
-abbrev pub access_outcome : Entries → ℕ → Accessing → Outcome
+abbrev pub access_outcome : Entries → ℕ → Accessing → ActOutcome
 access_outcome journal party access =
     answer_only (access_answer journal party access.kind (own_offer (standing journal) party access.local))
 
 -- what becomes of a question
-abbrev pub question_outcome : Entries → ℕ → Question → Outcome
+abbrev pub question_outcome : Entries → ℕ → Question → ActOutcome
 question_outcome journal party asked = answer_only (answer_to_question journal party asked)
 
 -- what becomes of an act of a row, which opens, ends, sets a control, accesses or asks
-abbrev pub outcome_of_row : Entries → ℕ → ActRow → Outcome
+abbrev pub outcome_of_row : Entries → ℕ → ActRow → ActOutcome
 outcome_of_row journal party row =
     unwrap_or
     (option_or (option_map (opening_outcome journal party) row.opens)
@@ -136,5 +136,5 @@ outcome_of_row journal party row =
     (answer_only done)
 
 -- what becomes of an act of a party after a journal that is not full
-abbrev pub outcome : Entries → ℕ → Act → Outcome
+abbrev pub outcome : Entries → ℕ → Act → ActOutcome
 outcome journal party act = outcome_of_row journal party (act_row act).row

@@ -27,8 +27,8 @@ abbrev pub without_party : List Standing → ℕ → List Standing
 without_party offers party = filter (λ offer. not (offer.party == party)) offers
 
 -- the offers but the party's of a local name
-abbrev pub without_name : List Standing → ℕ → List ℕ → List Standing
-without_name offers party local = filter (λ offer. not (is_own party local offer)) offers
+abbrev pub without_offer_of : List Standing → ℕ → List ℕ → List Standing
+without_offer_of offers party local = filter (λ offer. not (is_own party local offer)) offers
 
 -- an act of the party that ends offers ends this one
 abbrev pub is_ended : ℕ → Ending → Standing → Bool

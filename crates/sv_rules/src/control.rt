@@ -9,7 +9,7 @@ ghost use Rattle.sv_rules.specs.Refused.{hold_under};
 
 use crate::{Coupling, Standing};
 use apl_arrays::Name;
-use sv_access::{Control, Kind, Side, State, Verdict, decide, join, owners};
+use sv_access::{AccessState, Control, Kind, Side, Verdict, decide, join, owners};
 use sv_events::{Answer, Controlling, Entry, Hold};
 
 // The control that is set on a local name, if one is.
@@ -24,7 +24,7 @@ fn control_to(local: &Name, set: Option<Controlling>) -> Option<Control>
     }
 }
 
-/// The control that an entry sets on an offer: its party's, on its local name. No memory.
+/// The control that an entry sets on an offer: its party's, on its local name.
 pub fn control_on(offer: &Standing, entry: &Entry) -> Option<Control>
     ensures { result ≡ control_on offer.now (plain_entry entry.now) }
 {
@@ -35,7 +35,7 @@ pub fn control_on(offer: &Standing, entry: &Entry) -> Option<Control>
     }
 }
 
-/// The side of the offer at a place. No memory.
+/// The side of the offer at a place.
 pub fn side_at(coupling: &Coupling, place: u64) -> Side
     ensures { result ≡ side_at coupling.now place }
 {
@@ -47,8 +47,14 @@ pub fn side_at(coupling: &Coupling, place: u64) -> Side
 }
 
 /// What refuses an access, if anything does, by the vectors of sides A and B, each in its owner's view, by the state of the
-/// story and by the side of the party. No memory.
-pub fn hold_by_state(a: Control, b: Control, state: State, side: Side, kind: Kind) -> Option<Hold>
+/// story and by the side of the party.
+pub fn hold_by_state(
+    a: Control,
+    b: Control,
+    state: AccessState,
+    side: Side,
+    kind: Kind,
+) -> Option<Hold>
     ensures { (told : Story PlainArray) → state_of_story told ≡ state → result ≡ hold_under (record { story = told; a = a; b = b; side = side }) kind }
 {
     match decide(join(a, b), state, side, kind) {
@@ -60,7 +66,7 @@ pub fn hold_by_state(a: Control, b: Control, state: State, side: Side, kind: Kin
     }
 }
 
-/// The answer to a refused access: it is held, and given up where its party waits already. No memory.
+/// The answer to a refused access: it is held, and given up where its party waits already.
 pub fn refusal_answer(waits: bool, hold: Hold) -> Answer
     ensures { plain_answer result ≡ refusal_answer waits hold }
 {

@@ -26,14 +26,14 @@ fn stands_at(offers: &[Standing], place: u64) -> bool
     offers.iter().any(|offer| offer.place == place)
 }
 
-/// Whether both offers of a pair are among these. No memory.
+/// Whether both offers of a pair are among these.
 pub fn both_stand(offers: &[Standing], pair: &Pair) -> bool
     ensures { result ≡ both_stand offers.now pair.now }
 {
     stands_at(offers, pair.a) && stands_at(offers, pair.b)
 }
 
-/// Keeps the couplings of which both offers are among these. No memory.
+/// Keeps the couplings of which both offers are among these.
 pub fn keep_couplings(coupled: &mut Vec<Made>, offers: &[Standing])
     ensures items { coupled.new.items ≡ couplings_among offers.now coupled.old.items }
     ensures len { vec_len coupled.new ≤ vec_len coupled.old }
@@ -48,14 +48,14 @@ fn has_place(place: u64, made: &Made) -> bool
     made.pair.a == place || made.pair.b == place
 }
 
-/// Whether the offer at a place is coupled. No memory.
+/// Whether the offer at a place is coupled.
 pub fn is_coupled(coupled: &[Made], place: u64) -> bool
     ensures { result ≡ is_coupled coupled.now place }
 {
     coupled.iter().any(|made| has_place(place, made))
 }
 
-/// 2 for a coupled offer, else 1. No memory.
+/// 2 for a coupled offer, else 1.
 pub fn degree_at(coupled: &[Made], place: u64) -> u8
     ensures { result ≡ degree_at coupled.now place }
 {
@@ -68,7 +68,7 @@ fn is_open_match(coupled: &[Made], offer: &Standing, other: &Standing) -> bool
     !is_coupled(coupled, other.place) && is_match(offer, other)
 }
 
-/// Of the open matches of an offer the oldest, if it has any. No memory.
+/// Of the open matches of an offer the oldest, if it has any.
 pub fn open_match(offers: &[Standing], coupled: &[Made], offer: &Standing) -> Option<Standing>
     ensures { result ≡ open_match offers.now coupled.now offer.now }
 {
@@ -78,7 +78,7 @@ pub fn open_match(offers: &[Standing], coupled: &[Made], offer: &Standing) -> Op
         .copied()
 }
 
-/// The pair of two offers, the lower place first. No memory.
+/// The pair of two offers, the lower place first.
 pub fn pair_of(one: &Standing, other: &Standing) -> Pair
     ensures { result ≡ pair_of one.now other.now }
 {
@@ -90,8 +90,7 @@ pub fn pair_of(one: &Standing, other: &Standing) -> Pair
     Pair { a, b }
 }
 
-/// The pair that a reopened offer makes at a place: with its open match, where it is still open itself and has one. No
-/// memory.
+/// The pair that a reopened offer makes at a place: with its open match, where it is still open itself and has one.
 pub fn rejoined(at: u64, offers: &[Standing], coupled: &[Made], offer: &Standing) -> Option<Made>
     ensures { result ≡ rejoined at offers.now coupled.now offer.now }
 {
@@ -125,7 +124,7 @@ fn made_with(coupled: &[Made], place: u64) -> Option<Made>
     coupled.iter().find(|made| has_place(place, made)).copied()
 }
 
-/// The coupling of the offer at a place, if it has one. No memory.
+/// The coupling of the offer at a place, if it has one.
 pub fn coupling_at(offers: &[Standing], coupled: &[Made], place: u64) -> Option<Coupling>
     ensures { result ≡ coupling_at offers.now coupled.now place }
 {

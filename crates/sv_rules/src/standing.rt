@@ -1,5 +1,5 @@
 ghost use Rattle.std.specs.Prelude.{◌≡◌, ◌≤◌, vec_len, vec_capacity};
-ghost use Rattle.sv_rules.specs.Standing.{own_offer, offer_count, without_ended, without_name, without_party, is_match};
+ghost use Rattle.sv_rules.specs.Standing.{own_offer, offer_count, without_ended, without_offer_of, without_party, is_match};
 
 use apl_arrays::Name;
 use sv_events::Ending;
@@ -15,7 +15,7 @@ pub struct Standing {
     pub surrogate: Name,
 }
 
-/// The party's offer of a local name, if it has one. No memory.
+/// The party's offer of a local name, if it has one.
 pub fn own_offer(offers: &[Standing], party: u32, local: &Name) -> Option<Standing>
     ensures { result ≡ own_offer offers.now party local.now }
 {
@@ -25,7 +25,7 @@ pub fn own_offer(offers: &[Standing], party: u32, local: &Name) -> Option<Standi
         .copied()
 }
 
-/// How many of the offers are the party's. No memory.
+/// How many of the offers are the party's.
 pub fn offer_count(offers: &[Standing], party: u32) -> usize
     ensures { result ≡ offer_count offers.now party }
 {
@@ -43,14 +43,14 @@ fn end_offers(offers: &mut Vec<Standing>, party: u32)
 
 // Takes the party's offer of a local name out.
 fn end_offer(offers: &mut Vec<Standing>, party: u32, local: &Name)
-    ensures items { offers.new.items ≡ without_name offers.old.items party local.now }
+    ensures items { offers.new.items ≡ without_offer_of offers.old.items party local.now }
     ensures len { vec_len offers.new ≤ vec_len offers.old }
     ensures capacity { vec_capacity offers.new ≡ vec_capacity offers.old }
 {
     offers.retain(|offer| !(offer.party == party && offer.local == *local));
 }
 
-/// Takes the offers out that an act of a party ends. No memory.
+/// Takes the offers out that an act of a party ends.
 pub fn end_together(offers: &mut Vec<Standing>, party: u32, ending: Ending)
     ensures items { offers.new.items ≡ without_ended offers.old.items party ending }
     ensures len { vec_len offers.new ≤ vec_len offers.old }
@@ -63,7 +63,7 @@ pub fn end_together(offers: &mut Vec<Standing>, party: u32, ending: Ending)
 }
 
 /// Whether two offers are of different parties under one surrogate, each made to the other's party or to any, and not
-/// both to any. No memory.
+/// both to any.
 pub fn is_match(one: &Standing, other: &Standing) -> bool
     ensures { result ≡ is_match one.now other.now }
 {

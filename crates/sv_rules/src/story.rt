@@ -62,7 +62,7 @@ fn value_in<'a>(
     }
 }
 
-/// The value of the access that an entry makes on an offer: its party's, on its local name. No memory.
+/// The value of the access that an entry makes on an offer: its party's, on its local name.
 pub fn value_on<'a>(offer: &Standing, entry: &'a Entry) -> Option<&'a Array>
     ensures { option_copied result ≡ option_map (λ access. access.value) (access_on offer.now (plain_entry entry.now)) }
 {
@@ -101,7 +101,7 @@ fn kind_in(local: &Name, access: Option<Accessing>, act: &Act, answer: &Answer) 
     }
 }
 
-/// The kind of the access that an entry makes on an offer: its party's, on its local name. No memory.
+/// The kind of the access that an entry makes on an offer: its party's, on its local name.
 pub fn kind_on(offer: &Standing, entry: &Entry) -> Option<Kind>
     ensures { result ≡ option_map (λ access. access.kind) (access_on offer.now (plain_entry entry.now)) }
 {
@@ -118,7 +118,7 @@ pub fn kind_on(offer: &Standing, entry: &Entry) -> Option<Kind>
 }
 
 /// What the party of an offer knows of the variable: its newest set or get there, or else what it brought along with the
-/// offer. No memory.
+/// offer.
 pub fn known_value<'a>(entries: &'a [Entry], offer: &Standing) -> Option<&'a Array>
     ensures { option_copied result ≡ known (journal_of entries.now) offer.now }
 {

@@ -18,7 +18,7 @@ fn is_on(local: &Name, access: Option<Accessing>) -> bool
     }
 }
 
-/// Whether the entry is a set or a use by the offer's party on its local name, whatever its answer. No memory.
+/// Whether the entry is a set or a use by the offer's party on its local name, whatever its answer.
 pub fn tries(offer: &Standing, entry: &Entry) -> bool
     ensures { result ≡ tries offer.now (plain_entry entry.now) }
 {

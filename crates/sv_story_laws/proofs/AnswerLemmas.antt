@@ -17,7 +17,7 @@ use Rattle.sv_rules.specs.declared.coupling.Made.{Made}
 use Rattle.sv_rules.specs.Coupling.{couplings, coupling_now, open_match}
 use Rattle.sv_rules.specs.Entries.{Entries, next_place, kind_of, is_held, is_abandoned}
 use Rattle.sv_rules.specs.Legal.{IsLegal, IsStuckIf}
-use Rattle.sv_rules.specs.Outcome.{Outcome, outcome, answer_only, joined_to, offer_outcome, retraction_outcome, control_answer, value_answer, value_for, granted_answer, refusal_answer, unless_refused, access_answer}
+use Rattle.sv_rules.specs.Outcome.{ActOutcome, outcome, answer_only, joined_to, offer_outcome, retraction_outcome, control_answer, value_answer, value_for, granted_answer, refusal_answer, unless_refused, access_answer}
 use Rattle.sv_rules.specs.Refused.{hold_on, refused, waits}
 use Rattle.sv_rules.specs.Standing.{standing, own_offer, offer_count, offer_made}
 use Rattle.sv_rules.specs.Story.{access_on}
@@ -38,7 +38,7 @@ pub data Answered (refusing : Option Hold) (waiting : Bool) (given : PlainAnswer
 plain_offer : (offers : List Standing) (coupled : List Made) (new : Standing) (own : Option Standing) → IsPlain (offer_outcome offers coupled new own).answer
 plain_offer offers coupled new (Some old) = (refl, refl)
 plain_offer offers coupled new None =
-    cond_both (leb 64 (offer_count offers new.party)) (answer_only offer_limit) (joined_to new (open_match offers coupled new)) (λ (o : Outcome). IsPlain o.answer)
+    cond_both (leb 64 (offer_count offers new.party)) (answer_only offer_limit) (joined_to new (open_match offers coupled new)) (λ (o : ActOutcome). IsPlain o.answer)
     (λ _. (refl, refl)) (λ _. joined (open_match offers coupled new))
   where
     joined : (match : Option Standing) → IsPlain (joined_to new match).answer

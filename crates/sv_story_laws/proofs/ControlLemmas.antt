@@ -27,7 +27,7 @@ use Rattle.sv_events.specs.declared.event.Act.{Act}
 use Rattle.sv_events.specs.declared.event.Act.TheVariants.{SetControl}
 use Rattle.sv_events.specs.declared.event.Hold.{Hold}
 use Rattle.sv_events.specs.declared.row.Accessing.{Accessing}
-use Rattle.sv_rules.specs.Control.{control_to, control_on, vector_of, Sharing, sharing, sharing_of, side_at, state_of, control_in_force, partners_vector}
+use Rattle.sv_rules.specs.Control.{control_to, control_on, vector_of, Sharing, sharing, sharing_of, side_at, state_vector_of, control_in_force, partners_vector}
 use Rattle.sv_story_laws.specs.ControlLaws.{SetsNoControl}
 use Rattle.sv_rules.specs.Coupling.{coupling_now}
 use Rattle.apl_arrays.specs.Name.{same_name}
@@ -94,7 +94,7 @@ vector_is_none_at_first offer before offered later at none =
     vector_past offer later (offered ∷ before) (omega arith) none ∙ vector_offered offer offered before at
 
 pub state_vectors_are_of_the_story : (journal : Entries) (place : ℕ) (coupling : Coupling) →
-    state_of journal place (Some coupling) ≡ vector_of_state (state_of_story (story journal coupling)) (side_at coupling place)
+    state_vector_of journal place (Some coupling) ≡ vector_of_state (state_of_story (story journal coupling)) (side_at coupling place)
 state_vectors_are_of_the_story journal place coupling = sym (vector_by_state (story journal coupling) (side_at coupling place))
 
 -- what refuses an access of a party without a partner is its own

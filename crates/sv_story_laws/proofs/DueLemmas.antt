@@ -12,7 +12,7 @@ use Rattle.sv_events.specs.declared.event.Act.{Act}
 use Rattle.sv_events.specs.declared.event.Act.TheVariants.{Offer, Retract, SetControl, Set, Use}
 use Rattle.sv_events.specs.declared.work.Work.{Work}
 use Rattle.sv_events.specs.declared.work.Work.TheVariants as work
-use Rattle.aux_parties.specs.Auxiliaries.{is_auxiliary, most_counters, party_of, row_of}
+use Rattle.aux_parties.specs.Auxiliaries.{is_auxiliary, most_counters, party_of, auxiliary_row}
 use Rattle.sv_rules.specs.Coupling.{couplings, is_coupled}
 use Rattle.sv_rules.specs.Entries.{Entries, next_place, is_full}
 use Rattle.sv_rules.specs.Legal.{IsLegal, act_due, act_for}
@@ -27,14 +27,14 @@ use Rattle.sv_story_laws.proofs.WorkLemmas.{find-of_filter, first_is_lowest, low
 -- an auxiliary may have one offer more
 may_counter : (journal : Entries) (party : ℕ) → is_auxiliary party ≡ true → (ltb (offer_count (standing journal) party) (most_counters party) ≡ true) ↔ MayCounter journal party
 may_counter journal party aux = (
-  (λ few kind is. ltb-true count (row_of kind).counters (ap (ltb count) (sym (allowed kind is)) ∙ few)),
-  (λ may. let own = kind_of_party party aux in ap (ltb count) (allowed own.0 (sym own.1)) ∙ lt-ltb count (row_of own.0).counters (may own.0 (sym own.1))),
+  (λ few kind is. ltb-true count (auxiliary_row kind).counters (ap (ltb count) (sym (allowed kind is)) ∙ few)),
+  (λ may. let own = kind_of_party party aux in ap (ltb count) (allowed own.0 (sym own.1)) ∙ lt-ltb count (auxiliary_row own.0).counters (may own.0 (sym own.1))),
 )
   where
     count : ℕ
     count = offer_count (standing journal) party
 
-    allowed : (kind : AuxiliaryKind) → party ≡ party_of kind → most_counters party ≡ (row_of kind).counters
+    allowed : (kind : AuxiliaryKind) → party ≡ party_of kind → most_counters party ≡ (auxiliary_row kind).counters
     allowed kind is = ap most_counters is ∙ rows_allow kind
 
 -- the offer that is to be countered is the one of the lowest place

@@ -12,7 +12,7 @@ use Rattle.sv_access.specs.declared.access.Side.{Side}
 use Rattle.sv_access.specs.declared.access.Side.TheVariants.{A, B}
 use Rattle.sv_access.specs.declared.access.Kind.{Kind}
 use Rattle.sv_access.specs.declared.access.Kind.TheVariants as kind
-use Rattle.sv_access.specs.declared.state.State.TheVariants.{Quiet}
+use Rattle.sv_access.specs.declared.state.AccessState.TheVariants.{Quiet}
 use Rattle.sv_access.specs.State.{state_after}
 use Rattle.sv_events.specs.Entry.{PlainEntry}
 use Rattle.sv_rules.specs.declared.standing.Standing.{Standing}

@@ -11,11 +11,11 @@ use Rattle.sv_events.specs.Entry.{PlainEntry}
 use Rattle.sv_events.specs.Row.{act_row}
 use Rattle.sv_events.specs.declared.event.Act.{Act}
 use Rattle.sv_events.specs.declared.event.Act.TheVariants.{AskControl, AskDegree, AskNames, AskParties, AskState, SetControl}
-use Rattle.sv_rules.specs.Control.{control_in_force, control_on, control_to, in_force_with, partners_vector, state_of, state_vector, vector_of}
+use Rattle.sv_rules.specs.Control.{control_in_force, control_on, control_to, in_force_with, partners_vector, state_vector_of, state_vector, vector_of}
 use Rattle.sv_rules.specs.Coupling.{coupling_at, coupling_now, couplings, degree_at, is_coupled, open_offers, open_to}
 use Rattle.sv_rules.specs.Entries.{Entries, kind_of, next_place}
 use Rattle.sv_rules.specs.Legal.{IsLegal}
-use Rattle.sv_rules.specs.Outcome.{Outcome, answer_only, control_answer, outcome}
+use Rattle.sv_rules.specs.Outcome.{ActOutcome, answer_only, control_answer, outcome}
 use Rattle.sv_rules.specs.Questions.{degree_of, names_to, parties_to}
 use Rattle.sv_rules.specs.Standing.{own_offer, standing, standing_after}
 use Rattle.sv_rules.specs.declared.coupling.Coupling.{Coupling}
@@ -115,7 +115,7 @@ controls_are_answered users journal e legal local control is offer own = answer_
 -- ---- questions on a name
 
 -- by the offer of the party that asks, if it has one
-asks : (users : List ℕ) (journal : Entries) (e : PlainEntry) → IsLegal users (e ∷ journal) → (act : Act) → e.act ≡ act → (becomes : Option Standing → Outcome) → (local : List ℕ) →
+asks : (users : List ℕ) (journal : Entries) (e : PlainEntry) → IsLegal users (e ∷ journal) → (act : Act) → e.act ≡ act → (becomes : Option Standing → ActOutcome) → (local : List ℕ) →
     outcome journal e.party act ≡ becomes (own_offer (standing journal) e.party local) → (found : Option Standing) → own_offer (standing journal) e.party local ≡ found → e.answer ≡ (becomes found).answer
 asks users journal e legal act is becomes local out found own = answer_is users journal e legal act is (becomes found) (out ∙ ap becomes own)
 
@@ -125,7 +125,7 @@ tells_control users journal e legal local is = record {
   none = λ none. told None ((none_found journal e.party local).1 none);
 }
   where
-    becomes : Option Standing → Outcome
+    becomes : Option Standing → ActOutcome
     becomes found = answer_only (vector (control_in_force journal found))
 
     told : (found : Option Standing) → own_offer (standing journal) e.party local ≡ found → e.answer ≡ vector (control_in_force journal found)
@@ -134,12 +134,12 @@ tells_control users journal e legal local is = record {
 pub tells_state : (users : List ℕ) (journal : Entries) (e : PlainEntry) → IsLegal users (e ∷ journal) → (local : List ℕ) → e.act ≡ AskState local → TellsState journal e local
 tells_state users journal e legal local is = record {
   coupled = λ offer own coupling now.
-      told (Some offer) (own_is journal e.party local offer own) ∙ ap (λ (c : Option Coupling). vector (state_of journal offer.place c)) now ∙ ap vector (state_vectors_are_of_the_story journal offer.place coupling);
-  alone = λ offer own now. told (Some offer) (own_is journal e.party local offer own) ∙ ap (λ (c : Option Coupling). vector (state_of journal offer.place c)) now;
+      told (Some offer) (own_is journal e.party local offer own) ∙ ap (λ (c : Option Coupling). vector (state_vector_of journal offer.place c)) now ∙ ap vector (state_vectors_are_of_the_story journal offer.place coupling);
+  alone = λ offer own now. told (Some offer) (own_is journal e.party local offer own) ∙ ap (λ (c : Option Coupling). vector (state_vector_of journal offer.place c)) now;
   none = λ none. told None ((none_found journal e.party local).1 none);
 }
   where
-    becomes : Option Standing → Outcome
+    becomes : Option Standing → ActOutcome
     becomes found = answer_only (vector (state_vector journal found))
 
     told : (found : Option Standing) → own_offer (standing journal) e.party local ≡ found → e.answer ≡ vector (state_vector journal found)
@@ -151,7 +151,7 @@ tells_degree users journal e legal local is = record {
   none = λ none. told None ((none_found journal e.party local).1 none);
 }
   where
-    becomes : Option Standing → Outcome
+    becomes : Option Standing → ActOutcome
     becomes found = answer_only (degree (degree_of journal found))
 
     told : (found : Option Standing) → own_offer (standing journal) e.party local ≡ found → e.answer ≡ degree (degree_of journal found)

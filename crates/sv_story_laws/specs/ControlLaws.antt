@@ -11,7 +11,7 @@ use Rattle.sv_access.specs.declared.verdict.Verdict.TheVariants.{Granted, Held}
 use Rattle.sv_events.specs.Entry.{PlainEntry}
 use Rattle.sv_events.specs.declared.event.Act.TheVariants.{SetControl}
 use Rattle.sv_events.specs.declared.event.Hold.{Hold}
-use Rattle.sv_rules.specs.Control.{control_on, vector_of, side_at, sharing, control_in_force, state_of}
+use Rattle.sv_rules.specs.Control.{control_on, vector_of, side_at, sharing, control_in_force, state_vector_of}
 use Rattle.sv_rules.specs.Coupling.{coupling_now}
 use Rattle.sv_rules.specs.Entries.{Entries, next_place}
 use Rattle.sv_rules.specs.Legal.{IsLegal}
@@ -80,4 +80,4 @@ HoldsOfOpenOffersAreMine =
 abbrev pub StateVectorsAreOfTheStory : Type 0
 StateVectorsAreOfTheStory =
     (journal : Entries) (place : ℕ) (coupling : Coupling) →
-    state_of journal place (Some coupling) ≡ vector_of_state (state_of_story (story journal coupling)) (side_at coupling place)
+    state_vector_of journal place (Some coupling) ≡ vector_of_state (state_of_story (story journal coupling)) (side_at coupling place)

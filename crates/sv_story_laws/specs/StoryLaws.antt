@@ -7,8 +7,8 @@ use Rattle.sv_access.specs.declared.access.Side.{Side}
 use Rattle.sv_access.specs.declared.access.Side.TheVariants.{A, B}
 use Rattle.sv_access.specs.declared.access.Kind.{Kind}
 use Rattle.sv_access.specs.declared.access.Kind.TheVariants as kind
-use Rattle.sv_access.specs.declared.state.State.{State}
-use Rattle.sv_access.specs.declared.state.State.TheVariants.{Quiet, UnseenA, UnseenB}
+use Rattle.sv_access.specs.declared.state.AccessState.{AccessState}
+use Rattle.sv_access.specs.declared.state.AccessState.TheVariants.{Quiet, UnseenA, UnseenB}
 use Rattle.sv_access.specs.Access.{Access}
 use Rattle.sv_access.specs.Story.{Story, last_value, state_of_story}
 use Rattle.sv_events.specs.Answer.{PlainAnswer, granted, value}
@@ -113,7 +113,7 @@ GiverKnows =
     × (known before coupling.a ≡ None → giver_story before coupling (known before coupling.a) ≡ opening B before coupling.b)
 
 -- a set by this side is unseen
-abbrev pub unseen_by : Side → State
+abbrev pub unseen_by : Side → AccessState
 unseen_by A = UnseenA
 unseen_by B = UnseenB
 
@@ -135,7 +135,7 @@ UsesGetWhatTheyFind =
     access_on offer e ≡ Some (record { kind = kind.Use; value = v }) → value_for journal offer (coupling_now journal offer.place) ≡ Some v
 
 -- the state at coupling, by what the sides know: a set by the giver is unseen
-abbrev pub state_at_coupling : Option PlainArray → Option PlainArray → State
+abbrev pub state_at_coupling : Option PlainArray → Option PlainArray → AccessState
 state_at_coupling (Some of_a) of_b = UnseenA
 state_at_coupling None (Some of_b) = UnseenB
 state_at_coupling None None = Quiet

@@ -7,7 +7,7 @@ use Rattle.sv_events.specs.Work.{counter_name}
 use Rattle.sv_events.specs.declared.event.Act.TheVariants.{Offer, Use}
 use Rattle.sv_events.specs.declared.work.Work.{Work}
 use Rattle.sv_events.specs.declared.work.Work.TheVariants as work
-use Rattle.aux_parties.specs.Auxiliaries.{is_auxiliary, party_of, row_of}
+use Rattle.aux_parties.specs.Auxiliaries.{is_auxiliary, party_of, auxiliary_row}
 use Rattle.sv_rules.specs.Control.{control_on}
 use Rattle.sv_rules.specs.Coupling.{couplings, coupling_now, is_coupled, open_to}
 use Rattle.sv_rules.specs.Entries.{Entries, next_place, since, is_full}
@@ -52,7 +52,7 @@ FirstCoupledIsLowest =
 
 -- the auxiliary may have one offer more: fewer stand than its row has
 abbrev pub MayCounter : Entries → ℕ → Type 0
-MayCounter journal party = (kind : AuxiliaryKind) → party ≡ party_of kind → offer_count (standing journal) party < (row_of kind).counters
+MayCounter journal party = (kind : AuxiliaryKind) → party ≡ party_of kind → offer_count (standing journal) party < (auxiliary_row kind).counters
 
 -- the offer is open and made to the auxiliary by its number, which may have one more
 pub record IsToCounter (journal : Entries) (party : ℕ) (offer : Standing) : Type 0 where

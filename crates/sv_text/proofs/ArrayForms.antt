@@ -9,9 +9,9 @@ use Rattle.apl_arrays.specs.Array.{PlainItems, numbers, chars, numbers_in, chars
 use Rattle.apl_arrays.specs.Glyph.{IsGlyph}
 use Rattle.line_text.specs.Spaced.{spaced}
 use Rattle.apl_arrays.specs.List.{first_of}
-use Rattle.text_reader.specs.Reading.{Reader, Reading, ◌>>=◌, as_read, literal_at}
+use Rattle.text_reader.specs.Reading.{Reader, Reading, ◌>>=◌, as_read, read_literal}
 use Rattle.sv_text.specs.Value.{IsValue, IsValueOrNone}
-use Rattle.sv_text.specs.ValueReading.{shape_at, numbers_at, quoted_at, numbers_array_at, chars_array_at, array_at, value_at}
+use Rattle.sv_text.specs.ValueReading.{read_shape, read_numbers, read_quoted, read_numbers_array, read_chars_array, read_array, read_value}
 use Rattle.sv_text.specs.ValueText.{items_text, array_text, value_text}
 use Rattle.line_text.proofs.SameNumbers.{Fits64}
 use Rattle.sv_text.proofs.ItemForms.{numbers_text, chars_text, reads_numbers, reads_quoted, fits_nought, blank_glyph}
@@ -61,9 +61,9 @@ unfolding HasNumbers
 numbers_there s fits list h =
     (refl, (record { array = record { fits = fits; whole = sym h.many }; items = All-from_recursion Fits64 list h.each }, tt))
 
-numbers_behind : (s : List ℕ) → FitsLimits s → IsReader (λ a. numbers_text (number_items a)) (λ a. (a.shape ≡ s) × NumberArray a) NoDigit SameFirst (λ line. as_read (number_array s) (numbers_at (element_count s) line))
+numbers_behind : (s : List ℕ) → FitsLimits s → IsReader (λ a. numbers_text (number_items a)) (λ a. (a.shape ≡ s) × NumberArray a) NoDigit SameFirst (λ line. as_read (number_array s) (read_numbers (element_count s) line))
 numbers_behind s fits =
-    made numbers_text (AreSoMany Fits64 (element_count s)) NoDigit SameFirst (numbers_at (element_count s)) (number_array s) number_items (λ a. (a.shape ≡ s) × NumberArray a) (reads_numbers (element_count s)) (some_numbers s) (numbers_again s)
+    made numbers_text (AreSoMany Fits64 (element_count s)) NoDigit SameFirst (read_numbers (element_count s)) (number_array s) number_items (λ a. (a.shape ≡ s) × NumberArray a) (reads_numbers (element_count s)) (some_numbers s) (numbers_again s)
     (λ list h. numbers_there s fits list h) (λ list h. refl)
 
 some_number_array : (s : List ℕ) → FitsLimits s → (a : PlainArray) × (a.shape ≡ s) × NumberArray a
@@ -87,14 +87,14 @@ number_spelled : (a : PlainArray) → NumberArray a → codes "N(" ++ (shape_tex
 unfolding array_of
 number_spelled a h = number_spelled_in a.shape a.items h.1
 
-reads_number_array : IsReader array_text NumberArray NoDigit SameFirst numbers_array_at
-unfolding numbers_array_at
+reads_number_array : IsReader array_text NumberArray NoDigit SameFirst read_numbers_array
+unfolding read_numbers_array
 reads_number_array line a =
-    let inner : IsReader (λ e. shape_text e.shape ++ numbers_text (number_items e)) NumberArray NoDigit SameFirst (λ rest. shape_at rest >>= λ found. as_read (number_array found.0) (numbers_at (element_count found.0) found.1)) =
-    then_read shape_text FitsLimits Anything (λ e. e.shape) (λ e. numbers_text (number_items e)) NumberArray NoDigit SameFirst shape_at (λ s rest. as_read (number_array s) (numbers_at (element_count s) rest)) no_further reads_shape numbers_behind number_array_shape (λ e behind h follow. tt) some_number_array in
+    let inner : IsReader (λ e. shape_text e.shape ++ numbers_text (number_items e)) NumberArray NoDigit SameFirst (λ rest. read_shape rest >>= λ found. as_read (number_array found.0) (read_numbers (element_count found.0) found.1)) =
+    then_read shape_text FitsLimits Anything (λ e. e.shape) (λ e. numbers_text (number_items e)) NumberArray NoDigit SameFirst read_shape (λ s rest. as_read (number_array s) (read_numbers (element_count s) rest)) no_further reads_shape numbers_behind number_array_shape (λ e behind h follow. tt) some_number_array in
     let some = some_number_array [] empty_fits in
-    reformed (λ e. codes "N(" ++ (shape_text e.shape ++ numbers_text (number_items e))) array_text NumberArray NumberArray NoDigit NoDigit SameFirst (λ rest. literal_at (codes "N(") rest >>= λ opened. (shape_at opened >>= λ found. as_read (number_array found.0) (numbers_at (element_count found.0) found.1))) (λ e h. h) (λ e h. h) number_spelled (λ behind h. h)
-    (after_text (codes "N(") (λ e. shape_text e.shape ++ numbers_text (number_items e)) NumberArray NoDigit SameFirst (λ opened. shape_at opened >>= λ found. as_read (number_array found.0) (numbers_at (element_count found.0) found.1)) some.0 some.2 inner) line a
+    reformed (λ e. codes "N(" ++ (shape_text e.shape ++ numbers_text (number_items e))) array_text NumberArray NumberArray NoDigit NoDigit SameFirst (λ rest. read_literal (codes "N(") rest >>= λ opened. (read_shape opened >>= λ found. as_read (number_array found.0) (read_numbers (element_count found.0) found.1))) (λ e h. h) (λ e h. h) number_spelled (λ behind h. h)
+    (after_text (codes "N(") (λ e. shape_text e.shape ++ numbers_text (number_items e)) NumberArray NoDigit SameFirst (λ opened. read_shape opened >>= λ found. as_read (number_array found.0) (read_numbers (element_count found.0) found.1)) some.0 some.2 inner) line a
 
 -- arrays of characters
 
@@ -134,9 +134,9 @@ unfolding HasChars
 chars_there s fits list h =
     (refl, (record { array = record { fits = fits; whole = sym h.many }; items = All-from_recursion IsGlyph list h.each }, tt))
 
-chars_behind : (s : List ℕ) → FitsLimits s → IsReader (λ a. chars_text (char_items a)) (λ a. (a.shape ≡ s) × CharArray a) Anything SameFirst (λ line. as_read (char_array s) (quoted_at (element_count s) line))
+chars_behind : (s : List ℕ) → FitsLimits s → IsReader (λ a. chars_text (char_items a)) (λ a. (a.shape ≡ s) × CharArray a) Anything SameFirst (λ line. as_read (char_array s) (read_quoted (element_count s) line))
 chars_behind s fits =
-    made chars_text (AreSoMany IsGlyph (element_count s)) Anything SameFirst (quoted_at (element_count s)) (char_array s) char_items (λ a. (a.shape ≡ s) × CharArray a) (reads_quoted (element_count s)) (some_chars s) (chars_again s)
+    made chars_text (AreSoMany IsGlyph (element_count s)) Anything SameFirst (read_quoted (element_count s)) (char_array s) char_items (λ a. (a.shape ≡ s) × CharArray a) (reads_quoted (element_count s)) (some_chars s) (chars_again s)
     (λ list h. chars_there s fits list h) (λ list h. refl)
 
 some_char_array : (s : List ℕ) → FitsLimits s → (a : PlainArray) × (a.shape ≡ s) × CharArray a
@@ -157,14 +157,14 @@ char_spelled : (a : PlainArray) → CharArray a → codes "C(" ++ (shape_text a.
 unfolding array_of
 char_spelled a h = char_spelled_in a.shape a.items h.1
 
-reads_char_array : IsReader array_text CharArray Anything SameFirst chars_array_at
-unfolding chars_array_at
+reads_char_array : IsReader array_text CharArray Anything SameFirst read_chars_array
+unfolding read_chars_array
 reads_char_array line a =
-    let inner : IsReader (λ e. shape_text e.shape ++ chars_text (char_items e)) CharArray Anything SameFirst (λ rest. shape_at rest >>= λ found. as_read (char_array found.0) (quoted_at (element_count found.0) found.1)) =
-    then_read shape_text FitsLimits Anything (λ e. e.shape) (λ e. chars_text (char_items e)) CharArray Anything SameFirst shape_at (λ s rest. as_read (char_array s) (quoted_at (element_count s) rest)) no_further reads_shape chars_behind char_array_shape (λ e behind h follow. tt) some_char_array in
+    let inner : IsReader (λ e. shape_text e.shape ++ chars_text (char_items e)) CharArray Anything SameFirst (λ rest. read_shape rest >>= λ found. as_read (char_array found.0) (read_quoted (element_count found.0) found.1)) =
+    then_read shape_text FitsLimits Anything (λ e. e.shape) (λ e. chars_text (char_items e)) CharArray Anything SameFirst read_shape (λ s rest. as_read (char_array s) (read_quoted (element_count s) rest)) no_further reads_shape chars_behind char_array_shape (λ e behind h follow. tt) some_char_array in
     let some = some_char_array [] empty_fits in
-    reformed (λ e. codes "C(" ++ (shape_text e.shape ++ chars_text (char_items e))) array_text CharArray CharArray Anything Anything SameFirst (λ rest. literal_at (codes "C(") rest >>= λ opened. (shape_at opened >>= λ found. as_read (char_array found.0) (quoted_at (element_count found.0) found.1))) (λ e h. h) (λ e h. h) char_spelled (λ behind h. h)
-    (after_text (codes "C(") (λ e. shape_text e.shape ++ chars_text (char_items e)) CharArray Anything SameFirst (λ opened. shape_at opened >>= λ found. as_read (char_array found.0) (quoted_at (element_count found.0) found.1)) some.0 some.2 inner) line a
+    reformed (λ e. codes "C(" ++ (shape_text e.shape ++ chars_text (char_items e))) array_text CharArray CharArray Anything Anything SameFirst (λ rest. read_literal (codes "C(") rest >>= λ opened. (read_shape opened >>= λ found. as_read (char_array found.0) (read_quoted (element_count found.0) found.1))) (λ e h. h) (λ e h. h) char_spelled (λ behind h. h)
+    (after_text (codes "C(") (λ e. shape_text e.shape ++ chars_text (char_items e)) CharArray Anything SameFirst (λ opened. read_shape opened >>= λ found. as_read (char_array found.0) (read_quoted (element_count found.0) found.1)) some.0 some.2 inner) line a
 
 -- arrays
 
@@ -204,9 +204,9 @@ none_of_either line not nor e behind z h same agree =
       | inr other ↦ nor (sym agree ∙ (ap first_of (sym same) ∙ char_first e behind other))
     ]
 
-chars_weaker : IsReader array_text CharArray NoDigit SameFirst chars_array_at
+chars_weaker : IsReader array_text CharArray NoDigit SameFirst read_chars_array
 chars_weaker =
-    reformed array_text array_text CharArray CharArray Anything NoDigit SameFirst chars_array_at (λ e h. h) (λ e h. h) (λ e h. refl) (λ behind h. tt) reads_char_array
+    reformed array_text array_text CharArray CharArray Anything NoDigit SameFirst read_chars_array (λ e h. h) (λ e h. h) (λ e h. refl) (λ behind h. tt) reads_char_array
 
 array_stopped : (line : List ℕ) → (first_of line ≡ Some 78 → ⊥) → (first_of line ≡ Some 67 → ⊥) → Reads array_text IsValue NoDigit SameFirst line (Err (length line))
 array_stopped line not nor =
@@ -223,21 +223,21 @@ array_stopped line not nor =
       none = λ w behind z fit follow same agree. none_of_either line not nor w behind z fit same agree;
     }
 
-array_by : (x : ℕ) (rest : List ℕ) → AreGlyphs (x ∷ rest) → (b : Bool) → eqb x 78 ≡ b → (c : Bool) → eqb x 67 ≡ c → Reads array_text IsValue NoDigit SameFirst (x ∷ rest) (cond b (numbers_array_at (x ∷ rest)) (cond c (chars_array_at (x ∷ rest)) (Err (length (x ∷ rest)))))
+array_by : (x : ℕ) (rest : List ℕ) → AreGlyphs (x ∷ rest) → (b : Bool) → eqb x 78 ≡ b → (c : Bool) → eqb x 67 ≡ c → Reads array_text IsValue NoDigit SameFirst (x ∷ rest) (cond b (read_numbers_array (x ∷ rest)) (cond c (read_chars_array (x ∷ rest)) (Err (length (x ∷ rest)))))
 array_by x rest a true p c q =
     let first : Some x ≡ Some 78 = ap Some (let same : x ≡ 78 = grind (arith, nat_tests, p) in same) in
-    widened array_text NumberArray IsValue NoDigit SameFirst no_further (λ e h. h.0) (x ∷ rest) (number_or_other (x ∷ rest) first) (numbers_array_at (x ∷ rest)) (reads_number_array (x ∷ rest) a)
+    widened array_text NumberArray IsValue NoDigit SameFirst no_further (λ e h. h.0) (x ∷ rest) (number_or_other (x ∷ rest) first) (read_numbers_array (x ∷ rest)) (reads_number_array (x ∷ rest) a)
 array_by x rest a false p true q =
     let first : Some x ≡ Some 67 = ap Some (let same : x ≡ 67 = grind (arith, nat_tests, q) in same) in
-    widened array_text CharArray IsValue NoDigit SameFirst no_further (λ e h. h.0) (x ∷ rest) (char_or_other (x ∷ rest) first) (chars_array_at (x ∷ rest)) (chars_weaker (x ∷ rest) a)
+    widened array_text CharArray IsValue NoDigit SameFirst no_further (λ e h. h.0) (x ∷ rest) (char_or_other (x ∷ rest) first) (read_chars_array (x ∷ rest)) (chars_weaker (x ∷ rest) a)
 array_by x rest a false p false q =
     array_stopped (x ∷ rest)
     (λ e. let same : x ≡ 78 = cc in grind (arith, nat_tests, p, same))
     (λ e. let same : x ≡ 67 = cc in grind (arith, nat_tests, q, same))
 
 -- an array is read
-pub reads_array : IsReader array_text IsValue NoDigit SameFirst array_at
-unfolding array_at
+pub reads_array : IsReader array_text IsValue NoDigit SameFirst read_array
+unfolding read_array
 reads_array [] a = array_stopped [] (λ e. let none : ⊥ = cc in none) (λ e. let none : ⊥ = cc in none)
 reads_array (x ∷ rest) a = array_by x rest a (eqb x 78) refl (eqb x 67) refl
 
@@ -265,10 +265,10 @@ unfolding IsArrayValue array_or
 value_again None h = absurd h
 value_again (Some a) h = refl
 
-reads_some : IsReader (λ v. array_text (array_or v)) IsArrayValue NoDigit SameFirst (λ line. as_read Some (array_at line))
+reads_some : IsReader (λ v. array_text (array_or v)) IsArrayValue NoDigit SameFirst (λ line. as_read Some (read_array line))
 unfolding IsArrayValue array_or
 reads_some =
-    made array_text IsValue NoDigit SameFirst array_at Some array_or IsArrayValue reads_array array_in_value value_again (λ a h. h) (λ a h. refl)
+    made array_text IsValue NoDigit SameFirst read_array Some array_or IsArrayValue reads_array array_in_value value_again (λ a h. h) (λ a h. refl)
 
 value_or_other : (line : List ℕ) → (first_of line ≡ Some 110 → ⊥) → (v : Option PlainArray) (behind : List ℕ) → IsValueOrNone v → NoDigit behind → IsArrayValue v ⊎ (SameFirst (value_text v ++ behind) line → ⊥)
 unfolding IsArrayValue
@@ -295,7 +295,7 @@ none_fits : (v : Option PlainArray) → IsNone v → IsValueOrNone v
 unfolding IsNone
 none_fits v h = subst IsValueOrNone (sym h) tt
 
-reads_none : IsReader (λ v. codes "none" ++ []) IsNone NoDigit SameFirst (λ line. literal_at (codes "none") line >>= λ rest. Ok (None, rest))
+reads_none : IsReader (λ v. codes "none" ++ []) IsNone NoDigit SameFirst (λ line. read_literal (codes "none") line >>= λ rest. Ok (None, rest))
 unfolding IsNone
 reads_none =
     after_text (codes "none") (λ v. []) IsNone NoDigit SameFirst (λ rest. Ok (None, rest)) None refl (nothing_more None IsNone NoDigit SameFirst refl (λ e h. h))
@@ -310,22 +310,22 @@ unfolding IsArrayValue
 some_fits None h = absurd h
 some_fits (Some a) h = h
 
-value_some : (line : List ℕ) → AreGlyphs line → (first_of line ≡ Some 110 → ⊥) → Reads value_text IsValueOrNone NoDigit SameFirst line (as_read Some (array_at line))
+value_some : (line : List ℕ) → AreGlyphs line → (first_of line ≡ Some 110 → ⊥) → Reads value_text IsValueOrNone NoDigit SameFirst line (as_read Some (read_array line))
 value_some line a not =
-    widened value_text IsArrayValue IsValueOrNone NoDigit SameFirst no_further some_fits line (value_or_other line not) (as_read Some (array_at line))
-    (retexted (λ v. array_text (array_or v)) value_text IsArrayValue NoDigit line (as_read Some (array_at line)) some_text (reads_some line a))
+    widened value_text IsArrayValue IsValueOrNone NoDigit SameFirst no_further some_fits line (value_or_other line not) (as_read Some (read_array line))
+    (retexted (λ v. array_text (array_or v)) value_text IsArrayValue NoDigit line (as_read Some (read_array line)) some_text (reads_some line a))
 
-value_by : (x : ℕ) (rest : List ℕ) → AreGlyphs (x ∷ rest) → (b : Bool) → eqb x 110 ≡ b → Reads value_text IsValueOrNone NoDigit SameFirst (x ∷ rest) (cond b (literal_at (codes "none") (x ∷ rest) >>= λ behind. Ok (None, behind)) (as_read Some (array_at (x ∷ rest))))
+value_by : (x : ℕ) (rest : List ℕ) → AreGlyphs (x ∷ rest) → (b : Bool) → eqb x 110 ≡ b → Reads value_text IsValueOrNone NoDigit SameFirst (x ∷ rest) (cond b (read_literal (codes "none") (x ∷ rest) >>= λ behind. Ok (None, behind)) (as_read Some (read_array (x ∷ rest))))
 value_by x rest a true e =
     let first : Some x ≡ Some 110 = ap Some (let same : x ≡ 110 = grind (arith, nat_tests, e) in same) in
-    let one : IsReader (λ v. codes "none" ++ []) IsNone NoDigit SameFirst (λ line. literal_at (codes "none") line >>= λ behind. Ok (None, behind)) = reads_none in
-    widened value_text IsNone IsValueOrNone NoDigit SameFirst no_further none_fits (x ∷ rest) (none_or_other (x ∷ rest) first) (literal_at (codes "none") (x ∷ rest) >>= λ behind. Ok (None, behind))
-    (retexted (λ v. codes "none" ++ []) value_text IsNone NoDigit (x ∷ rest) (literal_at (codes "none") (x ∷ rest) >>= λ behind. Ok (None, behind)) none_text (one (x ∷ rest) a))
+    let one : IsReader (λ v. codes "none" ++ []) IsNone NoDigit SameFirst (λ line. read_literal (codes "none") line >>= λ behind. Ok (None, behind)) = reads_none in
+    widened value_text IsNone IsValueOrNone NoDigit SameFirst no_further none_fits (x ∷ rest) (none_or_other (x ∷ rest) first) (read_literal (codes "none") (x ∷ rest) >>= λ behind. Ok (None, behind))
+    (retexted (λ v. codes "none" ++ []) value_text IsNone NoDigit (x ∷ rest) (read_literal (codes "none") (x ∷ rest) >>= λ behind. Ok (None, behind)) none_text (one (x ∷ rest) a))
 value_by x rest a false e =
     value_some (x ∷ rest) a (λ first. let same : x ≡ 110 = cc in grind (arith, nat_tests, e, same))
 
 -- a value is read
-pub reads_value : IsReader value_text IsValueOrNone NoDigit SameFirst value_at
-unfolding value_at
+pub reads_value : IsReader value_text IsValueOrNone NoDigit SameFirst read_value
+unfolding read_value
 reads_value [] a = value_some [] a (λ e. let none : ⊥ = cc in none)
 reads_value (x ∷ rest) a = value_by x rest a (eqb x 110) refl

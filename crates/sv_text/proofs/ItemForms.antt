@@ -12,9 +12,9 @@ use Rattle.line_text.specs.Spaced.{spaced}
 use Rattle.line_text.proofs.SameNumbers.{Fits64, begins_count}
 use Rattle.line_text.proofs.Spaced.{spaced_is}
 use Rattle.apl_arrays.specs.List.{first_of}
-use Rattle.text_reader.specs.Reading.{Reading, ◌>>=◌, always, list_at, literal_at, read_behind}
-use Rattle.text_reader.specs.NumberReading.{number_at}
-use Rattle.sv_text.specs.ValueReading.{negative_at, positive_at, integer_at, next_integer_at, numbers_at, char_at, quoted_at}
+use Rattle.text_reader.specs.Reading.{Reading, ◌>>=◌, always, read_list, read_literal, read_behind}
+use Rattle.text_reader.specs.NumberReading.{read_number}
+use Rattle.sv_text.specs.ValueReading.{read_negative, read_positive, read_integer, read_next_integer, read_numbers, read_char, read_quoted}
 use Rattle.sv_text.specs.ValueText.{char_text}
 use Rattle.text_reader.proofs.ListForms.{AreSoMany, head_or, rest_of, copies, copies_fit, no_more, reads_list, list_of_first}
 use Rattle.text_reader.proofs.NumberForms.{InRange, NoDigit, reads_number, begins_same}
@@ -57,10 +57,10 @@ unfolding magnitude negated
 negative_back zero h = absurd (omega (arith, h.least))
 negative_back (suc m) h = refl
 
-reads_negative : IsReader (λ e. decimal (magnitude e)) Negative NoDigit SameFirst negative_at
+reads_negative : IsReader (λ e. decimal (magnitude e)) Negative NoDigit SameFirst read_negative
 unfolding negated
 reads_negative =
-    made decimal (InRange 1 (2 ^ 63)) NoDigit SameFirst (number_at 1 (2 ^ 63)) negated magnitude Negative (reads_number 1 (2 ^ 63) (omega arith) (omega arith)) small_negative negative_again negative_there negative_back
+    made decimal (InRange 1 (2 ^ 63)) NoDigit SameFirst (read_number 1 (2 ^ 63)) negated magnitude Negative (reads_number 1 (2 ^ 63) (omega arith) (omega arith)) small_negative negative_again negative_there negative_back
 
 small_positive : (e : ℤ) → Positive e → InRange 0 (2 ^ 63 - 1) (magnitude e)
 unfolding magnitude
@@ -79,9 +79,9 @@ positive_back : (m : ℕ) → InRange 0 (2 ^ 63 - 1) m → magnitude (pos m) ≡
 unfolding magnitude
 positive_back m h = refl
 
-reads_positive : IsReader (λ e. decimal (magnitude e)) Positive NoDigit SameFirst positive_at
+reads_positive : IsReader (λ e. decimal (magnitude e)) Positive NoDigit SameFirst read_positive
 reads_positive =
-    made decimal (InRange 0 (2 ^ 63 - 1)) NoDigit SameFirst (number_at 0 (2 ^ 63 - 1)) pos magnitude Positive (reads_number 0 (2 ^ 63 - 1) (omega arith) (omega arith)) small_positive positive_again positive_there positive_back
+    made decimal (InRange 0 (2 ^ 63 - 1)) NoDigit SameFirst (read_number 0 (2 ^ 63 - 1)) pos magnitude Positive (reads_number 0 (2 ^ 63 - 1) (omega arith) (omega arith)) small_positive positive_again positive_there positive_back
 
 negative_text : (e : ℤ) → Negative e → overbar ∷ decimal (magnitude e) ≡ number_text e
 unfolding magnitude
@@ -114,26 +114,26 @@ positive_or_other : (line : List ℕ) → (first_of line ≡ Some overbar → �
 positive_or_other line not (pos n) behind h follow = inl h
 positive_or_other line not (negsuc n) behind h follow = inr (λ same. not (sym same))
 
-negative_read : (rest : List ℕ) → AreGlyphs rest → Reads number_text Fits64 NoDigit SameFirst (overbar ∷ rest) (negative_at rest)
+negative_read : (rest : List ℕ) → AreGlyphs rest → Reads number_text Fits64 NoDigit SameFirst (overbar ∷ rest) (read_negative rest)
 negative_read rest a =
-    let one : IsReader (λ e. decimal (magnitude e)) Negative NoDigit SameFirst negative_at = reads_negative in
-    let sign = behind_glyph overbar (λ e. decimal (magnitude e)) Negative NoDigit SameFirst rest (negative_at rest) (one rest a) in
-    widened number_text Negative Fits64 NoDigit SameFirst no_further negative_fits (overbar ∷ rest) (negative_or_other rest) (negative_at rest)
-    (retexted (λ e. overbar ∷ decimal (magnitude e)) number_text Negative NoDigit (overbar ∷ rest) (negative_at rest) negative_text sign)
+    let one : IsReader (λ e. decimal (magnitude e)) Negative NoDigit SameFirst read_negative = reads_negative in
+    let sign = behind_glyph overbar (λ e. decimal (magnitude e)) Negative NoDigit SameFirst rest (read_negative rest) (one rest a) in
+    widened number_text Negative Fits64 NoDigit SameFirst no_further negative_fits (overbar ∷ rest) (negative_or_other rest) (read_negative rest)
+    (retexted (λ e. overbar ∷ decimal (magnitude e)) number_text Negative NoDigit (overbar ∷ rest) (read_negative rest) negative_text sign)
 
-positive_read : (line : List ℕ) → AreGlyphs line → (first_of line ≡ Some overbar → ⊥) → Reads number_text Fits64 NoDigit SameFirst line (positive_at line)
+positive_read : (line : List ℕ) → AreGlyphs line → (first_of line ≡ Some overbar → ⊥) → Reads number_text Fits64 NoDigit SameFirst line (read_positive line)
 positive_read line a not =
-    widened number_text Positive Fits64 NoDigit SameFirst no_further positive_fits line (positive_or_other line not) (positive_at line)
-    (retexted (λ e. decimal (magnitude e)) number_text Positive NoDigit line (positive_at line) positive_text (reads_positive line a))
+    widened number_text Positive Fits64 NoDigit SameFirst no_further positive_fits line (positive_or_other line not) (read_positive line)
+    (retexted (λ e. decimal (magnitude e)) number_text Positive NoDigit line (read_positive line) positive_text (reads_positive line a))
 
-sign_read : (x : ℕ) (rest : List ℕ) → AreGlyphs (x ∷ rest) → (b : Bool) → eqb x overbar ≡ b → Reads number_text Fits64 NoDigit SameFirst (x ∷ rest) (cond b (negative_at rest) (positive_at (x ∷ rest)))
+sign_read : (x : ℕ) (rest : List ℕ) → AreGlyphs (x ∷ rest) → (b : Bool) → eqb x overbar ≡ b → Reads number_text Fits64 NoDigit SameFirst (x ∷ rest) (cond b (read_negative rest) (read_positive (x ∷ rest)))
 sign_read x rest a true h =
     let same : overbar ≡ x = grind (arith, nat_tests, h) in
-    subst (λ g. Reads number_text Fits64 NoDigit SameFirst (g ∷ rest) (negative_at rest)) same (negative_read rest a.1)
+    subst (λ g. Reads number_text Fits64 NoDigit SameFirst (g ∷ rest) (read_negative rest)) same (negative_read rest a.1)
 sign_read x rest a false h =
     positive_read (x ∷ rest) a (λ e. let same : x ≡ overbar = cc in grind (arith, nat_tests, h, same))
 
-pub reads_integer : IsReader number_text Fits64 NoDigit SameFirst integer_at
+pub reads_integer : IsReader number_text Fits64 NoDigit SameFirst read_integer
 reads_integer [] a = positive_read [] a (λ e. let none : ⊥ = cc in none)
 reads_integer (x ∷ rest) a = sign_read x rest a (eqb x overbar) refl
 
@@ -144,9 +144,9 @@ next_text number = 32 ∷ number_text number
 pub fits_nought : Fits64 (pos 0)
 fits_nought = omega arith
 
-reads_next_integer : IsReader next_text Fits64 NoDigit SameFirst next_integer_at
-unfolding next_integer_at
-reads_next_integer = after_text (codes " ") number_text Fits64 NoDigit SameFirst integer_at (pos 0) fits_nought reads_integer
+reads_next_integer : IsReader next_text Fits64 NoDigit SameFirst read_next_integer
+unfolding read_next_integer
+reads_next_integer = after_text (codes " ") number_text Fits64 NoDigit SameFirst read_integer (pos 0) fits_nought reads_integer
 
 -- so many numbers with one blank between each two
 
@@ -158,18 +158,18 @@ unfolding head_or rest_of
 spaced_numbers n [] h = absurd (omega (arith, h.many))
 spaced_numbers n (x ∷ xs) h = sym (spaced_is number_text x xs)
 
-pub reads_numbers : (n : ℕ) → IsReader numbers_text (AreSoMany Fits64 n) NoDigit SameFirst (numbers_at n)
-unfolding numbers_at
+pub reads_numbers : (n : ℕ) → IsReader numbers_text (AreSoMany Fits64 n) NoDigit SameFirst (read_numbers n)
+unfolding read_numbers
 reads_numbers zero line a = record {
   fits = record { each = tt; many = refl };
   whole = refl;
   only = λ w behind z fit follow e agree. no_more Fits64 w fit;
 }
 reads_numbers (suc n) line a =
-    let others : IsReader (flat_map next_text) (AreSoMany Fits64 n) NoDigit SameFirst (list_at always next_integer_at n) =
-    reads_list next_text Fits64 NoDigit NoDigit next_integer_at (pos 0) fits_nought reads_next_integer (λ x behind h. refl) (λ behind h. h) n in
-    let both = list_of_first number_text next_text Fits64 NoDigit NoDigit integer_at (pos 0) fits_nought reads_integer (λ x behind h. refl) (λ behind h. h) n (list_at always next_integer_at n) others in
-    reformed (λ e. number_text (head_or (pos 0) e) ++ flat_map next_text (rest_of e)) numbers_text (AreSoMany Fits64 (suc n)) (AreSoMany Fits64 (suc n)) NoDigit NoDigit SameFirst (λ line. integer_at line >>= λ found. read_behind (found.0 ∷ []) (list_at always next_integer_at n found.1)) (λ e h. h) (λ e h. h) (spaced_numbers n) (λ behind h. h) both line a
+    let others : IsReader (flat_map next_text) (AreSoMany Fits64 n) NoDigit SameFirst (read_list always read_next_integer n) =
+    reads_list next_text Fits64 NoDigit NoDigit read_next_integer (pos 0) fits_nought reads_next_integer (λ x behind h. refl) (λ behind h. h) n in
+    let both = list_of_first number_text next_text Fits64 NoDigit NoDigit read_integer (pos 0) fits_nought reads_integer (λ x behind h. refl) (λ behind h. h) n (read_list always read_next_integer n) others in
+    reformed (λ e. number_text (head_or (pos 0) e) ++ flat_map next_text (rest_of e)) numbers_text (AreSoMany Fits64 (suc n)) (AreSoMany Fits64 (suc n)) NoDigit NoDigit SameFirst (λ line. read_integer line >>= λ found. read_behind (found.0 ∷ []) (read_list always read_next_integer n found.1)) (λ e h. h) (λ e h. h) (spaced_numbers n) (λ behind h. h) both line a
 
 -- characters
 
@@ -211,22 +211,22 @@ quote_or_other rest e behind h follow =
           grind (arith, nat_tests, other, equal))
     ]
 
-quote_reads : IsReader (λ e. quote ∷ []) IsQuote Anything SameFirst (λ line. literal_at (codes "'") line >>= λ rest. Ok (quote, rest))
+quote_reads : IsReader (λ e. quote ∷ []) IsQuote Anything SameFirst (λ line. read_literal (codes "'") line >>= λ rest. Ok (quote, rest))
 unfolding IsQuote
 quote_reads =
     after_text (codes "'") (λ e. []) IsQuote Anything SameFirst (λ rest. Ok (quote, rest)) quote refl (nothing_more quote IsQuote Anything SameFirst refl (λ e h. h))
 
-quote_read : (rest : List ℕ) → AreGlyphs rest → Reads char_text IsGlyph Anything SameFirst (quote ∷ rest) (literal_at (codes "'") rest >>= λ behind. Ok (quote, behind))
+quote_read : (rest : List ℕ) → AreGlyphs rest → Reads char_text IsGlyph Anything SameFirst (quote ∷ rest) (read_literal (codes "'") rest >>= λ behind. Ok (quote, behind))
 quote_read rest a =
-    let one : IsReader (λ e. quote ∷ []) IsQuote Anything SameFirst (λ line. literal_at (codes "'") line >>= λ behind. Ok (quote, behind)) = quote_reads in
-    let two = behind_glyph quote (λ e. quote ∷ []) IsQuote Anything SameFirst rest (literal_at (codes "'") rest >>= λ behind. Ok (quote, behind)) (one rest a) in
-    widened char_text IsQuote IsGlyph Anything SameFirst no_further quote_fits (quote ∷ rest) (quote_or_other rest) (literal_at (codes "'") rest >>= λ behind. Ok (quote, behind))
-    (retexted (λ e. quote ∷ quote ∷ []) char_text IsQuote Anything (quote ∷ rest) (literal_at (codes "'") rest >>= λ behind. Ok (quote, behind)) quote_text two)
+    let one : IsReader (λ e. quote ∷ []) IsQuote Anything SameFirst (λ line. read_literal (codes "'") line >>= λ behind. Ok (quote, behind)) = quote_reads in
+    let two = behind_glyph quote (λ e. quote ∷ []) IsQuote Anything SameFirst rest (read_literal (codes "'") rest >>= λ behind. Ok (quote, behind)) (one rest a) in
+    widened char_text IsQuote IsGlyph Anything SameFirst no_further quote_fits (quote ∷ rest) (quote_or_other rest) (read_literal (codes "'") rest >>= λ behind. Ok (quote, behind))
+    (retexted (λ e. quote ∷ quote ∷ []) char_text IsQuote Anything (quote ∷ rest) (read_literal (codes "'") rest >>= λ behind. Ok (quote, behind)) quote_text two)
 
-char_read : (x : ℕ) (rest : List ℕ) → AreGlyphs (x ∷ rest) → (b : Bool) → eqb x quote ≡ b → Reads char_text IsGlyph Anything SameFirst (x ∷ rest) (cond b (literal_at (codes "'") rest >>= λ behind. Ok (x, behind)) (Ok (x, rest)))
+char_read : (x : ℕ) (rest : List ℕ) → AreGlyphs (x ∷ rest) → (b : Bool) → eqb x quote ≡ b → Reads char_text IsGlyph Anything SameFirst (x ∷ rest) (cond b (read_literal (codes "'") rest >>= λ behind. Ok (x, behind)) (Ok (x, rest)))
 char_read x rest a true h =
     let same : quote ≡ x = grind (arith, nat_tests, h) in
-    subst (λ g. Reads char_text IsGlyph Anything SameFirst (g ∷ rest) (literal_at (codes "'") rest >>= λ behind. Ok (g, behind))) same (quote_read rest a.1)
+    subst (λ g. Reads char_text IsGlyph Anything SameFirst (g ∷ rest) (read_literal (codes "'") rest >>= λ behind. Ok (g, behind))) same (quote_read rest a.1)
 char_read x rest a false h = record {
   fits = a.0;
   whole = ap (λ t. t ++ rest) (sym (other_text x h));
@@ -235,8 +235,8 @@ char_read x rest a false h = record {
       cc firsts;
 }
 
-pub reads_char : IsReader char_text IsGlyph Anything SameFirst char_at
-unfolding char_at
+pub reads_char : IsReader char_text IsGlyph Anything SameFirst read_char
+unfolding read_char
 reads_char [] a = record {
   part = [];
   rest = [];
@@ -255,14 +255,14 @@ reads_char (x ∷ rest) a = char_read x rest a (eqb x quote) refl
 abbrev pub chars_text : List ℕ → List ℕ
 chars_text list = quote ∷ (flat_map char_text list ++ quote ∷ [])
 
-closed : (n : ℕ) (v : List ℕ) → AreSoMany IsGlyph n v → IsReader (λ e. quote ∷ []) (λ e. (e ≡ v) × AreSoMany IsGlyph n e) Anything SameFirst (λ line. literal_at (codes "'") line >>= λ rest. Ok (v, rest))
+closed : (n : ℕ) (v : List ℕ) → AreSoMany IsGlyph n v → IsReader (λ e. quote ∷ []) (λ e. (e ≡ v) × AreSoMany IsGlyph n e) Anything SameFirst (λ line. read_literal (codes "'") line >>= λ rest. Ok (v, rest))
 closed n v fits =
     after_text (codes "'") (λ e. []) (λ e. (e ≡ v) × AreSoMany IsGlyph n e) Anything SameFirst (λ rest. Ok (v, rest)) v (refl, fits) (nothing_more v (λ e. (e ≡ v) × AreSoMany IsGlyph n e) Anything SameFirst (refl, fits) (λ e h. h.0))
 
-pub reads_quoted : (n : ℕ) → IsReader chars_text (AreSoMany IsGlyph n) Anything SameFirst (quoted_at n)
-unfolding quoted_at
+pub reads_quoted : (n : ℕ) → IsReader chars_text (AreSoMany IsGlyph n) Anything SameFirst (read_quoted n)
+unfolding read_quoted
 reads_quoted n =
-    let list : IsReader (flat_map char_text) (AreSoMany IsGlyph n) Anything SameFirst (list_at always char_at n) = reads_list char_text IsGlyph Anything Anything char_at 32 blank_glyph reads_char (λ x behind h. tt) (λ behind h. tt) n in
-    let inner : IsReader (λ e. flat_map char_text e ++ quote ∷ []) (AreSoMany IsGlyph n) Anything SameFirst (λ line. list_at always char_at n line >>= λ found. (literal_at (codes "'") found.1 >>= λ rest. Ok (found.0, rest))) =
-    then_read (flat_map char_text) (AreSoMany IsGlyph n) Anything (λ e. e) (λ e. quote ∷ []) (AreSoMany IsGlyph n) Anything SameFirst (list_at always char_at n) (λ v line. literal_at (codes "'") line >>= λ rest. Ok (v, rest)) no_further list (closed n) (λ e h. h) (λ e behind h follow. tt) (λ v h. (v, refl, h)) in
-    after_text (codes "'") (λ e. flat_map char_text e ++ quote ∷ []) (AreSoMany IsGlyph n) Anything SameFirst (λ line. list_at always char_at n line >>= λ found. (literal_at (codes "'") found.1 >>= λ rest. Ok (found.0, rest))) (copies n 32) (copies_fit IsGlyph n 32 blank_glyph) inner
+    let list : IsReader (flat_map char_text) (AreSoMany IsGlyph n) Anything SameFirst (read_list always read_char n) = reads_list char_text IsGlyph Anything Anything read_char 32 blank_glyph reads_char (λ x behind h. tt) (λ behind h. tt) n in
+    let inner : IsReader (λ e. flat_map char_text e ++ quote ∷ []) (AreSoMany IsGlyph n) Anything SameFirst (λ line. read_list always read_char n line >>= λ found. (read_literal (codes "'") found.1 >>= λ rest. Ok (found.0, rest))) =
+    then_read (flat_map char_text) (AreSoMany IsGlyph n) Anything (λ e. e) (λ e. quote ∷ []) (AreSoMany IsGlyph n) Anything SameFirst (read_list always read_char n) (λ v line. read_literal (codes "'") line >>= λ rest. Ok (v, rest)) no_further list (closed n) (λ e h. h) (λ e behind h follow. tt) (λ v h. (v, refl, h)) in
+    after_text (codes "'") (λ e. flat_map char_text e ++ quote ∷ []) (AreSoMany IsGlyph n) Anything SameFirst (λ line. read_list always read_char n line >>= λ found. (read_literal (codes "'") found.1 >>= λ rest. Ok (found.0, rest))) (copies n 32) (copies_fit IsGlyph n 32 blank_glyph) inner

@@ -15,8 +15,8 @@ use Rattle.line_text.specs.Spaced.{spaced}
 use Rattle.line_text.proofs.SameNumbers.{begins_count}
 use Rattle.apl_arrays.specs.List.{first_of}
 use Rattle.text_reader.specs.Reading.{Reader, Reading, ◌>>=◌, as_read, read_behind}
-use Rattle.text_reader.specs.NumberReading.{number_at}
-use Rattle.sv_text.specs.ValueReading.{capped, greatest_axis, goes_on_behind, more_axes, axes_at, shape_at}
+use Rattle.text_reader.specs.NumberReading.{read_number}
+use Rattle.sv_text.specs.ValueReading.{capped_product, greatest_axis, goes_on_behind, more_axes, read_axes, read_shape}
 use Rattle.text_reader.proofs.ListForms.{head_or, rest_of}
 use Rattle.text_reader.proofs.Lists.{begun}
 use Rattle.text_reader.proofs.NumberForms.{InRange, NoDigit, number_reads, reads_number}
@@ -51,18 +51,18 @@ axes_text axes = decimal (head_or 0 axes) ++ tail_text (rest_of axes)
 
 -- the product is looked at up to its limit alone
 
-capped_fits : (m k : ℕ) → m * k ≤ 16384 → capped m * k ≤ 16384
+capped_fits : (m k : ℕ) → m * k ≤ 16384 → capped_product m * k ≤ 16384
 capped_fits m zero h = omega (arith, h)
 capped_fits m (suc k) h =
     let more : m ≤ m * suc k = omega arith in
-    let same : capped m ≡ m = omega (arith, h, more) in
+    let same : capped_product m ≡ m = omega (arith, h, more) in
     subst (λ n. n * suc k ≤ 16384) (sym same) h
 
-uncapped_fits : (m k : ℕ) → capped m * k ≤ 16384 → m * k ≤ 16384
+uncapped_fits : (m k : ℕ) → capped_product m * k ≤ 16384 → m * k ≤ 16384
 uncapped_fits m zero h = omega arith
 uncapped_fits m (suc k) h =
-    let more : capped m ≤ capped m * suc k = omega arith in
-    let same : capped m ≡ m = omega (arith, h, more) in
+    let more : capped_product m ≤ capped_product m * suc k = omega arith in
+    let same : capped_product m ≡ m = omega (arith, h, more) in
     subst (λ n. n * suc k ≤ 16384) same h
 
 -- what stands behind an axis
@@ -154,7 +154,7 @@ reads_tail more product may axes inner (x ∷ rest) a =
 record Greatest (more product greatest : ℕ) : Type 0 where
   small : greatest ≤ 16384
   above : (x : ℕ) (xs : List ℕ) → AxesFit (suc more) product (x ∷ xs) → x ≤ greatest
-  room : (x : ℕ) → x ≤ greatest → MayGoOn more (capped (product * x))
+  room : (x : ℕ) → x ≤ greatest → MayGoOn more (capped_product (product * x))
 
 above_last : (product : ℕ) → 0 < product → (x : ℕ) (xs : List ℕ) → AxesFit 1 product (x ∷ xs) → x ≤ 16384 / product
 unfolding product_of
@@ -193,7 +193,7 @@ assoc_bind : {A B C : Type 0} (read : Reading A) (f : A × List ℕ → Reading 
 assoc_bind (Ok x) f g = refl
 assoc_bind (Err left) f g = refl
 
-axes_rest : (more product x : ℕ) (e : List ℕ) → (head_or 0 e ≡ x) × AxesFit (suc more) product e → TailFit more (capped (product * x)) (rest_of e)
+axes_rest : (more product x : ℕ) (e : List ℕ) → (head_or 0 e ≡ x) × AxesFit (suc more) product e → TailFit more (capped_product (product * x)) (rest_of e)
 unfolding head_or rest_of product_of
 axes_rest more product x [] h = absurd (omega (arith, h.1.some))
 axes_rest more product x (y ∷ ys) h = record {
@@ -207,7 +207,7 @@ unfolding head_or rest_of
 axes_again more product x [] h = absurd (omega (arith, h.1.some))
 axes_again more product x (y ∷ ys) h = ap (λ n. n ∷ ys) (sym h.0)
 
-axes_there : (more product x : ℕ) → x ≤ 16384 → (ys : List ℕ) → TailFit more (capped (product * x)) ys → (head_or 0 (x ∷ ys) ≡ x) × AxesFit (suc more) product (x ∷ ys)
+axes_there : (more product x : ℕ) → x ≤ 16384 → (ys : List ℕ) → TailFit more (capped_product (product * x)) ys → (head_or 0 (x ∷ ys) ≡ x) × AxesFit (suc more) product (x ∷ ys)
 unfolding head_or product_of
 axes_there more product x small ys h =
     let size : (product * x) * product_of ys ≤ 16384 = uncapped_fits (product * x) (product_of ys) h.size in
@@ -220,39 +220,39 @@ axes_first more product greatest g (x ∷ xs) h = record { least = omega arith; 
 
 some_axes : (more product greatest : ℕ) → Greatest more product greatest → (x : ℕ) → InRange 0 greatest x → (e : List ℕ) × (head_or 0 e ≡ x) × AxesFit (suc more) product e
 some_axes more product greatest g x h =
-    let t = a_tail more (capped (product * x)) (g.room x h.most) in
+    let t = a_tail more (capped_product (product * x)) (g.room x h.most) in
     let fits = axes_there more product x (omega (arith, h.most, g.small)) t.0 t.1 in
     (x ∷ t.0, fits.0, fits.1)
 
-axes_behind : (more product x : ℕ) → x ≤ 16384 → MayGoOn more (capped (product * x)) → (axes : Reader (List ℕ)) → (0 < more → IsReader axes_text (AxesFit more (capped (product * x))) Anything SameFirst axes) → IsReader (λ e. tail_text (rest_of e)) (λ e. (head_or 0 e ≡ x) × AxesFit (suc more) product e) Anything SameFirst (λ line. goes_on_behind (leb (capped (product * x)) 16384) (ltb 1 (suc more)) line >>= λ follows. (more_axes follows axes >>= λ others. Ok (x ∷ others.0, others.1)))
+axes_behind : (more product x : ℕ) → x ≤ 16384 → MayGoOn more (capped_product (product * x)) → (axes : Reader (List ℕ)) → (0 < more → IsReader axes_text (AxesFit more (capped_product (product * x))) Anything SameFirst axes) → IsReader (λ e. tail_text (rest_of e)) (λ e. (head_or 0 e ≡ x) × AxesFit (suc more) product e) Anything SameFirst (λ line. goes_on_behind (leb (capped_product (product * x)) 16384) (ltb 1 (suc more)) line >>= λ follows. (more_axes follows axes >>= λ others. Ok (x ∷ others.0, others.1)))
 unfolding rest_of
 axes_behind more product x small may axes inner =
-    let tail : Reader (List ℕ) = λ line. goes_on_behind (leb (capped (product * x)) 16384) (ltb 1 (suc more)) line >>= λ follows. more_axes follows axes in
+    let tail : Reader (List ℕ) = λ line. goes_on_behind (leb (capped_product (product * x)) 16384) (ltb 1 (suc more)) line >>= λ follows. more_axes follows axes in
     let joined : IsReader (λ e. tail_text (rest_of e)) (λ e. (head_or 0 e ≡ x) × AxesFit (suc more) product e) Anything SameFirst (λ line. as_read (λ ys. x ∷ ys) (tail line)) =
-    made tail_text (TailFit more (capped (product * x))) Anything SameFirst tail (λ ys. x ∷ ys) rest_of (λ e. (head_or 0 e ≡ x) × AxesFit (suc more) product e) (reads_tail more (capped (product * x)) may axes inner) (axes_rest more product x) (axes_again more product x) (axes_there more product x small) (λ ys h. refl) in
-    respelled (λ e. tail_text (rest_of e)) (λ e. (head_or 0 e ≡ x) × AxesFit (suc more) product e) Anything SameFirst (λ line. as_read (λ ys. x ∷ ys) (tail line)) (λ line. goes_on_behind (leb (capped (product * x)) 16384) (ltb 1 (suc more)) line >>= λ follows. (more_axes follows axes >>= λ others. Ok (x ∷ others.0, others.1)))
-    (λ line. assoc_bind (goes_on_behind (leb (capped (product * x)) 16384) (ltb 1 (suc more)) line) (λ follows. more_axes follows axes) (λ others. Ok (x ∷ others.0, others.1))) joined
+    made tail_text (TailFit more (capped_product (product * x))) Anything SameFirst tail (λ ys. x ∷ ys) rest_of (λ e. (head_or 0 e ≡ x) × AxesFit (suc more) product e) (reads_tail more (capped_product (product * x)) may axes inner) (axes_rest more product x) (axes_again more product x) (axes_there more product x small) (λ ys h. refl) in
+    respelled (λ e. tail_text (rest_of e)) (λ e. (head_or 0 e ≡ x) × AxesFit (suc more) product e) Anything SameFirst (λ line. as_read (λ ys. x ∷ ys) (tail line)) (λ line. goes_on_behind (leb (capped_product (product * x)) 16384) (ltb 1 (suc more)) line >>= λ follows. (more_axes follows axes >>= λ others. Ok (x ∷ others.0, others.1)))
+    (λ line. assoc_bind (goes_on_behind (leb (capped_product (product * x)) 16384) (ltb 1 (suc more)) line) (λ follows. more_axes follows axes) (λ others. Ok (x ∷ others.0, others.1))) joined
 
-axes_by : (more product greatest : ℕ) → Greatest more product greatest → ((x : ℕ) → 0 < more → IsReader axes_text (AxesFit more (capped (product * x))) Anything SameFirst (axes_at more (capped (product * x)))) → IsReader axes_text (AxesFit (suc more) product) Anything SameFirst (λ line. number_at 0 greatest line >>= λ axis. (goes_on_behind (leb (capped (product * axis.0)) 16384) (ltb 1 (suc more)) axis.1 >>= λ follows. (more_axes follows (axes_at more (capped (product * axis.0))) >>= λ others. Ok (axis.0 ∷ others.0, others.1))))
+axes_by : (more product greatest : ℕ) → Greatest more product greatest → ((x : ℕ) → 0 < more → IsReader axes_text (AxesFit more (capped_product (product * x))) Anything SameFirst (read_axes more (capped_product (product * x)))) → IsReader axes_text (AxesFit (suc more) product) Anything SameFirst (λ line. read_number 0 greatest line >>= λ axis. (goes_on_behind (leb (capped_product (product * axis.0)) 16384) (ltb 1 (suc more)) axis.1 >>= λ follows. (more_axes follows (read_axes more (capped_product (product * axis.0))) >>= λ others. Ok (axis.0 ∷ others.0, others.1))))
 axes_by more product greatest g inner =
-    then_read decimal (InRange 0 greatest) NoDigit (head_or 0) (λ e. tail_text (rest_of e)) (AxesFit (suc more) product) Anything SameFirst (number_at 0 greatest)
-    (λ x line. goes_on_behind (leb (capped (product * x)) 16384) (ltb 1 (suc more)) line >>= λ follows. (more_axes follows (axes_at more (capped (product * x))) >>= λ others. Ok (x ∷ others.0, others.1)))
+    then_read decimal (InRange 0 greatest) NoDigit (head_or 0) (λ e. tail_text (rest_of e)) (AxesFit (suc more) product) Anything SameFirst (read_number 0 greatest)
+    (λ x line. goes_on_behind (leb (capped_product (product * x)) 16384) (ltb 1 (suc more)) line >>= λ follows. (more_axes follows (read_axes more (capped_product (product * x))) >>= λ others. Ok (x ∷ others.0, others.1)))
     no_further (reads_number 0 greatest (omega (arith, g.small)) (omega arith))
-    (λ x h. axes_behind more product x (omega (arith, h.most, g.small)) (g.room x h.most) (axes_at more (capped (product * x))) (inner x))
+    (λ x h. axes_behind more product x (omega (arith, h.most, g.small)) (g.room x h.most) (read_axes more (capped_product (product * x))) (inner x))
     (axes_first more product greatest g)
     (λ e behind h follow. no_digit_behind (rest_of e) behind)
     (some_axes more product greatest g)
 
-no_axes : (product x : ℕ) → 0 < 0 → IsReader axes_text (AxesFit 0 (capped (product * x))) Anything SameFirst (axes_at 0 (capped (product * x)))
+no_axes : (product x : ℕ) → 0 < 0 → IsReader axes_text (AxesFit 0 (capped_product (product * x))) Anything SameFirst (read_axes 0 (capped_product (product * x)))
 no_axes product x h = absurd (omega (arith, h))
 
 -- axes up to where the shape is closed are read
-reads_axes : (more product : ℕ) → IsReader axes_text (AxesFit (suc more) product) Anything SameFirst (axes_at (suc more) product)
-unfolding axes_at
+reads_axes : (more product : ℕ) → IsReader axes_text (AxesFit (suc more) product) Anything SameFirst (read_axes (suc more) product)
+unfolding read_axes
 reads_axes zero product =
     axes_by zero product (greatest_axis (eqb 1 1) product) (greatest_by zero product (eqb 1 1 && ltb 0 product) refl) (no_axes product)
 reads_axes (suc more) product =
-    axes_by (suc more) product (greatest_axis (eqb (suc (suc more)) 1) product) (greatest_by (suc more) product (eqb (suc (suc more)) 1 && ltb 0 product) refl) (λ x some. reads_axes more (capped (product * x)))
+    axes_by (suc more) product (greatest_axis (eqb (suc (suc more)) 1) product) (greatest_by (suc more) product (eqb (suc (suc more)) 1 && ltb 0 product) refl) (λ x some. reads_axes more (capped_product (product * x)))
 
 -- shapes
 
@@ -284,7 +284,7 @@ axes_make_shape e h = record {
 
 -- what is read as axes fits, of whatever the line is
 
-axis_fits : (greatest : ℕ) (line : List ℕ) (axis : ℕ × List ℕ) → greatest ≤ 16384 → number_at 0 greatest line ≡ Ok axis → axis.0 ≤ greatest
+axis_fits : (greatest : ℕ) (line : List ℕ) (axis : ℕ × List ℕ) → greatest ≤ 16384 → read_number 0 greatest line ≡ Ok axis → axis.0 ≤ greatest
 axis_fits greatest line axis small e =
     (subst (Reads decimal (InRange 0 greatest) NoDigit SameFirst line) e (number_reads 0 greatest (omega (arith, small)) (omega arith) line)).fits.most
 
@@ -299,37 +299,37 @@ follows_or_closes : (closes goes : Bool) (line : List ℕ) (found : Bool × List
 follows_or_closes closes goes [] found e = absurd (let none : ⊥ = cc in none)
 follows_or_closes closes goes (x ∷ rest) found e = follows_by closes goes x rest (eqb x 41 && closes) refl (eqb x 32 && goes) refl found e
 
-first_axes_fit : (more product x : ℕ) (ys : List ℕ) → x ≤ 16384 → TailFit more (capped (product * x)) ys → AxesFit (suc more) product (x ∷ ys)
+first_axes_fit : (more product x : ℕ) (ys : List ℕ) → x ≤ 16384 → TailFit more (capped_product (product * x)) ys → AxesFit (suc more) product (x ∷ ys)
 first_axes_fit more product x ys small h = (axes_there more product x small ys h).1
 
 closed_tail : (more product : ℕ) → leb product 16384 ≡ true → TailFit more product []
 unfolding product_of
 closed_tail more product e = let small : product ≤ 16384 = grind (arith, nat_tests, e) in record { few = omega arith; each = tt; size = omega (arith, small) }
 
-more_fit : (more product x : ℕ) (follows : Bool × List ℕ) (others : List ℕ × List ℕ) → (((follows.0 ≡ true) × (ltb 1 (suc more) ≡ true)) ⊎ ((follows.0 ≡ false) × (leb (capped (product * x)) 16384 ≡ true))) → more_axes follows (axes_at more (capped (product * x))) ≡ Ok others → ((line : List ℕ) → axes_at more (capped (product * x)) line ≡ Ok others → AxesFit more (capped (product * x)) others.0) → TailFit more (capped (product * x)) others.0
+more_fit : (more product x : ℕ) (follows : Bool × List ℕ) (others : List ℕ × List ℕ) → (((follows.0 ≡ true) × (ltb 1 (suc more) ≡ true)) ⊎ ((follows.0 ≡ false) × (leb (capped_product (product * x)) 16384 ≡ true))) → more_axes follows (read_axes more (capped_product (product * x))) ≡ Ok others → ((line : List ℕ) → read_axes more (capped_product (product * x)) line ≡ Ok others → AxesFit more (capped_product (product * x)) others.0) → TailFit more (capped_product (product * x)) others.0
 more_fit more product x follows others (inl h) e inner =
-    (inner follows.1 (ap (λ b. cond b (axes_at more (capped (product * x)) follows.1) (Ok ([], follows.1))) (sym h.0) ∙ e)).tail
+    (inner follows.1 (ap (λ b. cond b (read_axes more (capped_product (product * x)) follows.1) (Ok ([], follows.1))) (sym h.0) ∙ e)).tail
 more_fit more product x follows others (inr h) e inner =
-    let closed : tell [] follows.1 ≡ tell others.0 others.1 = ap (λ b. cond b (axes_at more (capped (product * x)) follows.1) (Ok ([], follows.1))) (sym h.0) ∙ e in
-    subst (TailFit more (capped (product * x))) (first_told [] follows.1 others.0 others.1 closed) (closed_tail more (capped (product * x)) h.1)
+    let closed : tell [] follows.1 ≡ tell others.0 others.1 = ap (λ b. cond b (read_axes more (capped_product (product * x)) follows.1) (Ok ([], follows.1))) (sym h.0) ∙ e in
+    subst (TailFit more (capped_product (product * x))) (first_told [] follows.1 others.0 others.1 closed) (closed_tail more (capped_product (product * x)) h.1)
 
-axes_fit : (most product : ℕ) (line : List ℕ) (found : List ℕ × List ℕ) → axes_at most product line ≡ Ok found → AxesFit most product found.0
-unfolding axes_at
+axes_fit : (most product : ℕ) (line : List ℕ) (found : List ℕ × List ℕ) → read_axes most product line ≡ Ok found → AxesFit most product found.0
+unfolding read_axes
 axes_fit zero product line found e = absurd (let none : ⊥ = cc in none)
 axes_fit (suc more) product line found e =
-    let one = bind_ok (number_at 0 (greatest_axis (eqb (suc more) 1) product) line) (λ axis. goes_on_behind (leb (capped (product * axis.0)) 16384) (ltb 1 (suc more)) axis.1 >>= λ follows. (more_axes follows (axes_at more (capped (product * axis.0))) >>= λ others. Ok (axis.0 ∷ others.0, others.1))) found e in
+    let one = bind_ok (read_number 0 (greatest_axis (eqb (suc more) 1) product) line) (λ axis. goes_on_behind (leb (capped_product (product * axis.0)) 16384) (ltb 1 (suc more)) axis.1 >>= λ follows. (more_axes follows (read_axes more (capped_product (product * axis.0))) >>= λ others. Ok (axis.0 ∷ others.0, others.1))) found e in
     let axis : ℕ = one.0.0 in
-    let two = bind_ok (goes_on_behind (leb (capped (product * axis)) 16384) (ltb 1 (suc more)) one.0.1) (λ follows. more_axes follows (axes_at more (capped (product * axis))) >>= λ others. Ok (axis ∷ others.0, others.1)) found one.2 in
-    let three = bind_ok (more_axes two.0 (axes_at more (capped (product * axis)))) (λ others. Ok (axis ∷ others.0, others.1)) found two.2 in
+    let two = bind_ok (goes_on_behind (leb (capped_product (product * axis)) 16384) (ltb 1 (suc more)) one.0.1) (λ follows. more_axes follows (read_axes more (capped_product (product * axis))) >>= λ others. Ok (axis ∷ others.0, others.1)) found one.2 in
+    let three = bind_ok (more_axes two.0 (read_axes more (capped_product (product * axis)))) (λ others. Ok (axis ∷ others.0, others.1)) found two.2 in
     let g = greatest_by more product (eqb (suc more) 1 && ltb 0 product) refl in
     let small : axis ≤ 16384 = omega (arith, axis_fits (greatest_axis (eqb (suc more) 1) product) line one.0 g.small one.1, g.small) in
-    let tail = more_fit more product axis two.0 three.0 (follows_or_closes (leb (capped (product * axis)) 16384) (ltb 1 (suc more)) one.0.1 two.0 two.1) three.1 (λ rest read. axes_fit more (capped (product * axis)) rest three.0 read) in
+    let tail = more_fit more product axis two.0 three.0 (follows_or_closes (leb (capped_product (product * axis)) 16384) (ltb 1 (suc more)) one.0.1 two.0 two.1) three.1 (λ rest read. axes_fit more (capped_product (product * axis)) rest three.0 read) in
     subst (AxesFit (suc more) product) (first_told (axis ∷ three.0.0) three.0.1 found.0 found.1 three.2) (first_axes_fit more product axis three.0.0 small tail)
 
 -- so a shape that is read is within the limits
-pub read_axes_fit : (line shape rest front : List ℕ) → front ≡ [] → read_behind front (axes_at 8 1 line) ≡ Ok (shape, rest) → FitsLimits shape
+pub read_axes_fit : (line shape rest front : List ℕ) → front ≡ [] → read_behind front (read_axes 8 1 line) ≡ Ok (shape, rest) → FitsLimits shape
 read_axes_fit line shape rest front none e =
-    let whole : axes_at 8 1 line ≡ Ok (shape, rest) = sym (begun (axes_at 8 1 line)) ∙ (ap (λ f. read_behind f (axes_at 8 1 line)) (sym none) ∙ e) in
+    let whole : read_axes 8 1 line ≡ Ok (shape, rest) = sym (begun (read_axes 8 1 line)) ∙ (ap (λ f. read_behind f (read_axes 8 1 line)) (sym none) ∙ e) in
     axes_make_shape shape (axes_fit 8 1 line (shape, rest) whole)
 
 shape_or_other : (line : List ℕ) → (first_of line ≡ Some 41 → ⊥) → (e behind : List ℕ) → FitsLimits e → Anything behind → AxesFit 8 1 e ⊎ (SameFirst (shape_text e ++ behind) line → ⊥)
@@ -351,12 +351,12 @@ shape_closed rest = record {
   only = λ w behind z fit follow e agree. only_empty w behind z fit e;
 }
 
-shape_axes : (line : List ℕ) → AreGlyphs line → (first_of line ≡ Some 41 → ⊥) → Reads shape_text FitsLimits Anything SameFirst line (axes_at 8 1 line)
+shape_axes : (line : List ℕ) → AreGlyphs line → (first_of line ≡ Some 41 → ⊥) → Reads shape_text FitsLimits Anything SameFirst line (read_axes 8 1 line)
 shape_axes line a not =
-    widened shape_text (AxesFit 8 1) FitsLimits Anything SameFirst no_further axes_make_shape line (shape_or_other line not) (axes_at 8 1 line)
-    (retexted axes_text shape_text (AxesFit 8 1) Anything line (axes_at 8 1 line) shape_spelled (reads_axes 7 1 line a))
+    widened shape_text (AxesFit 8 1) FitsLimits Anything SameFirst no_further axes_make_shape line (shape_or_other line not) (read_axes 8 1 line)
+    (retexted axes_text shape_text (AxesFit 8 1) Anything line (read_axes 8 1 line) shape_spelled (reads_axes 7 1 line a))
 
-shape_by : (x : ℕ) (rest : List ℕ) → AreGlyphs (x ∷ rest) → (b : Bool) → eqb x 41 ≡ b → Reads shape_text FitsLimits Anything SameFirst (x ∷ rest) (cond b (Ok ([], rest)) (axes_at 8 1 (x ∷ rest)))
+shape_by : (x : ℕ) (rest : List ℕ) → AreGlyphs (x ∷ rest) → (b : Bool) → eqb x 41 ≡ b → Reads shape_text FitsLimits Anything SameFirst (x ∷ rest) (cond b (Ok ([], rest)) (read_axes 8 1 (x ∷ rest)))
 shape_by x rest a true e =
     let same : 41 ≡ x = grind (arith, nat_tests, e) in
     subst (λ g. Reads shape_text FitsLimits Anything SameFirst (g ∷ rest) (Ok ([], rest))) same (shape_closed rest)
@@ -364,7 +364,7 @@ shape_by x rest a false e =
     shape_axes (x ∷ rest) a (λ first. let same : x ≡ 41 = cc in grind (arith, nat_tests, e, same))
 
 -- a shape is read
-pub reads_shape : IsReader shape_text FitsLimits Anything SameFirst shape_at
-unfolding shape_at
+pub reads_shape : IsReader shape_text FitsLimits Anything SameFirst read_shape
+unfolding read_shape
 reads_shape [] a = shape_axes [] a (λ e. let none : ⊥ = cc in none)
 reads_shape (x ∷ rest) a = shape_by x rest a (eqb x 41) refl

@@ -4,55 +4,55 @@ use Rattle.apl_arrays.specs.Array.{PlainArray, number_array, char_array, element
 use Rattle.apl_arrays.specs.Glyph.{blank, overbar, quote, right_parenthesis}
 use Rattle.apl_arrays.specs.Limits.{most_axes, most_elements}
 use Rattle.apl_arrays.specs.List.{others_of}
-use Rattle.text_reader.specs.Reading.{Reader, Reading, ◌>>=◌, always, as_read, begins_with, list_at, literal_at, read_behind}
-use Rattle.text_reader.specs.NumberReading.{number_at}
+use Rattle.text_reader.specs.Reading.{Reader, Reading, ◌>>=◌, always, as_read, begins_with, read_list, read_literal, read_behind}
+use Rattle.text_reader.specs.NumberReading.{read_number}
 
 -- the magnitude of a negative number
-abbrev pub negative_at : Reader ℤ
-negative_at line = as_read (λ magnitude. neg_ℤ (pos magnitude)) (number_at 1 (2 ^ 63) line)
+abbrev pub read_negative : Reader ℤ
+read_negative line = as_read (λ magnitude. neg_ℤ (pos magnitude)) (read_number 1 (2 ^ 63) line)
 
 -- a number that is not negative
-abbrev pub positive_at : Reader ℤ
-positive_at line = as_read pos (number_at 0 (2 ^ 63 - 1) line)
+abbrev pub read_positive : Reader ℤ
+read_positive line = as_read pos (read_number 0 (2 ^ 63 - 1) line)
 
 -- a number of 64 bits, behind ¯ where it is negative
-abbrev pub integer_at : Reader ℤ
-integer_at line = if begins_with overbar line then negative_at (others_of line) else positive_at line
+abbrev pub read_integer : Reader ℤ
+read_integer line = if begins_with overbar line then read_negative (others_of line) else read_positive line
 
 -- a number behind a blank
-unfoldable pub next_integer_at : Reader ℤ
-next_integer_at line = do
-  rest ← literal_at (codes " ") line
-  integer_at rest
+unfoldable pub read_next_integer : Reader ℤ
+read_next_integer line = do
+  rest ← read_literal (codes " ") line
+  read_integer rest
 
 -- so many numbers with one blank between each two
-unfoldable pub numbers_at : ℕ → Reader (List ℤ)
-numbers_at zero line = Ok ([], line)
-numbers_at (suc count) line = do
-  first ← integer_at line
-  read_behind (first.0 ∷ []) (list_at always next_integer_at count first.1)
+unfoldable pub read_numbers : ℕ → Reader (List ℤ)
+read_numbers zero line = Ok ([], line)
+read_numbers (suc count) line = do
+  first ← read_integer line
+  read_behind (first.0 ∷ []) (read_list always read_next_integer count first.1)
 
 -- what stands behind a character: a second quote where it is one
 abbrev pub behind_char : ℕ → Reader ℕ
 behind_char char line =
-    if char == quote then (literal_at (codes "'") line >>= λ rest. Ok (char, rest)) else Ok (char, line)
+    if char == quote then (read_literal (codes "'") line >>= λ rest. Ok (char, rest)) else Ok (char, line)
 
 -- a character as it stands between quotes
-unfoldable pub char_at : Reader ℕ
-char_at [] = Err 0
-char_at (first ∷ rest) = behind_char first rest
+unfoldable pub read_char : Reader ℕ
+read_char [] = Err 0
+read_char (first ∷ rest) = behind_char first rest
 
 -- so many characters between quotes
-unfoldable pub quoted_at : ℕ → Reader (List ℕ)
-quoted_at count line = do
-  opened ← literal_at (codes "'") line
-  chars ← list_at always char_at count opened
-  closed ← literal_at (codes "'") chars.1
+unfoldable pub read_quoted : ℕ → Reader (List ℕ)
+read_quoted count line = do
+  opened ← read_literal (codes "'") line
+  chars ← read_list always read_char count opened
+  closed ← read_literal (codes "'") chars.1
   Ok (chars.0, closed)
 
 -- a product, or one more than the most elements where it is greater
-abbrev pub capped : ℕ → ℕ
-capped product = min product (most_elements + 1)
+abbrev pub capped_product : ℕ → ℕ
+capped_product product = min product (most_elements + 1)
 
 -- the greatest axis that may come next: the last may not take the product of all past its limit
 abbrev pub greatest_axis : Bool → ℕ → ℕ
@@ -71,34 +71,34 @@ abbrev pub more_axes : Bool × List ℕ → Reader (List ℕ) → Reading (List 
 more_axes found axes = if found.0 then axes found.1 else Ok ([], found.1)
 
 -- at least one axis and at most so many, behind others of this product, up to where the shape is closed
-unfoldable pub axes_at : ℕ → ℕ → Reader (List ℕ)
-axes_at zero product line = Err (length line)
-axes_at (suc more) product line = do
-  axis ← number_at 0 (greatest_axis (suc more == 1) product) line
-  follows ← goes_on_behind (nat_le (capped (product * axis.0)) most_elements) (nat_lt 1 (suc more)) axis.1
-  others ← more_axes follows (axes_at more (capped (product * axis.0)))
+unfoldable pub read_axes : ℕ → ℕ → Reader (List ℕ)
+read_axes zero product line = Err (length line)
+read_axes (suc more) product line = do
+  axis ← read_number 0 (greatest_axis (suc more == 1) product) line
+  follows ← goes_on_behind (nat_le (capped_product (product * axis.0)) most_elements) (nat_lt 1 (suc more)) axis.1
+  others ← more_axes follows (read_axes more (capped_product (product * axis.0)))
   Ok (axis.0 ∷ others.0, others.1)
 
 -- a shape, and the parenthesis that closes it
-unfoldable pub shape_at : Reader (List ℕ)
-shape_at line =
+unfoldable pub read_shape : Reader (List ℕ)
+read_shape line =
     if begins_with right_parenthesis line then Ok ([], others_of line)
-    else axes_at most_axes 1 line
+    else read_axes most_axes 1 line
 
 -- the axes and the numbers of an array
-unfoldable pub numbers_array_at : Reader PlainArray
-numbers_array_at line = do
-  opened ← literal_at (codes "N(") line
-  shape ← shape_at opened
-  numbers ← numbers_at (element_count shape.0) shape.1
+unfoldable pub read_numbers_array : Reader PlainArray
+read_numbers_array line = do
+  opened ← read_literal (codes "N(") line
+  shape ← read_shape opened
+  numbers ← read_numbers (element_count shape.0) shape.1
   Ok (number_array shape.0 numbers.0, numbers.1)
 
 -- the axes and the characters of an array
-unfoldable pub chars_array_at : Reader PlainArray
-chars_array_at line = do
-  opened ← literal_at (codes "C(") line
-  shape ← shape_at opened
-  chars ← quoted_at (element_count shape.0) shape.1
+unfoldable pub read_chars_array : Reader PlainArray
+read_chars_array line = do
+  opened ← read_literal (codes "C(") line
+  shape ← read_shape opened
+  chars ← read_quoted (element_count shape.0) shape.1
   Ok (char_array shape.0 chars.0, chars.1)
 
 -- N, C and n
@@ -112,16 +112,16 @@ abbrev pub small_n : ℕ
 small_n = 110
 
 -- an array: N and numbers, or C and characters
-unfoldable pub array_at : Reader PlainArray
-array_at line =
-    if begins_with letter_n line then numbers_array_at line
-    else if begins_with letter_c line then chars_array_at line
+unfoldable pub read_array : Reader PlainArray
+read_array line =
+    if begins_with letter_n line then read_numbers_array line
+    else if begins_with letter_c line then read_chars_array line
     else Err (length line)
 
 -- a value: `none`, or an array
-unfoldable pub value_at : Reader (Option PlainArray)
-value_at line =
+unfoldable pub read_value : Reader (Option PlainArray)
+read_value line =
     if begins_with small_n line then (do
-      rest ← literal_at (codes "none") line
+      rest ← read_literal (codes "none") line
       Ok (None, rest))
-    else as_read Some (array_at line)
+    else as_read Some (read_array line)

@@ -1,19 +1,19 @@
 ghost use Rattle.std.specs.Prelude.{◌≡◌, IfOk, length};
-ghost use Rattle.text_reader.specs.Reading.{Gives, always, list_at};
-ghost use Rattle.sv_text.specs.ValueReading.{behind_char, char_at, quoted_at};
+ghost use Rattle.text_reader.specs.Reading.{Gives, always, read_list};
+ghost use Rattle.sv_text.specs.ValueReading.{behind_char, read_char, read_quoted};
 
 use apl_arrays::{Glyph, Line, List};
 use std::alloc::Global;
 use text_reader::{Cursor, Unread};
 
 /// Reads so many characters between quotes; a quote among them is written twice. It takes memory for them.
-#[tactic(auto, unfolding(crate::specs::ValueReading::quoted_at))]
+#[tactic(auto, unfolding(crate::specs::ValueReading::read_quoted))]
 pub(crate) fn read_quoted(
     alloc: Global,
     cursor: &mut Cursor<'_>,
     count: usize,
 ) -> Result<Line, Unread>
-    ensures value { Gives (λ chars. (chars.items, cursor.new)) result (quoted_at count cursor.old) }
+    ensures value { Gives (λ chars. (chars.items, cursor.new)) result (read_quoted count cursor.old) }
     ensures count { IfOk result (λ chars. length chars.items ≡ count) }
 {
     cursor.text(b"'")?;
@@ -24,7 +24,7 @@ pub(crate) fn read_quoted(
 
 // Reads so many characters as they stand between quotes.
 fn read_chars(alloc: Global, cursor: &mut Cursor<'_>, count: usize) -> Result<Line, Unread>
-    ensures value { Gives (λ chars. (chars.items, cursor.new)) result (list_at always char_at count cursor.old) }
+    ensures value { Gives (λ chars. (chars.items, cursor.new)) result (read_list always read_char count cursor.old) }
     ensures count { IfOk result (λ chars. length chars.items ≡ count) }
 {
     let mut chars = List::new(alloc);
@@ -36,9 +36,9 @@ fn read_chars(alloc: Global, cursor: &mut Cursor<'_>, count: usize) -> Result<Li
 }
 
 // Reads a character as it stands between quotes.
-#[tactic(auto, unfolding(crate::specs::ValueReading::char_at))]
+#[tactic(auto, unfolding(crate::specs::ValueReading::read_char))]
 fn read_char(cursor: &mut Cursor<'_>) -> Result<Glyph, Unread>
-    ensures { Gives (λ char. (char, cursor.new)) result (char_at cursor.old) }
+    ensures { Gives (λ char. (char, cursor.new)) result (read_char cursor.old) }
 {
     match cursor.first() {
         None => Err(cursor.stops()),

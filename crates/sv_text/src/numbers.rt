@@ -1,19 +1,19 @@
 ghost use Rattle.std.specs.Prelude.{◌≡◌, ◌≤◌, ◌^◌, ◌+◌, IfOk, OnOk, length, pos, neg_ℤ};
-ghost use Rattle.text_reader.specs.Reading.{Gives, always, list_at, read_behind, step_at};
-ghost use Rattle.sv_text.specs.ValueReading.{integer_at, negative_at, next_integer_at, numbers_at, positive_at};
+ghost use Rattle.text_reader.specs.Reading.{Gives, always, read_list, read_behind, read_step};
+ghost use Rattle.sv_text.specs.ValueReading.{read_integer, read_negative, read_next_integer, read_numbers, read_positive};
 
 use apl_arrays::{Glyph, List};
 use std::alloc::Global;
 use text_reader::{Cursor, Unread};
 
 /// Reads so many numbers, with one blank between each two. It takes memory for them.
-#[tactic(auto, unfolding(crate::specs::ValueReading::numbers_at))]
+#[tactic(auto, unfolding(crate::specs::ValueReading::read_numbers))]
 pub(crate) fn read_numbers(
     alloc: Global,
     cursor: &mut Cursor<'_>,
     count: usize,
 ) -> Result<List<i64>, Unread>
-    ensures value { Gives (λ list. (list.items, cursor.new)) result (numbers_at count cursor.old) }
+    ensures value { Gives (λ list. (list.items, cursor.new)) result (read_numbers count cursor.old) }
     ensures count { IfOk result (λ list. length list.items ≡ count) }
 {
     let mut numbers = List::new(alloc);
@@ -29,7 +29,7 @@ pub(crate) fn read_numbers(
 
 // Reads so many numbers more, each behind a blank.
 fn add_numbers(cursor: &mut Cursor<'_>, numbers: &mut List<i64>, count: usize) -> Result<(), Unread>
-    ensures value { Gives (λ _. (numbers.new.items, cursor.new)) result (read_behind numbers.old.items (list_at always next_integer_at count cursor.old)) }
+    ensures value { Gives (λ _. (numbers.new.items, cursor.new)) result (read_behind numbers.old.items (read_list always read_next_integer count cursor.old)) }
     ensures count { OnOk result (length numbers.new.items ≡ length numbers.old.items + count) }
 {
     for _ in 0..count {
@@ -40,7 +40,7 @@ fn add_numbers(cursor: &mut Cursor<'_>, numbers: &mut List<i64>, count: usize) -
 
 // Reads a number more, behind a blank.
 fn add_number(cursor: &mut Cursor<'_>, numbers: &mut List<i64>) -> Result<(), Unread>
-    ensures value { Gives (λ _. (numbers.new.items, cursor.new)) result (step_at always next_integer_at numbers.old.items cursor.old) }
+    ensures value { Gives (λ _. (numbers.new.items, cursor.new)) result (read_step always read_next_integer numbers.old.items cursor.old) }
     ensures one { OnOk result (length numbers.new.items ≡ length numbers.old.items + 1) }
 {
     let number = read_next_integer(cursor)?;
@@ -49,9 +49,9 @@ fn add_number(cursor: &mut Cursor<'_>, numbers: &mut List<i64>) -> Result<(), Un
 }
 
 // Reads a number behind a blank.
-#[tactic(auto, unfolding(crate::specs::ValueReading::next_integer_at))]
+#[tactic(auto, unfolding(crate::specs::ValueReading::read_next_integer))]
 fn read_next_integer(cursor: &mut Cursor<'_>) -> Result<i64, Unread>
-    ensures { Gives (λ number. (number, cursor.new)) result (next_integer_at cursor.old) }
+    ensures { Gives (λ number. (number, cursor.new)) result (read_next_integer cursor.old) }
 {
     cursor.text(b" ")?;
     read_integer(cursor)
@@ -59,7 +59,7 @@ fn read_next_integer(cursor: &mut Cursor<'_>) -> Result<i64, Unread>
 
 // Reads a number, behind ¯ where it is negative.
 fn read_integer(cursor: &mut Cursor<'_>) -> Result<i64, Unread>
-    ensures { Gives (λ number. (number, cursor.new)) result (integer_at cursor.old) }
+    ensures { Gives (λ number. (number, cursor.new)) result (read_integer cursor.old) }
 {
     if cursor.first() == Some(Glyph::OVERBAR) {
         cursor.skip();
@@ -71,7 +71,7 @@ fn read_integer(cursor: &mut Cursor<'_>) -> Result<i64, Unread>
 
 // Reads the magnitude of a negative number.
 fn read_negative(cursor: &mut Cursor<'_>) -> Result<i64, Unread>
-    ensures { Gives (λ number. (number, cursor.new)) result (negative_at cursor.old) }
+    ensures { Gives (λ number. (number, cursor.new)) result (read_negative cursor.old) }
 {
     let magnitude = cursor.number(1, 1 << 63)?;
     Ok(negative(magnitude))
@@ -79,7 +79,7 @@ fn read_negative(cursor: &mut Cursor<'_>) -> Result<i64, Unread>
 
 // Reads a number that is not negative.
 fn read_positive(cursor: &mut Cursor<'_>) -> Result<i64, Unread>
-    ensures { Gives (λ number. (number, cursor.new)) result (positive_at cursor.old) }
+    ensures { Gives (λ number. (number, cursor.new)) result (read_positive cursor.old) }
 {
     let magnitude = cursor.number(0, (1 << 63) - 1)?;
     Ok(magnitude as i64)

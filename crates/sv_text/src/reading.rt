@@ -3,7 +3,7 @@ ghost use Rattle.apl_arrays.specs.Array.{PlainArray};
 ghost use Rattle.sv_text.specs.ReadsValue.{ReadsValue, ReadsThis, refusal};
 ghost use Rattle.text_reader.specs.Reading.{Gives};
 ghost use Rattle.sv_text.specs.Value.{IsValue};
-ghost use Rattle.sv_text.specs.ValueReading.{array_at, value_at, numbers_array_at, chars_array_at};
+ghost use Rattle.sv_text.specs.ValueReading.{read_array, read_value, read_numbers_array, read_chars_array};
 ghost use Rattle.sv_text.specs.ValueText.{array_text};
 
 use crate::chars::read_quoted;
@@ -52,7 +52,7 @@ fn whole_value(cursor: &Cursor<'_>, array: Array) -> Result<Array, ValueRefused>
 /// Reads a value, which is an array or `none`. Where it reads none, the cursor stays where it was. It takes memory for the
 /// array.
 pub fn read_value(alloc: Global, cursor: &mut Cursor<'_>) -> Result<Option<Array>, Unread>
-    ensures value { Gives (λ value. (value, cursor.new)) result (value_at cursor.old) }
+    ensures value { Gives (λ value. (value, cursor.new)) result (read_value cursor.old) }
     ensures stays { OnErr result (cursor.new ≡ cursor.old) }
 {
     let mut ahead = cursor.ahead();
@@ -63,7 +63,7 @@ pub fn read_value(alloc: Global, cursor: &mut Cursor<'_>) -> Result<Option<Array
 
 /// Reads an array. Where it reads none, the cursor stays where it was. It takes memory for the array.
 pub fn read_array(alloc: Global, cursor: &mut Cursor<'_>) -> Result<Array, Unread>
-    ensures value { Gives (λ array. (array, cursor.new)) result (array_at cursor.old) }
+    ensures value { Gives (λ array. (array, cursor.new)) result (read_array cursor.old) }
     ensures stays { OnErr result (cursor.new ≡ cursor.old) }
 {
     let mut ahead = cursor.ahead();
@@ -73,9 +73,9 @@ pub fn read_array(alloc: Global, cursor: &mut Cursor<'_>) -> Result<Array, Unrea
 }
 
 // Reads a value, and moves on as far as it goes.
-#[tactic(auto, unfolding(crate::specs::ValueReading::value_at))]
+#[tactic(auto, unfolding(crate::specs::ValueReading::read_value))]
 fn value_ahead(alloc: Global, cursor: &mut Cursor<'_>) -> Result<Option<Array>, Unread>
-    ensures { Gives (λ value. (value, cursor.new)) result (value_at cursor.old) }
+    ensures { Gives (λ value. (value, cursor.new)) result (read_value cursor.old) }
 {
     match cursor.first() {
         Some(first) if first.code() == b'n' => {
@@ -87,9 +87,9 @@ fn value_ahead(alloc: Global, cursor: &mut Cursor<'_>) -> Result<Option<Array>, 
 }
 
 // Reads an array, and moves on as far as it goes.
-#[tactic(auto, unfolding(crate::specs::ValueReading::array_at))]
+#[tactic(auto, unfolding(crate::specs::ValueReading::read_array))]
 fn array_ahead(alloc: Global, cursor: &mut Cursor<'_>) -> Result<Array, Unread>
-    ensures { Gives (λ array. (array, cursor.new)) result (array_at cursor.old) }
+    ensures { Gives (λ array. (array, cursor.new)) result (read_array cursor.old) }
 {
     match cursor.first() {
         Some(first) if first.code() == b'N' => read_number_array(alloc, cursor),
@@ -99,9 +99,9 @@ fn array_ahead(alloc: Global, cursor: &mut Cursor<'_>) -> Result<Array, Unread>
 }
 
 // Reads an array of numbers.
-#[tactic(auto, unfolding(crate::specs::ValueReading::numbers_array_at))]
+#[tactic(auto, unfolding(crate::specs::ValueReading::read_numbers_array))]
 fn read_number_array(alloc: Global, cursor: &mut Cursor<'_>) -> Result<Array, Unread>
-    ensures { Gives (λ array. (array, cursor.new)) result (numbers_array_at cursor.old) }
+    ensures { Gives (λ array. (array, cursor.new)) result (read_numbers_array cursor.old) }
 {
     cursor.text(b"N(")?;
     let shape = read_shape(alloc, cursor)?;
@@ -111,9 +111,9 @@ fn read_number_array(alloc: Global, cursor: &mut Cursor<'_>) -> Result<Array, Un
 }
 
 // Reads an array of characters.
-#[tactic(auto, unfolding(crate::specs::ValueReading::chars_array_at))]
+#[tactic(auto, unfolding(crate::specs::ValueReading::read_chars_array))]
 fn read_char_array(alloc: Global, cursor: &mut Cursor<'_>) -> Result<Array, Unread>
-    ensures { Gives (λ array. (array, cursor.new)) result (chars_array_at cursor.old) }
+    ensures { Gives (λ array. (array, cursor.new)) result (read_chars_array cursor.old) }
 {
     cursor.text(b"C(")?;
     let shape = read_shape(alloc, cursor)?;

@@ -1,7 +1,7 @@
 ghost use Rattle.std.specs.Prelude.{◌≡◌, ◌≤◌, ◌<◌, ◌-◌, ◌==◌, IfOk};
 ghost use Rattle.apl_arrays.specs.Array.{FitsLimits};
 ghost use Rattle.text_reader.specs.Reading.{Gives, read_behind};
-ghost use Rattle.sv_text.specs.ValueReading.{axes_at, more_axes, goes_on_behind, greatest_axis, shape_at};
+ghost use Rattle.sv_text.specs.ValueReading.{read_axes, more_axes, goes_on_behind, greatest_axis, read_shape};
 
 use apl_arrays::{ELEMENT_LIMIT, Glyph, List, RANK_LIMIT};
 use std::alloc::Global;
@@ -9,9 +9,9 @@ use text_reader::{Cursor, Unread};
 
 /// Reads axes, with one blank between each two, and the parenthesis that closes them. Where an axis may follow it may be
 /// 0, so the product is looked at where the shape is closed. It takes memory for the axes.
-#[tactic(auto, unfolding(crate::specs::ValueReading::shape_at))]
+#[tactic(auto, unfolding(crate::specs::ValueReading::read_shape))]
 pub(crate) fn read_shape(alloc: Global, cursor: &mut Cursor<'_>) -> Result<List<u32>, Unread>
-    ensures value { Gives (λ shape. (shape.items, cursor.new)) result (shape_at cursor.old) }
+    ensures value { Gives (λ shape. (shape.items, cursor.new)) result (read_shape cursor.old) }
     ensures fits { IfOk result (λ shape. FitsLimits shape.items) }
 {
     let mut shape = List::new(alloc);
@@ -33,7 +33,7 @@ fn add_axes(
 ) -> Result<(), Unread>
     requires most { 0 < most }
     requires product { product ≤ 16385 }
-    ensures { Gives (λ _. (shape.new.items, cursor.new)) result (read_behind shape.old.items (axes_at most product cursor.old)) }
+    ensures { Gives (λ _. (shape.new.items, cursor.new)) result (read_behind shape.old.items (read_axes most product cursor.old)) }
 {
     let axis = cursor.number(0, greatest_axis(most == 1, product))?;
     shape.push(axis as u32)?;

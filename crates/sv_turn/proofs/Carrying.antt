@@ -6,13 +6,13 @@ use mathlib.Core.Option as maybe
 use lib.ListN.{get_elem?}
 use Rattle.atomic_table.specs.Table.{State}
 use Rattle.atomic_table.proofs.Lists.{at_set}
-use Rattle.sv_turn.specs.declared.view.Stage.{Stage}
-use Rattle.sv_turn.specs.declared.view.Stage.TheVariants.{Away, Waits, Holds}
+use Rattle.sv_turn.specs.declared.view.SeatStage.{SeatStage}
+use Rattle.sv_turn.specs.declared.view.SeatStage.TheVariants.{Away, Waits, Holds}
 use Rattle.sv_turn.specs.declared.view.Account.{Account}
 use Rattle.sv_turn.specs.declared.view.View.{View}
 use Rattle.sv_turn.specs.Journals.{places_of, Begins}
 use Rattle.sv_turn.specs.Views.{weight_of, tickets_of, turns_of, tickets, turns}
-use Rattle.sv_turn.specs.Order.{Course, words_of, Queues, Stands, Fits, InOrder}
+use Rattle.sv_turn.specs.Order.{TurnCourse, words_of, Queues, Stands, Fits, InOrder}
 use Rattle.sv_turn.proofs.Sums.{sum_set, sum_at}
 use Rattle.sv_turn.proofs.Places.{begins_then}
 
@@ -30,7 +30,7 @@ pub wrapped : (n : ℕ) → (n % 2 ^ 64 + 1) % 2 ^ 64 ≡ (n + 1) % 2 ^ 64
 wrapped n = omega arith
 
 module _ {E : Type 0} where
-  pub queues_on : (c d : Course E) (seat : ℕ) (known : List E) (stage : Stage)
+  pub queues_on : (c d : TurnCourse E) (seat : ℕ) (known : List E) (stage : SeatStage)
       → ((ticket : ℕ) → Queues c seat known (Waits ticket) → Queues d seat known (Waits ticket))
       → ((ticket : ℕ) → Queues c seat known (Holds ticket) → Queues d seat known (Holds ticket))
       → Queues c seat known stage → Queues d seat known stage
@@ -38,11 +38,11 @@ module _ {E : Type 0} where
   queues_on c d seat known (Waits ticket) waits holds q = waits ticket q
   queues_on c d seat known (Holds ticket) waits holds q = holds ticket q
 
-  pub away_queues : (c : Course E) (seat : ℕ) (known : List E) (stage : Stage) → stage ≡ Away → Queues c seat known stage
+  pub away_queues : (c : TurnCourse E) (seat : ℕ) (known : List E) (stage : SeatStage) → stage ≡ Away → Queues c seat known stage
   away_queues c seat known stage away = subst (Queues c seat known) (sym away) tt
 
 module _ {E : Type 0} (party_of : E → ℕ) where
-  pub stands_on : (c d : Course E) (from to : ℕ) (a : Account E) → c.top ≤ d.top → d.owner a.party ≡ to → places_of party_of a.party d.journal ≡ places_of party_of a.party c.journal → Begins c.journal d.journal
+  pub stands_on : (c d : TurnCourse E) (from to : ℕ) (a : Account E) → c.top ≤ d.top → d.owner a.party ≡ to → places_of party_of a.party d.journal ≡ places_of party_of a.party c.journal → Begins c.journal d.journal
       → Stands party_of c from a → Stands party_of d to a
   stands_on c d from to a top owner places begins h = record {
     named = h.named;
@@ -52,7 +52,7 @@ module _ {E : Type 0} (party_of : E → ℕ) where
     known = begins_then a.known c.journal d.journal h.known begins;
   }
 
-  pub carry : (members : List ℕ) (c d : Course E) (seat : ℕ) (v : View E)
+  pub carry : (members : List ℕ) (c d : TurnCourse E) (seat : ℕ) (v : View E)
       → (v.maker ≡ true → seat ≡ c.maker → v.last ≡ c.top → (seat ≡ d.maker) × (v.last ≡ d.top))
       → ((a : Account E) → Stands party_of c seat a → Stands party_of d seat a)
       → (Queues c seat v.account.known v.stage → Queues d seat v.account.known v.stage)
@@ -80,7 +80,7 @@ module _ {S E : Type 0} (entries : S → List E) (members_of : S → List ℕ) (
       (λ (t : (j ≢ seat) × (get_elem? views j ≡ some u)). others j u t.0 t.1) (at_set views seat j w u e)
 
   -- the rule after a step of one seat, whatever it did to the slot
-  pub turned : (s : St) (r : Rule s) (seat : ℕ) (v w : View E) (d : Course E) (words : List ℕ) (homes : List (maybe.Option (Option S))) → get_elem? s.views seat ≡ some v
+  pub turned : (s : St) (r : Rule s) (seat : ℕ) (v w : View E) (d : TurnCourse E) (words : List ℕ) (homes : List (maybe.Option (Option S))) → get_elem? s.views seat ≡ some v
       → words ≡ words_of d → w.weight ≡ v.weight → tickets w.stage + d.served + r.course.taken ≡ tickets v.stage + r.course.served + d.taken
       → sum_by turns_of (set s.views seat w) ≤ 1
       → (sum_by turns_of (set s.views seat w) ≡ 0 → (y : S) × (homes ≡ some (Some y) ∷ []) × (entries y ≡ d.journal) × (members_of y ≡ members))
@@ -103,7 +103,7 @@ module _ {S E : Type 0} (entries : S → List E) (members_of : S → List ℕ) (
   }
 
   -- the same where the slot stays
-  pub moved : (s : St) (r : Rule s) (seat : ℕ) (v w : View E) (d : Course E) (words : List ℕ) → get_elem? s.views seat ≡ some v
+  pub moved : (s : St) (r : Rule s) (seat : ℕ) (v w : View E) (d : TurnCourse E) (words : List ℕ) → get_elem? s.views seat ≡ some v
       → words ≡ words_of d → w.weight ≡ v.weight → tickets w.stage + d.served + r.course.taken ≡ tickets v.stage + r.course.served + d.taken
       → turns w.stage ≡ turns v.stage → (turns v.stage ≡ 0 → d.journal ≡ r.course.journal)
       → All (λ e. party_of e ≤ d.top) d.journal

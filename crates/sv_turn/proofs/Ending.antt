@@ -5,15 +5,15 @@ use mathlib.Core.Option.{some, some-injective}
 use mathlib.Core.Option as maybe
 use lib.ListN.{get_elem?}
 use Rattle.atomic_table.specs.Table.{State, Final, Seen}
-use Rattle.sv_turn.specs.declared.view.Stage.{Stage}
-use Rattle.sv_turn.specs.declared.view.Stage.TheVariants.{Away, Waits, Holds}
+use Rattle.sv_turn.specs.declared.view.SeatStage.{SeatStage}
+use Rattle.sv_turn.specs.declared.view.SeatStage.TheVariants.{Away, Waits, Holds}
 use Rattle.sv_turn.specs.declared.view.Account.{Account}
 use Rattle.sv_turn.specs.declared.view.View.{View}
 use Rattle.sv_turn.specs.Views.{weight_of, turns_of, tickets, turns, accounts_of}
 use Rattle.sv_turn.specs.Order.{Stands, IsTold, InOrder}
 use Rattle.sv_turn.proofs.Sums.{sum_apart, sum_found}
 
-pub turns_below : (stage : Stage) → turns stage ≤ tickets stage
+pub turns_below : (stage : SeatStage) → turns stage ≤ tickets stage
 turns_below Away = omega arith
 turns_below (Waits ticket) = omega arith
 turns_below (Holds ticket) = omega arith

@@ -6,11 +6,11 @@ use mathlib.Core.Option.{none, some, some-ne-none}
 use lib.ListN.{get_elem?}
 use Rattle.atomic_table.specs.Table.{State, Me, step, keeps, Allows, Splits, Joins, opening}
 use Rattle.atomic_table.proofs.Lists.{set_else}
-use Rattle.sv_turn.specs.declared.view.Stage.TheVariants.{Away}
+use Rattle.sv_turn.specs.declared.view.SeatStage.TheVariants.{Away}
 use Rattle.sv_turn.specs.declared.view.Account.{Account}
 use Rattle.sv_turn.specs.declared.view.View.{View}
 use Rattle.sv_turn.specs.Views.{weight_of, tickets_of, turns_of, tickets, turns, maker_of, spent, numbered, left_of, right_of, joined}
-use Rattle.sv_turn.specs.Order.{Course, Stands, Fits, InOrder}
+use Rattle.sv_turn.specs.Order.{TurnCourse, Stands, Fits, InOrder}
 use Rattle.sv_turn.specs.Plays.{Numbers}
 use Rattle.sv_turn.proofs.Sums.{at_end, sum_set}
 use Rattle.sv_turn.proofs.Places.{begins_self, begins_none, no_places}
@@ -27,7 +27,7 @@ module _ {S E : Type 0} (entries : S → List E) (members_of : S → List ℕ) (
       → Allows Rule slots seat me 3 (λ n. max n party) (Numbers (step slots 3 party 0 none) me)
   numbers slots seat party me maker away heavy nobody next s r deep at small =
       let c = r.course in let v = me.0 in let fit = r.each seat v at in let made = fit.made maker in let top : c.top < party = (let e = made.1 in omega arith) in
-      let d : Course E = record c { top = party; owner = put c.owner party seat } in
+      let d : TurnCourse E = record c { top = party; owner = put c.owner party seat } in
       let greatest : max c.top party ≡ party = omega arith in
       let keep : (j : ℕ) (a : Account E) → Stands party_of c j a → Stands party_of d j a =
       λ j a h. stands_on party_of c d j j a (omega arith) (put_else c.owner party seat a.party (λ e. let n = h.numbered in omega arith) ∙ h.owned) refl (begins_self c.journal) h in
@@ -60,7 +60,7 @@ module _ {S E : Type 0} (entries : S → List E) (members_of : S → List ℕ) (
   pub splits : (seat : ℕ) (v : View E) → v.maker ≡ true → v.stage ≡ Away → 1 < v.weight → 0 < v.account.party → Splits Rule seat v (left_of v) (right_of v)
   splits seat v maker away heavy somebody s r at =
       let c = r.course in let fit = r.each seat v at in let p : ℕ = v.account.party in let new : ℕ = length s.views in let mine = fit.mine somebody in
-      let d : Course E = record c { owner = put c.owner p new } in let views : List (View E) = set s.views seat (left_of v) in
+      let d : TurnCourse E = record c { owner = put c.owner p new } in let views : List (View E) = set s.views seat (left_of v) in
       let keep : (j : ℕ) (a : Account E) → a.party ≢ p → Stands party_of c j a → Stands party_of d j a =
       λ j a ne h. stands_on party_of c d j j a (omega arith) (put_else c.owner p new a.party ne ∙ h.owned) refl (begins_self c.journal) h in
       let left : Fits party_of members d seat (left_of v) = record {
@@ -107,7 +107,7 @@ module _ {S E : Type 0} (entries : S → List E) (members_of : S → List ℕ) (
       let c = r.course in let views : List (View E) = set s.views seat (joined v w) in
       let there' : get_elem? s.views other ≡ some w = sym (set_else s.views seat other (joined v w) apart) ∙ there in
       let fit = r.each seat v at in let gone = r.each other w there' in let mine = fit.mine somebody in let theirs = gone.mine another in
-      let owner : ℕ → ℕ = λ q. cond (c.owner q == other) seat (c.owner q) in let d : Course E = record c { owner = owner } in
+      let owner : ℕ → ℕ = λ q. cond (c.owner q == other) seat (c.owner q) in let d : TurnCourse E = record c { owner = owner } in
       let handed : (q : ℕ) → c.owner q ≡ other → owner q ≡ seat = λ q is. ap (λ b. cond b seat (c.owner q)) (eq-eqb (c.owner q) other is) in
       let stayed : (q j : ℕ) → c.owner q ≡ j → j ≢ other → owner q ≡ j = λ q j is ne. ap (λ b. cond b seat (c.owner q)) (ne_eqb (c.owner q) other (λ e. ne (sym is ∙ e))) ∙ is in
       let keep : (j : ℕ) (a : Account E) → j ≢ other → Stands party_of c j a → Stands party_of d j a =
@@ -157,7 +157,7 @@ module _ {S E : Type 0} (entries : S → List E) (members_of : S → List ℕ) (
 
   pub starts : (y : S) → members_of y ≡ members → entries y ≡ [] → parties < 2 ^ 64 → Rule (opening (0 ∷ 0 ∷ 0 ∷ 0 ∷ []) (Some y ∷ []) (maker_of parties members))
   starts y same empty few =
-      let c : Course E = record { taken = 0; served = 0; top = 0; maker = 0; owner = λ _. 0; holder = λ _. 0; journal = [] } in
+      let c : TurnCourse E = record { taken = 0; served = 0; top = 0; maker = 0; owner = λ _. 0; holder = λ _. 0; journal = [] } in
       let first : View E = maker_of parties members in
       let mine : Fits party_of members c 0 first = record {
         made = λ _. (refl, refl);

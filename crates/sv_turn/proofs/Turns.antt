@@ -8,20 +8,20 @@ use native.Mathlib.Decide.{ℕ_discrete}
 use lib.ListN.{get_elem?}
 use Rattle.atomic_table.specs.Table.{State, Me, step, Act, keeps, takes, gives, put_back, Valid, stepped, carried_after, Allows}
 use Rattle.atomic_table.proofs.Lists.{one_turn}
-use Rattle.sv_turn.specs.declared.view.Stage.{Stage}
-use Rattle.sv_turn.specs.declared.view.Stage.TheVariants.{Away, Waits, Holds}
+use Rattle.sv_turn.specs.declared.view.SeatStage.{SeatStage}
+use Rattle.sv_turn.specs.declared.view.SeatStage.TheVariants.{Away, Waits, Holds}
 use Rattle.sv_turn.specs.declared.view.Account.{Account}
 use Rattle.sv_turn.specs.declared.view.View.{View}
 use Rattle.sv_turn.specs.Journals.{places_of, Begins, AddsOne}
 use Rattle.sv_turn.specs.Views.{weight_of, tickets_of, turns_of, tickets, turns, ticket_of, at_stage, holder_of, counted}
-use Rattle.sv_turn.specs.Order.{Course, Queues, Stands, Fits, InOrder}
-use Rattle.sv_turn.specs.Plays.{Draws, Looks, Counts, Releases, word_of}
+use Rattle.sv_turn.specs.Order.{TurnCourse, Queues, Stands, Fits, InOrder}
+use Rattle.sv_turn.specs.Plays.{Draws, Looks, Counts, Releases, ticket_word}
 use Rattle.sv_turn.proofs.Sums.{sum_set, sum_at, sum_found, sum_less}
 use Rattle.sv_turn.proofs.Places.{begins_self, other_places, own_places}
 use Rattle.sv_turn.proofs.Carrying.{put, put_here, put_else, wrapped, queues_on, stands_on, carry, turned, moved}
 
 -- the seat that has its turn holds some ticket
-held : (stage : Stage) → 0 < turns stage → (ticket : ℕ) × (stage ≡ Holds ticket)
+held : (stage : SeatStage) → 0 < turns stage → (ticket : ℕ) × (stage ≡ Holds ticket)
 held Away h = absurd (omega arith)
 held (Waits ticket) h = absurd (omega arith)
 held (Holds ticket) h = (ticket, refl)
@@ -51,7 +51,7 @@ module _ {S E : Type 0} (entries : S → List E) (members_of : S → List ℕ) (
       let below = sum_less tickets_of weight_of s.views (λ j u e. let fit = r.each j u e in light u.stage u.account.party u.weight fit.seated fit.heavy) in
       let waiting = r.waiting in let weights = r.weights in let few = r.few in omega arith
     where
-      light : (stage : Stage) (party weight : ℕ) → tickets stage ≤ party → (0 < party → 0 < weight) → tickets stage ≤ weight
+      light : (stage : SeatStage) (party weight : ℕ) → tickets stage ≤ party → (0 < party → 0 < weight) → tickets stage ≤ weight
       light Away party weight seated heavy = omega arith
       light (Waits ticket) party weight seated heavy = let h = heavy (omega arith) in omega arith
       light (Holds ticket) party weight seated heavy = let h = heavy (omega arith) in omega arith
@@ -59,7 +59,7 @@ module _ {S E : Type 0} (entries : S → List E) (members_of : S → List ℕ) (
   pub draws : (slots seat : ℕ) (me : Me (Option S) (View E)) → me.0.stage ≡ Away → 0 < me.0.account.party
       → Allows Rule slots seat me 0 (λ n. (n + 1) % 2 ^ 64) (Draws (step slots 0 1 0 none) me)
   draws slots seat me away somebody s r deep at small =
-      let c = r.course in let v = me.0 in let fit = r.each seat v at in let d : Course E = record c { taken = c.taken + 1; holder = put c.holder c.taken seat } in
+      let c = r.course in let v = me.0 in let fit = r.each seat v at in let d : TurnCourse E = record c { taken = c.taken + 1; holder = put c.holder c.taken seat } in
       let served : c.served ≤ c.taken = (let h = r.waiting in omega arith) in
       let keep : (j : ℕ) (a : Account E) → Stands party_of c j a → Stands party_of d j a = λ j a h. stands_on party_of c d j j a (omega arith) h.owned refl (begins_self c.journal) h in
       let mine : Fits party_of members d seat (at_stage (Waits c.taken) v) = record {
@@ -99,11 +99,11 @@ module _ {S E : Type 0} (entries : S → List E) (members_of : S → List ℕ) (
   Looked slots seat me s = (w : View E) × (a : Act (Option S)) × Valid s.homes me.1 a × Rule (stepped s 1 (slice_index s.words 1) seat me.1 w a)
       × Looks entries members_of party_of (step slots 1 0 0 none) me (slice_index s.words 1) (w, carried_after me.1 a)
 
-  comes : (slots seat ticket : ℕ) (me : Me (Option S) (View E)) (s : St) (r : Rule s) → me.0.stage ≡ Waits ticket → get_elem? s.views seat ≡ some me.0 → slice_index s.words 1 ≡ word_of me.0.stage → Looked slots seat me s
+  comes : (slots seat ticket : ℕ) (me : Me (Option S) (View E)) (s : St) (r : Rule s) → me.0.stage ≡ Waits ticket → get_elem? s.views seat ≡ some me.0 → slice_index s.words 1 ≡ ticket_word me.0.stage → Looked slots seat me s
   comes slots seat ticket me s r waits at is =
       let c = r.course in let v = me.0 in let fit = r.each seat v at in
       let q : Queues c seat v.account.known (Waits ticket) = subst (Queues c seat v.account.known) waits fit.queues in
-      let word : c.served % 2 ^ 64 ≡ ticket % 2 ^ 64 = sym (ap (λ (ws : List ℕ). slice_index ws 1) r.words) ∙ (is ∙ ap word_of waits) in
+      let word : c.served % 2 ^ 64 ≡ ticket % 2 ^ 64 = sym (ap (λ (ws : List ℕ). slice_index ws 1) r.words) ∙ (is ∙ ap ticket_word waits) in
       let next : c.served ≡ ticket = one_turn c.served ticket (2 ^ 64) q.0 (near s r ticket q.1) word in
       let empty = nobody_in s r seat v ticket at waits q.2 next (sum_by turns_of s.views) refl in
       let home = r.home empty in let y = home.0 in let w : View E = holder_of (ticket_of v.stage) (entries y) v in
@@ -140,7 +140,7 @@ module _ {S E : Type 0} (entries : S → List E) (members_of : S → List ℕ) (
         ),
       )
 
-  waits_on : (slots seat : ℕ) (me : Me (Option S) (View E)) (s : St) (r : Rule s) → get_elem? s.views seat ≡ some me.0 → slice_index s.words 1 ≢ word_of me.0.stage → Looked slots seat me s
+  waits_on : (slots seat : ℕ) (me : Me (Option S) (View E)) (s : St) (r : Rule s) → get_elem? s.views seat ≡ some me.0 → slice_index s.words 1 ≢ ticket_word me.0.stage → Looked slots seat me s
   waits_on slots seat me s r at ne = (
     me.0,
     keeps,
@@ -152,7 +152,7 @@ module _ {S E : Type 0} (entries : S → List E) (members_of : S → List ℕ) (
 
   pub looks : (slots seat ticket : ℕ) (me : Me (Option S) (View E)) → me.0.stage ≡ Waits ticket
       → Allows Rule slots seat me 1 (λ n. n) (Looks entries members_of party_of (step slots 1 0 0 none) me)
-  looks slots seat ticket me waits s r deep at small = dite (ℕ_discrete (slice_index s.words 1) (word_of me.0.stage)) (comes slots seat ticket me s r waits at) (waits_on slots seat me s r at)
+  looks slots seat ticket me waits s r deep at small = dite (ℕ_discrete (slice_index s.words 1) (ticket_word me.0.stage)) (comes slots seat ticket me s r waits at) (waits_on slots seat me s r at)
 
   pub counts : (slots seat ticket : ℕ) (me : Me (Option S) (View E)) (y : S) → me.0.stage ≡ Holds ticket → me.1 ≡ (0, Some y) ∷ [] → AddsOne party_of me.0.account.party me.0.account.known (entries y)
       → Allows Rule slots seat me 2 (λ n. (n + 1) % 2 ^ 64) (Counts entries (step slots 2 1 0 none) me)
@@ -162,7 +162,7 @@ module _ {S E : Type 0} (entries : S → List E) (members_of : S → List ℕ) (
       let ticketed : tickets v.stage ≡ 1 = ap tickets holds in let out : turns v.stage ≡ 1 = ap turns holds in
       let somebody : 0 < p = (let h = fit.seated in omega arith) in let mine = fit.mine somebody in
       let is : entries y ≡ e ∷ c.journal = adds.1 ∙ ap (λ (z : List E). e ∷ z) q.3 in
-      let d : Course E = record c { journal = entries y } in let w : View E = counted (length (entries y)) (entries y) v in
+      let d : TurnCourse E = record c { journal = entries y } in let w : View E = counted (length (entries y)) (entries y) v in
       let long : length (entries y) ≡ length c.journal + 1 = (let l = ap length is in omega arith) in
       let grown : Begins c.journal (entries y) = (e ∷ [], is) in
       let elsewhere : (party : ℕ) → party ≢ p → places_of party_of party (entries y) ≡ places_of party_of party c.journal =
@@ -200,7 +200,7 @@ module _ {S E : Type 0} (entries : S → List E) (members_of : S → List ℕ) (
       let q : Queues c seat v.account.known (Holds ticket) = subst (Queues c seat v.account.known) holds fit.queues in
       let ticketed : tickets v.stage ≡ 1 = ap tickets holds in let out : turns v.stage ≡ 1 = ap turns holds in
       let somebody : 0 < v.account.party = (let h = fit.seated in omega arith) in
-      let d : Course E = record c { served = c.served + 1 } in let w : View E = at_stage Away v in
+      let d : TurnCourse E = record c { served = c.served + 1 } in let w : View E = at_stage Away v in
       let part = sum_at turns_of s.views seat v at in let away = r.out (omega arith) in
       let h = sum_set turns_of s.views seat v w at in let none_out : sum_by turns_of (set s.views seat w) ≡ 0 = (let k = r.one in omega arith) in
       let homes : put_back s.homes me.1 ≡ some (Some y) ∷ [] = ap (λ (hs : List (maybe.Option (Option S))). put_back hs me.1) away ∙ ap (put_back (none ∷ [])) has in

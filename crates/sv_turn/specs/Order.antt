@@ -3,15 +3,15 @@ use Rattle.std.specs.Prelude.{◌≡◌, ◌≢◌, ℕ, ◌+◌, ◌%◌, ◌^�
 use mathlib.Core.Option.{none, some}
 use lib.ListN.{get_elem?}
 use Rattle.atomic_table.specs.Table.{State}
-use Rattle.sv_turn.specs.declared.view.Stage.{Stage}
-use Rattle.sv_turn.specs.declared.view.Stage.TheVariants.{Away, Waits, Holds}
+use Rattle.sv_turn.specs.declared.view.SeatStage.{SeatStage}
+use Rattle.sv_turn.specs.declared.view.SeatStage.TheVariants.{Away, Waits, Holds}
 use Rattle.sv_turn.specs.declared.view.Account.{Account}
 use Rattle.sv_turn.specs.declared.view.View.{View}
 use Rattle.sv_turn.specs.Journals.{places_of, Begins}
 use Rattle.sv_turn.specs.Views.{weight_of, tickets_of, turns_of, tickets}
 
 -- How far tickets, turns and numbers have come, whose they are, and what was entered. Numbers have no bound here; the words are their remainders
-pub record Course (E : Type 0) : Type 0 where
+pub record TurnCourse (E : Type 0) : Type 0 where
   pub taken : ℕ
   pub served : ℕ
   pub top : ℕ
@@ -22,17 +22,17 @@ pub record Course (E : Type 0) : Type 0 where
 
 module _ {E : Type 0} where
   -- ticket, serving, length and numbers
-  abbrev pub words_of : Course E → List ℕ
+  abbrev pub words_of : TurnCourse E → List ℕ
   words_of c = (c.taken % 2 ^ 64) ∷ (c.served % 2 ^ 64) ∷ (length c.journal % 2 ^ 64) ∷ c.top ∷ []
 
   -- a ticket was taken, was not yet served, and is the seat's alone; the seat that has its turn knows the whole journal
-  abbrev pub Queues : Course E → ℕ → List E → Stage → Type 0
+  abbrev pub Queues : TurnCourse E → ℕ → List E → SeatStage → Type 0
   Queues c seat known Away = Unit {0}
   Queues c seat known (Waits ticket) = (c.served ≤ ticket) × (ticket < c.taken) × (c.holder ticket ≡ seat)
   Queues c seat known (Holds ticket) = (ticket ≡ c.served) × (ticket < c.taken) × (c.holder ticket ≡ seat) × (known ≡ c.journal)
 
   -- the party is the seat's alone, its places are all that the journal has of it, and the journal begins with what is known
-  pub record Stands (party_of : E → ℕ) (c : Course E) (seat : ℕ) (a : Account E) : Type 0 where
+  pub record Stands (party_of : E → ℕ) (c : TurnCourse E) (seat : ℕ) (a : Account E) : Type 0 where
     pub named : 0 < a.party
     pub numbered : a.party ≤ c.top
     pub owned : c.owner a.party ≡ seat
@@ -40,7 +40,7 @@ module _ {E : Type 0} where
     pub known : Begins a.known c.journal
 
   -- what holds of each view. A spent one has no weight and no party
-  pub record Fits (party_of : E → ℕ) (members : List ℕ) (c : Course E) (seat : ℕ) (v : View E) : Type 0 where
+  pub record Fits (party_of : E → ℕ) (members : List ℕ) (c : TurnCourse E) (seat : ℕ) (v : View E) : Type 0 where
     pub made : v.maker ≡ true → (seat ≡ c.maker) × (v.last ≡ c.top)
     pub members_kept : 0 < v.weight → v.members ≡ members
     pub heavy : 0 < v.account.party → 0 < v.weight
@@ -55,7 +55,7 @@ IsTold party_of journal a = (a.places ≡ places_of party_of a.party journal) ×
 
 -- the table is in order, where so many parties were handed to the maker, and the state at the start had these members
 pub record InOrder {S E : Type 0} (entries : S → List E) (members_of : S → List ℕ) (party_of : E → ℕ) (parties : ℕ) (members : List ℕ) (s : State (Option S) (View E)) : Type 0 where
-  pub course : Course E
+  pub course : TurnCourse E
   pub words : s.words ≡ words_of course
   pub few : parties < 2 ^ 64
   pub weights : sum_by weight_of s.views ≡ parties

@@ -1,17 +1,17 @@
 -- What each step tells the seat that makes it.
 use Rattle.std.specs.Prelude.{◌≡◌, ◌≢◌, ℕ, ◌%◌, ◌^◌, List, [], ◌∷◌, length, Option, Some}
 use Rattle.atomic_table.specs.Table.{Me, Step, rest}
-use Rattle.sv_turn.specs.declared.view.Stage.{Stage}
-use Rattle.sv_turn.specs.declared.view.Stage.TheVariants.{Away, Waits, Holds}
+use Rattle.sv_turn.specs.declared.view.SeatStage.{SeatStage}
+use Rattle.sv_turn.specs.declared.view.SeatStage.TheVariants.{Away, Waits, Holds}
 use Rattle.sv_turn.specs.declared.view.View.{View}
 use Rattle.sv_turn.specs.Journals.{places_of, Begins}
 use Rattle.sv_turn.specs.Views.{numbered, ticket_of, at_stage, holder_of, counted}
 
 -- the word that a ticket stands for: its remainder
-abbrev pub word_of : Stage → ℕ
-word_of Away = 0
-word_of (Waits ticket) = ticket % 2 ^ 64
-word_of (Holds ticket) = ticket % 2 ^ 64
+abbrev pub ticket_word : SeatStage → ℕ
+ticket_word Away = 0
+ticket_word (Waits ticket) = ticket % 2 ^ 64
+ticket_word (Holds ticket) = ticket % 2 ^ 64
 
 module _ {S E : Type 0} where
   abbrev pub Numbers : Step (Option S) → Me (Option S) (View E) → ℕ → Me (Option S) (View E) → Type 0
@@ -28,7 +28,7 @@ module _ {S E : Type 0} where
 
   abbrev pub Looks : (S → List E) → (S → List ℕ) → (E → ℕ) → Step (Option S) → Me (Option S) (View E) → ℕ → Me (Option S) (View E) → Type 0
   Looks entries members_of party_of st me found me' =
-      (found ≡ word_of me.0.stage → (y : S) × (me' ≡ (holder_of (ticket_of me.0.stage) (entries y) me.0, (0, Some y) ∷ me.1)) × Finds entries members_of party_of me.0 y) × (found ≢ word_of me.0.stage → me' ≡ me)
+      (found ≡ ticket_word me.0.stage → (y : S) × (me' ≡ (holder_of (ticket_of me.0.stage) (entries y) me.0, (0, Some y) ∷ me.1)) × Finds entries members_of party_of me.0 y) × (found ≢ ticket_word me.0.stage → me' ≡ me)
 
   abbrev pub Counts : (S → List E) → Step (Option S) → Me (Option S) (View E) → ℕ → Me (Option S) (View E) → Type 0
   Counts entries st me found me' = (y : S) → me.1 ≡ (0, Some y) ∷ [] → me' ≡ (counted (length (entries y)) (entries y) me.0, me.1)

@@ -7,7 +7,7 @@ use Rattle.atomic_table.specs.Seated.{TableId}
 use Rattle.atomic_table.specs.declared.shared.Seat as place
 use Rattle.sv_turn.specs.declared.history.History as history
 use Rattle.sv_turn.specs.declared.seat.Seat.{Seat}
-use Rattle.sv_turn.specs.declared.view.Stage.TheVariants.{Holds}
+use Rattle.sv_turn.specs.declared.view.SeatStage.TheVariants.{Holds}
 use Rattle.sv_turn.specs.declared.view.View.{View}
 use Rattle.sv_turn.specs.declared.turn.Turn.{Turn}
 use Rattle.sv_turn.specs.contracts.turn.Turn.{the_row}

@@ -1,24 +1,24 @@
 -- What a seat knows, and how the steps change it. Party 0 is nobody.
 use Rattle.std.specs.Prelude.{◌≡◌, ℕ, ◌+◌, ◌-◌, true, false, List, [], ◌∷◌, ◌++◌}
-use Rattle.sv_turn.specs.declared.view.Stage.{Stage}
-use Rattle.sv_turn.specs.declared.view.Stage.TheVariants.{Away, Waits, Holds}
+use Rattle.sv_turn.specs.declared.view.SeatStage.{SeatStage}
+use Rattle.sv_turn.specs.declared.view.SeatStage.TheVariants.{Away, Waits, Holds}
 use Rattle.sv_turn.specs.declared.view.Account.{Account}
 use Rattle.sv_turn.specs.declared.view.View.{View}
 
 -- 1 with a ticket, else 0
-abbrev pub tickets : Stage → ℕ
+abbrev pub tickets : SeatStage → ℕ
 tickets Away = 0
 tickets (Waits ticket) = 1
 tickets (Holds ticket) = 1
 
 -- 1 while the slot is out with the seat, else 0
-abbrev pub turns : Stage → ℕ
+abbrev pub turns : SeatStage → ℕ
 turns Away = 0
 turns (Waits ticket) = 0
 turns (Holds ticket) = 1
 
 -- the true number of a ticket
-abbrev pub ticket_of : Stage → ℕ
+abbrev pub ticket_of : SeatStage → ℕ
 ticket_of Away = 0
 ticket_of (Waits ticket) = ticket
 ticket_of (Holds ticket) = ticket
@@ -57,7 +57,7 @@ module _ {E : Type 0} where
   joined v w = record v { weight = v.weight + w.weight; kept = v.kept ++ w.account ∷ w.kept }
 
   -- the seat at this stage
-  abbrev pub at_stage : Stage → View E → View E
+  abbrev pub at_stage : SeatStage → View E → View E
   at_stage stage v = record v { stage = stage }
 
   -- the seat with its turn, after it found this journal

@@ -1,6 +1,6 @@
 //! Closing a turnstile: its seats are joined into one, which has the whole right to close.
 ghost use Rattle.std.specs.Prelude.{◌≡◌, ◌+◌, ◌<◌, [], ◌∷◌, ◌++◌, All, map, length};
-ghost use Rattle.sv_turn.specs.declared.view.Stage.TheVariants.{Away};
+ghost use Rattle.sv_turn.specs.declared.view.SeatStage.TheVariants.{Away};
 ghost use Rattle.sv_turn.specs.Journals.{places_of, Begins};
 ghost use Rattle.sv_turn.specs.Views.{accounts_of};
 ghost use Rattle.sv_turn.specs.Order.{IsTold};
@@ -84,7 +84,6 @@ fn take_out<S: History>(
 
 impl<S: History> Turnstile<S> {
     /// Ends the turnstile: the state, and the seats with the places of their entries. They can enter nothing any more.
-    /// It takes no memory.
     pub fn close(self, seats: Seats<S::Entry>) -> (S, Seats<S::Entry>)
         requires all { length seats.list.items ≡ seats_given self }
         requires own { All (BelongsTo S.members_of self) seats.list.items }

@@ -1,7 +1,7 @@
 //! Entering a turnstile and leaving it.
 ghost use Rattle.std.specs.Prelude.{◌≡◌, ℕ, ◌%◌, ◌^◌, ◌+◌, ◌<◌, [], ◌∷◌, true, false, None, Some, vec_len};
 ghost use Rattle.std.specs.Borrow.{sem};
-ghost use Rattle.sv_turn.specs.declared.view.Stage.TheVariants.{Waits};
+ghost use Rattle.sv_turn.specs.declared.view.SeatStage.TheVariants.{Waits};
 ghost use Rattle.sv_turn.specs.Journals.{places_of, Begins};
 ghost use Rattle.sv_turn.specs.Plays.{IsHere};
 ghost use Rattle.sv_turn.specs.Seating.{BelongsTo, IsSeatAt, start_members, known_of};
@@ -98,7 +98,7 @@ impl<S: History> Turnstile<S> {
 }
 
 impl<'a, S: History> Turn<'a, S> {
-    /// The state. It takes no memory.
+    /// The state.
     pub fn state(&mut self) -> &mut S
         ensures* writes_back { sem 𝓛 (LendsState S.row S.Entry.row S.History self.entry result) }
         ensures value { result.now ≡ self.old.state }
@@ -106,7 +106,7 @@ impl<'a, S: History> Turn<'a, S> {
         &mut self.state
     }
 
-    /// Ends the turn, with the journal and the members as they were found. It takes no memory.
+    /// Ends the turn, with the journal and the members as they were found.
     pub fn give_back(self)
         requires given { IsGiven self }
         requires journal { S.entries self.state ≡ found_in self }

@@ -20,7 +20,7 @@ fn note<E>(seat: &mut Seat<E>, place: u64)
 }
 
 impl<E> Seat<E> {
-    /// Whose seat it is. It takes no memory.
+    /// Whose seat it is.
     pub fn party(&self) -> u32
         ensures { (result ≡ self.now.party) × (0 < result) }
     {
@@ -39,7 +39,7 @@ impl<E> Seat<E> {
         Ok(())
     }
 
-    /// The places of this seat's entries, ascending. It takes no memory.
+    /// The places of this seat's entries, ascending.
     pub fn mine(&self) -> &[u64]
         ensures { result.now ≡ self.now.mine.items }
     {
@@ -48,7 +48,7 @@ impl<E> Seat<E> {
 }
 
 impl<S: History> Turn<'_, S> {
-    /// Ends the turn with one entry of the seat's party more, and keeps its place. It takes no memory.
+    /// Ends the turn with one entry of the seat's party more, and keeps its place.
     pub fn finish(self)
         requires given { IsGiven self }
         requires one { AddsOne S.party_of self.seat.now.party (found_in self) (S.entries self.state) }

@@ -15,11 +15,11 @@ pub trait History {
     // Whose entry it is.
     ghost party_of: { Self.Entry → ℕ };
 
-    /// How many entries the journal has. It takes no memory.
+    /// How many entries the journal has.
     fn len(&self) -> u64
         ensures { result ≡ length (entries self.now) };
 
-    /// The party of the entry at a place: the first entry that was made has the place 1. It takes no memory.
+    /// The party of the entry at a place: the first entry that was made has the place 1.
     fn party_at(&self, place: u64) -> u32
         requires { (1 ≤ place) × (place ≤ length (entries self.now)) }
         ensures { option_map party_of (entry_at (entries self.now) place) ≡ Some result };

@@ -11,7 +11,7 @@ pub struct Seats<E> {
 }
 
 impl<E> Seats<E> {
-    /// No seats. It takes no memory.
+    /// No seats.
     pub fn new(alloc: Global) -> Seats<E>
         ensures { result.list.items ≡ [] }
     {
@@ -20,21 +20,21 @@ impl<E> Seats<E> {
         }
     }
 
-    /// The seats of a `Vec`, in its order. It takes no memory.
+    /// The seats of a `Vec`, in its order.
     pub fn of_vec(list: Vec<Seat<E>>) -> Seats<E>
         ensures { result.list ≡ list }
     {
         Seats { list }
     }
 
-    /// The seats, in their order. It takes no memory.
+    /// The seats, in their order.
     pub fn as_slice(&self) -> &[Seat<E>]
         ensures { result.now ≡ self.now.list.items }
     {
         &self.list
     }
 
-    /// The seats as a `Vec`. It takes no memory.
+    /// The seats as a `Vec`.
     pub fn into_vec(self) -> Vec<Seat<E>>
         ensures { result ≡ self.list }
     {

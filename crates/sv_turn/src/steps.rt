@@ -1,6 +1,6 @@
 //! The single steps, as functions with a plain contract each.
 ghost use Rattle.std.specs.Prelude.{◌≡◌, ℕ, ◌%◌, ◌^◌, ◌<◌, [], ◌∷◌, true, false, Some, None, length};
-ghost use Rattle.sv_turn.specs.declared.view.Stage.TheVariants.{Away, Waits, Holds};
+ghost use Rattle.sv_turn.specs.declared.view.SeatStage.TheVariants.{Away, Waits, Holds};
 ghost use Rattle.sv_turn.specs.Journals.{AddsOne};
 ghost use Rattle.sv_turn.specs.Views.{numbered, left_of, right_of, joined, ticket_of, at_stage, counted};
 ghost use Rattle.sv_turn.specs.Plays.{IsHere};

@@ -1,7 +1,7 @@
 use std::collections::LinkedList;
 
 /// Where a seat is: outside, waiting with a ticket, or with its turn. No value of it is made.
-pub enum Stage {
+pub enum SeatStage {
     Away,
     Waits(u64),
     Holds(u64),
@@ -25,7 +25,7 @@ pub struct View<E> {
     pub members: LinkedList<u64>,
     /// Its party's.
     pub account: Account<E>,
-    pub stage: Stage,
+    pub stage: SeatStage,
     /// Those of the seats that it took in.
     pub kept: LinkedList<Account<E>>,
 }

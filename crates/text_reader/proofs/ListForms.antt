@@ -1,7 +1,7 @@
 -- Reading a list of so many things.
 use Rattle.std.proofs.Common.{◌≡◌, ℕ, zero, suc, ◌+◌, ◌<◌, ◌≤◌, List, [], ◌∷◌, ◌++◌, Ok, Err, length, refl, sym, ap, ◌∙◌, subst, append_assoc, arith}
 use Rattle.std.specs.List.{flat_map, AllByRecursion}
-use Rattle.text_reader.specs.Reading.{Reader, Reading, ◌>>=◌, always, as_read, list_at, read_behind}
+use Rattle.text_reader.specs.Reading.{Reader, Reading, ◌>>=◌, always, as_read, read_list, read_behind}
 use Rattle.text_reader.proofs.Readers.{SameFirst, Found, Reads, IsReader, AreGlyphs, reformed, then_read, made, no_further}
 
 -- so many things, each of which is ok
@@ -79,8 +79,8 @@ spelled_together text ok n none [] h = absurd (omega (arith, h.many))
 spelled_together text ok n none (x ∷ xs) h = refl
 
 -- so many things are read one after another
-pub reads_list : {A : Type 0} (text : A → List ℕ) (ok : A → Type 0) (follows after : List ℕ → Type 0) (item : Reader A) (none : A) → ok none → IsReader text ok follows SameFirst item → ((x : A) (behind : List ℕ) → ok x → follows (text x ++ behind)) → ((behind : List ℕ) → after behind → follows behind) → (n : ℕ) → IsReader (flat_map text) (AreSoMany ok n) after SameFirst (list_at always item n)
-unfolding list_at
+pub reads_list : {A : Type 0} (text : A → List ℕ) (ok : A → Type 0) (follows after : List ℕ → Type 0) (item : Reader A) (none : A) → ok none → IsReader text ok follows SameFirst item → ((x : A) (behind : List ℕ) → ok x → follows (text x ++ behind)) → ((behind : List ℕ) → after behind → follows behind) → (n : ℕ) → IsReader (flat_map text) (AreSoMany ok n) after SameFirst (read_list always item n)
+unfolding read_list
 reads_list text ok follows after item none some is next last zero line a = record {
   fits = record { each = tt; many = refl };
   whole = refl;
@@ -88,5 +88,5 @@ reads_list text ok follows after item none some is next last zero line a = recor
 }
 reads_list text ok follows after item none some is next last (suc n) line a =
     let inner = reads_list text ok follows after item none some is next last n in
-    let both = list_of_first text text ok follows after item none some is next last n (list_at always item n) inner in
-    reformed (λ e. text (head_or none e) ++ flat_map text (rest_of e)) (flat_map text) (AreSoMany ok (suc n)) (AreSoMany ok (suc n)) after after SameFirst (λ line. item line >>= λ found. read_behind (found.0 ∷ []) (list_at always item n found.1)) (λ e h. h) (λ e h. h) (spelled_together text ok n none) (λ behind h. h) both line a
+    let both = list_of_first text text ok follows after item none some is next last n (read_list always item n) inner in
+    reformed (λ e. text (head_or none e) ++ flat_map text (rest_of e)) (flat_map text) (AreSoMany ok (suc n)) (AreSoMany ok (suc n)) after after SameFirst (λ line. item line >>= λ found. read_behind (found.0 ∷ []) (read_list always item n found.1)) (λ e h. h) (λ e h. h) (spelled_together text ok n none) (λ behind h. h) both line a

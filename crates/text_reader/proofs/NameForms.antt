@@ -11,7 +11,7 @@ use Rattle.apl_arrays.specs.Run.{begins}
 use Rattle.apl_arrays.proofs.Names.{letter_goes_on, name_parts, name_goes_on}
 use Rattle.apl_arrays.proofs.Runs.{run_passes, run_stops, run_fits}
 use Rattle.apl_arrays.specs.List.{first_of}
-use Rattle.text_reader.specs.Reading.{name_span, name_at}
+use Rattle.text_reader.specs.Reading.{name_span, read_name}
 use Rattle.text_reader.proofs.Readers.{SameFirst, Found, Stopped, Reads, IsReader, cancelled}
 use Rattle.text_reader.proofs.NumberForms.{begins_same, begins_within}
 
@@ -110,5 +110,5 @@ name_read line false h = record {
 }
 
 -- a name is read
-pub reads_name : IsReader itself IsName NoName SameFirst name_at
+pub reads_name : IsReader itself IsName NoName SameFirst read_name
 reads_name line a = name_read line (is_name (take (name_span line) line)) refl

@@ -14,7 +14,7 @@ use Rattle.line_text.proofs.SameNumbers.{begins_count, same_count}
 use Rattle.line_text.proofs.Spans.{both}
 use Rattle.apl_arrays.specs.List.{first_of}
 use Rattle.text_reader.specs.Reading.{Reader, Reading}
-use Rattle.text_reader.specs.NumberReading.{reaches, with_digit, number_ends, going_on, digits_at, number_behind, number_at, most_digits}
+use Rattle.text_reader.specs.NumberReading.{reaches, with_digit, number_ends, reading_on, read_digits, read_number_behind, read_number, most_digits}
 use Rattle.text_reader.proofs.Readers.{SameFirst, Found, Stopped, Reads, IsReader, same_end}
 
 -- a number of the range
@@ -248,25 +248,25 @@ ended_read low high value most r line only false h = record {
       omega (arith, same, less, within.least);
 }
 
-digit_read : (low high value : ℕ) → high < 2 ^ 64 → 0 < value → value ≤ high → Reached value low high → low ≤ high → (x : ℕ) (xs : List ℕ) (d : IsDigit x) → ((longer : ℕ) → 0 < longer → longer ≤ high → Reached longer low high → Reads decimal (InRange low high) NoDigit SameFirst (decimal longer ++ xs) (digits_at low high longer xs)) → (b : Bool) → reaches most_digits (value * 10 + d.value) low high ≡ b → Reads decimal (InRange low high) NoDigit SameFirst (decimal value ++ x ∷ xs) (going_on (cond b (Some (value * 10 + d.value)) None) (λ longer. digits_at low high longer xs) (number_ends low value (x ∷ xs)))
+digit_read : (low high value : ℕ) → high < 2 ^ 64 → 0 < value → value ≤ high → Reached value low high → low ≤ high → (x : ℕ) (xs : List ℕ) (d : IsDigit x) → ((longer : ℕ) → 0 < longer → longer ≤ high → Reached longer low high → Reads decimal (InRange low high) NoDigit SameFirst (decimal longer ++ xs) (read_digits low high longer xs)) → (b : Bool) → reaches most_digits (value * 10 + d.value) low high ≡ b → Reads decimal (InRange low high) NoDigit SameFirst (decimal value ++ x ∷ xs) (reading_on (cond b (Some (value * 10 + d.value)) None) (λ longer. read_digits low high longer xs) (number_ends low value (x ∷ xs)))
 digit_read low high value fits some most r range x xs d next true h =
     let longer : ℕ = value * 10 + d.value in
     let line : decimal longer ++ xs ≡ decimal value ++ x ∷ xs = ap (λ t. t ++ xs) (one_more value d.value some (omega arith) d.small) ∙ (append_assoc (decimal value) ((48 + d.value) ∷ []) xs ∙ ap (λ g. decimal value ++ g ∷ xs) (sym d.is)) in
-    subst (λ t. Reads decimal (InRange low high) NoDigit SameFirst t (digits_at low high longer xs)) line (next longer (omega arith) (reaches_most most_digits longer low high h) (reached most_digits longer low high (omega arith) range fits h))
+    subst (λ t. Reads decimal (InRange low high) NoDigit SameFirst t (read_digits low high longer xs)) line (next longer (omega arith) (reaches_most most_digits longer low high h) (reached most_digits longer low high (omega arith) range fits h))
 digit_read low high value fits some most r range x xs d next false h =
     ended_read low high value most r (x ∷ xs) (λ w behind z within nothing e agree. absurd (none_longer low high value fits some most x xs d h w behind z within nothing e agree)) (leb low value) refl
 
 -- the digits of a number go on
-digits_read : (low high value : ℕ) → high < 2 ^ 64 → low ≤ high → 0 < value → value ≤ high → Reached value low high → (line : List ℕ) → Reads decimal (InRange low high) NoDigit SameFirst (decimal value ++ line) (digits_at low high value line)
+digits_read : (low high value : ℕ) → high < 2 ^ 64 → low ≤ high → 0 < value → value ≤ high → Reached value low high → (line : List ℕ) → Reads decimal (InRange low high) NoDigit SameFirst (decimal value ++ line) (read_digits low high value line)
 digits_read low high value fits range some most r [] =
     ended_read low high value most r [] (same_here low high value fits most [] refl) (leb low value) refl
 digits_read low high value fits range some most r (x ∷ xs) =
     elim (digit_or_not x) [
       | inl d ↦
-          subst (λ told. Reads decimal (InRange low high) NoDigit SameFirst (decimal value ++ x ∷ xs) (going_on (with_digit low high value told) (λ longer. digits_at low high longer xs) (number_ends low value (x ∷ xs)))) (sym d.told)
+          subst (λ told. Reads decimal (InRange low high) NoDigit SameFirst (decimal value ++ x ∷ xs) (reading_on (with_digit low high value told) (λ longer. read_digits low high longer xs) (number_ends low value (x ∷ xs)))) (sym d.told)
           (digit_read low high value fits some most r range x xs d (λ longer p q s. digits_read low high longer fits range p q s xs) (reaches most_digits (value * 10 + d.value) low high) refl)
       | inr n ↦
-          subst (λ told. Reads decimal (InRange low high) NoDigit SameFirst (decimal value ++ x ∷ xs) (going_on (with_digit low high value told) (λ longer. digits_at low high longer xs) (number_ends low value (x ∷ xs)))) (sym n.told)
+          subst (λ told. Reads decimal (InRange low high) NoDigit SameFirst (decimal value ++ x ∷ xs) (reading_on (with_digit low high value told) (λ longer. read_digits low high longer xs) (number_ends low value (x ∷ xs)))) (sym n.told)
           (ended_read low high value most r (x ∷ xs) (same_here low high value fits most (x ∷ xs) n.is) (leb low value) refl)
     ]
 
@@ -328,33 +328,33 @@ none_begins low high value fits some small rest never w behind (y ∷ z) within 
     let heads : decimal w ≡ decimal value ++ more.0 = more.1 ∙ ap (λ t. t ++ more.0) (sym (decimal_digit value small)) in
     false≢true (sym never ∙ reached_is_said most_digits value low high w some (omega arith) fits (omega (arith, within.most)) (omega arith) within more.0 heads)
 
-first_read : (low high value : ℕ) → high < 2 ^ 64 → low ≤ high → 0 < value → value < 10 → (rest : List ℕ) → (b : Bool) → reaches most_digits value low high ≡ b → Reads decimal (InRange low high) NoDigit SameFirst ((48 + value) ∷ rest) (cond b (digits_at low high value rest) (Err (length ((48 + value) ∷ rest))))
+first_read : (low high value : ℕ) → high < 2 ^ 64 → low ≤ high → 0 < value → value < 10 → (rest : List ℕ) → (b : Bool) → reaches most_digits value low high ≡ b → Reads decimal (InRange low high) NoDigit SameFirst ((48 + value) ∷ rest) (cond b (read_digits low high value rest) (Err (length ((48 + value) ∷ rest))))
 first_read low high value fits range some small rest true h =
-    subst (λ t. Reads decimal (InRange low high) NoDigit SameFirst (t ++ rest) (digits_at low high value rest)) (decimal_digit value small)
+    subst (λ t. Reads decimal (InRange low high) NoDigit SameFirst (t ++ rest) (read_digits low high value rest)) (decimal_digit value small)
     (digits_read low high value fits range some (reaches_most most_digits value low high h) (reached most_digits value low high some range fits h) rest)
 first_read low high value fits range some small rest false h =
     stops_first low high range ((48 + value) ∷ rest) (none_begins low high value fits some small rest h)
 
-behind_read : (low high value : ℕ) → high < 2 ^ 64 → low ≤ high → value < 10 → (rest : List ℕ) → Reads decimal (InRange low high) NoDigit SameFirst ((48 + value) ∷ rest) (number_behind low high (Some value) rest (length ((48 + value) ∷ rest)))
+behind_read : (low high value : ℕ) → high < 2 ^ 64 → low ≤ high → value < 10 → (rest : List ℕ) → Reads decimal (InRange low high) NoDigit SameFirst ((48 + value) ∷ rest) (read_number_behind low high (Some value) rest (length ((48 + value) ∷ rest)))
 behind_read low high zero fits range small rest = nought_read low high fits range rest (eqb low 0) refl
 behind_read low high (suc before) fits range small rest =
     first_read low high (suc before) fits range (omega arith) small rest (reaches most_digits (suc before) low high) refl
 
 -- a number of a range is read, whatever the line is
-pub number_reads : (low high : ℕ) → high < 2 ^ 64 → low ≤ high → (line : List ℕ) → Reads decimal (InRange low high) NoDigit SameFirst line (number_at low high line)
+pub number_reads : (low high : ℕ) → high < 2 ^ 64 → low ≤ high → (line : List ℕ) → Reads decimal (InRange low high) NoDigit SameFirst line (read_number low high line)
 number_reads low high fits range [] =
     stops_first low high range [] (λ w behind z within nothing e agree. false≢true (number_begins low high fits w behind z [] within e agree))
 number_reads low high fits range (x ∷ rest) =
     elim (digit_or_not x) [
       | inl d ↦
-          subst (λ told. Reads decimal (InRange low high) NoDigit SameFirst (x ∷ rest) (number_behind low high told rest (length (x ∷ rest)))) (sym d.told)
-          (subst (λ g. Reads decimal (InRange low high) NoDigit SameFirst (g ∷ rest) (number_behind low high (Some d.value) rest (length (g ∷ rest)))) (sym d.is)
+          subst (λ told. Reads decimal (InRange low high) NoDigit SameFirst (x ∷ rest) (read_number_behind low high told rest (length (x ∷ rest)))) (sym d.told)
+          (subst (λ g. Reads decimal (InRange low high) NoDigit SameFirst (g ∷ rest) (read_number_behind low high (Some d.value) rest (length (g ∷ rest)))) (sym d.is)
           (behind_read low high d.value fits range d.small rest))
       | inr n ↦
-          subst (λ told. Reads decimal (InRange low high) NoDigit SameFirst (x ∷ rest) (number_behind low high told rest (length (x ∷ rest)))) (sym n.told)
+          subst (λ told. Reads decimal (InRange low high) NoDigit SameFirst (x ∷ rest) (read_number_behind low high told rest (length (x ∷ rest)))) (sym n.told)
           (stops_first low high range (x ∷ rest) (λ w behind z within nothing e agree. false≢true (sym n.is ∙ number_begins low high fits w behind z (x ∷ rest) within e agree)))
     ]
 
 -- a number of the range is read
-pub reads_number : (low high : ℕ) → high < 2 ^ 64 → low ≤ high → IsReader decimal (InRange low high) NoDigit SameFirst (number_at low high)
+pub reads_number : (low high : ℕ) → high < 2 ^ 64 → low ≤ high → IsReader decimal (InRange low high) NoDigit SameFirst (read_number low high)
 reads_number low high fits range line a = number_reads low high fits range line

@@ -5,7 +5,7 @@ use Rattle.std.proofs.lemmas.Bool.Decides.{nat_tests}
 use Rattle.std.specs.List.{AllByRecursion}
 use Rattle.apl_arrays.specs.Glyph.{IsGlyph}
 use Rattle.apl_arrays.specs.List.{first_of}
-use Rattle.text_reader.specs.Reading.{Reader, Reading, ◌>>=◌, as_read, literal_at}
+use Rattle.text_reader.specs.Reading.{Reader, Reading, ◌>>=◌, as_read, read_literal}
 
 -- two lines go on with the same glyph, or both end
 abbrev pub SameFirst : List ℕ → List ℕ → Type 0
@@ -147,14 +147,14 @@ another glyph first rest differs e =
     let same : first ≡ glyph = cc in
     grind (arith, nat_tests, same)
 
-pub after_glyph : {E : Type 0} (glyph : ℕ) (front : List ℕ) (text : E → List ℕ) (ok : E → Type 0) (follows : List ℕ → Type 0) (agrees : List ℕ → List ℕ → Type 0) (reader : Reader E) (e : E) → ok e → (first : ℕ) (rest : List ℕ) → Reads (λ e. front ++ text e) ok follows agrees rest (literal_at front rest >>= reader) → (b : Bool) → eqb first glyph ≡ b → Reads (λ e. glyph ∷ (front ++ text e)) ok follows agrees (first ∷ rest) (cond b (literal_at front rest) (Err (length (first ∷ rest))) >>= reader)
+pub after_glyph : {E : Type 0} (glyph : ℕ) (front : List ℕ) (text : E → List ℕ) (ok : E → Type 0) (follows : List ℕ → Type 0) (agrees : List ℕ → List ℕ → Type 0) (reader : Reader E) (e : E) → ok e → (first : ℕ) (rest : List ℕ) → Reads (λ e. front ++ text e) ok follows agrees rest (read_literal front rest >>= reader) → (b : Bool) → eqb first glyph ≡ b → Reads (λ e. glyph ∷ (front ++ text e)) ok follows agrees (first ∷ rest) (cond b (read_literal front rest) (Err (length (first ∷ rest))) >>= reader)
 after_glyph glyph front text ok follows agrees reader e fits first rest is true same =
     let equal : glyph ≡ first = grind (arith, nat_tests, same) in
-    subst (λ c. Reads (λ e. glyph ∷ (front ++ text e)) ok follows agrees (c ∷ rest) (literal_at front rest >>= reader)) equal (behind_glyph glyph (λ e. front ++ text e) ok follows agrees rest (literal_at front rest >>= reader) is)
+    subst (λ c. Reads (λ e. glyph ∷ (front ++ text e)) ok follows agrees (c ∷ rest) (read_literal front rest >>= reader)) equal (behind_glyph glyph (λ e. front ++ text e) ok follows agrees rest (read_literal front rest >>= reader) is)
 after_glyph glyph front text ok follows agrees reader e fits first rest is false same =
     stops_here glyph (λ e. front ++ text e) ok follows e fits (first ∷ rest) (another glyph first rest same)
 
-pub after_text : {E : Type 0} (front : List ℕ) (text : E → List ℕ) (ok : E → Type 0) (follows : List ℕ → Type 0) (agrees : List ℕ → List ℕ → Type 0) (reader : Reader E) (e : E) → ok e → IsReader text ok follows agrees reader → IsReader (λ e. front ++ text e) ok follows agrees (λ line. literal_at front line >>= reader)
+pub after_text : {E : Type 0} (front : List ℕ) (text : E → List ℕ) (ok : E → Type 0) (follows : List ℕ → Type 0) (agrees : List ℕ → List ℕ → Type 0) (reader : Reader E) (e : E) → ok e → IsReader text ok follows agrees reader → IsReader (λ e. front ++ text e) ok follows agrees (λ line. read_literal front line >>= reader)
 after_text [] text ok follows agrees reader e fits is line a = is line a
 after_text (glyph ∷ front) text ok follows agrees reader e fits is [] a =
     stops_here glyph (λ e. front ++ text e) ok follows e fits [] (none_there glyph)

@@ -25,24 +25,24 @@ abbrev pub number_ends : ℕ → ℕ → Reader ℕ
 number_ends low value line = if nat_le low value then Ok (value, line) else Err (length line)
 
 -- the digits go on with a value, or end
-abbrev pub going_on : Option ℕ → (ℕ → Reading ℕ) → Reading ℕ → Reading ℕ
-going_on None next ended = ended
-going_on (Some value) next ended = next value
+abbrev pub reading_on : Option ℕ → (ℕ → Reading ℕ) → Reading ℕ → Reading ℕ
+reading_on None next ended = ended
+reading_on (Some value) next ended = next value
 
 -- what stands behind digits of this value
-abbrev pub digits_at : ℕ → ℕ → ℕ → Reader ℕ
-digits_at low high value [] = number_ends low value []
-digits_at low high value (first ∷ rest) =
-    going_on (with_digit low high value (digit_value first)) (λ longer. digits_at low high longer rest) (number_ends low value (first ∷ rest))
+abbrev pub read_digits : ℕ → ℕ → ℕ → Reader ℕ
+read_digits low high value [] = number_ends low value []
+read_digits low high value (first ∷ rest) =
+    reading_on (with_digit low high value (digit_value first)) (λ longer. read_digits low high longer rest) (number_ends low value (first ∷ rest))
 
 -- a number behind its first digit: no number but 0 begins with 0
-abbrev pub number_behind : ℕ → ℕ → Option ℕ → List ℕ → ℕ → Reading ℕ
-number_behind low high None rest left = Err left
-number_behind low high (Some zero) rest left = if low == 0 then Ok (0, rest) else Err left
-number_behind low high (Some (suc before)) rest left =
-    if reaches most_digits (suc before) low high then digits_at low high (suc before) rest else Err left
+abbrev pub read_number_behind : ℕ → ℕ → Option ℕ → List ℕ → ℕ → Reading ℕ
+read_number_behind low high None rest left = Err left
+read_number_behind low high (Some zero) rest left = if low == 0 then Ok (0, rest) else Err left
+read_number_behind low high (Some (suc before)) rest left =
+    if reaches most_digits (suc before) low high then read_digits low high (suc before) rest else Err left
 
 -- a number of the range
-abbrev pub number_at : ℕ → ℕ → Reader ℕ
-number_at low high [] = Err 0
-number_at low high (first ∷ rest) = number_behind low high (digit_value first) rest (length (first ∷ rest))
+abbrev pub read_number : ℕ → ℕ → Reader ℕ
+read_number low high [] = Err 0
+read_number low high (first ∷ rest) = read_number_behind low high (digit_value first) rest (length (first ∷ rest))

@@ -16,8 +16,8 @@ value_from number [] = number
 value_from number (first ∷ rest) = value_from (number * 10 + (first - digit 0)) rest
 
 -- the number of digits
-abbrev pub value_of : List ℕ → ℕ
-value_of digits = value_from 0 digits
+abbrev pub number_of_digits : List ℕ → ℕ
+number_of_digits digits = value_from 0 digits
 
 -- a number as it is kept: one of more than 64 bits is the greatest of 64
 abbrev pub capped : ℕ → ℕ
@@ -25,17 +25,17 @@ capped number = min number (2 ^ 64 - 1)
 
 -- the number of a word, where it is one
 abbrev pub numeral : List ℕ → Option ℕ
-numeral word = if is_numeral word then Some (capped (value_of word)) else None
+numeral word = if is_numeral word then Some (capped (number_of_digits word)) else None
 
 -- how many digits stand at the front
 abbrev pub digit_span : List ℕ → ℕ
 digit_span line = prefix_len is_digit line
 
 -- a number, where there is one, and what follows it
-abbrev pub counted : Option ℕ → List ℕ → ℕ → Reading ℕ
-counted None rest left = Err left
-counted (Some number) rest left = Ok (number, rest)
+abbrev pub read_counted : Option ℕ → List ℕ → ℕ → Reading ℕ
+read_counted None rest left = Err left
+read_counted (Some number) rest left = Ok (number, rest)
 
 -- the number of all digits that stand at the front
-abbrev pub count_at : Reader ℕ
-count_at line = counted (numeral (take (digit_span line) line)) (drop (digit_span line) line) (length line)
+abbrev pub read_count : Reader ℕ
+read_count line = read_counted (numeral (take (digit_span line) line)) (drop (digit_span line) line) (length line)

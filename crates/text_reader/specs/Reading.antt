@@ -49,17 +49,17 @@ abbrev pub always : List ℕ → Bool
 always line = true
 
 -- so long as a list goes on, at most so many of its items
-unfoldable pub list_at : {A : Type 0} → (List ℕ → Bool) → Reader A → ℕ → Reader (List A)
-list_at goes_on item zero line = Ok ([], line)
-list_at goes_on item (suc most) line =
+unfoldable pub read_list : {A : Type 0} → (List ℕ → Bool) → Reader A → ℕ → Reader (List A)
+read_list goes_on item zero line = Ok ([], line)
+read_list goes_on item (suc most) line =
     if goes_on line then (do
       first ← item line
-      read_behind (first.0 ∷ []) (list_at goes_on item most first.1))
+      read_behind (first.0 ∷ []) (read_list goes_on item most first.1))
     else Ok ([], line)
 
 -- one thing more, where the list goes on
-abbrev pub step_at : {A : Type 0} → (List ℕ → Bool) → Reader A → List A → Reader (List A)
-step_at goes_on item front line =
+abbrev pub read_step : {A : Type 0} → (List ℕ → Bool) → Reader A → List A → Reader (List A)
+read_step goes_on item front line =
     if goes_on line then (item line >>= λ found. Ok (front ++ found.0 ∷ [], found.1)) else Ok (front, line)
 
 -- this glyph stands at the front
@@ -68,10 +68,10 @@ begins_with glyph [] = false
 begins_with glyph (first ∷ rest) = first == glyph
 
 -- what stands behind a fixed text
-abbrev pub literal_at : List ℕ → List ℕ → Result (List ℕ) ℕ
-literal_at [] line = Ok line
-literal_at (glyph ∷ text) [] = Err 0
-literal_at (glyph ∷ text) (first ∷ rest) = if first == glyph then literal_at text rest else Err (length (first ∷ rest))
+abbrev pub read_literal : List ℕ → List ℕ → Result (List ℕ) ℕ
+read_literal [] line = Ok line
+read_literal (glyph ∷ text) [] = Err 0
+read_literal (glyph ∷ text) (first ∷ rest) = if first == glyph then read_literal text rest else Err (length (first ∷ rest))
 
 -- how many glyphs of a fixed text stand at the front, from its first on
 abbrev pub shared_length : List ℕ → List ℕ → ℕ
@@ -84,11 +84,11 @@ abbrev pub name_span : List ℕ → ℕ
 name_span line = min (prefix_len goes_on line) most_name_glyphs
 
 -- a name, as long as it may be
-abbrev pub name_at : Reader (List ℕ)
-name_at line =
+abbrev pub read_name : Reader (List ℕ)
+read_name line =
     if is_name (take (name_span line) line) then Ok (take (name_span line) line, drop (name_span line) line)
     else Err (length line)
 
 -- the name of a file, which all that is left has to be
-abbrev pub file_name_at : Reader (List ℕ)
-file_name_at line = if is_file_name line then Ok (line, []) else Err (length line)
+abbrev pub read_file_name : Reader (List ℕ)
+read_file_name line = if is_file_name line then Ok (line, []) else Err (length line)

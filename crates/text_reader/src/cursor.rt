@@ -1,9 +1,9 @@
 ghost use Rattle.std.specs.Prelude.{◌≡◌, ◌≤◌, All, IfErr, IfOk, OnErr, length};
 ghost use Rattle.apl_arrays.specs.Glyph.{IsGlyph};
 ghost use Rattle.apl_arrays.specs.List.{first_of, others_of};
-ghost use Rattle.text_reader.specs.Reading.{Gives, IsLeft, file_name_at, literal_at, name_at, shared_length};
-ghost use Rattle.text_reader.specs.NumberReading.{number_at};
-ghost use Rattle.text_reader.specs.Numeral.{count_at};
+ghost use Rattle.text_reader.specs.Reading.{Gives, IsLeft, read_file_name, read_literal, read_name, shared_length};
+ghost use Rattle.text_reader.specs.NumberReading.{read_number};
+ghost use Rattle.text_reader.specs.Numeral.{read_count};
 
 use crate::literal::{behind, shared_length};
 use crate::number::number_in;
@@ -38,7 +38,7 @@ fn look_over(line: &[Glyph])
 }
 
 impl<'a> Cursor<'a> {
-    /// A line of which nothing is read yet. No memory.
+    /// A line of which nothing is read yet.
     pub fn new(line: &'a [Glyph]) -> Cursor<'a>
         ensures value { result ≡ line.now }
         ensures glyphs { All IsGlyph line.now }
@@ -47,28 +47,28 @@ impl<'a> Cursor<'a> {
         Cursor { rest: line }
     }
 
-    /// A cursor that stands where this one does. No memory.
+    /// A cursor that stands where this one does.
     pub fn ahead(&self) -> Cursor<'a>
         ensures { result ≡ self.now }
     {
         Cursor { rest: self.rest }
     }
 
-    /// How many glyphs are left. No memory.
+    /// How many glyphs are left.
     pub fn left(&self) -> usize
         ensures { result ≡ length self.now }
     {
         self.rest.len()
     }
 
-    /// That no text goes on as the line does here. No memory.
+    /// That no text goes on as the line does here. It takes no memory.
     pub fn stops(&self) -> Unread
         ensures { result ≡ Unread.Left (length self.now) }
     {
         Unread::Left(self.rest.len())
     }
 
-    /// The next glyph, if there is one. No memory.
+    /// The next glyph, if there is one.
     pub fn first(&self) -> Option<Glyph>
         ensures { result ≡ first_of self.now }
     {
@@ -78,7 +78,7 @@ impl<'a> Cursor<'a> {
         }
     }
 
-    /// The glyph behind the next one, if there is one. No memory.
+    /// The glyph behind the next one, if there is one.
     pub fn second(&self) -> Option<Glyph>
         ensures { result ≡ first_of (others_of self.now) }
     {
@@ -88,7 +88,7 @@ impl<'a> Cursor<'a> {
         }
     }
 
-    /// How many glyphs of a fixed text of ASCII stand here, from its first on. No memory.
+    /// How many glyphs of a fixed text of ASCII stand here, from its first on.
     pub fn shared(&self, text: &[u8]) -> usize
         ensures value { result ≡ shared_length text.now self.now }
         ensures within { result ≤ length self.now }
@@ -96,7 +96,7 @@ impl<'a> Cursor<'a> {
         shared_length(text, self.rest)
     }
 
-    /// Goes on behind the next glyph, if there is one. No memory.
+    /// Goes on behind the next glyph, if there is one.
     pub fn skip(&mut self)
         ensures { self.new ≡ others_of self.old }
     {
@@ -105,9 +105,9 @@ impl<'a> Cursor<'a> {
         }
     }
 
-    /// Reads a fixed text of ASCII. No memory.
+    /// Reads a fixed text of ASCII. It takes no memory.
     pub fn text(&mut self, text: &[u8]) -> Result<(), Unread>
-        ensures value { Gives (λ _. self.new) result (literal_at text.now self.old) }
+        ensures value { Gives (λ _. self.new) result (read_literal text.now self.old) }
         ensures stays { OnErr result (self.new ≡ self.old) }
         ensures free { IfErr result IsLeft }
     {
@@ -116,10 +116,10 @@ impl<'a> Cursor<'a> {
     }
 
     /// Reads a number in decimal digits without a leading zero, from `low` to `high`. It goes on as long as some number
-    /// in this range begins with its digits. No memory.
+    /// in this range begins with its digits. It takes no memory.
     pub fn number(&mut self, low: u64, high: u64) -> Result<u64, Unread>
         requires { low ≤ high }
-        ensures value { Gives (λ number. (number, self.new)) result (number_at low high self.old) }
+        ensures value { Gives (λ number. (number, self.new)) result (read_number low high self.old) }
         ensures stays { OnErr result (self.new ≡ self.old) }
         ensures free { IfErr result IsLeft }
         ensures least { IfOk result (λ number. low ≤ number) }
@@ -131,9 +131,9 @@ impl<'a> Cursor<'a> {
     }
 
     /// Reads a number of any length in decimal digits without a leading zero: all digits that stand there are its own. A
-    /// number past the greatest `u64` is that one. No memory.
+    /// number past the greatest `u64` is that one. It takes no memory.
     pub fn count(&mut self) -> Result<u64, Unread>
-        ensures value { Gives (λ number. (number, self.new)) result (count_at self.old) }
+        ensures value { Gives (λ number. (number, self.new)) result (read_count self.old) }
         ensures stays { OnErr result (self.new ≡ self.old) }
         ensures free { IfErr result IsLeft }
     {
@@ -145,7 +145,7 @@ impl<'a> Cursor<'a> {
     /// Reads the name of a file, which all that is left has to be. It takes memory for the codes of what is left, and
     /// gives it back.
     pub fn file_name(&mut self, alloc: Global) -> Result<FileName, Unread>
-        ensures value { Gives (λ name. (name, self.new)) result (file_name_at self.old) }
+        ensures value { Gives (λ name. (name, self.new)) result (read_file_name self.old) }
         ensures stays { OnErr result (self.new ≡ self.old) }
     {
         let codes = codes_of(alloc, self.rest)?;
@@ -158,9 +158,9 @@ impl<'a> Cursor<'a> {
         }
     }
 
-    /// Reads a name, as long as it may be. No memory.
+    /// Reads a name, as long as it may be. It takes no memory.
     pub fn name(&mut self) -> Result<Name, Unread>
-        ensures value { Gives (λ name. (name, self.new)) result (name_at self.old) }
+        ensures value { Gives (λ name. (name, self.new)) result (read_name self.old) }
         ensures stays { OnErr result (self.new ≡ self.old) }
         ensures free { IfErr result IsLeft }
     {

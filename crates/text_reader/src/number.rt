@@ -1,6 +1,6 @@
 ghost use Rattle.std.specs.Prelude.{◌≡◌, ◌≤◌, IsTrue, IfErr, IfOk, IfSome};
 ghost use Rattle.text_reader.specs.Reading.{Gives, IsLeft};
-ghost use Rattle.text_reader.specs.NumberReading.{reaches, number_ends, with_digit, digits_at, number_at};
+ghost use Rattle.text_reader.specs.NumberReading.{reaches, number_ends, with_digit, read_digits, read_number};
 
 use crate::unread::Unread;
 use apl_arrays::Glyph;
@@ -9,10 +9,10 @@ use apl_arrays::Glyph;
 const DIGIT_LIMIT: u8 = 20;
 
 /// The number at the front of a line, in decimal digits without a leading zero, from `low` to `high`; and what follows
-/// it. It goes on as long as some number in this range begins with its digits. No memory.
+/// it. It goes on as long as some number in this range begins with its digits. It takes no memory.
 pub(crate) fn number_in(low: u64, high: u64, glyphs: &[Glyph]) -> Result<(u64, &[Glyph]), Unread>
     requires { low ≤ high }
-    ensures value { Gives (λ found. (found.0, found.1.now)) result (number_at low high glyphs.now) }
+    ensures value { Gives (λ found. (found.0, found.1.now)) result (read_number low high glyphs.now) }
     ensures free { IfErr result IsLeft }
     ensures least { IfOk result (λ found. low ≤ found.0) }
     ensures most { IfOk result (λ found. found.0 ≤ high) }
@@ -43,7 +43,7 @@ pub(crate) fn number_in(low: u64, high: u64, glyphs: &[Glyph]) -> Result<(u64, &
 // The number in the range whose digits so far have this value, which begins one, and what follows it.
 fn digits_in(low: u64, high: u64, value: u64, glyphs: &[Glyph]) -> Result<(u64, &[Glyph]), Unread>
     requires { value ≤ high }
-    ensures value { Gives (λ found. (found.0, found.1.now)) result (digits_at low high value glyphs.now) }
+    ensures value { Gives (λ found. (found.0, found.1.now)) result (read_digits low high value glyphs.now) }
     ensures free { IfErr result IsLeft }
     ensures least { IfOk result (λ found. low ≤ found.0) }
     ensures most { IfOk result (λ found. found.0 ≤ high) }

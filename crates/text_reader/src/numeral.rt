@@ -2,7 +2,7 @@ ghost use Rattle.std.specs.Prelude.{◌≡◌, IfErr, IfOk, if◌then◌else◌,
 ghost use Rattle.std.specs.List.{list_all};
 ghost use Rattle.apl_arrays.specs.Glyph.{digit_value, is_digit};
 ghost use Rattle.text_reader.specs.Reading.{Gives, IsLeft};
-ghost use Rattle.text_reader.specs.Numeral.{capped, count_at, numeral, value_of};
+ghost use Rattle.text_reader.specs.Numeral.{capped, read_count, numeral, number_of_digits};
 
 use crate::unread::Unread;
 use apl_arrays::{Glyph, WantOfMemory, digit_count};
@@ -18,7 +18,7 @@ fn digit(glyph: Glyph) -> Option<u64>
 
 // The number that digits are, the greatest `u64` where it is past that.
 fn value_of(digits: &[Glyph]) -> Option<u64>
-    ensures { result ≡ (if list_all is_digit digits.now then Some (capped (value_of digits.now)) else None) }
+    ensures { result ≡ (if list_all is_digit digits.now then Some (capped (number_of_digits digits.now)) else None) }
 {
     let mut value: u64 = 0;
     for glyph in digits {
@@ -39,9 +39,9 @@ fn number_of(word: &[Glyph]) -> Option<u64>
 }
 
 /// The number of all digits at the front of a line, without a leading zero, and what follows them. A number past the
-/// greatest `u64` is that one. No memory.
+/// greatest `u64` is that one. It takes no memory.
 pub(crate) fn numeral_in(glyphs: &[Glyph]) -> Result<(u64, &[Glyph]), Unread>
-    ensures value { Gives (λ found. (found.0, found.1.now)) result (count_at glyphs.now) }
+    ensures value { Gives (λ found. (found.0, found.1.now)) result (read_count glyphs.now) }
     ensures free { IfErr result IsLeft }
 {
     let (digits, rest) = glyphs.split_at(digit_count(glyphs));

@@ -19,7 +19,7 @@ impl Log {
         })
     }
 
-    /// Adds an entry where there is room, and says whether there was. It takes no memory.
+    /// Adds an entry where there is room, and says whether there was.
     pub fn add(&mut self, party: u32) -> bool
         ensures added { result ≡ true → self.new.parties.items ≡ self.old.parties.items ++ party ∷ [] }
         ensures full { result ≡ false → self.new.parties.items ≡ self.old.parties.items }

@@ -1,5 +1,5 @@
 ghost use Rattle.std.specs.Prelude.{◌≡◌, [], IfSome};
-ghost use Rattle.ws_commands.specs.Finish.{MayComeIn, brought};
+ghost use Rattle.ws_commands.specs.Finish.{MayComeIn, workspace_brought};
 ghost use Rattle.ws_commands.specs.Todo.{given_up, plain_change};
 
 use anyhow::{Result, ensure};
@@ -57,7 +57,7 @@ impl Desk {
     // Does what is to be done for a command, and tells it.
     fn finish(&mut self, todo: Todo) -> Result<String>
         requires retract { todo.retract.items ≡ given_up (plain_change todo.change) self.old.ws }
-        requires comes { IfSome (brought (plain_change todo.change)) (MayComeIn self.old.ws) }
+        requires comes { IfSome (workspace_brought (plain_change todo.change)) (MayComeIn self.old.ws) }
     {
         match told_at_last(self.alloc, &todo) {
             Ok(text) => self.make(todo, text),
@@ -71,7 +71,7 @@ impl Desk {
     // Makes what is to be done, of which this is told. Where it ends the session, that is told too.
     fn make(&mut self, todo: Todo, told: String) -> Result<String>
         requires retract { todo.retract.items ≡ given_up (plain_change todo.change) self.old.ws }
-        requires comes { IfSome (brought (plain_change todo.change)) (MayComeIn self.old.ws) }
+        requires comes { IfSome (workspace_brought (plain_change todo.change)) (MayComeIn self.old.ws) }
     {
         let Todo {
             retract,
@@ -90,7 +90,7 @@ impl Desk {
     // Takes names back, and makes the change. Whether it ends the session.
     fn change(&mut self, names: &[Name], change: Change) -> bool
         requires retract { names.now ≡ given_up (plain_change change) self.old.ws }
-        requires comes { IfSome (brought (plain_change change)) (MayComeIn self.old.ws) }
+        requires comes { IfSome (workspace_brought (plain_change change)) (MayComeIn self.old.ws) }
     {
         take_back(&change, &mut self.ws, names);
         finish(self.alloc, change, &mut self.ws, &mut self.id)

@@ -9,8 +9,8 @@ use mir.ValLaws.{of_z_fits, to_z-Fits, of_z-to_z, to_z-of_z}
 use Rattle.byteorder.specs.Endian.{big_bytes, big_from, big_number}
 use Rattle.byteorder.specs.Numbers.{big_from-lt, big_number-reads_back, length-bytes_high_first}
 use Rattle.apl_arrays.specs.Name.{is_name}
-use Rattle.ws_codec.specs.Fields.{byte_at, bytes_at, cut, glyphs_at, integer_at, is_code, name_at, name_of_codes, number_at}
-use Rattle.ws_codec.specs.Reading.{Reading, ◌>>=◌, keeps, known}
+use Rattle.ws_codec.specs.Fields.{read_byte, read_bytes, cut, read_glyphs, read_integer, is_code, read_name, name_of_codes, read_number}
+use Rattle.ws_codec.specs.Reading.{Reading, ◌>>=◌, keeps, required}
 use Rattle.ws_codec.specs.SavedText.{name_bytes}
 use Rattle.ws_codec.specs.Sound.{AreBytes}
 use Rattle.ws_codec.specs.declared.saved.SavedRule.TheVariants.{Glyph, Name}
@@ -19,12 +19,12 @@ use Rattle.ws_codec.proofs.Told.{after_keeps, after_known, bind_ok, same_behind,
 
 -- a byte
 
-pub byte_there : (byte : ℕ) (rest : List ℕ) → byte_at (byte ∷ rest) ≡ Ok (byte, rest)
-unfolding byte_at
+pub byte_there : (byte : ℕ) (rest : List ℕ) → read_byte (byte ∷ rest) ≡ Ok (byte, rest)
+unfolding read_byte
 byte_there byte rest = refl
 
-pub byte_back : (bytes : List ℕ) (byte : ℕ) (rest : List ℕ) → byte_at bytes ≡ Ok (byte, rest) → bytes ≡ byte ∷ rest
-unfolding byte_at
+pub byte_back : (bytes : List ℕ) (byte : ℕ) (rest : List ℕ) → read_byte bytes ≡ Ok (byte, rest) → bytes ≡ byte ∷ rest
+unfolding read_byte
 byte_back [] byte rest e = absurd (let none : ⊥ = cc in none)
 byte_back (x ∷ xs) byte rest e =
     let first = same_first x xs byte rest e in
@@ -33,8 +33,8 @@ byte_back (x ∷ xs) byte rest e =
 
 -- bytes
 
-pub bytes_there : (count : ℕ) (xs rest : List ℕ) → length xs ≡ count → bytes_at count (xs ++ rest) ≡ Ok (xs, rest)
-unfolding bytes_at
+pub bytes_there : (count : ℕ) (xs rest : List ℕ) → length xs ≡ count → read_bytes count (xs ++ rest) ≡ Ok (xs, rest)
+unfolding read_bytes
 bytes_there count xs rest len =
     let fits : nat_le (length xs) (length (xs ++ rest)) ≡ true = le-leb (length xs) (length (xs ++ rest)) (omega (arith, length-append xs rest)) in
     rw (← len, fits, take-append_seam xs rest, drop-append_seam xs rest) refl
@@ -48,14 +48,14 @@ bytes_by count bytes xs rest true fits e =
     )
 bytes_by count bytes xs rest false fits e = absurd (let none : ⊥ = cc in none)
 
-pub bytes_back : (count : ℕ) (bytes xs rest : List ℕ) → bytes_at count bytes ≡ Ok (xs, rest) → (length xs ≡ count) × (bytes ≡ xs ++ rest)
-unfolding bytes_at
+pub bytes_back : (count : ℕ) (bytes xs rest : List ℕ) → read_bytes count bytes ≡ Ok (xs, rest) → (length xs ≡ count) × (bytes ≡ xs ++ rest)
+unfolding read_bytes
 bytes_back count bytes xs rest e = bytes_by count bytes xs rest (nat_le count (length bytes)) refl e
 
 -- numbers
 
-pub number_there : (count number : ℕ) (rest : List ℕ) → number < 256 ^ count → number_at count (big_bytes count number ++ rest) ≡ Ok (number, rest)
-unfolding number_at
+pub number_there : (count number : ℕ) (rest : List ℕ) → number < 256 ^ count → read_number count (big_bytes count number ++ rest) ≡ Ok (number, rest)
+unfolding read_number
 number_there count number rest fits =
     let field = bytes_there count (big_bytes count number) rest (length-bytes_high_first count number) in
     let again : big_number count (big_bytes count number) ≡ number = ap (big_from 0 count) (sym (append-nil (big_bytes count number))) ∙ big_number-reads_back count number [] fits in
@@ -66,10 +66,10 @@ told_number : (count : ℕ) (xs : List ℕ) → length xs ≡ count → AreBytes
 told_number count xs len are =
     (big_from-lt 0 count xs (byte_below xs are), subst (λ (n : ℕ). big_bytes n (big_number n xs) ≡ xs) len (bytes_again xs are))
 
-pub number_back : (count : ℕ) (bytes : List ℕ) (number : ℕ) (rest : List ℕ) → AreBytes bytes → number_at count bytes ≡ Ok (number, rest) → (number < 256 ^ count) × (bytes ≡ big_bytes count number ++ rest)
-unfolding number_at
+pub number_back : (count : ℕ) (bytes : List ℕ) (number : ℕ) (rest : List ℕ) → AreBytes bytes → read_number count bytes ≡ Ok (number, rest) → (number < 256 ^ count) × (bytes ≡ big_bytes count number ++ rest)
+unfolding read_number
 number_back count bytes number rest are e =
-    let first = bind_ok (bytes_at count bytes) (λ field. tell (big_number count field.0) field.1) (number, rest) e in
+    let first = bind_ok (read_bytes count bytes) (λ field. tell (big_number count field.0) field.1) (number, rest) e in
     let field = bytes_back count bytes first.0.0 first.0.1 first.1 in
     let told = told_number count first.0.0 field.0 (front_bytes first.0.0 first.0.1 (subst AreBytes field.1 are)) in
     let same = same_first (big_number count first.0.0) first.0.1 number rest first.2 in
@@ -83,8 +83,8 @@ number_back count bytes number rest are e =
 unsigned_fits : (number : ℤ) → FitsSigned w64 number → cast_unsigned w64 number < 256 ^ 8
 unsigned_fits number fits = (of_z_fits w64 number fits).fits
 
-pub integer_there : (number : ℤ) (rest : List ℕ) → FitsSigned w64 number → integer_at (big_bytes 8 (cast_unsigned w64 number) ++ rest) ≡ Ok (number, rest)
-unfolding integer_at
+pub integer_there : (number : ℤ) (rest : List ℕ) → FitsSigned w64 number → read_integer (big_bytes 8 (cast_unsigned w64 number) ++ rest) ≡ Ok (number, rest)
+unfolding read_integer
 integer_there number rest fits =
     let field = bytes_there 8 (big_bytes 8 (cast_unsigned w64 number)) rest (length-bytes_high_first 8 (cast_unsigned w64 number)) in
     let again : big_number 8 (big_bytes 8 (cast_unsigned w64 number)) ≡ cast_unsigned w64 number =
@@ -92,10 +92,10 @@ integer_there number rest fits =
     ap (λ (r : Reading (List ℕ)). r >>= λ found. tell (cast_signed w64 (big_number 8 found.0)) found.1) field
     ∙ ap (λ (n : ℤ). tell n rest) (ap (cast_signed w64) again ∙ to_z-of_z w64 number fits)
 
-pub integer_back : (bytes : List ℕ) (number : ℤ) (rest : List ℕ) → AreBytes bytes → integer_at bytes ≡ Ok (number, rest) → FitsSigned w64 number × (bytes ≡ big_bytes 8 (cast_unsigned w64 number) ++ rest)
-unfolding integer_at
+pub integer_back : (bytes : List ℕ) (number : ℤ) (rest : List ℕ) → AreBytes bytes → read_integer bytes ≡ Ok (number, rest) → FitsSigned w64 number × (bytes ≡ big_bytes 8 (cast_unsigned w64 number) ++ rest)
+unfolding read_integer
 integer_back bytes number rest are e =
-    let first = bind_ok (bytes_at 8 bytes) (λ field. tell (cast_signed w64 (big_number 8 field.0)) field.1) (number, rest) e in
+    let first = bind_ok (read_bytes 8 bytes) (λ field. tell (cast_signed w64 (big_number 8 field.0)) field.1) (number, rest) e in
     let field = bytes_back 8 bytes first.0.0 first.0.1 first.1 in
     let told = told_number 8 first.0.0 field.0 (front_bytes first.0.0 first.0.1 (subst AreBytes field.1 are)) in
     let fits : Fits w64 (big_number 8 first.0.0) = record { fits = told.0 } in
@@ -108,14 +108,14 @@ integer_back bytes number rest are e =
 
 -- codes of glyphs
 
-pub glyphs_there : (count : ℕ) (xs rest : List ℕ) → length xs ≡ count → list_all is_code xs ≡ true → glyphs_at count (xs ++ rest) ≡ Ok (xs, rest)
-unfolding glyphs_at keeps
+pub glyphs_there : (count : ℕ) (xs rest : List ℕ) → length xs ≡ count → list_all is_code xs ≡ true → read_glyphs count (xs ++ rest) ≡ Ok (xs, rest)
+unfolding read_glyphs keeps
 glyphs_there count xs rest len coded = rw (bytes_there count xs rest len, coded) refl
 
-pub glyphs_back : (count : ℕ) (bytes xs rest : List ℕ) → glyphs_at count bytes ≡ Ok (xs, rest) → (length xs ≡ count) × (list_all is_code xs ≡ true) × (bytes ≡ xs ++ rest)
-unfolding glyphs_at
+pub glyphs_back : (count : ℕ) (bytes xs rest : List ℕ) → read_glyphs count bytes ≡ Ok (xs, rest) → (length xs ≡ count) × (list_all is_code xs ≡ true) × (bytes ≡ xs ++ rest)
+unfolding read_glyphs
 glyphs_back count bytes xs rest e =
-    let first = bind_ok (bytes_at count bytes) (λ field. keeps (list_all is_code field.0) Glyph (length bytes - prefix_len is_code field.0) >>= λ coded. tell field.0 field.1) (xs, rest) e in
+    let first = bind_ok (read_bytes count bytes) (λ field. keeps (list_all is_code field.0) Glyph (length bytes - prefix_len is_code field.0) >>= λ coded. tell field.0 field.1) (xs, rest) e in
     let field = bytes_back count bytes first.0.0 first.0.1 first.1 in
     let coded = after_keeps (list_all is_code first.0.0) Glyph (length bytes - prefix_len is_code first.0.0) (λ coded. tell first.0.0 first.0.1) (xs, rest) first.2 in
     let same = same_first first.0.0 first.0.1 xs rest coded.1 in
@@ -124,19 +124,19 @@ glyphs_back count bytes xs rest e =
 
 -- names
 
-pub name_there : (name rest : List ℕ) → is_name name ≡ true → name_at (name_bytes name ++ rest) ≡ Ok (name, rest)
-unfolding name_at byte_at known
+pub name_there : (name rest : List ℕ) → is_name name ≡ true → read_name (name_bytes name ++ rest) ≡ Ok (name, rest)
+unfolding read_name read_byte required
 name_there name rest is = rw (bytes_there (length name) name rest refl, is) refl
 
 name_by : (bytes name : List ℕ) (b : Bool) → is_name bytes ≡ b → (if b then Some bytes else None) ≡ Some name → (is_name name ≡ true) × (bytes ≡ name)
 name_by bytes name true is e = let same : bytes ≡ name = cc in (ap is_name (sym same) ∙ is, same)
 name_by bytes name false is e = absurd (let none : ⊥ = cc in none)
 
-pub name_back : (bytes name rest : List ℕ) → name_at bytes ≡ Ok (name, rest) → (is_name name ≡ true) × (bytes ≡ name_bytes name ++ rest)
-unfolding name_at
+pub name_back : (bytes name rest : List ℕ) → read_name bytes ≡ Ok (name, rest) → (is_name name ≡ true) × (bytes ≡ name_bytes name ++ rest)
+unfolding read_name
 name_back bytes name rest e =
-    let first = bind_ok (byte_at bytes) (λ count. bytes_at count.0 count.1 >>= λ field. known (name_of_codes field.0) Name (length bytes) >>= λ found. tell found field.1) (name, rest) e in
-    let second = bind_ok (bytes_at first.0.0 first.0.1) (λ field. known (name_of_codes field.0) Name (length bytes) >>= λ found. tell found field.1) (name, rest) first.2 in
+    let first = bind_ok (read_byte bytes) (λ count. read_bytes count.0 count.1 >>= λ field. required (name_of_codes field.0) Name (length bytes) >>= λ found. tell found field.1) (name, rest) e in
+    let second = bind_ok (read_bytes first.0.0 first.0.1) (λ field. required (name_of_codes field.0) Name (length bytes) >>= λ found. tell found field.1) (name, rest) first.2 in
     let third = after_known (name_of_codes second.0.0) Name (length bytes) (λ found. tell found second.0.1) (name, rest) second.2 in
     let one = byte_back bytes first.0.0 first.0.1 first.1 in
     let field = bytes_back first.0.0 first.0.1 second.0.0 second.0.1 second.1 in

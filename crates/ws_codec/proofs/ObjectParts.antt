@@ -9,15 +9,15 @@ use Rattle.apl_workspace.specs.Function.{PlainFunction}
 use Rattle.apl_workspace.specs.Meaning.{NameTable, table_weight}
 use Rattle.apl_workspace.specs.declared.meaning.Meaning.{Meaning}
 use Rattle.apl_workspace.specs.declared.meaning.Meaning.TheVariants.{Nothing, Value, Function, Label, Shared}
-use Rattle.ws_codec.specs.Fields.{byte_at, name_at, number_at}
-use Rattle.ws_codec.specs.Functions.{function_at}
-use Rattle.ws_codec.specs.Objects.{is_above, kind_at, kind_of, last_name, meaning_at, next_object, object_behind, objects_at}
-use Rattle.ws_codec.specs.Reading.{◌>>=◌, keeps, known, repeated}
+use Rattle.ws_codec.specs.Fields.{read_byte, read_name, read_number}
+use Rattle.ws_codec.specs.Functions.{read_function}
+use Rattle.ws_codec.specs.Objects.{is_above, read_kind, kind_of_byte, last_name, read_meaning, read_next_object, object_behind, read_objects}
+use Rattle.ws_codec.specs.Reading.{◌>>=◌, keeps, required, repeated}
 use Rattle.ws_codec.specs.SavedText.{array_bytes, function_bytes, name_bytes, object_bytes, objects_bytes}
 use Rattle.ws_codec.specs.Sound.{AreBytes, Follow, IsMeaning, IsObject}
-use Rattle.ws_codec.specs.Values.{char_array_at, number_array_at}
-use Rattle.ws_codec.specs.declared.kind.Kind.{Kind}
-use Rattle.ws_codec.specs.declared.kind.Kind.TheVariants.{Numbers, Chars, Defined}
+use Rattle.ws_codec.specs.Values.{read_char_array, read_number_array}
+use Rattle.ws_codec.specs.declared.kind.ObjectKind.{ObjectKind}
+use Rattle.ws_codec.specs.declared.kind.ObjectKind.TheVariants.{Numbers, Chars, Defined}
 use Rattle.ws_codec.specs.declared.saved.SavedRule.TheVariants.{Kind as KindRule, Order}
 use Rattle.ws_codec.proofs.FieldParts.{byte_back, name_back, name_there, number_back, number_there}
 use Rattle.ws_codec.proofs.FunctionParts.{function_back, function_there}
@@ -31,7 +31,7 @@ abbrev bytes_of_object : List ℕ × Meaning → List ℕ
 bytes_of_object object = object_bytes object.0 object.1
 
 value_there : (front : NameTable) (name shape : List ℕ) (items : PlainItems) (rest : List ℕ) → IsObject front (name, Value (record { shape = shape; items = items })) → object_behind front (object_bytes name (Value (record { shape = shape; items = items })) ++ rest) ≡ Ok ((name, Value (record { shape = shape; items = items })), rest)
-unfolding object_behind kind_at byte_at known keeps meaning_at
+unfolding object_behind read_kind read_byte required keeps read_meaning
 value_there front name shape (numbers list) rest h =
     rw (
       append_assoc (name_bytes name) (array_bytes (record { shape = shape; items = numbers list })) rest,
@@ -48,7 +48,7 @@ value_there front name shape (chars list) rest h =
     ) refl
 
 defined_there : (front : NameTable) (name : List ℕ) (function : PlainFunction) (rest : List ℕ) → IsObject front (name, Function function) → object_behind front (object_bytes name (Function function) ++ rest) ≡ Ok ((name, Function function), rest)
-unfolding object_behind kind_at byte_at known keeps meaning_at
+unfolding object_behind read_kind read_byte required keeps read_meaning
 defined_there front name function rest h =
     rw (
       append_assoc (name_bytes name) (function_bytes function) rest,
@@ -69,47 +69,47 @@ objects_there_one front object rest h = object_there front object.0 object.1 res
 
 -- kinds
 
-pub byte_of_kind : Kind → ℕ
+pub byte_of_kind : ObjectKind → ℕ
 byte_of_kind Numbers = 1
 byte_of_kind Chars = 2
 byte_of_kind Defined = 3
 
-third_kind : (byte : ℕ) (kind : Kind) (b : Bool) → eqb byte 3 ≡ b → (if b then Some Defined else None) ≡ Some kind → byte ≡ byte_of_kind kind
+third_kind : (byte : ℕ) (kind : ObjectKind) (b : Bool) → eqb byte 3 ≡ b → (if b then Some Defined else None) ≡ Some kind → byte ≡ byte_of_kind kind
 unfolding byte_of_kind
-third_kind byte kind true is e = subst (λ (k : Kind). byte ≡ byte_of_kind k) (let same : Defined ≡ kind = cc in same) (eqb-true byte 3 is)
+third_kind byte kind true is e = subst (λ (k : ObjectKind). byte ≡ byte_of_kind k) (let same : Defined ≡ kind = cc in same) (eqb-true byte 3 is)
 third_kind byte kind false is e = absurd (let none : ⊥ = cc in none)
 
-second_kind : (byte : ℕ) (kind : Kind) (b : Bool) → eqb byte 2 ≡ b → (if b then Some Chars else if eqb byte 3 then Some Defined else None) ≡ Some kind → byte ≡ byte_of_kind kind
+second_kind : (byte : ℕ) (kind : ObjectKind) (b : Bool) → eqb byte 2 ≡ b → (if b then Some Chars else if eqb byte 3 then Some Defined else None) ≡ Some kind → byte ≡ byte_of_kind kind
 unfolding byte_of_kind
-second_kind byte kind true is e = subst (λ (k : Kind). byte ≡ byte_of_kind k) (let same : Chars ≡ kind = cc in same) (eqb-true byte 2 is)
+second_kind byte kind true is e = subst (λ (k : ObjectKind). byte ≡ byte_of_kind k) (let same : Chars ≡ kind = cc in same) (eqb-true byte 2 is)
 second_kind byte kind false is e = third_kind byte kind (eqb byte 3) refl e
 
-first_kind : (byte : ℕ) (kind : Kind) (b : Bool) → eqb byte 1 ≡ b → (if b then Some Numbers else if eqb byte 2 then Some Chars else if eqb byte 3 then Some Defined else None) ≡ Some kind → byte ≡ byte_of_kind kind
+first_kind : (byte : ℕ) (kind : ObjectKind) (b : Bool) → eqb byte 1 ≡ b → (if b then Some Numbers else if eqb byte 2 then Some Chars else if eqb byte 3 then Some Defined else None) ≡ Some kind → byte ≡ byte_of_kind kind
 unfolding byte_of_kind
-first_kind byte kind true is e = subst (λ (k : Kind). byte ≡ byte_of_kind k) (let same : Numbers ≡ kind = cc in same) (eqb-true byte 1 is)
+first_kind byte kind true is e = subst (λ (k : ObjectKind). byte ≡ byte_of_kind k) (let same : Numbers ≡ kind = cc in same) (eqb-true byte 1 is)
 first_kind byte kind false is e = second_kind byte kind (eqb byte 2) refl e
 
-kind_back : (bytes : List ℕ) (kind : Kind) (rest : List ℕ) → kind_at bytes ≡ Ok (kind, rest) → bytes ≡ byte_of_kind kind ∷ rest
-unfolding kind_at
+kind_back : (bytes : List ℕ) (kind : ObjectKind) (rest : List ℕ) → read_kind bytes ≡ Ok (kind, rest) → bytes ≡ byte_of_kind kind ∷ rest
+unfolding read_kind
 kind_back bytes kind rest e =
-    let first = bind_ok (byte_at bytes) (λ byte. known (kind_of byte.0) KindRule (length bytes) >>= λ found. tell found byte.1) (kind, rest) e in
-    let found = after_known (kind_of first.0.0) KindRule (length bytes) (λ found. tell found first.0.1) (kind, rest) first.2 in
+    let first = bind_ok (read_byte bytes) (λ byte. required (kind_of_byte byte.0) KindRule (length bytes) >>= λ found. tell found byte.1) (kind, rest) e in
+    let found = after_known (kind_of_byte first.0.0) KindRule (length bytes) (λ found. tell found first.0.1) (kind, rest) first.2 in
     let same = same_first found.0 first.0.1 kind rest found.2 in
     let behind = same_behind found.0 first.0.1 kind rest found.2 in
     let byte : first.0.0 ≡ byte_of_kind kind = first_kind first.0.0 found.0 (eqb first.0.0 1) refl found.1 ∙ ap byte_of_kind same in
     byte_back bytes first.0.0 first.0.1 first.1 ∙ (λ i. byte i ∷ behind i)
 
 -- what was read as what an object is
-pub record IsMeaningOf (kind : Kind) (name : List ℕ) (weight : ℕ) (bytes : List ℕ) (object : List ℕ × Meaning) (rest : List ℕ) : Type 0 where
+pub record IsMeaningOf (kind : ObjectKind) (name : List ℕ) (weight : ℕ) (bytes : List ℕ) (object : List ℕ × Meaning) (rest : List ℕ) : Type 0 where
   pub named : object.0 ≡ name
   pub meaning : IsMeaning name weight object.1
   pub spelled : byte_of_kind kind ∷ (name_bytes name ++ bytes) ≡ object_bytes name object.1 ++ rest
 
-told_object : (kind : Kind) (name : List ℕ) (weight : ℕ) (bytes : List ℕ) (meaning : Meaning) (behind : List ℕ) (object : List ℕ × Meaning) (rest : List ℕ) → IsMeaningOf kind name weight bytes (name, meaning) behind → tell (name, meaning) behind ≡ tell object rest → IsMeaningOf kind name weight bytes object rest
+told_object : (kind : ObjectKind) (name : List ℕ) (weight : ℕ) (bytes : List ℕ) (meaning : Meaning) (behind : List ℕ) (object : List ℕ × Meaning) (rest : List ℕ) → IsMeaningOf kind name weight bytes (name, meaning) behind → tell (name, meaning) behind ≡ tell object rest → IsMeaningOf kind name weight bytes object rest
 told_object kind name weight bytes meaning behind object rest h e =
     subst (λ (o : List ℕ × Meaning). IsMeaningOf kind name weight bytes o rest) (same_first (name, meaning) behind object rest e) (subst (IsMeaningOf kind name weight bytes (name, meaning)) (same_behind (name, meaning) behind object rest e) h)
 
-value_back : (kind : Kind) (name : List ℕ) (weight : ℕ) (bytes : List ℕ) (value : PlainArray) (rest : List ℕ) → IsVariableOf (byte_of_kind kind) weight bytes value rest → IsMeaningOf kind name weight bytes (name, Value value) rest
+value_back : (kind : ObjectKind) (name : List ℕ) (weight : ℕ) (bytes : List ℕ) (value : PlainArray) (rest : List ℕ) → IsVariableOf (byte_of_kind kind) weight bytes value rest → IsMeaningOf kind name weight bytes (name, Value value) rest
 value_back kind name weight bytes value rest h =
     let tail : name_bytes name ++ bytes ≡ (name_bytes name ++ array_bytes value) ++ rest = ap (λ (t : List ℕ). name_bytes name ++ t) h.spelled ∙ sym (append_assoc (name_bytes name) (array_bytes value) rest) in
     record {
@@ -118,16 +118,16 @@ value_back kind name weight bytes value rest h =
       spelled = λ i. sym h.of_kind i ∷ tail i;
     }
 
-meaning_back : (kind : Kind) (name : List ℕ) (weight : ℕ) (bytes : List ℕ) (object : List ℕ × Meaning) (rest : List ℕ) → AreBytes bytes → meaning_at kind name weight bytes ≡ Ok (object, rest) → IsMeaningOf kind name weight bytes object rest
-unfolding meaning_at byte_of_kind
+meaning_back : (kind : ObjectKind) (name : List ℕ) (weight : ℕ) (bytes : List ℕ) (object : List ℕ × Meaning) (rest : List ℕ) → AreBytes bytes → read_meaning kind name weight bytes ≡ Ok (object, rest) → IsMeaningOf kind name weight bytes object rest
+unfolding read_meaning byte_of_kind
 meaning_back Numbers name weight bytes object rest are e =
-    let first = bind_ok (number_array_at weight bytes) (λ found. tell (name, Value found.0) found.1) (object, rest) e in
+    let first = bind_ok (read_number_array weight bytes) (λ found. tell (name, Value found.0) found.1) (object, rest) e in
     told_object Numbers name weight bytes (Value first.0.0) first.0.1 object rest (value_back Numbers name weight bytes first.0.0 first.0.1 (number_array_back weight bytes first.0.0 first.0.1 are first.1)) first.2
 meaning_back Chars name weight bytes object rest are e =
-    let first = bind_ok (char_array_at weight bytes) (λ found. tell (name, Value found.0) found.1) (object, rest) e in
+    let first = bind_ok (read_char_array weight bytes) (λ found. tell (name, Value found.0) found.1) (object, rest) e in
     told_object Chars name weight bytes (Value first.0.0) first.0.1 object rest (value_back Chars name weight bytes first.0.0 first.0.1 (char_array_back weight bytes first.0.0 first.0.1 are first.1)) first.2
 meaning_back Defined name weight bytes object rest are e =
-    let first = bind_ok (function_at name weight bytes) (λ found. tell (name, Function found.0) found.1) (object, rest) e in
+    let first = bind_ok (read_function name weight bytes) (λ found. tell (name, Function found.0) found.1) (object, rest) e in
     let read = function_back name weight bytes first.0.0 first.0.1 are first.1 in
     let made : IsMeaningOf Defined name weight bytes (name, Function first.0.0) first.0.1 = record {
       named = refl;
@@ -139,9 +139,9 @@ meaning_back Defined name weight bytes object rest are e =
 objects_back_one : IsBack object_behind bytes_of_object IsObject
 unfolding object_behind
 objects_back_one front bytes object rest are e =
-    let kind = bind_ok (kind_at bytes) (λ kind. name_at kind.1 >>= λ name. keeps (is_above (last_name front) name.0) Order (length kind.1) >>= λ above. meaning_at kind.0 name.0 (table_weight front) name.1) (object, rest) e in
-    let name = bind_ok (name_at kind.0.1) (λ name. keeps (is_above (last_name front) name.0) Order (length kind.0.1) >>= λ above. meaning_at kind.0.0 name.0 (table_weight front) name.1) (object, rest) kind.2 in
-    let above = after_keeps (is_above (last_name front) name.0.0) Order (length kind.0.1) (λ above. meaning_at kind.0.0 name.0.0 (table_weight front) name.0.1) (object, rest) name.2 in
+    let kind = bind_ok (read_kind bytes) (λ kind. read_name kind.1 >>= λ name. keeps (is_above (last_name front) name.0) Order (length kind.1) >>= λ above. read_meaning kind.0 name.0 (table_weight front) name.1) (object, rest) e in
+    let name = bind_ok (read_name kind.0.1) (λ name. keeps (is_above (last_name front) name.0) Order (length kind.0.1) >>= λ above. read_meaning kind.0.0 name.0 (table_weight front) name.1) (object, rest) kind.2 in
+    let above = after_keeps (is_above (last_name front) name.0.0) Order (length kind.0.1) (λ above. read_meaning kind.0.0 name.0.0 (table_weight front) name.0.1) (object, rest) name.2 in
     let byte = kind_back bytes kind.0.0 kind.0.1 kind.1 in
     let known_as = name_back kind.0.1 name.0.0 name.0.1 name.1 in
     let left = rest_bytes (name_bytes name.0.0) name.0.1 (subst AreBytes known_as.1 ((subst AreBytes byte are).1)) in
@@ -156,8 +156,8 @@ objects_back_one front bytes object rest are e =
 
 -- all objects
 
-pub objects_there : (table : NameTable) (rest : List ℕ) → length table < 4294967296 → Follow IsObject [] table → objects_at (objects_bytes table ++ rest) ≡ Ok (table, rest)
-unfolding objects_at
+pub objects_there : (table : NameTable) (rest : List ℕ) → length table < 4294967296 → Follow IsObject [] table → read_objects (objects_bytes table ++ rest) ≡ Ok (table, rest)
+unfolding read_objects
 objects_there table rest count follow =
     rw (
       append_assoc (big_bytes 4 (length table)) (flat_map bytes_of_object table) rest,
@@ -169,10 +169,10 @@ pub record AreObjectsOf (bytes : List ℕ) (table : NameTable) (rest : List ℕ)
   pub follow : Follow IsObject [] table
   pub spelled : bytes ≡ objects_bytes table ++ rest
 
-pub objects_back : (bytes : List ℕ) (table : NameTable) (rest : List ℕ) → AreBytes bytes → objects_at bytes ≡ Ok (table, rest) → AreObjectsOf bytes table rest
-unfolding objects_at
+pub objects_back : (bytes : List ℕ) (table : NameTable) (rest : List ℕ) → AreBytes bytes → read_objects bytes ≡ Ok (table, rest) → AreObjectsOf bytes table rest
+unfolding read_objects
 objects_back bytes table rest are e =
-    let first = bind_ok (number_at 4 bytes) (λ count. repeated next_object count.0 [] count.1) (table, rest) e in
+    let first = bind_ok (read_number 4 bytes) (λ count. repeated read_next_object count.0 [] count.1) (table, rest) e in
     let count = number_back 4 bytes first.0.0 first.0.1 are first.1 in
     let left = rest_bytes (big_bytes 4 first.0.0) first.0.1 (subst AreBytes count.1 are) in
     let read = all_back object_behind bytes_of_object IsObject objects_back_one first.0.0 [] first.0.1 table rest left first.2 in

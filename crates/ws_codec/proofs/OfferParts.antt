@@ -7,8 +7,8 @@ use Rattle.byteorder.specs.Endian.{big_bytes}
 use Rattle.apl_workspace.specs.Meaning.{NameTable}
 use Rattle.apl_workspace.specs.Workspace.{is_addressee}
 use Rattle.apl_workspace.specs.declared.remake.Remake.{Remake}
-use Rattle.ws_codec.specs.Fields.{byte_at, name_at, number_at}
-use Rattle.ws_codec.specs.Offers.{is_free, next_offer, offer_behind, offers_at}
+use Rattle.ws_codec.specs.Fields.{read_byte, read_name, read_number}
+use Rattle.ws_codec.specs.Offers.{is_free, read_next_offer, offer_behind, read_offers}
 use Rattle.ws_codec.specs.Reading.{◌>>=◌, keeps, repeated}
 use Rattle.ws_codec.specs.SavedText.{name_bytes, offer_bytes, offers_bytes}
 use Rattle.ws_codec.specs.Sound.{AreBytes, Follow, IsOffer}
@@ -45,10 +45,10 @@ module _ (table : NameTable) where
   one_back : IsBack (offer_behind table) offer_bytes (IsOffer table)
   unfolding offer_behind
   one_back front bytes offer rest are e =
-      let local = bind_ok (name_at bytes) (λ local. keeps (is_free table front local.0) Offer (length bytes) >>= λ free. name_at local.1 >>= λ surrogate. number_at 4 surrogate.1 >>= λ to. keeps (is_addressee to.0) Offer (length surrogate.1) >>= λ addressed. tell (offer_of local.0 surrogate.0 to.0) to.1) (offer, rest) e in
-      let free = after_keeps (is_free table front local.0.0) Offer (length bytes) (λ free. name_at local.0.1 >>= λ surrogate. number_at 4 surrogate.1 >>= λ to. keeps (is_addressee to.0) Offer (length surrogate.1) >>= λ addressed. tell (offer_of local.0.0 surrogate.0 to.0) to.1) (offer, rest) local.2 in
-      let surrogate = bind_ok (name_at local.0.1) (λ surrogate. number_at 4 surrogate.1 >>= λ to. keeps (is_addressee to.0) Offer (length surrogate.1) >>= λ addressed. tell (offer_of local.0.0 surrogate.0 to.0) to.1) (offer, rest) free.1 in
-      let to = bind_ok (number_at 4 surrogate.0.1) (λ to. keeps (is_addressee to.0) Offer (length surrogate.0.1) >>= λ addressed. tell (offer_of local.0.0 surrogate.0.0 to.0) to.1) (offer, rest) surrogate.2 in
+      let local = bind_ok (read_name bytes) (λ local. keeps (is_free table front local.0) Offer (length bytes) >>= λ free. read_name local.1 >>= λ surrogate. read_number 4 surrogate.1 >>= λ to. keeps (is_addressee to.0) Offer (length surrogate.1) >>= λ addressed. tell (offer_of local.0 surrogate.0 to.0) to.1) (offer, rest) e in
+      let free = after_keeps (is_free table front local.0.0) Offer (length bytes) (λ free. read_name local.0.1 >>= λ surrogate. read_number 4 surrogate.1 >>= λ to. keeps (is_addressee to.0) Offer (length surrogate.1) >>= λ addressed. tell (offer_of local.0.0 surrogate.0 to.0) to.1) (offer, rest) local.2 in
+      let surrogate = bind_ok (read_name local.0.1) (λ surrogate. read_number 4 surrogate.1 >>= λ to. keeps (is_addressee to.0) Offer (length surrogate.1) >>= λ addressed. tell (offer_of local.0.0 surrogate.0 to.0) to.1) (offer, rest) free.1 in
+      let to = bind_ok (read_number 4 surrogate.0.1) (λ to. keeps (is_addressee to.0) Offer (length surrogate.0.1) >>= λ addressed. tell (offer_of local.0.0 surrogate.0.0 to.0) to.1) (offer, rest) surrogate.2 in
       let addressed = after_keeps (is_addressee to.0.0) Offer (length surrogate.0.1) (λ addressed. tell (offer_of local.0.0 surrogate.0.0 to.0.0) to.0.1) (offer, rest) to.2 in
       let first = name_back bytes local.0.0 local.0.1 local.1 in
       let behind_local = rest_bytes (name_bytes local.0.0) local.0.1 (subst AreBytes first.1 are) in
@@ -62,8 +62,8 @@ module _ (table : NameTable) where
       first.1 ∙ ap (λ (t : List ℕ). name_bytes local.0.0 ++ t) (second.1 ∙ ap (λ (t : List ℕ). name_bytes surrogate.0.0 ++ t) third.1) ∙ sym (regrouped (offer_of local.0.0 surrogate.0.0 to.0.0) to.0.1) in
       (subst (IsOffer table front) same made, spelled ∙ ap (λ (o : Remake). offer_bytes o ++ to.0.1) same ∙ ap (λ (t : List ℕ). offer_bytes offer ++ t) behind)
 
-  pub offers_there : (offers : List Remake) (rest : List ℕ) → nat_le (length offers) 64 ≡ true → Follow (IsOffer table) [] offers → offers_at table (offers_bytes offers ++ rest) ≡ Ok (offers, rest)
-  unfolding offers_at byte_at keeps
+  pub offers_there : (offers : List Remake) (rest : List ℕ) → nat_le (length offers) 64 ≡ true → Follow (IsOffer table) [] offers → read_offers table (offers_bytes offers ++ rest) ≡ Ok (offers, rest)
+  unfolding read_offers read_byte keeps
   offers_there offers rest few follow =
       rw few (all_there (offer_behind table) offer_bytes (IsOffer table) one_there [] offers rest follow)
 
@@ -72,11 +72,11 @@ pub record AreOffersOf (table : NameTable) (bytes : List ℕ) (offers : List Rem
   pub follow : Follow (IsOffer table) [] offers
   pub spelled : bytes ≡ offers_bytes offers ++ rest
 
-pub offers_back : (table : NameTable) (bytes : List ℕ) (offers : List Remake) (rest : List ℕ) → AreBytes bytes → offers_at table bytes ≡ Ok (offers, rest) → AreOffersOf table bytes offers rest
-unfolding offers_at
+pub offers_back : (table : NameTable) (bytes : List ℕ) (offers : List Remake) (rest : List ℕ) → AreBytes bytes → read_offers table bytes ≡ Ok (offers, rest) → AreOffersOf table bytes offers rest
+unfolding read_offers
 offers_back table bytes offers rest are e =
-    let first = bind_ok (byte_at bytes) (λ count. keeps (nat_le count.0 64) Limit (length bytes) >>= λ few. repeated (next_offer table) count.0 [] count.1) (offers, rest) e in
-    let few = after_keeps (nat_le first.0.0 64) Limit (length bytes) (λ few. repeated (next_offer table) first.0.0 [] first.0.1) (offers, rest) first.2 in
+    let first = bind_ok (read_byte bytes) (λ count. keeps (nat_le count.0 64) Limit (length bytes) >>= λ few. repeated (read_next_offer table) count.0 [] count.1) (offers, rest) e in
+    let few = after_keeps (nat_le first.0.0 64) Limit (length bytes) (λ few. repeated (read_next_offer table) first.0.0 [] first.0.1) (offers, rest) first.2 in
     let one = byte_back bytes first.0.0 first.0.1 first.1 in
     let read = all_back (offer_behind table) offer_bytes (IsOffer table) (one_back table) first.0.0 [] first.0.1 offers rest ((subst AreBytes one are).1) few.1 in
     let same : read.list ≡ offers = sym read.whole in

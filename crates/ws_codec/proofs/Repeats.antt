@@ -1,7 +1,7 @@
 -- Lists of things, each of which is read behind those before it.
 use Rattle.std.proofs.Common.{◌≡◌, ℕ, zero, suc, List, [], ◌∷◌, ◌++◌, Ok, length, refl, sym, ap, ◌∙◌, subst, append-nil, append_assoc}
 use Rattle.std.specs.List.{flat_map}
-use Rattle.ws_codec.specs.Reading.{Reader, Reading, ◌>>=◌, added, repeated}
+use Rattle.ws_codec.specs.Reading.{Reader, Reading, ◌>>=◌, read_more, repeated}
 use Rattle.ws_codec.specs.Sound.{AreBytes, Follow}
 use Rattle.ws_codec.proofs.NumberParts.{rest_bytes}
 use Rattle.ws_codec.proofs.Told.{bind_ok, same_behind, same_first, tell}
@@ -25,7 +25,7 @@ pub record AreBehind {A : Type 0} (text : A → List ℕ) (fits : List A → A �
 module _ {A : Type 0} (item : List A → Reader A) (text : A → List ℕ) (fits : List A → A → Type 0) where
   -- the things with one more
   abbrev next : List A → Reader (List A)
-  next front rest = added front (item front rest)
+  next front rest = read_more front (item front rest)
 
   pub all_there : IsThere item text fits → (front list : List A) (rest : List ℕ) → Follow fits front list → repeated next (length list) front (flat_map text list ++ rest) ≡ Ok (front ++ list, rest)
   unfolding repeated
@@ -34,7 +34,7 @@ module _ {A : Type 0} (item : List A → Reader A) (text : A → List ℕ) (fits
       let same : flat_map text (x ∷ xs) ++ rest ≡ text x ++ (flat_map text xs ++ rest) = append_assoc (text x) (flat_map text xs) rest in
       let one : item front (text x ++ (flat_map text xs ++ rest)) ≡ Ok (x, flat_map text xs ++ rest) = there front x (flat_map text xs ++ rest) follow.0 in
       ap (λ (bytes : List ℕ). next front bytes >>= λ made. repeated next (length xs) made.0 made.1) same
-      ∙ ap (λ (read : Reading A). added front read >>= λ made. repeated next (length xs) made.0 made.1) one
+      ∙ ap (λ (read : Reading A). read_more front read >>= λ made. repeated next (length xs) made.0 made.1) one
       ∙ all_there there (front ++ x ∷ []) xs rest follow.1
       ∙ ap (λ (t : List A). tell t rest) (append_assoc front (x ∷ []) xs)
 

@@ -7,13 +7,13 @@ use Rattle.apl_arrays.specs.Name.{same_name}
 use Rattle.apl_workspace.specs.Meaning.{NameTable}
 use Rattle.apl_workspace.specs.declared.remake.Remake.{Remake}
 use Rattle.apl_workspace.proofs.NameLaw.{equal_names}
-use Rattle.ws_codec.specs.Fields.{byte_at, bytes_at, same_at}
-use Rattle.ws_codec.specs.Objects.{objects_at}
-use Rattle.ws_codec.specs.Offers.{offers_at}
+use Rattle.ws_codec.specs.Fields.{read_byte, read_bytes, read_same}
+use Rattle.ws_codec.specs.Objects.{read_objects}
+use Rattle.ws_codec.specs.Offers.{read_offers}
 use Rattle.ws_codec.specs.Reading.{◌>>=◌, keeps}
-use Rattle.ws_codec.specs.Saved.{PlainSaved, offers_of_version, placed, reading_of, saved_at, saved_of, version_at}
+use Rattle.ws_codec.specs.Saved.{PlainSaved, offers_of_version, reading_placed, saved_reading, read_saved, saved_of, read_version}
 use Rattle.ws_codec.specs.SavedText.{first_version, magic, objects_bytes, offers_bytes, second_version}
-use Rattle.ws_codec.specs.Sound.{AreBytes, Follow, IsOffer, IsSound}
+use Rattle.ws_codec.specs.Sound.{AreBytes, Follow, IsOffer, CanBeSaved}
 use Rattle.ws_codec.specs.declared.saved.SavedRule.TheVariants.{Magic, Rest, Version}
 use Rattle.ws_codec.specs.declared.unread.Flaw.{Flaw}
 use Rattle.ws_codec.proofs.FieldParts.{byte_back, bytes_back, bytes_there}
@@ -28,12 +28,12 @@ ok_of saved = Ok saved
 
 -- the front
 
-same_there : (rest : List ℕ) → same_at magic (magic ++ rest) ≡ Ok (true, rest)
-unfolding same_at
+same_there : (rest : List ℕ) → read_same magic (magic ++ rest) ≡ Ok (true, rest)
+unfolding read_same
 same_there rest = rw (bytes_there 4 magic rest refl) refl
 
-pub version_there : (version : ℕ) (rest : List ℕ) → (version == 1 || version == 2) ≡ true → version_at (magic ++ version ∷ rest) ≡ Ok (version, rest)
-unfolding version_at byte_at keeps
+pub version_there : (version : ℕ) (rest : List ℕ) → (version == 1 || version == 2) ≡ true → read_version (magic ++ version ∷ rest) ≡ Ok (version, rest)
+unfolding read_version read_byte keeps
 version_there version rest is = rw (same_there (version ∷ rest), is) refl
 
 -- the bytes in front and a version
@@ -41,14 +41,14 @@ pub record IsFront (bytes : List ℕ) (version : ℕ) (rest : List ℕ) : Type 0
   pub is : (version == 1 || version == 2) ≡ true
   pub spelled : bytes ≡ magic ++ version ∷ rest
 
-version_back : (bytes : List ℕ) (version : ℕ) (rest : List ℕ) → version_at bytes ≡ Ok (version, rest) → IsFront bytes version rest
-unfolding version_at same_at
+version_back : (bytes : List ℕ) (version : ℕ) (rest : List ℕ) → read_version bytes ≡ Ok (version, rest) → IsFront bytes version rest
+unfolding read_version read_same
 version_back bytes version rest e =
-    let front = bind_ok (same_at magic bytes) (λ front. keeps front.0 Magic (length bytes) >>= λ right. byte_at front.1 >>= λ version. keeps (version.0 == 1 || version.0 == 2) Version (length front.1) >>= λ known. tell version.0 version.1) (version, rest) e in
-    let right = after_keeps front.0.0 Magic (length bytes) (λ right. byte_at front.0.1 >>= λ version. keeps (version.0 == 1 || version.0 == 2) Version (length front.0.1) >>= λ known. tell version.0 version.1) (version, rest) front.2 in
-    let one = bind_ok (byte_at front.0.1) (λ version. keeps (version.0 == 1 || version.0 == 2) Version (length front.0.1) >>= λ known. tell version.0 version.1) (version, rest) right.1 in
+    let front = bind_ok (read_same magic bytes) (λ front. keeps front.0 Magic (length bytes) >>= λ right. read_byte front.1 >>= λ version. keeps (version.0 == 1 || version.0 == 2) Version (length front.1) >>= λ known. tell version.0 version.1) (version, rest) e in
+    let right = after_keeps front.0.0 Magic (length bytes) (λ right. read_byte front.0.1 >>= λ version. keeps (version.0 == 1 || version.0 == 2) Version (length front.0.1) >>= λ known. tell version.0 version.1) (version, rest) front.2 in
+    let one = bind_ok (read_byte front.0.1) (λ version. keeps (version.0 == 1 || version.0 == 2) Version (length front.0.1) >>= λ known. tell version.0 version.1) (version, rest) right.1 in
     let known = after_keeps (one.0.0 == 1 || one.0.0 == 2) Version (length front.0.1) (λ known. tell one.0.0 one.0.1) (version, rest) one.2 in
-    let field = bind_ok (bytes_at 4 bytes) (λ field. tell (pointwise ◌==◌ field.0 magic) field.1) front.0 front.1 in
+    let field = bind_ok (read_bytes 4 bytes) (λ field. tell (pointwise ◌==◌ field.0 magic) field.1) front.0 front.1 in
     let cut = bytes_back 4 bytes field.0.0 field.0.1 field.1 in
     let same : same_name field.0.0 magic ≡ true = same_first (pointwise ◌==◌ field.0.0 magic) field.0.1 front.0.0 front.0.1 field.2 ∙ right.0 in
     let behind : field.0.1 ≡ front.0.1 = same_behind (pointwise ◌==◌ field.0.0 magic) field.0.1 front.0.0 front.0.1 field.2 in
@@ -62,21 +62,21 @@ version_back bytes version rest e =
 
 -- the whole
 
-pub second_there : (table : NameTable) (offers : List Remake) → IsSound table offers → saved_at (second_version table offers) ≡ Ok (saved_of table offers)
-unfolding saved_at offers_of_version keeps
+pub second_there : (table : NameTable) (offers : List Remake) → CanBeSaved table offers → read_saved (second_version table offers) ≡ Ok (saved_of table offers)
+unfolding read_saved offers_of_version keeps
 second_there table offers h =
-    let front : version_at (second_version table offers) ≡ Ok (2, objects_bytes table ++ offers_bytes offers) = version_there 2 (objects_bytes table ++ offers_bytes offers) refl in
-    let objects : objects_at (objects_bytes table ++ offers_bytes offers) ≡ Ok (table, offers_bytes offers) = objects_there table (offers_bytes offers) h.count h.objects in
+    let front : read_version (second_version table offers) ≡ Ok (2, objects_bytes table ++ offers_bytes offers) = version_there 2 (objects_bytes table ++ offers_bytes offers) refl in
+    let objects : read_objects (objects_bytes table ++ offers_bytes offers) ≡ Ok (table, offers_bytes offers) = objects_there table (offers_bytes offers) h.count h.objects in
     let end : offers_bytes offers ≡ offers_bytes offers ++ [] = sym (append-nil (offers_bytes offers)) in
-    let last : offers_at table (offers_bytes offers) ≡ Ok (offers, []) = ap (offers_at table) end ∙ offers_there table offers [] h.few h.offers in
+    let last : read_offers table (offers_bytes offers) ≡ Ok (offers, []) = ap (read_offers table) end ∙ offers_there table offers [] h.few h.offers in
     rw (front, objects, last) refl
 
-pub first_there : (table : NameTable) → IsSound table [] → saved_at (first_version table) ≡ Ok (saved_of table [])
-unfolding saved_at offers_of_version keeps
+pub first_there : (table : NameTable) → CanBeSaved table [] → read_saved (first_version table) ≡ Ok (saved_of table [])
+unfolding read_saved offers_of_version keeps
 first_there table h =
-    let front : version_at (first_version table) ≡ Ok (1, objects_bytes table) = version_there 1 (objects_bytes table) refl in
+    let front : read_version (first_version table) ≡ Ok (1, objects_bytes table) = version_there 1 (objects_bytes table) refl in
     let end : objects_bytes table ≡ objects_bytes table ++ [] = sym (append-nil (objects_bytes table)) in
-    let objects : objects_at (objects_bytes table) ≡ Ok (table, []) = ap objects_at end ∙ objects_there table [] h.count h.objects in
+    let objects : read_objects (objects_bytes table) ≡ Ok (table, []) = ap read_objects end ∙ objects_there table [] h.count h.objects in
     rw (front, objects) refl
 
 -- what was read of the offers of a version
@@ -85,7 +85,7 @@ pub record AreVersionOffers (version : ℕ) (table : NameTable) (bytes : List �
   pub follow : Follow (IsOffer table) [] offers
   pub spelled : ((version ≡ 1) × (offers ≡ []) × (bytes ≡ rest)) ⊎ ((eqb version 1 ≡ false) × (bytes ≡ offers_bytes offers ++ rest))
 
-versions_by : (b : Bool) (version : ℕ) (table : NameTable) (bytes : List ℕ) (offers : List Remake) (rest : List ℕ) → AreBytes bytes → eqb version 1 ≡ b → (if b then tell [] bytes else offers_at table bytes) ≡ tell offers rest → AreVersionOffers version table bytes offers rest
+versions_by : (b : Bool) (version : ℕ) (table : NameTable) (bytes : List ℕ) (offers : List Remake) (rest : List ℕ) → AreBytes bytes → eqb version 1 ≡ b → (if b then tell [] bytes else read_offers table bytes) ≡ tell offers rest → AreVersionOffers version table bytes offers rest
 versions_by true version table bytes offers rest are is e =
     let none : [] ≡ offers = same_first [] bytes offers rest e in
     record {
@@ -108,11 +108,11 @@ no_more : (list : List ℕ) → eqb (length list) 0 ≡ true → list ≡ []
 no_more [] e = refl
 no_more (x ∷ list) e = absurd (omega (arith, eqb-true (length (x ∷ list)) 0 e))
 
-pub whole_back : (bytes : List ℕ) (saved : PlainSaved) → AreBytes bytes → saved_at bytes ≡ Ok saved → IsSound saved.workspace.globals saved.remakes × IsTextOf bytes saved.workspace.globals saved.remakes
-unfolding saved_at offers_of_version
+pub whole_back : (bytes : List ℕ) (saved : PlainSaved) → AreBytes bytes → read_saved bytes ≡ Ok saved → CanBeSaved saved.workspace.globals saved.remakes × IsTextOf bytes saved.workspace.globals saved.remakes
+unfolding read_saved offers_of_version
 whole_back bytes saved are e =
-    let version = bind_ok (version_at bytes) (λ version. objects_at version.1 >>= λ objects. offers_of_version version.0 objects.0 objects.1 >>= λ offers. keeps (length offers.1 == 0) Rest (length offers.1) >>= λ ended. Ok (saved_of objects.0 offers.0)) saved e in
-    let objects = bind_ok (objects_at version.0.1) (λ objects. offers_of_version version.0.0 objects.0 objects.1 >>= λ offers. keeps (length offers.1 == 0) Rest (length offers.1) >>= λ ended. Ok (saved_of objects.0 offers.0)) saved version.2 in
+    let version = bind_ok (read_version bytes) (λ version. read_objects version.1 >>= λ objects. offers_of_version version.0 objects.0 objects.1 >>= λ offers. keeps (length offers.1 == 0) Rest (length offers.1) >>= λ ended. Ok (saved_of objects.0 offers.0)) saved e in
+    let objects = bind_ok (read_objects version.0.1) (λ objects. offers_of_version version.0.0 objects.0 objects.1 >>= λ offers. keeps (length offers.1 == 0) Rest (length offers.1) >>= λ ended. Ok (saved_of objects.0 offers.0)) saved version.2 in
     let offers = bind_ok (offers_of_version version.0.0 objects.0.0 objects.0.1) (λ offers. keeps (length offers.1 == 0) Rest (length offers.1) >>= λ ended. Ok (saved_of objects.0.0 offers.0)) saved objects.2 in
     let ended = after_keeps (length offers.0.1 == 0) Rest (length offers.0.1) (λ ended. Ok (saved_of objects.0.0 offers.0.0)) saved offers.2 in
     let front = version_back bytes version.0.0 version.0.1 version.1 in
@@ -122,7 +122,7 @@ whole_back bytes saved are e =
     let kept = versions_by (eqb version.0.0 1) version.0.0 objects.0.0 objects.0.1 offers.0.0 offers.0.1 left refl offers.1 in
     let none : offers.0.1 ≡ [] = no_more offers.0.1 ended.0 in
     let same : saved_of objects.0.0 offers.0.0 ≡ saved = let told : ok_of (saved_of objects.0.0 offers.0.0) ≡ ok_of saved = ended.1 in cc in
-    let sound : IsSound objects.0.0 offers.0.0 = record { count = read.count; objects = read.follow; few = kept.few; offers = kept.follow } in
+    let sound : CanBeSaved objects.0.0 offers.0.0 = record { count = read.count; objects = read.follow; few = kept.few; offers = kept.follow } in
     let text : IsTextOf bytes objects.0.0 offers.0.0 =
     ⊎_elim (λ first.
     let one : bytes ≡ magic ++ 1 ∷ version.0.1 = front.spelled ∙ ap (λ (v : ℕ). magic ++ v ∷ version.0.1) first.0 in
@@ -131,19 +131,19 @@ whole_back bytes saved are e =
     let two : bytes ≡ magic ++ 2 ∷ version.0.1 = front.spelled ∙ ap (λ (v : ℕ). magic ++ v ∷ version.0.1) (second_by version.0.0 front.is second.0) in
     inl (two ∙ ap (λ (t : List ℕ). magic ++ 2 ∷ t) (read.spelled ∙ ap (λ (t : List ℕ). objects_bytes objects.0.0 ++ t) (second.1 ∙ ap (λ (t : List ℕ). offers_bytes offers.0.0 ++ t) none ∙ append-nil (offers_bytes offers.0.0)))))
     kept.spelled in
-    subst (λ (s : PlainSaved). IsSound s.workspace.globals s.remakes × IsTextOf bytes s.workspace.globals s.remakes) same (sound, text)
+    subst (λ (s : PlainSaved). CanBeSaved s.workspace.globals s.remakes × IsTextOf bytes s.workspace.globals s.remakes) same (sound, text)
 
 -- readings with their places
 
-placed_ok : (count : ℕ) (read : Result PlainSaved Flaw) (saved : PlainSaved) → placed count read ≡ Ok saved → read ≡ Ok saved
+placed_ok : (count : ℕ) (read : Result PlainSaved Flaw) (saved : PlainSaved) → reading_placed count read ≡ Ok saved → read ≡ Ok saved
 placed_ok count (Ok found) saved e = let same : found ≡ saved = cc in ap (λ (s : PlainSaved). ok_of s) same
 placed_ok count (Err flaw) saved e = absurd (let none : ⊥ = cc in none)
 
-pub read_back : (bytes : List ℕ) (table : NameTable) (offers : List Remake) → AreBytes bytes → reading_of bytes ≡ Ok (saved_of table offers) → IsSound table offers × IsTextOf bytes table offers
-read_back bytes table offers are e = whole_back bytes (saved_of table offers) are (placed_ok (length bytes) (saved_at bytes) (saved_of table offers) e)
+pub read_back : (bytes : List ℕ) (table : NameTable) (offers : List Remake) → AreBytes bytes → saved_reading bytes ≡ Ok (saved_of table offers) → CanBeSaved table offers × IsTextOf bytes table offers
+read_back bytes table offers are e = whole_back bytes (saved_of table offers) are (placed_ok (length bytes) (read_saved bytes) (saved_of table offers) e)
 
-pub read_second : (table : NameTable) (offers : List Remake) → IsSound table offers → reading_of (second_version table offers) ≡ Ok (saved_of table offers)
-read_second table offers h = ap (placed (length (second_version table offers))) (second_there table offers h)
+pub read_second : (table : NameTable) (offers : List Remake) → CanBeSaved table offers → saved_reading (second_version table offers) ≡ Ok (saved_of table offers)
+read_second table offers h = ap (reading_placed (length (second_version table offers))) (second_there table offers h)
 
-pub read_first : (table : NameTable) → IsSound table [] → reading_of (first_version table) ≡ Ok (saved_of table [])
-read_first table h = ap (placed (length (first_version table))) (first_there table h)
+pub read_first : (table : NameTable) → CanBeSaved table [] → saved_reading (first_version table) ≡ Ok (saved_of table [])
+read_first table h = ap (reading_placed (length (first_version table))) (first_there table h)

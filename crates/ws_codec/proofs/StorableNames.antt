@@ -23,8 +23,8 @@ use Rattle.apl_workspace.proofs.NameLaw.{by_order, equal_names, own_name}
 use Rattle.ws_codec.specs.Kept.{kept, kept_globals}
 use Rattle.ws_codec.specs.Objects.{is_above, last_name}
 use Rattle.ws_codec.specs.Offers.{is_free, is_function_in, is_offered}
-use Rattle.ws_codec.specs.Sound.{Follow, IsMeaning, IsObject, IsOffer, IsSound}
-use Rattle.ws_codec.specs.Storable.{HasNames, IsEntry, IsStorable}
+use Rattle.ws_codec.specs.Sound.{Follow, IsMeaning, IsObject, IsOffer, CanBeSaved}
+use Rattle.ws_codec.specs.Storable.{HasNames, IsStorableEntry, IsStorable}
 use Rattle.ws_codec.proofs.ByNames.{each_holds, few_kept, tells_own}
 use Rattle.ws_codec.proofs.Ends.{last_put}
 use Rattle.ws_codec.proofs.StorableValues.{function_sound, variable_sound}
@@ -53,7 +53,7 @@ above_put front name meaning (e ∷ es) below =
 pub record MayFollow (front table : NameTable) : Type 0 where
   pub ascend : Ascend table
   pub above : AreAbove front table
-  pub entries : AllByRecursion IsEntry table
+  pub entries : AllByRecursion IsStorableEntry table
   pub globals : AllByRecursion (λ (e : List ℕ × Meaning). IsGlobal e.0 e.1) table
   pub light : table_weight front + table_weight table ≤ most_weight
 
@@ -193,7 +193,7 @@ all_above (e ∷ es) = (refl, all_above es)
 
 -- ---- workspaces
 
-pub workspace_sound : (w : PlainWorkspace) → IsWorkspace w → IsStorable w → IsSound (kept_globals w.globals) w.offers
+pub workspace_sound : (w : PlainWorkspace) → IsWorkspace w → IsStorable w → CanBeSaved (kept_globals w.globals) w.offers
 workspace_sound w h stored =
     let few = few_kept w.globals in
     record {
@@ -203,7 +203,7 @@ workspace_sound w h stored =
           (record {
             ascend = h.ascending;
             above = all_above w.globals;
-            entries = recursion_from_All IsEntry w.globals stored.globals;
+            entries = recursion_from_All IsStorableEntry w.globals stored.globals;
             globals = each_holds IsGlobal (meaning_in w.globals) w.globals (tells_own w.globals h.ascending) h.globals;
             light = omega (arith, h.weight);
           });

@@ -13,8 +13,8 @@ use Rattle.apl_workspace.specs.Limits.{most_function_lines, most_weight}
 use Rattle.apl_workspace.specs.Meaning.{value_weight}
 use Rattle.apl_arrays.specs.Limits.{most_line_glyphs}
 use Rattle.ws_codec.specs.Functions.{glyph_count, is_within}
-use Rattle.ws_codec.specs.Sound.{Follow, IsDefined, IsLine, IsVariable}
-use Rattle.ws_codec.specs.Storable.{IsCoded, IsSpelled, IsStored}
+use Rattle.ws_codec.specs.Sound.{Follow, IsDefined, IsLineOfFunction, IsVariable}
+use Rattle.ws_codec.specs.Storable.{IsCoded, IsOfGlyphs, IsStorableValue}
 use Rattle.ws_codec.proofs.Lines.{glyphs_push, lines_weigh}
 
 -- things that need nothing of those before them
@@ -27,7 +27,7 @@ small_axes [] all = tt
 small_axes (axis ∷ shape) all = (le-leb axis 16384 all.0, small_axes shape all.1)
 
 -- a variable
-pub variable_sound : (weight : ℕ) (value : PlainArray) → IsStored value → weight + value_weight value ≤ most_weight → IsVariable weight value
+pub variable_sound : (weight : ℕ) (value : PlainArray) → IsStorableValue value → weight + value_weight value ≤ most_weight → IsVariable weight value
 variable_sound weight value h light =
     let shape = value.shape in
     let fits : FitsLimits value.shape = h.array.fits in
@@ -45,7 +45,7 @@ within most weight count few light =
     and_from (nat_le count most) (nat_le (weight + count) most_weight) (le-leb count most few) (le-leb (weight + count) most_weight light)
 
 -- lines, each behind those before it
-lines_sound : (base : ℕ) (front list : List (List ℕ)) → AllByRecursion (λ line. length line ≤ 1000) list → AllByRecursion IsCoded list → base + glyph_count front + glyph_count list ≤ most_weight → Follow (λ before line. IsLine (base + glyph_count before) line) front list
+lines_sound : (base : ℕ) (front list : List (List ℕ)) → AllByRecursion (λ line. length line ≤ 1000) list → AllByRecursion IsCoded list → base + glyph_count front + glyph_count list ≤ most_weight → Follow (λ before line. IsLineOfFunction (base + glyph_count before) line) front list
 lines_sound base front [] short coded light = tt
 lines_sound base front (line ∷ list) short coded light =
     let sum = sum_by-cons (λ (l : List ℕ). length l) line list in
@@ -55,7 +55,7 @@ lines_sound base front (line ∷ list) short coded light =
     )
 
 -- a function
-pub function_sound : (name : List ℕ) (weight : ℕ) (function : PlainFunction) → IsFunction function → function.header.name ≡ name → IsSpelled function → weight + function_weight function ≤ most_weight → IsDefined name weight function
+pub function_sound : (name : List ℕ) (weight : ℕ) (function : PlainFunction) → IsFunction function → function.header.name ≡ name → IsOfGlyphs function → weight + function_weight function ≤ most_weight → IsDefined name weight function
 function_sound name weight function is named spelled light =
     let lines = function.lines in
     let sum = lines_weigh function.lines in

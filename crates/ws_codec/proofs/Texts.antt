@@ -2,10 +2,10 @@
 use Rattle.std.proofs.Common.{◌≡◌, ℕ, ◌⊎◌, inl, inr, List, [], ◌++◌, Some, None, Result, Ok, Err, length, refl, sym, ap, ◌∙◌, subst, arith}
 use Rattle.apl_workspace.specs.Meaning.{NameTable}
 use Rattle.apl_workspace.specs.declared.remake.Remake.{Remake}
-use Rattle.ws_codec.specs.Saved.{PlainSaved, fault_of, place_of, placed, reading_of, saved_at, saved_of, spoils, version_at}
+use Rattle.ws_codec.specs.Saved.{PlainSaved, fault_of, flaw_place, reading_placed, saved_reading, read_saved, saved_of, spoils, read_version}
 use Rattle.ws_codec.specs.SavedText.{first_version, objects_bytes, offers_bytes, second_version}
-use Rattle.ws_codec.specs.Sound.{AreBytes, IsSound}
-use Rattle.ws_codec.specs.Text.{IsText}
+use Rattle.ws_codec.specs.Sound.{AreBytes, CanBeSaved}
+use Rattle.ws_codec.specs.Text.{IsSavedText}
 use Rattle.ws_codec.specs.declared.saved.SavedRule.{SavedRule}
 use Rattle.ws_codec.specs.declared.unread.Flaw.{Flaw}
 use Rattle.ws_codec.proofs.SavedParts.{read_first, read_second, version_there, whole_back}
@@ -26,38 +26,38 @@ same_saved table other offers others e =
     (ap (λ (s : PlainSaved). s.workspace.globals) same, ap (λ (s : PlainSaved). s.remakes) same)
 
 -- a text of version 2 is of one workspace
-pub second_of_one : (table other : NameTable) (offers others : List Remake) → IsSound table offers → IsSound other others → second_version table offers ≡ second_version other others → (table ≡ other) × (offers ≡ others)
+pub second_of_one : (table other : NameTable) (offers others : List Remake) → CanBeSaved table offers → CanBeSaved other others → second_version table offers ≡ second_version other others → (table ≡ other) × (offers ≡ others)
 second_of_one table other offers others h k e =
-    same_saved table other offers others (sym (read_second table offers h) ∙ ap reading_of e ∙ read_second other others k)
+    same_saved table other offers others (sym (read_second table offers h) ∙ ap saved_reading e ∙ read_second other others k)
 
 -- a text of version 1 is of one workspace
-pub first_of_one : (table other : NameTable) → IsSound table [] → IsSound other [] → first_version table ≡ first_version other → table ≡ other
+pub first_of_one : (table other : NameTable) → CanBeSaved table [] → CanBeSaved other [] → first_version table ≡ first_version other → table ≡ other
 first_of_one table other h k e =
-    let same = same_saved table other [] [] (sym (read_first table h) ∙ ap reading_of e ∙ read_first other k) in
+    let same = same_saved table other [] [] (sym (read_first table h) ∙ ap saved_reading e ∙ read_first other k) in
     same.0
 
 -- no text is of both versions
 pub never_both : (table other : NameTable) (offers : List Remake) → first_version table ≡ second_version other offers → ⊥
 never_both table other offers e =
-    let first : version_at (first_version table) ≡ Ok (1, objects_bytes table) = version_there 1 (objects_bytes table) refl in
-    let second : version_at (second_version other offers) ≡ Ok (2, objects_bytes other ++ offers_bytes offers) = version_there 2 (objects_bytes other ++ offers_bytes offers) refl in
-    let one : 1 ≡ 2 = same_first {A = ℕ} 1 (objects_bytes table) 2 (objects_bytes other ++ offers_bytes offers) (sym first ∙ ap version_at e ∙ second) in
+    let first : read_version (first_version table) ≡ Ok (1, objects_bytes table) = version_there 1 (objects_bytes table) refl in
+    let second : read_version (second_version other offers) ≡ Ok (2, objects_bytes other ++ offers_bytes offers) = version_there 2 (objects_bytes other ++ offers_bytes offers) refl in
+    let one : 1 ≡ 2 = same_first {A = ℕ} 1 (objects_bytes table) 2 (objects_bytes other ++ offers_bytes offers) (sym first ∙ ap read_version e ∙ second) in
     omega (arith, one)
 
-text_by : (bytes : List ℕ) (read : Result PlainSaved Flaw) → AreBytes bytes → saved_at bytes ≡ read → fault_of (placed (length bytes) read) ≡ None → IsText bytes
+text_by : (bytes : List ℕ) (read : Result PlainSaved Flaw) → AreBytes bytes → read_saved bytes ≡ read → fault_of (reading_placed (length bytes) read) ≡ None → IsSavedText bytes
 text_by bytes (Ok found) are e none =
     let back = whole_back bytes found are e in
     record { table = found.workspace.globals; offers = found.remakes; sound = back.0; spelled = back.1 }
-text_by bytes (Err flaw) are e none = absurd (let no : Some (place_of (length bytes) flaw) ≡ None = none in cc)
+text_by bytes (Err flaw) are e none = absurd (let no : Some (flaw_place (length bytes) flaw) ≡ None = none in cc)
 
 -- bytes of which no field breaks a rule are a text
-pub unspoiled_is_text : (bytes : List ℕ) → AreBytes bytes → spoils bytes ≡ None → IsText bytes
-unspoiled_is_text bytes are none = text_by bytes (saved_at bytes) are refl none
+pub unspoiled_is_text : (bytes : List ℕ) → AreBytes bytes → spoils bytes ≡ None → IsSavedText bytes
+unspoiled_is_text bytes are none = text_by bytes (read_saved bytes) are refl none
 
-text_reads : (bytes : List ℕ) (table : NameTable) (offers : List Remake) → IsSound table offers → (bytes ≡ second_version table offers) ⊎ ((bytes ≡ first_version table) × (offers ≡ [])) → spoils bytes ≡ None
+text_reads : (bytes : List ℕ) (table : NameTable) (offers : List Remake) → CanBeSaved table offers → (bytes ≡ second_version table offers) ⊎ ((bytes ≡ first_version table) × (offers ≡ [])) → spoils bytes ≡ None
 text_reads bytes table offers h (inl second) = ap spoils second ∙ ap fault_of (read_second table offers h)
-text_reads bytes table offers h (inr first) = ap spoils first.0 ∙ ap fault_of (read_first table (subst (IsSound table) first.1 h))
+text_reads bytes table offers h (inr first) = ap spoils first.0 ∙ ap fault_of (read_first table (subst (CanBeSaved table) first.1 h))
 
 -- no field of a text breaks a rule
-pub text_is_unspoiled : (bytes : List ℕ) → IsText bytes → spoils bytes ≡ None
+pub text_is_unspoiled : (bytes : List ℕ) → IsSavedText bytes → spoils bytes ≡ None
 text_is_unspoiled bytes h = text_reads bytes h.table h.offers h.sound h.spelled

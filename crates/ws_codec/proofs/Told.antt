@@ -1,6 +1,6 @@
 -- What is told of a reading that succeeds.
 use Rattle.std.proofs.Common.{◌≡◌, ℕ, Bool, true, false, List, Option, Some, None, Result, Ok, Err, refl, ap}
-use Rattle.ws_codec.specs.Reading.{Reading, ◌>>=◌, keeps, known}
+use Rattle.ws_codec.specs.Reading.{Reading, ◌>>=◌, keeps, required}
 use Rattle.ws_codec.specs.declared.saved.SavedRule.{SavedRule}
 use Rattle.ws_codec.specs.declared.unread.Flaw.{Flaw}
 
@@ -36,7 +36,7 @@ after_keeps true rule left f y e = (refl, e)
 after_keeps false rule left f y e = absurd (let none : ⊥ = cc in none)
 
 -- a thing that was there on the way
-pub after_known : {A B : Type 0} (there : Option A) (rule : SavedRule) (left : ℕ) (f : A → Result B Flaw) (y : B) → (known there rule left >>= f) ≡ Ok y → (x : A) × (there ≡ Some x) × (f x ≡ Ok y)
-unfolding known
+pub after_known : {A B : Type 0} (there : Option A) (rule : SavedRule) (left : ℕ) (f : A → Result B Flaw) (y : B) → (required there rule left >>= f) ≡ Ok y → (x : A) × (there ≡ Some x) × (f x ≡ Ok y)
+unfolding required
 after_known (Some x) rule left f y e = (x, refl, e)
 after_known None rule left f y e = absurd (let none : ⊥ = cc in none)

@@ -12,7 +12,7 @@ use Rattle.apl_workspace.specs.Meaning.{NameTable, meaning_weight, table_weight}
 use Rattle.apl_workspace.specs.declared.meaning.Meaning.{Meaning}
 use Rattle.apl_workspace.specs.declared.meaning.Meaning.TheVariants.{Nothing, Value, Function, Label, Shared}
 use Rattle.apl_workspace.specs.declared.remake.Remake.{Remake}
-use Rattle.ws_codec.specs.Saved.{reading_of, saved_of}
+use Rattle.ws_codec.specs.Saved.{saved_reading, saved_of}
 use Rattle.ws_codec.specs.SavedText.{array_bytes, first_version, function_bytes, items_bytes, line_bytes, magic, name_bytes, object_bytes, objects_bytes, offer_bytes, offers_bytes, second_version}
 use Rattle.ws_codec.specs.Sound.{AreBytes, Follow, IsMeaning, IsObject}
 use Rattle.ws_codec.proofs.SavedParts.{read_back}
@@ -99,7 +99,7 @@ text_weighs bytes table offers follow (inr first) =
     omega (arith, objects_weigh [] table follow, first_length table, ap length first.0, ap length first.1)
 
 -- what is read weighs no more than the bytes are many
-pub read_weighs : (bytes : List ℕ) (table : NameTable) (offers : List Remake) → AreBytes bytes → reading_of bytes ≡ Ok (saved_of table offers) → table_weight table + length offers ≤ length bytes
+pub read_weighs : (bytes : List ℕ) (table : NameTable) (offers : List Remake) → AreBytes bytes → saved_reading bytes ≡ Ok (saved_of table offers) → table_weight table + length offers ≤ length bytes
 read_weighs bytes table offers are e =
     let back = read_back bytes table offers are e in
     text_weighs bytes table offers back.0.objects back.1

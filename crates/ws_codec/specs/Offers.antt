@@ -7,8 +7,8 @@ use Rattle.apl_workspace.specs.Meaning.{NameTable, is_function_meaning, meaning_
 use Rattle.apl_workspace.specs.Workspace.{is_addressee}
 use Rattle.apl_workspace.specs.declared.meaning.Meaning.TheVariants.{Nothing}
 use Rattle.apl_workspace.specs.declared.remake.Remake.{Remake}
-use Rattle.ws_codec.specs.Fields.{byte_at, name_at, number_at}
-use Rattle.ws_codec.specs.Reading.{Reader, ◌>>=◌, added, keeps, repeated}
+use Rattle.ws_codec.specs.Fields.{read_byte, read_name, read_number}
+use Rattle.ws_codec.specs.Reading.{Reader, ◌>>=◌, read_more, keeps, repeated}
 use Rattle.ws_codec.specs.declared.saved.SavedRule.TheVariants.{Limit, Offer}
 
 -- one of the offers is of this name
@@ -26,20 +26,20 @@ is_free table offers name = not (is_offered offers name) && not (is_function_in 
 -- an offer behind others: its name here, its name for others, and for whom it is
 unfoldable pub offer_behind : NameTable → List Remake → Reader Remake
 offer_behind table offers rest = do
-  local ← name_at rest
+  local ← read_name rest
   free ← keeps (is_free table offers local.0) Offer (length rest)
-  surrogate ← name_at local.1
-  to ← number_at 4 surrogate.1
+  surrogate ← read_name local.1
+  to ← read_number 4 surrogate.1
   addressed ← keeps (is_addressee to.0) Offer (length surrogate.1)
   Ok (record { local = local.0; surrogate = surrogate.0; to = to.0 }, to.1)
 
 -- the offers with one more
-abbrev pub next_offer : NameTable → List Remake → Reader (List Remake)
-next_offer table offers rest = added offers (offer_behind table offers rest)
+abbrev pub read_next_offer : NameTable → List Remake → Reader (List Remake)
+read_next_offer table offers rest = read_more offers (offer_behind table offers rest)
 
 -- how many offers, and the offers
-unfoldable pub offers_at : NameTable → Reader (List Remake)
-offers_at table rest = do
-  count ← byte_at rest
+unfoldable pub read_offers : NameTable → Reader (List Remake)
+read_offers table rest = do
+  count ← read_byte rest
   few ← keeps (nat_le count.0 most_offers) Limit (length rest)
-  repeated (next_offer table) count.0 [] count.1
+  repeated (read_next_offer table) count.0 [] count.1

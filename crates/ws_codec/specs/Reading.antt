@@ -25,9 +25,9 @@ keeps true rule left = Ok tt
 keeps false rule left = Err (record { rule = rule; left = left })
 
 -- a thing that is there; else a rule is broken where so many bytes are left
-unfoldable pub known : {A : Type 0} → Option A → SavedRule → ℕ → Result A Flaw
-known (Some x) rule left = Ok x
-known None rule left = Err (record { rule = rule; left = left })
+unfoldable pub required : {A : Type 0} → Option A → SavedRule → ℕ → Result A Flaw
+required (Some x) rule left = Ok x
+required None rule left = Err (record { rule = rule; left = left })
 
 -- so many steps, each of which goes on with what the one before it made
 unfoldable pub repeated : {S : Type 0} → (S → Reader S) → ℕ → S → Reader S
@@ -37,8 +37,8 @@ repeated step (suc count) made rest = do
   repeated step count next.0 next.1
 
 -- a thing that is read, behind others
-abbrev pub added : {A : Type 0} → List A → Reading A → Reading (List A)
-added front read = read >>= λ found. Ok (front ++ found.0 ∷ [], found.1)
+abbrev pub read_more : {A : Type 0} → List A → Reading A → Reading (List A)
+read_more front read = read >>= λ found. Ok (front ++ found.0 ∷ [], found.1)
 
 -- what stops a reading that is not want of memory
 abbrev pub Stops : {Y : Type 0} → Unread → Result Y Flaw → Type 0

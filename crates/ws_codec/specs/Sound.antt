@@ -43,17 +43,17 @@ pub record IsVariable (weight : ℕ) (value : PlainArray) : Type 0 where
   pub items : AreItems value.items
 
 -- a header or a line that may stand behind what weighs so much
-pub record IsLine (weight : ℕ) (line : List ℕ) : Type 0 where
+pub record IsLineOfFunction (weight : ℕ) (line : List ℕ) : Type 0 where
   pub within : is_within most_line_glyphs weight (length line) ≡ true
   pub coded : list_all is_code line ≡ true
 
 -- a function of this name that may stand behind objects of this weight
 pub record IsDefined (name : List ℕ) (weight : ℕ) (function : PlainFunction) : Type 0 where
-  pub text : IsLine (weight + 1) function.text
+  pub text : IsLineOfFunction (weight + 1) function.text
   pub header : header_of function.text ≡ Some function.header
   pub named : function.header.name ≡ name
   pub count : is_within most_function_lines (weight + 1 + length function.text) (length function.lines) ≡ true
-  pub lines : Follow (λ front line. IsLine (weight + 1 + length function.text + length function.lines + glyph_count front) line) [] function.lines
+  pub lines : Follow (λ front line. IsLineOfFunction (weight + 1 + length function.text + length function.lines + glyph_count front) line) [] function.lines
 
 -- what an object of this name may be, behind objects of this weight
 abbrev pub IsMeaning : List ℕ → ℕ → Meaning → Type 0
@@ -77,7 +77,7 @@ pub record IsOffer (table : NameTable) (front : List Remake) (offer : Remake) : 
   pub to : is_addressee offer.to ≡ true
 
 -- objects and offers that saved bytes can hold
-pub record IsSound (table : NameTable) (remakes : List Remake) : Type 0 where
+pub record CanBeSaved (table : NameTable) (remakes : List Remake) : Type 0 where
   pub count : length table < 4294967296
   pub objects : Follow IsObject [] table
   pub few : nat_le (length remakes) most_offers ≡ true

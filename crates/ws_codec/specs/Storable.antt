@@ -12,7 +12,7 @@ use Rattle.ws_codec.specs.Fields.{is_code}
 use Rattle.ws_codec.specs.Sound.{AreItems}
 
 -- an array, its items numbers of 64 bits or codes of glyphs
-pub record IsStored (value : PlainArray) : Type 0 where
+pub record IsStorableValue (value : PlainArray) : Type 0 where
   pub array : IsArray value
   pub items : AreItems value.items
 
@@ -21,18 +21,18 @@ abbrev pub IsCoded : List ℕ → Type 0
 IsCoded line = list_all is_code line ≡ true
 
 -- the header and the lines of a function are of glyphs
-pub record IsSpelled (function : PlainFunction) : Type 0 where
+pub record IsOfGlyphs (function : PlainFunction) : Type 0 where
   pub text : IsCoded function.text
   pub lines : All IsCoded function.lines
 
 -- such a value, or such a function
 abbrev pub IsStorableMeaning : Meaning → Type 0
 IsStorableMeaning Nothing = Unit {0}
-IsStorableMeaning (Value value) = IsStored value
-IsStorableMeaning (Function function) = IsSpelled function
+IsStorableMeaning (Value value) = IsStorableValue value
+IsStorableMeaning (Function function) = IsOfGlyphs function
 IsStorableMeaning (Label line) = Unit {0}
 IsStorableMeaning (Shared None) = Unit {0}
-IsStorableMeaning (Shared (Some copy)) = IsStored copy
+IsStorableMeaning (Shared (Some copy)) = IsStorableValue copy
 
 -- an offer by its names
 pub record HasNames (offer : Remake) : Type 0 where
@@ -40,11 +40,11 @@ pub record HasNames (offer : Remake) : Type 0 where
   pub surrogate : is_name offer.surrogate ≡ true
 
 -- a name and what it stands for
-pub record IsEntry (entry : List ℕ × Meaning) : Type 0 where
+pub record IsStorableEntry (entry : List ℕ × Meaning) : Type 0 where
   pub name : is_name entry.0 ≡ true
   pub meaning : IsStorableMeaning entry.1
 
 -- a workspace of names, of such values and of such functions
 pub record IsStorable (w : PlainWorkspace) : Type 0 where
-  pub globals : All IsEntry w.globals
+  pub globals : All IsStorableEntry w.globals
   pub offers : All HasNames w.offers

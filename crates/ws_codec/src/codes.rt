@@ -5,21 +5,21 @@ ghost use Rattle.ws_codec.specs.Fields.{is_code, name_of_codes};
 use apl_arrays::{Glyph, Line, List, Name, WantOfMemory};
 use std::alloc::Global;
 
-/// Whether a byte is the code of a glyph. No memory.
+/// Whether a byte is the code of a glyph.
 pub fn is_code(byte: u8) -> bool
     ensures { result ≡ is_code byte }
 {
     byte >= 32 && byte <= 162 && byte != 127
 }
 
-/// Whether all bytes are codes of glyphs. No memory.
+/// Whether all bytes are codes of glyphs.
 pub fn are_codes(bytes: &[u8]) -> bool
     ensures { result ≡ list_all is_code bytes.now }
 {
     bytes.iter().all(|byte| is_code(*byte))
 }
 
-/// How many bytes at the front are codes of glyphs. No memory.
+/// How many bytes at the front are codes of glyphs.
 #[tactic(auto, using(crate::proofs::CodeLemmas::run_fits))]
 pub fn code_count(bytes: &[u8]) -> usize
     ensures value { result ≡ prefix_len is_code bytes.now }

@@ -1,5 +1,5 @@
 ghost use Rattle.std.specs.Prelude.{◌≡◌, ◌<◌, ◌^◌, IfOk, length};
-ghost use Rattle.ws_codec.specs.Fields.{byte_at, glyphs_at, integer_at, name_at, number_at, same_at};
+ghost use Rattle.ws_codec.specs.Fields.{read_byte, read_glyphs, read_integer, read_name, read_number, read_same};
 ghost use Rattle.ws_codec.specs.Reading.{Gives};
 
 use crate::codes::{are_codes, code_count, line_of, name_of_codes};
@@ -26,14 +26,14 @@ impl<'a> Model for Cursor<'a> {
 }
 
 impl<'a> Cursor<'a> {
-    /// Bytes of which nothing is read yet. No memory.
+    /// Bytes of which nothing is read yet.
     pub fn new(bytes: &'a [u8]) -> Cursor<'a>
         ensures { result ≡ bytes.now }
     {
         Cursor { rest: bytes }
     }
 
-    /// How many bytes are left. No memory.
+    /// How many bytes are left.
     pub fn left(&self) -> usize
         ensures value { result ≡ length self.now }
         ensures within { result < 2 ^ 63 }
@@ -41,10 +41,10 @@ impl<'a> Cursor<'a> {
         self.rest.len()
     }
 
-    /// Reads a byte. No memory.
-    #[tactic(auto, unfolding(crate::specs::Fields::byte_at))]
+    /// Reads a byte. It takes no memory.
+    #[tactic(auto, unfolding(crate::specs::Fields::read_byte))]
     pub fn byte(&mut self) -> Result<u8, Unread>
-        ensures { Gives (λ byte. (byte, self.new)) result (byte_at self.old) }
+        ensures { Gives (λ byte. (byte, self.new)) result (read_byte self.old) }
     {
         match self.rest {
             [] => Err(cut()),
@@ -56,40 +56,40 @@ impl<'a> Cursor<'a> {
         }
     }
 
-    /// Reads as many bytes as these are, and tells whether they are the same. No memory.
-    #[tactic(auto, unfolding(crate::specs::Fields::same_at))]
+    /// Reads as many bytes as these are, and tells whether they are the same. It takes no memory.
+    #[tactic(auto, unfolding(crate::specs::Fields::read_same))]
     pub fn begins_with(&mut self, front: &[u8]) -> Result<bool, Unread>
-        ensures { Gives (λ same. (same, self.new)) result (same_at front.now self.old) }
+        ensures { Gives (λ same. (same, self.new)) result (read_same front.now self.old) }
     {
         let (field, rest) = bytes_at(front.len(), self.rest)?;
         self.rest = rest;
         Ok(field == front)
     }
 
-    /// Reads a number of two bytes, the highest first. No memory.
-    #[tactic(auto, unfolding(crate::specs::Fields::number_at))]
+    /// Reads a number of two bytes, the highest first. It takes no memory.
+    #[tactic(auto, unfolding(crate::specs::Fields::read_number))]
     pub fn number16(&mut self) -> Result<u16, Unread>
-        ensures { Gives (λ number. (number, self.new)) result (number_at 2 self.old) }
+        ensures { Gives (λ number. (number, self.new)) result (read_number 2 self.old) }
     {
         let (field, rest) = bytes_at(2, self.rest)?;
         self.rest = rest;
         Ok(BigEndian::read_u16(field))
     }
 
-    /// Reads a number of four bytes, the highest first. No memory.
-    #[tactic(auto, unfolding(crate::specs::Fields::number_at))]
+    /// Reads a number of four bytes, the highest first. It takes no memory.
+    #[tactic(auto, unfolding(crate::specs::Fields::read_number))]
     pub fn number32(&mut self) -> Result<u32, Unread>
-        ensures { Gives (λ number. (number, self.new)) result (number_at 4 self.old) }
+        ensures { Gives (λ number. (number, self.new)) result (read_number 4 self.old) }
     {
         let (field, rest) = bytes_at(4, self.rest)?;
         self.rest = rest;
         Ok(BigEndian::read_u32(field))
     }
 
-    /// Reads a number of eight bytes with a sign, the highest first. No memory.
-    #[tactic(auto, unfolding(crate::specs::Fields::integer_at))]
+    /// Reads a number of eight bytes with a sign, the highest first. It takes no memory.
+    #[tactic(auto, unfolding(crate::specs::Fields::read_integer))]
     pub fn integer(&mut self) -> Result<i64, Unread>
-        ensures { Gives (λ number. (number, self.new)) result (integer_at self.old) }
+        ensures { Gives (λ number. (number, self.new)) result (read_integer self.old) }
     {
         let (field, rest) = bytes_at(8, self.rest)?;
         self.rest = rest;
@@ -97,9 +97,9 @@ impl<'a> Cursor<'a> {
     }
 
     /// Reads so many codes of glyphs. It takes memory for them.
-    #[tactic(auto, unfolding(crate::specs::Fields::glyphs_at))]
+    #[tactic(auto, unfolding(crate::specs::Fields::read_glyphs))]
     pub fn glyphs(&mut self, alloc: Global, count: usize) -> Result<Line, Unread>
-        ensures value { Gives (λ line. (line.items, self.new)) result (glyphs_at count self.old) }
+        ensures value { Gives (λ line. (line.items, self.new)) result (read_glyphs count self.old) }
         ensures count { IfOk result (λ line. length line.items ≡ count) }
     {
         let left = self.left();
@@ -112,9 +112,9 @@ impl<'a> Cursor<'a> {
     }
 
     /// Reads a length of one byte, and the codes of a name. It takes memory for a line of them.
-    #[tactic(auto, unfolding(crate::specs::Fields::name_at))]
+    #[tactic(auto, unfolding(crate::specs::Fields::read_name))]
     pub fn name(&mut self, alloc: Global) -> Result<Name, Unread>
-        ensures { Gives (λ name. (name, self.new)) result (name_at self.old) }
+        ensures { Gives (λ name. (name, self.new)) result (read_name self.old) }
     {
         let left = self.left();
         let count = self.byte()?;

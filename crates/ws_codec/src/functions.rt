@@ -3,8 +3,8 @@ ghost use Rattle.apl_arrays.specs.Limits.{most_line_glyphs};
 ghost use Rattle.apl_workspace.specs.Function.{IsFunction, function_weight, lines_weight};
 ghost use Rattle.apl_workspace.specs.Header.{header_of};
 ghost use Rattle.apl_workspace.specs.Limits.{most_function_lines, most_weight};
-ghost use Rattle.ws_codec.specs.Functions.{function_at, glyph_count, header_at, header_named, is_within, line_at, lines_at, next_line};
-ghost use Rattle.ws_codec.specs.Reading.{Gives, added, repeated};
+ghost use Rattle.ws_codec.specs.Functions.{read_function, glyph_count, read_header, header_named, is_within, read_line, read_lines, read_next_line};
+ghost use Rattle.ws_codec.specs.Reading.{Gives, read_more, repeated};
 
 use crate::cursor::Cursor;
 use crate::saved::SavedRule;
@@ -14,7 +14,7 @@ use apl_workspace::{FUNCTION_LINE_LIMIT, Function, Header, WEIGHT_LIMIT};
 use std::alloc::Global;
 
 /// Reads a function of this name behind objects of this weight. It takes memory for the function.
-#[tactic(auto, unfolding(crate::specs::Functions::function_at))]
+#[tactic(auto, unfolding(crate::specs::Functions::read_function))]
 pub fn read_function(
     alloc: Global,
     name: &Name,
@@ -22,7 +22,7 @@ pub fn read_function(
     cursor: &mut Cursor<'_>,
 ) -> Result<Function, Unread>
     requires { weight ≤ most_weight }
-    ensures value { Gives (λ function. (function, cursor.new)) result (function_at name.now weight cursor.old) }
+    ensures value { Gives (λ function. (function, cursor.new)) result (read_function name.now weight cursor.old) }
     ensures whole { IfOk result (λ function. IsFunction function) }
     ensures name { IfOk result (λ function. function.header.name ≡ name.now) }
     ensures light { IfOk result (λ function. weight + function_weight function ≤ most_weight) }
@@ -34,7 +34,7 @@ pub fn read_function(
 }
 
 /// Reads a header of this name, as it was entered and what it is, behind what weighs so much.
-#[tactic(auto, unfolding(crate::specs::Functions::header_at))]
+#[tactic(auto, unfolding(crate::specs::Functions::read_header))]
 fn read_header(
     alloc: Global,
     name: &Name,
@@ -42,7 +42,7 @@ fn read_header(
     cursor: &mut Cursor<'_>,
 ) -> Result<(Line, Header), Unread>
     requires { weight ≤ most_weight + 1 }
-    ensures value { Gives (λ found. ((found.0.items, found.1), cursor.new)) result (header_at name.now weight cursor.old) }
+    ensures value { Gives (λ found. ((found.0.items, found.1), cursor.new)) result (read_header name.now weight cursor.old) }
     ensures header { IfOk result (λ found. header_of found.0.items ≡ Some found.1) }
     ensures name { IfOk result (λ found. found.1.name ≡ name.now) }
     ensures short { IfOk result (λ found. length found.0.items ≤ most_line_glyphs) }
@@ -92,10 +92,10 @@ fn is_within(most: usize, weight: usize, count: u16) -> bool
 }
 
 /// Reads a header or a line behind what weighs so much: its length and its codes.
-#[tactic(auto, unfolding(crate::specs::Functions::line_at))]
+#[tactic(auto, unfolding(crate::specs::Functions::read_line))]
 fn read_line(alloc: Global, weight: usize, cursor: &mut Cursor<'_>) -> Result<Line, Unread>
     requires { weight ≤ most_weight + 1 }
-    ensures value { Gives (λ line. (line.items, cursor.new)) result (line_at weight cursor.old) }
+    ensures value { Gives (λ line. (line.items, cursor.new)) result (read_line weight cursor.old) }
     ensures short { IfOk result (λ line. length line.items ≤ most_line_glyphs) }
     ensures light { IfOk result (λ line. weight + length line.items ≤ most_weight) }
 {
@@ -108,10 +108,10 @@ fn read_line(alloc: Global, weight: usize, cursor: &mut Cursor<'_>) -> Result<Li
 }
 
 /// Reads how many lines there are, behind what weighs so much, and the lines.
-#[tactic(auto, unfolding(crate::specs::Functions::lines_at))]
+#[tactic(auto, unfolding(crate::specs::Functions::read_lines))]
 fn read_lines(alloc: Global, weight: usize, cursor: &mut Cursor<'_>) -> Result<LineList, Unread>
     requires { weight ≤ most_weight }
-    ensures value { Gives (λ lines. (lines.items, cursor.new)) result (lines_at weight cursor.old) }
+    ensures value { Gives (λ lines. (lines.items, cursor.new)) result (read_lines weight cursor.old) }
     ensures few { IfOk result (λ lines. length lines.items ≤ most_function_lines) }
     ensures short { IfOk result (λ lines. All (λ line. length line ≤ most_line_glyphs) lines.items) }
     ensures light { IfOk result (λ lines. weight + lines_weight lines.items ≤ most_weight) }
@@ -133,7 +133,7 @@ fn read_counted_lines(
     cursor: &mut Cursor<'_>,
 ) -> Result<LineList, Unread>
     requires { weight + count ≤ most_weight }
-    ensures value { Gives (λ lines. (lines.items, cursor.new)) result (repeated (next_line (weight + count)) count [] cursor.old) }
+    ensures value { Gives (λ lines. (lines.items, cursor.new)) result (repeated (read_next_line (weight + count)) count [] cursor.old) }
     ensures count { IfOk result (λ lines. length lines.items ≡ count) }
     ensures short { IfOk result (λ lines. All (λ line. length line ≤ most_line_glyphs) lines.items) }
     ensures light { IfOk result (λ lines. weight + lines_weight lines.items ≤ most_weight) }
@@ -157,7 +157,7 @@ fn add_line(
 ) -> Result<usize, Unread>
     requires weight { weight ≤ most_weight }
     requires short { All (λ line. length line ≤ most_line_glyphs) lines.old.items }
-    ensures value { Gives (λ _. (lines.new.items, cursor.new)) result (added lines.old.items (line_at weight cursor.old)) }
+    ensures value { Gives (λ _. (lines.new.items, cursor.new)) result (read_more lines.old.items (read_line weight cursor.old)) }
     ensures weight { IfOk result (λ total. total + glyph_count lines.old.items ≡ weight + glyph_count lines.new.items) }
     ensures within { IfOk result (λ total. total ≤ most_weight) }
     ensures one { IfOk result (λ _. length lines.new.items ≡ length lines.old.items + 1) }

@@ -1,24 +1,24 @@
 ghost use Rattle.std.specs.Prelude.{◌≡◌};
-ghost use Rattle.ws_codec.specs.Objects.{kind_of};
+ghost use Rattle.ws_codec.specs.Objects.{kind_of_byte};
 
 /// What an object is.
 #[derive(Clone, Copy, Debug, PartialEq, Eq)]
-pub enum Kind {
+pub enum ObjectKind {
     Numbers,
     Chars,
     Defined,
 }
 
-/// The kind that a byte tells. No memory.
-pub fn kind_of(byte: u8) -> Option<Kind>
-    ensures { result ≡ kind_of byte }
+/// The kind that a byte tells.
+pub fn kind_of(byte: u8) -> Option<ObjectKind>
+    ensures { result ≡ kind_of_byte byte }
 {
     if byte == 1 {
-        Some(Kind::Numbers)
+        Some(ObjectKind::Numbers)
     } else if byte == 2 {
-        Some(Kind::Chars)
+        Some(ObjectKind::Chars)
     } else if byte == 3 {
-        Some(Kind::Defined)
+        Some(ObjectKind::Defined)
     } else {
         None
     }

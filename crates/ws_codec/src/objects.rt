@@ -3,12 +3,12 @@ ghost use Rattle.apl_workspace.specs.Function.{IsFunction, function_weight};
 ghost use Rattle.apl_workspace.specs.Limits.{most_weight};
 ghost use Rattle.apl_workspace.specs.Meaning.{table_weight, value_weight};
 ghost use Rattle.ws_codec.specs.Kept.{workspace_of};
-ghost use Rattle.ws_codec.specs.Objects.{is_above, kind_at, last_name, meaning_at, next_object, objects_at};
-ghost use Rattle.ws_codec.specs.Reading.{Gives, added, repeated};
+ghost use Rattle.ws_codec.specs.Objects.{is_above, read_kind, last_name, read_meaning, read_next_object, read_objects};
+ghost use Rattle.ws_codec.specs.Reading.{Gives, read_more, repeated};
 
 use crate::cursor::Cursor;
 use crate::functions::read_function;
-use crate::kind::{Kind, kind_of};
+use crate::kind::{ObjectKind, kind_of};
 use crate::saved::SavedRule;
 use crate::unread::{Unread, keeps, known};
 use crate::values::{read_char_array, read_number_array};
@@ -17,9 +17,9 @@ use apl_workspace::{Function, Meaning, Workspace};
 use std::alloc::Global;
 
 /// Reads how many objects there are, and the objects, as the global names of a workspace. It takes memory for them.
-#[tactic(auto, unfolding(crate::specs::Objects::objects_at))]
+#[tactic(auto, unfolding(crate::specs::Objects::read_objects))]
 pub fn read_objects(alloc: Global, cursor: &mut Cursor<'_>) -> Result<Workspace, Unread>
-    ensures value { Gives (λ ws. (ws.globals, cursor.new)) result (objects_at cursor.old) }
+    ensures value { Gives (λ ws. (ws.globals, cursor.new)) result (read_objects cursor.old) }
     ensures plain { IfOk result (λ ws. ws ≡ workspace_of ws.globals) }
 {
     let count = cursor.number32()?;
@@ -29,7 +29,7 @@ pub fn read_objects(alloc: Global, cursor: &mut Cursor<'_>) -> Result<Workspace,
 
 /// Reads so many objects.
 fn read_counted(alloc: Global, count: u32, cursor: &mut Cursor<'_>) -> Result<Workspace, Unread>
-    ensures value { Gives (λ ws. (ws.globals, cursor.new)) result (repeated next_object count [] cursor.old) }
+    ensures value { Gives (λ ws. (ws.globals, cursor.new)) result (repeated read_next_object count [] cursor.old) }
     ensures plain { IfOk result (λ ws. ws ≡ workspace_of ws.globals) }
 {
     let mut ws = Workspace::new(alloc);
@@ -51,7 +51,7 @@ fn add_object(
 ) -> Result<Name, Unread>
     requires plain { ws.old ≡ workspace_of ws.old.globals }
     requires last { before ≡ last_name ws.old.globals }
-    ensures value { Gives (λ _. (ws.new.globals, cursor.new)) result (next_object ws.old.globals cursor.old) }
+    ensures value { Gives (λ _. (ws.new.globals, cursor.new)) result (read_next_object ws.old.globals cursor.old) }
     ensures plain { OnOk result (ws.new ≡ workspace_of ws.new.globals) }
     ensures last { IfOk result (λ name. Some name ≡ last_name ws.new.globals) }
 {
@@ -64,9 +64,9 @@ fn add_object(
 }
 
 /// Reads a kind.
-#[tactic(auto, unfolding(crate::specs::Objects::kind_at))]
-fn read_kind(cursor: &mut Cursor<'_>) -> Result<Kind, Unread>
-    ensures { Gives (λ kind. (kind, cursor.new)) result (kind_at cursor.old) }
+#[tactic(auto, unfolding(crate::specs::Objects::read_kind))]
+fn read_kind(cursor: &mut Cursor<'_>) -> Result<ObjectKind, Unread>
+    ensures { Gives (λ kind. (kind, cursor.new)) result (read_kind cursor.old) }
 {
     let left = cursor.left();
     let byte = cursor.byte()?;
@@ -85,33 +85,33 @@ fn is_above(before: Option<Name>, name: &Name) -> bool
 }
 
 /// Reads what the object of a kind and a name is, behind others, all of lower names.
-#[tactic(auto, unfolding(crate::specs::Objects::meaning_at))]
+#[tactic(auto, unfolding(crate::specs::Objects::read_meaning))]
 fn add_meaning(
     alloc: Global,
     ws: &mut Workspace,
-    kind: Kind,
+    kind: ObjectKind,
     name: Name,
     cursor: &mut Cursor<'_>,
 ) -> Result<(), Unread>
     requires plain { ws.old ≡ workspace_of ws.old.globals }
     requires above { is_above (last_name ws.old.globals) name ≡ true }
-    ensures value { Gives (λ _. (ws.new.globals, cursor.new)) result (added ws.old.globals (meaning_at kind name (table_weight ws.old.globals) cursor.old)) }
+    ensures value { Gives (λ _. (ws.new.globals, cursor.new)) result (read_more ws.old.globals (read_meaning kind name (table_weight ws.old.globals) cursor.old)) }
     ensures plain { OnOk result (ws.new ≡ workspace_of ws.new.globals) }
     ensures last { OnOk result (Some name ≡ last_name ws.new.globals) }
 {
     let weight = weight_of(ws);
     match kind {
-        Kind::Numbers => {
+        ObjectKind::Numbers => {
             let value = read_number_array(alloc, weight, cursor)?;
             put_value(ws, name, value)?;
             Ok(())
         }
-        Kind::Chars => {
+        ObjectKind::Chars => {
             let value = read_char_array(alloc, weight, cursor)?;
             put_value(ws, name, value)?;
             Ok(())
         }
-        Kind::Defined => {
+        ObjectKind::Defined => {
             let function = read_function(alloc, &name, weight, cursor)?;
             put_function(ws, name, function)?;
             Ok(())

@@ -1,5 +1,5 @@
 ghost use Rattle.std.specs.Prelude.{◌≡◌, [], OnOk};
-ghost use Rattle.ws_codec.specs.Offers.{is_free, is_function_in, is_offered, next_offer, offers_at};
+ghost use Rattle.ws_codec.specs.Offers.{is_free, is_function_in, is_offered, read_next_offer, read_offers};
 ghost use Rattle.ws_codec.specs.Reading.{Gives, repeated};
 
 use crate::cursor::Cursor;
@@ -10,13 +10,13 @@ use apl_workspace::{Remake, RemakeList, Seen, Workspace, is_addressee};
 use std::alloc::Global;
 
 /// Reads how many offers there are, and the offers. It takes memory for them.
-#[tactic(auto, unfolding(crate::specs::Offers::offers_at))]
+#[tactic(auto, unfolding(crate::specs::Offers::read_offers))]
 pub fn read_offers(
     alloc: Global,
     ws: &Workspace,
     cursor: &mut Cursor<'_>,
 ) -> Result<RemakeList, Unread>
-    ensures { Gives (λ offers. (offers.items, cursor.new)) result (offers_at ws.now.globals cursor.old) }
+    ensures { Gives (λ offers. (offers.items, cursor.new)) result (read_offers ws.now.globals cursor.old) }
 {
     let left = cursor.left();
     let count = cursor.byte()?;
@@ -32,7 +32,7 @@ fn read_counted(
     count: u8,
     cursor: &mut Cursor<'_>,
 ) -> Result<RemakeList, Unread>
-    ensures { Gives (λ offers. (offers.items, cursor.new)) result (repeated (next_offer ws.now.globals) count [] cursor.old) }
+    ensures { Gives (λ offers. (offers.items, cursor.new)) result (repeated (read_next_offer ws.now.globals) count [] cursor.old) }
 {
     let mut offers = List::new(alloc);
     for _ in 0..count {
@@ -49,7 +49,7 @@ fn add_offer(
     offers: &mut RemakeList,
     cursor: &mut Cursor<'_>,
 ) -> Result<(), Unread>
-    ensures { Gives (λ _. (offers.new.items, cursor.new)) result (next_offer ws.now.globals offers.old.items cursor.old) }
+    ensures { Gives (λ _. (offers.new.items, cursor.new)) result (read_next_offer ws.now.globals offers.old.items cursor.old) }
 {
     let left = cursor.left();
     let local = cursor.name(alloc)?;

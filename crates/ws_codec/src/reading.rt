@@ -1,6 +1,6 @@
 ghost use Rattle.std.specs.Prelude.{◌≡◌, ◌==◌, ◌||◌};
 ghost use Rattle.ws_codec.specs.Reading.{Gives};
-ghost use Rattle.ws_codec.specs.Saved.{ReadsSaved, offers_of_version, place_of, plain_saved, saved_at, version_at};
+ghost use Rattle.ws_codec.specs.Saved.{ReadsSaved, offers_of_version, flaw_place, plain_saved, read_saved, read_version};
 
 use crate::cursor::Cursor;
 use crate::objects::read_objects;
@@ -26,7 +26,7 @@ pub fn read(alloc: Global, bytes: &[u8]) -> Result<Saved, CodecRefused>
 
 /// Why bytes of this length are refused where a rule is broken.
 fn bad_bytes(count: usize, flaw: Flaw) -> CodecRefused
-    ensures { result ≡ CodecRefused.BadBytes (place_of count flaw).0 (place_of count flaw).1 }
+    ensures { result ≡ CodecRefused.BadBytes (flaw_place count flaw).0 (flaw_place count flaw).1 }
 {
     CodecRefused::BadBytes {
         offset: count.saturating_sub(flaw.left) as u64,
@@ -35,9 +35,9 @@ fn bad_bytes(count: usize, flaw: Flaw) -> CodecRefused
 }
 
 /// Reads objects and offers to the end of the bytes.
-#[tactic(auto, unfolding(crate::specs::Saved::saved_at))]
+#[tactic(auto, unfolding(crate::specs::Saved::read_saved))]
 fn read_saved(alloc: Global, bytes: &[u8]) -> Result<Saved, Unread>
-    ensures { Gives plain_saved result (saved_at bytes.now) }
+    ensures { Gives plain_saved result (read_saved bytes.now) }
 {
     let mut cursor = Cursor::new(bytes);
     let version = read_version(&mut cursor)?;
@@ -49,9 +49,9 @@ fn read_saved(alloc: Global, bytes: &[u8]) -> Result<Saved, Unread>
 }
 
 /// Reads the bytes in front, and the version.
-#[tactic(auto, unfolding(crate::specs::Saved::version_at))]
+#[tactic(auto, unfolding(crate::specs::Saved::read_version))]
 fn read_version(cursor: &mut Cursor<'_>) -> Result<u8, Unread>
-    ensures { Gives (λ version. (version, cursor.new)) result (version_at cursor.old) }
+    ensures { Gives (λ version. (version, cursor.new)) result (read_version cursor.old) }
 {
     let front = cursor.left();
     let right = cursor.begins_with(b"APLS")?;

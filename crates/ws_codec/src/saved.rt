@@ -44,7 +44,7 @@ pub enum SavedRule {
 }
 
 impl SavedRule {
-    /// The name of the rule. No memory.
+    /// The name of the rule.
     pub fn text(self) -> &'static str
         ensures { result.now ≡ rule_text self }
     {

@@ -1,5 +1,5 @@
 ghost use Rattle.std.specs.Prelude.{◌≡◌, true, Some, IfOk, OnOk};
-ghost use Rattle.ws_codec.specs.Reading.{Gives, keeps, known};
+ghost use Rattle.ws_codec.specs.Reading.{Gives, keeps, required};
 ghost use Rattle.ws_codec.specs.declared.unread.Unread.TheVariants.{WantOfMemory as NoMemory};
 
 use crate::saved::SavedRule;
@@ -29,14 +29,14 @@ impl From<WantOfMemory> for Unread {
     }
 }
 
-/// A rule is broken where so many bytes are left. No memory.
+/// A rule is broken where so many bytes are left. It takes no memory.
 pub fn flawed(rule: SavedRule, left: usize) -> Unread
     ensures { result ≡ Unread.Flawed (record { rule = rule; left = left }) }
 {
     Unread::Flawed(Flaw { rule, left })
 }
 
-/// A rule that a test keeps; else it is broken where so many bytes are left. No memory.
+/// A rule that a test keeps; else it is broken where so many bytes are left. It takes no memory.
 #[tactic(auto, unfolding(crate::specs::Reading::keeps))]
 pub fn keeps(test: bool, rule: SavedRule, left: usize) -> Result<(), Unread>
     ensures value { Gives (λ _. tt) result (keeps test rule left) }
@@ -49,10 +49,10 @@ pub fn keeps(test: bool, rule: SavedRule, left: usize) -> Result<(), Unread>
     }
 }
 
-/// A thing that is there; else a rule is broken where so many bytes are left. No memory.
-#[tactic(auto, unfolding(crate::specs::Reading::known))]
+/// A thing that is there; else a rule is broken where so many bytes are left. It takes no memory.
+#[tactic(auto, unfolding(crate::specs::Reading::required))]
 pub fn known<T>(found: Option<T>, rule: SavedRule, left: usize) -> Result<T, Unread>
-    ensures value { Gives (λ x. x) result (known found rule left) }
+    ensures value { Gives (λ x. x) result (required found rule left) }
     ensures there { IfOk result (λ x. found ≡ Some x) }
 {
     match found {

@@ -5,7 +5,7 @@ ghost use Rattle.apl_arrays.specs.Shape.{shape_fault};
 ghost use Rattle.apl_workspace.specs.Limits.{most_weight};
 ghost use Rattle.apl_workspace.specs.Meaning.{value_weight};
 ghost use Rattle.ws_codec.specs.Reading.{Gives, repeated};
-ghost use Rattle.ws_codec.specs.Values.{at_last_axis, axis_at, char_array_at, next_axis, next_integer, number_array_at, numbers_at, shape_at};
+ghost use Rattle.ws_codec.specs.Values.{at_last_axis, read_axis, read_char_array, read_next_axis, read_next_integer, read_number_array, read_numbers, read_shape};
 
 use crate::cursor::Cursor;
 use crate::saved::SavedRule;
@@ -17,14 +17,14 @@ use apl_workspace::WEIGHT_LIMIT;
 use std::alloc::Global;
 
 /// Reads a variable of numbers behind objects of this weight. It takes memory for the variable.
-#[tactic(auto, unfolding(crate::specs::Values::number_array_at))]
+#[tactic(auto, unfolding(crate::specs::Values::read_number_array))]
 pub fn read_number_array(
     alloc: Global,
     weight: usize,
     cursor: &mut Cursor<'_>,
 ) -> Result<Array, Unread>
     requires { weight ≤ most_weight }
-    ensures value { Gives (λ array. (array, cursor.new)) result (number_array_at weight cursor.old) }
+    ensures value { Gives (λ array. (array, cursor.new)) result (read_number_array weight cursor.old) }
     ensures light { IfOk result (λ array. weight + value_weight array ≤ most_weight) }
 {
     let shape = read_shape(alloc, weight, cursor)?;
@@ -34,14 +34,14 @@ pub fn read_number_array(
 }
 
 /// Reads a variable of characters behind objects of this weight. It takes memory for the variable.
-#[tactic(auto, unfolding(crate::specs::Values::char_array_at))]
+#[tactic(auto, unfolding(crate::specs::Values::read_char_array))]
 pub fn read_char_array(
     alloc: Global,
     weight: usize,
     cursor: &mut Cursor<'_>,
 ) -> Result<Array, Unread>
     requires { weight ≤ most_weight }
-    ensures value { Gives (λ array. (array, cursor.new)) result (char_array_at weight cursor.old) }
+    ensures value { Gives (λ array. (array, cursor.new)) result (read_char_array weight cursor.old) }
     ensures light { IfOk result (λ array. weight + value_weight array ≤ most_weight) }
 {
     let shape = read_shape(alloc, weight, cursor)?;
@@ -50,10 +50,10 @@ pub fn read_char_array(
 }
 
 /// Reads the shape of a variable behind objects of this weight: its rank and its axes.
-#[tactic(auto, unfolding(crate::specs::Values::shape_at))]
+#[tactic(auto, unfolding(crate::specs::Values::read_shape))]
 fn read_shape(alloc: Global, weight: usize, cursor: &mut Cursor<'_>) -> Result<List<u32>, Unread>
     requires { weight ≤ most_weight }
-    ensures value { Gives (λ shape. (shape.items, cursor.new)) result (shape_at weight cursor.old) }
+    ensures value { Gives (λ shape. (shape.items, cursor.new)) result (read_shape weight cursor.old) }
     ensures fits { IfOk result (λ shape. FitsLimits shape.items) }
     ensures light { IfOk result (λ shape. weight + (1 + element_count shape.items) ≤ most_weight) }
 {
@@ -97,7 +97,7 @@ fn at_last_axis(axes: &[u32], left: usize) -> usize
 
 /// Reads so many axes.
 fn read_axes(alloc: Global, cursor: &mut Cursor<'_>, rank: u8) -> Result<List<u32>, Unread>
-    ensures { Gives (λ axes. (axes.items, cursor.new)) result (repeated next_axis rank [] cursor.old) }
+    ensures { Gives (λ axes. (axes.items, cursor.new)) result (repeated read_next_axis rank [] cursor.old) }
 {
     let mut axes = List::new(alloc);
     for _ in 0..rank {
@@ -108,7 +108,7 @@ fn read_axes(alloc: Global, cursor: &mut Cursor<'_>, rank: u8) -> Result<List<u3
 
 /// Reads an axis behind others.
 fn add_axis(axes: &mut List<u32>, cursor: &mut Cursor<'_>) -> Result<(), Unread>
-    ensures { Gives (λ _. (axes.new.items, cursor.new)) result (next_axis axes.old.items cursor.old) }
+    ensures { Gives (λ _. (axes.new.items, cursor.new)) result (read_next_axis axes.old.items cursor.old) }
 {
     let axis = read_axis(cursor)?;
     axes.push(axis)?;
@@ -116,9 +116,9 @@ fn add_axis(axes: &mut List<u32>, cursor: &mut Cursor<'_>) -> Result<(), Unread>
 }
 
 /// Reads an axis.
-#[tactic(auto, unfolding(crate::specs::Values::axis_at))]
+#[tactic(auto, unfolding(crate::specs::Values::read_axis))]
 fn read_axis(cursor: &mut Cursor<'_>) -> Result<u32, Unread>
-    ensures { Gives (λ axis. (axis, cursor.new)) result (axis_at cursor.old) }
+    ensures { Gives (λ axis. (axis, cursor.new)) result (read_axis cursor.old) }
 {
     let left = cursor.left();
     let axis = cursor.number32()?;
@@ -127,10 +127,10 @@ fn read_axis(cursor: &mut Cursor<'_>) -> Result<u32, Unread>
 }
 
 /// Reads so many numbers, which are one field: where they are cut no memory is taken for them.
-#[tactic(auto, unfolding(crate::specs::Values::numbers_at))]
+#[tactic(auto, unfolding(crate::specs::Values::read_numbers))]
 fn read_numbers(alloc: Global, cursor: &mut Cursor<'_>, count: usize) -> Result<List<i64>, Unread>
     requires { count ≤ most_elements }
-    ensures value { Gives (λ numbers. (numbers.items, cursor.new)) result (numbers_at count cursor.old) }
+    ensures value { Gives (λ numbers. (numbers.items, cursor.new)) result (read_numbers count cursor.old) }
     ensures count { IfOk result (λ numbers. length numbers.items ≡ count) }
 {
     keeps(8 * count <= cursor.left(), SavedRule::Short, 0)?;
@@ -140,7 +140,7 @@ fn read_numbers(alloc: Global, cursor: &mut Cursor<'_>, count: usize) -> Result<
 
 /// Reads so many numbers, one behind another.
 fn read_integers(alloc: Global, cursor: &mut Cursor<'_>, count: usize) -> Result<List<i64>, Unread>
-    ensures value { Gives (λ numbers. (numbers.items, cursor.new)) result (repeated next_integer count [] cursor.old) }
+    ensures value { Gives (λ numbers. (numbers.items, cursor.new)) result (repeated read_next_integer count [] cursor.old) }
     ensures count { IfOk result (λ numbers. length numbers.items ≡ count) }
 {
     let mut numbers = List::new(alloc);
@@ -152,7 +152,7 @@ fn read_integers(alloc: Global, cursor: &mut Cursor<'_>, count: usize) -> Result
 
 /// Reads a number behind others.
 fn add_integer(numbers: &mut List<i64>, cursor: &mut Cursor<'_>) -> Result<(), Unread>
-    ensures value { Gives (λ _. (numbers.new.items, cursor.new)) result (next_integer numbers.old.items cursor.old) }
+    ensures value { Gives (λ _. (numbers.new.items, cursor.new)) result (read_next_integer numbers.old.items cursor.old) }
     ensures one { OnOk result (length numbers.new.items ≡ length numbers.old.items + 1) }
 {
     let number = cursor.integer()?;

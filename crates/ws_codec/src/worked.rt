@@ -1,27 +1,27 @@
 //! Worked bytes, right ones and wrong ones. The calls do nothing.
 
 ghost use Rattle.std.specs.Prelude.{◌≡◌, ◌++◌, ◌∷◌, [], None, Ok, Some, slice_set, take};
-ghost use Rattle.ws_codec.specs.Saved.{reading_of, saved_of, spoils};
+ghost use Rattle.ws_codec.specs.Saved.{saved_reading, saved_of, spoils};
 ghost use Rattle.ws_codec.specs.SavedText.{saved, saved1};
 ghost use Rattle.ws_codec.specs.Worked.{first_bytes, offer_front, offer_to, offered_bytes, second_objects, three, three_alone, three_offered, twice, two_hundred, up_to_character, up_to_rank};
 
 use crate::SavedRule;
 
-/// X is 3, alone and offered to 1002, in both versions. No memory.
+/// X is 3, alone and offered to 1002, in both versions.
 pub fn worked_bytes()
     ensures alone { saved three_alone ≡ second_objects ++ 0 ∷ [] }
     ensures offered { saved three_offered ≡ offered_bytes }
     ensures first { saved1 three_alone ≡ first_bytes }
 {}
 
-/// What these bytes are read as. No memory.
+/// What these bytes are read as.
 pub fn worked_bytes_are_read()
-    ensures first { reading_of first_bytes ≡ Ok (saved_of three []) }
-    ensures second { reading_of (second_objects ++ 0 ∷ []) ≡ Ok (saved_of three []) }
-    ensures offered { reading_of offered_bytes ≡ Ok (saved_of three (offer_to 1002 ∷ [])) }
+    ensures first { saved_reading first_bytes ≡ Ok (saved_of three []) }
+    ensures second { saved_reading (second_objects ++ 0 ∷ []) ≡ Ok (saved_of three []) }
+    ensures offered { saved_reading offered_bytes ≡ Ok (saved_of three (offer_to 1002 ∷ [])) }
 {}
 
-/// The first field that breaks a rule, in bytes with a mistake. No memory.
+/// The first field that breaks a rule, in bytes with a mistake.
 pub fn worked_mistakes()
     ensures magic { spoils (slice_set first_bytes 0 0x42) ≡ Some (0, SavedRule.Magic) }
     ensures version { spoils (slice_set first_bytes 4 0x03) ≡ Some (4, SavedRule.Version) }

@@ -6,11 +6,11 @@ use Rattle.apl_arrays.specs.Name.{is_name}
 use Rattle.ws_commands.specs.declared.command.Command.{Command}
 use Rattle.ws_commands.specs.declared.word.Need.{Need}
 use Rattle.ws_commands.specs.declared.word.Need.TheVariants.{No, May, Must}
-use Rattle.ws_commands.specs.declared.word.Word.{Word}
+use Rattle.ws_commands.specs.declared.word.CommandWord.{CommandWord}
 
 -- a command: its word, the name of a workspace, where one is given, and the names of objects
 pub record PlainCommand : Type 0 where
-  pub word : Word
+  pub word : CommandWord
   pub workspace : Option (List ℕ)
   pub objects : List (List ℕ)
 

@@ -38,14 +38,14 @@ is_off (set_id name) = false
 is_off off = true
 
 -- the workspace that a change brings, where it brings one
-abbrev pub brought : PlainChange → Option PlainWorkspace
-brought keep = None
-brought clear = None
-brought (replace workspace name) = Some workspace
-brought (swap workspace) = Some workspace
-brought (erase names) = None
-brought (set_id name) = None
-brought off = None
+abbrev pub workspace_brought : PlainChange → Option PlainWorkspace
+workspace_brought keep = None
+workspace_brought clear = None
+workspace_brought (replace workspace name) = Some workspace
+workspace_brought (swap workspace) = Some workspace
+workspace_brought (erase names) = None
+workspace_brought (set_id name) = None
+workspace_brought off = None
 
 -- a workspace may come in place of another: no function is under way in it, and it has printed no more
 pub record MayComeIn (old new : PlainWorkspace) : Type 0 where
@@ -55,4 +55,4 @@ pub record MayComeIn (old new : PlainWorkspace) : Type 0 where
 -- a change may be made: the shared names that it gives up were retracted, and the workspace that it brings may come in
 pub record MayBeMade (change : PlainChange) (w : PlainWorkspace) : Type 0 where
   pub retracted : given_up change w ≡ []
-  pub comes : IfSome (brought change) (MayComeIn w)
+  pub comes : IfSome (workspace_brought change) (MayComeIn w)

@@ -5,7 +5,7 @@ use Rattle.apl_workspace.specs.Workspace.{PlainWorkspace, global_in}
 use Rattle.apl_workspace.specs.declared.meaning.Meaning.{Meaning}
 use Rattle.apl_workspace.specs.declared.meaning.Meaning.TheVariants.{Nothing, Value, Function, Label, Shared}
 use Rattle.ws_commands.specs.Mention.{mentions_of}
-use Rattle.ws_commands.specs.Todo.{PlainTodo, clear, counting, doing, erase, naming, off, saying}
+use Rattle.ws_commands.specs.Todo.{PlainTodo, clear, counting, doing, erase, id_and_lines, off, saying}
 use Rattle.ws_commands.specs.declared.mention.Mention.{Mention}
 
 -- )CLEAR
@@ -13,8 +13,8 @@ abbrev pub clearing : PlainWorkspace → PlainTodo
 clearing w = doing w clear (codes "CLEAR WS" ∷ [])
 
 -- )OFF
-abbrev pub leaving : PlainTodo
-leaving = record { retract = []; lines = []; counted = false; change = off; remakes = [] }
+abbrev pub ending_session : PlainTodo
+ending_session = record { retract = []; lines = []; counted = false; change = off; remakes = [] }
 
 -- a name behind two blanks
 abbrev pub behind_blanks : List ℕ → List ℕ
@@ -58,4 +58,4 @@ old_id_line (Some name) = codes "WAS " ++ name
 -- )WSID, without a name or with one
 abbrev pub identifying : Option (List ℕ) → Option (List ℕ) → PlainTodo
 identifying None id = saying (id_line id ∷ [])
-identifying (Some name) id = naming name (old_id_line id ∷ [])
+identifying (Some name) id = id_and_lines name (old_id_line id ∷ [])

@@ -15,10 +15,10 @@ pub record CountsFaults {T : Type 0} (before now : ℕ) (answer : Result T Store
   pub cause : IsErrOf answer Failed → Rose before now
 
 -- what is to be done by an answer: LIBRARY FAULT and nothing else where the call failed; nothing follows where memory ran out
-abbrev pub Follows : {T : Type 0} → (T → PlainTodo) → Result T StoreError → PlainTodo → Type 0
-Follows next (Ok answer) todo = todo ≡ next answer
-Follows next (Err Failed) todo = todo ≡ faulted
-Follows next (Err WantOfMemory) todo = ⊥
+abbrev pub FollowsCall : {T : Type 0} → (T → PlainTodo) → Result T StoreError → PlainTodo → Type 0
+FollowsCall next (Ok answer) todo = todo ≡ next answer
+FollowsCall next (Err Failed) todo = todo ≡ faulted
+FollowsCall next (Err WantOfMemory) todo = ⊥
 
 -- the names of a user, ascending, where the call answered
 abbrev pub ListsInOrder : Option (Told (ℕ × List ℕ)) → ℕ → Result (List (List ℕ)) StoreError → Option (Told (ℕ × List ℕ)) → Type 0
@@ -30,7 +30,7 @@ module _ {K : Type 0} (told : K → Option (Told (ℕ × List ℕ))) (faults : K
     pub answer : Result T StoreError
     pub told_answer : Tells (told old) answer (told new)
     pub fault : CountsFaults (faults old) (faults new) answer
-    pub after : Follows next answer todo
+    pub after : FollowsCall next answer todo
 
   -- a step of a user, with what is to be done: without a call of the shelf, or with one
   abbrev pub Takes : ℕ → Step → K → PlainTodo → K → Type 0

@@ -73,8 +73,8 @@ abbrev pub counting : List (List ℕ) → PlainTodo
 counting lines = record { retract = []; lines = lines; counted = true; change = keep; remakes = [] }
 
 -- an id and lines, and nothing else
-abbrev pub naming : List ℕ → List (List ℕ) → PlainTodo
-naming name lines = record { retract = []; lines = lines; counted = false; change = set_id name; remakes = [] }
+abbrev pub id_and_lines : List ℕ → List (List ℕ) → PlainTodo
+id_and_lines name lines = record { retract = []; lines = lines; counted = false; change = set_id name; remakes = [] }
 
 -- what is no command, or a command with something else behind it than it takes
 abbrev pub incorrect : PlainTodo

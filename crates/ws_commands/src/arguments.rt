@@ -38,7 +38,7 @@ fn with_rest<'a>(name: Option<Name>, rest: &'a [Glyph]) -> Option<(Option<Name>,
 }
 
 /// The name of a workspace in front of a line, where one may or must stand, and what stands behind it. `None` where the
-/// line begins otherwise. No memory.
+/// line begins otherwise.
 pub(crate) fn workspace_in(need: Need, line: &[Glyph]) -> Option<(Option<Name>, &[Glyph])>
     ensures { MatchOption result (workspace_in need (words_in line.now) ≡ None) (λ found. workspace_in need (words_in line.now) ≡ Some (found.0, words_in found.1.now)) }
 {

@@ -13,7 +13,7 @@ ghost use Rattle.ws_commands.specs.Todo.{PlainChange, given_up, is_another, swap
 use apl_execute::laws::merging_changes_the_copied_names;
 
 /// After a copy the names that are copied stand for what the saved workspace has, and all others, the marks, the offers and
-/// the id are as they were. The call does nothing. No memory.
+/// the id are as they were. The call does nothing.
 pub fn copies_change_the_copied_names()
     ensures names { (w from : PlainWorkspace) (names : Option (List (List ℕ))) (name : List ℕ) → IsWorkspace w → meaning_in (changed (swap (merged w from names)) w).globals name
         ≡ (if is_copied w from name && list_any (same_name name) (asked from names) then copy_in from name else meaning_in w.globals name) }
@@ -25,14 +25,14 @@ pub fn copies_change_the_copied_names()
 }
 
 /// A name whose share was retracted is none of those that a change gives up any more, and all others still are. The call does
-/// nothing. No memory.
+/// nothing.
 pub fn retracted_names_are_given_up()
     ensures unmarked { (change : PlainChange) (w : PlainWorkspace) (name : List ℕ) (value : Option PlainArray) → IsWorkspace w → given_up change (unmarked w name value) ≡ filter (is_another name) (given_up change w) }
     ensures kept { (change : PlainChange) (w : PlainWorkspace) (name : List ℕ) → IsWorkspace w → given_up change (unmarked_with_copy w name) ≡ filter (is_another name) (given_up change w) }
 {}
 
 /// The names that a change gives up may be retracted in their order: the first of them is shared, and once it is retracted,
-/// with a value or with its own copy, the others are left. The call does nothing. No memory.
+/// with a value or with its own copy, the others are left. The call does nothing.
 pub fn retractions_follow_each_other()
     ensures shared { (change : PlainChange) (w : PlainWorkspace) (name : List ℕ) (rest : List (List ℕ)) → IsWorkspace w → given_up change w ≡ name ∷ rest → is_shared w name ≡ true }
     ensures unmarked { (change : PlainChange) (w : PlainWorkspace) (name : List ℕ) (rest : List (List ℕ)) (value : Option PlainArray) → IsWorkspace w → given_up change w ≡ name ∷ rest → given_up change (unmarked w name value) ≡ rest }
@@ -40,7 +40,7 @@ pub fn retractions_follow_each_other()
 {}
 
 /// A workspace that may come in place of another may do so too once names are retracted there, with values or with their own
-/// copies, and once more is printed. The call does nothing. No memory.
+/// copies, and once more is printed. The call does nothing.
 pub fn workspaces_may_still_come_in()
     ensures unmarked { (w new : PlainWorkspace) (name : List ℕ) (value : Option PlainArray) → MayComeIn w new → MayComeIn (unmarked w name value) new }
     ensures kept { (w new : PlainWorkspace) (name : List ℕ) → MayComeIn w new → MayComeIn (unmarked_with_copy w name) new }

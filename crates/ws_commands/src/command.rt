@@ -5,7 +5,7 @@ ghost use Rattle.ws_commands.specs.Reading.{command_in, with_arguments, with_obj
 ghost use Rattle.ws_commands.specs.Words.{words_in};
 
 use crate::arguments::{objects_in, workspace_in};
-use crate::word::{Word, word_of};
+use crate::word::{CommandWord, word_of};
 use crate::words::first_word;
 use apl_arrays::{Glyph, Name, NameList, WantOfMemory};
 use std::alloc::Global;
@@ -13,7 +13,7 @@ use std::alloc::Global;
 /// A command with what stands behind its word: the name of a workspace, where one is given, and the names of objects.
 #[derive(Debug, Drop)]
 pub(crate) struct Command {
-    pub word: Word,
+    pub word: CommandWord,
     pub workspace: Option<Name>,
     pub objects: NameList,
 }
@@ -35,7 +35,7 @@ pub(crate) fn command_of(alloc: Global, line: &[Glyph]) -> Result<Option<Command
 // The command of this word and what stands behind it.
 fn with_arguments(
     alloc: Global,
-    word: Word,
+    word: CommandWord,
     line: &[Glyph],
 ) -> Result<Option<Command>, WantOfMemory>
     ensures { IfOk result (λ command. option_map plain_command command ≡ with_arguments (Some word) (words_in line.now)) }
@@ -50,7 +50,11 @@ fn with_arguments(
 }
 
 // The command of this word, with these objects, where they are ones.
-fn with_objects(word: Word, workspace: Option<Name>, objects: Option<NameList>) -> Option<Command>
+fn with_objects(
+    word: CommandWord,
+    workspace: Option<Name>,
+    objects: Option<NameList>,
+) -> Option<Command>
     ensures { option_map plain_command result ≡ with_objects word workspace (option_map (λ list. list.items) objects) }
 {
     match objects {

@@ -4,10 +4,10 @@ ghost use Rattle.std.specs.Option.{option_map};
 ghost use Rattle.apl_execute.specs.Merge.{copied_as};
 ghost use Rattle.apl_io.specs.Replies.{plain_read};
 ghost use Rattle.apl_workspace.specs.Seen.{plain_seen};
-ghost use Rattle.ws_codec.specs.Saved.{plain_saved, reading_of};
-ghost use Rattle.ws_commands.specs.Library.{asked_for, copied, copied_by, copied_from, copy_lines, left_out, mentioned};
+ghost use Rattle.ws_codec.specs.Saved.{plain_saved, saved_reading};
+ghost use Rattle.ws_commands.specs.Library.{names_asked_for, copied, copied_by, copied_from, copy_lines, left_out, mentioned};
 ghost use Rattle.ws_commands.specs.Mention.{mentions_of};
-ghost use Rattle.ws_commands.specs.Shelf.{Follows};
+ghost use Rattle.ws_commands.specs.Shelf.{FollowsCall};
 ghost use Rattle.ws_commands.specs.Todo.{doing, plain_todo, swap};
 
 use crate::lines::{line_of, one_line, text_line};
@@ -30,7 +30,7 @@ pub(crate) fn copied(
     answer: Result<Option<Bytes>, StoreError>,
 ) -> Result<Todo, WantOfMemory>
     requires { ws.now.frames ≡ [] }
-    ensures { IfOk result (λ todo. Follows (copied name.now objects.now.items ws.now) (plain_read answer) (plain_todo todo)) }
+    ensures { IfOk result (λ todo. FollowsCall (copied name.now objects.now.items ws.now) (plain_read answer) (plain_todo todo)) }
 {
     match answer {
         Ok(Some(bytes)) => copy_bytes(alloc, name, objects, ws, bytes.as_slice()),
@@ -49,7 +49,7 @@ fn copy_bytes(
     bytes: &[u8],
 ) -> Result<Todo, WantOfMemory>
     requires { ws.now.frames ≡ [] }
-    ensures { IfOk result (λ todo. plain_todo todo ≡ copied_by name.now objects.now.items ws.now (reading_of bytes.now)) }
+    ensures { IfOk result (λ todo. plain_todo todo ≡ copied_by name.now objects.now.items ws.now (saved_reading bytes.now)) }
 {
     match read(alloc, bytes) {
         Ok(saved) => copy_saved(alloc, name, objects, ws, saved),
@@ -96,7 +96,7 @@ fn copy_names(
 
 // The names that are asked for, where any are.
 fn asked_for(objects: &NameList) -> Option<&NameList>
-    ensures { option_map (λ asked. asked.now.items) result ≡ asked_for objects.now.items }
+    ensures { option_map (λ asked. asked.now.items) result ≡ names_asked_for objects.now.items }
 {
     match objects.as_slice() {
         [] => None,

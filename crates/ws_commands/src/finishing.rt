@@ -10,7 +10,7 @@ use std::alloc::Global;
 use std::mem;
 
 /// Makes the change of a todo, and says whether it ends the session. The names that the todo wants retracted were, so that
-/// none of those that the change gives up is shared. How many glyphs were printed is kept. No memory.
+/// none of those that the change gives up is shared. How many glyphs were printed is kept.
 pub fn finish(alloc: Global, change: Change, ws: &mut Workspace, wsid: &mut Option<Name>) -> bool
     requires { MayBeMade (plain_change change) ws.old }
     ensures workspace { ws.new ≡ changed (plain_change change) ws.old }

@@ -3,7 +3,7 @@ ghost use Rattle.std.specs.List.{flat_map};
 ghost use Rattle.apl_io.specs.Replies.{plain_names};
 ghost use Rattle.apl_workspace.specs.Listing.{names_asked};
 ghost use Rattle.ws_commands.specs.Names.{behind_blanks, listing, names_line};
-ghost use Rattle.ws_commands.specs.Shelf.{Follows};
+ghost use Rattle.ws_commands.specs.Shelf.{FollowsCall};
 ghost use Rattle.ws_commands.specs.Todo.{counting, plain_todo};
 
 use crate::todo::{Todo, faulted};
@@ -59,7 +59,7 @@ pub(crate) fn library_listed(
     alloc: Global,
     answer: Result<NameList, StoreError>,
 ) -> Result<Todo, WantOfMemory>
-    ensures { IfOk result (λ todo. Follows counting (plain_names answer) (plain_todo todo)) }
+    ensures { IfOk result (λ todo. FollowsCall counting (plain_names answer) (plain_todo todo)) }
 {
     match answer {
         Ok(names) => Ok(Todo::counting(alloc, name_lines(alloc, names.as_slice())?)),

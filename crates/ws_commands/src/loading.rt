@@ -1,9 +1,9 @@
 ghost use Rattle.std.specs.Prelude.{◌≡◌, ◌∷◌, [], ◌++◌, Ok, IfOk, codes, false};
 ghost use Rattle.apl_io.specs.Replies.{plain_read};
 ghost use Rattle.apl_workspace.specs.Listing.{names_asked};
-ghost use Rattle.ws_codec.specs.Saved.{plain_saved, reading_of};
+ghost use Rattle.ws_codec.specs.Saved.{plain_saved, saved_reading};
 ghost use Rattle.ws_commands.specs.Library.{loaded, loaded_by};
-ghost use Rattle.ws_commands.specs.Shelf.{Follows};
+ghost use Rattle.ws_commands.specs.Shelf.{FollowsCall};
 ghost use Rattle.ws_commands.specs.Todo.{plain_todo, replace};
 
 use crate::lines::one_line;
@@ -22,7 +22,7 @@ pub(crate) fn loaded(
     ws: &Workspace,
     answer: Result<Option<Bytes>, StoreError>,
 ) -> Result<Todo, WantOfMemory>
-    ensures { IfOk result (λ todo. Follows (loaded name.now ws.now) (plain_read answer) (plain_todo todo)) }
+    ensures { IfOk result (λ todo. FollowsCall (loaded name.now ws.now) (plain_read answer) (plain_todo todo)) }
 {
     match answer {
         Ok(Some(bytes)) => load_bytes(alloc, name, ws, bytes.as_slice()),
@@ -39,7 +39,7 @@ fn load_bytes(
     ws: &Workspace,
     bytes: &[u8],
 ) -> Result<Todo, WantOfMemory>
-    ensures { IfOk result (λ todo. plain_todo todo ≡ loaded_by name.now ws.now (reading_of bytes.now)) }
+    ensures { IfOk result (λ todo. plain_todo todo ≡ loaded_by name.now ws.now (saved_reading bytes.now)) }
 {
     match read(alloc, bytes) {
         Ok(saved) => load_saved(alloc, name, ws, saved),

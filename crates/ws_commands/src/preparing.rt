@@ -2,11 +2,11 @@ ghost use Rattle.std.specs.Prelude.{◌≡◌, ◌≤◌, [], IfOk, IfSome, OnEr
 ghost use Rattle.std.specs.Option.{option_copied, option_map, option_or};
 ghost use Rattle.apl_io.specs.Faults.{Rose};
 ghost use Rattle.ws_commands.specs.Command.{plain_command};
-ghost use Rattle.ws_commands.specs.Finish.{MayComeIn, brought};
+ghost use Rattle.ws_commands.specs.Finish.{MayComeIn, workspace_brought};
 ghost use Rattle.ws_commands.specs.Library.{copying, dropping, listing_library, loading};
-ghost use Rattle.ws_commands.specs.Names.{clearing, leaving};
-ghost use Rattle.ws_commands.specs.Reading.{step_by, step_of};
-ghost use Rattle.ws_commands.specs.Row.{row_of};
+ghost use Rattle.ws_commands.specs.Names.{clearing, ending_session};
+ghost use Rattle.ws_commands.specs.Reading.{step_of_command, step_of};
+ghost use Rattle.ws_commands.specs.Row.{row_of_word};
 ghost use Rattle.ws_commands.specs.Shelf.{KeepsEntries, Takes};
 ghost use Rattle.ws_commands.specs.Step.{named};
 ghost use Rattle.ws_commands.specs.Todo.{faulted, given_up, plain_change, plain_todo};
@@ -20,7 +20,7 @@ use crate::listing::{library_listed, list_names};
 use crate::loading::loaded;
 use crate::saving::{drop_saved, save};
 use crate::todo::{Change, Todo, incorrect};
-use crate::word::Word;
+use crate::word::CommandWord;
 use apl_arrays::{Line, LineList, Name, NameList, WantOfMemory};
 use apl_io::Shelf;
 use apl_workspace::{What, Workspace};
@@ -43,7 +43,7 @@ pub fn prepare<K: Shelf>(
     ensures todo { IfOk result (λ todo. Takes K.told K.faults user (step_of line.now.items ws.now (option_copied wsid.entry)) shelf.old (plain_todo todo) shelf.new) }
     ensures retract { IfOk result (λ todo. todo.retract.items ≡ given_up (plain_change todo.change) ws.now) }
     ensures fault { IfOk result (λ todo. plain_todo todo ≡ faulted → Rose (K.faults shelf.old) (K.faults shelf.new)) }
-    ensures comes { IfOk result (λ todo. IfSome (brought (plain_change todo.change)) (MayComeIn ws.now)) }
+    ensures comes { IfOk result (λ todo. IfSome (workspace_brought (plain_change todo.change)) (MayComeIn ws.now)) }
     ensures kept { OnErr result (KeepsEntries (K.told shelf.old) (K.told shelf.new)) }
     ensures counted { K.faults shelf.old ≤ K.faults shelf.new }
 {
@@ -63,7 +63,7 @@ fn perform_known<K: Shelf>(
     shelf: &mut K,
 ) -> Result<Todo, WantOfMemory>
     requires frames { ws.now.frames ≡ [] }
-    ensures ok { IfOk result (λ todo. Takes K.told K.faults user (step_by (option_map plain_command command.now) ws.now (option_copied wsid.entry)) shelf.old (plain_todo todo) shelf.new) }
+    ensures ok { IfOk result (λ todo. Takes K.told K.faults user (step_of_command (option_map plain_command command.now) ws.now (option_copied wsid.entry)) shelf.old (plain_todo todo) shelf.new) }
     ensures kept { OnErr result (KeepsEntries (K.told shelf.old) (K.told shelf.new)) }
     ensures counted { K.faults shelf.old ≤ K.faults shelf.new }
 {
@@ -83,22 +83,22 @@ fn perform<K: Shelf>(
     shelf: &mut K,
 ) -> Result<Todo, WantOfMemory>
     requires frames { ws.now.frames ≡ [] }
-    ensures ok { IfOk result (λ todo. Takes K.told K.faults user ((row_of command.now.word).step (plain_command command.now) ws.now (option_copied wsid.entry)) shelf.old (plain_todo todo) shelf.new) }
+    ensures ok { IfOk result (λ todo. Takes K.told K.faults user ((row_of_word command.now.word).step (plain_command command.now) ws.now (option_copied wsid.entry)) shelf.old (plain_todo todo) shelf.new) }
     ensures kept { OnErr result (KeepsEntries (K.told shelf.old) (K.told shelf.new)) }
     ensures counted { K.faults shelf.old ≤ K.faults shelf.new }
 {
     match command.word {
-        Word::Clear => clear(alloc, ws),
-        Word::Save => save(alloc, name_or(command.workspace, wsid), ws, user, shelf),
-        Word::Load => load(alloc, command, ws, user, shelf),
-        Word::CopyFrom => copy(alloc, command, ws, user, shelf),
-        Word::Remove => remove(alloc, command, user, shelf),
-        Word::Lib => list_library(alloc, user, shelf),
-        Word::Fns => list_names(alloc, What::Functions, ws),
-        Word::Vars => list_names(alloc, What::Variables, ws),
-        Word::Erase => erase(alloc, &command.objects, ws),
-        Word::Wsid => identify(alloc, command.workspace, wsid),
-        Word::Off => Ok(leave(alloc)),
+        CommandWord::Clear => clear(alloc, ws),
+        CommandWord::Save => save(alloc, name_or(command.workspace, wsid), ws, user, shelf),
+        CommandWord::Load => load(alloc, command, ws, user, shelf),
+        CommandWord::CopyFrom => copy(alloc, command, ws, user, shelf),
+        CommandWord::Remove => remove(alloc, command, user, shelf),
+        CommandWord::Lib => list_library(alloc, user, shelf),
+        CommandWord::Fns => list_names(alloc, What::Functions, ws),
+        CommandWord::Vars => list_names(alloc, What::Variables, ws),
+        CommandWord::Erase => erase(alloc, &command.objects, ws),
+        CommandWord::Wsid => identify(alloc, command.workspace, wsid),
+        CommandWord::Off => Ok(leave(alloc)),
     }
 }
 
@@ -123,7 +123,7 @@ fn clear(alloc: Global, ws: &Workspace) -> Result<Todo, WantOfMemory>
 
 // `)OFF`.
 fn leave(alloc: Global) -> Todo
-    ensures { plain_todo result ≡ leaving }
+    ensures { plain_todo result ≡ ending_session }
 {
     Todo::changing(alloc, Change::Off, LineList::new(alloc))
 }

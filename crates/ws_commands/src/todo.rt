@@ -1,5 +1,5 @@
 ghost use Rattle.std.specs.Prelude.{◌≡◌, [], false, IfOk};
-ghost use Rattle.ws_commands.specs.Todo.{counting, damaged, faulted, incorrect, naming, plain_change, plain_todo, saying, unknown};
+ghost use Rattle.ws_commands.specs.Todo.{counting, damaged, faulted, incorrect, id_and_lines, plain_change, plain_todo, saying, unknown};
 
 use crate::lines::text_line;
 use apl_arrays::{LineList, List, Name, NameList, WantOfMemory};
@@ -37,14 +37,14 @@ pub struct Todo {
 }
 
 impl Todo {
-    /// Lines, and nothing else. No memory.
+    /// Lines, and nothing else.
     pub(crate) fn saying(alloc: Global, lines: LineList) -> Todo
         ensures { plain_todo result ≡ saying lines.items }
     {
         Todo::changing(alloc, Change::Keep, lines)
     }
 
-    /// Lines whose glyphs are counted, and nothing else. No memory.
+    /// Lines whose glyphs are counted, and nothing else.
     pub(crate) fn counting(alloc: Global, lines: LineList) -> Todo
         ensures { plain_todo result ≡ counting lines.items }
     {
@@ -57,21 +57,21 @@ impl Todo {
         }
     }
 
-    /// An id and lines, and nothing else. No memory.
+    /// An id and lines, and nothing else.
     pub(crate) fn naming(alloc: Global, name: Name, lines: LineList) -> Todo
-        ensures { plain_todo result ≡ naming name lines.items }
+        ensures { plain_todo result ≡ id_and_lines name lines.items }
     {
         Todo::changing(alloc, Change::SetId(name), lines)
     }
 
-    /// A change for which no name is retracted, and lines. No memory.
+    /// A change for which no name is retracted, and lines.
     pub(crate) fn changing(alloc: Global, change: Change, lines: LineList) -> Todo
         ensures { plain_todo result ≡ record { retract = []; lines = lines.items; counted = false; change = plain_change change; remakes = [] } }
     {
         Todo::retracting(alloc, List::new(alloc), change, lines)
     }
 
-    /// A change for which names are retracted, and lines. No memory.
+    /// A change for which names are retracted, and lines.
     pub(crate) fn retracting(
         alloc: Global,
         retract: NameList,

@@ -10,13 +10,13 @@ ghost use Rattle.apl_workspace.specs.declared.what.What.TheVariants.{Functions, 
 ghost use Rattle.ws_codec.specs.declared.saved.SavedRule.{SavedRule};
 ghost use Rattle.ws_commands.specs.Finish.{changed, changed_id, is_off};
 ghost use Rattle.ws_commands.specs.Library.{copied_from, copying, dropped, dropping, listing_library, loaded, loaded_by, loading, saving};
-ghost use Rattle.ws_commands.specs.Names.{clearing, erasing, leaving, listing};
+ghost use Rattle.ws_commands.specs.Names.{clearing, erasing, ending_session, listing};
 ghost use Rattle.ws_commands.specs.Reading.{step_of};
 ghost use Rattle.ws_commands.specs.Step.{does};
 ghost use Rattle.ws_commands.specs.Todo.{PlainTodo, clear, counting, damaged, erase, incorrect, keep, off, replace, saying, set_id, swap, unknown};
 ghost use Rattle.ws_commands.specs.Worked.{of_a_share, of_two, offer_of_x};
 
-/// Commands as they are written, with blanks in front, between words and behind. The call does nothing. No memory.
+/// Commands as they are written, with blanks in front, between words and behind. The call does nothing.
 pub fn commands_as_written()
     ensures clear { (w : PlainWorkspace) (id : Option (List ℕ)) → step_of (codes ")CLEAR") w id ≡ does (clearing w) }
     ensures unnamed { (w : PlainWorkspace) → step_of (codes ")SAVE") w None ≡ does (saying (codes "WS NOT NAMED" ∷ [])) }
@@ -34,11 +34,11 @@ pub fn commands_as_written()
     ensures id { (w : PlainWorkspace) → step_of (codes ")WSID") w (Some (codes "W")) ≡ does (saying (codes "IS W" ∷ [])) }
     ensures first_id { (w : PlainWorkspace) → step_of (codes ")WSID V") w None ≡ does (record { retract = []; lines = codes "WAS CLEAR WS" ∷ []; counted = false; change = set_id (codes "V"); remakes = [] }) }
     ensures next_id { (w : PlainWorkspace) → step_of (codes ")WSID V") w (Some (codes "W")) ≡ does (record { retract = []; lines = codes "WAS W" ∷ []; counted = false; change = set_id (codes "V"); remakes = [] }) }
-    ensures off { (w : PlainWorkspace) (id : Option (List ℕ)) → step_of (codes ")OFF") w id ≡ does leaving }
+    ensures off { (w : PlainWorkspace) (id : Option (List ℕ)) → step_of (codes ")OFF") w id ≡ does ending_session }
 {}
 
 /// Lines that are no commands: another word, too few or too many words behind it, and words that are no names. The call does
-/// nothing. No memory.
+/// nothing.
 pub fn no_commands_as_written()
     ensures nothing { (w : PlainWorkspace) (id : Option (List ℕ)) → step_of (codes ")") w id ≡ does incorrect }
     ensures apart { (w : PlainWorkspace) (id : Option (List ℕ)) → step_of (codes ") LIB") w id ≡ does incorrect }
@@ -56,7 +56,7 @@ pub fn no_commands_as_written()
 {}
 
 /// Names that are listed and erased: a name that is mentioned again is not there any more, and a shared one is retracted
-/// first, with a value or without. The call does nothing. No memory.
+/// first, with a value or without. The call does nothing.
 pub fn names_as_worked()
     ensures variables { listing (names_asked Variables (of_two 3 4 0)) ≡ counting (codes "X  Y" ∷ []) }
     ensures functions { listing (names_asked Functions (of_two 3 4 0)) ≡ counting [] }
@@ -66,11 +66,11 @@ pub fn names_as_worked()
     ensures shared { erasing (codes "Y" ∷ codes "X" ∷ []) (of_a_share None)
         ≡ record { retract = codes "X" ∷ []; lines = []; counted = false; change = erase (codes "Y" ∷ codes "X" ∷ []); remakes = [] } }
     ensures cleared { clearing (of_a_share (Some (scalar (pos 3)))) ≡ record { retract = codes "X" ∷ []; lines = codes "CLEAR WS" ∷ []; counted = false; change = clear; remakes = [] } }
-    ensures left { leaving ≡ record { retract = []; lines = []; counted = false; change = off; remakes = [] } }
+    ensures left { ending_session ≡ record { retract = []; lines = []; counted = false; change = off; remakes = [] } }
 {}
 
 /// What a load leads to: nothing is under the name, or the bytes are no workspace, and all stays; else all shares are
-/// retracted, the workspace is replaced, and its offers are made again. The call does nothing. No memory.
+/// retracted, the workspace is replaced, and its offers are made again. The call does nothing.
 pub fn loads_as_worked()
     ensures unknown { loaded (codes "W") (of_a_share None) None ≡ record { retract = []; lines = codes "WS NOT FOUND" ∷ []; counted = false; change = keep; remakes = [] } }
     ensures damaged { (fault : ℕ × SavedRule) → loaded_by (codes "W") (of_a_share None) (Err fault) ≡ record { retract = []; lines = codes "WS DAMAGED" ∷ []; counted = false; change = keep; remakes = [] } }
@@ -79,7 +79,7 @@ pub fn loads_as_worked()
 {}
 
 /// What copies lead to, where X is 8 and Y is 9 here and they are 3 and 4 there: names in the order given, each once; all; and
-/// a name that is shared here. The call does nothing. No memory.
+/// a name that is shared here. The call does nothing.
 pub fn copies_as_worked()
     ensures some { copied_from (codes "W") (codes "X" ∷ codes "Z" ∷ []) (of_two 8 9 7) (of_two 3 4 0)
         ≡ record { retract = []; lines = codes "COPIED W" ∷ codes "NOT FOUND: Z" ∷ []; counted = false; change = swap (of_two 3 9 7); remakes = [] } }
@@ -91,7 +91,7 @@ pub fn copies_as_worked()
         ≡ record { retract = []; lines = codes "COPIED W" ∷ codes "NOT COPIED: X" ∷ []; counted = false; change = swap (record (of_a_share None) { globals = (codes "X", Shared None) ∷ (codes "Y", Value (scalar (pos 5))) ∷ [] }); remakes = [] } }
 {}
 
-/// What is said of the shelf. The call does nothing. No memory.
+/// What is said of the shelf. The call does nothing.
 pub fn lists_as_worked()
     ensures dropped { dropped (codes "W") true ≡ record { retract = []; lines = codes "DROPPED W" ∷ []; counted = false; change = keep; remakes = [] } }
     ensures unknown { dropped (codes "W") false ≡ record { retract = []; lines = codes "WS NOT FOUND" ∷ []; counted = false; change = keep; remakes = [] } }
@@ -99,7 +99,6 @@ pub fn lists_as_worked()
 {}
 
 /// What changes leave: how many glyphs were printed is kept whatever comes in, and a copy keeps the id. The call does nothing.
-/// No memory.
 pub fn changes_as_worked()
     ensures cleared { changed clear (of_two 3 4 7) ≡ record empty_workspace { printed = 7 } }
     ensures replaced { changed (replace (of_two 8 9 0) (codes "W")) (of_two 3 4 7) ≡ of_two 8 9 7 }

@@ -3,7 +3,7 @@ ghost use Rattle.std.specs.Prelude.{◌≡◌, [], ◌∷◌, codes, replicate};
 ghost use Rattle.apl_workspace.specs.Workspace.{empty_workspace};
 ghost use Rattle.apl_meaning.specs.Worked.{defining, printed_by, printed_on, texts, account_of};
 
-/// Functions of no, one and two arguments, with a result and without. The call does nothing. No memory.
+/// Functions of no, one and two arguments, with a result and without. The call does nothing.
 pub fn calls()
     ensures niladic { printed_on (defining (codes "R←F") (codes "R←5" ∷ []) empty_workspace) (codes "F" ∷ codes "1+F" ∷ []) [] ≡ texts (codes "5" ∷ codes "6" ∷ []) }
     ensures monadic { printed_on (defining (codes "R←F B") (codes "R←B×2" ∷ []) empty_workspace) (codes "F 4" ∷ codes "F F 4" ∷ []) [] ≡ texts (codes "8" ∷ codes "16" ∷ []) }
@@ -14,7 +14,7 @@ pub fn calls()
 {}
 
 /// Arguments, result and local names are there while the function runs, for those that it calls too. The call does
-/// nothing. No memory.
+/// nothing.
 pub fn locals()
     ensures gone { printed_on (defining (codes "F B;L") (codes "L←B" ∷ []) empty_workspace) (codes "F 4" ∷ codes "L" ∷ []) [] ≡ texts (codes "VALUE ERROR" ∷ codes "      L" ∷ []) }
     ensures hidden { printed_on (defining (codes "F B;L") (codes "L←B" ∷ []) empty_workspace) (codes "L←1" ∷ codes "F 4" ∷ codes "L" ∷ []) [] ≡ texts (codes "1" ∷ []) }
@@ -23,7 +23,7 @@ pub fn locals()
     ensures unset { printed_on (defining (codes "F;L") (codes "L" ∷ []) empty_workspace) (codes "L←1" ∷ codes "F" ∷ []) [] ≡ texts (codes "VALUE ERROR" ∷ codes "F[1] L" ∷ []) }
 {}
 
-/// Branches lead to the line that is named, on where none is, and out of the function. The call does nothing. No memory.
+/// Branches lead to the line that is named, on where none is, and out of the function. The call does nothing.
 pub fn branches()
     ensures label { printed_on (defining (codes "F") (codes "→A" ∷ codes "1" ∷ codes "A:2" ∷ []) empty_workspace) (codes "F" ∷ []) [] ≡ texts (codes "2" ∷ []) }
     ensures loops { printed_on (defining (codes "F N") (codes "A:→(N=0)/0" ∷ codes "N" ∷ codes "N←N-1" ∷ codes "→A" ∷ []) empty_workspace) (codes "F 2" ∷ []) [] ≡ texts (codes "2" ∷ codes "1" ∷ []) }
@@ -33,7 +33,7 @@ pub fn branches()
     ensures negative { printed_on (defining (codes "F") (codes "→¯1" ∷ codes "1" ∷ []) empty_workspace) (codes "F" ∷ []) [] ≡ [] }
 {}
 
-/// A branch leads to numbers of at most one axis. The call does nothing. No memory.
+/// A branch leads to numbers of at most one axis. The call does nothing.
 pub fn branches_refused()
     ensures characters { printed_on (defining (codes "F") (codes "→''" ∷ []) empty_workspace) (codes "F" ∷ []) [] ≡ texts (codes "DOMAIN ERROR" ∷ codes "F[1] →''" ∷ []) }
     ensures matrix { printed_on (defining (codes "F") (codes "→1 1⍴1" ∷ []) empty_workspace) (codes "F" ∷ []) [] ≡ texts (codes "RANK ERROR" ∷ codes "F[1] →1 1⍴1" ∷ []) }
@@ -43,7 +43,7 @@ pub fn branches_refused()
 {}
 
 /// A label's value is the number of its line; it hides an argument and a result, and takes no value. The call does
-/// nothing. No memory.
+/// nothing.
 pub fn labels()
     ensures value { printed_on (defining (codes "F") (codes "" ∷ codes "A:A" ∷ []) empty_workspace) (codes "F" ∷ []) [] ≡ texts (codes "2" ∷ []) }
     ensures first { printed_on (defining (codes "F") (codes "A:A" ∷ codes "A:" ∷ []) empty_workspace) (codes "F" ∷ []) [] ≡ texts (codes "1" ∷ []) }
@@ -53,7 +53,7 @@ pub fn labels()
     ensures items_assigned { printed_on (defining (codes "F") (codes "A:A[9]←1" ∷ []) empty_workspace) (codes "F" ∷ []) [] ≡ texts (codes "SYNTAX ERROR" ∷ codes "F[1] A:A[9]←1" ∷ []) }
 {}
 
-/// A report inside a function shows the function's line, and leaves all functions. The call does nothing. No memory.
+/// A report inside a function shows the function's line, and leaves all functions. The call does nothing.
 pub fn reports_inside()
     ensures innermost { printed_on (defining (codes "G") (codes "1" ∷ codes "7÷2" ∷ []) (defining (codes "F") (codes "G" ∷ codes "8" ∷ []) empty_workspace)) (codes "F" ∷ codes "9" ∷ []) [] ≡ texts (codes "1" ∷ codes "DOMAIN ERROR" ∷ codes "G[2] 7÷2" ∷ codes "9" ∷ []) }
     ensures left { (account_of (defining (codes "F;L") (codes "7÷2" ∷ []) empty_workspace) (codes "F" ∷ []) []).workspace ≡ defining (codes "F;L") (codes "7÷2" ∷ []) empty_workspace }
@@ -62,7 +62,7 @@ pub fn reports_inside()
     ensures after_a_call { printed_on (defining (codes "R←G") (codes "R←1" ∷ []) empty_workspace) (codes "7÷G+1" ∷ []) [] ≡ texts (codes "DOMAIN ERROR" ∷ codes "      7÷G+1" ∷ []) }
 {}
 
-/// The call that would pass the depth is refused in the statement that makes it. The call does nothing. No memory.
+/// The call that would pass the depth is refused in the statement that makes it. The call does nothing.
 pub fn depth()
     ensures hundred { printed_on (record (defining (codes "F") (codes "5" ∷ []) empty_workspace) { frames = replicate 99 [] }) (codes "F" ∷ []) [] ≡ texts (codes "5" ∷ []) }
     ensures more { printed_on (record (defining (codes "F") (codes "5" ∷ []) empty_workspace) { frames = replicate 100 [] }) (codes "F" ∷ []) [] ≡ texts (codes "WS FULL" ∷ codes "      F" ∷ []) }

@@ -2,7 +2,7 @@
 ghost use Rattle.std.specs.Prelude.{◌≡◌, [], ◌∷◌, codes};
 ghost use Rattle.apl_meaning.specs.Worked.{printed_by, texts};
 
-/// Lines that are no statement, and a statement that has no value. The call does nothing. No memory.
+/// Lines that are no statement, and a statement that has no value. The call does nothing.
 pub fn lines_refused()
     ensures character { printed_by (codes "A&B" ∷ []) ≡ texts (codes "CHARACTER ERROR" ∷ codes "      A&B" ∷ []) }
     ensures quote { printed_by (codes "'AB" ∷ []) ≡ texts (codes "SYNTAX ERROR" ∷ codes "      'AB" ∷ []) }
@@ -12,8 +12,7 @@ pub fn lines_refused()
     ensures before { printed_by (codes "(Y←4)÷0" ∷ codes "Y" ∷ []) ≡ texts (codes "DOMAIN ERROR" ∷ codes "      (Y←4)÷0" ∷ codes "4" ∷ []) }
 {}
 
-/// An axis is looked at by its count and then by its kind, before the function is applied. The call does nothing. No
-/// memory.
+/// An axis is looked at by its count and then by its kind, before the function is applied. The call does nothing.
 pub fn axes_refused()
     ensures count { printed_by (codes "⌽['AB']1 2" ∷ []) ≡ texts (codes "LENGTH ERROR" ∷ codes "      ⌽['AB']1 2" ∷ []) }
     ensures kind { printed_by (codes "⌽['A']1 2" ∷ []) ≡ texts (codes "DOMAIN ERROR" ∷ codes "      ⌽['A']1 2" ∷ []) }

@@ -2,7 +2,7 @@
 ghost use Rattle.std.specs.Prelude.{◌≡◌, [], ◌∷◌, codes};
 ghost use Rattle.apl_meaning.specs.Worked.{printed_by, texts};
 
-/// Scalar functions of two arguments. The call does nothing. No memory.
+/// Scalar functions of two arguments. The call does nothing.
 pub fn scalar_functions()
     ensures negative_base { printed_by (codes "¯3|7" ∷ []) ≡ texts (codes "¯2" ∷ []) }
     ensures negative_number { printed_by (codes "3|¯7" ∷ []) ≡ texts (codes "2" ∷ []) }
@@ -13,13 +13,13 @@ pub fn scalar_functions()
     ensures greatest { printed_by (codes "9223372036854775807+1" ∷ []) ≡ texts (codes "DOMAIN ERROR" ∷ codes "      9223372036854775807+1" ∷ []) }
 {}
 
-/// Factorials up to the greatest that fits. The call does nothing. No memory.
+/// Factorials up to the greatest that fits. The call does nothing.
 pub fn factorials()
     ensures twenty { printed_by (codes "!20" ∷ []) ≡ texts (codes "2432902008176640000" ∷ []) }
     ensures more { printed_by (codes "!21" ∷ []) ≡ texts (codes "DOMAIN ERROR" ∷ codes "      !21" ∷ []) }
 {}
 
-/// Functions that move items. The call does nothing. No memory.
+/// Functions that move items. The call does nothing.
 pub fn items_that_move()
     ensures matrix { printed_by (codes "2 2⍴1 ¯10 2 3" ∷ []) ≡ texts (codes "1 ¯10" ∷ codes "2   3" ∷ []) }
     ensures ravel { printed_by (codes ",2 2⍴⍳4" ∷ []) ≡ texts (codes "1 2 3 4" ∷ []) }
@@ -37,7 +37,7 @@ pub fn items_that_move()
     ensures outside { printed_by (codes "5 6 7[4]" ∷ []) ≡ texts (codes "INDEX ERROR" ∷ codes "      5 6 7[4]" ∷ []) }
 {}
 
-/// Searches, digits and characters of numbers. The call does nothing. No memory.
+/// Searches, digits and characters of numbers. The call does nothing.
 pub fn searches_and_digits()
     ensures places { printed_by (codes "5 6⍳6 9" ∷ []) ≡ texts (codes "2 3" ∷ []) }
     ensures members { printed_by (codes "5 9∊9" ∷ []) ≡ texts (codes "0 1" ∷ []) }
@@ -48,7 +48,7 @@ pub fn searches_and_digits()
     ensures characters { printed_by (codes "⍴⍕1 23" ∷ []) ≡ texts (codes "4" ∷ []) }
 {}
 
-/// Operators, along an axis too. The call does nothing. No memory.
+/// Operators, along an axis too. The call does nothing.
 pub fn operators()
     ensures reduction { printed_by (codes "-/1 2 3" ∷ []) ≡ texts (codes "2" ∷ []) }
     ensures scan { printed_by (codes "-\\1 2 3" ∷ []) ≡ texts (codes "1 ¯1 2" ∷ []) }
@@ -60,7 +60,7 @@ pub fn operators()
 {}
 
 /// What is printed of a statement: the value of an expression, and nothing where it begins with a target. The call does
-/// nothing. No memory.
+/// nothing.
 pub fn what_is_printed()
     ensures nothing { printed_by (codes "" ∷ codes "⍝ 1" ∷ []) ≡ [] }
     ensures assignment { printed_by (codes "X←3" ∷ codes "X" ∷ []) ≡ texts (codes "3" ∷ []) }

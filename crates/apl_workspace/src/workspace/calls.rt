@@ -37,7 +37,7 @@ impl Workspace {
         Ok(())
     }
 
-    /// Leaves the innermost function: its frame is gone, with the values of its names. No memory.
+    /// Leaves the innermost function: its frame is gone, with the values of its names.
     pub fn pop_frame(&mut self)
         requires { self.old.frames ≢ [] }
         ensures { self.new ≡ without_frame self.old }

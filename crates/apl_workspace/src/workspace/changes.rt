@@ -44,7 +44,7 @@ impl Workspace {
         self.put_global(name, Meaning::Function(function))
     }
 
-    /// Takes a global name out, and tells whether it was there. No memory.
+    /// Takes a global name out, and tells whether it was there.
     #[tactic(auto, using(crate::proofs::Tables::erasing_is_lighter))]
     pub fn erase(&mut self, name: &Name) -> bool
         requires { is_shared self.old name.now ≡ false }
@@ -54,7 +54,7 @@ impl Workspace {
         self.globals.remove(name).is_some()
     }
 
-    /// Whether a value may be assigned to what the name stands for. No memory.
+    /// Whether a value may be assigned to what the name stands for.
     fn is_assignable(&self, name: &Name) -> bool
         ensures { result ≡ is_assignable (look self.now name.now) }
     {

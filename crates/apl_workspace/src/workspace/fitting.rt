@@ -11,7 +11,7 @@ use apl_arrays::{Array, Name};
 
 impl Workspace {
     /// Whether the workspace weighs no more than it may once a name has this value where a look-up finds the name, in a
-    /// frame or as a global. No memory.
+    /// frame or as a global.
     pub fn takes(&self, name: &Name, value: &Array) -> bool
         ensures { result ≡ nat_le (workspace_weight (assigned self.now name.now value.now)) most_weight }
     {
@@ -26,7 +26,7 @@ impl Workspace {
     }
 
     /// Whether the workspace weighs no more than it may once a global name stands for something of this weight, which is
-    /// one more than a workspace may weigh for all that weighs more. No memory.
+    /// one more than a workspace may weigh for all that weighs more.
     pub fn has_room(&self, name: &Name, weight: usize) -> bool
         requires { weight ≤ most_weight + 1 }
         ensures { (meaning : Meaning) → weight ≡ min (meaning_weight meaning) (most_weight + 1) → result ≡ nat_le (workspace_weight (with_global self.now name.now meaning)) most_weight }
@@ -35,7 +35,7 @@ impl Workspace {
         self.globals.fits(name, weight, most)
     }
 
-    /// Whether the workspace weighs no more than it may once a shared variable keeps this value as its copy. No memory.
+    /// Whether the workspace weighs no more than it may once a shared variable keeps this value as its copy.
     pub fn takes_copy(&self, name: &Name, value: &Array) -> bool
         ensures { result ≡ nat_le (workspace_weight (with_global self.now name.now (Meaning.Shared (Some value.now)))) most_weight }
     {

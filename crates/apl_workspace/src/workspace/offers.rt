@@ -57,7 +57,7 @@ impl Workspace {
 
     /// Takes the mark of a shared name away, and its offer out of the list. The name then has the value handed in, or is
     /// not there where none is; where the workspace would weigh more than it may with that value, the name has its own
-    /// copy. No memory.
+    /// copy.
     pub fn unmark(&mut self, name: &Name, value: Option<Array>)
         requires { is_shared self.old name.now ≡ true }
         ensures { self.new ≡ unmarked self.old name.now value }
@@ -68,7 +68,7 @@ impl Workspace {
     }
 
     /// Takes the mark of a shared name away, and its offer out of the list. The name then has its own copy as its value, or
-    /// is not there where it has none. No memory.
+    /// is not there where it has none.
     pub fn unmark_with_copy(&mut self, name: &Name)
         requires { is_shared self.old name.now ≡ true }
         ensures { self.new ≡ unmarked_with_copy self.old name.now }
@@ -78,7 +78,7 @@ impl Workspace {
     }
 
     /// A shared variable keeps this value as its copy. `WsFull` where the workspace would weigh more than it may; it
-    /// leaves the workspace as it was. No memory.
+    /// leaves the workspace as it was. It takes no memory.
     pub fn renew(&mut self, name: &Name, value: Array) -> Result<(), Fail>
         requires { is_shared self.old name.now ≡ true }
         ensures ok { OnOk result (self.new ≡ with_global self.old name.now (Meaning.Shared (Some value))) }
@@ -91,7 +91,7 @@ impl Workspace {
     }
 }
 
-/// Takes the offers of a name out of a list. No memory.
+/// Takes the offers of a name out of a list.
 fn unlist(offers: &mut Vec<Remake>, name: &Name)
     ensures items { offers.new.items ≡ filter (is_of_another name.now) offers.old.items }
     ensures len { vec_len offers.new ≤ vec_len offers.old }

@@ -1,6 +1,6 @@
 ghost use Rattle.std.specs.Prelude.{◌≡◌, IsTrue, not, false};
 ghost use Rattle.apl_session.specs.Wants.{MayGoOn};
-ghost use Rattle.apl_session.specs.declared.session.Stage.TheVariants.{Waiting};
+ghost use Rattle.apl_session.specs.declared.session.SessionStage.TheVariants.{Waiting};
 ghost use Rattle.sv_rules.specs.Entries.{has_left, is_leave};
 ghost use Rattle.sv_rules.specs.Legal.{is_user};
 ghost use Rattle.aux_parties.specs.Auxiliaries.{is_auxiliary};
@@ -8,7 +8,7 @@ ghost use Rattle.aux_parties.specs.Auxiliaries.{is_auxiliary};
 use crate::calls::helping::session_of;
 use anyhow::Result;
 use apl_io::MemoryShelf;
-use apl_session::{Session, Stage, Wants};
+use apl_session::{Session, SessionStage, Wants};
 use aux_parties::is_auxiliary;
 use case_tables::{Calls, Looks};
 use line_text::add_user_lines;
@@ -140,14 +140,14 @@ fn go_on(core: &mut Core, session: &mut Session<MemoryShelf>, user: u32) -> Resu
 }
 
 // Whether a session can be asked for its next act.
-fn may_go_on(stage: Stage) -> bool
+fn may_go_on(stage: SessionStage) -> bool
     ensures { IsTrue result → MayGoOn stage }
 {
     match stage {
-        Stage::Ready => true,
-        Stage::Waiting => false,
-        Stage::Finished => true,
-        Stage::Failed => true,
+        SessionStage::Ready => true,
+        SessionStage::Waiting => false,
+        SessionStage::Finished => true,
+        SessionStage::Failed => true,
     }
 }
 
@@ -163,7 +163,7 @@ fn turn(core: &mut Core, session: &mut Session<MemoryShelf>) -> Result<()>
     if may_go_on(session.stage()) {
         return go_on(core, session, user);
     }
-    if session.stage() != Stage::Waiting {
+    if session.stage() != SessionStage::Waiting {
         return Ok(());
     }
     try_again(core, session, user)
@@ -233,7 +233,7 @@ fn take_turns(
     adds(alloc, looks, core, first, 3)?;
     adds(alloc, looks, core, second, 4)?;
     tries_on(alloc, looks, core, SECOND)?;
-    looks.holds(second.stage() == Stage::Waiting);
+    looks.holds(second.stage() == SessionStage::Waiting);
     adds(alloc, looks, core, first, 5)?;
     adds(alloc, looks, core, second, 6)?;
     adds(alloc, looks, core, first, 7)?;

@@ -1,5 +1,5 @@
 ghost use Rattle.std.specs.Prelude.{◌≡◌, IfOk};
-ghost use Rattle.apl_session.specs.declared.session.Stage.TheVariants.{Ready};
+ghost use Rattle.apl_session.specs.declared.session.SessionStage.TheVariants.{Ready};
 
 use crate::calls::failing::failing_at;
 use anyhow::{Result, bail};

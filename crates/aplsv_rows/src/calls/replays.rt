@@ -5,7 +5,7 @@ use crate::calls::helping::bundle_of;
 use anyhow::{Result, bail};
 use apl_arrays::{Array, FileList, Line, Readings, WantOfMemory};
 use apl_io::{CallNumbers, Devices, MemoryClock, MemoryShelf, MemoryText, Shelf};
-use apl_session::{Ended, Outcome, RunOf};
+use apl_session::{Ended, FinishedRun, RunOf};
 use aplsv_replay::{replay, replay_with};
 use auxiliaries::Replier;
 use bundle_text::Bundle;
@@ -169,7 +169,7 @@ impl Replier for Fixed {
 }
 
 // A run over devices in memory, and one with two repliers.
-type Run = Outcome<MemoryText, MemoryClock, MemoryShelf>;
+type Run = FinishedRun<MemoryText, MemoryClock, MemoryShelf>;
 
 type FixedRun = RunOf<Fixed, Fixed, MemoryShelf>;
 

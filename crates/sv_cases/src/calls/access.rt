@@ -2,8 +2,8 @@ use anyhow::Result;
 use case_tables::{Calls, Looks};
 use std::alloc::Global;
 use sv_access::{
-    Case, Cases, Control, Kind, NO_CONTROL, Owners, Side, State, Verdict, after, decide, join,
-    owners, swap, view,
+    AccessState, Case, Cases, Control, Kind, NO_CONTROL, Owners, Side, Verdict, after, decide,
+    join, owners, swap, view,
 };
 
 /// The access table of all cases against one by hand, and vectors and states as each side sees them.
@@ -13,11 +13,11 @@ pub struct Access;
 const ALL: Control = Control([true, true, true, true]);
 
 // The elements that hold a set by A, a set by B, a use by A and a use by B under a control of ones, 0 where it is granted.
-fn elements_of(state: State) -> [u8; 4] {
+fn elements_of(state: AccessState) -> [u8; 4] {
     match state {
-        State::Quiet => [0, 0, 3, 4],
-        State::UnseenA => [1, 0, 3, 0],
-        State::UnseenB => [0, 2, 0, 4],
+        AccessState::Quiet => [0, 0, 3, 4],
+        AccessState::UnseenA => [1, 0, 3, 0],
+        AccessState::UnseenB => [0, 2, 0, 4],
     }
 }
 
@@ -62,20 +62,20 @@ fn partner_sees_the_view_swapped(looks: &mut Looks) {
     let a = Control([true, false, false, true]);
     let joint = join(a, NO_CONTROL);
     looks.holds(joint == a);
-    looks.holds(decide(joint, State::Quiet, Side::B, Kind::Use) == Verdict::Held(4));
+    looks.holds(decide(joint, AccessState::Quiet, Side::B, Kind::Use) == Verdict::Held(4));
     looks.holds(owners(a, NO_CONTROL, Side::B, 4) == Owners::Partner);
-    looks.holds(decide(joint, State::Quiet, Side::A, Kind::Set) == Verdict::Granted);
-    let state = after(State::Quiet, Side::A, Kind::Set);
-    looks.holds(state == State::UnseenA);
+    looks.holds(decide(joint, AccessState::Quiet, Side::A, Kind::Set) == Verdict::Granted);
+    let state = after(AccessState::Quiet, Side::A, Kind::Set);
+    looks.holds(state == AccessState::UnseenA);
     looks.holds(decide(joint, state, Side::B, Kind::Use) == Verdict::Granted);
-    looks.holds(after(state, Side::B, Kind::Use) == State::Quiet);
+    looks.holds(after(state, Side::B, Kind::Use) == AccessState::Quiet);
 }
 
 fn both_sides_are_held_at_first(looks: &mut Looks) {
     let joint = join(ALL, NO_CONTROL);
-    looks.holds(decide(joint, State::Quiet, Side::B, Kind::Use) == Verdict::Held(4));
+    looks.holds(decide(joint, AccessState::Quiet, Side::B, Kind::Use) == Verdict::Held(4));
     looks.holds(owners(ALL, NO_CONTROL, Side::B, 4) == Owners::Partner);
-    looks.holds(decide(joint, State::Quiet, Side::A, Kind::Use) == Verdict::Held(3));
+    looks.holds(decide(joint, AccessState::Quiet, Side::A, Kind::Use) == Verdict::Held(3));
     looks.holds(owners(ALL, NO_CONTROL, Side::A, 3) == Owners::Mine);
     looks.holds(owners(ALL, ALL, Side::A, 3) == Owners::Both);
 }
@@ -84,14 +84,14 @@ fn partner_holds_my_second_set(looks: &mut Looks) {
     let b = Control([false, true, false, false]);
     let joint = join(NO_CONTROL, b);
     looks.holds(joint == Control([true, false, false, false]));
-    looks.holds(decide(joint, State::UnseenA, Side::A, Kind::Set) == Verdict::Held(1));
+    looks.holds(decide(joint, AccessState::UnseenA, Side::A, Kind::Set) == Verdict::Held(1));
     looks.holds(owners(NO_CONTROL, b, Side::A, 1) == Owners::Partner);
-    looks.holds(decide(joint, State::UnseenA, Side::B, Kind::Set) == Verdict::Granted);
+    looks.holds(decide(joint, AccessState::UnseenA, Side::B, Kind::Set) == Verdict::Granted);
 }
 
 // Each side is shown its own view of a state.
 fn each_side_has_its_view(looks: &mut Looks) {
-    let given_by_a = after(State::Quiet, Side::A, Kind::Set);
+    let given_by_a = after(AccessState::Quiet, Side::A, Kind::Set);
     looks.holds(view(given_by_a, Side::A) == Control([true, false, true, false]));
     looks.holds(view(given_by_a, Side::B) == Control([false, true, false, true]));
     let used_by_b = after(given_by_a, Side::B, Kind::Use);

@@ -2,7 +2,7 @@ use anyhow::Result;
 use apl_arrays::Array;
 use case_tables::{Calls, Looks};
 use std::alloc::Global;
-use sv_access::{Side, State};
+use sv_access::{AccessState, Side};
 use sv_kept::Share;
 
 /// A share by which a value goes over, and another back.
@@ -27,12 +27,12 @@ fn gets(share: &mut Share, side: Side, number: i64) -> Result<bool> {
 
 // A gave 3 and sets 4, B gets 4.
 fn goes_over(looks: &mut Looks, share: &mut Share) -> Result<()> {
-    looks.holds(share.state() == State::UnseenA);
+    looks.holds(share.state() == AccessState::UnseenA);
     share.set(Side::A, Array::of_number(4))?;
     looks.holds(is_number(share.known(Side::A), 4));
     looks.holds(share.known(Side::B).is_none());
     looks.holds(gets(share, Side::B, 4)?);
-    looks.holds(share.state() == State::Quiet);
+    looks.holds(share.state() == AccessState::Quiet);
     looks.holds(is_number(share.known(Side::B), 4));
     Ok(())
 }
@@ -40,9 +40,9 @@ fn goes_over(looks: &mut Looks, share: &mut Share) -> Result<()> {
 // B sets 5, and both get 5.
 fn comes_back(looks: &mut Looks, share: &mut Share) -> Result<()> {
     share.set(Side::B, Array::of_number(5))?;
-    looks.holds(share.state() == State::UnseenB);
+    looks.holds(share.state() == AccessState::UnseenB);
     looks.holds(gets(share, Side::B, 5)?);
-    looks.holds(share.state() == State::UnseenB);
+    looks.holds(share.state() == AccessState::UnseenB);
     looks.holds(gets(share, Side::A, 5)?);
     Ok(())
 }

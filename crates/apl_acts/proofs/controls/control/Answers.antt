@@ -7,7 +7,7 @@ use Rattle.apl_items.specs.Places.{places}
 use Rattle.apl_meaning.specs.Deeds.{set_control}
 use Rattle.apl_meaning.specs.Naming.{Naming, naming_count, namings_of}
 use Rattle.apl_meaning.specs.Sharing.{control_at, control_faults, controls}
-use Rattle.apl_values.specs.Rows.{PlainRow, RowMayBeDone, count_told, plain_naming, plain_row}
+use Rattle.apl_values.specs.Rows.{PlainNameRow, RowMayBeDone, count_told, plain_naming, plain_name_row}
 use Rattle.apl_selection.proofs.WantLemmas.{on_want}
 use Rattle.apl_statements.specs.Interpreter.{PlainInterpreter}
 use Rattle.apl_statements.specs.Wants.{NoReportIsDue}
@@ -17,7 +17,7 @@ use Rattle.apl_acts.proofs.Tested.{done_there, each_may, free_there, room_for_ea
 use Rattle.apl_acts.proofs.controls.control.Goals as goal
 
 -- the rows that are made of numbers and names
-made_of : (given n : PlainArray) (rows : List PlainRow) (numbers : List ℤ) (names : List Naming) → rows ≡ settings_of numbers names → numbers ≡ numbers_in given.items → names ≡ namings_of n → rows ≡ settings_of (numbers_in given.items) (namings_of n)
+made_of : (given n : PlainArray) (rows : List PlainNameRow) (numbers : List ℤ) (names : List Naming) → rows ≡ settings_of numbers names → numbers ≡ numbers_in given.items → names ≡ namings_of n → rows ≡ settings_of (numbers_in given.items) (namings_of n)
 made_of given n rows numbers names made are named = made ∙ ap (λ (list : List ℤ). settings_of list names) are ∙ ap (settings_of (numbers_in given.items)) named
 
 pub settings-requires : goal.settings-requires
@@ -52,7 +52,7 @@ returns-clause-comes c =
     let given : PlainArray = c.args.c.now in
     let n : PlainArray = c.args.n.now in
     let none : first_report (control_faults given n) ≡ None = ap first_report (sym c.control_wrong.ensures) ∙ c.in_ok-refuse.ensures.ok in
-    let rows : List PlainRow = map plain_row c.in_ok-rows.rows.items in
+    let rows : List PlainNameRow = map plain_name_row c.in_ok-rows.rows.items in
     done_there m c.args.e (controls given n) (control_faults given n) n (4 ∷ []) (map (λ row. set_control (control_at given row)) (places (naming_count n))) rows c.do_rows.result (λ asked count taken further. refl) none
     (controls_by_row given n (controlled given n c.items.ensures.array none) ∙ sym (made_of given n _ _ _ c.in_ok-rows.ensures (c.numbers.ensures ∙ ap numbers_in c.items.ensures.value) c.in_ok-namings.ensures)) c.do_rows.ensures.comes
 

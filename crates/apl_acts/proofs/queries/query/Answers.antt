@@ -8,7 +8,7 @@ use Rattle.apl_meaning.specs.Expressions.{valued}
 use Rattle.apl_selection.proofs.WantLemmas.{on_want}
 use Rattle.apl_meaning.specs.Queries.{queries}
 use Rattle.apl_meaning.specs.State.{refuses}
-use Rattle.apl_values.specs.Pending.{asked_for, names_asked, parties_asked}
+use Rattle.apl_values.specs.Pending.{act_asked_for, names_asked, parties_asked}
 use Rattle.apl_statements.specs.Interpreter.{PlainInterpreter, state_at}
 use Rattle.apl_statements.specs.Moves.{Coming, part_gives}
 use Rattle.apl_statements.proofs.Same.{at_once, comes_as, comes_exit}
@@ -31,15 +31,15 @@ returns-in-Some-clause-comes c =
     let m : PlainInterpreter = c.args.interpreter.now in
     let party : ℤ = c.in-Some.party.now in
     let asked_about : c.unsigned_abs.result ≡ unsigned_abs party = c.unsigned_abs.ensures.value ∙ ap unsigned_abs (to_z-of_z w64 party (search rules)) in
-    comes_as m m (part_gives m c.args.e (λ s. valued (queries c.args.b.now s))) (part_gives m c.args.e (asked_for (names_asked c.unsigned_abs.result))) 0 c.open.result (λ asked count taken further.
+    comes_as m m (part_gives m c.args.e (λ s. valued (queries c.args.b.now s))) (part_gives m c.args.e (act_asked_for (names_asked c.unsigned_abs.result))) 0 c.open.result (λ asked count taken further.
     query_names m c.args.e c.args.b.now (plain_faults c.query_wrong.result) party c.query_wrong.ensures c.in_ok-refuse.ensures.ok
     (ap (λ (list : List ℤ). slice_get list 0) (sym c.numbers.ensures) ∙ sym c.in-Some.ensures.value) asked count taken further
-    ∙ ap (λ (n : ℕ). part_gives m c.args.e (asked_for (names_asked n)) (state_at m asked count taken further)) (sym asked_about)) c.open.ensures.comes
+    ∙ ap (λ (n : ℕ). part_gives m c.args.e (act_asked_for (names_asked n)) (state_at m asked count taken further)) (sym asked_about)) c.open.ensures.comes
 
 pub returns-in-None-clause-comes : goal.returns-in-None-clause-comes
 returns-in-None-clause-comes c =
     let m : PlainInterpreter = c.args.interpreter.now in
-    comes_as m m (part_gives m c.args.e (λ s. valued (queries c.args.b.now s))) (part_gives m c.args.e (asked_for parties_asked)) 0 c.open-in-None.result
+    comes_as m m (part_gives m c.args.e (λ s. valued (queries c.args.b.now s))) (part_gives m c.args.e (act_asked_for parties_asked)) 0 c.open-in-None.result
     (query_parties m c.args.e c.args.b.now (plain_faults c.query_wrong.result) c.query_wrong.ensures c.in_ok-refuse.ensures.ok
     (ap (λ (list : List ℤ). slice_get list 0) (sym c.numbers.ensures) ∙ sym c.in-None.ensures.value)) c.open-in-None.ensures.comes
 

@@ -10,7 +10,7 @@ use Rattle.apl_workspace.specs.Workspace.{PlainWorkspace, global_in}
 use Rattle.apl_meaning.specs.Deeds.{offer}
 use Rattle.apl_meaning.specs.Naming.{Naming, naming_count, namings_of}
 use Rattle.apl_meaning.specs.Sharing.{addressee_at, is_no_addressee, offer_faults, offers}
-use Rattle.apl_values.specs.Rows.{PlainRow, RowMayBeDone, count_told, plain_naming, plain_row}
+use Rattle.apl_values.specs.Rows.{PlainNameRow, RowMayBeDone, count_told, plain_naming, plain_name_row}
 use Rattle.apl_statements.specs.Interpreter.{PlainInterpreter}
 use Rattle.apl_statements.specs.Sound.{plain_interpreter}
 use Rattle.apl_acts.specs.Faults.{IsOneOrAsMany, offers_of}
@@ -23,7 +23,7 @@ tested : (m inside : PlainInterpreter) (p n : PlainArray) (faults : Faults) → 
 tested m inside p n faults view same none = ap (λ (x : PlainInterpreter). first_report (offer_faults x.workspace p n)) (sym view) ∙ ap first_report (sym same) ∙ none
 
 -- the rows that are made of numbers and names
-made_of : (p n : PlainArray) (rows : List PlainRow) (numbers : List ℤ) (names : List Naming) → rows ≡ offers_of numbers names → numbers ≡ numbers_in p.items → names ≡ namings_of n → rows ≡ offers_of (numbers_in p.items) (namings_of n)
+made_of : (p n : PlainArray) (rows : List PlainNameRow) (numbers : List ℤ) (names : List Naming) → rows ≡ offers_of numbers names → numbers ≡ numbers_in p.items → names ≡ namings_of n → rows ≡ offers_of (numbers_in p.items) (namings_of n)
 made_of p n rows numbers names made are named = made ∙ ap (λ (list : List ℤ). offers_of list names) are ∙ ap (offers_of (numbers_in p.items)) named
 
 pub offers-requires-clause-addressees : goal.offers-requires-clause-addressees
@@ -69,6 +69,6 @@ returns-clause-comes c =
     let p : PlainArray = c.args.p.now in
     let n : PlainArray = c.args.n.now in
     let none : first_report (offer_faults m.workspace p n) ≡ None = tested m (plain_interpreter c.interpreter.inside) p n _ c.interpreter.view_is c.offer_wrong.ensures c.in_ok-refuse.ensures.ok in
-    let rows : List PlainRow = map plain_row c.in_ok-rows.rows.items in
+    let rows : List PlainNameRow = map plain_name_row c.in_ok-rows.rows.items in
     done_there m c.args.e (offers p n) (offer_faults m.workspace p n) n [] (map (λ row. offer (addressee_at p row)) (places (naming_count n))) rows c.do_rows.result (λ asked count taken further. refl) none
     (offers_by_row m.workspace p n (offered m.workspace p n none) ∙ sym (made_of p n _ _ _ c.in_ok-rows.ensures c.numbers.ensures c.in_ok-namings.ensures)) c.do_rows.ensures.comes

@@ -1,11 +1,11 @@
 use Rattle.std.proofs.Common.{◌≡◌, length}
 use Rattle.std.specs.Prelude.{map}
-use Rattle.apl_values.specs.Rows.{plain_naming, plain_row}
+use Rattle.apl_values.specs.Rows.{plain_naming, plain_name_row}
 use Rattle.apl_acts.specs.Faults.{offers_of}
 use Rattle.apl_acts.proofs.sharing.offers.Given as goal
 
 abbrev pub invariant-loop-names : goal.invariant-loop-names
 invariant-loop-names l = record {
   at : l.at ≡ length l.yielded;
-  rows : map plain_row l.rows.items ≡ offers_of l.parties (map plain_naming l.yielded);
+  rows : map plain_name_row l.rows.items ≡ offers_of l.parties (map plain_naming l.yielded);
 }

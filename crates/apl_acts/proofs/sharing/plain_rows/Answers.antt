@@ -7,7 +7,7 @@ use Rattle.apl_items.specs.Answers.{first_report}
 use Rattle.apl_meaning.specs.Deeds.{Deed}
 use Rattle.apl_meaning.specs.Naming.{Naming, naming_count, naming_faults, namings_of, rows_of}
 use Rattle.apl_meaning.specs.Sharing.{for_each_row, plain_rows}
-use Rattle.apl_values.specs.Rows.{PlainRow, RowMayBeDone, count_told, plain_deed, plain_row, row_zeros}
+use Rattle.apl_values.specs.Rows.{PlainNameRow, RowMayBeDone, count_told, plain_deed, plain_name_row, row_zeros}
 use Rattle.apl_values.proofs.NamingSteps.{is_unnamed}
 use Rattle.apl_selection.proofs.WantLemmas.{on_want}
 use Rattle.apl_statements.specs.Interpreter.{PlainInterpreter}
@@ -19,7 +19,7 @@ use Rattle.apl_acts.proofs.sharing.plain_rows.Goals as goal
 all_named : (n : PlainArray) (each : List ℕ) → first_report (naming_faults n each) ≡ None → length (namings_of n) ≡ naming_count n
 all_named n each none = named_count n (or_parts (not (is_chars n.items)) (list_any is_unnamed (rows_of n)) (nothing_wrong (naming_faults n each) none).domain).1
 
-made_of : (n : PlainArray) (deed : Deed) (rows : List PlainRow) (names : List Naming) → rows ≡ map (λ names. (names, deed)) names → names ≡ namings_of n → rows ≡ map (λ names. (names, deed)) (namings_of n)
+made_of : (n : PlainArray) (deed : Deed) (rows : List PlainNameRow) (names : List Naming) → rows ≡ map (λ names. (names, deed)) names → names ≡ namings_of n → rows ≡ map (λ names. (names, deed)) (namings_of n)
 made_of n deed rows names made are = made ∙ ap (map (λ (names : Naming). (names, deed))) are
 
 pub do_rows-requires-clause-may : goal.do_rows-requires-clause-may
@@ -46,7 +46,7 @@ returns-clause-comes c =
     let each : List ℕ = c.args.each.now in
     let deed : Deed = plain_deed c.args.deed in
     let none : first_report (naming_faults n each) ≡ None = ap first_report (sym c.naming_wrong.ensures) ∙ c.in_ok-refuse.ensures.ok in
-    let rows : List PlainRow = map plain_row c.in_ok-rows.rows.items in
+    let rows : List PlainNameRow = map plain_name_row c.in_ok-rows.rows.items in
     done_there m c.args.e (plain_rows n each deed) (naming_faults n each) n each (for_each_row n deed) rows c.do_rows.result (λ asked count taken further. refl) none
     (alike deed (namings_of n) (naming_count n) (all_named n each none) ∙ sym (made_of n deed _ _ c.in_ok-rows.ensures c.in_ok-namings.ensures)) c.do_rows.ensures.comes
 

@@ -5,8 +5,8 @@ use Rattle.apl_workspace.specs.Workspace.{look}
 use Rattle.apl_meaning.specs.Answers.{with_copy}
 use Rattle.apl_meaning.specs.Deeds.{value_of}
 use Rattle.apl_meaning.specs.State.{gives}
-use Rattle.apl_values.specs.declared.values.Held.{Held}
-use Rattle.apl_values.specs.Values.{IsHeld, held_value}
+use Rattle.apl_values.specs.declared.values.StackValue.{StackValue}
+use Rattle.apl_values.specs.Values.{IsStackValue, stack_value}
 use Rattle.apl_values.proofs.Seen.{renewed}
 use Rattle.apl_statements.specs.declared.evaluation.Evaluation.{Evaluation}
 use Rattle.apl_statements.specs.Interpreter.{PlainInterpreter}
@@ -22,7 +22,7 @@ pub give-requires-clause-value : goal.give-requires-clause-value
 give-requires-clause-value c =
     let n : PlainInterpreter = c.renew.new.interpreter in
     let seen : value_of (look n.workspace c.args.name) ≡ Some c.args.value = ap value_of c.in_ok-renew.ensures.seen in
-    subst (λ (h : Held). IsHeld n.workspace (parts_of c.renew.new.e) h) (sym c.given.ensures) (given_is_held n.workspace (parts_of c.renew.new.e) c.args.name c.args.gives c.args.value seen)
+    subst (λ (h : StackValue). IsStackValue n.workspace (parts_of c.renew.new.e) h) (sym c.given.ensures) (given_is_held n.workspace (parts_of c.renew.new.e) c.args.name c.args.gives c.args.value seen)
 
 pub returns-clause-comes : goal.returns-clause-comes
 returns-clause-comes c =
@@ -34,4 +34,4 @@ returns-clause-comes c =
     goes_behind m n (renewed c.args.name c.args.value m.workspace) c.args.e after (with_copy c.args.name c.args.value) (λ s. gives (Some other) s) c.give.result
     c.in_ok-renew.ensures.ok c.in_ok-renew.ensures.done c.in_ok-renew.ensures.settled
     (gets n after c.given.result other c.give.result
-    (ap (held_value n.workspace (parts_of after)) c.given.ensures ∙ given_value n.workspace (parts_of after) c.args.name c.args.gives c.args.value seen) c.give.ensures.comes)
+    (ap (stack_value n.workspace (parts_of after)) c.given.ensures ∙ given_value n.workspace (parts_of after) c.args.name c.args.gives c.args.value seen) c.give.ensures.comes)

@@ -4,7 +4,7 @@ use Rattle.std.proofs.lemmas.List.Elements.{All-head}
 use Rattle.apl_workspace.specs.Workspace.{PlainWorkspace}
 use Rattle.sv_events.specs.Answer.{PlainAnswer, plain_answer}
 use Rattle.apl_values.specs.declared.rows.Rows.{Rows}
-use Rattle.apl_values.specs.Rows.{AreRows, FirstAsksAct, MayBeDone, PlainRow, RowMayBeDone, asks_act, plain_row, row_done, row_numbers, rows_left}
+use Rattle.apl_values.specs.Rows.{AreRows, FirstAsksAct, MayBeDone, PlainNameRow, RowMayBeDone, asks_act, plain_name_row, row_done, row_numbers, rows_left}
 use Rattle.apl_values.specs.Values.{settled}
 use Rattle.apl_statements.specs.declared.evaluation.Evaluation.{Evaluation}
 use Rattle.apl_statements.specs.Interpreter.{PlainInterpreter}
@@ -16,7 +16,7 @@ use Rattle.apl_answers.proofs.answering.bring_row.Goals as goal
 
 pub finish_row-requires-clause-acts : goal.finish_row-requires-clause-acts
 finish_row-requires-clause-acts c =
-    let row : PlainRow = plain_row c.first_of-names.result in
+    let row : PlainNameRow = plain_name_row c.first_of-names.result in
     let left : rows_left c.args.rows ≡ row ∷ drop 1 (rows_left c.args.rows) = first_and_others (rows_left c.args.rows) row (sym c.first_of-names.ensures) in
     subst (FirstAsksAct c.args.interpreter.now.workspace) left c.requires.first
 
@@ -34,7 +34,7 @@ next_row-requires-clause-rows c =
     let answer : PlainAnswer = plain_answer c.args.answer in
     let rows : Rows = c.args.rows in
     let told : Rows = c.tell_row.new.rows in
-    let row : PlainRow = plain_row c.first_of-names.result in
+    let row : PlainNameRow = plain_name_row c.first_of-names.result in
     let left : rows_left rows ≡ row ∷ drop 1 (rows_left rows) = first_and_others (rows_left rows) row (sym c.first_of-names.ensures) in
     let acts : asks_act w row ≡ true = subst (FirstAsksAct w) left c.requires.first in
     let may : MayBeDone w row.1 row.0 = All-head (RowMayBeDone w) row (drop 1 (rows_left rows)) (subst (All (RowMayBeDone w)) left c.requires.rows.may) in
@@ -47,7 +47,7 @@ returns-clause-comes c =
     let n : PlainInterpreter = c.finish_row.new.interpreter in
     let after : Evaluation = c.settle.new.self in
     let rows : Rows = c.args.rows in
-    let row : PlainRow = plain_row c.first_of-names.result in
+    let row : PlainNameRow = plain_name_row c.first_of-names.result in
     let left : rows_left rows ≡ row ∷ drop 1 (rows_left rows) = first_and_others (rows_left rows) row (sym c.first_of-names.ensures) in
     let with_values : IsWithValues c.args.e (map (settled m.workspace) c.args.e.values.items) after =
     subst (λ (x : PlainInterpreter). IsWithValues c.args.e (map (settled x.workspace) c.args.e.values.items) after) c.interpreter.view_is c.in_ok-settle.ensures in

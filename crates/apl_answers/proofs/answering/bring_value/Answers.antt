@@ -13,7 +13,7 @@ use Rattle.apl_meaning.specs.Answers.{got, with_copy}
 use Rattle.apl_meaning.specs.Deeds.{value_of}
 use Rattle.apl_meaning.specs.Expressions.{valued}
 use Rattle.apl_meaning.specs.State.{and_then, gives}
-use Rattle.apl_values.specs.declared.values.Held.TheVariants as held
+use Rattle.apl_values.specs.declared.values.StackValue.TheVariants as held
 use Rattle.apl_values.proofs.Seen.{renewed, got_value}
 use Rattle.apl_statements.specs.declared.evaluation.Evaluation.{Evaluation}
 use Rattle.apl_statements.specs.Interpreter.{PlainInterpreter}

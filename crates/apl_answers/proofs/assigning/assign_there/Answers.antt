@@ -7,11 +7,11 @@ use Rattle.apl_workspace.specs.Meaning.{is_shared_meaning}
 use Rattle.apl_workspace.specs.Workspace.{look}
 use Rattle.apl_workspace.specs.declared.meaning.Meaning.TheVariants as meaning
 use Rattle.apl_meaning.specs.Nodes.{items_step, popped}
-use Rattle.apl_values.specs.Pending.{asked_for, assigned_giving, replaced, replaces}
+use Rattle.apl_values.specs.Pending.{act_asked_for, assigned_giving, replaced, replaces}
 use Rattle.apl_statements.specs.Interpreter.{PlainInterpreter}
 use Rattle.apl_statements.specs.Moves.{Coming, part_gives, part_takes}
 use Rattle.apl_statements.specs.Sound.{IsCaller, IsEvaluation}
-use Rattle.apl_statements.specs.Holding.{held_values}
+use Rattle.apl_statements.specs.Holding.{stack_values}
 use Rattle.apl_statements.proofs.Same.{SameAt, comes_as, comes_exit}
 use Rattle.apl_statements.proofs.Taken.{caller_from, items_take_where, same_twice, subs_then_one, taken_sound}
 use Rattle.apl_answers.proofs.Replacing.{items_open, replaced_as, replaced_ends, value_replaced}
@@ -29,21 +29,21 @@ sound c =
     taken_sound m.workspace c.take_subs.new.self c.take.new.self (c.in_ok-held.held ∷ []) c.take.ensures.same c.in_ok-held.ensures.taken (caller_from m.workspace c.args.e c.take_subs.new.self c.take_subs.ensures.same left c.requires.sound)
 
 -- the subscripts are the newest values, and the right side is the next one
-subs : (c : In_ok-right) → c.in_ok-subs.subs.items ≡ (popped c.args.places.now.items (held_values c.args.interpreter.now.workspace c.args.e)).subs
+subs : (c : In_ok-right) → c.in_ok-subs.subs.items ≡ (popped c.args.places.now.items (stack_values c.args.interpreter.now.workspace c.args.e)).subs
 subs c =
     c.in_ok-subs.ensures.subs
-    ∙ ap (λ (list : List (Option ℕ)). (popped list (held_values c.interpreter.inside.workspace c.args.e)).subs) c.as_slice.ensures
-    ∙ ap (λ (x : PlainInterpreter). (popped c.args.places.now.items (held_values x.workspace c.args.e)).subs) c.interpreter.view_is
+    ∙ ap (λ (list : List (Option ℕ)). (popped list (stack_values c.interpreter.inside.workspace c.args.e)).subs) c.as_slice.ensures
+    ∙ ap (λ (x : PlainInterpreter). (popped c.args.places.now.items (stack_values x.workspace c.args.e)).subs) c.interpreter.view_is
 
-rest : (c : In_ok-right) → (popped c.args.places.now.items (held_values c.args.interpreter.now.workspace c.args.e)).values ≡ c.in_ok-right.right ∷ held_values c.args.interpreter.now.workspace c.take.new.self
+rest : (c : In_ok-right) → (popped c.args.places.now.items (stack_values c.args.interpreter.now.workspace c.args.e)).values ≡ c.in_ok-right.right ∷ stack_values c.args.interpreter.now.workspace c.take.new.self
 rest c =
     let m : PlainInterpreter = c.args.interpreter.now in
     let places : List (Option ℕ) = c.args.places.now.items in
-    let left : held_values m.workspace c.take_subs.new.self ≡ (popped places (held_values m.workspace c.args.e)).values =
-    ap (λ (x : PlainInterpreter). held_values x.workspace c.take_subs.new.self) (sym c.interpreter.view_is)
+    let left : stack_values m.workspace c.take_subs.new.self ≡ (popped places (stack_values m.workspace c.args.e)).values =
+    ap (λ (x : PlainInterpreter). stack_values x.workspace c.take_subs.new.self) (sym c.interpreter.view_is)
     ∙ c.in_ok-subs.ensures.rest
-    ∙ ap (λ (list : List (Option ℕ)). (popped list (held_values c.interpreter.inside.workspace c.args.e)).values) c.as_slice.ensures
-    ∙ ap (λ (x : PlainInterpreter). (popped places (held_values x.workspace c.args.e)).values) c.interpreter.view_is in
+    ∙ ap (λ (list : List (Option ℕ)). (popped list (stack_values c.interpreter.inside.workspace c.args.e)).values) c.as_slice.ensures
+    ∙ ap (λ (x : PlainInterpreter). (popped places (stack_values x.workspace c.args.e)).values) c.interpreter.view_is in
     subs_then_one m.workspace c.args.e c.take_subs.new.self c.take.new.self places c.in_ok-held.held c.in_ok-right.right c.take.ensures.same left c.in_ok-held.ensures.taken c.in_ok-right.ensures.value
 
 -- what is still to come of the assignment
@@ -90,7 +90,7 @@ returns-in-Shared-clause-comes c =
     let d = (goal.at.returns-in-Shared-clause-comes c).In_ok-right in
     let m : PlainInterpreter = c.args.interpreter.now in
     let seen : look m.workspace c.args.name ≡ meaning.Shared (option_copied c.in-Shared.field-0) = ap (λ (x : PlainInterpreter). look x.workspace c.args.name) (sym c.interpreter.view_is) ∙ sym c.in-Shared.ensures.value in
-    comes_as m m (coming d) (part_gives m c.take.new.self (asked_for (replaces c.args.name c.in_ok-subs.subs.items c.in_ok-right.right))) 0 c.open.result
+    comes_as m m (coming d) (part_gives m c.take.new.self (act_asked_for (replaces c.args.name c.in_ok-subs.subs.items c.in_ok-right.right))) 0 c.open.result
     (items_open m c.args.e c.take.new.self c.args.name c.args.places.now.items c.in_ok-subs.subs.items c.in_ok-right.right (option_copied c.in-Shared.field-0) (same d) (subs d) (rest d) seen) c.open.ensures.comes
 
 pub open-requires-clause-sound : goal.open-requires-clause-sound

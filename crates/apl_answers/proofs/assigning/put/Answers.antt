@@ -9,9 +9,9 @@ use Rattle.apl_workspace.specs.Workspace.{assigned, is_assignable, look, workspa
 use Rattle.apl_meaning.specs.Deeds.{value_of}
 use Rattle.apl_meaning.specs.State.{gives}
 use Rattle.apl_meaning.specs.Variables.{assignment}
-use Rattle.apl_values.specs.declared.values.Held.{Held}
-use Rattle.apl_values.specs.Pending.{asked_for, assigned_giving, sets}
-use Rattle.apl_values.specs.Values.{IsHeld, held_value}
+use Rattle.apl_values.specs.declared.values.StackValue.{StackValue}
+use Rattle.apl_values.specs.Pending.{act_asked_for, assigned_giving, sets}
+use Rattle.apl_values.specs.Values.{IsStackValue, stack_value}
 use Rattle.apl_statements.specs.declared.evaluation.Evaluation.{Evaluation}
 use Rattle.apl_statements.specs.Interpreter.{PlainInterpreter}
 use Rattle.apl_statements.specs.Moves.{part_gives}
@@ -28,7 +28,7 @@ pub returns-then-is_seen_shared-clause-comes : goal.returns-then-is_seen_shared-
 returns-then-is_seen_shared-clause-comes c =
     let m : PlainInterpreter = c.args.interpreter.now in
     let other : PlainArray = unwrap_or c.args.gives c.args.value in
-    comes_as m m (part_gives m c.args.e (assigned_giving c.args.name c.args.value other)) (part_gives m c.args.e (asked_for (sets c.args.name c.args.value other))) 0 c.open.result
+    comes_as m m (part_gives m c.args.e (assigned_giving c.args.name c.args.value other)) (part_gives m c.args.e (act_asked_for (sets c.args.name c.args.value other))) 0 c.open.result
     (set_stays_open m c.args.e c.args.name c.args.value other (sym c.is_seen_shared.ensures ∙ c.if-is_seen_shared.true)) c.open.ensures.comes
 
 pub give-requires-clause-sound : goal.give-requires-clause-sound
@@ -40,7 +40,7 @@ give-requires-clause-value c =
     let n : PlainInterpreter = c.assign_value.new.interpreter in
     let seen : value_of (look n.workspace c.args.name) ≡ Some c.args.value =
     ap (λ (x : PlainInterpreter). value_of (look x.workspace c.args.name)) c.in_ok-assign_value.ensures.ok ∙ ap value_of (assigned_value m.workspace c.args.name c.args.value) in
-    subst (λ (h : Held). IsHeld n.workspace (parts_of c.assign_value.new.e) h) (sym c.given.ensures) (given_is_held n.workspace (parts_of c.assign_value.new.e) c.args.name c.args.gives c.args.value seen)
+    subst (λ (h : StackValue). IsStackValue n.workspace (parts_of c.assign_value.new.e) h) (sym c.given.ensures) (given_is_held n.workspace (parts_of c.assign_value.new.e) c.args.name c.args.gives c.args.value seen)
 
 pub returns-clause-comes : goal.returns-clause-comes
 returns-clause-comes c =
@@ -53,7 +53,7 @@ returns-clause-comes c =
     goes_behind m n (assigned m.workspace c.args.name c.args.value) c.args.e after (assignment c.args.name c.args.value) (λ s. gives (Some other) s) c.give.result
     c.in_ok-assign_value.ensures.ok c.in_ok-assign_value.ensures.done c.in_ok-assign_value.ensures.settled
     (gets n after c.given.result other c.give.result
-    (ap (held_value n.workspace (parts_of after)) c.given.ensures ∙ given_value n.workspace (parts_of after) c.args.name c.args.gives c.args.value seen) c.give.ensures.comes)
+    (ap (stack_value n.workspace (parts_of after)) c.given.ensures ∙ given_value n.workspace (parts_of after) c.args.name c.args.gives c.args.value seen) c.give.ensures.comes)
 
 pub returns-then-is_seen_shared-clause-memory : goal.returns-then-is_seen_shared-clause-memory
 returns-then-is_seen_shared-clause-memory c = on_want c.open.result _ (shared_takes (look c.args.interpreter.now.workspace c.args.name) (sym c.is_seen_shared.ensures ∙ c.if-is_seen_shared.true))

@@ -8,8 +8,8 @@ use Rattle.apl_meaning.specs.Expressions.{Found}
 use Rattle.apl_meaning.specs.Nodes.{found_in}
 use Rattle.apl_selection.proofs.WantLemmas.{on_want}
 use Rattle.apl_values.specs.declared.part.Part.{Part}
-use Rattle.apl_values.specs.declared.values.Held.{Held}
-use Rattle.apl_values.specs.Values.{held_value}
+use Rattle.apl_values.specs.declared.values.StackValue.{StackValue}
+use Rattle.apl_values.specs.Values.{stack_value}
 use Rattle.apl_statements.specs.declared.flow.Flow.{Flow}
 use Rattle.apl_statements.specs.Evaluating.{evaluation_of}
 use Rattle.apl_statements.specs.Holding.{parts_of}
@@ -30,10 +30,10 @@ returns-in_err-held-clause-memory c =
 pub returns-in_err-text-clause-memory : goal.returns-in_err-text-clause-memory
 returns-in_err-text-clause-memory c =
     let m : PlainInterpreter = c.args.interpreter.now in
-    let h : Held = c.in_ok-held.held in
+    let h : StackValue = c.in_ok-held.held in
     let v : PlainArray = c.array_of.result.now in
-    let own : v ≡ held_value m.workspace (parts_of c.args.e) h =
-    c.array_of.ensures ∙ ap (λ (parts : List Part). held_value c.interpreter.inside.workspace parts h) (c.parts.ensures ∙ ap parts_of c.needed.ensures.same) ∙ ap (λ (x : PlainInterpreter). held_value x.workspace (parts_of c.args.e) h) c.interpreter.view_is in
+    let own : v ≡ stack_value m.workspace (parts_of c.args.e) h =
+    c.array_of.ensures ∙ ap (λ (parts : List Part). stack_value c.interpreter.inside.workspace parts h) (c.parts.ensures ∙ ap parts_of c.needed.ensures.same) ∙ ap (λ (x : PlainInterpreter). stack_value x.workspace (parts_of c.args.e) h) c.interpreter.view_is in
     let found : Found = found_in (evaluation_of m.workspace c.args.e).values in
     let is : found ≡ Some v = c.in_ok-held.ensures.found m.workspace ∙ ap (λ (x : PlainArray). Some x) (sym own) in
     let p = err_from_is_err_and c.from_residual-in_err-text.result c.from_residual-in_err-text.ensures.1 in
@@ -42,10 +42,10 @@ returns-in_err-text-clause-memory c =
 pub returns-clause-memory : goal.returns-clause-memory
 returns-clause-memory c =
     let m : PlainInterpreter = c.args.interpreter.now in
-    let h : Held = c.in_ok-held.held in
+    let h : StackValue = c.in_ok-held.held in
     let v : PlainArray = c.array_of.result.now in
-    let own : v ≡ held_value m.workspace (parts_of c.args.e) h =
-    c.array_of.ensures ∙ ap (λ (parts : List Part). held_value c.interpreter.inside.workspace parts h) (c.parts.ensures ∙ ap parts_of c.needed.ensures.same) ∙ ap (λ (x : PlainInterpreter). held_value x.workspace (parts_of c.args.e) h) c.interpreter.view_is in
+    let own : v ≡ stack_value m.workspace (parts_of c.args.e) h =
+    c.array_of.ensures ∙ ap (λ (parts : List Part). stack_value c.interpreter.inside.workspace parts h) (c.parts.ensures ∙ ap parts_of c.needed.ensures.same) ∙ ap (λ (x : PlainInterpreter). stack_value x.workspace (parts_of c.args.e) h) c.interpreter.view_is in
     let found : Found = found_in (evaluation_of m.workspace c.args.e).values in
     let is : found ≡ Some v = c.in_ok-held.ensures.found m.workspace ∙ ap (λ (x : PlainArray). Some x) (sym own) in
     let text : IsOk (text_of v) = subst (λ (r : Result (List ℕ) Report). IsOk r) (sym c.in_ok-text.ensures.ok) refl in

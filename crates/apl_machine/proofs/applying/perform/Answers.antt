@@ -13,8 +13,8 @@ use Rattle.apl_meaning.specs.Expressions.{performed}
 use Rattle.apl_meaning.specs.Meaning.{ran}
 use Rattle.apl_meaning.specs.Nodes.{apply_step}
 use Rattle.apl_meaning.specs.State.{refuses}
-use Rattle.apl_values.specs.declared.values.Held.{Held}
-use Rattle.apl_values.specs.Values.{IsHeld, held_value}
+use Rattle.apl_values.specs.declared.values.StackValue.{StackValue}
+use Rattle.apl_values.specs.Values.{IsStackValue, stack_value}
 use Rattle.apl_statements.specs.declared.evaluation.Evaluation.{Evaluation}
 use Rattle.apl_statements.specs.Interpreter.{PlainInterpreter, state_at}
 use Rattle.apl_statements.specs.Moves.{Coming, if_there, part_gives, part_takes}
@@ -37,29 +37,29 @@ taking m e f has_left has_axis = part_takes m e (apply_step ran f (if_there has_
 sound : (g : Over) (c : In_ok-left g) → IsCaller c.args.interpreter.now.workspace c.take_operands.new.self
 sound g c = taken_sound c.args.interpreter.now.workspace c.args.e c.take_operands.new.self (operand_list c.in_ok-left.field-0) c.take_operands.ensures.same c.in_ok-left.ensures.taken c.requires.sound
 
-arrays : (g : Over) (c : In_ok-left g) → All (IsHeld c.args.interpreter.now.workspace (parts_of c.take_operands.new.self)) (operand_list c.in_ok-left.field-0)
+arrays : (g : Over) (c : In_ok-left g) → All (IsStackValue c.args.interpreter.now.workspace (parts_of c.take_operands.new.self)) (operand_list c.in_ok-left.field-0)
 arrays g c = taken_held c.args.interpreter.now.workspace c.args.e c.take_operands.new.self (operand_list c.in_ok-left.field-0) c.take_operands.ensures.same c.in_ok-left.ensures.taken c.requires.sound
 
-right : (g : Over) (c : In_ok-left g) → IsHeld c.args.interpreter.now.workspace (parts_of c.take_operands.new.self) c.in_ok-left.field-0.right
-right g c = right_held (IsHeld c.args.interpreter.now.workspace (parts_of c.take_operands.new.self)) c.in_ok-left.field-0 (arrays g c)
+right : (g : Over) (c : In_ok-left g) → IsStackValue c.args.interpreter.now.workspace (parts_of c.take_operands.new.self) c.in_ok-left.field-0.right
+right g c = right_held (IsStackValue c.args.interpreter.now.workspace (parts_of c.take_operands.new.self)) c.in_ok-left.field-0 (arrays g c)
 
-left : (g : Over) (c : In_ok-left g) → IfSome c.in_ok-left.field-0.left (IsHeld c.args.interpreter.now.workspace (parts_of c.take_operands.new.self))
-left g c = left_held (IsHeld c.args.interpreter.now.workspace (parts_of c.take_operands.new.self)) c.in_ok-left.field-0 (arrays g c)
+left : (g : Over) (c : In_ok-left g) → IfSome c.in_ok-left.field-0.left (IsStackValue c.args.interpreter.now.workspace (parts_of c.take_operands.new.self))
+left g c = left_held (IsStackValue c.args.interpreter.now.workspace (parts_of c.take_operands.new.self)) c.in_ok-left.field-0 (arrays g c)
 
 -- the arguments as arrays
-abbrev arrays_of : PlainInterpreter → Evaluation → Option Held → Option PlainArray
-arrays_of m e h = option_map (held_value m.workspace (parts_of e)) h
+abbrev arrays_of : PlainInterpreter → Evaluation → Option StackValue → Option PlainArray
+arrays_of m e h = option_map (stack_value m.workspace (parts_of e)) h
 
 -- the function is performed with its arguments, where it is this one
 performs_it : (g : Over) (c : In_ok-number g) (f : Fun) → c.args.function ≡ f
     → SameAt c.args.interpreter.now (taking c.args.interpreter.now c.args.e c.args.function c.args.has_left c.args.has_axis)
-    (part_gives c.args.interpreter.now c.take_operands.new.self (performed ran f (arrays_of c.args.interpreter.now c.take_operands.new.self c.in_ok-left.field-0.left) (held_value c.args.interpreter.now.workspace (parts_of c.take_operands.new.self) c.in_ok-left.field-0.right) c.in_ok-number.number))
+    (part_gives c.args.interpreter.now c.take_operands.new.self (performed ran f (arrays_of c.args.interpreter.now c.take_operands.new.self c.in_ok-left.field-0.left) (stack_value c.args.interpreter.now.workspace (parts_of c.take_operands.new.self) c.in_ok-left.field-0.right) c.in_ok-number.number))
 performs_it g c f is asked count taken further =
     let m : PlainInterpreter = c.args.interpreter.now in
     let after : Evaluation = c.take_operands.new.self in
     performs_as m c.args.e after c.args.function c.args.has_left c.args.has_axis c.in_ok-left.field-0 c.in_ok-number.number c.take_operands.ensures.same c.in_ok-left.ensures.taken c.in_ok-left.ensures.left c.in_ok-left.ensures.axis c.in_ok-number.ensures.ok
     asked count taken further
-    ∙ ap (λ (one : Fun). part_gives m after (performed ran one (arrays_of m after c.in_ok-left.field-0.left) (held_value m.workspace (parts_of after) c.in_ok-left.field-0.right) c.in_ok-number.number) (state_at m asked count taken further)) is
+    ∙ ap (λ (one : Fun). part_gives m after (performed ran one (arrays_of m after c.in_ok-left.field-0.left) (stack_value m.workspace (parts_of after) c.in_ok-left.field-0.right) c.in_ok-number.number) (state_at m asked count taken further)) is
 
 pub returns-in_err-left-clause-comes : goal.returns-in_err-left-clause-comes
 returns-in_err-left-clause-comes g c =
@@ -73,7 +73,7 @@ returns-in_err-left-clause-comes g c =
     performs_none m c.args.e c.args.function c.args.has_left c.args.has_axis (state_at m asked count taken further) c.in_err-left.ensures.none.1)))
 
 pub axis_of-requires : goal.axis_of-requires
-axis_of-requires g c = axis_held (IsHeld c.args.interpreter.now.workspace (parts_of c.take_operands.new.self)) c.in_ok-left.field-0 (arrays g (goal.at.axis_of-requires g c).In_ok-left)
+axis_of-requires g c = axis_held (IsStackValue c.args.interpreter.now.workspace (parts_of c.take_operands.new.self)) c.in_ok-left.field-0 (arrays g (goal.at.axis_of-requires g c).In_ok-left)
 
 pub returns-in_err-number-clause-comes : goal.returns-in_err-number-clause-comes
 returns-in_err-number-clause-comes g c =

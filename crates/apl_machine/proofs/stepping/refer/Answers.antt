@@ -8,8 +8,8 @@ use Rattle.apl_workspace.specs.declared.meaning.Meaning.TheVariants as meaning
 use Rattle.apl_meaning.specs.Deeds.{value_of}
 use Rattle.apl_meaning.specs.State.{gives}
 use Rattle.apl_meaning.specs.Variables.{reference}
-use Rattle.apl_values.specs.declared.values.Held.TheVariants as held
-use Rattle.apl_values.specs.Values.{held_value, no_array}
+use Rattle.apl_values.specs.declared.values.StackValue.TheVariants as held
+use Rattle.apl_values.specs.Values.{stack_value, no_array}
 use Rattle.apl_statements.specs.Evaluating.{caller_of}
 use Rattle.apl_statements.specs.Interpreter.{PlainInterpreter, here, state_at}
 use Rattle.apl_statements.specs.Moves.{part_gives}
@@ -25,7 +25,7 @@ pub returns-in-Value-clause-comes : goal.returns-in-Value-clause-comes
 returns-in-Value-clause-comes c =
     let m : PlainInterpreter = c.args.interpreter.now in
     let seen : look m.workspace c.args.name ≡ meaning.Value c.in-Value.field-0.now = ap (λ (n : PlainInterpreter). look n.workspace c.args.name) (sym c.interpreter.view_is) ∙ sym c.in-Value.ensures.value in
-    comes_as m m _ (part_gives m c.args.e (λ s. gives (Some (held_value m.workspace (parts_of c.args.e) (held.Named c.args.name))) s)) 0 c.give.result (λ asked count taken further.
+    comes_as m m _ (part_gives m c.args.e (λ s. gives (Some (stack_value m.workspace (parts_of c.args.e) (held.Named c.args.name))) s)) 0 c.give.result (λ asked count taken further.
     refers_to m c.args.e c.args.name (meaning.Value c.in-Value.field-0.now) seen asked count taken further
     ∙ ap (λ (found : Meaning). carried_on (gives (Some (unwrap_or (value_of found) no_array)) (state_at m asked count taken further)) (caller_of m.workspace (here m) c.args.e) m.stack) (sym seen)) c.give.ensures.comes
 

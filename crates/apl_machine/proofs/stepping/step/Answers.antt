@@ -13,9 +13,9 @@ use Rattle.apl_meaning.specs.Meaning.{ran}
 use Rattle.apl_meaning.specs.Nodes.{apply_step, indexed_step}
 use Rattle.apl_meaning.specs.State.{gives, refuses}
 use Rattle.apl_meaning.specs.Variables.{reference}
-use Rattle.apl_values.specs.declared.values.Held.TheVariants as held
+use Rattle.apl_values.specs.declared.values.StackValue.TheVariants as held
 use Rattle.apl_values.specs.Parts.{IsKeptNode, IsPart, plain_part}
-use Rattle.apl_values.specs.Values.{held_value}
+use Rattle.apl_values.specs.Values.{stack_value}
 use Rattle.apl_statements.specs.declared.evaluation.Evaluation.{Evaluation}
 use Rattle.apl_statements.specs.Interpreter.{PlainInterpreter, state_at}
 use Rattle.apl_statements.specs.Moves.{if_there, part_gives, part_takes}
@@ -43,7 +43,7 @@ returns-in-Constant-clause-comes g c =
     let e : Evaluation = c.args.e in
     let here : slice_get (parts_of e) e.at ≡ Some c.index.result.now = here_is g (goal.at.returns-in-Constant-clause-comes g c).After-index in
     none_counted m m (to_come m e) (c.args.steps.now - c.args.steps.now) c.give.result (omega arith)
-    (comes_as m m (to_come m e) (part_gives m (passed e) (λ s. gives (Some (held_value m.workspace (parts_of (passed e)) (held.Constant e.at))) s)) 0 c.give.result
+    (comes_as m m (to_come m e) (part_gives m (passed e) (λ s. gives (Some (stack_value m.workspace (parts_of (passed e)) (held.Constant e.at))) s)) 0 c.give.result
     (next_constant m e c.in-Constant.field-0 (here ∙ ap (λ part. Some part) c.in-Constant.is) c.requires.sound.there (subst IsPart c.in-Constant.is (read_sound e c.index.result.now here c.requires.sound.evaluation.reading.parts))) c.give.ensures.comes)
 
 pub returns-in-Constant-node-clause-comes : goal.returns-in-Constant-node-clause-comes

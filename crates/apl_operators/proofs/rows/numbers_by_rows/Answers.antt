@@ -2,7 +2,7 @@ use Rattle.std.proofs.Common.{◌≡◌, ◌*◌, ◌∙◌, ℤ, List, is_some,
 use Rattle.std.proofs.lemmas.Result.{err_from_is_err_and}
 use Rattle.apl_arrays.specs.declared.report.Fail.TheVariants as fail
 use Rattle.apl_arrays.specs.Array.{PlainArray, number_array}
-use Rattle.apl_items.specs.Answers.{Answer}
+use Rattle.apl_items.specs.Answers.{ArrayResult}
 use Rattle.apl_items.specs.Places.{AtPlace}
 use Rattle.apl_items.proofs.PlaceLemmas.{nothing_lacks_at, something_lacks}
 use Rattle.apl_scalar.proofs.MemoryLemmas.{has_as_told}
@@ -30,7 +30,7 @@ returns-in_err-shaped g c item follows =
 
 pub returns-in_ok-shaped : goal.returns-in_ok-shaped
 returns-in_ok-shaped g c item follows =
-    let given : PlainArray → Answer = λ array. Ok array in
+    let given : PlainArray → ArrayResult = λ array. Ok array in
     numbers_made c.args.shape.now (c.args.rows * c.args.columns) item c.in_ok-items.items.items (sym c.shape_fault.ensures ∙ none_is c.shape_fault.result c.if-is_none.ensures) c.requires.count
     (record { whole = c.in_ok-items.ensures.whole; each = λ place below. follows place _ below (c.in_ok-items.ensures.items place below) })
     ∙ ap given (sym (c.in_ok-shaped.ensures.array ∙ ap (λ (list : List ℤ). number_array c.args.shape.now list) c.from.ensures))

@@ -1,5 +1,5 @@
 use Rattle.std.proofs.Common.{◌≤◌, ℕ, ℤ, List, Option, Err, length, refl, subst, sym, ◌∙◌}
-use Rattle.apl_items.specs.Answers.{Answer, AnswersFirst}
+use Rattle.apl_items.specs.Answers.{ArrayResult, AnswersFirst}
 use Rattle.apl_selection.specs.Expansion.{expand_faults, spread}
 use Rattle.apl_selection.proofs.ExpandLemmas.{few_spread, spread_count, spread_inside_of, expand_is}
 use Rattle.apl_selection.proofs.FaultLemmas.{few_numbers}
@@ -23,7 +23,7 @@ listing_fail-requires-clause-few c = subst (λ (xs : List ℤ). length xs ≤ 16
 
 pub returns-in-Ok : goal.returns-in-Ok
 returns-in-Ok c =
-    subst (λ (answer : Answer). AnswersFirst c.listed_of.result answer)
+    subst (λ (answer : ArrayResult). AnswersFirst c.listed_of.result answer)
     (expand_is c.args.a.now c.args.b.now c.args.way c.args.axis c.meant_axis-along.result c.meant_length-long.result c.numbers-flags.result.now c.as_slice.result.now c.numbers-flags.ensures c.meant_length-long.ensures.value
     c.meant_axis-along.ensures.value (c.as_slice.ensures.value ∙ c.in-Ok.ensures))
     (c.listed_of.ensures (expand_faults c.args.a.now c.args.b.now c.args.way c.args.axis) c.requires.none)
@@ -31,7 +31,7 @@ returns-in-Ok c =
 pub returns-in-Err : goal.returns-in-Err
 returns-in-Err c =
     let list = spread c.numbers-flags.result.now c.meant_length-long.result in
-    subst (λ (answer : Answer). AnswersFirst (Err c.listing_fail.result) answer)
+    subst (λ (answer : ArrayResult). AnswersFirst (Err c.listing_fail.result) answer)
     (expand_is c.args.a.now c.args.b.now c.args.way c.args.axis c.meant_axis-along.result c.meant_length-long.result c.numbers-flags.result.now list c.numbers-flags.ensures c.meant_length-long.ensures.value
     c.meant_axis-along.ensures.value refl)
     (c.listing_fail.ensures (expand_faults c.args.a.now c.args.b.now c.args.way c.args.axis) list c.requires.none (spread_count c.numbers-flags.result.now c.meant_length-long.result))

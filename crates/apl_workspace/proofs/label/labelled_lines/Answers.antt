@@ -1,5 +1,5 @@
 use Rattle.std.proofs.Common.{ℕ, ◌+◌, List, Option, ap, ◌∙◌, arith}
-use Rattle.apl_workspace.specs.Label.{label_of, with_line}
+use Rattle.apl_workspace.specs.Label.{label_of, with_label}
 use Rattle.apl_workspace.proofs.Labelled.{labels_on}
 use Rattle.apl_workspace.proofs.label.labelled_lines.Goals as goal
 
@@ -8,6 +8,6 @@ loop-line-preserved c =
     let number = c.loop-line.number + 1 in
     record {
       labels = labels_on c.args.lines.now c.loop-line.line-index number c.line-item.result c.loop-line.labels.items c.add_line.new.labels.items c.loop-line-test.true c.line-item.is (omega arith)
-          (c.in_ok-add_line.ensures ∙ ap (λ (label : Option (List ℕ)). with_line c.loop-line.labels.items label number) (c.label_of.ensures ∙ ap label_of c.as_slice.ensures)) c.loop-line.invariant.labels;
+          (c.in_ok-add_line.ensures ∙ ap (λ (label : Option (List ℕ)). with_label c.loop-line.labels.items label number) (c.label_of.ensures ∙ ap label_of c.as_slice.ensures)) c.loop-line.invariant.labels;
       number = omega arith;
     }

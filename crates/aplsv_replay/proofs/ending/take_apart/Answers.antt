@@ -2,7 +2,7 @@ use Rattle.std.proofs.Common.{◌≡◌, ◌∙◌, ◌&&◌, ◌++◌, ◌∷�
 use Rattle.std.proofs.lemmas.Bool.{eqb-true}
 use Rattle.std.specs.Result.{is_ok}
 use Rattle.sv_journal.specs.Output.{PlainTranscript}
-use Rattle.aplsv_replay.specs.declared.seat.Seat.{Seat}
+use Rattle.aplsv_replay.specs.declared.seat.UserSeat.{UserSeat}
 use Rattle.aplsv_replay.proofs.Filling.{AreApart, IsOfSeat, all_told, apart_as, apart_more, kept_as_before, transcript_ascends}
 use Rattle.aplsv_replay.proofs.Rows.{front_and_rest, none_there, turned_round}
 use Rattle.aplsv_replay.proofs.ending.take_apart.Goals as goal
@@ -51,10 +51,10 @@ pub returns-then-is_whole-2-clause-shelves : goal.returns-then-is_whole-2-clause
 returns-then-is_whole-2-clause-shelves g c =
     let loop = c.loop-seats in
     let left = c.args.shelves.now.items in
-    let given = map (λ (s : Seat g.row.K.Denot). s.session.shelf) c.args.seats.items in
+    let given = map (λ (s : UserSeat g.row.K.Denot). s.session.shelf) c.args.seats.items in
     let none = none_there loop.seats.items (sym loop.seats.ok.0 ∙ eqb-true (vec_len loop.seats) 0 (sym c.is_empty.ensures ∙ c.loop-seats-test.false)) in
     let row : loop.shelves.items ≡ left ++ given =
-    sym (append-nil loop.shelves.items) ∙ ap (λ (ss : List (Seat g.row.K.Denot)). loop.shelves.items ++ map (λ (s : Seat g.row.K.Denot). s.session.shelf) ss) (sym none) ∙ loop.invariant.apart.shelves in
+    sym (append-nil loop.shelves.items) ∙ ap (λ (ss : List (UserSeat g.row.K.Denot)). loop.shelves.items ++ map (λ (s : UserSeat g.row.K.Denot). s.session.shelf) ss) (sym none) ∙ loop.invariant.apart.shelves in
     c.rotate_left.ensures.items ∙ turned_round left given loop.shelves.items c.len-left.result row (c.len-left.ensures ∙ c.args.shelves.now.ok.0)
 
 pub returns-then-is_whole-2-clause-transcripts : goal.returns-then-is_whole-2-clause-transcripts

@@ -2,7 +2,7 @@ use Rattle.std.proofs.Common.{◌≡◌, false, rules, subst, sym, tests, true, 
 use Rattle.aplsv_replay.specs.SeatTurns.{IsSeatTurn}
 use Rattle.aplsv_replay.specs.Sittings.{Sitting}
 use Rattle.aplsv_replay.specs.SoFar.{IsSeated}
-use Rattle.aplsv_replay.specs.declared.seat.Seat.{Seat}
+use Rattle.aplsv_replay.specs.declared.seat.UserSeat.{UserSeat}
 use Rattle.aplsv_replay.proofs.SeatTurns.{due_turn, not_due}
 use Rattle.aplsv_replay.proofs.Sits.{sits_as}
 use Rattle.aplsv_replay.proofs.parties.seat_turn.Goals as goal
@@ -12,7 +12,7 @@ returns-then-not-due g c =
     let is : c.args.due ≡ false = search (rules, tests) in
     λ sitting here seated.
     subst (λ (due : Bool). IsSeatTurn g.K.Shelf.told g.K.Shelf.faults due c.args.closes c.args.core.now sitting c.args.core.now c.args.seat.now) (sym is)
-    (subst (λ (seat : Seat g.row.K.Denot). IsSeatTurn g.K.Shelf.told g.K.Shelf.faults false c.args.closes c.args.core.now sitting c.args.core.now seat) here (not_due g.K.Shelf.told g.K.Shelf.faults c.args.closes c.args.core.now sitting seated))
+    (subst (λ (seat : UserSeat g.row.K.Denot). IsSeatTurn g.K.Shelf.told g.K.Shelf.faults false c.args.closes c.args.core.now sitting c.args.core.now seat) here (not_due g.K.Shelf.told g.K.Shelf.faults c.args.closes c.args.core.now sitting seated))
 
 pub returns : goal.returns
 returns g c =

@@ -2,7 +2,7 @@ use Rattle.std.proofs.Common.{◌∙◌, ◌∷◌, ◌++◌, ◌<◌, List, [],
 use Rattle.std.proofs.lemmas.Iterator.Adapters.{YieldsList-from_vec}
 use Rattle.std.proofs.lemmas.Iterator.Consumers.{YieldsList-turn}
 use Rattle.std.proofs.lemmas.List.{length_push}
-use Rattle.aplsv_replay.specs.declared.seat.Seat.{Seat}
+use Rattle.aplsv_replay.specs.declared.seat.UserSeat.{UserSeat}
 use Rattle.aplsv_replay.proofs.Filling.{AreFilled, filled_more}
 use Rattle.aplsv_replay.proofs.Rows.{front_and_rest}
 use Rattle.aplsv_replay.proofs.start.fill.Goals as goal
@@ -31,7 +31,7 @@ loop-user-preserved g c =
     c.new.ensures.come c.new.ensures.begins c.new-in-loop-user.ensures in
     let more = length_push loop.yielded c.in-Some.user in
     record {
-      filled = subst (λ (seats : List (Seat g.row.K.Denot)). AreFilled g.K.Shelf.told g.K.Shelf.faults (loop.yielded ++ c.in-Some.user ∷ []) seats c.remove-shelf.new.self.items c.args.shelves.now.items) (sym c.push_reserved.ensures.items) filled;
+      filled = subst (λ (seats : List (UserSeat g.row.K.Denot)). AreFilled g.K.Shelf.told g.K.Shelf.faults (loop.yielded ++ c.in-Some.user ∷ []) seats c.remove-shelf.new.self.items c.args.shelves.now.items) (sym c.push_reserved.ensures.items) filled;
       count = omega (arith, more, loop.invariant.count, c.push_reserved.ensures.len);
       total = omega (arith, loop.invariant.total, c.push_reserved.ensures.len, c.remove-shelf.ensures.len);
       places = omega (arith, loop.invariant.places, c.push_reserved.ensures.capacity);

@@ -7,7 +7,7 @@ use Rattle.clap.specs.declared.error.kind.ErrorKind.TheVariants as kind
 use Rattle.clap.proofs.OnLiterals.{clap_on_literals}
 use Rattle.aplsv_words.specs.CommandLine.{command_of}
 use Rattle.aplsv_words.specs.Laws.{MeanNothing, nothing, replay_alone}
-use Rattle.aplsv_words.specs.Meaning.{AsksFor, IsCount, NoCount, Text, begins_with_hyphen, hyphened, is_known, joined, said_by}
+use Rattle.aplsv_words.specs.Meaning.{AsksFor, IsCount, NoCount, Text, begins_with_hyphen, hyphened, is_known, as_one_word, said_by}
 use Rattle.aplsv_words.specs.Table.{table}
 use Rattle.aplsv_words.proofs.Counts.{both_mean_nothing, low_counts_not, no_count_means_nothing, other_counts_not}
 use Rattle.aplsv_words.proofs.Settings.{alone, value_known, with_value}
@@ -82,10 +82,10 @@ returns-clause-load_beside c =
 
 -- loads of no count, in one word and in two
 
-joined_count : (text : Text) → nat_lt 0 (length text) ≡ true → NoCount text → MeanNothing (joined (codes "load") text ∷ [])
+joined_count : (text : Text) → nat_lt 0 (length text) ≡ true → NoCount text → MeanNothing (as_one_word (codes "load") text ∷ [])
 joined_count text filled none =
-    no_count_means_nothing (joined (codes "load") text ∷ []) (said_by (with_value (codes "load") text ∷ [])) text
-    (say_by (joined (codes "load") text ∷ []) (with_value (codes "load") text ∷ []) ([], inl refl, refl) (record { known = and_from (is_known table (with_value (codes "load") text)) true (value_known table (codes "load") text refl filled) refl; once = (refl, tt) }))
+    no_count_means_nothing (as_one_word (codes "load") text ∷ []) (said_by (with_value (codes "load") text ∷ [])) text
+    (say_by (as_one_word (codes "load") text ∷ []) (with_value (codes "load") text ∷ []) ([], inl refl, refl) (record { known = and_from (is_known table (with_value (codes "load") text)) true (value_known table (codes "load") text refl filled) refl; once = (refl, tt) }))
     refl none
 
 parted_count : (text : Text) → nat_lt 0 (length text) ≡ true → begins_with_hyphen text ≡ false → NoCount text → MeanNothing (hyphened (codes "load") ∷ text ∷ [])

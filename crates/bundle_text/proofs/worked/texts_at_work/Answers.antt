@@ -5,8 +5,8 @@ use Rattle.std.specs.List.{All}
 use Rattle.std.proofs.lemmas.Bool.{false≢true}
 use Rattle.std.proofs.lemmas.List.Elements.{All-nil, All-from_recursion}
 use Rattle.apl_arrays.specs.Glyph.{IsGlyph}
-use Rattle.bundle_text.specs.Rules.{IsUser, IsContent, IsFile, IsReading}
-use Rattle.bundle_text.specs.BundleLine.{IsLine, IsReadingText, user, input, order, file, clock, end}
+use Rattle.bundle_text.specs.Rules.{IsUser, IsContent, IsFile, IsClockReading}
+use Rattle.bundle_text.specs.BundleLine.{IsBundleLine, IsReadingText, user, input, order, file, clock, end}
 use Rattle.bundle_text.specs.Bundle.{Sheet}
 use Rattle.bundle_text.specs.User.{PlainUser}
 use Rattle.bundle_text.proofs.worked.texts_at_work.Goals as goal
@@ -24,11 +24,11 @@ returns-clause-none c = record {
     names_ascend = tt;
     each_file = All-nil IsFile;
     few_readings = omega arith;
-    readings = All-nil IsReading;
+    readings = All-nil IsClockReading;
   };
   page = record { users = []; orders = []; files = []; clocks = [] };
   says = refl;
-  forms = All-from_recursion IsLine (end ∷ []) (tt, tt);
+  forms = All-from_recursion IsBundleLine (end ∷ []) (tt, tt);
   short = All-nil (λ (sheet : Sheet). All IsContent sheet.lines);
   text = inr refl;
 }
@@ -55,11 +55,11 @@ returns-clause-one c = record {
     names_ascend = tt;
     each_file = All-nil IsFile;
     few_readings = omega arith;
-    readings = All-nil IsReading;
+    readings = All-nil IsClockReading;
   };
   page = record { users = user_x ∷ []; orders = []; files = []; clocks = [] };
   says = refl;
-  forms = All-from_recursion IsLine (user 1001 ∷ input (codes "X") ∷ end ∷ []) ((omega arith, omega arith), (line_x.glyphs, (tt, tt)));
+  forms = All-from_recursion IsBundleLine (user 1001 ∷ input (codes "X") ∷ end ∷ []) ((omega arith, omega arith), (line_x.glyphs, (tt, tt)));
   short = All-nil (λ (sheet : Sheet). All IsContent sheet.lines);
   text = inr refl;
 }
@@ -95,11 +95,11 @@ returns-clause-whole c = record {
     names_ascend = tt;
     each_file = All-from_recursion IsFile (record { name = codes "A"; bytes = codes "X\n\n" } ∷ []) (record { name = refl; lines = codes "X" ∷ [] ∷ []; each = two_lines; bytes = refl }, tt);
     few_readings = omega arith;
-    readings = All-from_recursion IsReading (pos 0 ∷ pos 7 ∷ []) (omega arith, (omega arith, tt));
+    readings = All-from_recursion IsClockReading (pos 0 ∷ pos 7 ∷ []) (omega arith, (omega arith, tt));
   };
   page = record { users = plain_one ∷ []; orders = (codes "1001" ∷ codes "10" ∷ []) ∷ (codes "20" ∷ []) ∷ []; files = sheet_a ∷ []; clocks = (codes "0" ∷ codes "7" ∷ []) ∷ [] };
   says = refl;
-  forms = All-from_recursion IsLine
+  forms = All-from_recursion IsBundleLine
       (user 1001 ∷ order (codes "1001" ∷ codes "10" ∷ []) ∷ order (codes "20" ∷ []) ∷ file (codes "A") ∷ input (codes "X") ∷ input [] ∷ clock (codes "0" ∷ codes "7" ∷ []) ∷ end ∷ [])
       ((omega arith, omega arith), ((omega arith, refl), ((omega arith, refl), (refl, (line_x.glyphs, (All-nil IsGlyph, ((omega arith, two_readings), (tt, tt))))))));
   short = All-from_recursion (λ (sheet : Sheet). All IsContent sheet.lines) (sheet_a ∷ []) (two_lines, tt);

@@ -2,7 +2,7 @@ use Rattle.std.proofs.Common.{ap, sym, ◌∙◌}
 use Rattle.sv_access.specs.Access.{other_side}
 use Rattle.sv_access.specs.Story.{state_of_story}
 use Rattle.sv_access.specs.declared.access.Side.{Side}
-use Rattle.sv_access.specs.declared.state.State.{State}
+use Rattle.sv_access.specs.declared.state.AccessState.{AccessState}
 use Rattle.sv_plain.specs.Told.{is_unseen_by}
 use Rattle.sv_rules.specs.Control.{side_at}
 use Rattle.sv_rules.specs.Journal.{journal_of}
@@ -13,6 +13,6 @@ use Rattle.sv_plain.proofs.working.has_unseen.Goals as goal
 pub returns : goal.returns
 returns c =
     let told = story (journal_of c.args.entries.now) c.args.coupling.now in
-    c.is_partners_unseen.ensures ∙ ap (λ (s : State). is_unseen_by s (other_side c.side_at-side.result)) c.in_ok-state.ensures
+    c.is_partners_unseen.ensures ∙ ap (λ (s : AccessState). is_unseen_by s (other_side c.side_at-side.result)) c.in_ok-state.ensures
     ∙ ap (λ (side : Side). is_unseen_by (state_of_story told) (other_side side)) c.side_at-side.ensures
     ∙ sym (unseen_by_state told (other_side (side_at c.args.coupling.now c.args.offer.now.place)))

@@ -1,7 +1,7 @@
 use Rattle.std.proofs.Common.{◌≡◌, ◌++◌, ◌∷◌, [], ◌∙◌, sym, ap}
 use Rattle.std.proofs.lemmas.Result.{err_from_is_err_and}
 use Rattle.text_reader.specs.Reading.{read_behind}
-use Rattle.sv_text.specs.ValueReading.{axes_at}
+use Rattle.sv_text.specs.ValueReading.{read_axes}
 use Rattle.sv_text.proofs.Axes.{axis_stops, behind_stops, goes_on_with, closes_behind}
 use Rattle.sv_text.proofs.shape.+add_axes.Goals as goal
 

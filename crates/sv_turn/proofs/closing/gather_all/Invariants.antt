@@ -1,5 +1,5 @@
 use Rattle.std.proofs.Common.{◌≡◌, ◌<◌, [], All, map, length, take, drop}
-use Rattle.sv_turn.specs.declared.view.Stage.TheVariants.{Away}
+use Rattle.sv_turn.specs.declared.view.SeatStage.TheVariants.{Away}
 use Rattle.sv_turn.specs.Views.{accounts_of}
 use Rattle.sv_turn.specs.Seating.{IsClosed, party_and_places, account_of}
 use Rattle.sv_turn.proofs.closing.gather_all.Given as goal

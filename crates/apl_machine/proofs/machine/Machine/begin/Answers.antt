@@ -9,7 +9,7 @@ use Rattle.apl_statements.specs.Interpreter.{PlainInterpreter}
 use Rattle.apl_machine.specs.declared.machine.Machine.TheInside.{Inside}
 use Rattle.apl_machine.specs.declared.machine.Stage.TheVariants as stage
 use Rattle.apl_machine.specs.Machine.{PlainMachine, begins, machine_before}
-use Rattle.apl_machine.specs.Runs.{Stands}
+use Rattle.apl_machine.specs.Runs.{MachineStands}
 use Rattle.apl_machine.specs.Stages.{plain_machine}
 use Rattle.apl_machine.proofs.Standing.{stands_at_its_beginning}
 use Rattle.apl_machine.proofs.machine.Machine.begin.Goals as goal
@@ -31,4 +31,4 @@ returns-in-Ok-clause-stands c =
     ap (λ (x : PlainInterpreter). made x (reading_tree c.in_ok-reading.reading)) c.in-Ok.ensures.ok
     ∙ ap (λ (t : PlainTree). made (reset i line) t) c.in_ok-reading.ensures.tree
     ∙ ap (λ (x : PlainMachine). made (reset x.interpreter line) tree) c.self.view_is in
-    subst (λ (x : PlainMachine). Stands x (line_tree_of tree) line m.interpreter.workspace m.interpreter.output [] 0 []) (sym is) (stands_at_its_beginning m line tree c.requires.idle.stack)
+    subst (λ (x : PlainMachine). MachineStands x (line_tree_of tree) line m.interpreter.workspace m.interpreter.output [] 0 []) (sym is) (stands_at_its_beginning m line tree c.requires.idle.stack)

@@ -1,6 +1,6 @@
 use Rattle.std.proofs.Common.{◌≡◌, [], ◌∷◌, sym, ap, subst, ◌∙◌}
 use Rattle.sv_events.specs.Answer.{plain_answer}
-use Rattle.apl_values.specs.Pending.{plain_pending}
+use Rattle.apl_values.specs.Pending.{plain_act_purpose}
 use Rattle.apl_statements.specs.Evaluating.{caller_of}
 use Rattle.apl_statements.specs.Interpreter.{PlainInterpreter, here}
 use Rattle.apl_statements.specs.Stack.{PlainCaller}
@@ -21,4 +21,4 @@ returns-in-Open-clause-stands c =
     let caller : PlainCaller = caller_of i.workspace (here i) c.in-Open.evaluation in
     let is : inside.stage ≡ stage.Open c.in-Open.pending c.in-Open.evaluation = sym c.replace.ensures.value ∙ c.in-Open.is in
     subst (λ (x : PlainMachine). StandsOn x 0 (plain_answer c.args.answer ∷ []) [] (plain_machine after)) c.self.view_is
-    (stands_with_answer (plain_machine inside) (plain_pending c.in-Open.pending.value) caller (plain_answer c.args.answer) (ap (λ (st : Stage). plain_stage i.workspace (here i) st) is))
+    (stands_with_answer (plain_machine inside) (plain_act_purpose c.in-Open.pending.value) caller (plain_answer c.args.answer) (ap (λ (st : Stage). plain_stage i.workspace (here i) st) is))

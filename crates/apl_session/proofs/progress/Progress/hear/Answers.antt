@@ -6,7 +6,7 @@ use Rattle.apl_meaning.specs.State.{Effect, State}
 use Rattle.apl_terminal.specs.Terminal.{PlainTerminal, printing}
 use Rattle.apl_workspace.specs.Workspace.{PlainWorkspace}
 use Rattle.sv_events.specs.Answer.{PlainAnswer, plain_answer}
-use Rattle.apl_session.specs.Standing.{EndsBy, IsBetween}
+use Rattle.apl_session.specs.Standing.{FailsBy, IsBetween}
 use Rattle.apl_session.proofs.Lone.{heard_done, heard_fail}
 use Rattle.apl_session.proofs.progress.Progress.hear.Goals as goal
 
@@ -36,5 +36,5 @@ returns-in-Err-clause-heard c =
     on_ok_weaker c.end_by.result
     (λ ends lines answers exchanges at alone.
     heard_fail lines answers exchanges c.args.self.now.read t c.end_by.new.self.terminal line c.args.act.now answer v out c.in-Err.fail c.requires.free led (c.hear_alone-heard.ensures.frames ∙ c.lend-workspace.ensures.frames)
-    (subst (λ (s : PlainTerminal). EndsBy c.in-Err.fail line s c.end_by.new.self.terminal) there ends) at alone)
+    (subst (λ (s : PlainTerminal). FailsBy c.in-Err.fail line s c.end_by.new.self.terminal) there ends) at alone)
     c.end_by.ensures.ends

@@ -2,7 +2,7 @@ use Rattle.std.proofs.Common.{List, [], sym, subst, refl}
 use Rattle.apl_session.specs.PlainSession.{HasCome}
 use Rattle.apl_session.specs.Receipts.{PlainReceipt}
 use Rattle.apl_session.specs.Standing.{IsAlive}
-use Rattle.apl_session.specs.declared.session.Stage.TheVariants as stage
+use Rattle.apl_session.specs.declared.session.SessionStage.TheVariants as stage
 use Rattle.apl_session.proofs.Around.{seen}
 use Rattle.apl_session.proofs.Inside.{begun_session}
 use Rattle.apl_session.proofs.session.Session.new.Goals as goal

@@ -2,7 +2,7 @@ use Rattle.std.proofs.Common.{rules, ◌≡◌, ◌≢◌, Option, Some, refl, s
 use Rattle.sv_events.specs.declared.event.Act.{Act}
 use Rattle.apl_session.specs.Standing.{IsAlive, open_act}
 use Rattle.apl_session.specs.Wants.{stage_by}
-use Rattle.apl_session.specs.declared.session.Stage.TheVariants.{Failed, Finished, Waiting}
+use Rattle.apl_session.specs.declared.session.SessionStage.TheVariants.{Failed, Finished, Waiting}
 use Rattle.apl_session.specs.declared.session.Wants.TheVariants as wants
 use Rattle.apl_session.proofs.Around.{goes_inside, next_goes, next_stays, still_alive}
 use Rattle.apl_session.proofs.session.Session.next.Goals as goal

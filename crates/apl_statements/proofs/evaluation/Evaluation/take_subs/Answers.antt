@@ -3,10 +3,10 @@ use Rattle.std.specs.Prelude.{None, Option, is_some, option_map, option_to_list}
 use Rattle.apl_arrays.specs.Array.{PlainArray}
 use Rattle.apl_workspace.specs.Workspace.{PlainWorkspace}
 use Rattle.apl_meaning.specs.Nodes.{Popped, popped}
-use Rattle.apl_values.specs.declared.values.Held.{Held}
-use Rattle.apl_values.specs.Values.{held_value}
+use Rattle.apl_values.specs.declared.values.StackValue.{StackValue}
+use Rattle.apl_values.specs.Values.{stack_value}
 use Rattle.apl_statements.specs.declared.evaluation.Evaluation.{Evaluation}
-use Rattle.apl_statements.specs.Holding.{held_values, parts_of}
+use Rattle.apl_statements.specs.Holding.{stack_values, parts_of}
 use Rattle.apl_statements.proofs.Subs.{sub_more}
 use Rattle.apl_statements.proofs.Taken.{same_twice, taken_evaluation}
 use Rattle.apl_statements.proofs.evaluation.Evaluation.take_subs.Goals as goal
@@ -19,12 +19,12 @@ loop-place-preserved c =
     let first : Evaluation = c.args.self.now in
     let before : Evaluation = c.loop-place.self in
     let after : Evaluation = c.take_sub-sub.new.self in
-    let sub : Option Held = c.take_sub-sub.result in
-    let so_far : Popped = popped (take i places) (held_values w first) in
+    let sub : Option StackValue = c.take_sub-sub.result in
+    let so_far : Popped = popped (take i places) (stack_values w first) in
     let lt : i < length places = omega arith in
-    let own : c.in_ok-owned_sub.field-0 ≡ option_map (held_value w (parts_of before)) sub =
-    c.in_ok-owned_sub.ensures ∙ ap (λ (x : Evaluation). option_map (held_value w (parts_of x)) sub) c.take_sub-sub.ensures.same in
-    let all : popped (take (i + 1) places) (held_values w first) ≡ record { subs = so_far.subs ++ option_map (held_value w (parts_of before)) sub ∷ []; values = held_values w after } =
+    let own : c.in_ok-owned_sub.field-0 ≡ option_map (stack_value w (parts_of before)) sub =
+    c.in_ok-owned_sub.ensures ∙ ap (λ (x : Evaluation). option_map (stack_value w (parts_of x)) sub) c.take_sub-sub.ensures.same in
+    let all : popped (take (i + 1) places) (stack_values w first) ≡ record { subs = so_far.subs ++ option_map (stack_value w (parts_of before)) sub ∷ []; values = stack_values w after } =
     sub_more w first before after places i None sub lt c.loop-place.invariant.rest c.take_sub-sub.ensures.same c.take_sub-sub.ensures.taken
     (λ (none : is_some (get_or places i None) ≡ false). c.take_sub-sub.ensures.omitted (let tested : c.is_some.result ≡ false = cc in tested))
     (λ (some : is_some (get_or places i None) ≡ true). c.take_sub-sub.ensures.given (let tested : c.is_some.result ≡ true = cc in tested)) in

@@ -1,8 +1,8 @@
 use Rattle.std.proofs.Common.{[], ◌∷◌, true}
 use Rattle.std.specs.Prelude.{None}
-use Rattle.aux_parties.specs.Auxiliaries.{auxiliaries, party_of, row_of}
+use Rattle.aux_parties.specs.Auxiliaries.{auxiliaries, party_of, auxiliary_row}
 use Rattle.aux_parties.specs.declared.auxiliary.AuxiliaryKind.TheVariants.{Clock, TextFiles}
-use Rattle.aplsv_replay.specs.SeatTurns.{is_due}
+use Rattle.aplsv_replay.specs.SeatTurns.{has_turn}
 use Rattle.aplsv_replay.proofs.AllTogether.{of_some_still, seats_are_users, users_take}
 use Rattle.aplsv_replay.proofs.RoundsEnd.{no_turns, one_turn_more, round_leaves_less}
 use Rattle.aplsv_replay.proofs.Taking.{takes_both}
@@ -27,14 +27,14 @@ returns-clause-turns g c =
     (takes_both g.X.Replier.forgets g.X.Replier.replies g.Y.Replier.forgets g.Y.Replier.replies g.K.Shelf.told g.K.Shelf.faults (auxiliary_turn (party_of Clock)) (auxiliary_turn (party_of TextFiles)) c.args.self.now c.turn_of.new.self c.turn_of-2.new.self c.turn_of.ensures.turn c.turn_of-2.ensures.turn)
     (λ bundle ten twenty shelves sittings h.
     users_take g.X.Replier.forgets g.X.Replier.replies g.Y.Replier.forgets g.Y.Replier.replies g.K.Shelf.told g.K.Shelf.faults bundle ten twenty shelves c.turn_of-2.new.self sittings h
-    (is_due None) c.user_turns.new.self c.user_turns.ensures.ten c.user_turns.ensures.twenty (c.user_turns.ensures.turns sittings h.here h.seated))
+    (has_turn None) c.user_turns.new.self c.user_turns.ensures.ten c.user_turns.ensures.twenty (c.user_turns.ensures.turns sittings h.here h.seated))
 
 pub returns-clause-less : goal.returns-clause-less
 returns-clause-less g c =
     let middle = of_some_still g.X.Replier.forgets g.X.Replier.replies g.Y.Replier.forgets g.Y.Replier.replies g.K.Shelf.told g.K.Shelf.faults (auxiliary_turn (party_of Clock)) c.args.self.now c.turn_of.new.self c.requires.together c.turn_of.ensures.turn in
     let some = of_some_still g.X.Replier.forgets g.X.Replier.replies g.Y.Replier.forgets g.Y.Replier.replies g.K.Shelf.told g.K.Shelf.faults (auxiliary_turn (party_of TextFiles)) c.turn_of.new.self c.turn_of-2.new.self middle c.turn_of-2.ensures.turn in
     let first = one_turn_more Clock [] c.args.self.now c.args.self.now c.turn_of.new.self (no_turns c.args.self.now) c.turn_of.ensures.less c.turn_of.ensures.lost in
-    let both = one_turn_more TextFiles (row_of Clock ∷ []) c.args.self.now c.turn_of.new.self c.turn_of-2.new.self first c.turn_of-2.ensures.less c.turn_of-2.ensures.lost in
+    let both = one_turn_more TextFiles (auxiliary_row Clock ∷ []) c.args.self.now c.turn_of.new.self c.turn_of-2.new.self first c.turn_of-2.ensures.less c.turn_of-2.ensures.lost in
     round_leaves_less c.args.self.now c.turn_of-2.new.self c.user_turns.new.self both
     (seats_are_users g.X.Replier.forgets g.X.Replier.replies g.Y.Replier.forgets g.Y.Replier.replies g.K.Shelf.told g.K.Shelf.faults some.bundle some.ten some.twenty some.shelves c.turn_of-2.new.self some.sittings some.together)
     c.turn_of-2.ensures.stay g.K.Shelf.told g.K.Shelf.faults some.sittings some.together.here (c.user_turns.ensures.turns some.sittings some.together.here some.together.seated)

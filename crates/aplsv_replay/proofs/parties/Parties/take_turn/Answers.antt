@@ -3,7 +3,7 @@ use Rattle.std.specs.Prelude.{is_some}
 use Rattle.aux_parties.specs.Auxiliaries.{auxiliary_at}
 use Rattle.aux_parties.specs.declared.auxiliary.AuxiliaryRow.{AuxiliaryRow}
 use Rattle.aux_parties.proofs.TableLemmas.{is_found, kind_found}
-use Rattle.aplsv_replay.specs.SeatTurns.{is_due}
+use Rattle.aplsv_replay.specs.SeatTurns.{has_turn}
 use Rattle.aplsv_replay.specs.Together.{TakesTurns}
 use Rattle.aplsv_replay.proofs.AllTogether.{users_take}
 use Rattle.aplsv_replay.proofs.Taking.{auxiliary_is_party, user_is_party}
@@ -15,7 +15,7 @@ returns-in-None g c =
     user_is_party g.X.Replier.forgets g.X.Replier.replies g.Y.Replier.forgets g.Y.Replier.replies g.K.Shelf.told g.K.Shelf.faults c.args.party c.args.self.now c.user_turns.new.self (sym (is_found c.args.party) ∙ ap (λ (o : Option AuxiliaryRow). is_some o) (sym c.auxiliary_at.ensures ∙ c.in-None.is))
     (λ bundle ten twenty shelves sittings h.
     users_take g.X.Replier.forgets g.X.Replier.replies g.Y.Replier.forgets g.Y.Replier.replies g.K.Shelf.told g.K.Shelf.faults bundle ten twenty shelves c.args.self.now sittings h
-    (is_due (Some c.args.party)) c.user_turns.new.self c.user_turns.ensures.ten c.user_turns.ensures.twenty (c.user_turns.ensures.turns sittings h.here h.seated))
+    (has_turn (Some c.args.party)) c.user_turns.new.self c.user_turns.ensures.ten c.user_turns.ensures.twenty (c.user_turns.ensures.turns sittings h.here h.seated))
 
 pub returns-in-Some : goal.returns-in-Some
 returns-in-Some g c =

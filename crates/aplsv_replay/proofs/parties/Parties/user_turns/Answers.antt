@@ -4,7 +4,7 @@ use Rattle.std.specs.List.{All}
 use Rattle.std.specs.Prelude.{IsTrue}
 use Rattle.apl_arrays.specs.Ascending.{AscendBy}
 use Rattle.sv_rules.specs.Legal.{is_user}
-use Rattle.aplsv_replay.specs.SeatTurns.{AreSeatTurns, AreSeated, is_due}
+use Rattle.aplsv_replay.specs.SeatTurns.{AreSeatTurns, AreSeated, has_turn}
 use Rattle.aplsv_replay.proofs.AllTogether.{seats_are_of_users, seats_ascend}
 use Rattle.aplsv_replay.proofs.TwoTurns.{all_put_back}
 use Rattle.aplsv_replay.proofs.Sits.{as_many}
@@ -38,8 +38,8 @@ returns-clause-turns g c =
     let many : length p.seats.items ≡ p.seats.len = search rules in
     λ sittings here seated.
     let turned =
-    subst (λ (closes : Bool). AreSeatTurns g.K.Shelf.told g.K.Shelf.faults (is_due c.args.only) closes p.core sittings c.seat_turns.new.core new) c.closes-closes.ensures
+    subst (λ (closes : Bool). AreSeatTurns g.K.Shelf.told g.K.Shelf.faults (has_turn c.args.only) closes p.core sittings c.seat_turns.new.core new) c.closes-closes.ensures
     (c.seat_turns.ensures sittings (here ∙ sym c.deref_mut.ensures.value) seated) in
     let whole : take p.seats.len (new ++ others) ≡ new =
-    all_put_back g.K.Shelf.told g.K.Shelf.faults (is_due c.args.only) (p.ten.is_lost || p.twenty.is_lost) p.core c.seat_turns.new.core sittings new others p.seats.len turned (as_many sittings p.seats.items here ∙ many) in
-    subst (λ list. AreSeatTurns g.K.Shelf.told g.K.Shelf.faults (is_due c.args.only) (p.ten.is_lost || p.twenty.is_lost) p.core sittings c.seat_turns.new.core list) (sym whole) turned
+    all_put_back g.K.Shelf.told g.K.Shelf.faults (has_turn c.args.only) (p.ten.is_lost || p.twenty.is_lost) p.core c.seat_turns.new.core sittings new others p.seats.len turned (as_many sittings p.seats.items here ∙ many) in
+    subst (λ list. AreSeatTurns g.K.Shelf.told g.K.Shelf.faults (has_turn c.args.only) (p.ten.is_lost || p.twenty.is_lost) p.core sittings c.seat_turns.new.core list) (sym whole) turned

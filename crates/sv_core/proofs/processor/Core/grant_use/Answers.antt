@@ -3,14 +3,14 @@ use Rattle.std.proofs.lemmas.Bool.{not-true}
 use Rattle.std.specs.Option.{option_copied}
 use Rattle.std.specs.Prelude.{Contains}
 use Rattle.sv_cell_laws.proofs.QuietSteps.{use_makes_access}
-use Rattle.sv_cell_laws.specs.Steps.{use_of}
+use Rattle.sv_cell_laws.specs.Steps.{use_access}
 use Rattle.sv_events.specs.Answer.{PlainAnswer}
 use Rattle.sv_events.specs.Row.{answer_row}
 use Rattle.sv_offer_laws.proofs.OwnLemmas.{own_offer-parts}
 use Rattle.sv_rules.specs.Coupling.{coupling_now}
 use Rattle.sv_rules.specs.Entries.{is_leave}
 use Rattle.sv_rules.specs.Legal.{MayFollow, entry_for}
-use Rattle.sv_rules.specs.Outcome.{Outcome, value_answer, value_for}
+use Rattle.sv_rules.specs.Outcome.{ActOutcome, value_answer, value_for}
 use Rattle.sv_rules.specs.Refused.{hold_on}
 use Rattle.sv_rules.specs.Standing.{own_offer, standing}
 use Rattle.sv_core.proofs.AccessingLemmas.{ready_with, uses_with}
@@ -18,7 +18,7 @@ use Rattle.sv_core.proofs.Kept.{IsEntered, entered, entry_is, same_core}
 use Rattle.sv_core.proofs.MakingLemmas.{access_core}
 use Rattle.sv_core.proofs.OutcomeLemmas.{outcome_of_access, use_granted, value_answered}
 use Rattle.sv_core.specs.Core.{PlainCore}
-use Rattle.sv_core.specs.Invariant.{parts_of}
+use Rattle.sv_core.specs.Invariant.{core_parts}
 use Rattle.sv_core.proofs.processor.Core.grant_use.Goals as goal
 use Rattle.sv_core.proofs.processor.Core.grant_use.Goals.{After-push}
 
@@ -27,13 +27,13 @@ value_for-requires-clause-stands c = (own_offer-parts (standing c.args.self.now.
 
 pub invariant_of-self : goal.invariant_of-self
 invariant_of-self c =
-    same_core (parts_of c.self.inside) _ c.self.invariant c.use_given.ensures.users c.use_given.ensures.journal refl refl refl
+    same_core (core_parts c.self.inside) _ c.self.invariant c.use_given.ensures.users c.use_given.ensures.journal refl refl refl
     c.in_default-use_given.ensures.err c.use_given.ensures.kept
 
 pub use_given-requires : goal.use_given-requires
 use_given-requires c =
     let has = subst (λ (v : PlainCore). Contains (standing v.journal) c.args.offer.now) (sym c.self.view_is) (own_offer-parts (standing c.args.self.now.journal) c.args.party c.args.access.now.local c.args.offer.now c.requires.own).2 in
-    ready_with (parts_of c.self.inside) c.self.invariant c.args.offer.now has c.args.coupling.now
+    ready_with (core_parts c.self.inside) c.self.invariant c.args.offer.now has c.args.coupling.now
     (subst (λ (v : PlainCore). c.args.coupling.now ≡ coupling_now v.journal c.args.offer.now.place) (sym c.self.view_is) c.requires.coupled)
 
 -- the act may be made after the journal as it was
@@ -61,15 +61,15 @@ more : (c : After-push) → IsEntered c.self.inside.log c.push.new.self (entry_f
 more c =
     let journal = c.self.inside.log.journal in
     entered c.self.inside.log c.use_given.new.log c.push.new.self _ _ c.use_given.ensures.users c.use_given.ensures.journal c.in-Ok-use_given.ensures.room
-    c.push.ensures.users c.push.ensures.journal c.push.ensures.room (entry_is journal c.args.party c.args.act _ _ (c.in-Ok-use_given.ensures.answer ∙ ap value_answer (value_told c) ∙ ap (λ (v : PlainCore). value_answer (value_for v.journal c.args.offer.now (coupling_now v.journal c.args.offer.now.place))) (sym c.self.view_is) ∙ use_granted journal c.args.party c.args.act c.args.access.now c.args.offer.now c.requires.row c.requires.kind (own c) (free c)) (c.new.ensures ∙ sym (ap (λ (o : Outcome). o.made) (outcome_of_access journal c.args.party c.args.act c.args.access.now c.requires.row))))
+    c.push.ensures.users c.push.ensures.journal c.push.ensures.room (entry_is journal c.args.party c.args.act _ _ (c.in-Ok-use_given.ensures.answer ∙ ap value_answer (value_told c) ∙ ap (λ (v : PlainCore). value_answer (value_for v.journal c.args.offer.now (coupling_now v.journal c.args.offer.now.place))) (sym c.self.view_is) ∙ use_granted journal c.args.party c.args.act c.args.access.now c.args.offer.now c.requires.row c.requires.kind (own c) (free c)) (c.new.ensures ∙ sym (ap (λ (o : ActOutcome). o.made) (outcome_of_access journal c.args.party c.args.act c.args.access.now c.requires.row))))
 
 pub invariant_of-self-2 : goal.invariant_of-self-2
 invariant_of-self-2 c =
     let d = (goal.at.invariant_of-self-2 c).After-push in
-    let core = parts_of c.self.inside in
+    let core = core_parts c.self.inside in
     let e = entry_for core.journal c.args.party c.args.act in
     let has = (own_offer-parts (standing core.journal) c.args.party c.args.access.now.local c.args.offer.now (own d)).2 in
     let makes = use_makes_access core.journal c.args.party c.args.act c.args.access.now c.args.offer.now c.requires.row c.requires.kind (own d) (free d) in
-    access_core core _ c.self.invariant e c.args.offer.now (use_of (value_for core.journal c.args.offer.now (coupling_now core.journal c.args.offer.now.place))) (may d) (not-true (is_leave c.args.act) c.requires.may.stays)
+    access_core core _ c.self.invariant e c.args.offer.now (use_access (value_for core.journal c.args.offer.now (coupling_now core.journal c.args.offer.now.place))) (may d) (not-true (is_leave c.args.act) c.requires.may.stays)
     has makes (more d).users (more d).journal refl refl refl
     (uses_with core c.self.invariant c.args.offer.now c.use_given.new.cells has c.args.coupling.now (coupled d) c.in-Ok-use_given.ensures.ok) (more d).room

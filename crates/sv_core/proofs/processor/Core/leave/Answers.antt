@@ -10,7 +10,7 @@ use Rattle.sv_core.proofs.GoingLemmas.{end_core, leave_ends, leave_entry, leave_
 use Rattle.sv_core.proofs.Kept.{core_is}
 use Rattle.sv_core.proofs.TogetherLemmas.{tables}
 use Rattle.sv_core.specs.Core.{PlainCore}
-use Rattle.sv_core.specs.Invariant.{parts_of}
+use Rattle.sv_core.specs.Invariant.{core_parts}
 use Rattle.sv_events.specs.declared.row.Ending.TheVariants as how
 use Rattle.sv_core.proofs.processor.Core.leave.Goals as goal
 
@@ -18,7 +18,7 @@ pub take_spare-made-requires-clause-some : goal.take_spare-made-requires-clause-
 take_spare-made-requires-clause-some c =
     let member = subst (λ (v : PlainCore). is_user v.users c.args.user ≡ true) (sym c.self.view_is) c.requires.member in
     let here = subst (λ (v : PlainCore). not (has_left v.journal c.args.user) ≡ true) (sym c.self.view_is) c.requires.present in
-    omega (arith, leave_falls (parts_of c.self.inside) c.args.user member here, c.self.invariant.spare_count, c.self.inside.spares.ok.0)
+    omega (arith, leave_falls (core_parts c.self.inside) c.args.user member here, c.self.invariant.spare_count, c.self.inside.spares.ok.0)
 
 pub end_together-requires-clause-ready : goal.end_together-requires-clause-ready
 end_together-requires-clause-ready c =
@@ -27,7 +27,7 @@ end_together-requires-clause-ready c =
       c.self.inside.log.users,
       c.self.inside.log.journal,
       entry_for c.self.inside.log.journal c.args.user Leave,
-      leave_ends (parts_of c.self.inside) c.self.invariant c.self.inside.offers c.next_place-at.result c.args.user refl refl c.next_place-at.ensures member here,
+      leave_ends (core_parts c.self.inside) c.self.invariant c.self.inside.offers c.next_place-at.result c.args.user refl refl c.next_place-at.ensures member here,
     )
 
 pub end_together-requires-clause-room : goal.end_together-requires-clause-room
@@ -40,12 +40,12 @@ pub push-requires : goal.push-requires
 push-requires c =
     let member = subst (λ (v : PlainCore). is_user v.users c.args.user ≡ true) (sym c.self.view_is) c.requires.member in
     let here = subst (λ (v : PlainCore). not (has_left v.journal c.args.user) ≡ true) (sym c.self.view_is) c.requires.present in
-    omega (arith, leave_falls (parts_of c.self.inside) c.args.user member here, c.self.invariant.entries_room)
+    omega (arith, leave_falls (core_parts c.self.inside) c.args.user member here, c.self.invariant.entries_room)
 
 pub invariant_of-self : goal.invariant_of-self
 invariant_of-self c =
     let inside = c.self.inside in
-    let core = parts_of inside in
+    let core = core_parts inside in
     let member = subst (λ (v : PlainCore). is_user v.users c.args.user ≡ true) (sym c.self.view_is) c.requires.member in
     let here = subst (λ (v : PlainCore). not (has_left v.journal c.args.user) ≡ true) (sym c.self.view_is) c.requires.present in
     let falls = leave_falls core c.args.user member here in
@@ -60,7 +60,7 @@ invariant_of-self c =
 pub returns : goal.returns
 returns c =
     let inside = c.self.inside in
-    let core = parts_of inside in
+    let core = core_parts inside in
     let member = subst (λ (v : PlainCore). is_user v.users c.args.user ≡ true) (sym c.self.view_is) c.requires.member in
     let here = subst (λ (v : PlainCore). not (has_left v.journal c.args.user) ≡ true) (sym c.self.view_is) c.requires.present in
     let ends = leave_ends core c.self.invariant inside.offers c.next_place-at.result c.args.user refl refl c.next_place-at.ensures member here in

@@ -13,7 +13,7 @@ use Rattle.sv_core.proofs.Kept.{entered, same_core}
 use Rattle.sv_core.proofs.OpeningLemmas.{may_join, open_core, opening_entry, opens_in}
 use Rattle.sv_core.proofs.TogetherLemmas.{next_above}
 use Rattle.sv_core.specs.Core.{PlainCore}
-use Rattle.sv_core.specs.Invariant.{parts_of}
+use Rattle.sv_core.specs.Invariant.{core_parts}
 use Rattle.sv_core.proofs.processor.Core.open.Goals as goal
 
 pub add_offer-added-requires-clause-next : goal.add_offer-added-requires-clause-next
@@ -24,7 +24,7 @@ add_offer-added-requires-clause-next c =
 pub invariant_of-self : goal.invariant_of-self
 invariant_of-self c =
     let table = c.in-Err.ensures.err in
-    same_core (parts_of c.self.inside) _ c.self.invariant c.add_offer-added.ensures.users c.add_offer-added.ensures.journal (ap (λ (t : PlainOffers). t.offers) table) (ap (λ (t : PlainOffers). t.coupled) table) refl
+    same_core (core_parts c.self.inside) _ c.self.invariant c.add_offer-added.ensures.users c.add_offer-added.ensures.journal (ap (λ (t : PlainOffers). t.offers) table) (ap (λ (t : PlainOffers). t.coupled) table) refl
     c.in-Err.ensures.kept c.add_offer-added.ensures.entries
 
 pub join-degree-requires-clause-ready : goal.join-degree-requires-clause-ready
@@ -33,18 +33,18 @@ join-degree-requires-clause-ready c =
     let fresh = ap (λ (v : PlainCore). own_offer (standing v.journal) c.args.new.now.party c.args.new.now.local) c.self.view_is ∙ c.requires.fresh in
     let few = subst (λ (v : PlainCore). offer_count (standing v.journal) c.args.new.now.party < 64) (sym c.self.view_is) c.requires.few in
     let put = c.in-Ok.ensures.cell in
-    let opens = opens_in (parts_of c.self.inside) c.self.invariant c.args.act c.args.new.now c.requires.row place fresh few c.in-Ok.other c.in-Ok.ensures.other in
+    let opens = opens_in (core_parts c.self.inside) c.self.invariant c.args.act c.args.new.now c.requires.row place fresh few c.in-Ok.other c.in-Ok.ensures.other in
     may_join c.self.inside.log.journal (entry_for c.self.inside.log.journal c.args.new.now.party c.args.act) c.args.new.now c.in-Ok.other c.self.inside.cells c.add_offer-added.new.cells (handed_in c.args.act) c.self.invariant.fit opens put
 
 pub invariant_of-self-in-Ok : goal.invariant_of-self-in-Ok
 invariant_of-self-in-Ok c =
-    let core = parts_of c.self.inside in
+    let core = core_parts c.self.inside in
     let may = subst (λ (v : PlainCore). MayFollow v.users v.journal (entry_for v.journal c.args.new.now.party c.args.act)) (sym c.self.view_is) c.requires.may.may in
     let place = c.requires.place ∙ sym (ap (λ (v : PlainCore). next_place v.journal) c.self.view_is) in
     let fresh = ap (λ (v : PlainCore). own_offer (standing v.journal) c.args.new.now.party c.args.new.now.local) c.self.view_is ∙ c.requires.fresh in
     let few = subst (λ (v : PlainCore). offer_count (standing v.journal) c.args.new.now.party < 64) (sym c.self.view_is) c.requires.few in
     let put = c.in-Ok.ensures.cell in
-    let opens = opens_in (parts_of c.self.inside) c.self.invariant c.args.act c.args.new.now c.requires.row place fresh few c.in-Ok.other c.in-Ok.ensures.other in
+    let opens = opens_in (core_parts c.self.inside) c.self.invariant c.args.act c.args.new.now c.requires.row place fresh few c.in-Ok.other c.in-Ok.ensures.other in
     let table = c.in-Ok.ensures.table in
     let room = c.in-Ok.ensures.room in
     let entry = opening_entry core c.self.invariant c.args.act c.args.new.now c.requires.row place fresh few c.in-Ok.other c.in-Ok.ensures.other c.join-degree.result c.join-degree.new.made.items c.join-degree.ensures.degree c.join-degree.ensures.made in

@@ -15,7 +15,7 @@ use Rattle.sv_core.proofs.GoingLemmas.{end_core, may_end, retraction_answer}
 use Rattle.sv_core.proofs.Kept.{entered, entry_is, on_success, present-le-length, present-stay, same_core}
 use Rattle.sv_core.proofs.TogetherLemmas.{ending_pairs, tables}
 use Rattle.sv_core.specs.Core.{PlainCore}
-use Rattle.sv_core.specs.Invariant.{parts_of}
+use Rattle.sv_core.specs.Invariant.{core_parts}
 use Rattle.sv_core.proofs.processor.Core.take_back.Goals as goal
 
 pub kept-requires : goal.kept-requires
@@ -23,7 +23,7 @@ kept-requires c = (own_offer-parts (standing c.args.self.now.journal) c.args.par
 
 pub invariant_of-self : goal.invariant_of-self
 invariant_of-self c =
-    same_core (parts_of c.self.inside) _ c.self.invariant c.room_for_pair.ensures.users c.room_for_pair.ensures.journal refl refl refl (λ at. refl) c.room_for_pair.ensures.kept
+    same_core (core_parts c.self.inside) _ c.self.invariant c.room_for_pair.ensures.users c.room_for_pair.ensures.journal refl refl refl (λ at. refl) c.room_for_pair.ensures.kept
 
 pub end_together-requires-clause-ready : goal.end_together-requires-clause-ready
 end_together-requires-clause-ready c =
@@ -45,7 +45,7 @@ end_together-requires-clause-room c =
 
 pub invariant_of-self-2 : goal.invariant_of-self-2
 invariant_of-self-2 c =
-    let core = parts_of c.self.inside in
+    let core = core_parts c.self.inside in
     let journal = core.journal in
     let e = entry_for journal c.args.party c.args.act in
     let may = subst (λ (v : PlainCore). MayFollow v.users v.journal (entry_for v.journal c.args.party c.args.act)) (sym c.self.view_is) c.requires.may.may in

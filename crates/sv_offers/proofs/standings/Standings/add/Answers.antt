@@ -9,8 +9,8 @@ use Rattle.sv_offers.proofs.AddressedLemmas.{added_and_gone, pushed_place}
 use Rattle.sv_offers.proofs.FindingLemmas.{found_as_before}
 use Rattle.sv_offers.proofs.OrderLemmas.{last_gone}
 use Rattle.sv_offers.proofs.SenderLemmas.{more_sent}
-use Rattle.sv_offers.proofs.ShelfLemmas.{of_party, pushed}
-use Rattle.sv_offers.specs.Addressed.{is_made_to, places_to, without}
+use Rattle.sv_offers.proofs.PartyListLemmas.{of_party, pushed}
+use Rattle.sv_offers.specs.Addressed.{is_made_to, places_to, other_places}
 use Rattle.sv_offers.specs.Places.{ByPlace, without_place}
 use Rattle.sv_offers.specs.Senders.{is_sent}
 use Rattle.sv_rules.specs.Standing.{is_own}
@@ -87,8 +87,8 @@ invariant_of-self-in-Err-add c =
     found_as_before c.self.inside _ c.self.invariant left c.reserve-2.ensures.same
     (λ party surrogate.
     c.remove-in-Err-add.ensures party surrogate
-    ∙ ap (λ (ps : List ℕ). cond (is_made_to party surrogate new) (without ps new.place) ps) (c.in_default.ensures.ok party surrogate)
-    ∙ ap (λ (ps : List ℕ). let added : List ℕ = cond (is_made_to party surrogate new) (ps ++ new.place ∷ []) ps in cond (is_made_to party surrogate new) (without added new.place) added) (c.self.invariant.made_to party surrogate)
+    ∙ ap (λ (ps : List ℕ). cond (is_made_to party surrogate new) (other_places ps new.place) ps) (c.in_default.ensures.ok party surrogate)
+    ∙ ap (λ (ps : List ℕ). let added : List ℕ = cond (is_made_to party surrogate new) (ps ++ new.place ∷ []) ps in cond (is_made_to party surrogate new) (other_places added new.place) added) (c.self.invariant.made_to party surrogate)
     ∙ added_and_gone (is_made_to party surrogate new) (places_to c.self.inside.placed party surrogate) new.place
     (λ here. All-map (λ p. p < new.place) (λ (o : Standing). o.place) (filter (is_made_to party surrogate) c.self.inside.placed)
     (All-filter (is_made_to party surrogate) (λ o. o.place < new.place) c.self.inside.placed above))

@@ -4,7 +4,7 @@ use Rattle.std.proofs.lemmas.Iterator.Search.{find_from_yields_List}
 use Rattle.sv_rules.specs.Standing.{is_ended}
 use Rattle.sv_rules.specs.declared.standing.Standing.{Standing}
 use Rattle.sv_offers.proofs.FilterLemmas.{found_among}
-use Rattle.sv_offers.proofs.ShelfLemmas.{ended_by_own, of_party}
+use Rattle.sv_offers.proofs.PartyListLemmas.{ended_by_own, of_party}
 use Rattle.sv_offers.proofs.standings.Standings.first_ended.Goals as goal
 
 pub returns : goal.returns

@@ -6,8 +6,8 @@ use Rattle.std.proofs.lemmas.List.Kept.{AllPairs-filter}
 use Rattle.sv_offers.proofs.AddressedLemmas.{taken_place}
 use Rattle.sv_offers.proofs.FindingLemmas.{name_replaced, one_by_name, own_among}
 use Rattle.sv_offers.proofs.SenderLemmas.{left_sent}
-use Rattle.sv_offers.proofs.ShelfLemmas.{of_party, taken}
-use Rattle.sv_offers.specs.Addressed.{is_made_to, places_to, without}
+use Rattle.sv_offers.proofs.PartyListLemmas.{of_party, taken}
+use Rattle.sv_offers.specs.Addressed.{is_made_to, places_to, other_places}
 use Rattle.sv_offers.specs.Places.{ByPlace, without_place}
 use Rattle.sv_offers.specs.Senders.{is_sent}
 use Rattle.sv_rules.specs.Standing.{is_own, own_offer}
@@ -45,7 +45,7 @@ invariant_of-self c =
       by_place = subst ByPlace (sym is) (AllPairs-filter (λ (one other : Standing). one.place < other.place) (λ o. not (eqb o.place offer.place)) offers by_place);
       own = λ party. own party ∙ ap (filter (of_party party)) (sym is);
       made_to = λ party surrogate.
-          c.remove-2.ensures party surrogate ∙ ap (λ (ps : List ℕ). cond (is_made_to party surrogate offer) (without ps offer.place) ps) (c.self.invariant.made_to party surrogate)
+          c.remove-2.ensures party surrogate ∙ ap (λ (ps : List ℕ). cond (is_made_to party surrogate offer) (other_places ps offer.place) ps) (c.self.invariant.made_to party surrogate)
           ∙ taken_place party surrogate offers offer by_place there ∙ ap (λ (os : List Standing). places_to os party surrogate) (sym is);
       sent = λ to from place.
           c.remove-3.ensures to from place ∙ ap (λ b. not (is_sent to from place offer) && b) (c.self.invariant.sent to from place)
