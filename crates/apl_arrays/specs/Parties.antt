@@ -1,14 +1,6 @@
 use Rattle.std.specs.Prelude.{ℕ, Bool}
 use Rattle.apl_arrays.specs.Glyph.{is_between}
 
--- the party that answers with readings of the clock
-abbrev pub clock_party : ℕ
-clock_party = 10
-
--- the party that reads and writes text files
-abbrev pub text_party : ℕ
-text_party = 20
-
 -- the lowest number of a user
 abbrev pub first_user : ℕ
 first_user = 1001

@@ -64,9 +64,13 @@ showing line shown t =
 abbrev pub taking_definition : List ℕ → PlainWorkspace → PlainTerminal → PlainTerminal
 taking_definition line w t = if nat_le (workspace_weight w) most_weight then record t { workspace = w } else reporting WsFull line t
 
+-- a workspace with the function of a definition that is done
+abbrev pub with_done : PlainWorkspace → PlainEditor → PlainWorkspace
+with_done w editor = with_global w editor.header.name (Function (defined_function editor))
+
 -- a definition is closed, and its function defined, or it stays open
 abbrev pub closing : List ℕ → PlainEditor → Bool → PlainTerminal → PlainTerminal
-closing line editor true t = taking_definition line (with_global t.workspace editor.header.name (Function (defined_function editor))) (record t { definition = None })
+closing line editor true t = taking_definition line (with_done t.workspace editor) (record t { definition = None })
 closing line editor false t = record t { definition = Some editor }
 
 -- what a line of the editor leaves, by what it did: it shows lines, and then it may close the definition; where it did nothing, that is DEFN ERROR

@@ -1,7 +1,7 @@
 -- A run over a clock and a text store.
 use Rattle.std.proofs.Common.{◌≡◌, ℕ, List, subst, sym}
 use Rattle.std.specs.Prelude.{Option}
-use Rattle.apl_arrays.specs.Parties.{text_party}
+use Rattle.aux_parties.specs.Auxiliaries.{text_party}
 use Rattle.apl_io.specs.Clock.{Ticks}
 use Rattle.apl_io.specs.Content.{Told, KeepsPlaces}
 use Rattle.apl_session.specs.Ended.{IfWhole}

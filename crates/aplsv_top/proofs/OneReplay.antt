@@ -5,7 +5,7 @@ use Rattle.std.specs.List.{AllByRecursion}
 use Rattle.std.proofs.lemmas.List.Elements.{All-head, All-tail}
 use Rattle.apl_arrays.specs.Ascending.{Ascend}
 use Rattle.apl_arrays.specs.Name.{name_order}
-use Rattle.apl_arrays.specs.Parties.{clock_party, text_party}
+use Rattle.aux_parties.specs.Auxiliaries.{clock_party, text_party}
 use Rattle.apl_io.specs.Clock.{Ticks}
 use Rattle.apl_io.specs.Content.{Told, entry_of}
 use Rattle.auxiliaries.specs.Clock.{RepliesByReading}

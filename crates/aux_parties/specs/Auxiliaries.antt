@@ -3,10 +3,17 @@ use Rattle.std.specs.Prelude.{ℕ, Bool, ◌==◌, List, [], ◌∷◌, find, Op
 use Rattle.std.specs.List.{list_any}
 use Rattle.std.specs.Option.{option_map_or}
 use Rattle.apl_arrays.specs.Limits.{most_offers}
-use Rattle.apl_arrays.specs.Parties.{clock_party, text_party}
 use Rattle.aux_parties.specs.declared.auxiliary.AuxiliaryKind.{AuxiliaryKind}
 use Rattle.aux_parties.specs.declared.auxiliary.AuxiliaryKind.TheVariants.{Clock, TextFiles}
 use Rattle.aux_parties.specs.declared.auxiliary.AuxiliaryRow.{AuxiliaryRow}
+
+-- the party that answers with readings of the clock
+abbrev pub clock_party : ℕ
+clock_party = 10
+
+-- the party that reads and writes text files
+abbrev pub text_party : ℕ
+text_party = 20
 
 -- the table: what an auxiliary is, its number, and how many of its counter-offers may stand
 abbrev pub auxiliary_row : AuxiliaryKind → AuxiliaryRow

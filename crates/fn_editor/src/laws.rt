@@ -1,13 +1,14 @@
 //! What holds of the definitions: laws of numbers, of closing, of brackets, and of what a line opens.
 
-ghost use Rattle.std.specs.Prelude.{◌≡◌, ◌↔◌, ◌<◌, ◌+◌, ℕ, List, Some};
+ghost use Rattle.std.specs.Prelude.{◌≡◌, ◌↔◌, ◌<◌, ◌+◌, ℕ, List, [], ◌∷◌, Some};
+ghost use Rattle.apl_arrays.specs.Glyph.{del};
 ghost use Rattle.fn_editor.specs.Closing.{IsBeforeClose, before_close};
 ghost use Rattle.fn_editor.specs.Bracket.{bracket_in};
 ghost use Rattle.fn_editor.specs.Grammar.{IsBracket};
 ghost use Rattle.apl_workspace.specs.Function.{PlainFunction};
 ghost use Rattle.apl_workspace.specs.Workspace.{PlainWorkspace};
-ghost use Rattle.fn_editor.specs.Editing.{Edited};
-ghost use Rattle.fn_editor.specs.Editor.{defined_function};
+ghost use Rattle.fn_editor.specs.Editing.{Edited, fed};
+ghost use Rattle.fn_editor.specs.Editor.{defined_function, editor_of};
 ghost use Rattle.fn_editor.specs.Number.{line_number, most_whole, next};
 ghost use Rattle.fn_editor.specs.Opening.{opened};
 ghost use Rattle.fn_editor.specs.OpeningLaws.{IsOpened, IsShut, shut};
@@ -40,10 +41,11 @@ pub fn lines_open_what_stands_there()
     ensures { (w : PlainWorkspace) (line : List ℕ) (done : Edited) → (opened w line ≡ Some done) ↔ IsOpened w line done }
 {}
 
-/// A line with the bare name of a function between two `∇` opens that function and closes it, and what is defined then is
-/// that function. The call does nothing.
+/// A line with the bare name of a function between two `∇` opens that function and closes it; where the first opens it and
+/// the next line is `∇` alone, this closes it; and what is defined then is that function. The call does nothing.
 pub fn functions_shut_at_once_are_the_same()
     ensures opened { (w : PlainWorkspace) (line : List ℕ) (function : PlainFunction) → IsShut w line function → opened w line ≡ Some (shut function) }
+    ensures next_line { (function : PlainFunction) → fed (editor_of function) (del ∷ []) ≡ Some (shut function) }
     ensures same { (function : PlainFunction) → defined_function (shut function).editor ≡ function }
 {}
 

@@ -1,6 +1,6 @@
 //! Replays at work: the journals of worked bundles, entry by entry.
 ghost use Rattle.std.specs.Prelude.{◌≡◌, [], ◌∷◌, None, Some, IsTrue, false, true, codes};
-ghost use Rattle.apl_arrays.specs.Parties.{clock_party, text_party};
+ghost use Rattle.aux_parties.specs.Auxiliaries.{clock_party, text_party};
 ghost use Rattle.auxiliaries.specs.Run.{answered, began};
 ghost use Rattle.apl_meaning.specs.Worked.{number_value, word};
 ghost use Rattle.sv_access.specs.Control.{four_elements};
