@@ -3,6 +3,7 @@ ghost use Rattle.std.specs.Prelude.{◌≡◌, ◌≤◌, IfOk, length};
 use crate::finding::Finding;
 use crate::heading::cut_word;
 use apl_arrays::{USER_LIMIT, WantOfMemory};
+use aux_parties::is_auxiliary;
 use line_text::first_line;
 use std::alloc::Global;
 use std::str;
@@ -49,7 +50,7 @@ fn add_user(users: &mut Vec<u32>, line: &[u8]) -> Result<(), WantOfMemory> {
 fn is_party(users: &[u32], digits: &[u8]) -> bool {
     match number_of(digits) {
         None => false,
-        Some(number) => number == 10 || number == 20 || users.contains(&number),
+        Some(number) => is_auxiliary(number) || users.contains(&number),
     }
 }
 
