@@ -5,7 +5,7 @@ use Rattle.std.proofs.lemmas.List.{reverse-append}
 use Rattle.std.specs.Arc.{arc_value}
 use Rattle.std.specs.List.{list_any}
 use Rattle.std.specs.Option.{option_or, option_to_list}
-use Rattle.apl_workspace.specs.Frame.{argument_or, frame_of, header_names, with_label, with_labels}
+use Rattle.apl_workspace.specs.Frame.{argument_or, frame_of, header_names, with_label_of_line, with_labels}
 use Rattle.apl_workspace.specs.Function.{PlainFunction}
 use Rattle.apl_workspace.specs.Header.{PlainHeader}
 use Rattle.apl_workspace.specs.Label.{label_of}
@@ -37,7 +37,7 @@ there_still : (b : Bool) (m : Meaning) (found : Option Meaning) → is_some foun
 there_still true m found is = refl
 there_still false m found is = is
 
-label_keeps : (label : Option (List ℕ)) (line : ℕ) (names : NameTable) (other : List ℕ) → is_some (meaning_in names other) ≡ true → is_some (meaning_in (with_label label line names) other) ≡ true
+label_keeps : (label : Option (List ℕ)) (line : ℕ) (names : NameTable) (other : List ℕ) → is_some (meaning_in names other) ≡ true → is_some (meaning_in (with_label_of_line label line names) other) ≡ true
 label_keeps None line names other is = is
 label_keeps (Some label) line names other is = ap is_some (found_with names label (meaning.Label line) other) ∙ there_still (same_name label other) (meaning.Label line) (meaning_in names other) is
 

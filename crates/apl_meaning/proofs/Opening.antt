@@ -9,7 +9,7 @@ use Rattle.std.specs.declared.cmp.Ordering.TheVariants.{Less, Equal, Greater}
 use Rattle.apl_arrays.specs.Array.{PlainArray}
 use Rattle.apl_arrays.specs.declared.report.Report.{Report}
 use Rattle.apl_arrays.specs.declared.report.Report.TheVariants.{WsFull}
-use Rattle.apl_workspace.specs.Frame.{frame_of, header_names, with_argument, with_label, with_labels, with_local_name}
+use Rattle.apl_workspace.specs.Frame.{frame_of, header_names, with_argument, with_label_of_line, with_labels, with_local_name}
 use Rattle.apl_workspace.specs.Function.{PlainFunction}
 use Rattle.apl_workspace.specs.Label.{label_of}
 use Rattle.apl_workspace.specs.Limits.{most_weight}
@@ -112,7 +112,7 @@ locals_unshared : (names : NameTable) (list : List (List ℕ)) → NoneShared na
 locals_unshared names [] h = h
 locals_unshared names (name ∷ list) h = locals_unshared (with_local_name names name) list (put names name meaning.Nothing h refl)
 
-label_unshared : (label : Option (List ℕ)) (line : ℕ) (names : NameTable) → NoneShared names → NoneShared (with_label label line names)
+label_unshared : (label : Option (List ℕ)) (line : ℕ) (names : NameTable) → NoneShared names → NoneShared (with_label_of_line label line names)
 label_unshared None line names h = h
 label_unshared (Some label) line names h = put names label (meaning.Label line) h refl
 

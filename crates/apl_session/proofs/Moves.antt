@@ -29,7 +29,7 @@ use Rattle.session_rules.specs.Commands.{command_done}
 use Rattle.session_rules.specs.Session.{free_line, statement_done}
 use Rattle.session_rules.specs.Shelf.{Exchange}
 use Rattle.apl_session.specs.Errands.{IsErrand, IsFirstAct, errand_rest}
-use Rattle.apl_session.specs.Standing.{Commands, FailsBy, IsAnswered, IsAt, IsBetween, IsCommanded, IsHanded, IsIdleAt, IsLastRead, IsOpenLine, IsPaused, IsUnderWay, IsWaitingAlone, MayAdvance, MayGoOn, MayGoBehind, MayHear, PausesAt, StandsBy, StandsIn, Waits, has_open_act, with_output_of}
+use Rattle.apl_session.specs.Standing.{Commands, FailsBy, IsAnswered, IsAt, IsBetween, IsCommanded, IsHanded, IsIdleAt, IsLastRead, IsOpenLine, IsPaused, IsUnderWay, IsWaitingAlone, MayAdvance, CommandMayGoOn, MayGoBehind, MayHear, PausesAt, StandsBy, StandsIn, Waits, has_open_act, with_output_of}
 use Rattle.apl_session.specs.declared.errand.Errand.{Errand}
 use Rattle.apl_session.specs.declared.progress.Progress.{Progress}
 use Rattle.apl_session.specs.declared.under_way.UnderWay.{UnderWay}
@@ -213,7 +213,7 @@ behind_may errand before after is free fit =
 pub command_there : (lines : List (List ℕ)) (answers : List PlainAnswer) (exchanges : List Exchange) (p : Progress) (b : Box Errand) (asked : Act) → p.under_way ≡ under_way.Commanding b asked → StandsIn lines answers exchanges p → IsCommanded lines answers exchanges p.read p.terminal b.value × IsFirstAct b.value p.terminal.workspace asked
 command_there lines answers exchanges p b asked waits h = subst (λ (u : UnderWay). StandsBy lines answers exchanges p.read p.terminal u) waits h
 
-pub may_hear_command : (count read : ℕ) (t : PlainTerminal) (u : UnderWay) (b : Box Errand) (asked : Act) → u ≡ under_way.Commanding b asked → IsOpenLine count read t u → MayGoOn t b.value × IsFirstAct b.value t.workspace asked
+pub may_hear_command : (count read : ℕ) (t : PlainTerminal) (u : UnderWay) (b : Box Errand) (asked : Act) → u ≡ under_way.Commanding b asked → IsOpenLine count read t u → CommandMayGoOn t b.value × IsFirstAct b.value t.workspace asked
 may_hear_command count read t u b asked waits h = subst (IsOpenLine count read t) waits h
 
 -- it was given its answer
@@ -229,5 +229,5 @@ command_heard lines answers exchanges asked answer b before after waits goes may
 pub commanded_there : (lines : List (List ℕ)) (answers : List PlainAnswer) (exchanges : List Exchange) (p : Progress) (b : Box Errand) → p.under_way ≡ under_way.Commanded b → StandsIn lines answers exchanges p → IsCommanded lines answers exchanges p.read p.terminal b.value
 commanded_there lines answers exchanges p b is h = subst (λ (u : UnderWay). StandsBy lines answers exchanges p.read p.terminal u) is h
 
-pub commanded_may : (t : PlainTerminal) (u : UnderWay) (b : Box Errand) → u ≡ under_way.Commanded b → MayAdvance t u → MayGoOn t b.value
+pub commanded_may : (t : PlainTerminal) (u : UnderWay) (b : Box Errand) → u ≡ under_way.Commanded b → MayAdvance t u → CommandMayGoOn t b.value
 commanded_may t u b is may = subst (MayAdvance t) is may

@@ -98,7 +98,7 @@ abbrev pub StandsIn : List (List ℕ) → List PlainAnswer → List Exchange →
 StandsIn lines answers exchanges p = StandsBy lines answers exchanges p.read p.terminal p.under_way
 
 -- a command may go on at a terminal: no definition is open, and what is left of it may be done
-pub record MayGoOn (t : PlainTerminal) (errand : Errand) : Type 0 where
+pub record CommandMayGoOn (t : PlainTerminal) (errand : Errand) : Type 0 where
   pub free : t.definition ≡ None
   pub fit : IsErrand errand t.workspace
 
@@ -109,7 +109,7 @@ MayAdvance t (under_way.Alone act) = ⊥
 MayAdvance t (under_way.Asking b act) = ⊥
 MayAdvance t (under_way.Answered b) = (t.definition ≡ None) × MayRun b.value.stage
 MayAdvance t (under_way.Commanding b act) = ⊥
-MayAdvance t (under_way.Commanded b) = MayGoOn t b.value
+MayAdvance t (under_way.Commanded b) = CommandMayGoOn t b.value
 
 -- an act alone can be given its answer at this terminal: no definition is open, its name is shared, and its line is one of so many
 pub record MayHear (count read : ℕ) (t : PlainTerminal) (asked : Act) : Type 0 where
@@ -124,7 +124,7 @@ IsOpenLine count read t under_way.Nothing = ⊥
 IsOpenLine count read t (under_way.Alone act) = MayHear count read t act
 IsOpenLine count read t (under_way.Asking b act) = IsOpenAct b.value act
 IsOpenLine count read t (under_way.Answered b) = ⊥
-IsOpenLine count read t (under_way.Commanding b act) = MayGoOn t b.value × IsFirstAct b.value t.workspace act
+IsOpenLine count read t (under_way.Commanding b act) = CommandMayGoOn t b.value × IsFirstAct b.value t.workspace act
 IsOpenLine count read t (under_way.Commanded b) = ⊥
 
 -- a line waits for an answer, or none is under way

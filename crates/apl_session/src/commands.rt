@@ -5,7 +5,7 @@ ghost use Rattle.sv_events.specs.Row.{answer_row};
 ghost use Rattle.session_rules.specs.Commands.{command_done, command_end, offer_again, shared_again};
 ghost use Rattle.session_rules.specs.Shelf.{Exchange};
 ghost use Rattle.apl_session.specs.Errands.{IsFirstAct, errand_rest};
-ghost use Rattle.apl_session.specs.Standing.{Commands, IsAt, IsCommanded, IsPaused, MayAdvance, MayGoOn, MayGoBehind, StandsIn, WithCalls};
+ghost use Rattle.apl_session.specs.Standing.{Commands, IsAt, IsCommanded, IsPaused, MayAdvance, CommandMayGoOn, MayGoBehind, StandsIn, WithCalls};
 ghost use Rattle.apl_session.specs.declared.errand.Phase.TheVariants as phase;
 ghost use Rattle.apl_session.specs.declared.under_way.UnderWay.TheVariants as under_way;
 
@@ -50,7 +50,7 @@ impl Progress {
     /// Does what is left of a command, up to its next act, or to its end. It takes memory for the act, and for what is printed.
     pub(crate) fn go_through(&mut self, errand: Errand) -> Result<(), WantOfMemory>
         requires none { self.old.under_way ≡ under_way.Nothing }
-        requires may { MayGoOn self.old.terminal errand }
+        requires may { CommandMayGoOn self.old.terminal errand }
         ensures stands { OnOk result ((lines : List (List ℕ)) (answers : List PlainAnswer) (exchanges : List Exchange)
             → IsAt lines answers exchanges self.old.read (errand_rest errand) self.old.terminal → StandsIn lines answers exchanges self.new) }
         ensures paused { OnOk result (IsPaused self.new.under_way) }
@@ -65,7 +65,7 @@ impl Progress {
     // Asks the retraction of the next name, or makes the change where none is left.
     fn retract_next(&mut self, errand: Errand) -> Result<(), WantOfMemory>
         requires none { self.old.under_way ≡ under_way.Nothing }
-        requires may { MayGoOn self.old.terminal errand }
+        requires may { CommandMayGoOn self.old.terminal errand }
         requires phase { errand.phase ≡ phase.Retracting }
         ensures stands { OnOk result ((lines : List (List ℕ)) (answers : List PlainAnswer) (exchanges : List Exchange)
             → IsAt lines answers exchanges self.old.read (errand_rest errand) self.old.terminal → StandsIn lines answers exchanges self.new) }
@@ -83,7 +83,7 @@ impl Progress {
     // Makes the change, and goes on to the offers that are made again.
     fn make_change(&mut self, errand: Errand) -> Result<(), WantOfMemory>
         requires none { self.old.under_way ≡ under_way.Nothing }
-        requires may { MayGoOn self.old.terminal errand }
+        requires may { CommandMayGoOn self.old.terminal errand }
         requires phase { errand.phase ≡ phase.Retracting }
         requires all { length errand.todo.retract.items ≤ errand.retracted }
         ensures stands { OnOk result ((lines : List (List ℕ)) (answers : List PlainAnswer) (exchanges : List Exchange)
@@ -192,7 +192,7 @@ impl Progress {
         answer: Answer,
     ) -> Result<(), WantOfMemory>
         requires none { self.old.under_way ≡ under_way.Nothing }
-        requires may { MayGoOn self.old.terminal errand }
+        requires may { CommandMayGoOn self.old.terminal errand }
         requires first { IsFirstAct errand self.old.terminal.workspace act.now }
         ensures heard { OnOk result ((lines : List (List ℕ)) (answers : List PlainAnswer) (exchanges : List Exchange)
             → IsCommanded lines answers exchanges self.old.read self.old.terminal errand
@@ -212,7 +212,7 @@ impl Progress {
     // Does what an answer brings that does not end the command.
     fn go_behind(&mut self, errand: Errand, answer: Answer) -> Result<(), WantOfMemory>
         requires none { self.old.under_way ≡ under_way.Nothing }
-        requires may { MayGoOn self.old.terminal errand }
+        requires may { CommandMayGoOn self.old.terminal errand }
         requires first { (asked : Act) × IsFirstAct errand self.old.terminal.workspace asked }
         requires goes { command_end (answer_row (plain_answer answer)).row.kind ≡ None }
         ensures heard { OnOk result ((lines : List (List ℕ)) (answers : List PlainAnswer) (exchanges : List Exchange)
@@ -231,7 +231,7 @@ impl Progress {
 
     // The next name is shared no more. It takes memory for what is left of the command.
     fn unshare_next(&mut self, errand: Errand, answer: Answer) -> Result<(), WantOfMemory>
-        requires may { MayGoOn self.old.terminal errand }
+        requires may { CommandMayGoOn self.old.terminal errand }
         requires phase { errand.phase ≡ phase.Retracting }
         requires some { errand.retracted < length errand.todo.retract.items }
         requires goes { command_end (answer_row (plain_answer answer)).row.kind ≡ None }

@@ -6,7 +6,7 @@ use Rattle.std.specs.Map.{keys_of}
 use Rattle.std.specs.Option.{option_map, option_or, option_to_list}
 use Rattle.std.proofs.lemmas.Bool.{and_parts, false≢true}
 use Rattle.apl_arrays.specs.Array.{PlainArray}
-use Rattle.apl_workspace.specs.Frame.{header_names, with_argument, with_label, with_labelled_line, with_labels, with_local_name}
+use Rattle.apl_workspace.specs.Frame.{header_names, with_argument, with_label_of_line, with_labelled_line, with_labels, with_local_name}
 use Rattle.apl_workspace.specs.Header.{PlainHeader}
 use Rattle.apl_workspace.specs.Label.{AreLabels, label_of, labelled_line, line_among, this_or_later}
 use Rattle.apl_workspace.specs.Names.{all_differ}
@@ -29,7 +29,7 @@ here_or_later true number later was behind e = refl
 here_or_later false number later was behind e = e
 
 one_label : (label : Option (List ℕ)) (number : ℕ) (names : NameTable) (name : List ℕ) (later : Option ℕ) (behind : Option Meaning) → meaning_in names name ≡ line_or later behind
-    → meaning_in (with_label label number names) name ≡ line_or (this_or_later label name number later) behind
+    → meaning_in (with_label_of_line label number names) name ≡ line_or (this_or_later label name number later) behind
 one_label None number names name later behind e = e
 one_label (Some label) number names name later behind e = found_with names label (Label number) name ∙ here_or_later (same_name label name) number later (meaning_in names name) behind e
 
@@ -59,7 +59,7 @@ kept_ascend : (labels : List LabelledLine) (names : NameTable) → Ascend (keys_
 kept_ascend [] names s = s
 kept_ascend (labelled ∷ labels) names s = kept_ascend labels (with_labelled_line names labelled) (with_ascends names labelled.label (Label labelled.line) s)
 
-label_ascends : (label : Option (List ℕ)) (number : ℕ) (names : NameTable) → Ascend (keys_of names) → Ascend (keys_of (with_label label number names))
+label_ascends : (label : Option (List ℕ)) (number : ℕ) (names : NameTable) → Ascend (keys_of names) → Ascend (keys_of (with_label_of_line label number names))
 label_ascends None number names s = s
 label_ascends (Some label) number names s = with_ascends names label (Label number) s
 

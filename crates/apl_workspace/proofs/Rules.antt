@@ -11,7 +11,7 @@ use Rattle.std.proofs.lemmas.List.Sums.{sum_by-cons}
 use Rattle.std.proofs.lemmas.Map.Views.{All-values-insert_entry}
 use Rattle.apl_arrays.specs.Array.{PlainArray}
 use Rattle.apl_arrays.specs.Limits.{most_offers}
-use Rattle.apl_workspace.specs.Frame.{frame_of, header_names, with_argument, with_label, with_labels, with_local_name}
+use Rattle.apl_workspace.specs.Frame.{frame_of, header_names, with_argument, with_label_of_line, with_labels, with_local_name}
 use Rattle.apl_workspace.specs.Function.{PlainFunction}
 use Rattle.apl_workspace.specs.Label.{label_of}
 use Rattle.apl_workspace.specs.Limits.{most_depth, most_weight}
@@ -294,7 +294,7 @@ names_local : (names : NameTable) (more : List (List ℕ)) → All IsLocal (valu
 names_local names [] h = h
 names_local names (name ∷ more) h = names_local (with_local_name names name) more (put_local names name Nothing h tt)
 
-label_local : (label : Option (List ℕ)) (number : ℕ) (names : NameTable) → All IsLocal (values_of names) → All IsLocal (values_of (with_label label number names))
+label_local : (label : Option (List ℕ)) (number : ℕ) (names : NameTable) → All IsLocal (values_of names) → All IsLocal (values_of (with_label_of_line label number names))
 label_local None number names h = h
 label_local (Some label) number names h = put_local names label (Label number) h tt
 

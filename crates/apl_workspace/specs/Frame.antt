@@ -38,14 +38,14 @@ header_meaning header args name =
     else argument_or header.right args.right name (argument_or header.left args.left name None)
 
 -- the names with a label that stands for a line, where that line has one
-abbrev pub with_label : Option (List ℕ) → ℕ → NameTable → NameTable
-with_label None line names = names
-with_label (Some label) line names = with_meaning names label (Label line)
+abbrev pub with_label_of_line : Option (List ℕ) → ℕ → NameTable → NameTable
+with_label_of_line None line names = names
+with_label_of_line (Some label) line names = with_meaning names label (Label line)
 
 -- the names with the labels of these lines, of which the first has this number; of equal labels the first counts
 abbrev pub with_labels : ℕ → List (List ℕ) → NameTable → NameTable
 with_labels number [] names = names
-with_labels number (line ∷ lines) names = with_label (label_of line) number (with_labels (number + 1) lines names)
+with_labels number (line ∷ lines) names = with_label_of_line (label_of line) number (with_labels (number + 1) lines names)
 
 -- the names with a label that stands for its line
 abbrev pub with_labelled_line : NameTable → LabelledLine → NameTable

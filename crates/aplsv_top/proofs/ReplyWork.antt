@@ -15,14 +15,14 @@ use Rattle.sv_events.specs.declared.row.Accessing.{Accessing}
 use Rattle.sv_events.specs.declared.work.Work.TheVariants as work
 use Rattle.sv_offer_laws.proofs.Members.{Contains-from_filter, filter_passed, find_passed}
 use Rattle.sv_offer_laws.proofs.OwnLemmas.{own_offer-is}
-use Rattle.sv_rules.specs.Coupling.{coupling_now}
+use Rattle.sv_rules.specs.Coupling.{coupling_now, partner_in}
 use Rattle.sv_rules.specs.Entries.{Entries, is_full, is_granted, kind_of, next_place, since, value_got}
 use Rattle.sv_rules.specs.Standing.{own_offer, standing}
 use Rattle.sv_rules.specs.Story.{GrantedAccess, granted_as, granted_on}
 use Rattle.sv_rules.specs.Work.{first_coupled, first_open, first_work, gets_value, has_unseen, lacks_control, own_offers, owes_reply, to_counter, tries, work_of}
 use Rattle.sv_rules.specs.declared.coupling.Coupling.{Coupling}
 use Rattle.sv_rules.specs.declared.standing.Standing.{Standing}
-use Rattle.session_rules.specs.Auxiliaries.{is_use_on, partner_in, partner_of, partner_on, is_use_of, value_used}
+use Rattle.session_rules.specs.Auxiliaries.{is_use_on, partner_of, partner_on, is_use_of, value_used}
 
 -- ---- the offer
 

@@ -11,7 +11,7 @@ use Rattle.auxiliaries.specs.Run.{Event, began, answered}
 use Rattle.sv_access.specs.Access.{is_set}
 use Rattle.sv_access.specs.declared.access.Kind.{Kind}
 use Rattle.sv_access.specs.declared.access.Kind.TheVariants as kind
-use Rattle.sv_core.specs.Due.{request_due, customer_of, is_reply, is_service, partner_at}
+use Rattle.sv_core.specs.Due.{request_due, customer_of, is_reply, is_service}
 use Rattle.sv_events.specs.Entry.{PlainEntry}
 use Rattle.sv_events.specs.Row.{act_row}
 use Rattle.sv_events.specs.Work.{act_of, all_controlled}
@@ -23,7 +23,7 @@ use Rattle.sv_events.specs.declared.work.Work.TheVariants as work
 use Rattle.sv_offer_laws.proofs.LookupLemmas.{found_as_made}
 use Rattle.sv_offer_laws.proofs.NowLemmas.{coupling_places}
 use Rattle.sv_offer_laws.proofs.OwnLemmas.{own_offer-is}
-use Rattle.sv_rules.specs.Coupling.{coupling_now}
+use Rattle.sv_rules.specs.Coupling.{coupling_now, partner_at}
 use Rattle.sv_rules.specs.Entries.{Entries, is_full, next_place, since, value_got}
 use Rattle.sv_rules.specs.Legal.{IsLegal, entry_for, journal_after}
 use Rattle.sv_rules.specs.Standing.{own_offer, standing}

@@ -10,19 +10,14 @@ use Rattle.sv_events.specs.Entry.{PlainEntry}
 use Rattle.sv_events.specs.Row.{act_row}
 use Rattle.sv_events.specs.declared.row.Accessing.{Accessing}
 use Rattle.sv_events.specs.declared.row.Controlling.{Controlling}
-use Rattle.sv_rules.specs.Coupling.{coupling_now}
+use Rattle.sv_rules.specs.Coupling.{partner_at}
 use Rattle.sv_rules.specs.Entries.{Entries, has_left, value_got}
 use Rattle.sv_rules.specs.Standing.{own_offer, standing}
-use Rattle.sv_rules.specs.declared.coupling.Coupling.{Coupling}
 use Rattle.sv_rules.specs.declared.standing.Standing.{Standing}
-
--- the party of the other offer of a coupling
-abbrev pub partner_in : ℕ → Coupling → ℕ
-partner_in place coupling = if coupling.a.place == place then coupling.b.party else coupling.a.party
 
 -- the party with which an offer is coupled, if it is
 abbrev pub partner_of : Entries → Standing → Option ℕ
-partner_of journal offer = option_map (partner_in offer.place) (coupling_now journal offer.place)
+partner_of journal offer = partner_at journal offer.place
 
 -- the party with which a party's name is coupled, if it is
 abbrev pub partner_on : Entries → ℕ → List ℕ → Option ℕ

@@ -10,14 +10,14 @@ use Rattle.sv_events.specs.declared.work.Work.TheVariants as work
 use Rattle.sv_offer_laws.proofs.LookupLemmas.{found_as_made}
 use Rattle.sv_offer_laws.proofs.Members.{find_passed}
 use Rattle.sv_offer_laws.proofs.NowLemmas.{coupling_places}
-use Rattle.sv_rules.specs.Coupling.{coupling_now}
+use Rattle.sv_rules.specs.Coupling.{coupling_now, partner_at, partner_in}
 use Rattle.sv_rules.specs.Entries.{Entries, is_full, next_place, since}
 use Rattle.sv_rules.specs.Legal.{IsLegal}
 use Rattle.sv_rules.specs.Story.{GrantedAccess, access_on, handed_in, known, known_after}
 use Rattle.sv_rules.specs.Work.{first_coupled, first_open, gets_value, has_unseen, lacks_control, own_offers, owes_reply, to_counter, tries, work_of}
 use Rattle.sv_rules.specs.declared.coupling.Coupling.{Coupling}
 use Rattle.sv_rules.specs.declared.standing.Standing.{Standing}
-use Rattle.sv_core.specs.Due.{request_due, customer_of, is_reply, is_service, partner_at, partner_in}
+use Rattle.sv_core.specs.Due.{request_due, customer_of, is_reply, is_service}
 
 -- the work by what is found: an open offer, offers that lack a control and owe a reply, one to counter, and one to use
 abbrev work_by : Bool → Option Standing → Option Standing → Option Standing → Option Standing → Option Standing → Work
@@ -131,4 +131,4 @@ customers_are_there journal party serves none =
   where
     unpaired : {P : Coupling → Type 0} (offer : Standing) → ((coupling : Coupling) × (coupling_now journal offer.place ≡ Some coupling) × P coupling) → partner_at journal offer.place ≡ None → ⊥
     unpaired offer found missing =
-        none-some (partner_in found.0 offer.place) (sym missing ∙ ap (λ (c : Option Coupling). option_map (λ (k : Coupling). partner_in k offer.place) c) found.1)
+        none-some (partner_in offer.place found.0) (sym missing ∙ ap (λ (c : Option Coupling). option_map (partner_in offer.place) c) found.1)

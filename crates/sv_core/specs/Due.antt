@@ -1,5 +1,5 @@
 -- What an auxiliary may have to do on a coupled offer of its own, and for whom.
-use Rattle.std.specs.Prelude.{ℕ, Bool, true, false, ◌==◌, not, Option, option_and_then, option_map, List, find, if◌then◌else◌}
+use Rattle.std.specs.Prelude.{ℕ, Bool, true, false, ◌==◌, not, Option, option_and_then, List, find, if◌then◌else◌}
 use Rattle.std.specs.Option.{option_map_or, option_or}
 use Rattle.apl_arrays.specs.Array.{PlainArray}
 use Rattle.sv_access.specs.declared.access.Side.{Side}
@@ -10,7 +10,7 @@ use Rattle.sv_core.specs.declared.working.Due.{Due}
 use Rattle.sv_core.specs.declared.working.Due.TheVariants as due
 use Rattle.sv_events.specs.declared.work.Work.{Work}
 use Rattle.sv_events.specs.declared.work.Work.TheVariants as work
-use Rattle.sv_rules.specs.Coupling.{coupling_now, couplings, is_coupled}
+use Rattle.sv_rules.specs.Coupling.{coupling_now, couplings, is_coupled, partner_at}
 use Rattle.sv_rules.specs.Entries.{Entries}
 use Rattle.sv_rules.specs.Story.{known}
 use Rattle.sv_rules.specs.Work.{first_coupled, first_work, has_unseen, lacks_control, owes_reply, to_counter}
@@ -38,10 +38,6 @@ is_service _ = false
 abbrev pub request_due : Entries → ℕ → Option PlainArray
 request_due journal party = option_and_then (known journal) (first_coupled journal (owes_reply journal) party)
 
--- the party of the other offer of a coupling
-abbrev pub partner_in : Coupling → ℕ → ℕ
-partner_in coupling place = if coupling.a.place == place then coupling.b.party else coupling.a.party
-
 -- by the state, a set of the other side is unseen
 abbrev pub is_partners_unseen : AccessState → Side → Bool
 is_partners_unseen UnseenB A = true
@@ -65,10 +61,6 @@ work_among journal party own =
 -- the coupled offer on which a party has to set a control, else the one on which it has to reply
 abbrev pub offer_to_serve : Entries → ℕ → Option Standing
 offer_to_serve journal party = option_or (first_coupled journal (lacks_control journal) party) (first_coupled journal (owes_reply journal) party)
-
--- the party of the other offer of the coupling of the offer at a place
-abbrev pub partner_at : Entries → ℕ → Option ℕ
-partner_at journal place = option_map (λ coupling. partner_in coupling place) (coupling_now journal place)
 
 -- the partner on that offer
 abbrev pub customer_of : Entries → ℕ → Option ℕ

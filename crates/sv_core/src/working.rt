@@ -1,9 +1,9 @@
 ghost use Rattle.std.specs.Prelude.{◌≡◌, true, false, not, find, nat_lt, All, Contains, IsTrue, Some, is_some, unwrap_or};
 ghost use Rattle.std.specs.List.{list_all, list_any};
 ghost use Rattle.std.specs.Option.{option_copied, option_map_or};
-ghost use Rattle.sv_core.specs.Due.{request_due, customer_of, is_due, is_due_on, is_open, is_reply, is_service, partner_at, partner_in, offer_to_serve, work_among};
+ghost use Rattle.sv_core.specs.Due.{request_due, customer_of, is_due, is_due_on, is_open, is_reply, is_service, offer_to_serve, work_among};
 ghost use Rattle.sv_kept.specs.Member.{waiting_at};
-ghost use Rattle.sv_rules.specs.Coupling.{coupling_now, open_to};
+ghost use Rattle.sv_rules.specs.Coupling.{coupling_now, open_to, partner_at, partner_in};
 ghost use Rattle.sv_rules.specs.Entries.{has_left};
 ghost use Rattle.sv_rules.specs.Refused.{hold_of, hold_on, refused, still_refused};
 ghost use Rattle.sv_rules.specs.Standing.{offer_count, own_offer, standing};
@@ -377,7 +377,7 @@ impl Core {
 
 // The party of the other offer of a coupling.
 fn partner_of(coupling: &Coupling, place: u64) -> u32
-    ensures { result ≡ partner_in coupling.now place }
+    ensures { result ≡ partner_in place coupling.now }
 {
     if coupling.a.place == place {
         coupling.b.party

@@ -107,6 +107,14 @@ coupling_at offers coupled place = option_and_then (coupling_of offers) (find (h
 abbrev pub coupling_now : Entries → ℕ → Option Coupling
 coupling_now journal place = coupling_at (standing journal) (couplings journal) place
 
+-- the party on the other side of the one at a place
+abbrev pub partner_in : ℕ → Coupling → ℕ
+partner_in place coupling = if coupling.a.place == place then coupling.b.party else coupling.a.party
+
+-- the party with which the offer at a place is coupled, if it is
+abbrev pub partner_at : Entries → ℕ → Option ℕ
+partner_at journal place = option_map (partner_in place) (coupling_now journal place)
+
 -- the open offers, by place
 abbrev pub open_offers : Entries → List Standing
 open_offers journal = filter (λ offer. not (is_coupled (couplings journal) offer.place)) (standing journal)

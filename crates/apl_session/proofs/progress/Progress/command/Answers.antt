@@ -3,7 +3,7 @@ use Rattle.std.proofs.lemmas.Result.{on_ok_weaker}
 use Rattle.session_rules.specs.Commands.{todo_done}
 use Rattle.ws_commands.specs.Todo.{plain_todo}
 use Rattle.apl_session.specs.Errands.{errand_rest}
-use Rattle.apl_session.specs.Standing.{IsAt, MayGoOn}
+use Rattle.apl_session.specs.Standing.{IsAt, CommandMayGoOn}
 use Rattle.apl_session.specs.declared.errand.Errand.{Errand}
 use Rattle.apl_session.specs.declared.progress.Progress.{Progress}
 use Rattle.apl_session.proofs.Commanding.{command_begun}
@@ -11,7 +11,7 @@ use Rattle.apl_session.proofs.progress.Progress.command.Goals as goal
 
 pub go_through-requires-clause-may : goal.go_through-requires-clause-may
 go_through-requires-clause-may g c =
-    subst (λ (e : Errand). MayGoOn c.args.self.now.terminal e) (sym c.begun.ensures) (record { free = c.requires.free; fit = record { names_are = c.in-Ok.ensures.retract; comes = c.in-Ok.ensures.comes; none_made = refl } })
+    subst (λ (e : Errand). CommandMayGoOn c.args.self.now.terminal e) (sym c.begun.ensures) (record { free = c.requires.free; fit = record { names_are = c.in-Ok.ensures.retract; comes = c.in-Ok.ensures.comes; none_made = refl } })
 
 pub returns-in-Ok-clause-stands : goal.returns-in-Ok-clause-stands
 returns-in-Ok-clause-stands g c =

@@ -1,7 +1,7 @@
 use Rattle.std.proofs.Common.{subst, sym, ◌∙◌}
 use Rattle.std.proofs.lemmas.Result.{on_ok_weaker}
 use Rattle.apl_session.specs.Errands.{errand_rest}
-use Rattle.apl_session.specs.Standing.{IsAt, MayGoOn}
+use Rattle.apl_session.specs.Standing.{IsAt, CommandMayGoOn}
 use Rattle.apl_session.specs.declared.errand.Errand.{Errand}
 use Rattle.apl_session.specs.declared.progress.Progress.{Progress}
 use Rattle.apl_session.proofs.Moves.{answered_runs, answered_there, commanded_may, commanded_there, none_answered}
@@ -36,7 +36,7 @@ go_through-requires-clause-none g c = c.replace.ensures.after
 pub go_through-requires-clause-may : goal.go_through-requires-clause-may
 go_through-requires-clause-may g c =
     let p : Progress = c.args.self.now in
-    subst (λ (e : Errand). MayGoOn p.terminal e) (sym c.into_inner.ensures) (commanded_may p.terminal p.under_way c.in-Commanded.errand (sym c.replace.ensures.value ∙ c.in-Commanded.is) c.requires)
+    subst (λ (e : Errand). CommandMayGoOn p.terminal e) (sym c.into_inner.ensures) (commanded_may p.terminal p.under_way c.in-Commanded.errand (sym c.replace.ensures.value ∙ c.in-Commanded.is) c.requires)
 
 pub returns-in-Commanded-clause-stands : goal.returns-in-Commanded-clause-stands
 returns-in-Commanded-clause-stands g c =

@@ -3,7 +3,7 @@ use Rattle.std.specs.Prelude.{map}
 use Rattle.apl_arrays.specs.List.{glyphs_in}
 use Rattle.sv_events.specs.Answer.{plain_answer}
 use Rattle.apl_session.specs.Errands.{IsFirstAct}
-use Rattle.apl_session.specs.Standing.{IsCommanded, MayGoOn, MayHear}
+use Rattle.apl_session.specs.Standing.{IsCommanded, CommandMayGoOn, MayHear}
 use Rattle.apl_session.specs.declared.errand.Errand.{Errand}
 use Rattle.apl_session.specs.declared.progress.Progress.{Progress}
 use Rattle.apl_session.specs.declared.under_way.UnderWay.TheVariants as under_way
@@ -32,7 +32,7 @@ pub hear_command-requires-clause-may : goal.hear_command-requires-clause-may
 hear_command-requires-clause-may c =
     let p : Progress = c.args.self.now in
     let waits : p.under_way ≡ under_way.Commanding c.in-Commanding.errand c.in-Commanding.act = sym c.replace.ensures.value ∙ c.in-Commanding.is in
-    subst (λ (e : Errand). MayGoOn p.terminal e) (sym c.into_inner.ensures) (may_hear_command (length c.args.lines.now) p.read p.terminal p.under_way c.in-Commanding.errand c.in-Commanding.act waits c.requires).0
+    subst (λ (e : Errand). CommandMayGoOn p.terminal e) (sym c.into_inner.ensures) (may_hear_command (length c.args.lines.now) p.read p.terminal p.under_way c.in-Commanding.errand c.in-Commanding.act waits c.requires).0
 
 pub hear_command-requires-clause-first : goal.hear_command-requires-clause-first
 hear_command-requires-clause-first c =

@@ -2,7 +2,7 @@ use Rattle.std.proofs.Common.{◌∙◌, Option, ap, sym}
 use Rattle.std.specs.Option.{option_copied}
 use Rattle.std.specs.Prelude.{option_and_then}
 use Rattle.sv_rules.specs.declared.standing.Standing.{Standing}
-use Rattle.sv_core.specs.Due.{partner_at}
+use Rattle.sv_rules.specs.Coupling.{partner_at}
 use Rattle.sv_core.proofs.processor.Core.partner_served.Goals as goal
 
 pub returns-in-None : goal.returns-in-None
