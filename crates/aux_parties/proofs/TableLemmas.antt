@@ -5,7 +5,7 @@ use Rattle.std.specs.List.{AllByRecursion, list_all}
 use Rattle.std.proofs.lemmas.Bool.{and_from, and_parts, cases_Bool, eqb-true, ltb-true, ne_eqb, or_cases, or_from}
 use Rattle.std.proofs.lemmas.Option.{none-some, same_Some}
 use Rattle.apl_arrays.specs.Parties.{first_user}
-use Rattle.aux_parties.specs.Auxiliaries.{auxiliaries, auxiliary_at, has_row, is_auxiliary, most_counters, party_of, row_among, auxiliary_row}
+use Rattle.aux_parties.specs.Auxiliaries.{auxiliaries, auxiliary_at, auxiliary_row, clock_party, has_row, is_auxiliary, most_counters, party_of, row_among, text_party}
 use Rattle.aux_parties.specs.declared.auxiliary.AuxiliaryKind.{AuxiliaryKind}
 use Rattle.aux_parties.specs.declared.auxiliary.AuxiliaryKind.TheVariants.{Clock, TextFiles}
 use Rattle.aux_parties.specs.declared.auxiliary.AuxiliaryRow.{AuxiliaryRow}
