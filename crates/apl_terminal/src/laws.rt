@@ -9,9 +9,9 @@ ghost use Rattle.fn_editor.specs.Prompt.{prompt_text};
 ghost use Rattle.apl_terminal.specs.Terminal.{PlainTerminal, taking_definition, echoing, editing, glyph_count, showing};
 ghost use Rattle.apl_terminal.specs.TerminalLaws.{OnlyPrints};
 
-/// A line that is refused changes the transcript alone: one that opens no definition; one that has nothing to do in the
-/// definition that is open, once it is echoed; what would be shown past the limit of printed glyphs; and a function that
-/// would make the workspace too heavy. The call does nothing.
+/// A line that opens no definition changes the transcript alone, and so does one that has nothing to do in the definition
+/// that is open, once it is echoed. What would be shown past the limit of printed glyphs prints a report alone; so does a
+/// function that would make the workspace too heavy, once its definition is closed. The call does nothing.
 pub fn refused_lines_print_alone()
     ensures opening { (t : PlainTerminal) (line : List ℕ) → opened t.workspace line ≡ None → OnlyPrints t (editing line (opened t.workspace line) t) }
     ensures feeding { (t : PlainTerminal) (editor : PlainEditor) (line : List ℕ) → fed editor line ≡ None →
