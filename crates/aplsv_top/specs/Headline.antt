@@ -77,7 +77,7 @@ abbrev pub OverClock : {C : Type 0} → (C → Option Ticks) → (C → ℕ) →
 OverClock {C} ticks faults true bundle clock clock_then Holds = Holds C ticks faults clock clock_then
 OverClock ticks faults false bundle clock clock_then Holds = (readings : Timer) × Holds Timer (λ c. Some c.told) (λ c. c.faults) (clock_of bundle) readings
 
--- a store that was handed in was told this place, once and no other: it keeps what it kept, and its count of faults did not fall
+-- a store tells what it told before, with this place more behind its places, where it told anything; and its count of faults did not fall
 abbrev pub IsPlaced : {T : Type 0} → (T → Option (Told (List ℕ))) → (T → ℕ) → List ℕ → T → T → Type 0
 IsPlaced told faults place before now = (told now ≡ option_map (placed place) (told before)) × (faults before ≤ faults now)
 
@@ -86,13 +86,13 @@ abbrev pub OverText : {T : Type 0} → (T → Option (Told (List ℕ))) → (T �
 OverText {T} told faults (Some place) bundle files files_then Holds = (placed : T) × IsPlaced told faults place files placed × Holds T told faults placed files_then
 OverText told faults None bundle files files_then Holds = (kept : Keeper (List ℕ)) × Holds (Keeper (List ℕ)) (λ t. Some t.told) (λ t. t.faults) (text_store_of bundle) kept
 
--- no count of faults fell of these shelves, each of which stands at its place among the others
+-- of shelves before and now, one by one as far as there are of both, no count of faults fell
 abbrev pub NoneFell : {K : Type 0} → (K → ℕ) → List K → List K → Type 0
 NoneFell faults [] now = Unit {0}
 NoneFell faults (shelf ∷ before) [] = Unit {0}
 NoneFell faults (shelf ∷ before) (shelf_now ∷ now) = (faults shelf ≤ faults shelf_now) × NoneFell faults before now
 
--- of the shelves that were handed in the first so many were told this place, once and no other: each keeps what it kept, no count of faults fell, and the others are as they were
+-- each of the first so many shelves tells what it told before, with this place more behind its places, where it told anything; no count of faults fell; and the shelves behind them are as they were
 pub record AreToldTheirPlace {K : Type 0} (told : K → Option (Told (ℕ × List ℕ))) (faults : K → ℕ) (place : List ℕ) (count : ℕ) (before now : List K) : Type 0 where
   pub tell : map told (take count now) ≡ map (λ shelf. option_map (placed place) (told shelf)) (take count before)
   pub counted : NoneFell faults before now
