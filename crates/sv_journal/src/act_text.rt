@@ -1,5 +1,6 @@
-ghost use Rattle.std.specs.Prelude.{◌≡◌, ◌∷◌, [], ◌++◌, OnOk, IsTrue};
+ghost use Rattle.std.specs.Prelude.{◌≡◌, ◌∷◌, [], ◌++◌, OnOk, IsTrue, OnErr};
 ghost use Rattle.std.specs.List.{list_all};
+ghost use Rattle.apl_arrays.specs.Front.{KeepsFront};
 ghost use Rattle.apl_arrays.specs.Name.{IsName};
 ghost use Rattle.line_text.specs.Spaced.{is_plain, spaced};
 ghost use Rattle.sv_journal.specs.EntryText.{act_text};
@@ -12,9 +13,10 @@ use sv_access::Control;
 use sv_events::Act;
 use sv_text::{add_array, add_value};
 
-/// Adds an act at the end of a line. It takes memory for it; where that runs out, a part of the text may stand there.
+/// Adds an act at the end of a line. It takes memory for it; where that runs out, a part of the text may stand behind what stood there.
 pub(crate) fn add_act(line: &mut Line, act: &Act) -> Result<(), WantOfMemory>
     ensures text { OnOk result (line.new.items ≡ line.old.items ++ act_text act.now) }
+    ensures front { OnErr result (KeepsFront line.old.items line.new.items) }
     ensures printable { OnOk result (IsPrintableAct act.now) }
 {
     match act {
@@ -47,6 +49,7 @@ fn add_offer(
 ) -> Result<(), WantOfMemory>
     ensures text { OnOk result (line.new.items
         ≡ line.old.items ++ act_text (Act.Offer to local.now surrogate.now value.now)) }
+    ensures front { OnErr result (KeepsFront line.old.items line.new.items) }
     ensures printable { OnOk result (IsPrintableAct (Act.Offer to local.now surrogate.now value.now)) }
 {
     add_text(line, "offer ")?;
@@ -61,6 +64,7 @@ fn add_offer(
 fn add_names(line: &mut Line, local: &Name, surrogate: &Name) -> Result<(), WantOfMemory>
     ensures text { OnOk result (line.new.items
         ≡ line.old.items ++ spaced (local.now ∷ surrogate.now ∷ [])) }
+    ensures front { OnErr result (KeepsFront line.old.items line.new.items) }
     ensures printable { OnOk result (IsName local.now × IsName surrogate.now) }
 {
     add_glyphs(line, local.glyphs())?;
@@ -72,6 +76,7 @@ fn add_names(line: &mut Line, local: &Name, surrogate: &Name) -> Result<(), Want
 fn add_named(line: &mut Line, word: &str, local: &Name) -> Result<(), WantOfMemory>
     requires { IsTrue (list_all is_plain word.now) }
     ensures text { OnOk result (line.new.items ≡ line.old.items ++ spaced (word.now ∷ local.now ∷ [])) }
+    ensures front { OnErr result (KeepsFront line.old.items line.new.items) }
     ensures name { OnOk result (IsName local.now) }
 {
     add_text(line, word)?;
@@ -83,6 +88,7 @@ fn add_named(line: &mut Line, word: &str, local: &Name) -> Result<(), WantOfMemo
 fn add_set_control(line: &mut Line, local: &Name, control: Control) -> Result<(), WantOfMemory>
     ensures text { OnOk result (line.new.items
         ≡ line.old.items ++ act_text (Act.SetControl local.now control)) }
+    ensures front { OnErr result (KeepsFront line.old.items line.new.items) }
     ensures printable { OnOk result (IsPrintableAct (Act.SetControl local.now control)) }
 {
     add_named(line, "control", local)?;
@@ -93,6 +99,7 @@ fn add_set_control(line: &mut Line, local: &Name, control: Control) -> Result<()
 // Adds a question for the names of a party.
 fn add_asked_names(line: &mut Line, party: u32) -> Result<(), WantOfMemory>
     ensures text { OnOk result (line.new.items ≡ line.old.items ++ act_text (Act.AskNames party)) }
+    ensures front { OnErr result (KeepsFront line.old.items line.new.items) }
     ensures printable { OnOk result (IsPrintableAct (Act.AskNames party)) }
 {
     add_text(line, "asknames ")?;
@@ -103,6 +110,7 @@ fn add_asked_names(line: &mut Line, party: u32) -> Result<(), WantOfMemory>
 fn add_set(line: &mut Line, local: &Name, value: &Array) -> Result<(), WantOfMemory>
     ensures text { OnOk result (line.new.items
         ≡ line.old.items ++ act_text (Act.Set local.now value.now)) }
+    ensures front { OnErr result (KeepsFront line.old.items line.new.items) }
     ensures printable { OnOk result (IsPrintableAct (Act.Set local.now value.now)) }
 {
     add_named(line, "set", local)?;

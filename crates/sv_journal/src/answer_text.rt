@@ -1,5 +1,6 @@
-ghost use Rattle.std.specs.Prelude.{◌≡◌, All, ◌<◌, ◌^◌, ◌∷◌, ◌++◌, OnOk, map, codes, decimal};
+ghost use Rattle.std.specs.Prelude.{◌≡◌, All, ◌<◌, ◌^◌, ◌∷◌, ◌++◌, OnOk, map, codes, decimal, OnErr};
 ghost use Rattle.std.specs.List.{flat_map};
+ghost use Rattle.apl_arrays.specs.Front.{KeepsFront};
 ghost use Rattle.apl_arrays.specs.Glyph.{blank};
 ghost use Rattle.apl_arrays.specs.Name.{IsName};
 ghost use Rattle.line_text.specs.Spaced.{spaced};
@@ -14,10 +15,11 @@ use sv_access::Control;
 use sv_events::{Answer, Hold};
 use sv_text::{add_array, add_value};
 
-/// Adds an answer at the end of a line. It takes memory for it; where that runs out, a part of the text may stand there.
+/// Adds an answer at the end of a line. It takes memory for it; where that runs out, a part of the text may stand behind what stood there.
 pub(crate) fn add_answer(line: &mut Line, answer: &Answer) -> Result<(), WantOfMemory>
     ensures text { OnOk result (line.new.items
         ≡ line.old.items ++ answer_text (plain_answer answer.now)) }
+    ensures front { OnErr result (KeepsFront line.old.items line.new.items) }
     ensures printable { OnOk result (IsPrintableAnswer (plain_answer answer.now)) }
 {
     match answer {
@@ -42,6 +44,7 @@ pub(crate) fn add_answer(line: &mut Line, answer: &Answer) -> Result<(), WantOfM
 fn add_degree(line: &mut Line, degree: u8) -> Result<(), WantOfMemory>
     ensures text { OnOk result (line.new.items
         ≡ line.old.items ++ answer_text (plain_answer (Answer.Degree degree))) }
+    ensures front { OnErr result (KeepsFront line.old.items line.new.items) }
     ensures printable { OnOk result (IsPrintableAnswer (plain_answer (Answer.Degree degree))) }
 {
     add_text(line, "degree ")?;
@@ -52,6 +55,7 @@ fn add_degree(line: &mut Line, degree: u8) -> Result<(), WantOfMemory>
 fn add_told(line: &mut Line, value: &Array) -> Result<(), WantOfMemory>
     ensures text { OnOk result (line.new.items
         ≡ line.old.items ++ answer_text (plain_answer (Answer.Value value.now))) }
+    ensures front { OnErr result (KeepsFront line.old.items line.new.items) }
     ensures printable { OnOk result (IsPrintableAnswer (plain_answer (Answer.Value value.now))) }
 {
     add_text(line, "value ")?;
@@ -62,6 +66,7 @@ fn add_told(line: &mut Line, value: &Array) -> Result<(), WantOfMemory>
 fn add_held(line: &mut Line, hold: Hold) -> Result<(), WantOfMemory>
     ensures text { OnOk result (line.new.items
         ≡ line.old.items ++ answer_text (plain_answer (Answer.Held hold))) }
+    ensures front { OnErr result (KeepsFront line.old.items line.new.items) }
     ensures printable { OnOk result (IsPrintableAnswer (plain_answer (Answer.Held hold))) }
 {
     add_text(line, "held ")?;
@@ -72,6 +77,7 @@ fn add_held(line: &mut Line, hold: Hold) -> Result<(), WantOfMemory>
 fn add_abandoned(line: &mut Line, hold: Hold) -> Result<(), WantOfMemory>
     ensures text { OnOk result (line.new.items
         ≡ line.old.items ++ answer_text (plain_answer (Answer.Abandoned hold))) }
+    ensures front { OnErr result (KeepsFront line.old.items line.new.items) }
     ensures printable { OnOk result (IsPrintableAnswer (plain_answer (Answer.Abandoned hold))) }
 {
     add_text(line, "abandoned ")?;
@@ -82,6 +88,7 @@ fn add_abandoned(line: &mut Line, hold: Hold) -> Result<(), WantOfMemory>
 fn add_vector(line: &mut Line, control: Control) -> Result<(), WantOfMemory>
     ensures text { OnOk result (line.new.items
         ≡ line.old.items ++ answer_text (plain_answer (Answer.Vector control))) }
+    ensures front { OnErr result (KeepsFront line.old.items line.new.items) }
     ensures printable { OnOk result (IsPrintableAnswer (plain_answer (Answer.Vector control))) }
 {
     add_text(line, "vector ")?;
@@ -91,6 +98,7 @@ fn add_vector(line: &mut Line, control: Control) -> Result<(), WantOfMemory>
 // Adds the answer that lists parties.
 fn add_parties(line: &mut Line, list: &[u32]) -> Result<(), WantOfMemory>
     ensures text { OnOk result (line.new.items ≡ line.old.items ++ answer_text (parties list.now)) }
+    ensures front { OnErr result (KeepsFront line.old.items line.new.items) }
     ensures printable { OnOk result (IsPrintableAnswer (parties list.now)) }
 {
     add_text(line, "parties")?;
@@ -103,6 +111,7 @@ fn add_parties(line: &mut Line, list: &[u32]) -> Result<(), WantOfMemory>
 // Adds the answer that lists names.
 fn add_names(line: &mut Line, list: &[Name]) -> Result<(), WantOfMemory>
     ensures text { OnOk result (line.new.items ≡ line.old.items ++ answer_text (names list.now)) }
+    ensures front { OnErr result (KeepsFront line.old.items line.new.items) }
     ensures printable { OnOk result (IsPrintableAnswer (names list.now)) }
 {
     add_text(line, "names")?;
@@ -115,6 +124,7 @@ fn add_names(line: &mut Line, list: &[Name]) -> Result<(), WantOfMemory>
 // Adds a party behind a blank.
 fn add_party(line: &mut Line, party: u32) -> Result<(), WantOfMemory>
     ensures text { OnOk result (line.new.items ≡ line.old.items ++ (blank ∷ decimal party)) }
+    ensures front { OnErr result (KeepsFront line.old.items line.new.items) }
     ensures printable { party < 2 ^ 64 }
 {
     add_blank(line)?;
@@ -124,6 +134,7 @@ fn add_party(line: &mut Line, party: u32) -> Result<(), WantOfMemory>
 // Adds a name behind a blank.
 fn add_name(line: &mut Line, name: &Name) -> Result<(), WantOfMemory>
     ensures text { OnOk result (line.new.items ≡ line.old.items ++ (blank ∷ name.now)) }
+    ensures front { OnErr result (KeepsFront line.old.items line.new.items) }
     ensures printable { OnOk result (IsName name.now) }
 {
     add_blank(line)?;
@@ -134,6 +145,7 @@ fn add_name(line: &mut Line, name: &Name) -> Result<(), WantOfMemory>
 fn add_kept(line: &mut Line, degree: u8, value: &Option<Array>) -> Result<(), WantOfMemory>
     ensures text { OnOk result (line.new.items
         ≡ line.old.items ++ answer_text (kept degree value.now)) }
+    ensures front { OnErr result (KeepsFront line.old.items line.new.items) }
     ensures printable { OnOk result (IsPrintableAnswer (kept degree value.now)) }
 {
     add_text(line, "kept ")?;

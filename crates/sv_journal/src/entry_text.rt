@@ -1,5 +1,6 @@
-ghost use Rattle.std.specs.Prelude.{◌≡◌, All, ◌<◌, ◌^◌, ◌∷◌, [], ◌++◌, ℕ, OnOk, IfOk, map, length, decimal};
+ghost use Rattle.std.specs.Prelude.{◌≡◌, All, ◌<◌, ◌^◌, ◌∷◌, [], ◌++◌, ℕ, OnOk, IfOk, map, length, decimal, OnErr};
 ghost use Rattle.std.specs.List.{flat_map};
+ghost use Rattle.apl_arrays.specs.Front.{KeepsFront};
 ghost use Rattle.apl_arrays.specs.Name.{IsName};
 ghost use Rattle.line_text.specs.Spaced.{spaced};
 ghost use Rattle.sv_events.specs.Entry.{PlainEntry, plain_entry};
@@ -16,6 +17,7 @@ use sv_events::{Entry, Pair};
 // Adds a pair.
 fn add_pair(line: &mut Line, pair: Pair) -> Result<(), WantOfMemory>
     ensures text { OnOk result (line.new.items ≡ line.old.items ++ pair_text pair) }
+    ensures front { OnErr result (KeepsFront line.old.items line.new.items) }
     ensures printable { OnOk result (IsPrintablePair pair) }
 {
     add_text(line, " + ")?;
@@ -27,6 +29,7 @@ fn add_pair(line: &mut Line, pair: Pair) -> Result<(), WantOfMemory>
 // Adds pairs.
 fn add_pairs(line: &mut Line, pairs: &[Pair]) -> Result<(), WantOfMemory>
     ensures text { OnOk result (line.new.items ≡ line.old.items ++ flat_map pair_text pairs.now) }
+    ensures front { OnErr result (KeepsFront line.old.items line.new.items) }
     ensures printable { OnOk result (All IsPrintablePair pairs.now) }
 {
     for pair in pairs {
@@ -36,10 +39,11 @@ fn add_pairs(line: &mut Line, pairs: &[Pair]) -> Result<(), WantOfMemory>
 }
 
 /// Adds an entry at its place, as `text_of` has it. It takes memory for it; where that runs out, a part of the text may
-/// stand there.
+/// stand behind what stood there.
 pub(crate) fn add_entry(line: &mut Line, place: u64, entry: &Entry) -> Result<(), WantOfMemory>
     ensures text { OnOk result (line.new.items
         ≡ line.old.items ++ entry_text place (plain_entry entry.now)) }
+    ensures front { OnErr result (KeepsFront line.old.items line.new.items) }
     ensures printable { OnOk result (IsPrintableEntry (plain_entry entry.now)) }
 {
     add_count(line, place)?;
