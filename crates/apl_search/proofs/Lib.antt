@@ -1,5 +1,7 @@
+mod ChainLemmas
 mod Counts
 mod DigitLemmas
+mod DistanceLemmas
 mod EncodeLemmas
 mod GradeLemmas
 mod IndexLemmas

@@ -1,3 +1,4 @@
+pub mod Chains
 pub mod Decode
 pub mod Encode
 pub mod Grade

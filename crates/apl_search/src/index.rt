@@ -21,12 +21,17 @@ pub fn index_for<T: Ord + Copy + Drop>(
     requires { length list.now ≤ 16384 }
     ensures { IfOk result (λ pairs. IsIndexOf T.cmp list.now pairs.items) }
 {
-    if list.len() <= FEW || asked <= FEW {
+    if is_few(list.len(), asked) {
         return Ok(Vec::new(alloc));
     }
     let mut pairs = with_places(alloc, list)?;
     pairs.sort()?;
     Ok(pairs)
+}
+
+/// Whether a walk for each of so many look-ups in a list that is so long costs no more than what makes them fast.
+pub(crate) fn is_few(long: usize, asked: usize) -> bool {
+    long <= FEW || asked <= FEW
 }
 
 /// Whether a list has an item, by its index.

@@ -1,6 +1,7 @@
 //! The functions of APL that look items up, put them in order, and turn numbers into digits and back.
 #![tactic(auto)]
 
+mod chains;
 mod decoding;
 mod encoding;
 mod grade;

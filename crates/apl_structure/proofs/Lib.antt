@@ -6,6 +6,7 @@ pub mod LengthLemmas
 pub mod OppositeLemmas
 pub mod OwnPlacesLemmas
 pub mod ReshapeLemmas
+pub mod ReverseLemmas
 pub mod RotateLaws
 pub mod RotateLemmas
 pub mod TakeLaws
