@@ -1,5 +1,4 @@
-use Rattle.std.proofs.Common.{sym, ap, subst, ◌∙◌}
-use Rattle.std.specs.Prelude.{ℕ, List}
+use Rattle.std.proofs.Common.{subst}
 use Rattle.apl_arrays.specs.Array.{PlainArray}
 use Rattle.apl_selection.proofs.WantLemmas.{on_want}
 use Rattle.apl_workspace.specs.Limits.{most_weight}
