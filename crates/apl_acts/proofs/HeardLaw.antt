@@ -1,12 +1,14 @@
 -- What the answer to an act does that a line is alone.
-use Rattle.std.proofs.Common.{◌≡◌, ℕ, ◌+◌, ◌≤◌, Bool, List, ◌++◌, refl, sym, ap, ◌∙◌}
+use Rattle.std.proofs.Common.{◌≡◌, ℕ, ◌+◌, ◌≤◌, ◌<◌, Bool, true, false, List, ◌++◌, refl, sym, ap, ◌∙◌, arith}
 use Rattle.std.specs.Prelude.{Option, Some, None, Result, Ok, Err, IfErr, OnErr, OnOk, nat_le, if◌then◌else◌}
 use Rattle.std.proofs.lemmas.Bool.{le-leb}
+use Rattle.std.proofs.lemmas.Bool.Decides.{nat_tests}
 use Rattle.apl_arrays.specs.Array.{PlainArray}
 use Rattle.apl_arrays.specs.declared.report.Fail.{Fail}
 use Rattle.apl_arrays.specs.declared.report.Fail.TheVariants as fail
 use Rattle.apl_arrays.specs.declared.report.Report.{Report}
 use Rattle.apl_arrays.specs.declared.report.Report.TheVariants.{WsFull}
+use Rattle.apl_items.specs.Places.{OnWantOfMemory}
 use Rattle.apl_workspace.specs.Limits.{most_weight}
 use Rattle.apl_workspace.specs.Workspace.{IsTooHeavy, PlainWorkspace, workspace_weight}
 use Rattle.sv_events.specs.Answer.{PlainAnswer}
@@ -64,6 +66,24 @@ module _ {T : Type 0} where
             ∙ ap (λ (t : State). refuses report t) (still_printed s v (front ++ before) printed);
       }
   copy_led (Err fail.WantOfMemory) w v before name value ok err fits full = tt
+
+-- a copy that takes no memory is never refused for want of it
+pub no_want : {T : Type 0} (r : Result T Fail) (w : PlainWorkspace) (fact : Type 0) → IfErr r (IsTooHeavy w) → OnWantOfMemory r fact
+no_want (Ok done) w fact heavy = tt
+no_want (Err (fail.Report report)) w fact heavy = tt
+no_want (Err fail.WantOfMemory) w fact heavy = absurd (cc (heavy.0))
+
+-- whether a copy fits, as it was tested
+pub copy_fits : (weight most : ℕ) (fits : Bool) → fits ≡ nat_le weight most → fits ≡ true → weight ≤ most
+copy_fits weight most fits is e = grind (arith, nat_tests)
+
+over_most : (weight most : ℕ) (fits : Bool) → fits ≡ nat_le weight most → fits ≡ false → most < weight
+over_most weight most fits is e = grind (arith, nat_tests)
+
+-- a copy that does not fit ends the line
+pub heavy_led : (w : PlainWorkspace) (before : List (List ℕ)) (name : List ℕ) (value : PlainArray) (fits : Bool) → fits ≡ nat_le (workspace_weight (renewed name value w)) most_weight → fits ≡ false
+    → HasLed {T = Unit {0}} w before (with_copy name value) w before (Err (fail.Report WsFull))
+heavy_led w before name value fits is e = copy_led {T = Unit {0}} (Err (fail.Report WsFull)) w w before name value tt refl tt (refl, over_most (workspace_weight (renewed name value w)) most_weight fits is e)
 
 -- a part that ended the line, and another that would follow
 pub ends_before : (w v : PlainWorkspace) (before after : List (List ℕ)) (part next : State → Effect) (why : Fail) → HasLed {T = Unit {0}} w before part v after (Err why) → HasLed {T = Unit {0}} w before (λ s. and_then (part s) (λ _ t. next t)) v after (Err why)

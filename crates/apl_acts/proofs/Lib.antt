@@ -3,4 +3,5 @@ pub mod Controlled
 pub mod HeardLaw
 pub mod Offered
 pub mod Queried
+pub mod RowTests
 pub mod Tested

@@ -1,14 +1,17 @@
 -- What is wrong with the arguments of a shared variable function, and the rows that are made of them.
 use Rattle.std.specs.Prelude.{◌≡◌, ◌≤◌, ◌+◌, ◌*◌, ◌==◌, ◌⊎◌, ℕ, ℤ, Bool, false, List, length, map, unsigned_abs, if◌then◌else◌}
-use Rattle.std.specs.List.{zip}
+use Rattle.std.specs.List.{list_any, zip}
+use Rattle.std.specs.Option.{option_to_list}
 use Rattle.apl_arrays.specs.Number.{is_one}
 use Rattle.apl_items.specs.Answers.{Faults}
 use Rattle.apl_items.specs.Extension.{number_at}
 use Rattle.apl_items.specs.Places.{places}
+use Rattle.apl_workspace.specs.Workspace.{PlainWorkspace}
 use Rattle.sv_access.specs.Control.{four_elements}
 use Rattle.sv_access.specs.declared.control.Control.{Control}
 use Rattle.apl_meaning.specs.Deeds.{offer, set_control}
-use Rattle.apl_meaning.specs.Naming.{Naming}
+use Rattle.apl_meaning.specs.Naming.{Naming, naming_in}
+use Rattle.apl_meaning.specs.Sharing.{cannot_be_offered}
 use Rattle.apl_values.specs.Rows.{PlainNameRow}
 use Rattle.apl_acts.specs.declared.sharing.Wrong.{Wrong}
 
@@ -19,6 +22,10 @@ plain_faults wrong = record { bad_rank = wrong.rank; bad_length = wrong.length; 
 -- one number for all, or one for each of so many
 abbrev pub IsOneOrAsMany : List ℤ → ℕ → Type 0
 IsOneOrAsMany numbers count = (length numbers ≡ 1) ⊎ (count ≤ length numbers)
+
+-- a row holds names, and the local one cannot be offered
+abbrev pub is_not_offered : PlainWorkspace → List ℕ → Bool
+is_not_offered w row = list_any (cannot_be_offered w) (option_to_list (naming_in row))
 
 -- these names are offered, to the party of all or to their own
 abbrev pub offers_of : List ℤ → List Naming → List PlainNameRow

@@ -1,11 +1,13 @@
-ghost use Rattle.std.specs.Prelude.{◌≡◌, ◌∷◌, [], ℕ, true, None, IfOk, IfSome, IsSome, List, OnErr, map};
+ghost use Rattle.std.specs.Prelude.{◌≡◌, ◌≤◌, ◌∷◌, [], ℕ, true, None, Some, IfOk, IfSome, IsSome, List, OnErr, map};
 ghost use Rattle.apl_arrays.specs.Array.{plain_items};
 ghost use Rattle.apl_arrays.specs.Glyph.{left_arrow};
 ghost use Rattle.apl_items.specs.Places.{OnWantOfMemory};
 ghost use Rattle.line_scanner.specs.Token as plain;
 ghost use Rattle.line_scanner.specs.Token.{plain_kind, plain_token};
+ghost use Rattle.apl_workspace.specs.Limits.{most_weight};
 ghost use Rattle.apl_workspace.specs.Meaning.{is_shared_meaning};
-ghost use Rattle.apl_workspace.specs.Workspace.{look};
+ghost use Rattle.apl_workspace.specs.Workspace.{look, with_global, workspace_weight};
+ghost use Rattle.apl_workspace.specs.declared.meaning.Meaning.TheVariants as meaning;
 ghost use Rattle.apl_meaning.specs.Answers.{got, report_of_kind, with_copy};
 ghost use Rattle.apl_meaning.specs.Printing.{value_printed};
 ghost use Rattle.apl_meaning.specs.State.{and_then};
@@ -13,9 +15,9 @@ ghost use Rattle.sv_events.specs.Answer.{plain_answer};
 ghost use Rattle.sv_events.specs.Row.{answer_row};
 ghost use Rattle.apl_values.specs.Parts.{IsConstant};
 ghost use Rattle.apl_statements.specs.Led.{HasLed};
-ghost use Rattle.apl_acts.specs.Alone.{IsConstantOf, IsActOf, IsOnShared, answer_outcome, kinds_of};
+ghost use Rattle.apl_acts.specs.Alone.{CopyFits, IsConstantOf, IsActOf, IsOnShared, answer_outcome, kinds_of};
 
-use apl_arrays::{Array, Fail, Glyph, Items, LineList, Name, WantOfMemory};
+use apl_arrays::{Array, Fail, Glyph, Items, LineList, Name, Report, WantOfMemory};
 use apl_display::lines_of;
 use apl_statements::print_lines;
 use apl_values::{Part, constant, report_of, value_in};
@@ -124,7 +126,8 @@ fn array_of(alloc: Global, items: Items) -> Result<Option<Array>, WantOfMemory>
 
 /// Does what the answer to an act does that a line is alone: the own copy of the name is its value from then on, and the
 /// value of a use is printed. The lines that are printed go last in the output; the report by which the line ends is
-/// answered; that of an answer which ends the line also where there is no memory. It takes memory for the value and the lines.
+/// answered; that of an answer which ends the line, and WS FULL where the workspace would weigh too much with the copy, also
+/// where there is no memory. It takes memory for the value and the lines.
 pub fn hear_alone(
     alloc: Global,
     workspace: &mut Workspace,
@@ -135,6 +138,7 @@ pub fn hear_alone(
     requires { IsOnShared workspace.old act.now }
     ensures led { HasLed workspace.old output.old.items (answer_outcome act.now (plain_answer answer)) workspace.new output.new.items result }
     ensures memory { OnWantOfMemory result (report_of_kind (answer_row (plain_answer answer)).row.kind ≡ None) }
+    ensures room { OnWantOfMemory result (CopyFits workspace.old act.now (plain_answer answer)) }
     ensures frames { workspace.new.frames ≡ workspace.old.frames }
 {
     if let Some(report) = report_of(answer.row().kind) {
@@ -142,12 +146,13 @@ pub fn hear_alone(
     }
     match act {
         Act::Use(name) => hear_value(alloc, workspace, name, answer, output),
-        Act::Set(name, value) => renew(workspace, name, value.copy(alloc)?),
+        Act::Set(name, value) => keep_set(alloc, workspace, name, value),
         _ => unreachable!(),
     }
 }
 
-// The value of a use is the own copy, and is printed.
+// The value of a use is the own copy, and is printed. WS FULL where the workspace would weigh too much comes also where there
+// is no memory.
 fn hear_value(
     alloc: Global,
     workspace: &mut Workspace,
@@ -158,18 +163,59 @@ fn hear_value(
     requires { is_shared_meaning (look workspace.old name.now) ≡ true }
     ensures led { HasLed workspace.old output.old.items (λ s. and_then (got name.now (answer_row (plain_answer answer)).value s) value_printed) workspace.new output.new.items result }
     ensures memory { OnWantOfMemory result (IsSome (answer_row (plain_answer answer)).value) }
+    ensures room { OnWantOfMemory result (IfSome (answer_row (plain_answer answer)).value (λ value. workspace_weight (with_global workspace.old name.now (meaning.Shared (Some value))) ≤ most_weight)) }
     ensures frames { workspace.new.frames ≡ workspace.old.frames }
 {
     let value = value_in(answer)?;
+    keep_and_print(alloc, workspace, name, value, output)
+}
+
+// A value is the own copy of a name, and is printed.
+fn keep_and_print(
+    alloc: Global,
+    workspace: &mut Workspace,
+    name: &Name,
+    value: Array,
+    output: &mut LineList,
+) -> Result<(), Fail>
+    requires { is_shared_meaning (look workspace.old name.now) ≡ true }
+    ensures led { HasLed workspace.old output.old.items (λ s. and_then (with_copy name.now value s) (λ _ t. value_printed value t)) workspace.new output.new.items result }
+    ensures room { OnWantOfMemory result (workspace_weight (with_global workspace.old name.now (meaning.Shared (Some value))) ≤ most_weight) }
+    ensures frames { workspace.new.frames ≡ workspace.old.frames }
+{
+    if !workspace.takes_copy(name, &value) {
+        drop(value);
+        return Err(Fail::Report(Report::WsFull));
+    }
     let lines = lines_of(alloc, &value)?;
     renew(workspace, name, value)?;
     print_lines(workspace, output, lines.into_vec())
 }
 
-// The own copy of a shared name is this value; WS FULL where the workspace would weigh too much.
+// The own copy of a name is the value that it was set to. WS FULL where the workspace would weigh too much comes also where
+// there is no memory to copy it.
+fn keep_set(
+    alloc: Global,
+    workspace: &mut Workspace,
+    name: &Name,
+    value: &Array,
+) -> Result<(), Fail>
+    requires { is_shared_meaning (look workspace.old name.now) ≡ true }
+    ensures led { (before : List (List ℕ)) → HasLed workspace.old before (with_copy name.now value.now) workspace.new before result }
+    ensures room { OnWantOfMemory result (workspace_weight (with_global workspace.old name.now (meaning.Shared (Some value.now))) ≤ most_weight) }
+    ensures frames { workspace.new.frames ≡ workspace.old.frames }
+{
+    if !workspace.takes_copy(name, value) {
+        return Err(Fail::Report(Report::WsFull));
+    }
+    renew(workspace, name, value.copy(alloc)?)
+}
+
+// The own copy of a shared name is this value; WS FULL where the workspace would weigh too much. It takes no memory.
 fn renew(workspace: &mut Workspace, name: &Name, value: Array) -> Result<(), Fail>
     requires { is_shared_meaning (look workspace.old name.now) ≡ true }
     ensures led { (before : List (List ℕ)) → HasLed workspace.old before (with_copy name.now value) workspace.new before result }
+    ensures memory { OnWantOfMemory result ⊥ }
     ensures err { OnErr result (workspace.new ≡ workspace.old) }
     ensures frames { workspace.new.frames ≡ workspace.old.frames }
 {

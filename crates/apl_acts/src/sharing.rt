@@ -1,12 +1,14 @@
-ghost use Rattle.std.specs.Prelude.{◌≡◌, ◌<◌, Some, None, false, [], All, IfErr, IfOk, IfSome, OnOk, length, map, option_map};
+ghost use Rattle.std.specs.Prelude.{◌≡◌, ◌<◌, Some, None, false, [], All, IfErr, IfOk, IfSome, OnOk, length, map, option_map, slice_index_or};
 ghost use Rattle.std.specs.List.{list_any};
 ghost use Rattle.apl_arrays.specs.Array.{FitsLimits, element_count};
 ghost use Rattle.apl_arrays.specs.Limits.{most_axes};
+ghost use Rattle.apl_arrays.specs.declared.report.Fail.TheVariants as fail;
 ghost use Rattle.apl_arrays.specs.declared.system.SystemName.TheVariants.{Svc, Svo};
 ghost use Rattle.apl_items.specs.Answers.{first_report};
 ghost use Rattle.apl_items.specs.Places.{OnWantOfMemory};
+ghost use Rattle.apl_workspace.specs.Workspace.{PlainWorkspace};
 ghost use Rattle.apl_meaning.specs.Expressions.{valued};
-ghost use Rattle.apl_meaning.specs.Naming.{naming_faults, namings_of, result_shape};
+ghost use Rattle.apl_meaning.specs.Naming.{naming_count, naming_faults, namings_of, result_shape, rows_of};
 ghost use Rattle.apl_meaning.specs.Queries.{system_outcome};
 ghost use Rattle.apl_meaning.specs.Sharing.{cannot_be_offered, is_no_addressee, offer_faults, offers, plain_rows};
 ghost use Rattle.apl_values.specs.Rows.{RowMayBeDone, count_told, is_offer, plain_deed, plain_naming, plain_name_row, rest_of_rows, row_zeros};
@@ -16,7 +18,7 @@ ghost use Rattle.apl_statements.specs.Sound.{IsCaller, IsFlow};
 ghost use Rattle.apl_statements.specs.Holding.{parts_of};
 ghost use Rattle.apl_statements.specs.Wants.{NoReportIsDue};
 ghost use Rattle.apl_statements.specs.Work.{StaysWithin};
-ghost use Rattle.apl_acts.specs.Faults.{IsOneOrAsMany, offers_of, plain_faults};
+ghost use Rattle.apl_acts.specs.Faults.{IsOneOrAsMany, is_not_offered, offers_of, plain_faults};
 
 use crate::controls::control;
 use crate::queries::query;
@@ -25,7 +27,9 @@ use apl_arrays::{
 };
 use apl_items::joined_shape;
 use apl_statements::{Evaluation, Flow, Interpreter};
-use apl_values::{Deed, NameRow, Naming, Rows, StackValue, names_all, naming_count, namings_of};
+use apl_values::{
+    Deed, NameRow, Naming, Rows, StackValue, names_all, naming_at, naming_count, namings_of,
+};
 use apl_workspace::{Seen, Workspace, is_addressee};
 use arrayvec::ArrayVec;
 use std::alloc::Global;
@@ -177,17 +181,54 @@ fn plain_rows(
     do_rows(interpreter, e, rows, n, each)
 }
 
-// P ⎕SVO N: each row's local name is offered to its party.
+// P ⎕SVO N: each row's local name is offered to its party. A report comes also where there is no memory.
 fn offer(interpreter: &Interpreter, e: Evaluation, p: &Array, n: &Array) -> Result<Flow, Fail>
     requires sound { IsCaller interpreter.now.workspace e }
     ensures comes { Comes interpreter.now (part_gives interpreter.now e (λ s. valued (offers p.now n.now s))) 0 interpreter.now result }
+    ensures memory { OnWantOfMemory result (NoReportIsDue interpreter.now (offers p.now n.now)) }
     ensures sound { IfOk result (IsFlow interpreter.now) }
     ensures within { IfOk result (StaysWithin interpreter.now e interpreter.now) }
 {
-    let namings = namings_of(interpreter.alloc, n)?;
-    refuse(offer_wrong(&interpreter.workspace, p, n, &namings))?;
+    match namings_of(interpreter.alloc, n) {
+        Ok(namings) => offer_names(interpreter, e, p, n, namings),
+        Err(WantOfMemory) => {
+            drop(e);
+            Err(why_not_offered(&interpreter.workspace, p, n))
+        }
+    }
+}
+
+// The same, where these are the names of the rows.
+fn offer_names(
+    interpreter: &Interpreter,
+    e: Evaluation,
+    p: &Array,
+    n: &Array,
+    namings: Vec<Naming>,
+) -> Result<Flow, Fail>
+    requires sound { IsCaller interpreter.now.workspace e }
+    requires names { map plain_naming namings.items ≡ namings_of n.now }
+    ensures comes { Comes interpreter.now (part_gives interpreter.now e (λ s. valued (offers p.now n.now s))) 0 interpreter.now result }
+    ensures memory { OnWantOfMemory result (NoReportIsDue interpreter.now (offers p.now n.now)) }
+    ensures sound { IfOk result (IsFlow interpreter.now) }
+    ensures within { IfOk result (StaysWithin interpreter.now e interpreter.now) }
+{
+    let not_offered = some_not_offered(&interpreter.workspace, &namings);
+    refuse(offer_wrong(p, n, not_offered))?;
     let rows = offers(interpreter.alloc, p.numbers(), namings)?;
     do_rows(interpreter, e, rows, n, &[])
+}
+
+// Why nothing was offered where there was no memory for the names: what is wrong is told first.
+fn why_not_offered(workspace: &Workspace, p: &Array, n: &Array) -> Fail
+    ensures report { IfSome (first_report (offer_faults workspace.now p.now n.now)) (λ report. result ≡ fail.Report report) }
+    ensures none { first_report (offer_faults workspace.now p.now n.now) ≡ None → result ≡ fail.WantOfMemory }
+{
+    let wrong = offer_wrong(p, n, some_row_not_offered(workspace, n));
+    match wrong.report() {
+        Some(report) => Fail::Report(report),
+        None => Fail::WantOfMemory,
+    }
 }
 
 /// The report of what is wrong.
@@ -221,20 +262,16 @@ pub fn do_rows(
     interpreter.next_row(e, rows)
 }
 
-// What is wrong with the parties and the names of an offer, where these are the names of its rows.
-fn offer_wrong(workspace: &Workspace, p: &Array, n: &Array, namings: &[Naming]) -> Wrong
-    requires { map plain_naming namings.now ≡ namings_of n.now }
-    ensures { plain_faults result ≡ offer_faults workspace.now p.now n.now }
+// What is wrong with the parties and the names of an offer, where some local name cannot be offered, or none.
+fn offer_wrong(p: &Array, n: &Array, not_offered: bool) -> Wrong
+    ensures { (w : PlainWorkspace) → not_offered ≡ list_any (cannot_be_offered w) (namings_of n.now) → plain_faults result ≡ offer_faults w p.now n.now }
 {
     let wrong = naming_wrong(n, &[]);
     let count = p.items().len();
     Wrong {
         rank: wrong.rank || p.shape().len() > 1,
         length: count != 1 && count != naming_count(n),
-        domain: wrong.domain
-            || p.is_chars()
-            || some_no_addressee(p.numbers())
-            || some_not_offered(workspace, namings),
+        domain: wrong.domain || p.is_chars() || some_no_addressee(p.numbers()) || not_offered,
         ..wrong
     }
 }
@@ -253,6 +290,29 @@ fn some_not_offered(workspace: &Workspace, namings: &[Naming]) -> bool
     namings
         .iter()
         .any(|names| cannot_be_offered(workspace, names))
+}
+
+// Whether a local name of some row cannot be offered.
+fn some_row_not_offered(workspace: &Workspace, n: &Array) -> bool
+    ensures { result ≡ list_any (cannot_be_offered workspace.now) (namings_of n.now) }
+{
+    for row in 0..naming_count(n) {
+        if is_row_not_offered(workspace, n, row) {
+            return true;
+        }
+    }
+    false
+}
+
+// Whether the local name of a row cannot be offered, if the row holds names.
+fn is_row_not_offered(workspace: &Workspace, n: &Array, row: usize) -> bool
+    requires { row < naming_count n.now }
+    ensures { result ≡ is_not_offered workspace.now (slice_index_or (rows_of n.now) row []) }
+{
+    match naming_at(n, row) {
+        None => false,
+        Some(names) => cannot_be_offered(workspace, &names),
+    }
 }
 
 // The same is done for each of these names.

@@ -14,7 +14,7 @@ mod values;
 
 pub use answers::{report_of, value_in};
 pub use classing::classes_for;
-pub use naming::{Naming, names_all, naming_count, namings_of};
+pub use naming::{Naming, names_all, naming_at, naming_count, namings_of};
 pub use part::{Part, constant};
 pub use pending::{ActPurpose, boxed, global_value};
 pub use place::Place;

@@ -82,6 +82,14 @@ fn row_at(n: &Array, row: usize) -> &[Glyph]
     &rest[..rest.len().min(columns)]
 }
 
+/// The one or two names that a row holds, if it does.
+pub fn naming_at(n: &Array, row: usize) -> Option<Naming>
+    requires { row < naming_count n.now }
+    ensures { option_map plain_naming result ≡ naming_in (slice_index_or (rows_of n.now) row []) }
+{
+    naming_in(row_at(n, row))
+}
+
 /// Whether each row holds one or two names.
 #[tactic(auto, using(crate::proofs::NamingSteps::named_more, crate::proofs::NamingSteps::one_unnamed, crate::proofs::NamingSteps::all_named))]
 pub fn names_all(n: &Array) -> bool

@@ -1,74 +1,22 @@
-use Rattle.std.proofs.Common.{◌≡◌, ◌*◌, ℕ, false, List, [], ap, length, refl, subst, sym, ◌∙◌}
-use Rattle.std.specs.Prelude.{ℤ, None, All, map, unsigned_abs}
-use Rattle.std.proofs.lemmas.List.{length-map}
-use Rattle.apl_arrays.specs.Array.{PlainArray, numbers_in}
-use Rattle.apl_items.specs.Answers.{Faults, first_report}
-use Rattle.apl_items.specs.Extension.{number_at}
-use Rattle.apl_items.specs.Places.{places}
-use Rattle.apl_workspace.specs.Meaning.{is_function_meaning}
-use Rattle.apl_workspace.specs.Workspace.{PlainWorkspace, global_in}
-use Rattle.apl_meaning.specs.Deeds.{offer}
-use Rattle.apl_meaning.specs.Naming.{Naming, naming_count, namings_of}
-use Rattle.apl_meaning.specs.Sharing.{addressee_at, is_no_addressee, offer_faults, offers}
-use Rattle.apl_values.specs.Rows.{PlainNameRow, RowMayBeDone, count_told, plain_naming, plain_name_row}
+use Rattle.std.proofs.Common.{subst}
+use Rattle.std.specs.Prelude.{Err}
+use Rattle.apl_items.specs.Places.{OnWantOfMemory}
+use Rattle.apl_meaning.specs.Expressions.{valued}
+use Rattle.apl_meaning.specs.Sharing.{offers}
+use Rattle.apl_statements.specs.declared.flow.Flow.{Flow}
 use Rattle.apl_statements.specs.Interpreter.{PlainInterpreter}
+use Rattle.apl_statements.specs.Moves.{Comes, part_gives}
 use Rattle.apl_statements.specs.Sound.{plain_interpreter}
-use Rattle.apl_acts.specs.Faults.{IsOneOrAsMany, offers_of}
-use Rattle.apl_acts.proofs.Offered.{IsOffered, offer_may, offered, offers_by_row}
-use Rattle.apl_acts.proofs.Tested.{done_there, each_may, none_passes, room_for_each, told_for_each}
+use Rattle.apl_statements.specs.Wants.{NoReportIsDue}
+use Rattle.apl_acts.proofs.RowTests.{not_offered, not_offered_wants}
 use Rattle.apl_acts.proofs.sharing.offer.Goals as goal
 
--- the interpreter's own workspace is the one that was tested
-tested : (m inside : PlainInterpreter) (p n : PlainArray) (faults : Faults) → inside ≡ m → faults ≡ offer_faults inside.workspace p n → first_report faults ≡ None → first_report (offer_faults m.workspace p n) ≡ None
-tested m inside p n faults view same none = ap (λ (x : PlainInterpreter). first_report (offer_faults x.workspace p n)) (sym view) ∙ ap first_report (sym same) ∙ none
+pub returns-in-Err-clause-comes : goal.returns-in-Err-clause-comes
+returns-in-Err-clause-comes c =
+    subst (λ (x : PlainInterpreter). Comes x (part_gives x c.args.e (λ s. valued (offers c.args.p.now c.args.n.now s))) 0 x (Err c.why_not_offered.result)) c.interpreter.view_is
+    (not_offered (plain_interpreter c.interpreter.inside) c.args.e c.args.p.now c.args.n.now c.why_not_offered.result c.why_not_offered.ensures.report c.why_not_offered.ensures.none)
 
--- the rows that are made of numbers and names
-made_of : (p n : PlainArray) (rows : List PlainNameRow) (numbers : List ℤ) (names : List Naming) → rows ≡ offers_of numbers names → numbers ≡ numbers_in p.items → names ≡ namings_of n → rows ≡ offers_of (numbers_in p.items) (namings_of n)
-made_of p n rows numbers names made are named = made ∙ ap (λ (list : List ℤ). offers_of list names) are ∙ ap (offers_of (numbers_in p.items)) named
-
-pub offers-requires-clause-addressees : goal.offers-requires-clause-addressees
-offers-requires-clause-addressees c =
-    let m : PlainInterpreter = c.args.interpreter.now in
-    let p : PlainArray = c.args.p.now in
-    let none : first_report (offer_faults m.workspace p c.args.n.now) ≡ None = tested m (plain_interpreter c.interpreter.inside) p c.args.n.now _ c.interpreter.view_is c.offer_wrong.ensures c.in_ok-refuse.ensures.ok in
-    subst (λ (list : List ℤ). All (λ number. is_no_addressee number ≡ false) list) (sym c.numbers.ensures) (none_passes is_no_addressee (numbers_in p.items) (offered m.workspace p c.args.n.now none).parties)
-
-pub offers-requires-clause-enough : goal.offers-requires-clause-enough
-offers-requires-clause-enough c =
-    let m : PlainInterpreter = c.args.interpreter.now in
-    let p : PlainArray = c.args.p.now in
-    let none : first_report (offer_faults m.workspace p c.args.n.now) ≡ None = tested m (plain_interpreter c.interpreter.inside) p c.args.n.now _ c.interpreter.view_is c.offer_wrong.ensures c.in_ok-refuse.ensures.ok in
-    let count : length c.in_ok-namings.namings.items ≡ length (namings_of c.args.n.now) = sym (length-map c.in_ok-namings.namings.items plain_naming) ∙ ap length c.in_ok-namings.ensures in
-    subst (λ (list : List ℤ). IsOneOrAsMany list (length c.in_ok-namings.namings.items)) (sym c.numbers.ensures) (subst (IsOneOrAsMany (numbers_in p.items)) (sym count) (offered m.workspace p c.args.n.now none).many)
-
-pub do_rows-requires-clause-may : goal.do_rows-requires-clause-may
-do_rows-requires-clause-may c =
-    let m : PlainInterpreter = c.args.interpreter.now in
-    let w : PlainWorkspace = m.workspace in
-    let p : PlainArray = c.args.p.now in
-    let n : PlainArray = c.args.n.now in
-    let none : first_report (offer_faults w p n) ≡ None = tested m (plain_interpreter c.interpreter.inside) p n _ c.interpreter.view_is c.offer_wrong.ensures c.in_ok-refuse.ensures.ok in
-    let is : IsOffered w p n = offered w p n none in
-    subst (All (RowMayBeDone w)) (sym (made_of p n _ _ _ c.in_ok-rows.ensures c.numbers.ensures c.in_ok-namings.ensures))
-    (each_may w (λ row. offer (unsigned_abs (number_at (numbers_in p.items) row))) (λ names. is_function_meaning (global_in w names.local) ≡ false) (namings_of n) (offer_may w (numbers_in p.items) (length (namings_of n)) is.many is.parties) is.names)
-
-pub do_rows-requires-clause-count : goal.do_rows-requires-clause-count
-do_rows-requires-clause-count c =
-    let m : PlainInterpreter = c.args.interpreter.now in
-    let p : PlainArray = c.args.p.now in
-    let n : PlainArray = c.args.n.now in
-    let none : first_report (offer_faults m.workspace p n) ≡ None = tested m (plain_interpreter c.interpreter.inside) p n _ c.interpreter.view_is c.offer_wrong.ensures c.in_ok-refuse.ensures.ok in
-    room_for_each n [] 1 refl
-    ∙ ap (λ (k : ℕ). k * 1) (sym (offered m.workspace p n none).named)
-    ∙ sym (told_for_each (λ row. offer (unsigned_abs (number_at (numbers_in p.items) row))) 1 (namings_of n) (λ row. refl))
-    ∙ ap count_told (sym (made_of p n _ _ _ c.in_ok-rows.ensures c.numbers.ensures c.in_ok-namings.ensures))
-
-pub returns-clause-comes : goal.returns-clause-comes
-returns-clause-comes c =
-    let m : PlainInterpreter = c.args.interpreter.now in
-    let p : PlainArray = c.args.p.now in
-    let n : PlainArray = c.args.n.now in
-    let none : first_report (offer_faults m.workspace p n) ≡ None = tested m (plain_interpreter c.interpreter.inside) p n _ c.interpreter.view_is c.offer_wrong.ensures c.in_ok-refuse.ensures.ok in
-    let rows : List PlainNameRow = map plain_name_row c.in_ok-rows.rows.items in
-    done_there m c.args.e (offers p n) (offer_faults m.workspace p n) n [] (map (λ row. offer (addressee_at p row)) (places (naming_count n))) rows c.do_rows.result (λ asked count taken further. refl) none
-    (offers_by_row m.workspace p n (offered m.workspace p n none) ∙ sym (made_of p n _ _ _ c.in_ok-rows.ensures c.numbers.ensures c.in_ok-namings.ensures)) c.do_rows.ensures.comes
+pub returns-in-Err-clause-memory : goal.returns-in-Err-clause-memory
+returns-in-Err-clause-memory c =
+    subst (λ (x : PlainInterpreter). OnWantOfMemory {T = Flow} (Err c.why_not_offered.result) (NoReportIsDue x (offers c.args.p.now c.args.n.now))) c.interpreter.view_is
+    (not_offered_wants (plain_interpreter c.interpreter.inside) c.args.p.now c.args.n.now c.why_not_offered.result c.why_not_offered.ensures.report)
