@@ -2,7 +2,7 @@
 use Rattle.std.proofs.Common.{◌≡◌, ℕ, List, [], ◌∷◌, ◌++◌, sym, subst₂}
 use Rattle.std.specs.Prelude.{◌==◌, option_to_list, if◌then◌else◌}
 use Rattle.apl_arrays.specs.Array.{PlainArray}
-use Rattle.auxiliaries.specs.Run.{Event, began, answered, Leads, IsReplierRun}
+use Rattle.auxiliaries.specs.Run.{Event, began, answered, EventLeads, IsReplierRun}
 use Rattle.sv_rules.specs.Entries.{Entries}
 use Rattle.session_rules.specs.Auxiliaries.{event_of, events_of}
 
@@ -30,7 +30,7 @@ module _ {S : Type 0} (forgets : S → ℕ → S → Type 0) (replies : S → �
       (start, begins, before_more (if e.party == party then option_to_list (event_of (more ++ journal) e) else []) (events_of (more ++ journal) party) start end run)
 
   module _ (Alike : S → S → Type 0) (one : IsDetermined forgets replies Begins Alike) where
-    leads_alike : (event : Event) (a b c d : S) → Alike a b → Leads forgets replies event a c → Leads forgets replies event b d → Alike c d
+    leads_alike : (event : Event) (a b c d : S) → Alike a b → EventLeads forgets replies event a c → EventLeads forgets replies event b d → Alike c d
     leads_alike (began party) a b c d alike lead other = one.forgotten a b party c d alike lead other
     leads_alike (answered party value answer) a b c d alike lead other = (one.replied a b party value answer answer c d alike lead other).1
 
