@@ -5,17 +5,18 @@ use Rattle.std.specs.List.{AllByRecursion}
 use Rattle.std.proofs.lemmas.List.Elements.{All-head, All-tail}
 use Rattle.apl_arrays.specs.Ascending.{Ascend}
 use Rattle.apl_arrays.specs.Name.{name_order}
-use Rattle.aux_parties.specs.Auxiliaries.{clock_party, text_party}
+use Rattle.aux_parties.specs.Auxiliaries.{clock_party, party_of, text_party}
 use Rattle.apl_io.specs.Clock.{Ticks}
 use Rattle.apl_io.specs.Content.{Told, entry_of}
 use Rattle.auxiliaries.specs.Clock.{RepliesByReading}
 use Rattle.auxiliaries.specs.Protocol.{idle}
-use Rattle.auxiliaries.specs.Served.{forgotten}
+use Rattle.auxiliaries.specs.Served.{Served, forgotten}
 use Rattle.bundle_text.specs.Bundle.{IsBundle, PlainBundle}
 use Rattle.bundle_text.specs.Rules.{IsUser}
 use Rattle.bundle_text.specs.User.{PlainUser}
 use Rattle.sv_journal.specs.Output.{PlainTranscript, output_text}
 use Rattle.sv_rules.specs.Entries.{Entries}
+use Rattle.aux_parties.specs.declared.auxiliary.AuxiliaryKind.{AuxiliaryKind}
 use Rattle.aux_parties.specs.declared.auxiliary.AuxiliaryKind.TheVariants.{Clock, TextFiles}
 use Rattle.session_rules.specs.Run.{AreUserParts, Dealings, ServeUsers}
 use Rattle.session_rules.specs.RunLaws.{PartsMakeOneTranscript}
@@ -23,9 +24,10 @@ use Rattle.replay_rules.specs.Turns.{newcomer, numbers_of, ordered, rounds}
 use Rattle.aplsv_replay.specs.Replayed.{IsDeviceRun}
 use Rattle.aplsv_top.specs.OutputLaws.{AllTellThroughout, LeavesNoneUntold, OutputsAreDetermined, ReplaysAreDetermined}
 use Rattle.aplsv_top.proofs.Clocks.{TickAlike, clocks_are_determined}
+use Rattle.aplsv_top.proofs.Determined.{Answers, AnswersBehind}
 use Rattle.aplsv_top.proofs.Ended.{DealingsFit, fit_at_end, same_dealings, same_parts}
 use Rattle.aplsv_top.proofs.Files.{BeginsWith, KnownReplies, OneText, ServeAlike, files_are_determined, holds_at_start, known_run}
-use Rattle.aplsv_top.proofs.Heard.{AreApart, AreApartFrom, AreHeard, ascending_apart}
+use Rattle.aplsv_top.proofs.Heard.{AreApartFrom, AreHeard, AreUsersApart, ascending_apart}
 use Rattle.aplsv_top.proofs.Level.{AreTame}
 use Rattle.aplsv_top.proofs.OneRun.{IsRepliedJournal, before_turns, one_journal, tame, users_left}
 use Rattle.aplsv_top.proofs.Shelves.{FitShelf, fit_earlier, fit_one}
@@ -47,13 +49,14 @@ same_list : (dealings : Dealings) (users : List PlainUser) → map (λ (user : P
 same_list dealings [] = refl
 same_list dealings (user ∷ users) = ap (λ (numbers : List ℕ). user.number ∷ numbers) (same_list dealings users)
 
-people : (dealings : Dealings) (bundle : PlainBundle) → IsBundle bundle → (let numbers : List ℕ = numbers_of (map (newcomer dealings) bundle.users) in AreApartFrom clock_party numbers × (AreApartFrom text_party numbers × AreApart numbers))
-people dealings bundle rules = (
-  no_auxiliary dealings bundle.users clock_party (omega arith) rules.each,
-  (
-    no_auxiliary dealings bundle.users text_party (omega arith) rules.each,
-    ascending_apart (numbers_of (map (newcomer dealings) bundle.users)) (subst Ascend (same_list dealings bundle.users) rules.ascending),
-  ),
+no_auxiliaries : (dealings : Dealings) (users : List PlainUser) → All IsUser users → (kind : AuxiliaryKind) → AreApartFrom (party_of kind) (numbers_of (map (newcomer dealings) users))
+no_auxiliaries dealings users each Clock = no_auxiliary dealings users clock_party (omega arith) each
+no_auxiliaries dealings users each TextFiles = no_auxiliary dealings users text_party (omega arith) each
+
+users_apart : (dealings : Dealings) (bundle : PlainBundle) → IsBundle bundle → AreUsersApart (numbers_of (map (newcomer dealings) bundle.users))
+users_apart dealings bundle rules = (
+  no_auxiliaries dealings bundle.users rules.each,
+  ascending_apart (numbers_of (map (newcomer dealings) bundle.users)) (subst Ascend (same_list dealings bundle.users) rules.ascending),
 )
 
 -- newcomers heard nothing
@@ -100,16 +103,27 @@ module _ (one_text : OneText) {C T K : Type 0} (ticks : C → Option Ticks) (clo
     fitting : DealingsFit (FitShelf told faults) (fit_earlier told faults) (fit_one told faults) run.run.dealings places bundle.users
     fitting = dealings_fit told faults run.run.dealings bundle.users places shelves shelves_then run.run.run.shelves_served none.saved same
 
+    clock_answers : Answers (λ (old : C) (party : ℕ) (new : C). new ≡ old) (λ old party value answer new. RepliesByReading ticks clock_faults old value answer new) (λ c. ticks c ≡ Some readings) clock_party journal
+    clock_answers = (clock, ticking, (clock_then, (run.run.run.parts Clock).answers))
+
+    files_answer : Answers (λ (old : Served T) (party : ℕ) (new : Served T). new ≡ forgotten old) (KnownReplies one_text text_told text_faults) (BeginsWith one_text text_told text_faults content) text_party journal
+    files_answer = (record { store = text; state = idle }, record { tells = telling; state = refl }, (record { store = text_then; state = run.state }, known_run one_text text_told text_faults _ _ _ (run.run.run.parts TextFiles).answers none.files))
+
+    -- what answers behind each has its run
+    each_answers : (kind : AuxiliaryKind) → AnswersBehind (λ (old : C) (party : ℕ) (new : C). new ≡ old) (λ old party value answer new. RepliesByReading ticks clock_faults old value answer new) (λ c. ticks c ≡ Some readings)
+        (λ (old : Served T) (party : ℕ) (new : Served T). new ≡ forgotten old) (KnownReplies one_text text_told text_faults) (BeginsWith one_text text_told text_faults content) kind journal
+    each_answers Clock = clock_answers
+    each_answers TextFiles = files_answer
+
     replied : Replied run.run.dealings journal
     replied = record {
       turns = run.run.turns.turns;
-      ten_answers = (clock, ticking, (clock_then, (run.run.run.parts Clock).answers));
-      twenty_answers = (record { store = text; state = idle }, record { tells = telling; state = refl }, (record { store = text_then; state = run.state }, known_run one_text text_told text_faults _ _ _ (run.run.run.parts TextFiles).answers none.files));
+      answers = each_answers;
       fits = fit_at_end (FitShelf told faults) (fit_earlier told faults) (fit_one told faults) run.run.dealings journal places bundle.users
           (users_left bundle run.run.dealings journal run.run.turns.turns) transcripts
           ((turns_tame run.run.turns.turns.count).later (before_turns bundle run.run.dealings journal run.run.turns.turns))
           (subst (λ (j : Entries). AreHeard j (users_left bundle run.run.dealings journal run.run.turns.turns)) run.run.turns.turns.last
-          ((turns_tame run.run.turns.turns.count).heard (before_turns bundle run.run.dealings journal run.run.turns.turns) (people run.run.dealings bundle rules) (heard_nothing run.run.dealings bundle.users)))
+          ((turns_tame run.run.turns.turns.count).heard (before_turns bundle run.run.dealings journal run.run.turns.turns) (users_apart run.run.dealings bundle rules) (heard_nothing run.run.dealings bundle.users)))
           run.run.run.users fitting;
     }
 
