@@ -31,9 +31,7 @@ enter-requires-clause-settled c =
     settled_sound m.workspace empty_workspace before c.settle.new.self c.requires.sound with
 
 pub enter-requires-clause-shallow : goal.enter-requires-clause-shallow
-enter-requires-clause-shallow c =
-    let few : length c.args.interpreter.now.workspace.frames < most_depth = shallow most_depth (length c.args.interpreter.now.workspace.frames) (sym c.is_too_deep.ensures ∙ c.if-is_too_deep.false) in
-    subst (λ (x : PlainInterpreter). length x.workspace.frames < most_depth) (sym c.interpreter.view_is) few
+enter-requires-clause-shallow c = shallow most_depth (length c.args.interpreter.now.workspace.frames) (sym c.is_too_deep.ensures ∙ c.if-is_too_deep.false)
 
 pub returns-then-has_line-clause-comes : goal.returns-then-has_line-clause-comes
 returns-then-has_line-clause-comes c =
