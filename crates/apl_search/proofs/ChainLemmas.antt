@@ -1,32 +1,19 @@
--- Chains of places by distance: each chain goes over the places of its distance, and the first place of a number heads one.
-use Rattle.std.proofs.Common.{◌≡◌, ℕ, suc, ◌+◌, ◌<◌, ◌≤◌, ◌≤ℤ◌, ◌<ℤ◌, ℤ, pos, Bool, true, false, not, All, List, [], ◌∷◌, ◌++◌, map, length, length-set, get_or, drop, set, replicate, refl, sym, ap, subst, ◌∙◌, inl, inr, arith, append-nil, append_assoc, add-zero, zero-add, one-add, eq-eqb, ne_eqb}
-use Rattle.std.specs.List.{enumerate_from, position_or_len}
+-- Chains of places by distance: the first place of a number heads one.
+use Rattle.std.proofs.Common.{◌≡◌, ℕ, ◌+◌, ◌<◌, ◌≤◌, ◌≤ℤ◌, ◌<ℤ◌, ℤ, pos, Bool, not, All, List, [], ◌∷◌, length, length-set, get_or, set, replicate, refl, sym, ap, subst, ◌∙◌, inl, inr, arith, zero-add, eq-eqb, ne_eqb}
+use Rattle.std.specs.List.{position_or_len}
 use Rattle.std.specs.Ordering.{int_eq}
 use Rattle.std.proofs.lemmas.Bool.{cases_eq, false_from_ne_true}
 use Rattle.std.proofs.lemmas.Int.{ints}
 use Rattle.std.proofs.lemmas.Bool.Decides.{Decides-int_eq}
-use Rattle.std.proofs.lemmas.List.{drop_more, drop_all, get_or-set_same, get_or-set_other, get_or-replicate, length-replicate, drop-drop}
+use Rattle.std.proofs.lemmas.List.{drop_more, drop_all, get_or-set_same, get_or-set_other, get_or-replicate, length-replicate}
 use Rattle.std.proofs.lemmas.List.Sums.{position_or_len_is, prefix_len-le-length}
 use Rattle.std.proofs.lemmas.List.Elements.{All-head, All-tail}
-use Rattle.apl_search.specs.Grade.{with_places}
 use Rattle.apl_search.specs.declared.chains.Chains.{Chains}
-use Rattle.apl_search.specs.Chains.{AreChains, AreChainsFromLeast, IsSpan, at_distance, distance, first_from, is_at, place_numbers}
+use Rattle.apl_search.specs.Chains.{AreChains, AreChainsFromLeast, first_from}
+use Rattle.apl_search.specs.Distances.{IsSpan, distance, is_at}
+use Rattle.apl_search.proofs.SpanLemmas.{near_from_least}
 
 -- ---- distances
-
-pub near_from_least : (list : List ℤ) (least greatest : ℤ) (count : ℕ) → IsSpan list least greatest count → All (λ number. distance least number < count) list
-near_from_least list least greatest count span k d below =
-    within (get_or list k d) (span.above k d below) (span.below k d below)
-  where
-    within : (number : ℤ) → least ≤ℤ number → number ≤ℤ greatest → distance least number < count
-    within number p q = let e = span.counted in omega (arith, ints)
-
-pub near_from_greatest : (list : List ℤ) (least greatest : ℤ) (count : ℕ) → IsSpan list least greatest count → All (λ number. distance greatest number < count) list
-near_from_greatest list least greatest count span k d below =
-    within (get_or list k d) (span.above k d below) (span.below k d below)
-  where
-    within : (number : ℤ) → least ≤ℤ number → number ≤ℤ greatest → distance greatest number < count
-    within number p q = let e = span.counted in omega (arith, ints)
 
 -- two numbers on one side of a base and as far from it are one
 same_from_distance : (base a b : ℤ) → base ≤ℤ a → base ≤ℤ b → distance base a ≡ distance base b → a ≡ b
@@ -113,112 +100,6 @@ all_chains base list at span heads nexts made e = record {
   next = λ place below. made.next place (omega arith) below;
 }
 
--- ---- what a chain goes over
-
--- items with their places, from one on
-abbrev pub placed : {T : Type 0} → ℕ → List T → List (T × ℕ)
-placed n xs = map (λ p. (p.1, p.0)) (enumerate_from n xs)
-
--- the numbers from a place on that are so far from a base
-abbrev pub rest : ℤ → List ℤ → ℕ → ℕ → List (ℤ × ℕ)
-rest base list from far = at_distance base far (placed from (drop from list))
-
-none_before : (p : ℤ → Bool) (x : ℤ) (xs : List ℤ) → p x ≡ true → position_or_len p (x ∷ xs) ≡ 0
-none_before p x xs e = rw e refl
-
-one_before : (p : ℤ → Bool) (x : ℤ) (xs : List ℤ) → p x ≡ false → position_or_len p (x ∷ xs) ≡ suc (position_or_len p xs)
-one_before p x xs e = rw e (one-add (position_or_len p xs))
-
-skip : (base : ℤ) (far n : ℕ) (xs : List ℤ) → at_distance base far (placed n xs) ≡ at_distance base far (placed (n + position_or_len (is_at base far) xs) (drop (position_or_len (is_at base far) xs) xs))
-skip base far n [] = refl
-skip base far n (x ∷ xs) = by_test (is_at base far x) refl (skip base far (n + 1) xs)
-  where
-    left_out : is_at base far x ≡ false → at_distance base far (placed n (x ∷ xs)) ≡ at_distance base far (placed (n + 1) xs)
-    left_out e = rw e refl
-
-    same_sum : (k : ℕ) → n + 1 + k ≡ n + suc k
-    same_sum k = omega arith
-
-    by_test : (b : Bool) → is_at base far x ≡ b
-        → at_distance base far (placed (n + 1) xs) ≡ at_distance base far (placed (n + 1 + position_or_len (is_at base far) xs) (drop (position_or_len (is_at base far) xs) xs))
-        → at_distance base far (placed n (x ∷ xs)) ≡ at_distance base far (placed (n + position_or_len (is_at base far) (x ∷ xs)) (drop (position_or_len (is_at base far) (x ∷ xs)) (x ∷ xs)))
-    by_test true e rest_is =
-        ap (λ (m : ℕ). at_distance base far (placed m (x ∷ xs))) (sym (add-zero n))
-        ∙ sym (ap (λ (k : ℕ). at_distance base far (placed (n + k) (drop k (x ∷ xs)))) (none_before (is_at base far) x xs e))
-    by_test false e rest_is =
-        left_out e ∙ rest_is
-        ∙ ap (λ (m : ℕ). at_distance base far (placed m (drop (position_or_len (is_at base far) xs) xs))) (same_sum (position_or_len (is_at base far) xs))
-        ∙ sym (ap (λ (k : ℕ). at_distance base far (placed (n + k) (drop k (x ∷ xs)))) (one_before (is_at base far) x xs e))
-
-found_there : (p : ℤ → Bool) (xs : List ℤ) → position_or_len p (drop (position_or_len p xs) xs) ≡ 0
-found_there p [] = refl
-found_there p (x ∷ xs) = by_test (p x) refl (found_there p xs)
-  where
-    by_test : (b : Bool) → p x ≡ b → position_or_len p (drop (position_or_len p xs) xs) ≡ 0 → position_or_len p (drop (position_or_len p (x ∷ xs)) (x ∷ xs)) ≡ 0
-    by_test true e rest_is = ap (λ (k : ℕ). position_or_len p (drop k (x ∷ xs))) (none_before p x xs e) ∙ none_before p x xs e
-    by_test false e rest_is = ap (λ (k : ℕ). position_or_len p (drop k (x ∷ xs))) (one_before p x xs e) ∙ rest_is
-
--- a chain goes on at its first place from here on
-pub rest_first : (base : ℤ) (list : List ℤ) (from far : ℕ) → rest base list from far ≡ rest base list (first_from base list from far) far
-rest_first base list from far =
-    let k = position_or_len (is_at base far) (drop from list) in
-    skip base far from (drop from list) ∙ ap (λ (ys : List ℤ). at_distance base far (placed (from + k) ys)) (drop-drop k from list)
-
-pub first_again : (base : ℤ) (list : List ℤ) (from far : ℕ) → first_from base list (first_from base list from far) far ≡ first_from base list from far
-first_again base list from far =
-    let k : ℕ = position_or_len (is_at base far) (drop from list) in
-    ap (λ (ys : List ℤ). from + k + position_or_len (is_at base far) ys) (sym (drop-drop k from list))
-    ∙ ap (λ (m : ℕ). from + k + m) (found_there (is_at base far) (drop from list)) ∙ add-zero (from + k)
-
-far_here : (base : ℤ) (list : List ℤ) (at far : ℕ) → at < length list → first_from base list at far ≡ at → distance base (get_or list at (pos 0)) ≡ far
-far_here base list at far below is = elim (cases_eq (distance base (get_or list at (pos 0))) far) [
-  | inl e ↦ e
-  | inr ne ↦ absurd (let later = first_later base list at far below ne in omega arith)
-]
-
-rest_here : (base : ℤ) (list : List ℤ) (at far : ℕ) → at < length list → distance base (get_or list at (pos 0)) ≡ far
-    → rest base list at far ≡ (get_or list at (pos 0), at) ∷ rest base list (at + 1) far
-rest_here base list at far below here =
-    ap (λ (ys : List ℤ). at_distance base far (placed at ys)) (drop_more list at (pos 0) below)
-    ∙ rw (eq-eqb (distance base (get_or list at (pos 0))) far here) refl
-
-pub rest_past : (base : ℤ) (list : List ℤ) (at far : ℕ) → length list ≤ at → rest base list at far ≡ []
-rest_past base list at far past = ap (λ (ys : List ℤ). at_distance base far (placed at ys)) (drop_all at list past)
-
--- one place more of a chain
-pub record GoesOn (base : ℤ) (list : List ℤ) (at far : ℕ) (so_far all : List ℤ) : Type 0 where
-  pub shown : so_far ++ place_numbers (rest base list at far) ≡ all
-  pub first : first_from base list at far ≡ at
-
-pub goes_on : (base : ℤ) (list : List ℤ) (at far next : ℕ) (so_far all : List ℤ) → GoesOn base list at far so_far all → at < length list
-    → next ≡ first_from base list (at + 1) (distance base (get_or list at (pos 0))) → GoesOn base list next far (so_far ++ pos (at + 1) ∷ []) all
-goes_on base list at far next so_far all before below is =
-    let here = far_here base list at far below before.first in
-    let on : next ≡ first_from base list (at + 1) far = is ∙ ap (λ (k : ℕ). first_from base list (at + 1) k) here in
-    record {
-      shown = append_assoc so_far (pos (at + 1) ∷ []) (place_numbers (rest base list next far))
-          ∙ ap (λ (k : ℕ). so_far ++ (pos (at + 1) ∷ place_numbers (rest base list k far))) on
-          ∙ sym (ap (λ (ys : List (ℤ × ℕ)). so_far ++ (pos (at + 1) ∷ place_numbers ys)) (rest_first base list (at + 1) far))
-          ∙ sym (ap (λ (ys : List (ℤ × ℕ)). so_far ++ place_numbers ys) (rest_here base list at far below here)) ∙ before.shown;
-      first = ap (λ (k : ℕ). first_from base list k far) on ∙ first_again base list (at + 1) far ∙ sym on;
-    }
-
-pub begins : (base : ℤ) (list : List ℤ) (far start : ℕ) (heads nexts : List ℕ) (so_far : List ℤ) → AreChains base list heads nexts → far < length heads → start ≡ get_or heads far 0
-    → GoesOn base list start far so_far (so_far ++ place_numbers (at_distance base far (with_places list)))
-begins base list far start heads nexts so_far chains below is =
-    let on : start ≡ first_from base list 0 far = is ∙ chains.head far below in
-    record {
-      shown = ap (λ (k : ℕ). so_far ++ place_numbers (rest base list k far)) on ∙ sym (ap (λ (ys : List (ℤ × ℕ)). so_far ++ place_numbers ys) (rest_first base list 0 far));
-      first = ap (λ (k : ℕ). first_from base list k far) on ∙ first_again base list 0 far ∙ sym on;
-    }
-
-pub is_over : (base : ℤ) (list : List ℤ) (at far : ℕ) (so_far all : List ℤ) → GoesOn base list at far so_far all → length list ≤ at → so_far ≡ all
-is_over base list at far so_far all before past =
-    sym (append-nil so_far) ∙ sym (ap (λ (ys : List (ℤ × ℕ)). so_far ++ place_numbers ys) (rest_past base list at far past)) ∙ before.shown
-
-pub next_is_later : (base : ℤ) (list : List ℤ) (at far next : ℕ) → next ≡ first_from base list (at + 1) far → at < next
-next_is_later base list at far next is = omega arith
-
 -- ---- the first place of a number
 
 same_position : (p q : ℤ → Bool) (list : List ℤ) → All (λ x. p x ≡ q x) list → position_or_len p list ≡ position_or_len q list
@@ -261,13 +142,6 @@ nowhere_beyond base number list span far near = nowhere number list (λ k d belo
   where
     apart : (x : ℤ) → distance base x < span → number ≡ x → ⊥
     apart x p e = let same = ap (distance base) e in absurd (omega arith)
-
--- the number at a place is nearer than all may be far, where the base is given in other words
-pub is_near : (base other : ℤ) (list : List ℤ) (place far span : ℕ) → other ≡ base → far ≡ distance other (get_or list place (pos 0)) → All (λ number. distance base number < span) list → place < length list → far < span
-is_near base other list place far span same is near below =
-    let at = near place (pos 0) below in
-    let told = is ∙ ap (λ (b : ℤ). distance b (get_or list place (pos 0))) same in
-    omega arith
 
 pub from_least : (list : List ℤ) (least greatest other : ℤ) (count : ℕ) (chains : Chains) → IsSpan list least greatest count → other ≡ least → chains.base ≡ other → length chains.heads.items ≡ count
     → AreChains other list chains.heads.items chains.nexts.items → AreChainsFromLeast list chains

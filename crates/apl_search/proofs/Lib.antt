@@ -1,4 +1,5 @@
 mod ChainLemmas
+mod CountingLemmas
 mod Counts
 mod DigitLemmas
 mod DistanceLemmas
@@ -8,3 +9,4 @@ mod IndexLemmas
 mod Orders
 mod PlacedLemmas
 mod RoundTripLemmas
+mod SpanLemmas

@@ -1,5 +1,6 @@
 pub mod Chains
 pub mod Decode
+pub mod Distances
 pub mod Encode
 pub mod Grade
 pub mod Lookup

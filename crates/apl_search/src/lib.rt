@@ -2,6 +2,7 @@
 #![tactic(auto)]
 
 mod chains;
+mod counting;
 mod decoding;
 mod encoding;
 mod grade;
@@ -10,6 +11,7 @@ pub mod laws;
 mod lookup;
 mod numbers;
 mod places;
+mod spans;
 
 pub use decoding::decode;
 pub use encoding::encode;

@@ -8,9 +8,10 @@ ghost use Rattle.apl_scalar.specs.Table.{truth};
 ghost use Rattle.apl_search.specs.Chains.{AreChainsFromLeast};
 ghost use Rattle.apl_search.specs.Lookup.{first_places, index_of_of, member_of, memberships};
 
-use crate::chains::{Chains, chains_of, first_by_chains, small_span};
+use crate::chains::{Chains, chains_of, first_by_chains};
 use crate::index::{first_place, has, index_for, is_few};
 use crate::places::place_number;
+use crate::spans::small_span;
 use apl_arrays::{Array, Fail, Items, ItemsRef, List, NumberList, Report, WantOfMemory};
 use apl_scalar::rules::truth;
 use std::alloc::Global;

@@ -18,5 +18,6 @@ pub mod NamingLemmas
 pub mod OrderLemmas
 pub mod PickLemmas
 pub mod PointLemmas
+pub mod RunLemmas
 pub mod SubscriptLemmas
 pub mod WantLemmas

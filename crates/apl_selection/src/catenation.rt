@@ -11,6 +11,7 @@ ghost use Rattle.apl_selection.specs.Catenation.{agree_around, are_near, are_no_
 ghost use Rattle.apl_selection.specs.Listing.{vector_shape};
 
 use crate::listing::{item_in, vector_shape, with_axis};
+use crate::runs::push_run;
 use crate::strides::length_of;
 use apl_arrays::{
     Array, Fail, Glyph, Items, ItemsRef, List, NumberList, RANK_LIMIT, Report, WantOfMemory, Way,
@@ -296,12 +297,27 @@ fn push_part<T: Copy + Drop>(
     requires outer { outer < split.outer }
     ensures items { made.new.items ≡ made.old.items ++ moved_list fill list.now (span * split.inner) (λ place. Some (place_in (length list.now) (outer * (span * split.inner) + place))) }
     ensures len { vec_len made.new ≡ vec_len made.old + span * split.inner }
-    ensures room { vec_capacity made.new ≡ vec_capacity made.old }
+    ensures room { vec_capacity made.old ≤ vec_capacity made.new }
 {
     let count = span * split.inner;
     let start = outer * count;
+    let end = start + count;
+    if list.len() != 1 && end <= list.len() {
+        push_run(made, &list[start..end]);
+    } else {
+        push_each(made, list, fill, start, count);
+    }
+}
+
+/// Adds so many items of a list from a place on; a lone item stands for all.
+fn push_each<T: Copy + Drop>(made: &mut Vec<T>, list: &[T], fill: T, start: usize, count: usize)
+    requires room { vec_len made.old + count ≤ vec_capacity made.old }
+    requires small { start + count ≤ 16384 }
+    ensures items { made.new.items ≡ made.old.items ++ moved_list fill list.now count (λ place. Some (place_in (length list.now) (start + place))) }
+    ensures len { vec_len made.new ≡ vec_len made.old + count }
+    ensures room { vec_capacity made.old ≤ vec_capacity made.new }
+{
     for place in 0..count {
-        let at = start + place;
-        made.push_reserved(item_in(list, at, fill));
+        made.push_reserved(item_in(list, start + place, fill));
     }
 }

@@ -11,6 +11,7 @@ mod indexing;
 pub mod laws;
 mod listing;
 mod picks;
+mod runs;
 mod strides;
 mod subscripts;
 

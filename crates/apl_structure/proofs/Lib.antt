@@ -9,6 +9,7 @@ pub mod ReshapeLemmas
 pub mod ReverseLemmas
 pub mod RotateLaws
 pub mod RotateLemmas
+pub mod RunLemmas
 pub mod TakeLaws
 pub mod TakeLemmas
 pub mod TransposeLemmas

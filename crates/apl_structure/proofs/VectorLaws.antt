@@ -47,13 +47,16 @@ pick_of n long place rule =
     alone None = refl
     alone (Some p) = let same : p * 1 + 0 ≡ p = omega arith in ap (λ (k : ℕ). Some k) same
 
-picked_vector : (count long : ℕ) (items made : PlainItems) (rule : ℕ → ℕ → Option ℕ) → moved_items items count (rule 0) ≡ made → picked (count ∷ []) (long ∷ []) items rule ≡ as_vector made
-picked_vector count long items made rule is =
+pub picked_on : (count long : ℕ) (items made : PlainItems) (rule : ℕ → ℕ → Option ℕ) → moved_items items count (rule 0) ≡ made → picked (count ∷ []) (long ∷ []) items rule ≡ array_of (count ∷ []) made
+picked_on count long items made rule is =
     let one : 1 * count ≡ count = omega arith in
-    let all = sym (ap item_count is) ∙ count_of_moved items count (rule 0) in
     ap (λ (n : ℕ). array_of (count ∷ []) (moved_items items n (source_by_axes (count ∷ []) (strided (long ∷ []) rule)))) one
     ∙ ap (array_of (count ∷ [])) (same_moved items count (source_by_axes (count ∷ []) (strided (long ∷ []) rule)) (rule 0) (λ place h. pick_of count long place rule) ∙ is)
-    ∙ ap (λ (n : ℕ). array_of (n ∷ []) made) (sym all)
+
+picked_vector : (count long : ℕ) (items made : PlainItems) (rule : ℕ → ℕ → Option ℕ) → moved_items items count (rule 0) ≡ made → picked (count ∷ []) (long ∷ []) items rule ≡ as_vector made
+picked_vector count long items made rule is =
+    let all = sym (ap item_count is) ∙ count_of_moved items count (rule 0) in
+    picked_on count long items made rule is ∙ ap (λ (n : ℕ). array_of (n ∷ []) made) (sym all)
 
 -- ---- the first items
 
@@ -81,7 +84,7 @@ first_list {T} fill list count =
     told : (k : ℕ) → taken_from (pos count) (length list) k ≡ cond (nat_lt k (length list)) (Some k) None
     told k = rw (not_negative count) refl
 
-first_moved : (items : PlainItems) (count : ℕ) → moved_items items count (taken_from (pos count) (item_count items)) ≡ first_items count items
+pub first_moved : (items : PlainItems) (count : ℕ) → moved_items items count (taken_from (pos count) (item_count items)) ≡ first_items count items
 first_moved (numbers list) count = ap numbers (first_list (pos 0) list count)
 first_moved (chars list) count = ap chars (first_list blank list count)
 
@@ -95,7 +98,7 @@ take_first count items few =
 -- ---- the last items
 
 -- as far from the end
-from_end : ℕ → ℕ → ℕ → Option ℕ
+unfoldable pub from_end : ℕ → ℕ → ℕ → Option ℕ
 from_end count long along = cond (nat_le count (along + long)) (Some (along + long - count)) None
 
 last_at : {T : Type 0} (fill : T) (list : List T) (count k : ℕ) → k < count → (enough : Bool) → nat_le count (k + length list) ≡ enough
@@ -120,7 +123,7 @@ last_list {T} fill list count =
     let both = length-append (replicate (count - length list) fill) (drop (length list - count) list) in
     sym (fill_by_all (λ k. item_or fill list (from_end count (length list) k)) xs count fill (omega arith) (λ k h. last_at fill list count k h (nat_le count (k + length list)) refl))
 
-last_moved : (items : PlainItems) (count : ℕ) → moved_items items count (from_end count (item_count items)) ≡ last_items count items
+pub last_moved : (items : PlainItems) (count : ℕ) → moved_items items count (from_end count (item_count items)) ≡ last_items count items
 last_moved (numbers list) count = ap numbers (last_list (pos 0) list count)
 last_moved (chars list) count = ap chars (last_list blank list count)
 
@@ -154,7 +157,7 @@ after_list {T} fill list count =
     told : (k : ℕ) → k + count < length list → remaining_from (pos count) (length list) k ≡ Some (k + count)
     told k h = rw (not_negative count, is_less (k + count) (length list) h) refl
 
-after_moved : (items : PlainItems) (count : ℕ) → moved_items items (item_count items - count) (remaining_from (pos count) (item_count items)) ≡ items_after count items
+pub after_moved : (items : PlainItems) (count : ℕ) → moved_items items (item_count items - count) (remaining_from (pos count) (item_count items)) ≡ items_after count items
 after_moved (numbers list) count = ap numbers (after_list (pos 0) list count)
 after_moved (chars list) count = ap chars (after_list blank list count)
 
@@ -173,7 +176,7 @@ before_list {T} fill list count source told =
     sym (fill_by_all (λ k. item_or fill list (source k)) (take (length list - count) list) (length list - count) fill whole
     (λ k h. get_or-take (length list - count) list k fill h ∙ sym (ap (item_or fill list) (told k h))))
 
-before_moved : (items : PlainItems) (count : ℕ) (source : ℕ → Option ℕ) → ((k : ℕ) → k < item_count items - count → source k ≡ Some k)
+pub before_moved : (items : PlainItems) (count : ℕ) (source : ℕ → Option ℕ) → ((k : ℕ) → k < item_count items - count → source k ≡ Some k)
     → moved_items items (item_count items - count) source ≡ items_before count items
 before_moved (numbers list) count source told = ap numbers (before_list (pos 0) list count source told)
 before_moved (chars list) count source told = ap chars (before_list blank list count source told)

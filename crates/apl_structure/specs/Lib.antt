@@ -6,6 +6,7 @@ pub mod Plain
 pub mod Reshaping
 pub mod Reversal
 pub mod Rotation
+pub mod Runs
 pub mod StructureLaws
 pub mod Taking
 pub mod Transposition

@@ -10,6 +10,7 @@ mod plain;
 mod reshaping;
 mod reversal;
 mod rotation;
+mod runs;
 mod taking;
 mod transposition;
 

@@ -1,10 +1,14 @@
 ghost use Rattle.std.specs.Prelude.{◌≡◌, ◌-◌, ◌<◌, None, pos, IfOk, IsOk, length, map, slice_index, slice_index_or, unsigned_abs};
+ghost use Rattle.apl_arrays.specs.Array.{FitsLimits, element_count, item_count, seen_items};
 ghost use Rattle.apl_items.specs.Answers.{Answers, AnswersFirst, first_report};
 ghost use Rattle.apl_items.specs.Places.{OnWantOfMemory, places};
+ghost use Rattle.apl_selection.specs.Picks.{picked};
+ghost use Rattle.apl_structure.specs.Lengths.{lengths};
 ghost use Rattle.apl_structure.specs.Taking.{axes_faults, axes_for, drop_of, remaining, remaining_from, take_of, taken_from};
 
 use crate::lengths::{capped, pass_limits};
-use apl_arrays::{Array, Fail, RANK_LIMIT, Report, WantOfMemory};
+use crate::runs::{remaining_run, taken_run};
+use apl_arrays::{Array, Fail, ItemsRef, RANK_LIMIT, Report, WantOfMemory};
 use apl_selection::{Picks, length_of, picked};
 use std::alloc::Global;
 
@@ -66,8 +70,7 @@ fn taken(alloc: Global, a: &Array, b: &Array) -> Result<Array, Fail>
     }
     let axes = axes_for(alloc, a.items().len(), b)?;
     let source = axes.as_slice();
-    let picks = TakePlaces { numbers, source };
-    Ok(picked(alloc, items, source, shape, &picks)?)
+    Ok(taken_items(alloc, numbers, items, source, shape)?)
 }
 
 /// Per axis of B the items without the first or the last.
@@ -80,8 +83,7 @@ fn remaining(alloc: Global, a: &Array, b: &Array) -> Result<Array, WantOfMemory>
     let source = axes.as_slice();
     let lengths = remaining_shape(alloc, numbers, source)?;
     let shape = lengths.as_slice();
-    let picks = DropPlaces { numbers, source };
-    picked(alloc, b.items(), source, shape, &picks)
+    remaining_items(alloc, numbers, b.items(), source, shape)
 }
 
 /// The axes of B, where a scalar has one place along each of so many.
@@ -123,6 +125,53 @@ fn number_for(numbers: &[i64], axis: usize) -> i64
         Some(number) => *number,
         None => 0,
     }
+}
+
+/// The array of a shape with the first items along each axis of a source, or the last: of a vector as one run.
+fn taken_items(
+    alloc: Global,
+    numbers: &[i64],
+    items: ItemsRef<'_>,
+    source: &[u32],
+    shape: &[u32],
+) -> Result<Array, WantOfMemory>
+    requires fits { FitsLimits shape.now }
+    requires source { FitsLimits source.now }
+    requires whole { element_count source.now ≡ item_count (seen_items items) }
+    requires rank { length source.now ≡ length shape.now }
+    requires shape { shape.now ≡ lengths numbers.now }
+    ensures { IfOk result (λ array. array ≡ picked shape.now source.now (seen_items items.entry) (λ axis along. taken_from (slice_index_or numbers.now axis (pos 0)) (slice_index source.now axis) along)) }
+{
+    if source.len() == 1 {
+        let run = taken_run(alloc, items, number_for(numbers, 0))?;
+        return Array::shaped(alloc, shape, run);
+    }
+    let picks = TakePlaces { numbers, source };
+    picked(alloc, items, source, shape, &picks)
+}
+
+/// The array of a shape with the items along each axis of a source without the first, or without the last: of a vector as
+/// one run.
+fn remaining_items(
+    alloc: Global,
+    numbers: &[i64],
+    items: ItemsRef<'_>,
+    source: &[u32],
+    shape: &[u32],
+) -> Result<Array, WantOfMemory>
+    requires fits { FitsLimits shape.now }
+    requires source { FitsLimits source.now }
+    requires whole { element_count source.now ≡ item_count (seen_items items) }
+    requires rank { length source.now ≡ length shape.now }
+    requires shape { shape.now ≡ map (λ axis. slice_index source.now axis - unsigned_abs (slice_index_or numbers.now axis (pos 0))) (places (length source.now)) }
+    ensures { IfOk result (λ array. array ≡ picked shape.now source.now (seen_items items.entry) (λ axis along. remaining_from (slice_index_or numbers.now axis (pos 0)) (slice_index source.now axis) along)) }
+{
+    if source.len() == 1 {
+        let run = remaining_run(alloc, items, number_for(numbers, 0))?;
+        return Array::shaped(alloc, shape, run);
+    }
+    let picks = DropPlaces { numbers, source };
+    picked(alloc, items, source, shape, &picks)
 }
 
 /// The places of a take.

@@ -1,8 +1,10 @@
 use Rattle.std.proofs.Common.{◌≡◌, ◌+◌, ◌-◌, ◌<◌, ℕ, ℤ, pos, length, get_or, set, subst, sym, arith, rules, to_z, of_z, w64}
 use Rattle.std.proofs.lemmas.Int.{to_z-of_z}
 use Rattle.std.proofs.lemmas.List.{get_or_read}
-use Rattle.apl_search.specs.Chains.{AreChains, distance}
-use Rattle.apl_search.proofs.ChainLemmas.{AreChainsFrom, all_chains, is_near, made_none, one_more_chain}
+use Rattle.apl_search.specs.Chains.{AreChains}
+use Rattle.apl_search.specs.Distances.{distance}
+use Rattle.apl_search.proofs.ChainLemmas.{AreChainsFrom, all_chains, made_none, one_more_chain}
+use Rattle.apl_search.proofs.SpanLemmas.{is_near}
 use Rattle.apl_search.proofs.chains.chains_of.Goals as goal
 
 pub loop-gone-init : goal.loop-gone-init

@@ -1,7 +1,8 @@
 use Rattle.std.proofs.Common.{◌≡◌, ◌<◌, ◌≤◌, ◌≤ℤ◌, ◌<ℤ◌, ℕ, length, get_or, SFits, w64, sym, ap, ◌∙◌, arith, rules}
 use Rattle.std.proofs.lemmas.Int.{ints}
 use Rattle.std.proofs.lemmas.List.{get_or_read}
-use Rattle.apl_search.specs.Chains.{distance, first_from}
+use Rattle.apl_search.specs.Chains.{first_from}
+use Rattle.apl_search.specs.Distances.{distance}
 use Rattle.apl_search.proofs.ChainLemmas.{at_most_all, first_of_number, nowhere_below, nowhere_beyond}
 use Rattle.apl_search.proofs.chains.first_by_chains.Goals as goal
 

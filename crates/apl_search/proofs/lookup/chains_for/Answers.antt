@@ -1,7 +1,8 @@
 use Rattle.std.proofs.Common.{◌<◌, ℤ, All, SFits, of_z, to_z, w64, subst, sym, rules}
 use Rattle.std.proofs.lemmas.Int.{to_z-of_z}
-use Rattle.apl_search.specs.Chains.{distance}
-use Rattle.apl_search.proofs.ChainLemmas.{from_least, near_from_least}
+use Rattle.apl_search.specs.Distances.{distance}
+use Rattle.apl_search.proofs.ChainLemmas.{from_least}
+use Rattle.apl_search.proofs.SpanLemmas.{near_from_least}
 use Rattle.apl_search.proofs.lookup.chains_for.Goals as goal
 
 pub chains_of-requires-clause-near : goal.chains_of-requires-clause-near

@@ -1,7 +1,6 @@
-use Rattle.std.proofs.Common.{◌+◌, ◌*◌, ℕ, Option, Some, length, refl, ◌∙◌, arith}
-use Rattle.apl_items.specs.Extension.{place_in}
-use Rattle.apl_items.proofs.AlongLemmas.{one_item_more}
+use Rattle.std.proofs.Common.{◌≡◌, ◌+◌, ◌*◌, ℕ, length, refl, arith}
 use Rattle.apl_selection.proofs.JoinRowLemmas.{part_fits}
+use Rattle.apl_selection.proofs.RunLemmas.{run_is}
 use Rattle.apl_selection.proofs.catenation.push_part.Goals as goal
 
 pub overflow_mul-count : goal.overflow_mul-count
@@ -10,15 +9,15 @@ overflow_mul-count g c = let fits = part_fits c.args.outer c.args.split.outer c.
 pub overflow_mul-start : goal.overflow_mul-start
 overflow_mul-start g c = let fits = part_fits c.args.outer c.args.split.outer c.args.span c.args.split.inner c.requires.outer c.requires.small in omega (arith, fits)
 
-pub overflow_add-at : goal.overflow_add-at
-overflow_add-at g c = let fits = part_fits c.args.outer c.args.split.outer c.args.span c.args.split.inner c.requires.outer c.requires.small in omega (arith, fits)
+pub overflow_add-end : goal.overflow_add-end
+overflow_add-end g c = let fits = part_fits c.args.outer c.args.split.outer c.args.span c.args.split.inner c.requires.outer c.requires.small in omega (arith, fits)
 
-pub loop-place-preserved : goal.loop-place-preserved
-loop-place-preserved g c =
-    let source : ℕ → Option ℕ = λ place. Some (place_in (length c.args.list.now) (c.args.outer * (c.args.span * c.args.split.inner) + place)) in
-    record {
-      whole = omega (arith, c.push_reserved.ensures.len, c.loop-place.invariant.whole);
-      room = c.push_reserved.ensures.capacity ∙ c.loop-place.invariant.room;
-      items = one_item_more c.args.fill c.args.list.now source c.loop-place.place c.args.made.now.items c.loop-place.made.items _ (source c.loop-place.place) c.item_in.result c.loop-place.invariant.items refl
-          c.item_in.ensures c.push_reserved.ensures.items;
-    }
+pub push_each-requires-clause-small : goal.push_each-requires-clause-small
+push_each-requires-clause-small g c = let fits = part_fits c.args.outer c.args.split.outer c.args.span c.args.split.inner c.requires.outer c.requires.small in omega (arith, fits)
+
+pub returns-then-end-list-clause-items : goal.returns-then-end-list-clause-items
+returns-then-end-list-clause-items g c =
+    let count : ℕ = c.args.span * c.args.split.inner in
+    let start : ℕ = c.args.outer * (c.args.span * c.args.split.inner) in
+    let run = run_is c.args.fill c.args.list.now start count (start + count) (λ (e : length c.args.list.now ≡ 1). absurd (omega arith)) refl (omega arith) in
+    cc

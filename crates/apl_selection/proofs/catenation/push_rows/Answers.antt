@@ -1,4 +1,4 @@
-use Rattle.std.proofs.Common.{◌∙◌, arith, vec_len, vec_capacity}
+use Rattle.std.proofs.Common.{arith, vec_len, vec_capacity}
 use Rattle.apl_selection.proofs.JoinRowLemmas.{one_join_more, parts_of_row, parts_small, room_for_parts}
 use Rattle.apl_selection.proofs.catenation.push_rows.Goals as goal
 
@@ -28,7 +28,7 @@ loop-outer-preserved g c =
     let row = parts_of_row split.along c.args.spans.0 c.args.spans.1 split.inner c.requires.long in
     record {
       whole = omega (arith, row, c.push_part-in-loop-outer.ensures.len, c.push_part.ensures.len, c.loop-outer.invariant.whole);
-      room = c.push_part-in-loop-outer.ensures.room ∙ c.push_part.ensures.room ∙ c.loop-outer.invariant.room;
+      room = omega (arith, c.push_part-in-loop-outer.ensures.room, c.push_part.ensures.room, c.loop-outer.invariant.room);
       items = one_join_more c.args.fill c.args.a.now c.args.b.now split c.args.spans.0 c.args.spans.1 c.loop-outer.outer c.args.made.now.items c.loop-outer.made.items c.push_part.new.made.items
           c.push_part-in-loop-outer.new.made.items c.requires.long (omega arith) c.requires.a_reaches c.requires.b_reaches c.loop-outer.invariant.items c.push_part.ensures.items c.push_part-in-loop-outer.ensures.items;
     }
