@@ -3,6 +3,7 @@ pub mod Comments
 pub mod Entering
 pub mod Fitting
 pub mod FrameLaw
+pub mod FrameWeight
 pub mod Giving
 pub mod HeaderLaw
 pub mod InOrder
@@ -16,6 +17,7 @@ pub mod Looks
 pub mod NameLaw
 pub mod Places
 pub mod Rules
+pub mod Scanned
 pub mod Symbols
 pub mod Tables
 pub mod Whole
