@@ -28,7 +28,7 @@ use crate::seen::{following, takes, value_seen};
 use crate::waiting::{function_of, header_of, keep, line_numbered, make_room, stand_at};
 use apl_arrays::{Array, Fail, Line, Name, Report, WantOfMemory};
 use apl_statements::{Evaluation, Flow, Interpreter, Next, Purpose, Waiting};
-use apl_values::{LineReading, Place, read};
+use apl_values::{LineReading, Place, StackValue, read};
 use apl_workspace::{Args, DEPTH_LIMIT, Function};
 use line_trees::Form;
 use std::alloc::Global;
@@ -42,8 +42,8 @@ pub fn begin_input(interpreter: &mut Interpreter, reading: LineReading) -> Resul
     ensures memory { OnWantOfMemory result ((0 < interpreter.old.statements) × (is_misplaced immediate (line_tree_of (reading_tree reading)) ≡ false)) }
     ensures sound { IfOk result (IsFlow interpreter.new) }
 {
-    count_statement(interpreter)?;
-    begin_read(interpreter, Place::Immediate, reading)
+    let room = count_statement(interpreter)?;
+    begin_read(interpreter, room, Place::Immediate, reading)
 }
 
 /// Begins a text at a place. INTERRUPT where no statement may be begun, also where there is no memory.
@@ -53,13 +53,13 @@ pub fn begin_text(interpreter: &mut Interpreter, place: Place, text: &Line) -> R
     ensures sound { IfOk result (IsFlow interpreter.new) }
     ensures falls { IfOk result (λ next. flow_work interpreter.new next ≤ machine_work interpreter.old) }
 {
-    count_statement(interpreter)?;
+    let room = count_statement(interpreter)?;
     let reading = read(interpreter.alloc, &interpreter.workspace, text)?;
-    begin_read(interpreter, place, reading)
+    begin_read(interpreter, room, place, reading)
 }
 
-// A statement is begun; INTERRUPT where none may be.
-fn count_statement(interpreter: &mut Interpreter) -> Result<(), Report>
+// A statement is begun, and has a list for its values; INTERRUPT where none may be.
+fn count_statement(interpreter: &mut Interpreter) -> Result<Vec<StackValue>, Report>
     ensures ok { OnOk result ((0 < interpreter.old.statements) × (interpreter.new ≡ record interpreter.old { statements = interpreter.old.statements - 1 })) }
     ensures err { OnErr result (interpreter.new ≡ interpreter.old) }
     ensures refused { IfErr result (λ why. (why ≡ report.Interrupt) × (interpreter.old.statements ≡ 0)) }
@@ -68,11 +68,17 @@ fn count_statement(interpreter: &mut Interpreter) -> Result<(), Report>
         return Err(Report::Interrupt);
     }
     interpreter.statements -= 1;
-    Ok(())
+    Ok(interpreter.take_room())
 }
 
-// Begins a statement that was read. SYNTAX ERROR where it may not stand there, also where there is no memory to share it.
-fn begin_read(interpreter: &Interpreter, place: Place, reading: LineReading) -> Result<Flow, Fail>
+// Begins a statement that was read, with a list for its values. SYNTAX ERROR where it may not stand there, also where there is no
+// memory to share it.
+fn begin_read(
+    interpreter: &Interpreter,
+    room: Vec<StackValue>,
+    place: Place,
+    reading: LineReading,
+) -> Result<Flow, Fail>
     requires sound { IsLineReading reading }
     ensures comes { Comes interpreter.now (statement_leads interpreter.now (λ s. line_outcome ran (plain_place place) (line_tree_of (reading_tree reading)) s)) 0 interpreter.now result }
     ensures memory { OnWantOfMemory result (is_misplaced (plain_place place) (line_tree_of (reading_tree reading)) ≡ false) }
@@ -84,12 +90,13 @@ fn begin_read(interpreter: &Interpreter, place: Place, reading: LineReading) -> 
         return Err(Fail::Report(Report::Syntax));
     }
     let reading = shared(interpreter.alloc, reading)?;
-    begin_reading(interpreter, place, reading)
+    begin_reading(interpreter, room, place, reading)
 }
 
-// Begins a statement that was read and is shared. It takes no memory.
+// Begins a statement that was read and is shared, with a list for its values. It takes no memory.
 fn begin_reading(
     interpreter: &Interpreter,
+    room: Vec<StackValue>,
     place: Place,
     reading: Arc<LineReading>,
 ) -> Result<Flow, Fail>
@@ -104,12 +111,7 @@ fn begin_reading(
     }
     match purpose_of(&reading) {
         None => Ok(Flow::Leads(Next::GoesOn)),
-        Some(purpose) => Ok(Flow::Begins(Evaluation::new(
-            interpreter.alloc,
-            place,
-            purpose,
-            reading,
-        ))),
+        Some(purpose) => Ok(Flow::Begins(Evaluation::new(room, place, purpose, reading))),
     }
 }
 
@@ -231,9 +233,9 @@ fn begin_text_of_line(interpreter: &mut Interpreter, number: usize) -> Result<Fl
     ensures afresh { IfOk result IsAfresh }
     ensures falls { IfOk result (λ next. flow_work interpreter.new next + 2 ≤ machine_work interpreter.old) }
 {
-    count_statement(interpreter)?;
+    let room = count_statement(interpreter)?;
     let reading = reading_of_line(interpreter, number)?;
-    begin_reading(interpreter, Place::InFunction, reading)
+    begin_reading(interpreter, room, Place::InFunction, reading)
 }
 
 // Whether the function under way has a line of this number.
