@@ -25,7 +25,9 @@ ghost use Rattle.apl_calls.specs.Ended.{line_behind};
 ghost use Rattle.apl_calls.specs.Waitings.{standing_on};
 
 use crate::seen::{following, takes, value_seen};
-use crate::waiting::{function_of, header_of, keep, line_numbered, make_room, stand_at};
+use crate::waiting::{
+    function_of, has_reading, header_of, keep, line_numbered, make_room, stand_at,
+};
 use apl_arrays::{Array, Fail, Line, Name, Report, WantOfMemory};
 use apl_statements::{Evaluation, Flow, Interpreter, Next, Purpose, Waiting};
 use apl_values::{LineReading, Place, StackValue, read};
@@ -238,11 +240,21 @@ fn begin_text_of_line(interpreter: &mut Interpreter, number: usize) -> Result<Fl
     begin_reading(interpreter, room, Place::InFunction, reading)
 }
 
-// Whether the function under way has a line of this number.
+// Whether the function under way has a line of this number. A line whose reading is kept is there.
 fn has_line(interpreter: &Interpreter, number: usize) -> bool
     ensures { result ≡ is_some (line_of_innermost interpreter.now.stack number) }
 {
-    line_under_way(interpreter, number).is_some()
+    keeps_line(interpreter, number) || line_under_way(interpreter, number).is_some()
+}
+
+// Whether the reading of a line of this number is kept.
+fn keeps_line(interpreter: &Interpreter, number: usize) -> bool
+    ensures { result ≡ true → is_some (line_of_innermost interpreter.now.stack number) ≡ true }
+{
+    match interpreter.callers.last() {
+        None => false,
+        Some(waiting) => has_reading(&waiting.readings, number),
+    }
 }
 
 // The line of this number of the function under way.
