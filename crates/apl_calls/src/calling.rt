@@ -30,7 +30,7 @@ use crate::waiting::{
 };
 use apl_arrays::{Array, Fail, Line, Name, Report, WantOfMemory};
 use apl_statements::{Evaluation, Flow, Interpreter, Next, Purpose, Waiting};
-use apl_values::{LineReading, Place, StackValue, read};
+use apl_values::{KnownLine, LineReading, Place, StackValue, read};
 use apl_workspace::{Args, DEPTH_LIMIT, Function};
 use line_trees::Form;
 use std::alloc::Global;
@@ -287,6 +287,40 @@ fn reading_of_line(interpreter: &mut Interpreter, number: usize) -> Result<Arc<L
     Ok(reading)
 }
 
+// Reads a line of the function under way, unless its text is known.
+fn read_line(interpreter: &mut Interpreter, number: usize) -> Result<Arc<LineReading>, Fail>
+    requires there { IsSome (line_of_innermost interpreter.old.stack number) }
+    ensures read { IfOk result (λ reading. IsReadFrom interpreter.old.workspace (unwrap_or (line_of_innermost interpreter.old.stack number) []) (arc_value reading)) }
+    ensures refused { IfErr result (IsNotRead (read_with interpreter.old.workspace (unwrap_or (line_of_innermost interpreter.old.stack number) []))) }
+    ensures same { interpreter.new ≡ interpreter.old }
+{
+    if let Some(reading) = known_line(interpreter, number) {
+        return Ok(twin(reading)?);
+    }
+    learn_line(interpreter, number)
+}
+
+// The reading of a line of the function under way, where its text is known.
+fn known_line(interpreter: &Interpreter, number: usize) -> Option<&Arc<LineReading>>
+    requires there { IsSome (line_of_innermost interpreter.now.stack number) }
+    ensures { IfSome result (λ reading. IsReadFrom interpreter.now.workspace (unwrap_or (line_of_innermost interpreter.now.stack number) []) (arc_value reading.now)) }
+{
+    interpreter.known_reading(line_under_way(interpreter, number)?)
+}
+
+// Reads a line of the function under way, whose text is known from now on.
+fn learn_line(interpreter: &mut Interpreter, number: usize) -> Result<Arc<LineReading>, Fail>
+    requires there { IsSome (line_of_innermost interpreter.old.stack number) }
+    ensures read { IfOk result (λ reading. IsReadFrom interpreter.old.workspace (unwrap_or (line_of_innermost interpreter.old.stack number) []) (arc_value reading)) }
+    ensures refused { IfErr result (IsNotRead (read_with interpreter.old.workspace (unwrap_or (line_of_innermost interpreter.old.stack number) []))) }
+    ensures same { interpreter.new ≡ interpreter.old }
+{
+    let known = read_text(interpreter, number)?;
+    let reading = twin(known.reading());
+    interpreter.know(known);
+    Ok(reading?)
+}
+
 // The reading that is kept of a line.
 fn kept_reading(interpreter: &Interpreter, number: usize) -> Option<&Arc<LineReading>>
     requires there { IsSome (line_of_innermost interpreter.now.stack number) }
@@ -296,18 +330,15 @@ fn kept_reading(interpreter: &Interpreter, number: usize) -> Option<&Arc<LineRea
     waiting.readings.get(number - 1)?.as_ref()
 }
 
-// Reads a line of the function under way.
-fn read_line(interpreter: &Interpreter, number: usize) -> Result<Arc<LineReading>, Fail>
+// Reads the text of a line of the function under way.
+fn read_text(interpreter: &Interpreter, number: usize) -> Result<KnownLine, Fail>
     requires there { IsSome (line_of_innermost interpreter.now.stack number) }
-    ensures read { IfOk result (λ reading. IsReadFrom interpreter.now.workspace (unwrap_or (line_of_innermost interpreter.now.stack number) []) (arc_value reading)) }
+    ensures read { IfOk result (IsReadFrom interpreter.now.workspace (unwrap_or (line_of_innermost interpreter.now.stack number) [])) }
     ensures refused { IfErr result (IsNotRead (read_with interpreter.now.workspace (unwrap_or (line_of_innermost interpreter.now.stack number) []))) }
 {
     match line_under_way(interpreter, number) {
         None => unreachable!(),
-        Some(line) => {
-            let reading = read(interpreter.alloc, &interpreter.workspace, line)?;
-            Ok(shared(interpreter.alloc, reading)?)
-        }
+        Some(line) => KnownLine::read(interpreter.alloc, &interpreter.workspace, line),
     }
 }
 
