@@ -25,10 +25,12 @@ ghost use Rattle.apl_calls.specs.Ended.{line_behind};
 ghost use Rattle.apl_calls.specs.Waitings.{standing_on};
 
 use crate::seen::{following, takes, value_seen};
-use crate::waiting::{function_of, header_of, keep, line_numbered, make_room, stand_at};
+use crate::waiting::{
+    function_of, has_reading, header_of, keep, line_numbered, make_room, stand_at,
+};
 use apl_arrays::{Array, Fail, Line, Name, Report, WantOfMemory};
 use apl_statements::{Evaluation, Flow, Interpreter, Next, Purpose, Waiting};
-use apl_values::{LineReading, Place, read};
+use apl_values::{KnownLine, LineReading, Place, StackValue, read};
 use apl_workspace::{Args, DEPTH_LIMIT, Function};
 use line_trees::Form;
 use std::alloc::Global;
@@ -42,8 +44,8 @@ pub fn begin_input(interpreter: &mut Interpreter, reading: LineReading) -> Resul
     ensures memory { OnWantOfMemory result ((0 < interpreter.old.statements) × (is_misplaced immediate (line_tree_of (reading_tree reading)) ≡ false)) }
     ensures sound { IfOk result (IsFlow interpreter.new) }
 {
-    count_statement(interpreter)?;
-    begin_read(interpreter, Place::Immediate, reading)
+    let room = count_statement(interpreter)?;
+    begin_read(interpreter, room, Place::Immediate, reading)
 }
 
 /// Begins a text at a place. INTERRUPT where no statement may be begun, also where there is no memory.
@@ -53,13 +55,13 @@ pub fn begin_text(interpreter: &mut Interpreter, place: Place, text: &Line) -> R
     ensures sound { IfOk result (IsFlow interpreter.new) }
     ensures falls { IfOk result (λ next. flow_work interpreter.new next ≤ machine_work interpreter.old) }
 {
-    count_statement(interpreter)?;
+    let room = count_statement(interpreter)?;
     let reading = read(interpreter.alloc, &interpreter.workspace, text)?;
-    begin_read(interpreter, place, reading)
+    begin_read(interpreter, room, place, reading)
 }
 
-// A statement is begun; INTERRUPT where none may be.
-fn count_statement(interpreter: &mut Interpreter) -> Result<(), Report>
+// A statement is begun, and has a list for its values; INTERRUPT where none may be.
+fn count_statement(interpreter: &mut Interpreter) -> Result<Vec<StackValue>, Report>
     ensures ok { OnOk result ((0 < interpreter.old.statements) × (interpreter.new ≡ record interpreter.old { statements = interpreter.old.statements - 1 })) }
     ensures err { OnErr result (interpreter.new ≡ interpreter.old) }
     ensures refused { IfErr result (λ why. (why ≡ report.Interrupt) × (interpreter.old.statements ≡ 0)) }
@@ -68,11 +70,17 @@ fn count_statement(interpreter: &mut Interpreter) -> Result<(), Report>
         return Err(Report::Interrupt);
     }
     interpreter.statements -= 1;
-    Ok(())
+    Ok(interpreter.take_room())
 }
 
-// Begins a statement that was read. SYNTAX ERROR where it may not stand there, also where there is no memory to share it.
-fn begin_read(interpreter: &Interpreter, place: Place, reading: LineReading) -> Result<Flow, Fail>
+// Begins a statement that was read, with a list for its values. SYNTAX ERROR where it may not stand there, also where there is no
+// memory to share it.
+fn begin_read(
+    interpreter: &Interpreter,
+    room: Vec<StackValue>,
+    place: Place,
+    reading: LineReading,
+) -> Result<Flow, Fail>
     requires sound { IsLineReading reading }
     ensures comes { Comes interpreter.now (statement_leads interpreter.now (λ s. line_outcome ran (plain_place place) (line_tree_of (reading_tree reading)) s)) 0 interpreter.now result }
     ensures memory { OnWantOfMemory result (is_misplaced (plain_place place) (line_tree_of (reading_tree reading)) ≡ false) }
@@ -84,12 +92,13 @@ fn begin_read(interpreter: &Interpreter, place: Place, reading: LineReading) -> 
         return Err(Fail::Report(Report::Syntax));
     }
     let reading = shared(interpreter.alloc, reading)?;
-    begin_reading(interpreter, place, reading)
+    begin_reading(interpreter, room, place, reading)
 }
 
-// Begins a statement that was read and is shared. It takes no memory.
+// Begins a statement that was read and is shared, with a list for its values. It takes no memory.
 fn begin_reading(
     interpreter: &Interpreter,
+    room: Vec<StackValue>,
     place: Place,
     reading: Arc<LineReading>,
 ) -> Result<Flow, Fail>
@@ -104,12 +113,7 @@ fn begin_reading(
     }
     match purpose_of(&reading) {
         None => Ok(Flow::Leads(Next::GoesOn)),
-        Some(purpose) => Ok(Flow::Begins(Evaluation::new(
-            interpreter.alloc,
-            place,
-            purpose,
-            reading,
-        ))),
+        Some(purpose) => Ok(Flow::Begins(Evaluation::new(room, place, purpose, reading))),
     }
 }
 
@@ -231,16 +235,26 @@ fn begin_text_of_line(interpreter: &mut Interpreter, number: usize) -> Result<Fl
     ensures afresh { IfOk result IsAfresh }
     ensures falls { IfOk result (λ next. flow_work interpreter.new next + 2 ≤ machine_work interpreter.old) }
 {
-    count_statement(interpreter)?;
+    let room = count_statement(interpreter)?;
     let reading = reading_of_line(interpreter, number)?;
-    begin_reading(interpreter, Place::InFunction, reading)
+    begin_reading(interpreter, room, Place::InFunction, reading)
 }
 
-// Whether the function under way has a line of this number.
+// Whether the function under way has a line of this number. A line whose reading is kept is there.
 fn has_line(interpreter: &Interpreter, number: usize) -> bool
     ensures { result ≡ is_some (line_of_innermost interpreter.now.stack number) }
 {
-    line_under_way(interpreter, number).is_some()
+    keeps_line(interpreter, number) || line_under_way(interpreter, number).is_some()
+}
+
+// Whether the reading of a line of this number is kept.
+fn keeps_line(interpreter: &Interpreter, number: usize) -> bool
+    ensures { result ≡ true → is_some (line_of_innermost interpreter.now.stack number) ≡ true }
+{
+    match interpreter.callers.last() {
+        None => false,
+        Some(waiting) => has_reading(&waiting.readings, number),
+    }
 }
 
 // The line of this number of the function under way.
@@ -273,6 +287,40 @@ fn reading_of_line(interpreter: &mut Interpreter, number: usize) -> Result<Arc<L
     Ok(reading)
 }
 
+// Reads a line of the function under way, unless its text is known.
+fn read_line(interpreter: &mut Interpreter, number: usize) -> Result<Arc<LineReading>, Fail>
+    requires there { IsSome (line_of_innermost interpreter.old.stack number) }
+    ensures read { IfOk result (λ reading. IsReadFrom interpreter.old.workspace (unwrap_or (line_of_innermost interpreter.old.stack number) []) (arc_value reading)) }
+    ensures refused { IfErr result (IsNotRead (read_with interpreter.old.workspace (unwrap_or (line_of_innermost interpreter.old.stack number) []))) }
+    ensures same { interpreter.new ≡ interpreter.old }
+{
+    if let Some(reading) = known_line(interpreter, number) {
+        return Ok(twin(reading)?);
+    }
+    learn_line(interpreter, number)
+}
+
+// The reading of a line of the function under way, where its text is known.
+fn known_line(interpreter: &Interpreter, number: usize) -> Option<&Arc<LineReading>>
+    requires there { IsSome (line_of_innermost interpreter.now.stack number) }
+    ensures { IfSome result (λ reading. IsReadFrom interpreter.now.workspace (unwrap_or (line_of_innermost interpreter.now.stack number) []) (arc_value reading.now)) }
+{
+    interpreter.known_reading(line_under_way(interpreter, number)?)
+}
+
+// Reads a line of the function under way, whose text is known from now on.
+fn learn_line(interpreter: &mut Interpreter, number: usize) -> Result<Arc<LineReading>, Fail>
+    requires there { IsSome (line_of_innermost interpreter.old.stack number) }
+    ensures read { IfOk result (λ reading. IsReadFrom interpreter.old.workspace (unwrap_or (line_of_innermost interpreter.old.stack number) []) (arc_value reading)) }
+    ensures refused { IfErr result (IsNotRead (read_with interpreter.old.workspace (unwrap_or (line_of_innermost interpreter.old.stack number) []))) }
+    ensures same { interpreter.new ≡ interpreter.old }
+{
+    let known = read_text(interpreter, number)?;
+    let reading = twin(known.reading());
+    interpreter.know(known);
+    Ok(reading?)
+}
+
 // The reading that is kept of a line.
 fn kept_reading(interpreter: &Interpreter, number: usize) -> Option<&Arc<LineReading>>
     requires there { IsSome (line_of_innermost interpreter.now.stack number) }
@@ -282,18 +330,15 @@ fn kept_reading(interpreter: &Interpreter, number: usize) -> Option<&Arc<LineRea
     waiting.readings.get(number - 1)?.as_ref()
 }
 
-// Reads a line of the function under way.
-fn read_line(interpreter: &Interpreter, number: usize) -> Result<Arc<LineReading>, Fail>
+// Reads the text of a line of the function under way.
+fn read_text(interpreter: &Interpreter, number: usize) -> Result<KnownLine, Fail>
     requires there { IsSome (line_of_innermost interpreter.now.stack number) }
-    ensures read { IfOk result (λ reading. IsReadFrom interpreter.now.workspace (unwrap_or (line_of_innermost interpreter.now.stack number) []) (arc_value reading)) }
+    ensures read { IfOk result (IsReadFrom interpreter.now.workspace (unwrap_or (line_of_innermost interpreter.now.stack number) [])) }
     ensures refused { IfErr result (IsNotRead (read_with interpreter.now.workspace (unwrap_or (line_of_innermost interpreter.now.stack number) []))) }
 {
     match line_under_way(interpreter, number) {
         None => unreachable!(),
-        Some(line) => {
-            let reading = read(interpreter.alloc, &interpreter.workspace, line)?;
-            Ok(shared(interpreter.alloc, reading)?)
-        }
+        Some(line) => KnownLine::read(interpreter.alloc, &interpreter.workspace, line),
     }
 }
 
