@@ -64,6 +64,14 @@ impl Table {
         }
     }
 
+    /// No name is there any more. The memory stays for other names.
+    pub fn clear(&mut self)
+        ensures { self.new ≡ [] }
+    {
+        self.names.clear();
+        self.weight = 0;
+    }
+
     /// What the names weigh.
     pub fn weight(&self) -> usize
         ensures value { result ≡ table_weight self.now }
