@@ -16,6 +16,7 @@ pub mod Looks
 pub mod NameLaw
 pub mod Places
 pub mod Rules
+pub mod Scanned
 pub mod Symbols
 pub mod Tables
 pub mod Whole

@@ -10,25 +10,25 @@ use crate::label::LabelledLine;
 use crate::table::Table;
 use crate::{Args, Function, Header, Meaning};
 use apl_arrays::{Array, Name, WantOfMemory};
-use std::alloc::Global;
 
-/// The frame of a function that is called with these arguments: the names of its header but its own, and its labels,
-/// which hide those. It takes memory for the names.
+/// The frame of a function that is called with these arguments, in a table that is emptied first: the names of its header but
+/// its own, and its labels, which hide those. It takes memory for the names where the table has no room for them.
 #[tactic(auto, using(crate::proofs::FrameLaw::labels_put))]
-pub fn frame_of(alloc: Global, function: &Function, args: Args) -> Result<Table, WantOfMemory>
+pub fn frame_of(room: Table, function: &Function, args: Args) -> Result<Table, WantOfMemory>
     ensures { IfOk result (λ frame. frame ≡ frame_of function.now args) }
 {
-    let mut frame = header_names(alloc, function.header(), args)?;
+    let mut frame = header_names(room, function.header(), args)?;
     put_labels(&mut frame, function.labels())?;
     Ok(frame)
 }
 
 /// The names of a header but the function's own: the arguments with their values, the result and the local names without.
 #[tactic(auto, using(crate::proofs::Entering::result_and_locals))]
-fn header_names(alloc: Global, header: &Header, args: Args) -> Result<Table, WantOfMemory>
+fn header_names(room: Table, header: &Header, args: Args) -> Result<Table, WantOfMemory>
     ensures { IfOk result (λ names. names ≡ header_names header.now args) }
 {
-    let mut names = Table::new(alloc);
+    let mut names = room;
+    names.clear();
     put_argument(&mut names, header.left, args.left)?;
     put_argument(&mut names, header.right, args.right)?;
     put_result(&mut names, header.result)?;

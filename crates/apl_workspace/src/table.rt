@@ -1,8 +1,8 @@
-ghost use Rattle.std.specs.Prelude.{◌≡◌, ◌==◌, ◌+◌, ◌<◌, ◌≤◌, ◌++◌, ◌∷◌, ℕ, List as ListOf, [], Some, None, filter, min, if◌then◌else◌, true, length, nat_le, slice_get, unwrap_or, IsOk, IsSome, OnOk, OnErr, IfErr, IfOk, IfSome};
+ghost use Rattle.std.specs.Prelude.{◌≡◌, ◌==◌, ◌+◌, ◌<◌, ◌≤◌, ◌++◌, ◌∷◌, ℕ, List as ListOf, [], Some, None, filter, min, if◌then◌else◌, true, length, nat_le, position, slice_get, unwrap_or, IsOk, IsSome, OnOk, OnErr, IfErr, IfOk, IfSome};
 ghost use Rattle.std.specs.List.{IsDistinct};
 ghost use Rattle.std.specs.List.Sorted.{IsStrictlySortedBy};
 ghost use Rattle.apl_arrays.specs.Name.{name_order, same_name};
-ghost use Rattle.std.specs.Map.{keys_of};
+ghost use Rattle.std.specs.Map.{keys_of, values_of};
 ghost use Rattle.std.specs.Option.{option_copied};
 ghost use Rattle.apl_workspace.specs.Limits.{most_weight};
 ghost use Rattle.apl_workspace.specs.Listing.{is_wanted, names_among};
@@ -18,6 +18,9 @@ use indexmap::IndexMap;
 use std::alloc::Global;
 use std::marker::Model;
 use std::mem::replace;
+
+// So few names are gone over one by one.
+const FEW: usize = 8;
 
 /// Names, each with what it stands for. It is seen as the list of them that ascends by the names.
 #[derive(Drop)]
@@ -55,7 +58,18 @@ impl Table {
         ensures value { option_copied result ≡ meaning_in self.now name.now }
         ensures whole { IfSome result (λ meaning. IsWhole name.now meaning.now) }
     {
-        self.names.get(name)
+        match place_in(&self.names, name) {
+            None => None,
+            Some(at) => Some(&self.names[at]),
+        }
+    }
+
+    /// No name is there any more. The memory stays for other names.
+    pub fn clear(&mut self)
+        ensures { self.new ≡ [] }
+    {
+        self.names.clear();
+        self.weight = 0;
     }
 
     /// What the names weigh.
@@ -255,6 +269,27 @@ impl Table {
             Some(meaning) => meaning.weight(),
         }
     }
+}
+
+/// The place of a name. Few names are gone over one by one, and more are found by their hash.
+#[tactic(auto, using(crate::proofs::Scanned::place_within, crate::proofs::Scanned::place_value, crate::proofs::Scanned::no_place_found))]
+fn place_in(names: &IndexMap<Name, Meaning>, name: &Name) -> Option<usize>
+    ensures within { IfSome result (λ at. at < length names.now.entries) }
+    ensures value { IfSome result (λ at. slice_get (values_of names.now.entries) at ≡ meaning_in names.now.entries name.now) }
+    ensures none { result ≡ None → meaning_in names.now.entries name.now ≡ None }
+{
+    if names.len() > FEW {
+        names.get_index_of(name)
+    } else {
+        place_among(names.keys().as_slice(), name)
+    }
+}
+
+/// The place of a name in a list.
+fn place_among(names: &[Name], name: &Name) -> Option<usize>
+    ensures { result ≡ position (same_name name.now) names.now }
+{
+    names.iter().position(|other| *name == *other)
 }
 
 /// The name stands for this, and what it stood for is handed out. `WantOfMemory` leaves the names as they were, and

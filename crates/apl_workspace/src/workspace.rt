@@ -18,7 +18,7 @@ use std::alloc::Global;
 use std::marker::Model;
 
 /// A workspace: global names with what they stand for, the frames of functions under way, the offers that are listed,
-/// and how many glyphs of counted lines were printed. It is seen as plain data.
+/// and how many glyphs of counted lines were printed. It is seen as plain data. Beside that it keeps emptied tables for frames.
 #[derive(Drop)]
 pub struct Workspace {
     alloc: Global,
@@ -27,6 +27,7 @@ pub struct Workspace {
     frames_weight: usize,
     offers: Vec<Remake>,
     printed: u64,
+    tables: Vec<Table>,
 }
 
 impl Model for Workspace {
@@ -52,6 +53,7 @@ impl Workspace {
             frames_weight: 0,
             offers: Vec::new(alloc),
             printed: 0,
+            tables: Vec::new(alloc),
         }
     }
 
@@ -177,6 +179,7 @@ impl Workspace {
             frames_weight: 0,
             offers: Vec::from_slice(self.alloc, &self.offers)?,
             printed: self.printed,
+            tables: Vec::new(self.alloc),
         })
     }
 }

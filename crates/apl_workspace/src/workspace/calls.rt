@@ -8,6 +8,7 @@ use crate::room::reserve_one;
 use crate::table::Table;
 use crate::{Args, Seen, Workspace};
 use apl_arrays::{Fail, Name, Report, WantOfMemory};
+use std::alloc::Global;
 
 impl Workspace {
     /// Enters a function: a frame for it stands before the others, with its arguments, its result, its local names and
@@ -26,7 +27,8 @@ impl Workspace {
             return Err(Fail::Report(Report::WsFull));
         }
         reserve_one(&mut self.frames)?;
-        let frame = self.frame_for(function, args)?;
+        let room = take_table(self.alloc, &mut self.tables);
+        let frame = self.frame_for(room, function, args)?;
         let weight = self.frames_weight + frame.weight();
         if self.globals.weight() + weight > WEIGHT_LIMIT {
             drop(frame);
@@ -44,18 +46,33 @@ impl Workspace {
     {
         if let Some(frame) = self.frames.pop() {
             self.frames_weight -= frame.weight();
-            drop(frame);
+            keep_table(&mut self.tables, frame);
         }
     }
 
-    /// The frame of the function that a name stands for.
-    fn frame_for(&self, function: &Name, args: Args) -> Result<Table, WantOfMemory>
+    /// The frame of the function that a name stands for, in this table.
+    fn frame_for(&self, room: Table, function: &Name, args: Args) -> Result<Table, WantOfMemory>
         requires { AreArgumentsFor (look self.now function.now) args }
         ensures { IfOk result (λ frame. IsFrameFor (look self.now function.now) args frame) }
     {
         match self.look(function) {
-            Seen::Function(function) => frame_of(self.alloc, function, args),
+            Seen::Function(function) => frame_of(room, function, args),
             _ => unreachable!(),
         }
     }
+}
+
+/// A table for a frame: one that a function left, where there is one.
+fn take_table(alloc: Global, tables: &mut Vec<Table>) -> Table {
+    match tables.pop() {
+        None => Table::new(alloc),
+        Some(table) => table,
+    }
+}
+
+/// A table that a function left is emptied, and kept for another frame where there is memory for its place.
+fn keep_table(tables: &mut Vec<Table>, table: Table) {
+    let mut table = table;
+    table.clear();
+    drop(tables.push(table));
 }
